@@ -1,9 +1,21 @@
 //! Cells, shapes and sets of cells: what every other crate of SubZero speaks of.
 #![tactic(auto)]
 
+ghost use Rattle.std.specs.Prelude.{◌≡◌, ◌<◌, ◌≤◌, IsTrue, true, false, if◌then◌else◌, Some, None, length};
+ghost use Rattle.sz_cells.specs.Extent.{size_of, is_shape, holds, index_of, cell_of};
+
+use std::marker::Model;
+
 /// There was no memory for what the call had to make.
 #[derive(Clone, Copy, Debug, Drop, PartialEq, Eq)]
 pub struct NoMemory;
+
+/// A cell of an array: its row and its column, both from 0.
+#[derive(Clone, Copy, Debug, PartialEq, Eq)]
+pub struct Cell {
+    pub row: u32,
+    pub col: u32,
+}
 
 /// A rectangle of cells, both corners in it: rows `top` to `bottom`, columns `left` to `right`.
 #[derive(Clone, Copy, Debug, PartialEq, Eq)]
@@ -12,4 +24,117 @@ pub struct Bounds {
     pub left: u32,
     pub bottom: u32,
     pub right: u32,
+}
+
+#[derive(Clone, Copy, Debug, PartialEq, Eq)]
+pub struct Shape {
+    pub rows: u32,
+    pub cols: u32,
+}
+
+impl Model for Shape {
+    ghost use Rattle.std.specs.Prelude.{◌≡◌, true};
+    ghost use Rattle.sz_cells.specs.Extent.{Extent, is_shape};
+
+    ghost Value = { Extent };
+
+    ghost view = { λ s. record { rows = s.rows; cols = s.cols } };
+
+    ghost invariant = { λ s. is_shape s.rows s.cols ≡ true };
+
+    ghost inverse = { λ e. record { rows = e.rows; cols = e.cols } };
+}
+
+impl Shape {
+    /// The largest number of cells that a shape has.
+    const MOST: u64 = 1_048_576;
+
+    pub fn make(rows: u32, cols: u32) -> Option<Shape>
+        ensures { result ≡ (if is_shape rows cols then Some (record { rows = rows; cols = cols }) else None) }
+    {
+        if rows > 0 && cols > 0 && u64::from(rows) * u64::from(cols) <= Self::MOST {
+            Some(Shape { rows, cols })
+        } else {
+            None
+        }
+    }
+
+    pub fn size(&self) -> u32
+        ensures { result ≡ size_of self.now }
+    {
+        self.rows * self.cols
+    }
+
+    pub fn holds(&self, cell: Cell) -> bool
+        ensures { result ≡ holds self.now cell }
+    {
+        cell.row < self.rows && cell.col < self.cols
+    }
+
+    pub fn index(&self, cell: Cell) -> u32
+        requires { holds self.now cell ≡ true }
+        ensures { result ≡ index_of self.now cell }
+    {
+        cell.row * self.cols + cell.col
+    }
+
+    pub fn cell_at(&self, index: u32) -> Cell
+        requires { index < size_of self.now }
+        ensures { result ≡ cell_of self.now index }
+    {
+        Cell {
+            row: index / self.cols,
+            col: index % self.cols,
+        }
+    }
+}
+
+/// A run of cells that follow one another in row-major order: the indexes of its first and its last.
+#[derive(Clone, Copy, Debug, PartialEq, Eq)]
+pub struct Run {
+    pub first: u32,
+    pub last: u32,
+}
+
+/// A set of cells of one shape.
+#[derive(Drop)]
+pub struct CellSet {
+    shape: Shape,
+    runs: Vec<Run>,
+    count: u32,
+}
+
+impl Model for CellSet {
+    ghost use Rattle.std.specs.Prelude.{◌≡◌, length};
+    ghost use Rattle.std.specs.List.{flat_map};
+    ghost use Rattle.sz_cells.specs.Extent.{size_of};
+    ghost use Rattle.sz_cells.specs.Cells.{Cells, indexes_of, AreRunsFrom};
+
+    ghost Value = { Cells };
+
+    ghost view = { λ s. record { extent = s.shape; indexes = flat_map indexes_of s.runs.items } };
+
+    ghost invariant = { λ s. AreRunsFrom 0 (size_of s.shape) s.runs.items × (s.count ≡ length (flat_map indexes_of s.runs.items)) };
+}
+
+impl CellSet {
+    ghost use Rattle.sz_cells.specs.Cells.{Cells, Spells};
+
+    pub fn shape(&self) -> Shape
+        ensures { result ≡ self.now.extent }
+    {
+        self.shape
+    }
+
+    pub fn count(&self) -> u32
+        ensures { result ≡ length self.now.indexes }
+    {
+        self.count
+    }
+
+    pub fn runs(&self) -> &[Run]
+        ensures { Spells result.now self.now }
+    {
+        &self.runs
+    }
 }
