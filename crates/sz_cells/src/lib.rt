@@ -73,14 +73,17 @@ impl Shape {
 
     pub fn index(&self, cell: Cell) -> u32
         requires { holds self.now cell ≡ true }
-        ensures { result ≡ index_of self.now cell }
+        ensures value { result ≡ index_of self.now cell }
+        ensures within { result < size_of self.now }
     {
         cell.row * self.cols + cell.col
     }
 
     pub fn cell_at(&self, index: u32) -> Cell
         requires { index < size_of self.now }
-        ensures { result ≡ cell_of self.now index }
+        ensures value { result ≡ cell_of self.now index }
+        ensures held { holds self.now result ≡ true }
+        ensures index { index_of self.now result ≡ index }
     {
         Cell {
             row: index / self.cols,

@@ -1,0 +1,4 @@
+pub mod Values
+pub mod Flows
+pub mod Lineage
+pub mod Paths
