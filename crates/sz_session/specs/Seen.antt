@@ -1,0 +1,49 @@
+-- The order that a command is, and the reply that a reply's value is, without where they lie in memory.
+use Rattle.std.specs.Prelude.{◌≡◌, ℕ, map, string_bytes, Option, Some, None, Result, Ok, Err}
+use Rattle.sz_spec.specs.declared.Dir.TheVariants.{Back}
+use Rattle.sz_spec.specs.Paths.{Step}
+use Rattle.sz_session.specs.declared.command.BaseName.{BaseName}
+use Rattle.sz_session.specs.declared.command.PathStep.{PathStep}
+use Rattle.sz_session.specs.declared.command.Command.{Command}
+use Rattle.sz_session.specs.declared.command.Command.TheVariants as command
+use Rattle.sz_session.specs.declared.command.LineFault.{LineFault}
+use Rattle.sz_session.specs.declared.command.LineFault.TheVariants as fault
+use Rattle.sz_session.specs.declared.reply.Reply.{Reply}
+use Rattle.sz_session.specs.declared.reply.Reply.TheVariants as reply
+use Rattle.sz_session.specs.Orders as orders
+use Rattle.sz_session.specs.Reading.{negation}
+use Rattle.sz_session.specs.Catalogues as catalogues
+use Rattle.sz_session.specs.Steps.{after_order}
+use Rattle.sz_session.specs.Replies as replies
+
+abbrev pub base_seen : BaseName → orders.Base
+base_seen b = record { name = string_bytes b.name; version = b.version }
+
+abbrev pub step_seen : PathStep → Step
+step_seen s = record { node = s.node; input = s.input }
+
+abbrev pub order_seen : Command → orders.Order
+order_seen (command.Array name array) = orders.hold_array (string_bytes name) array
+order_seen (command.Flow name) = orders.hold_flow (string_bytes name) negation
+order_seen (command.Start name base) = orders.start (string_bytes name) (map base_seen base.items)
+order_seen (command.Await version) = orders.await version
+order_seen (command.Ask version path cells) = orders.ask version Back (map step_seen path.items) cells.items
+
+abbrev pub reply_seen : Reply → replies.Reply
+reply_seen (reply.Array name version) = replies.array_held (string_bytes name) version
+reply_seen (reply.Flow name) = replies.flow_held (string_bytes name)
+reply_seen (reply.Started version) = replies.started version
+reply_seen (reply.Done version) = replies.done version
+reply_seen (reply.Cells cells) = replies.cells cells
+reply_seen (reply.Refused number) = replies.refused number
+
+-- what taking an order did: it is refused and nothing changes, or the catalogue and the reply are those of the step
+abbrev pub Takes : catalogues.Catalogue → orders.Order → catalogues.Catalogue → Option Reply → Type 0
+Takes old order new None = (after_order old order ≡ None) × (new ≡ old)
+Takes old order new (Some r) = after_order old order ≡ Some (new, reply_seen r)
+
+-- what reading a line gave: the order that the line is, or the number of the rule that refuses it, unless memory ran out
+abbrev pub Reads : Result orders.Order ℕ → Result Command LineFault → Type 0
+Reads read (Ok command) = read ≡ Ok (order_seen command)
+Reads read (Err (fault.Refused number)) = read ≡ Err number
+Reads read (Err fault.NoMemory) = Unit {0}

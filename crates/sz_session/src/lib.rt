@@ -1,0 +1,15 @@
+//! A session: lines in, reply lines out.
+#![tactic(auto)]
+
+mod catalogue;
+mod command;
+mod reply;
+
+ghost use Rattle.std.specs.Prelude.{◌≡◌, []};
+ghost use Rattle.sz_session.specs.Catalogues.{empty};
+ghost use Rattle.sz_session.specs.Output.{output_of};
+ghost use Rattle.sz_session.specs.Seen.{order_seen};
+
+pub fn none()
+    ensures { output_of empty [] ≡ [] }
+{}
