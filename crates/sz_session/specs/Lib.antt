@@ -6,3 +6,5 @@ pub mod Steps
 pub mod Replies
 pub mod Output
 pub mod Seen
+pub mod Serving
+pub mod Statuses

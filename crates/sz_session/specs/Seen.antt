@@ -1,5 +1,5 @@
 -- The order that a command is, and the reply that a reply's value is, without where they lie in memory.
-use Rattle.std.specs.Prelude.{◌≡◌, ℕ, map, string_bytes, Option, Some, None, Result, Ok, Err}
+use Rattle.std.specs.Prelude.{◌≡◌, ℕ, List, [], map, string_bytes, Option, Some, None, Result, Ok, Err}
 use Rattle.sz_spec.specs.declared.Dir.TheVariants.{Back}
 use Rattle.sz_spec.specs.Paths.{Step}
 use Rattle.sz_session.specs.declared.command.BaseName.{BaseName}
@@ -47,3 +47,8 @@ abbrev pub Reads : Result orders.Order ℕ → Result Command LineFault → Type
 Reads read (Ok command) = read ≡ Ok (order_seen command)
 Reads read (Err (fault.Refused number)) = read ≡ Err number
 Reads read (Err fault.NoMemory) = Unit {0}
+
+-- what is written for an answer: nothing where there is none
+abbrev pub answer_text : ℕ → Option Reply → List ℕ
+answer_text number None = []
+answer_text number (Some r) = replies.reply_line number (reply_seen r)

@@ -46,3 +46,33 @@ impl Model for Catalogue {
       versions = map (λ v. record { flow = negation; base = arc_value v.base ∷ []; awaited = v.awaited }) c.versions.items;
     } };
 }
+
+ghost use Rattle.std.specs.Prelude.{◌≡◌, IfOk, OnErr};
+ghost use Rattle.sz_session.specs.Catalogues.{empty};
+ghost use Rattle.sz_session.specs.Seen.{Takes, order_seen};
+
+use crate::command::Command;
+use crate::reply::Reply;
+use sz_cells::NoMemory;
+
+impl Catalogue {
+    pub fn new(alloc: Global) -> Catalogue
+        ensures { result ≡ empty }
+    {
+        Catalogue {
+            arrays: Vec::new(alloc),
+            flows: Vec::new(alloc),
+            versions: Vec::new(alloc),
+            arrays_by_name: BTreeMap::new(alloc),
+            cells: 0,
+            alloc,
+        }
+    }
+
+    pub fn take(&mut self, command: Command) -> Result<Option<Reply>, NoMemory>
+        ensures ok { IfOk result (λ r. Takes self.old (order_seen command) self.new r) }
+        ensures err { OnErr result (self.new ≡ self.old) }
+    {
+        Err(NoMemory)
+    }
+}

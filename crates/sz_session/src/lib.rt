@@ -3,7 +3,10 @@
 
 mod catalogue;
 mod command;
+mod feed;
+mod reading;
 mod reply;
+mod serve;
 
 ghost use Rattle.std.specs.Prelude.{◌≡◌, []};
 ghost use Rattle.sz_session.specs.Catalogues.{empty};

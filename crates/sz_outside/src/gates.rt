@@ -1,0 +1,20 @@
+//! The places at which a test may hold up a worker or an asker.
+
+/// Is called where a test may want to wait or to look. The program passes one that does nothing.
+pub trait Gate: Send + Sync + Drop {
+    /// Before a worker takes up this piece of the node.
+    fn at_piece(&self, version: u32, node: u32, piece: u32);
+
+    /// After the ask of this line was answered.
+    fn after_ask(&self, line: u64);
+}
+
+/// A gate that does nothing.
+#[derive(Clone, Copy, Debug, Drop, PartialEq, Eq)]
+pub struct NoGate;
+
+impl Gate for NoGate {
+    fn at_piece(&self, _version: u32, _node: u32, _piece: u32) {}
+
+    fn after_ask(&self, _line: u64) {}
+}
