@@ -1,0 +1,2 @@
+mod ReadingLists
+mod ReadingFields
