@@ -1,2 +1,4 @@
 mod ReadingLists
 mod ReadingFields
+mod ReadingLines
+mod ReadingRows

@@ -1,5 +1,6 @@
 // The rows of an array.
-ghost use Rattle.std.specs.Prelude.{◌≡◌, ℤ, List, ◌++◌, ◌==◌, length, if◌then◌else◌, Option, Some, None, option_map, option_and_then, IfOk, IfSome};
+ghost use Rattle.std.specs.Prelude.{◌≡◌, true, ℤ, List, ◌++◌, ◌==◌, length, if◌then◌else◌, Option, Some, None, option_map, option_and_then, IfOk, IfSome};
+ghost use Rattle.sz_cells.specs.Extent.{is_shape};
 ghost use Rattle.serde_json.specs.View.{view, items_view};
 ghost use Rattle.sz_session.specs.Reading.{only_if, each_of, list_of, value_of, width, grid_of};
 
@@ -7,6 +8,9 @@ use serde_json::Value;
 use std::alloc::{AllocError, Global};
 use sz_cells::Shape;
 use sz_spec::Array;
+
+/// The most cells that an array has.
+const CELL_LIMIT: usize = 1_048_576;
 
 /// What a cell holds: a whole number that is an i64, or null for nothing.
 fn value_of(value: &Value) -> Option<Option<i64>>
@@ -22,19 +26,12 @@ fn value_of(value: &Value) -> Option<Option<i64>>
     }
 }
 
-/// Appends the values of a row of this many, or answers false where it is none.
-fn push_row(cells: &mut Vec<Option<i64>>, row: &Value, width: usize) -> Result<bool, AllocError>
-    ensures { IfOk result (λ taken.
-        option_map (λ vs. cells.old.items ++ vs) (option_and_then (λ vs. only_if (length vs == width) (Some vs)) (list_of value_of (view row.now)))
-        ≡ (if taken then Some cells.new.items else None)) }
+/// Appends the values of some items, or answers false where one is none.
+fn push_values(cells: &mut Vec<Option<i64>>, items: &[Value]) -> Result<bool, AllocError>
+    ensures { IfOk result (λ done. option_map (λ vs. cells.old.items ++ vs) (each_of value_of (items_view items.now))
+        ≡ (if done then Some cells.new.items else None)) }
 {
-    let Some(values) = row.as_array() else {
-        return Ok(false);
-    };
-    if values.len() != width {
-        return Ok(false);
-    }
-    for item in values {
+    for item in items {
         let Some(value) = value_of(item) else {
             return Ok(false);
         };
@@ -43,11 +40,40 @@ fn push_row(cells: &mut Vec<Option<i64>>, row: &Value, width: usize) -> Result<b
     Ok(true)
 }
 
+/// Appends the values of a row of this width, or answers false where it is none.
+fn push_row(cells: &mut Vec<Option<i64>>, row: &Value, width: usize) -> Result<bool, AllocError>
+    ensures { IfOk result (λ done. option_map (λ vs. cells.old.items ++ vs)
+        (option_and_then (λ vs. only_if (length vs == width) (Some vs)) (list_of value_of (view row.now)))
+        ≡ (if done then Some cells.new.items else None)) }
+{
+    match row.as_array() {
+        Some(items) => {
+            if items.len() == width {
+                push_values(cells, items)
+            } else {
+                Ok(false)
+            }
+        }
+        None => Ok(false),
+    }
+}
+
+/// The shape of this many rows and columns.
+fn make_shape(rows: usize, cols: usize) -> Option<Shape>
+    ensures { result ≡ (if is_shape rows cols then Some (record { rows = rows; cols = cols }) else None) }
+{
+    if rows > CELL_LIMIT || cols > CELL_LIMIT {
+        return None;
+    }
+    Shape::make(rows as u32, cols as u32)
+}
+
 /// The shape that some rows have if they are rows of one length, that of the first; and that length.
 fn shape_of(rows: &[Value]) -> Option<(Shape, usize)>
     ensures none { result ≡ None → option_and_then grid_of (each_of (list_of value_of) (items_view rows.now)) ≡ None }
     ensures shape { IfSome result (λ p. (rs : List (List (Option ℤ))) → each_of (list_of value_of) (items_view rows.now) ≡ Some rs
         → (p.0 ≡ record { rows = length rs; cols = width rs }) × (p.1 ≡ width rs)) }
+    ensures lawful { IfSome result (λ p. is_shape p.0.rows p.0.cols ≡ true) }
 {
     let Some(first) = rows.first() else {
         return None;
@@ -55,13 +81,9 @@ fn shape_of(rows: &[Value]) -> Option<(Shape, usize)>
     let Some(values) = first.as_array() else {
         return None;
     };
-    let width = values.len();
-    match (u32::try_from(rows.len()), u32::try_from(width)) {
-        (Ok(rows), Ok(cols)) => match Shape::make(rows, cols) {
-            Some(shape) => Some((shape, width)),
-            None => None,
-        },
-        _ => None,
+    match make_shape(rows.len(), values.len()) {
+        Some(shape) => Some((shape, values.len())),
+        None => None,
     }
 }
 
