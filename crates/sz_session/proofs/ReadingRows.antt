@@ -117,9 +117,10 @@ pub record Measures (shape : Extent) (w : ℕ) (rows : List Value) : Type 0 wher
   pub lawful : is_shape shape.rows shape.cols ≡ true
   pub of_rows : (rs : List (List (Option ℤ))) → each_of (list_of value_of) (items_view rows) ≡ Some rs → (shape ≡ record { rows = length rs; cols = width rs }) × (w ≡ width rs)
 
-made : (b : Bool) (rs : List (List (Option ℤ))) (grid : Grid) → only_if (b && true) (Some grid) ≡ option_and_then {T = List (List (Option ℤ))} {U = Grid} (λ x. Some grid) (only_if b (Some rs))
-made true rs grid = refl
-made false rs grid = refl
+made : (b : Bool) (rs : List (List (Option ℤ))) (make : List (List (Option ℤ)) → Grid)
+    → only_if (b && true) (Some (make rs)) ≡ option_and_then {T = List (List (Option ℤ))} {U = Grid} (λ x. Some (make x)) (only_if b (Some rs))
+made true rs make = refl
+made false rs make = refl
 
 same_long : (w : ℕ) (o : Option (List (Option ℤ))) → ((vs : List (Option ℤ)) → o ≡ Some vs → length vs ≡ w) → option_and_then (λ vs. only_if (length vs == w) (Some vs)) o ≡ o
 same_long w None long = refl
@@ -204,7 +205,7 @@ grid_where (Some rs) shape w lawful of_rows =
     ap (λ (b : Bool). only_if (all (width rs) && b) (Some (grid (record { rows = length rs; cols = width rs })))) tested
     ∙ ap (λ (e : Extent). only_if (all (width rs) && true) (Some (grid e))) (sym m.0)
     ∙ ap (λ (k : ℕ). only_if (all k && true) (Some (grid shape))) (sym m.1)
-    ∙ made (all w) rs (grid shape)
+    ∙ made (all w) rs (λ x. record { extent = shape; values = flat_map (λ r. r) x })
 
 -- the array of rows, by the rows of this width
 grid_by_rows : (shape : Extent) (w : ℕ) (rows : List Value) → Measures shape w rows

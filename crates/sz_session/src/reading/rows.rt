@@ -12,6 +12,13 @@ use sz_spec::Array;
 /// The most cells that an array has.
 const CELL_LIMIT: usize = 1_048_576;
 
+/// A shape, and the width of its rows.
+#[derive(Clone, Copy)]
+struct Measure {
+    shape: Shape,
+    width: usize,
+}
+
 /// What a cell holds: a whole number that is an i64, or null for nothing.
 fn value_of(value: &Value) -> Option<Option<i64>>
     ensures { result ≡ value_of (view value.now) }
@@ -68,12 +75,12 @@ fn make_shape(rows: usize, cols: usize) -> Option<Shape>
     Shape::make(rows as u32, cols as u32)
 }
 
-/// The shape that some rows have if they are rows of one length, that of the first; and that length.
-fn shape_of(rows: &[Value]) -> Option<(Shape, usize)>
+/// The shape that some rows have if they are all as wide as the first, and that width.
+fn measure_of(rows: &[Value]) -> Option<Measure>
     ensures none { result ≡ None → option_and_then grid_of (each_of (list_of value_of) (items_view rows.now)) ≡ None }
     ensures shape { IfSome result (λ p. (rs : List (List (Option ℤ))) → each_of (list_of value_of) (items_view rows.now) ≡ Some rs
-        → (p.0 ≡ record { rows = length rs; cols = width rs }) × (p.1 ≡ width rs)) }
-    ensures lawful { IfSome result (λ p. is_shape p.0.rows p.0.cols ≡ true) }
+        → (p.shape ≡ record { rows = length rs; cols = width rs }) × (p.width ≡ width rs)) }
+    ensures lawful { IfSome result (λ p. is_shape p.shape.rows p.shape.cols ≡ true) }
 {
     let Some(first) = rows.first() else {
         return None;
@@ -82,7 +89,10 @@ fn shape_of(rows: &[Value]) -> Option<(Shape, usize)>
         return None;
     };
     match make_shape(rows.len(), values.len()) {
-        Some(shape) => Some((shape, values.len())),
+        Some(shape) => Some(Measure {
+            shape,
+            width: values.len(),
+        }),
         None => None,
     }
 }
@@ -91,14 +101,14 @@ fn shape_of(rows: &[Value]) -> Option<(Shape, usize)>
 pub fn array_of(alloc: Global, rows: &[Value]) -> Result<Option<Array>, AllocError>
     ensures { IfOk result (λ o. o ≡ option_and_then grid_of (each_of (list_of value_of) (items_view rows.now))) }
 {
-    let Some((shape, width)) = shape_of(rows) else {
+    let Some(measure) = measure_of(rows) else {
         return Ok(None);
     };
-    let mut cells = Vec::with_capacity(alloc, shape.size() as usize)?;
+    let mut cells = Vec::with_capacity(alloc, measure.shape.size() as usize)?;
     for row in rows {
-        if !push_row(&mut cells, row, width)? {
+        if !push_row(&mut cells, row, measure.width)? {
             return Ok(None);
         }
     }
-    Ok(Array::make(shape, cells))
+    Ok(Array::make(measure.shape, cells))
 }

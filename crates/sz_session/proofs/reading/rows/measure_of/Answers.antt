@@ -3,7 +3,7 @@ use Rattle.std.proofs.Common.{◌≡◌, length, ap, ◌∙◌, sym, arith}
 use Rattle.sz_cells.specs.Extent.{Extent, is_shape}
 use Rattle.sz_session.specs.Reading.{width}
 use Rattle.sz_session.proofs.ReadingRows.{rows_measure, no_grid, shape_made, shape_measured, shape_refused}
-use Rattle.sz_session.proofs.reading.rows.shape_of.Goals as goal
+use Rattle.sz_session.proofs.reading.rows.measure_of.Goals as goal
 
 pub returns-in-Some-make_shape-clause-shape : goal.returns-in-Some-make_shape-clause-shape
 returns-in-Some-make_shape-clause-shape c rs read =
