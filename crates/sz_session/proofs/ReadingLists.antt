@@ -34,11 +34,13 @@ read_next f xs i x lt here = ap (λ (l : List Value). each_of f (items_view l)) 
 
 pub read_more : {X : Type 0} (f : Data → Option X) (xs : List Value) (i : ℕ) (ys : List X) (x : Value) (y : X) → i < length xs → x ≡ get_or xs i x
     → f (view x) ≡ Some y → IsReadUpTo f xs i ys → IsReadUpTo f xs (i + 1) (ys ++ y ∷ [])
-read_more {X} f xs i ys x y lt here gives r = record { whole =
-    let E : Option (List X) = each_of f (items_view (drop (i + 1) xs)) in
-    r.whole ∙ ap (λ (o : Option (List X)). option_map {T = List X} {U = List X} (λ zs. ys ++ zs) o)
-    (read_next f xs i x lt here ∙ ap (λ (o : Option X). option_and_then {T = X} {U = List X} (λ z. option_map {T = List X} {U = List X} (λ zs. z ∷ zs) E) o) gives)
-    ∙ option_map-append ys y E }
+read_more {X} f xs i ys x y lt here gives r = record {
+  whole =
+      let E : Option (List X) = each_of f (items_view (drop (i + 1) xs)) in
+      r.whole ∙ ap (λ (o : Option (List X)). option_map {T = List X} {U = List X} (λ zs. ys ++ zs) o)
+      (read_next f xs i x lt here ∙ ap (λ (o : Option X). option_and_then {T = X} {U = List X} (λ z. option_map {T = List X} {U = List X} (λ zs. z ∷ zs) E) o) gives)
+      ∙ option_map-append ys y E;
+}
 
 pub read_bad : {X : Type 0} (f : Data → Option X) (xs : List Value) (i : ℕ) (ys : List X) (x : Value) → i < length xs → x ≡ get_or xs i x
     → f (view x) ≡ None → IsReadUpTo f xs i ys → each_of f (items_view xs) ≡ None

@@ -1,5 +1,5 @@
 -- The rows of an array: as many values as there are items, and the width is the number of items of the first row. Rows of that width, joined, are the array's cells.
-use Rattle.std.proofs.Common.{◌≡◌, ◌≢◌, ◌+◌, ◌*◌, ◌<◌, ◌≤◌, nat_lt, nat_le, mul-le-mul_left, mul-le-mul_right, get_or, ◌∷◌, ◌++◌, ◌&&◌, ◌==◌, ℕ, ℤ, suc, length-append, append-nil,  List, [], length, Bool, true, false, if◌then◌else◌, Option, Some, None, option_map, option_and_then, ap, ◌∙◌, refl, sym, arith}
+use Rattle.std.proofs.Common.{◌≡◌, ◌≢◌, ◌+◌, ◌*◌, ◌<◌, ◌≤◌, nat_lt, nat_le, mul-le-mul_left, mul-le-mul_right, get_or, ◌∷◌, ◌++◌, ◌&&◌, ◌==◌, ℕ, ℤ, suc, length-append, append-nil, List, [], length, Bool, true, false, if◌then◌else◌, Option, Some, None, option_map, option_and_then, ap, ◌∙◌, refl, sym, arith}
 use Rattle.std.proofs.lemmas.Option.{none-some, same_Some}
 use Rattle.std.proofs.lemmas.Bool.{and_right, eqb-true, eq-eqb, ne_eqb, false≢true, leb-true, ltb-true, false_from_ne_true}
 use Rattle.std.proofs.lemmas.Grind.{flat_map-append}
@@ -76,7 +76,7 @@ none_more false r = refl
 
 rows_step : (w : ℕ) (o : Option (List (Option ℤ))) (more : Option (List (List (Option ℤ))))
     → option_and_then {T = List (Option ℤ)} {U = List (List (Option ℤ))} (λ y. option_map (λ ys. y ∷ ys) (option_and_then (all_wide w) more))
-      (option_and_then (λ vs. only_if (length vs == w) (Some vs)) o)
+    (option_and_then (λ vs. only_if (length vs == w) (Some vs)) o)
     ≡ option_and_then (all_wide w) (option_and_then {T = List (Option ℤ)} {U = List (List (Option ℤ))} (λ y. option_map (λ ys. y ∷ ys) more) o)
 rows_step w None more = refl
 rows_step w (Some r) None = none_more (length r == w) r
@@ -239,7 +239,8 @@ joined_more w rows i cells more x lt here gives j =
     record {
       read = j.read ++ p.0 ∷ [];
       are_read = read_more (row_of w) rows i j.read x p.0 lt here p.1 j.are_read;
-      joined = sym p.2 ∙ ap (λ (l : List (Option ℤ)). l ++ p.0) j.joined ∙ sym (flat_map-append (λ r. r) j.read (p.0 ∷ []) ∙ ap (λ (l : List (Option ℤ)). flat_map (λ r. r) j.read ++ l) (append-nil p.0)) }
+      joined = sym p.2 ∙ ap (λ (l : List (Option ℤ)). l ++ p.0) j.joined ∙ sym (flat_map-append (λ r. r) j.read (p.0 ∷ []) ∙ ap (λ (l : List (Option ℤ)). flat_map (λ r. r) j.read ++ l) (append-nil p.0));
+    }
 
 -- a row that is none, or of another width
 pub joined_bad : (shape : Extent) (w : ℕ) (rows : List Value) (i : ℕ) (cells : List (Option ℤ)) (x : Value) → Measures shape w rows → i < length rows → x ≡ get_or rows i x
@@ -247,7 +248,7 @@ pub joined_bad : (shape : Extent) (w : ℕ) (rows : List Value) (i : ℕ) (cells
     → option_and_then grid_of (each_of (list_of value_of) (items_view rows)) ≡ None
 joined_bad shape w rows i cells x m lt here gives j = grid_by_rows shape w rows m
     ∙ ap (option_and_then {T = List (List (Option ℤ))} {U = Grid} (λ rs. Some (record { extent = shape; values = flat_map (λ r. r) rs })))
-      (read_bad (row_of w) rows i j.read x lt here (none_appended cells (row_of w (view x)) gives) j.are_read)
+    (read_bad (row_of w) rows i j.read x lt here (none_appended cells (row_of w (view x)) gives) j.are_read)
 
 -- after the last row
 pub joined_all : (shape : Extent) (w : ℕ) (rows : List Value) (i : ℕ) (cells : List (Option ℤ)) → Measures shape w rows → i ≡ length rows → IsJoinedUpTo w rows i cells

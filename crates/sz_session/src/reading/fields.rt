@@ -103,13 +103,7 @@ pub fn name_of(value: &Value) -> Option<&str>
     ensures { option_map (λ s. s.now) result ≡ name_of (view value.now) }
 {
     match value.as_str() {
-        Some(text) => {
-            if is_name(text) {
-                Some(text)
-            } else {
-                None
-            }
-        }
+        Some(text) => { if is_name(text) { Some(text) } else { None } }
         None => None,
     }
 }

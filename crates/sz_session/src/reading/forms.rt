@@ -54,7 +54,9 @@ fn is_negation(value: &Value) -> bool
 pub fn flow_command(alloc: Global, value: &Value) -> Result<Option<Command>, AllocError>
     ensures { IfOk result (λ o. option_map order_seen o ≡ flow_form (view value.now)) }
 {
-    if !fields::has_fields(value, &["flow", "inputs", "nodes"]) || !fields::is_number_at(value, "inputs", 1) {
+    if !fields::has_fields(value, &["flow", "inputs", "nodes"])
+        || !fields::is_number_at(value, "inputs", 1)
+    {
         return Ok(None);
     }
     let Some(node) = fields::one_at(value, "nodes") else {
@@ -177,7 +179,9 @@ fn cells_of(alloc: Global, list: &[Value]) -> Result<Option<Vec<Cell>>, AllocErr
 pub fn ask_command(alloc: Global, value: &Value) -> Result<Option<Command>, AllocError>
     ensures { IfOk result (λ o. option_map order_seen o ≡ ask_form (view value.now)) }
 {
-    if !fields::has_fields(value, &["ask", "dir", "path", "cells"]) || !fields::is_text_at(value, "dir", "back") {
+    if !fields::has_fields(value, &["ask", "dir", "path", "cells"])
+        || !fields::is_text_at(value, "dir", "back")
+    {
         return Ok(None);
     }
     let Some(version) = fields::number_at(value, "ask") else {
@@ -195,5 +199,9 @@ pub fn ask_command(alloc: Global, value: &Value) -> Result<Option<Command>, Allo
     let Some(cells) = cells_of(alloc, cells)? else {
         return Ok(None);
     };
-    Ok(Some(Command::Ask { version, path, cells }))
+    Ok(Some(Command::Ask {
+        version,
+        path,
+        cells,
+    }))
 }
