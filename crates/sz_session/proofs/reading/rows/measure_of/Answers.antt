@@ -1,7 +1,6 @@
 -- The rows are as many as their items, and as wide as the first has items.
 use Rattle.std.proofs.Common.{◌≡◌, length, ap, ◌∙◌, sym, arith}
 use Rattle.sz_cells.specs.Extent.{Extent, is_shape}
-use Rattle.sz_session.specs.Reading.{width}
 use Rattle.sz_session.proofs.ReadingRows.{rows_measure, no_grid, shape_made, shape_measured, shape_refused}
 use Rattle.sz_session.proofs.reading.rows.measure_of.Goals as goal
 
