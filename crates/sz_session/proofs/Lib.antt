@@ -1,3 +1,7 @@
+mod ReadingLists
+mod ReadingFields
+mod ReadingLines
+mod ReadingRows
 pub mod Texts
 pub mod Cuts
 pub mod Turns

@@ -8,11 +8,4 @@ mod reading;
 mod reply;
 mod serve;
 
-ghost use Rattle.std.specs.Prelude.{◌≡◌, []};
-ghost use Rattle.sz_session.specs.Catalogues.{empty};
-ghost use Rattle.sz_session.specs.Output.{output_of};
-ghost use Rattle.sz_session.specs.Seen.{order_seen};
-
-pub fn none()
-    ensures { output_of empty [] ≡ [] }
-{}
+pub use serve::{Status, serve};
