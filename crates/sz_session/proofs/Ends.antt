@@ -3,8 +3,8 @@ use Rattle.std.proofs.Common.{◌≡◌, refl}
 use Rattle.std.specs.Prelude.{Result, Ok, Err, OnOk}
 use Rattle.sz_session.specs.declared.feed.Stop.{Stop}
 use Rattle.sz_session.specs.declared.feed.Stop.TheVariants as stop
-use Rattle.sz_session.specs.declared.serve.Status.{Status}
-use Rattle.sz_session.specs.declared.serve.Status.TheVariants as status
+use Rattle.sz_session.specs.declared.serving.Status.{Status}
+use Rattle.sz_session.specs.declared.serving.Status.TheVariants as status
 use Rattle.sz_session.specs.Statuses.{end_status}
 
 pub ends-done : {A : Type 0} (r : Result (Unit {0}) Stop) (s : Status) → s ≡ end_status r → OnOk r A → s ≡ status.Done → A

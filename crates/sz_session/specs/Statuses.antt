@@ -2,8 +2,8 @@
 use Rattle.std.specs.Prelude.{Result, Ok, Err}
 use Rattle.sz_session.specs.declared.feed.Stop.{Stop}
 use Rattle.sz_session.specs.declared.feed.Stop.TheVariants as stop
-use Rattle.sz_session.specs.declared.serve.Status.{Status}
-use Rattle.sz_session.specs.declared.serve.Status.TheVariants as status
+use Rattle.sz_session.specs.declared.serving.Status.{Status}
+use Rattle.sz_session.specs.declared.serving.Status.TheVariants as status
 
 abbrev pub status_of : Stop → Status
 status_of stop.SayFault = status.SayFault

@@ -6,6 +6,9 @@ mod command;
 mod feed;
 mod reading;
 mod reply;
-mod serve;
+mod serving;
 
-pub use serve::{Status, serve};
+pub use serving::{Status, serve};
+
+#[cfg(test)]
+mod tests;

@@ -1,6 +1,6 @@
 use Rattle.std.proofs.Common.{◌≡◌, ◌≤◌, ◌<◌, ◌+◌, ◌-◌, ◌^◌, length}
 use Rattle.sz_session.specs.Serving.{Goes}
-use Rattle.sz_session.proofs.serve.read_all.Given as goal
+use Rattle.sz_session.proofs.serving.read_all.Given as goal
 
 abbrev pub invariant-pieces : goal.invariant-pieces
 invariant-pieces g l = record {

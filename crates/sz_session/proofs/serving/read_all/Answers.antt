@@ -5,7 +5,7 @@ use Rattle.sz_session.specs.Serving.{Moment, Goes}
 use Rattle.sz_outside.specs.Outside.{Gives}
 use Rattle.sz_session.proofs.Turns.{goes-start, goes-turn, goes-done, goes-past, on_ok-both, rose-later, length-take-le}
 use Rattle.sz_session.proofs.Ends.{ends-done, ends-say, ends-usage, ends-read, ends-limit}
-use Rattle.sz_session.proofs.serve.read_all.Goals as goal
+use Rattle.sz_session.proofs.serving.read_all.Goals as goal
 
 pub pieces-init : goal.pieces-init
 pieces-init g c =

@@ -1,0 +1,4 @@
+mod Counts
+pub mod Reached
+mod Readings
+mod Steps

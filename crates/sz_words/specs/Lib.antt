@@ -1,0 +1,4 @@
+pub mod Command
+pub mod Numbers
+pub mod Job
+pub mod Place

@@ -1,0 +1,27 @@
+-- Which file words name.
+use Rattle.std.specs.Prelude.{Bool, true, false, List, Option, codes, option_and_then, option_map, string_bytes}
+use Rattle.clap.specs.Words.{Text, first_of}
+use Rattle.sz_words.specs.Command.{found_in}
+use Rattle.sz_words.specs.Job.{mode_of}
+use Rattle.sz_words.specs.declared.JobMode.{JobMode}
+use Rattle.sz_words.specs.declared.JobMode.TheVariants.{Play, Init, Run, Check, Load}
+use Rattle.sz_words.specs.declared.LogPlace.{LogPlace}
+
+-- the file is made where it is not there
+abbrev pub makes_log : JobMode → Bool
+makes_log Play = false
+makes_log Init = true
+makes_log Run = false
+makes_log Check = false
+makes_log Load = false
+
+-- PLACE of accepted words, and whether its file is made; none where the words are refused or have
+-- no PLACE
+unfoldable pub place_of : List Text → Option (Text × Bool)
+place_of words = option_and_then
+    (λ mode. option_map (λ path. (path, makes_log mode)) (first_of (codes "PLACE") (found_in words)))
+    (mode_of words)
+
+-- a place as its path's bytes, and whether the file is made
+abbrev pub shown_place : LogPlace → Text × Bool
+shown_place place = (string_bytes place.path, place.make)
