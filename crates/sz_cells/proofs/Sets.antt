@@ -3,16 +3,50 @@
 -- The key idea: a set made by a test is a filter of the row-major indexes 0, 1, 2, .., and an index stands in that
 -- filter exactly where its cell passes. Row-major indexes and cells are one to one, so facts about cells become facts
 -- about numbers, where each is one induction over the range.
-use Rattle.std.proofs.Common.{inl, inr, true≢false, ◌≡◌, ℕ, zero, suc, ◌+◌, ◌*◌, ◌/◌, ◌%◌, ◌<◌, ◌≤◌, Bool, true, false, cond, ◌&&◌, ◌||◌, ◌==◌, nat_lt, nat_le, List, [], ◌∷◌, map, length, refl, sym, ap, ap₂, ◌∙◌, arith, add-zero, eqb-true, eq-eqb, ltb-true, lt-ltb, mul_comm}
+use Rattle.std.proofs.Common.{get_or, slice_index, lt_of_lt_of_le, inl, inr, true≢false, ◌≡◌, ℕ, zero, suc, ◌+◌, ◌*◌, ◌/◌, ◌%◌, ◌<◌, ◌≤◌, Bool, true, false, cond, ◌&&◌, ◌||◌, ◌==◌, nat_lt, nat_le, List, [], ◌∷◌, map, length, refl, sym, ap, ap₂, ◌∙◌, arith, add-zero, zero-add, eqb-true, eq-eqb, ltb-true, lt-ltb, mul_comm}
 use Rattle.std.specs.List.{All, filter, list_any, range_with_len}
 use Rattle.std.specs.List.Sorted.{IsStrictlyIncreasing}
-use Rattle.std.proofs.lemmas.Bool.{and_parts, and_from, cases_Bool, false_from_ne_true, true_from_ne_false}
+use Rattle.std.proofs.lemmas.Bool.{or_cases, or_left, or_right, and_parts, and_from, cases_Bool, false_from_ne_true, true_from_ne_false}
 use Rattle.std.proofs.lemmas.Bool.Decides.{nat_tests}
+use Rattle.std.proofs.lemmas.List.Elements.{All-filter, All-from_get_or}
+use Rattle.std.proofs.lemmas.List.Folds.{list_any_at, list_any_none}
+use Rattle.std.proofs.lemmas.List.FromFn.{length-range_with_len, get_or-range_with_len}
+use Rattle.std.proofs.lemmas.List.Kept.{IsStrictlyIncreasing-filter}
 use Rattle.std.proofs.lemmas.Map.Views.{any-filter_same}
 use Rattle.std.proofs.lemmas.Nat.{div-mul-add, mod-mul-add, mul-add-lt, div-add-mod', div_below, mod_below}
 use Rattle.sz_cells.specs.declared.Cell.{Cell}
 use Rattle.sz_cells.specs.Extent.{Extent, size_of, holds, index_of, cell_of}
 use Rattle.sz_cells.specs.Cells.{Cells, is_same, cells_where, any_cell, has}
+
+-- ---- lists
+
+-- two tests that agree everywhere find alike
+list_any-ext : {X : Type 0} (p q : X → Bool) → ((x : X) → p x ≡ q x) → (xs : List X) → list_any p xs ≡ list_any q xs
+list_any-ext p q h [] = refl
+list_any-ext p q h (x ∷ xs) = ap₂ (λ (a b : Bool). a || b) (h x) (list_any-ext p q h xs)
+
+-- where one test is passed and tells the other, the other is passed
+any-onward : {X : Type 0} (p q : X → Bool) → ((x : X) → p x ≡ true → q x ≡ true) → (xs : List X) → list_any p xs ≡ true → list_any q xs ≡ true
+any-onward p q h [] found = found
+any-onward p q h (x ∷ xs) found =
+    elim (or_cases (p x) (list_any p xs) found) [
+        inl here ↦ or_left (q x) (list_any q xs) (h x here)
+      | inr rest ↦ or_right (q x) (list_any q xs) (any-onward p q h xs rest)
+    ]
+
+-- a filter before a map and after it
+map-filter : {X Y : Type 0} (f : X → Y) (p : Y → Bool) → (xs : List X) → map f (filter (λ x. p (f x)) xs) ≡ filter p (map f xs)
+map-filter f p [] = refl
+map-filter f p (x ∷ xs) =
+    elim (cases_Bool (p (f x))) [ inl t ↦ rw t (ap (λ ys. f x ∷ ys) (map-filter f p xs)) | inr fails ↦ rw fails (map-filter f p xs) ]
+
+-- two tests that are true together are equal
+same_truth : (a b : Bool) → (a ≡ true → b ≡ true) → (b ≡ true → a ≡ true) → a ≡ b
+same_truth a b there back =
+    elim (cases_Bool a) [
+        inl t ↦ t ∙ sym (there t)
+      | inr f ↦ f ∙ sym (false_from_ne_true b (λ passes. true≢false (sym (back passes) ∙ f)))
+    ]
 
 -- ---- cells and row-major indexes
 
@@ -72,6 +106,27 @@ any-filter_range_at p i n h =
     let there : (nat_le 0 i && nat_lt i (0 + n)) ≡ true = grind (arith, nat_tests) in
     any-filter_range p i 0 n ∙ (rw there (elim (cases_Bool (p i)) [ inl t ↦ rw t refl | inr f ↦ rw f refl ]))
 
+-- a number that is found in a filtered range is of the range and passes both tests
+any_range-true : (p q : ℕ → Bool) (a n : ℕ) → list_any q (filter p (range_with_len a n)) ≡ true → (k : ℕ) × (k < a + n) × (p k ≡ true) × (q k ≡ true)
+any_range-true p q a zero h = absurd (true≢false (sym h))
+any_range-true p q a (suc n) h =
+    let later : list_any q (filter p (range_with_len (a + 1) n)) ≡ true → (k : ℕ) × (k < a + suc n) × (p k ≡ true) × (q k ≡ true) =
+      λ found. let one = any_range-true p q (a + 1) n found in (one.0, omega (arith, one.1), one.2, one.3) in
+    elim (cases_Bool (p a)) [
+        inl passes ↦
+          elim (or_cases (q a) (list_any q (filter p (range_with_len (a + 1) n))) (rw passes at h)) [
+              inl here ↦ (a, omega arith, passes, here)
+            | inr rest ↦ later rest
+          ]
+      | inr fails ↦ later (rw fails at h)
+    ]
+
+-- a number of the range that passes both is found
+any_range-from : (p q : ℕ → Bool) (i a n : ℕ) → a ≤ i → i < a + n → p i ≡ true → q i ≡ true → list_any q (filter p (range_with_len a n)) ≡ true
+any_range-from p q i a n low high passes both =
+    let there : list_any (λ k. k == i) (filter p (range_with_len a n)) ≡ true = rw (any-filter_range p i a n, passes) (grind (arith, nat_tests)) in
+    any-onward (λ k. k == i) q (λ k same. ap q (eqb-true k i same) ∙ both) (filter p (range_with_len a n)) there
+
 -- ---- sets of cells that pass a test
 
 -- a cell of the shape is in the set of those that pass exactly where it passes
@@ -130,3 +185,91 @@ index-is_same e c k h =
               true≢false (sym (is_same-from (cell_of e k) c (ap (cell_of e) (sym at) ∙ cell-index e c h)) ∙ f))
           ∙ sym f
     ]
+
+-- ---- some cell of a set passes a test
+
+-- the number at a place of a range that begins at 0 is the place
+range-at : (n i : ℕ) → i < n → get_or (range_with_len 0 n) i 0 ≡ i
+range-at n i h = get_or-range_with_len 0 n i 0 h ∙ zero-add i
+
+-- what holds of each number of a range holds of each element of it
+range-All : (P : ℕ → Type 0) (n : ℕ) → ((k : ℕ) → k < n → P k) → All P (range_with_len 0 n)
+range-All P n h =
+    All-from_get_or P (range_with_len 0 n) 0
+    (λ i inside.
+        let below : i < n = omega (arith, length-range_with_len 0 n) in
+        rw (range-at n i below) (h i below))
+
+-- some cell of the shape is the same as a cell of the shape
+any-same_held : (e : Extent) (x : Cell) → holds e x ≡ true → list_any (λ k. is_same x (cell_of e k)) (range_with_len 0 (size_of e)) ≡ true
+any-same_held e x h =
+    let below = index-below e x h in
+    list_any_at (λ k. is_same x (cell_of e k)) (range_with_len 0 (size_of e)) (index_of e x) 0 (omega (arith, length-range_with_len 0 (size_of e)))
+    (rw (range-at (size_of e) (index_of e x) below) (is_same-from x (cell_of e (index_of e x)) (sym (cell-index e x h))))
+
+-- no cell of the shape is the same as one outside of it
+any-same_outside : (e : Extent) (x : Cell) → holds e x ≡ false → list_any (λ k. is_same x (cell_of e k)) (range_with_len 0 (size_of e)) ≡ false
+any-same_outside e x h =
+    list_any_none (λ k. is_same x (cell_of e k)) (range_with_len 0 (size_of e))
+    (range-All (λ k. is_same x (cell_of e k) ≡ false) (size_of e)
+    (λ k below.
+        false_from_ne_true (is_same x (cell_of e k))
+        (λ same. true≢false (sym (cell-held e k below) ∙ ap (holds e) (sym (is_same-true x (cell_of e k) same)) ∙ h))))
+
+-- the cells that pass hold one that is the same as x exactly where the shape holds x and x passes
+pub any_cell-same_any : (e : Extent) (p : Cell → Bool) (x : Cell) → any_cell (λ o. is_same x o) (cells_where e p) ≡ (holds e x && p x)
+any_cell-same_any e p x =
+    let kept = any-filter_same (λ k. is_same x (cell_of e k)) (λ k. p (cell_of e k)) (p x) (λ k same. ap p (sym (is_same-true x (cell_of e k) same))) (range_with_len 0 (size_of e)) in
+    kept ∙ (elim (cases_Bool (holds e x)) [
+        inl t ↦ rw (any-same_held e x t, t) (elim (cases_Bool (p x)) [ inl passes ↦ rw passes refl | inr fails ↦ rw fails refl ])
+      | inr f ↦ rw (any-same_outside e x f, f) (elim (cases_Bool (p x)) [ inl passes ↦ rw passes refl | inr fails ↦ rw fails refl ])
+    ])
+
+-- the same of a cell of the shape
+pub any_cell-same : (e : Extent) (p : Cell → Bool) (x : Cell) → holds e x ≡ true → any_cell (λ o. is_same x o) (cells_where e p) ≡ p x
+any_cell-same e p x h = any_cell-same_any e p x ∙ (rw h refl)
+
+-- the same with the two cells turned
+pub any_cell-same_turned : (e : Extent) (p : Cell → Bool) (x : Cell) → holds e x ≡ true → any_cell (λ o. is_same o x) (cells_where e p) ≡ p x
+any_cell-same_turned e p x h =
+    list_any-ext (λ k. is_same (cell_of e k) x) (λ k. is_same x (cell_of e k)) (λ k. is_same-flip (cell_of e k) x) (cells_where e p).indexes
+    ∙ any_cell-same e p x h
+
+-- where some cell of the set passes another test, there is one that the shape holds and that passes both
+pub any_cell-true : (e : Extent) (p q : Cell → Bool) → any_cell q (cells_where e p) ≡ true → (c : Cell) × (holds e c ≡ true) × (p c ≡ true) × (q c ≡ true)
+any_cell-true e p q h =
+    let found = any_range-true (λ k. p (cell_of e k)) (λ k. q (cell_of e k)) 0 (size_of e) h in
+    (cell_of e found.0, cell-held e found.0 (omega (arith, found.1)), found.2, found.3)
+
+-- a cell of the shape that passes both tests is found
+pub any_cell-from : (e : Extent) (p q : Cell → Bool) (c : Cell) → holds e c ≡ true → p c ≡ true → q c ≡ true → any_cell q (cells_where e p) ≡ true
+any_cell-from e p q c h passes both =
+    let back = cell-index e c h in
+    any_range-from (λ k. p (cell_of e k)) (λ k. q (cell_of e k)) (index_of e c) 0 (size_of e) (omega arith) (omega (arith, index-below e c h)) (ap p back ∙ passes) (ap q back ∙ both)
+
+-- two tests that agree on each cell of the set are passed alike
+pub any_cell-ext : (e : Extent) (p q r : Cell → Bool) → ((c : Cell) → holds e c ≡ true → p c ≡ true → q c ≡ r c) → any_cell q (cells_where e p) ≡ any_cell r (cells_where e p)
+any_cell-ext e p q r h =
+    let onward : (a b : Cell → Bool) → ((c : Cell) → holds e c ≡ true → p c ≡ true → a c ≡ b c) → any_cell a (cells_where e p) ≡ true → any_cell b (cells_where e p) ≡ true =
+      λ a b same found. let one = any_cell-true e p a found in any_cell-from e p b one.0 one.1 one.2 (sym (same one.0 one.1 one.2) ∙ one.3) in
+    same_truth (any_cell q (cells_where e p)) (any_cell r (cells_where e p)) (onward q r h) (onward r q (λ c held passes. sym (h c held passes)))
+
+-- ---- the indexes of a set
+
+-- each index of a set made by a test is below the size of the shape
+pub indexes-below : (e : Extent) (p : Cell → Bool) → All (λ k. k < size_of e) (cells_where e p).indexes
+indexes-below e p = All-filter (λ k. p (cell_of e k)) (λ k. k < size_of e) (range_with_len 0 (size_of e)) (range-All (λ k. k < size_of e) (size_of e) (λ k h. h))
+
+-- the numbers of a range strictly rise
+range-rises : (n : ℕ) → IsStrictlyIncreasing (range_with_len 0 n)
+range-rises n k h =
+    let inside : k + 1 < n = omega (arith, length-range_with_len 0 n) in
+    omega (arith, range-at n k (omega arith), range-at n (k + 1) inside)
+
+-- the indexes of a set made by a test strictly rise
+pub indexes-rise : (e : Extent) (p : Cell → Bool) → IsStrictlyIncreasing (cells_where e p).indexes
+indexes-rise e p = IsStrictlyIncreasing-filter (λ k. p (cell_of e k)) (range_with_len 0 (size_of e)) (range-rises (size_of e))
+
+-- the cells of a set made by a test are the cells of the shape in row-major order, those that pass
+pub cells-in_order : (e : Extent) (p : Cell → Bool) → map (cell_of e) (cells_where e p).indexes ≡ filter p (map (cell_of e) (range_with_len 0 (size_of e)))
+cells-in_order e p = map-filter (cell_of e) p (range_with_len 0 (size_of e))
