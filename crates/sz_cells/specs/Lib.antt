@@ -1,2 +1,4 @@
 pub mod Extent
 pub mod Cells
+pub mod Rising
+pub mod Laws

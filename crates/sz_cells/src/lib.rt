@@ -6,6 +6,8 @@ ghost use Rattle.sz_cells.specs.Extent.{size_of, is_shape, holds, index_of, cell
 
 use std::marker::Model;
 
+pub mod laws;
+
 /// There was no memory for what the call had to make.
 #[derive(Clone, Copy, Debug, Drop, PartialEq, Eq)]
 pub struct NoMemory;
