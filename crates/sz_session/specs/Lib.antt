@@ -6,3 +6,4 @@ pub mod Steps
 pub mod Replies
 pub mod Output
 pub mod Seen
+pub mod Kept

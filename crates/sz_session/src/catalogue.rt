@@ -1,48 +1,5 @@
 // What a session holds.
-use std::alloc::Global;
-use std::collections::BTreeMap;
-use std::marker::Model;
-use std::sync::Arc;
-use sz_spec::{Array, Op};
-
-/// An array under a name.
-#[derive(Drop)]
-pub struct HeldArray {
-    name: String,
-    array: Arc<Array>,
-}
-
-/// A run of a flow: its base array, the array that it made, and whether it was awaited.
-#[derive(Drop)]
-pub struct HeldVersion {
-    base: Arc<Array>,
-    out: Arc<Array>,
-    awaited: bool,
-}
-
-/// Everything held, with an index by name.
-#[derive(Drop)]
-pub struct Catalogue {
-    arrays: Vec<HeldArray>,
-    flows: Vec<String>,
-    versions: Vec<HeldVersion>,
-    arrays_by_name: BTreeMap<String, Vec<Arc<Array>>>,
-    cells: u64,
-    alloc: Global,
-}
-
-impl Model for Catalogue {
-    ghost use Rattle.std.specs.Prelude.{◌≡◌, ℕ, List, [], ◌∷◌, map, string_bytes};
-    ghost use Rattle.std.specs.Arc.{arc_value};
-    ghost use Rattle.std.specs.BTreeMap.{get_by_text};
-    ghost use Rattle.sz_session.specs.Catalogues.{Catalogue, named, held_cells};
-    ghost use Rattle.sz_session.specs.Reading.{negation};
-
-    ghost Value = { Catalogue };
-
-    ghost view = { λ c. record {
-      arrays = map (λ x. record { name = string_bytes x.name; thing = arc_value x.array }) c.arrays.items;
-      flows = map (λ x. record { name = string_bytes x; thing = negation }) c.flows.items;
-      versions = map (λ v. record { flow = negation; base = arc_value v.base ∷ []; awaited = v.awaited }) c.versions.items;
-    } };
-}
+mod arrays;
+mod flows;
+mod memory;
+mod versions;

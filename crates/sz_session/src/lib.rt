@@ -3,6 +3,7 @@
 
 mod catalogue;
 mod command;
+mod evaluate;
 mod reply;
 
 ghost use Rattle.std.specs.Prelude.{◌≡◌, []};

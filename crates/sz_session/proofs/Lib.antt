@@ -1,0 +1,2 @@
+pub mod CatalogueNames
+pub mod CatalogueOutputs
