@@ -1,12 +1,16 @@
 //! Cells, shapes and sets of cells: what every other crate of SubZero speaks of.
 #![tactic(auto)]
 
-ghost use Rattle.std.specs.Prelude.{◌≡◌, ◌<◌, ◌≤◌, IsTrue, true, false, if◌then◌else◌, Some, None, length};
+ghost use Rattle.std.specs.Prelude.{◌≡◌, ◌<◌, ◌==◌, true, if◌then◌else◌, Some, None, length, All, IfOk};
+ghost use Rattle.std.specs.List.{list_any};
 ghost use Rattle.sz_cells.specs.Extent.{size_of, is_shape, holds, index_of, cell_of};
 
+use crate::spelling::{add_next, rising_indexes};
+use std::alloc::Global;
 use std::marker::Model;
 
 pub mod laws;
+mod spelling;
 
 /// There was no memory for what the call had to make.
 #[derive(Clone, Copy, Debug, Drop, PartialEq, Eq)]
@@ -123,7 +127,53 @@ impl Model for CellSet {
 }
 
 impl CellSet {
-    ghost use Rattle.sz_cells.specs.Cells.{Cells, Spells};
+    ghost use Rattle.sz_cells.specs.Cells.{Cells, Spells, has, named_in};
+    ghost use Rattle.sz_cells.specs.Rising.{AreRising};
+
+    /// The set of the cells that a list names, a cell named twice once.
+    ///
+    /// Takes time in `n log n`, and memory in `n`, for a list of `n` cells.
+    pub fn from_cells(alloc: Global, shape: Shape, cells: &[Cell]) -> Result<CellSet, NoMemory>
+        requires held { All (λ c. holds shape c ≡ true) cells.now }
+        ensures { IfOk result (λ s. s ≡ named_in shape cells.now) }
+    {
+        let indexes = rising_indexes(alloc, &shape, cells)?;
+        CellSet::of_indexes(alloc, shape, &indexes)
+    }
+
+    /// The set of the cells of indexes that strictly rise.
+    fn of_indexes(alloc: Global, shape: Shape, indexes: &[u32]) -> Result<CellSet, NoMemory>
+        requires { AreRising 0 (size_of shape) indexes.now }
+        ensures { IfOk result (λ s. s ≡ record { extent = shape; indexes = indexes.now }) }
+    {
+        prove!(indexes.len() <= shape.size() as usize);
+        let mut runs = Vec::new(alloc);
+        for index in indexes {
+            add_next(&mut runs, *index)?;
+        }
+        Ok(CellSet {
+            shape,
+            runs,
+            count: indexes.len() as u32,
+        })
+    }
+
+    /// Whether the set has the cell. False for a cell that the shape does not hold.
+    ///
+    /// Takes time in the logarithm of the number of runs, and no memory.
+    pub fn has(&self, cell: Cell) -> bool
+        ensures { result ≡ has self.now cell }
+    {
+        self.shape.holds(cell) && self.has_index(self.shape.index(cell))
+    }
+
+    /// Whether the set has the cell of an index.
+    fn has_index(&self, index: u32) -> bool
+        ensures { result ≡ list_any (λ k. k == index) self.now.indexes }
+    {
+        let place = self.runs.partition_point(|run| run.last < index);
+        place < self.runs.len() && self.runs[place].first <= index
+    }
 
     pub fn shape(&self) -> Shape
         ensures { result ≡ self.now.extent }
