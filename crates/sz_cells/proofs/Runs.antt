@@ -4,14 +4,14 @@
 -- rising numbers is the filter of its range by the test that finds a number in the list, so it is a set made by a test.
 use Rattle.std.proofs.Common.{drop, drop-cons, Result, Ok, Err, is_ok, OnOk, if◌then◌else◌, eqb, nat_cmp, ◌≡◌, ℕ, zero, suc, ◌+◌, ◌-◌, ◌<◌, ◌≤◌, Bool, true, false, ◌&&◌, ◌||◌, ◌==◌, nat_lt, nat_le, List, [], ◌∷◌, ◌++◌, map, length, get_or, set, take, refl, sym, ap, ap₂, subst, ◌∙◌, arith, inl, inr, eqb-true, eq-eqb, ne_eqb, ltb-true, lt-ltb, le-ltb, append_assoc, append-nil}
 use Rattle.std.specs.List.{All, filter, list_any, range_with_len, flat_map, dedup, dedup_from}
-use Rattle.std.specs.List.Sorted.{IsPermutation, IsSorted, IsNonDecreasingBy, IsPartitionedBy, IsPartitionPoint, IsStrictlyIncreasing}
+use Rattle.std.specs.List.Sorted.{IsPermutation, IsSorted, IsNonDecreasingBy, IsPartitionPoint, IsStrictlyIncreasing}
 use Rattle.std.proofs.lemmas.Bool.{cond_both, cases_Bool, cases_order}
 use Rattle.std.proofs.lemmas.Bool.Decides.{nat_tests}
 use Rattle.std.proofs.lemmas.Grind.{flat_map-append}
 use Rattle.std.proofs.lemmas.List.Folds.{list_any-append}
 use Rattle.std.proofs.lemmas.List.Elements.{All-cons, All-head, All-tail, All-map}
 use Rattle.std.proofs.lemmas.Map.Keys.{IsStrictlyIncreasing-dedup}
-use Rattle.std.proofs.lemmas.List.Sorted.{All-permutation, list_any-IsPermutation, IsPartitionedBy-ltb}
+use Rattle.std.proofs.lemmas.List.Sorted.{All-permutation, list_any-IsPermutation}
 use Rattle.sz_cells.specs.declared.Run.{Run}
 use Rattle.sz_cells.specs.declared.Cell.{Cell}
 use Rattle.sz_cells.specs.Extent.{Extent, size_of, holds, index_of, cell_of}
@@ -190,16 +190,12 @@ runs-last_from least bound (r ∷ rest) zero d runs h = omega arith
 runs-last_from least bound (r ∷ rest) (suc j) d runs h = omega (arith, runs-last_from (r.last + 2) bound rest j d runs.3 (omega arith))
 
 -- the ends of the runs do not fall
-runs-rise : (least bound : ℕ) (runs : List Run) → AreRunsFrom least bound runs → IsNonDecreasingBy (λ r. r.last) runs
+pub runs-rise : (least bound : ℕ) (runs : List Run) → AreRunsFrom least bound runs → IsNonDecreasingBy (λ r. r.last) runs
 runs-rise least bound [] runs i j d order h = absurd (omega arith)
 runs-rise least bound (r ∷ rest) runs zero zero d order h = omega arith
 runs-rise least bound (r ∷ rest) runs zero (suc j) d order h = omega (arith, runs-last_from (r.last + 2) bound rest j d runs.3 (omega arith))
 runs-rise least bound (r ∷ rest) runs (suc i) zero d order h = absurd (omega arith)
 runs-rise least bound (r ∷ rest) runs (suc i) (suc j) d order h = runs-rise (r.last + 2) bound rest runs.3 i j d (omega arith) (omega arith)
-
--- so a search by halves may ask whether a run ends before an index
-pub runs-split : (least bound k : ℕ) (runs : List Run) → AreRunsFrom least bound runs → IsPartitionedBy (λ r. nat_lt r.last k) runs
-runs-split least bound k runs h = IsPartitionedBy-ltb (λ r. r.last) runs k (runs-rise least bound runs h)
 
 -- an index is spelled exactly where the first run that does not end before it begins at it or before it
 pub any-runs : (least bound k place : ℕ) (d : Run) (runs : List Run) → AreRunsFrom least bound runs → place ≤ length runs → IsPartitionPoint (λ r. nat_lt r.last k ≡ true) (λ r. nat_lt r.last k ≡ false) runs place → list_any (λ x. x == k) (flat_map indexes_of runs) ≡ (nat_lt place (length runs) && nat_le (get_or runs place d).first k)

@@ -1,7 +1,8 @@
 //! From a list of cells to the rising indexes that they name, and from those to the longest runs that spell them.
 
-ghost use Rattle.std.specs.Prelude.{◌≡◌, ◌+◌, true, map, All, IfOk, OnOk, [], ◌∷◌, ◌++◌};
+ghost use Rattle.std.specs.Prelude.{◌≡◌, ◌≤◌, ◌+◌, true, false, nat_lt, length, map, All, IfOk, OnOk, [], ◌∷◌, ◌++◌};
 ghost use Rattle.std.specs.List.{flat_map};
+ghost use Rattle.std.specs.List.Sorted.{IsNonDecreasingBy, IsPartitionPoint};
 ghost use Rattle.sz_cells.specs.Extent.{size_of, holds, index_of};
 ghost use Rattle.sz_cells.specs.Cells.{named_in, indexes_of, AreRunsFrom};
 ghost use Rattle.sz_cells.specs.Rising.{AreRising};
@@ -54,4 +55,13 @@ pub(crate) fn add_next(runs: &mut Vec<Run>, index: u32) -> Result<(), NoMemory>
         last: index,
     })
     .map_err(|_| NoMemory)
+}
+
+/// The place of the first run that does not end before an index, or the number of runs where each does.
+pub(crate) fn place_of(runs: &[Run], index: u32) -> usize
+    requires { IsNonDecreasingBy (λ r. r.last) runs.now }
+    ensures within { result ≤ length runs.now }
+    ensures first { IsPartitionPoint (λ r. nat_lt r.last index ≡ true) (λ r. nat_lt r.last index ≡ false) runs.now result }
+{
+    runs.partition_point(|run| run.last < index)
 }
