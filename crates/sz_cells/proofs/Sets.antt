@@ -3,10 +3,10 @@
 -- The key idea: a set made by a test is a filter of the row-major indexes 0, 1, 2, .., and an index stands in that
 -- filter exactly where its cell passes. Row-major indexes and cells are one to one, so facts about cells become facts
 -- about numbers, where each is one induction over the range.
-use Rattle.std.proofs.Common.{get_or, slice_index, lt_of_lt_of_le, inl, inr, true≢false, ◌≡◌, ℕ, zero, suc, ◌+◌, ◌*◌, ◌/◌, ◌%◌, ◌<◌, ◌≤◌, Bool, true, false, cond, ◌&&◌, ◌||◌, ◌==◌, nat_lt, nat_le, List, [], ◌∷◌, map, length, refl, sym, ap, ap₂, ◌∙◌, arith, add-zero, zero-add, eqb-true, eq-eqb, ltb-true, lt-ltb, mul_comm}
+use Rattle.std.proofs.Common.{get_or, inl, inr, true≢false, ◌≡◌, ℕ, zero, suc, ◌+◌, ◌/◌, ◌%◌, ◌<◌, ◌≤◌, Bool, true, false, cond, ◌&&◌, ◌||◌, ◌==◌, nat_lt, nat_le, List, [], ◌∷◌, map, refl, sym, ap, ap₂, ◌∙◌, arith, zero-add, eqb-true, eq-eqb, ltb-true, lt-ltb, mul_comm}
 use Rattle.std.specs.List.{All, filter, list_any, range_with_len}
 use Rattle.std.specs.List.Sorted.{IsStrictlyIncreasing}
-use Rattle.std.proofs.lemmas.Bool.{or_cases, or_left, or_right, and_parts, and_from, cases_Bool, false_from_ne_true, true_from_ne_false}
+use Rattle.std.proofs.lemmas.Bool.{or_cases, or_left, or_right, and_parts, and_from, cases_Bool, false_from_ne_true}
 use Rattle.std.proofs.lemmas.Bool.Decides.{nat_tests}
 use Rattle.std.proofs.lemmas.List.Elements.{All-filter, All-from_get_or}
 use Rattle.std.proofs.lemmas.List.Folds.{list_any_at, list_any_none}
@@ -30,7 +30,7 @@ any-onward : {X : Type 0} (p q : X → Bool) → ((x : X) → p x ≡ true → q
 any-onward p q h [] found = found
 any-onward p q h (x ∷ xs) found =
     elim (or_cases (p x) (list_any p xs) found) [
-        inl here ↦ or_left (q x) (list_any q xs) (h x here)
+      | inl here ↦ or_left (q x) (list_any q xs) (h x here)
       | inr rest ↦ or_right (q x) (list_any q xs) (any-onward p q h xs rest)
     ]
 
@@ -44,7 +44,7 @@ map-filter f p (x ∷ xs) =
 same_truth : (a b : Bool) → (a ≡ true → b ≡ true) → (b ≡ true → a ≡ true) → a ≡ b
 same_truth a b there back =
     elim (cases_Bool a) [
-        inl t ↦ t ∙ sym (there t)
+      | inl t ↦ t ∙ sym (there t)
       | inr f ↦ f ∙ sym (false_from_ne_true b (λ passes. true≢false (sym (back passes) ∙ f)))
     ]
 
@@ -111,11 +111,11 @@ any_range-true : (p q : ℕ → Bool) (a n : ℕ) → list_any q (filter p (rang
 any_range-true p q a zero h = absurd (true≢false (sym h))
 any_range-true p q a (suc n) h =
     let later : list_any q (filter p (range_with_len (a + 1) n)) ≡ true → (k : ℕ) × (k < a + suc n) × (p k ≡ true) × (q k ≡ true) =
-      λ found. let one = any_range-true p q (a + 1) n found in (one.0, omega (arith, one.1), one.2, one.3) in
+    λ found. let one = any_range-true p q (a + 1) n found in (one.0, omega (arith, one.1), one.2, one.3) in
     elim (cases_Bool (p a)) [
-        inl passes ↦
+      | inl passes ↦
           elim (or_cases (q a) (list_any q (filter p (range_with_len (a + 1) n))) (rw passes at h)) [
-              inl here ↦ (a, omega arith, passes, here)
+            | inl here ↦ (a, omega arith, passes, here)
             | inr rest ↦ later rest
           ]
       | inr fails ↦ later (rw fails at h)
@@ -175,14 +175,14 @@ is_same-flip a b = grind (arith, nat_tests)
 pub index-is_same : (e : Extent) (c : Cell) (k : ℕ) → holds e c ≡ true → (index_of e c == k) ≡ is_same (cell_of e k) c
 index-is_same e c k h =
     elim (cases_Bool (is_same (cell_of e k) c)) [
-        inl t ↦
+      | inl t ↦
           let one = is_same-true (cell_of e k) c t in
           eq-eqb (index_of e c) k (ap (index_of e) (sym one) ∙ index-cell e k) ∙ sym t
       | inr f ↦
           false_from_ne_true (index_of e c == k)
           (λ same.
-              let at = eqb-true (index_of e c) k same in
-              true≢false (sym (is_same-from (cell_of e k) c (ap (cell_of e) (sym at) ∙ cell-index e c h)) ∙ f))
+          let at = eqb-true (index_of e c) k same in
+          true≢false (sym (is_same-from (cell_of e k) c (ap (cell_of e) (sym at) ∙ cell-index e c h)) ∙ f))
           ∙ sym f
     ]
 
@@ -197,8 +197,8 @@ range-All : (P : ℕ → Type 0) (n : ℕ) → ((k : ℕ) → k < n → P k) →
 range-All P n h =
     All-from_get_or P (range_with_len 0 n) 0
     (λ i inside.
-        let below : i < n = omega (arith, length-range_with_len 0 n) in
-        rw (range-at n i below) (h i below))
+    let below : i < n = omega (arith, length-range_with_len 0 n) in
+    rw (range-at n i below) (h i below))
 
 -- some cell of the shape is the same as a cell of the shape
 any-same_held : (e : Extent) (x : Cell) → holds e x ≡ true → list_any (λ k. is_same x (cell_of e k)) (range_with_len 0 (size_of e)) ≡ true
@@ -213,15 +213,15 @@ any-same_outside e x h =
     list_any_none (λ k. is_same x (cell_of e k)) (range_with_len 0 (size_of e))
     (range-All (λ k. is_same x (cell_of e k) ≡ false) (size_of e)
     (λ k below.
-        false_from_ne_true (is_same x (cell_of e k))
-        (λ same. true≢false (sym (cell-held e k below) ∙ ap (holds e) (sym (is_same-true x (cell_of e k) same)) ∙ h))))
+    false_from_ne_true (is_same x (cell_of e k))
+    (λ same. true≢false (sym (cell-held e k below) ∙ ap (holds e) (sym (is_same-true x (cell_of e k) same)) ∙ h))))
 
 -- the cells that pass hold one that is the same as x exactly where the shape holds x and x passes
 pub any_cell-same_any : (e : Extent) (p : Cell → Bool) (x : Cell) → any_cell (λ o. is_same x o) (cells_where e p) ≡ (holds e x && p x)
 any_cell-same_any e p x =
     let kept = any-filter_same (λ k. is_same x (cell_of e k)) (λ k. p (cell_of e k)) (p x) (λ k same. ap p (sym (is_same-true x (cell_of e k) same))) (range_with_len 0 (size_of e)) in
     kept ∙ (elim (cases_Bool (holds e x)) [
-        inl t ↦ rw (any-same_held e x t, t) (elim (cases_Bool (p x)) [ inl passes ↦ rw passes refl | inr fails ↦ rw fails refl ])
+      | inl t ↦ rw (any-same_held e x t, t) (elim (cases_Bool (p x)) [ inl passes ↦ rw passes refl | inr fails ↦ rw fails refl ])
       | inr f ↦ rw (any-same_outside e x f, f) (elim (cases_Bool (p x)) [ inl passes ↦ rw passes refl | inr fails ↦ rw fails refl ])
     ])
 
@@ -251,7 +251,7 @@ any_cell-from e p q c h passes both =
 pub any_cell-ext : (e : Extent) (p q r : Cell → Bool) → ((c : Cell) → holds e c ≡ true → p c ≡ true → q c ≡ r c) → any_cell q (cells_where e p) ≡ any_cell r (cells_where e p)
 any_cell-ext e p q r h =
     let onward : (a b : Cell → Bool) → ((c : Cell) → holds e c ≡ true → p c ≡ true → a c ≡ b c) → any_cell a (cells_where e p) ≡ true → any_cell b (cells_where e p) ≡ true =
-      λ a b same found. let one = any_cell-true e p a found in any_cell-from e p b one.0 one.1 one.2 (sym (same one.0 one.1 one.2) ∙ one.3) in
+    λ a b same found. let one = any_cell-true e p a found in any_cell-from e p b one.0 one.1 one.2 (sym (same one.0 one.1 one.2) ∙ one.3) in
     same_truth (any_cell q (cells_where e p)) (any_cell r (cells_where e p)) (onward q r h) (onward r q (λ c held passes. sym (h c held passes)))
 
 -- ---- the indexes of a set
