@@ -84,9 +84,9 @@ first-named q (x ∷ xs) = elim (cases_Bool (bytes_eq q (string_bytes x))) [ inl
 pub versions_in-here : {X Y Z W : Type 0} (index : BTreeMap (String Y) (Vec (Arc X Z) W)) (name : List ℕ) (was none : Vec (Arc X Z) W) → was ≡ unwrap_or (get_by_text index name) none → none.items ≡ [] → versions_in index name ≡ map (λ a. arc_value a) was.items
 versions_in-here {X} {Y} {Z} {W} index name was none is empty =
     at (get_by_text index name) ∙ ap (λ (v : Vec (Arc X Z) W). map (λ a. arc_value a) v.items) (sym is) where
-  at : (o : Option (Vec (Arc X Z) W)) → map (λ a. arc_value a) (option_map_or (λ v. v.items) o []) ≡ map (λ a. arc_value a) (unwrap_or o none).items
-  at None = ap (map (λ a. arc_value a)) (sym empty)
-  at (Some v) = refl
+      at : (o : Option (Vec (Arc X Z) W)) → map (λ a. arc_value a) (option_map_or (λ v. v.items) o []) ≡ map (λ a. arc_value a) (unwrap_or o none).items
+      at None = ap (map (λ a. arc_value a)) (sym empty)
+      at (Some v) = refl
 
 -- one name's list got more at its end
 pub versions_in-changed : {X Y Z W : Type 0} (old new : BTreeMap (String Y) (Vec (Arc X Z) W)) (name : List ℕ) (was now none : Vec (Arc X Z) W) (more : List X) → ((q : List ℕ) → get_by_text new q ≡ cond (bytes_eq name q) (Some now) (get_by_text old q)) → was ≡ unwrap_or (get_by_text old name) none → none.items ≡ [] → map (λ a. arc_value a) now.items ≡ map (λ a. arc_value a) was.items ++ more → (q : List ℕ) → versions_in new q ≡ versions_in old q ++ (if bytes_eq q name then more else [])
@@ -94,9 +94,9 @@ versions_in-changed {X} {Y} {Z} {W} old new name was now none more after is empt
     let seen : Option (Vec (Arc X Z) W) → List X = λ o. map (λ a. arc_value a) (option_map_or (λ v. v.items) o []) in
     let chosen : Bool → List X = λ b. versions_in old q ++ (if b then more else []) in
     let read : versions_in new q ≡ seen (cond (bytes_eq q name) (Some now) (get_by_text old q)) =
-      ap seen (after q ∙ ap (λ (b : Bool). cond b (Some now) (get_by_text old q)) (bytes_eq-flip name q)) in
+    ap seen (after q ∙ ap (λ (b : Bool). cond b (Some now) (get_by_text old q)) (bytes_eq-flip name q)) in
     elim (cases_Bool (bytes_eq q name)) [
-        inl t ↦
+      | inl t ↦
           let same : q ≡ name = (bytes_eq-Decides q name).0 t in
           read ∙ ap (λ (b : Bool). seen (cond b (Some now) (get_by_text old q))) t ∙ grown
           ∙ ap (λ (zs : List X). zs ++ more) (sym (versions_in-here old name was none is empty) ∙ ap (versions_in old) (sym same))
@@ -109,6 +109,6 @@ pub versions_in-kept : {X Y Z W : Type 0} (old new : BTreeMap (String Y) (Vec (A
 versions_in-kept {X} old new name was now none after is empty same q =
     versions_in-changed old new name was now none [] after is empty (same ∙ sym (append-nil (map (λ a. arc_value a) was.items))) q
     ∙ nothing (bytes_eq q name) (versions_in old q) where
-  nothing : (b : Bool) (xs : List X) → xs ++ (if b then [] else []) ≡ xs
-  nothing true xs = append-nil xs
-  nothing false xs = append-nil xs
+      nothing : (b : Bool) (xs : List X) → xs ++ (if b then [] else []) ≡ xs
+      nothing true xs = append-nil xs
+      nothing false xs = append-nil xs

@@ -1,2 +1,4 @@
 pub mod CatalogueNames
 pub mod CatalogueOutputs
+pub mod Asks
+pub mod CatalogueSteps

@@ -1,6 +1,7 @@
 //! A session: lines in, reply lines out.
 #![tactic(auto)]
 
+mod ask;
 mod catalogue;
 mod command;
 mod evaluate;

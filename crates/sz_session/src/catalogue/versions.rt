@@ -2,14 +2,17 @@
 ghost use Rattle.std.specs.Prelude.{◌≡◌, [], ◌∷◌, true, false, map, IfOk};
 ghost use Rattle.std.specs.Arc.{arc_value};
 ghost use Rattle.sz_spec.specs.declared.Dir.TheVariants.{Back};
+ghost use Rattle.sz_session.specs.Steps.{answer_of};
 ghost use Rattle.sz_session.specs.Reading.{negation};
+ghost use Rattle.sz_session.specs.Seen.{step_seen};
 
 use super::memory::shared;
-use crate::evaluate;
+use crate::command::PathStep;
+use crate::{ask, evaluate};
 use std::alloc::Global;
 use std::marker::Model;
 use std::sync::Arc;
-use sz_cells::NoMemory;
+use sz_cells::{Cell, CellSet, NoMemory};
 use sz_spec::{Array, Op};
 
 /// A run of the flow: its base array, the array that it made, and whether it was awaited.
@@ -54,5 +57,17 @@ impl HeldVersion {
         ensures { self.new ≡ record self.old { awaited = true } }
     {
         self.awaited = true;
+    }
+
+    /// The cells that an ask gives, backward along a path.
+    pub fn answer(
+        &self,
+        alloc: Global,
+        path: &[PathStep],
+        cells: &[Cell],
+    ) -> Result<Option<CellSet>, NoMemory>
+        ensures { IfOk result (λ r. answer_of Back (map step_seen path.now) cells.now self.now ≡ r) }
+    {
+        ask::answer(alloc, self.base.shape(), path, cells)
     }
 }

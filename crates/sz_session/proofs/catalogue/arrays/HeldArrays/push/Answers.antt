@@ -1,4 +1,4 @@
-use Rattle.std.proofs.Common.{◌≡◌, ℕ, List, [], ◌∷◌, ◌++◌, if◌then◌else◌, sym, ap, ◌∙◌}
+use Rattle.std.proofs.Common.{◌≡◌, ℕ, List, [], ◌∷◌, ◌++◌, if◌then◌else◌, ap, ap₂, ◌∙◌}
 use Rattle.std.specs.Str.{bytes_eq}
 use Rattle.sz_spec.specs.Values.{Grid}
 use Rattle.sz_session.specs.Catalogues.{Named}
@@ -8,8 +8,10 @@ use Rattle.sz_session.proofs.catalogue.arrays.HeldArrays.push.Goals as goal
 
 pub invariant_of-self-2 : goal.invariant_of-self-2
 invariant_of-self-2 c =
-    let held : Named Grid = record { name = c.args.name.now; thing = c.args.array } in
+    let under : Grid → Named Grid = λ g. record { name = c.args.name.now; thing = g } in
+    let push : List (Named Grid) → Named Grid → List (Named Grid) = λ xs x. xs ++ x ∷ [] in
     let added : (q : List ℕ) → versions_in c.enlist.new.index q ≡ versions_in c.self.inside.by_name q ++ (if bytes_eq q c.args.name.now then c.args.array ∷ [] else []) =
-      λ q. c.in_ok-version.ensures.added q ∙ ap (λ (g : Grid). versions_in c.self.inside.by_name q ++ (if bytes_eq q c.args.name.now then g ∷ [] else [])) c.in_ok-owner.ensures in
-    let items : c.push_reserved.new.self.items ≡ c.self.inside.list.items ++ held ∷ [] = cc in
-    rw items (IsVersionIndex-push c.self.inside.by_name c.enlist.new.index c.self.inside.list.items held c.self.invariant added)
+    λ q. c.in_ok-version.ensures.added q ∙ ap (λ (g : Grid). versions_in c.self.inside.by_name q ++ (if bytes_eq q c.args.name.now then g ∷ [] else [])) c.in_ok-owner.ensures in
+    let items : c.push_reserved.new.self.items ≡ push c.self.inside.list.items (under c.args.array) =
+    c.push_reserved.ensures.items ∙ ap₂ push c.reserve.ensures.items (c.in_ok-held.ensures ∙ ap under c.in_ok-owner.ensures) in
+    rw items (IsVersionIndex-push c.self.inside.by_name c.enlist.new.index c.self.inside.list.items (under c.args.array) c.self.invariant added)
