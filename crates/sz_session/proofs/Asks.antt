@@ -64,12 +64,7 @@ joined-only (s ∷ []) h =
     ap₂ (λ (n i : ℕ). record { node = n; input = i } ∷ []) (eqb-true s.node 0 both.0) (eqb-true s.input 0 both.1)
 joined-only (s ∷ t ∷ path) h = absurd (true≢false (sym h ∙ long-not_joined s t path))
 
--- the same of a path in memory
-pub path-one : (path : List PathStep) (d : PathStep) → length path ≡ 1 → is_joined Back negation (map step_seen path) ≡ (((get_or path 0 d).node == 0) && ((get_or path 0 d).input == 0))
-path-one [] d h = absurd (omega arith)
-path-one (s ∷ []) d h = joined-one (step_seen s)
-path-one (s ∷ t ∷ path) d h = absurd (omega arith)
-
+-- a path in memory of another length than one is not joined
 pub path-not_one : (path : List PathStep) → length path ≢ 1 → is_joined Back negation (map step_seen path) ≡ false
 path-not_one [] h = refl
 path-not_one (s ∷ []) h = absurd (h refl)
@@ -83,15 +78,7 @@ image-same e p = cells_where-ext e (λ x. any_cell (λ o. is_same x o) (cells_wh
 abbrev pub version_on : Grid → Bool → Version
 version_on g w = record { flow = negation; base = g ∷ []; awaited = w }
 
--- a path that is not joined is refused
-pub answer-not_joined : (path : List Step) (asked : List Cell) (g : Grid) (w : Bool) → is_joined Back negation path ≡ false → answer_of Back path asked (version_on g w) ≡ None
-answer-not_joined path asked g w h = rw h refl
-
--- a cell outside of the shape is refused
-pub answer-outside : (asked : List Cell) (g : Grid) (w : Bool) → list_all (holds g.extent) asked ≡ false → answer_of Back (only_step ∷ []) asked (version_on g w) ≡ None
-answer-outside asked g w h = rw h refl
-
--- else the answer is the cells asked for
+-- along that step, cells of the shape are answered by themselves
 pub answer-inside : (asked : List Cell) (g : Grid) (w : Bool) → list_all (holds g.extent) asked ≡ true → answer_of Back (only_step ∷ []) asked (version_on g w) ≡ Some (named_in g.extent asked)
 answer-inside asked g w h =
     rw h (ap (λ (set : Cells). Some set) (image-same g.extent (λ c. list_any (is_same c) asked)))

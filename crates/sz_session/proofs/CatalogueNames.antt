@@ -49,10 +49,6 @@ pub IsVersionIndex-push : {X Y Z W : Type 0} (m n : BTreeMap (String Y) (Vec (Ar
 IsVersionIndex-push m n xs y was added =
     record { each = λ q. added q ∙ ap (λ zs. zs ++ (if bytes_eq q y.name then y.thing ∷ [] else [])) (was.each q) ∙ sym (named-push q xs y) }
 
--- an index that has the same under each name
-pub IsVersionIndex-same : {X Y Z W : Type 0} (m n : BTreeMap (String Y) (Vec (Arc X Z) W)) (xs : List (Named X)) → IsVersionIndex m xs → ((q : List ℕ) → versions_in n q ≡ versions_in m q) → IsVersionIndex n xs
-IsVersionIndex-same m n xs was same = record { each = λ q. same q ∙ was.each q }
-
 -- a set that got a name
 pub IsNameSet-push : {Y : Type 0} (m n : BTreeSet (String Y)) (xs : List (String Y)) (name : List ℕ) (held : String Y) → IsNameSet m xs → UpdatesBy string_cmp (λ k. slice_cmp nat_cmp name (string_bytes k)) m n true → string_bytes held ≡ name → IsNameSet n (xs ++ held ∷ [])
 IsNameSet-push m n xs name held was updates same =

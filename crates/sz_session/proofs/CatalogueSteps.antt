@@ -1,7 +1,7 @@
 -- What the steps of a catalogue come to, where the flow is the negation.
 --
--- The key idea: a start on one array of a flow that is the negation has one output, of the array's shape, so the cells that it
--- adds are the array's; and a start on any other number of arrays is refused.
+-- The key idea: a start finds as many arrays as it names, or none, and the negation takes one. So a start that names another
+-- number of arrays is refused, whatever it names.
 use Rattle.std.proofs.Common.{◌≡◌, ◌≢◌, ℕ, zero, suc, ◌+◌, ◌-◌, ◌<◌, ◌≤◌, Bool, true, false, ◌&&◌, ◌==◌, nat_lt, nat_le, eqb, List, [], ◌∷◌, ◌++◌, map, length, get_or, set, Option, Some, None, refl, sym, ap, ap₂, ◌∙◌, inl, inr, zero-add, add-zero, arith}
 use Rattle.std.specs.Option.{option_and_then, option_map}
 use Rattle.std.specs.List.{slice_get, sum_by}
@@ -17,14 +17,6 @@ use Rattle.sz_session.specs.Reading.{negation, only_if}
 use Rattle.sz_session.specs.Catalogues.{Named, Version, Catalogue, named, numbered, array_version, flow_named, cells_of, held_cells}
 use Rattle.sz_session.specs.Steps.{most_versions, most_cells, after_start, bases_of}
 use Rattle.sz_session.specs.Replies.{Reply, started}
-
--- the version that a start makes
-abbrev pub started_on : Grid → Version
-started_on g = record { flow = negation; base = g ∷ []; awaited = false }
-
--- the cells of a version's outputs
-abbrev pub version_cells : Version → ℕ
-version_cells v = cells_of (evaluations v.flow v.base)
 
 -- a flow that is not held
 pub start-no_flow : (c : Catalogue) (name : List ℕ) (base : List Base) → flow_named c name ≡ None → after_start c name base ≡ None
@@ -49,42 +41,7 @@ start-not_one c name base flow other =
           let no : (length grids == 1) ≡ false = grind (arith, nat_tests, bases-length c base grids r) in
           rw no refl
 
--- an array that is not held
-pub start-no_array : (c : Catalogue) (name : List ℕ) (b : Base) → flow_named c name ≡ Some negation → array_version c b.name b.version ≡ None → after_start c name (b ∷ []) ≡ None
-start-no_array c name b flow none = rw (flow, none) refl
-
--- one array that is held
-pub bases-one : (c : Catalogue) (b : Base) (g : Grid) → array_version c b.name b.version ≡ Some g → bases_of c (b ∷ []) ≡ Some (g ∷ [])
-bases-one c b g h = rw h refl
-
--- the cells of the version on one array are the array's
-pub cells-one : (g : Grid) → version_cells (started_on g) ≡ size_of g.extent
-cells-one g = zero-add (size_of g.extent)
-
--- a start on one array
-pub start-one : (c : Catalogue) (name : List ℕ) (base : List Base) (g : Grid) → flow_named c name ≡ Some negation → bases_of c base ≡ Some (g ∷ []) → after_start c name base ≡ only_if (nat_lt (length c.versions) most_versions && nat_le (held_cells c + size_of g.extent) most_cells) (Some (record c { versions = c.versions ++ started_on g ∷ [] }, started (length c.versions + 1)))
-start-one c name base g flow bases =
-    rw (flow, bases)
-    (ap (λ (n : ℕ). only_if (nat_lt (length c.versions) most_versions && nat_le (held_cells c + n) most_cells) (Some (record c { versions = c.versions ++ started_on g ∷ [] }, started (length c.versions + 1)))) (cells-one g))
-
--- one more array, and one more version
-pub cells-array : (c : Catalogue) (x : Named Grid) → held_cells (record c { arrays = c.arrays ++ x ∷ [] }) ≡ held_cells c + size_of x.thing.extent
-cells-array c x = omega (arith, sum_by_push (λ (y : Named Grid). size_of y.thing.extent) c.arrays x)
-
-pub cells-version : (c : Catalogue) (g : Grid) → held_cells (record c { versions = c.versions ++ started_on g ∷ [] }) ≡ held_cells c + size_of g.extent
-cells-version c g = omega (arith, sum_by_push version_cells c.versions (started_on g), cells-one g)
-
--- a version that is awaited has the cells that it had
-pub cells-awaited : (c : Catalogue) (i : ℕ) (v : Version) → i < length c.versions → v ≡ get_or c.versions i v → held_cells (record c { versions = set c.versions i (record v { awaited = true }) }) ≡ held_cells c
-cells-awaited c i v inside is =
-    let same : version_cells (get_or c.versions i v) ≡ version_cells v = ap version_cells (sym is) in
-    omega (arith, sum_by-set version_cells c.versions i (record v { awaited = true }) v inside)
-
--- the element of a number that is none, and of one that is in range
-pub numbered-none : {X : Type 0} (n : ℕ) (xs : List X) → length xs < n → numbered n xs ≡ None
-numbered-none n xs h =
-    elim (cases_Bool (nat_lt 0 n)) [ inl t ↦ rw t (slice_get_past xs (n - 1) (omega arith)) | inr f ↦ rw f refl ]
-
+-- the element of a number
 pub numbered-some : {X : Type 0} (n i : ℕ) (xs : List X) (x : X) → i + 1 ≡ n → i < length xs → x ≡ get_or xs i x → numbered n xs ≡ Some x
 numbered-some n i xs x at inside is =
     let some : nat_lt 0 n ≡ true = grind (arith, nat_tests) in

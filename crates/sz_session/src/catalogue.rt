@@ -189,3 +189,6 @@ impl Catalogue {
         }
     }
 }
+
+#[cfg(test)]
+mod tests;
