@@ -6,3 +6,7 @@ pub mod Texts
 pub mod Cuts
 pub mod Turns
 pub mod Ends
+pub mod CatalogueNames
+pub mod CatalogueOutputs
+pub mod Asks
+pub mod CatalogueSteps

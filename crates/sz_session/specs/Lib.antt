@@ -8,3 +8,4 @@ pub mod Output
 pub mod Seen
 pub mod Serving
 pub mod Statuses
+pub mod Kept

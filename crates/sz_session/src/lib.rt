@@ -1,8 +1,10 @@
 //! A session: lines in, reply lines out.
 #![tactic(auto)]
 
+mod ask;
 mod catalogue;
 mod command;
+mod evaluate;
 mod feed;
 mod reading;
 mod reply;

@@ -68,6 +68,14 @@ impl Array {
         self.shape
     }
 
+    /// What the array holds at each of its cells, in row-major order.
+    pub fn cells(&self) -> &[Value]
+        ensures values { result.now ≡ self.now.values }
+        ensures count { length result.now ≡ size_of self.now.extent }
+    {
+        &self.cells
+    }
+
     /// What the array holds at a cell.
     pub fn at(&self, cell: Cell) -> Value
         requires { holds self.now.extent cell ≡ true }
