@@ -4,10 +4,12 @@
 //! prints one line on standard error where the status is not Done, and ends with the status's number.
 #![tactic(auto)]
 
+use std::alloc::Global;
 use std::env;
 use std::io::{self, ErrorKind};
 use std::process::ExitCode;
-use std::sync::Arc;
+use std::sync::{Arc, Wait};
+use std::thread::Threads;
 use sz_outside::{FileStation, NoGate, StdinSource};
 use sz_session::{Status, serve};
 
@@ -20,24 +22,27 @@ fn words_of(rt: &HostRuntime) -> io::Result<Vec<String>> {
     Ok(words)
 }
 
-/// Runs the session that the words ask for.
-fn run(rt: &HostRuntime) -> Status {
-    let words = match words_of(rt) {
-        Ok(words) => words,
-        Err(fault) => {
-            return if fault.kind() == ErrorKind::OutOfMemory {
-                Status::NoMemory
-            } else {
-                Status::Usage
-            };
-        }
-    };
-    let Ok(gate) = Arc::new(rt.alloc(), NoGate) else {
+/// The status where the words could not be had: a word that is no text is no word of a mode.
+fn status_of(fault: &io::Error) -> Status {
+    if fault.kind() == ErrorKind::OutOfMemory {
+        Status::NoMemory
+    } else {
+        Status::Usage
+    }
+}
+
+/// Runs the session that the words ask for, over the real input and output.
+fn run<R: Threads + Wait + Clone + Send + Sync + 'static>(
+    rt: &R,
+    alloc: Global,
+    words: &[String],
+    source: &mut StdinSource,
+    station: &mut FileStation,
+) -> Status {
+    let Ok(gate) = Arc::new(alloc, NoGate) else {
         return Status::NoMemory;
     };
-    let mut source = StdinSource::new(rt);
-    let mut station = FileStation::closed(rt);
-    serve(rt, rt.alloc(), &words, &mut source, &mut station, &gate)
+    serve(rt, alloc, words, source, station, &gate)
 }
 
 /// The line that a status has on standard error.
@@ -55,7 +60,14 @@ fn text_of(status: Status) -> &'static str {
 }
 
 fn main(rt: HostRuntime) -> ExitCode {
-    let status = run(&rt);
+    let status = match words_of(&rt) {
+        Ok(words) => {
+            let mut source = StdinSource::new(&rt);
+            let mut station = FileStation::closed(&rt);
+            run(&rt, rt.alloc(), &words, &mut source, &mut station)
+        }
+        Err(fault) => status_of(&fault),
+    };
     if status != Status::Done {
         let _ = rt.eprintln(text_of(status));
     }

@@ -134,7 +134,10 @@ impl RTree {
     /// row-major order, a look for one cell visits some thirty boxes, and the next look, which finds no other, some
     /// fifteen. At worst, where boxes overlap and their rectangles do not, it visits all.
     pub fn next_hit(&self, bounds: Bounds, from: u32) -> Option<u32>
-        ensures { IsNextHit self.now.rectangles bounds from result }
+        ensures hit { IsNextHit self.now.rectangles bounds from result }
+
+        // So a number that was found can be counted up by one.
+        ensures few { length self.now.rectangles < 2 ^ 32 }
     {
         first_hit(&self.rectangles, &self.levels, &bounds, from as usize).map(
             |number| number as u32,
