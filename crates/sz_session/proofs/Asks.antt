@@ -2,9 +2,9 @@
 --
 -- The key idea: its one node takes one input, and that is a base array. So no step follows another, and the paths that are
 -- joined are the one step. The negation relates each cell to itself, so the image of a set is the set.
-use Rattle.std.proofs.Common.{◌≡◌, ◌≢◌, ℕ, zero, suc, Bool, true, false, ◌&&◌, ◌==◌, nat_lt, nat_le, List, [], ◌∷◌, map, length, get_or, Option, Some, None, refl, sym, ap, ap₂, ◌∙◌, inl, inr, true≢false, eqb-true, arith}
+use Rattle.std.proofs.Common.{◌≡◌, ◌≢◌, ℕ, zero, suc, Bool, true, false, ◌&&◌, ◌==◌, nat_lt, nat_le, List, [], ◌∷◌, map, length, Some, refl, sym, ap, ap₂, ◌∙◌, true≢false, eqb-true, arith}
 use Rattle.std.specs.List.{list_all, list_any}
-use Rattle.std.proofs.lemmas.Bool.{cases_Bool, and_parts}
+use Rattle.std.proofs.lemmas.Bool.{and_parts}
 use Rattle.std.proofs.lemmas.Bool.Decides.{nat_tests}
 use Rattle.sz_cells.specs.declared.Cell.{Cell}
 use Rattle.sz_cells.specs.Extent.{Extent, holds}
@@ -12,12 +12,11 @@ use Rattle.sz_cells.specs.Cells.{Cells, is_same, cells_where, any_cell, named_in
 use Rattle.sz_cells.proofs.Sets.{cells_where-ext, any_cell-same}
 use Rattle.sz_spec.specs.declared.Dir.TheVariants.{Back}
 use Rattle.sz_spec.specs.Values.{Grid}
-use Rattle.sz_spec.specs.Flows.{Flow}
 use Rattle.sz_spec.specs.Paths.{Step, source_of, is_there, is_output_of, are_joined, is_joined}
 use Rattle.sz_session.specs.declared.command.PathStep.{PathStep}
 use Rattle.sz_session.specs.Catalogues.{Version}
 use Rattle.sz_session.specs.Steps.{answer_of}
-use Rattle.sz_session.specs.Reading.{negation, only_if}
+use Rattle.sz_session.specs.Reading.{negation}
 use Rattle.sz_session.specs.Seen.{step_seen}
 
 -- the one step that there is

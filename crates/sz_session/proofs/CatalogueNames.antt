@@ -2,8 +2,8 @@
 --
 -- The key idea: what is found under a name is a filter of the list, so one more element at the list's end is one more at
 -- the end of what its own name finds, and nothing at the other names.
-use Rattle.std.proofs.Common.{◌≡◌, ℕ, ◌≤◌, Bool, true, false, cond, ◌||◌, if◌then◌else◌, List, [], ◌∷◌, ◌++◌, map, length, Option, Some, None, String, Vec, string_bytes, string_cmp, refl, sym, ap, inl, inr, unwrap_or, ◌∙◌, arith, nat_lt, nat_le}
-use Rattle.std.specs.List.{filter, list_any, slice_get, count_by}
+use Rattle.std.proofs.Common.{◌≡◌, ℕ, ◌≤◌, Bool, true, false, cond, ◌||◌, if◌then◌else◌, List, [], ◌∷◌, ◌++◌, map, length, Option, Some, None, String, Vec, string_bytes, string_cmp, refl, sym, ap, inl, inr, unwrap_or, ◌∙◌, arith}
+use Rattle.std.specs.List.{filter, list_any, slice_get}
 use Rattle.std.specs.Ordering.{nat_cmp}
 use Rattle.std.specs.Cmp.Lexicographic.{slice_cmp}
 use Rattle.std.specs.Str.{bytes_eq}
@@ -11,7 +11,7 @@ use Rattle.std.specs.declared.sync.Arc.{Arc}
 use Rattle.std.specs.BTreeMap.{BTreeMap, get_by_text}
 use Rattle.std.specs.Option.{option_map_or}
 use Rattle.std.specs.Arc.{arc_value}
-use Rattle.std.specs.BTreeSet.{BTreeSet, contains_text, UpdatesBy}
+use Rattle.std.specs.BTreeSet.{BTreeSet, UpdatesBy}
 use Rattle.std.proofs.lemmas.Bool.{cases_Bool}
 use Rattle.std.proofs.lemmas.Bool.Decides.{same_from_decides}
 use Rattle.std.proofs.lemmas.List.{append-nil, map-append, length-map}
@@ -20,7 +20,6 @@ use Rattle.std.proofs.lemmas.List.Folds.{list_any-append}
 use Rattle.std.proofs.lemmas.List.Sums.{length-filter, count_by-le-length}
 use Rattle.std.proofs.lemmas.Map.Text.{btree_set_updates_text}
 use Rattle.std.proofs.lemmas.Slice.Eq.{bytes_eq-Decides}
-use Rattle.sz_spec.specs.Flows.{Flow}
 use Rattle.sz_session.specs.Catalogues.{Named, named}
 use Rattle.sz_session.specs.Reading.{negation}
 use Rattle.sz_session.specs.Kept.{versions_in, IsVersionIndex, IsNameSet}

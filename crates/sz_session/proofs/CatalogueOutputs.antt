@@ -2,8 +2,8 @@
 --
 -- The key idea: the value of a cell is looked up at the cell's row-major index, and the index of the cell of an index is
 -- that index. So what the operator makes at the k-th cell is the negation of the k-th value.
-use Rattle.std.proofs.Common.{◌≡◌, ℕ, ◌<◌, ℤ, neg_ℤ, List, [], ◌∷◌, map, length, get_or, Option, None, unwrap_or, option_and_then, sym, ap, ◌∙◌, arith}
-use Rattle.std.specs.List.{range_with_len, slice_get}
+use Rattle.std.proofs.Common.{◌≡◌, ℕ, ℤ, neg_ℤ, List, [], ◌∷◌, map, length, get_or, Option, None, unwrap_or, option_and_then, sym, ap, ◌∙◌}
+use Rattle.std.specs.List.{slice_get}
 use Rattle.std.proofs.Math.ListN.{get_or-map}
 use Rattle.std.proofs.lemmas.List.{length-map}
 use Rattle.std.proofs.lemmas.List.FromFn.{fill_by_all}

@@ -2,19 +2,15 @@
 --
 -- The key idea: a start finds as many arrays as it names, or none, and the negation takes one. So a start that names another
 -- number of arrays is refused, whatever it names.
-use Rattle.std.proofs.Common.{◌≡◌, ◌≢◌, ℕ, zero, suc, ◌+◌, ◌-◌, ◌<◌, ◌≤◌, Bool, true, false, ◌&&◌, ◌==◌, nat_lt, nat_le, eqb, List, [], ◌∷◌, ◌++◌, map, length, get_or, set, Option, Some, None, refl, sym, ap, ap₂, ◌∙◌, inl, inr, zero-add, add-zero, arith}
+use Rattle.std.proofs.Common.{◌≡◌, ◌≢◌, ℕ, suc, ◌+◌, ◌-◌, ◌<◌, true, false, ◌&&◌, ◌==◌, nat_lt, nat_le, List, [], ◌∷◌, ◌++◌, length, get_or, Option, Some, None, refl, sym, ap, ◌∙◌, arith}
 use Rattle.std.specs.Option.{option_and_then, option_map}
-use Rattle.std.specs.List.{slice_get, sum_by}
-use Rattle.std.proofs.lemmas.Bool.{cases_Bool}
 use Rattle.std.proofs.lemmas.Bool.Decides.{nat_tests}
-use Rattle.std.proofs.lemmas.List.Sums.{sum_by_push, sum_by-set}
-use Rattle.std.proofs.lemmas.Option.{slice_get-get_or, slice_get_past, none-some, same_Some}
-use Rattle.sz_cells.specs.Extent.{size_of}
+use Rattle.std.proofs.lemmas.Option.{slice_get-get_or, none-some, same_Some}
 use Rattle.sz_spec.specs.Values.{Grid}
-use Rattle.sz_spec.specs.Flows.{Flow, evaluations}
+use Rattle.sz_spec.specs.Flows.{evaluations}
 use Rattle.sz_session.specs.Orders.{Base}
 use Rattle.sz_session.specs.Reading.{negation, only_if}
-use Rattle.sz_session.specs.Catalogues.{Named, Version, Catalogue, named, numbered, array_version, flow_named, cells_of, held_cells}
+use Rattle.sz_session.specs.Catalogues.{Catalogue, numbered, array_version, flow_named, cells_of, held_cells}
 use Rattle.sz_session.specs.Steps.{most_versions, most_cells, after_start, bases_of}
 use Rattle.sz_session.specs.Replies.{Reply, started}
 

@@ -20,7 +20,7 @@ enum Said {
     Cells(u32),
 }
 
-fn said(reply: &Reply) -> Said {
+fn in_short(reply: &Reply) -> Said {
     match reply {
         Reply::Array { version, .. } => Said::Array(*version),
         Reply::Flow { .. } => Said::Flow,
@@ -34,7 +34,7 @@ fn said(reply: &Reply) -> Said {
 fn take(held: &mut Catalogue, command: Command) -> Result<Said, Fail> {
     match held.take(command)? {
         None => Ok(Said::Refused),
-        Some(reply) => Ok(said(&reply)),
+        Some(reply) => Ok(in_short(&reply)),
     }
 }
 

@@ -2,7 +2,7 @@ use Rattle.std.proofs.Common.{◌≡◌, ℕ, List, [], ◌∷◌, ◌++◌, if�
 use Rattle.std.specs.Str.{bytes_eq}
 use Rattle.sz_spec.specs.Values.{Grid}
 use Rattle.sz_session.specs.Catalogues.{Named}
-use Rattle.sz_session.specs.Kept.{versions_in, IsVersionIndex}
+use Rattle.sz_session.specs.Kept.{versions_in}
 use Rattle.sz_session.proofs.CatalogueNames.{IsVersionIndex-push}
 use Rattle.sz_session.proofs.catalogue.arrays.HeldArrays.push.Goals as goal
 
