@@ -148,14 +148,7 @@ pub fn serve<
     T: Station,
     G: Gate + 'static,
     R: Threads + Wait + Clone + Send + Sync + 'static,
->(
-    _rt: &R,
-    alloc: Global,
-    words: &[String],
-    source: &mut S,
-    station: &mut T,
-    _gate: &Arc<G>,
-) -> Status
+>(rt: &R, alloc: Global, words: &[String], source: &mut S, station: &mut T, gate: &Arc<G>) -> Status
     ensures done { result ≡ Status.Done → Done (S.left source.old) (S.left source.new) (T.said station.old) (T.said station.new) }
     ensures usage { (result ≡ Status.Usage) ↔ (are_play (map string_bytes words.now) ≡ false) }
     ensures untouched { result ≡ Status.Usage → (source.new ≡ source.old) × (station.new ≡ station.old) }

@@ -98,51 +98,85 @@ fn replies(rt: HostRuntime) -> Result<(), Fail> {
 }
 
 #[test]
-fn faults_and_words(rt: HostRuntime) -> Result<(), Fail> {
+fn lines_are_numbered_from_the_first(rt: HostRuntime) -> Result<(), Fail> {
     let alloc = rt.alloc();
-    let play = words_of(alloc, &["play"])?;
+    let words = words_of(alloc, &["play"])?;
     let gate = Arc::new(alloc, NoGate)?;
+    // No JSON, a blank line, and a line without a newline that awaits what is not there.
+    let text = b"{\"array\":\n   \n{\"await\":9}".to_vec(alloc)?;
+    let mut source = SteadySource::new(text, 2);
+    let mut station = station(alloc, Vec::new(alloc))?;
+    let status = serve(&rt, alloc, &words, &mut source, &mut station, &gate);
+    assert_eq!(rt; status, Status::Done);
+    assert_eq!(rt; station.said(), b"1 refused 1\n3 refused 21\n".as_slice());
+    Ok(())
+}
 
-    // The first read gives two lines and a part of the third, and the second one fails.
+/// The first read gives two lines and a part of the third, and the second read fails.
+#[test]
+fn a_read_fails_in_a_line(rt: HostRuntime) -> Result<(), Fail> {
+    let alloc = rt.alloc();
+    let words = words_of(alloc, &["play"])?;
+    let gate = Arc::new(alloc, NoGate)?;
     let mut source = MemSource::new(session(alloc, "")?, 100, vec![in alloc; 2]?);
-    let mut kept = station(alloc, Vec::new(alloc))?;
-    let status = serve(&rt, alloc, &play, &mut source, &mut kept, &gate);
+    let mut station = station(alloc, Vec::new(alloc))?;
+    let status = serve(&rt, alloc, &words, &mut source, &mut station, &gate);
     assert_eq!(rt; status, Status::ReadFault);
-    assert_eq!(rt; kept.said(), b"1 array a 1\n2 flow f\n".as_slice());
+    assert_eq!(rt; station.said(), b"1 array a 1\n2 flow f\n".as_slice());
+    Ok(())
+}
 
-    // The third reply can't be said.
+#[test]
+fn the_third_reply_cannot_be_said(rt: HostRuntime) -> Result<(), Fail> {
+    let alloc = rt.alloc();
+    let words = words_of(alloc, &["play"])?;
+    let gate = Arc::new(alloc, NoGate)?;
     let mut source = MemSource::new(session(alloc, "")?, 16, Vec::new(alloc));
-    let mut failing = station(alloc, vec![in alloc; 3]?)?;
-    let status = serve(&rt, alloc, &play, &mut source, &mut failing, &gate);
+    let mut station = station(alloc, vec![in alloc; 3]?)?;
+    let status = serve(&rt, alloc, &words, &mut source, &mut station, &gate);
     assert_eq!(rt; status, Status::SayFault);
-    assert_eq!(rt; failing.said(), b"1 array a 1\n2 flow f\n".as_slice());
+    assert_eq!(rt; station.said(), b"1 array a 1\n2 flow f\n".as_slice());
+    Ok(())
+}
 
-    // Other words than the one word, and then nothing is read.
+#[test]
+fn other_words_read_nothing(rt: HostRuntime) -> Result<(), Fail> {
+    let alloc = rt.alloc();
+    let gate = Arc::new(alloc, NoGate)?;
     for words in [
         ["play", "x"].as_slice(),
         ["run"].as_slice(),
-        [].as_slice(),
         ["Play"].as_slice(),
+        [].as_slice(),
     ] {
         let words = words_of(alloc, words)?;
         let mut source = SteadySource::new(session(alloc, "")?, 100);
-        let mut untouched = station(alloc, Vec::new(alloc))?;
-        let status = serve(&rt, alloc, &words, &mut source, &mut untouched, &gate);
+        let mut station = station(alloc, Vec::new(alloc))?;
+        let status = serve(&rt, alloc, &words, &mut source, &mut station, &gate);
         assert_eq!(rt; status, Status::Usage);
-        assert!(rt; untouched.said().is_empty());
+        assert!(rt; station.said().is_empty());
         let mut buffer = [0; 4];
         assert_eq!(rt; source.read(&mut buffer), Ok(4));
-        assert_eq!(rt; buffer.as_slice(), b"{\"ar".as_slice());
     }
+    Ok(())
+}
+
+#[test]
+fn statuses_have_their_numbers(rt: HostRuntime) {
     assert_eq!(rt;
         [
             Status::Done as u8,
             Status::Usage as u8,
-            Status::ReadFault as u8,
-            Status::SayFault as u8
+            Status::ReadFault as u8
         ],
-        [0, 1, 2, 3]
+        [0, 1, 2]
     );
-    assert_eq!(rt; [Status::NoMemory as u8, Status::InputLimit as u8], [8, 9]);
-    Ok(())
+    assert_eq!(rt;
+        [
+            Status::SayFault as u8,
+            Status::NoMemory as u8,
+            Status::InputLimit as u8
+        ],
+        [3, 8, 9]
+    );
 }
