@@ -1,114 +1,123 @@
+ghost use Rattle.std.specs.Prelude.{◌≤◌};
+
 use crate::{Status, serve};
 use std::alloc::Global;
-use std::sync::Arc;
+use std::sync::{Arc, Wait};
 use std::test::Fail;
+use std::thread::Threads;
 use sz_outside::{MemSource, MemStation, NoGate, Source, SteadySource};
 
-const ARRAY: &str = "{\"array\":\"a\",\"cells\":[[5]]}\n";
-
-const FLOW: &str =
-    "{\"flow\":\"f\",\"inputs\":1,\"nodes\":[{\"op\":\"neg\",\"from\":[{\"i\":0}]}]}\n";
-
-const START: &str = "{\"start\":\"f\",\"base\":[[\"a\",1]]}\n";
-
-const AWAIT: &str = "{\"await\":1}\n";
+const BEGIN: &[u8] = b"{\"array\":\"a\",\"cells\":[[5]]}
+{\"flow\":\"f\",\"inputs\":1,\"nodes\":[{\"op\":\"neg\",\"from\":[{\"i\":0}]}]}
+{\"start\":\"f\",\"base\":[[\"a\",1]]}
+{\"await\":1}
+";
 
 /// The smallest session up to its ask, and then this text.
-fn session(alloc: Global, more: &str) -> Result<Vec<u8>, Fail> {
-    let mut text = String::new(alloc);
-    for line in [ARRAY, FLOW, START, AWAIT] {
-        text.push_str(line)?;
-    }
-    text.push_str(more)?;
-    Ok(text.into_bytes())
-}
-
-fn words_of(alloc: Global, words: &[&str]) -> Result<Vec<String>, Fail> {
-    let mut all = Vec::new(alloc);
-    for word in words {
-        all.push(String::from_str(alloc, word)?)?;
-    }
-    Ok(all)
+fn session(alloc: Global, more: &[u8]) -> Result<Vec<u8>, Fail> {
+    let mut text = BEGIN.to_vec(alloc)?;
+    text.extend_from_slice(more)?;
+    Ok(text)
 }
 
 fn station(alloc: Global, say_fails: Vec<u64>) -> Result<MemStation, Fail> {
     Ok(MemStation::new(alloc, Vec::new(alloc), Vec::new(alloc), say_fails)?)
 }
 
+fn words(alloc: Global, word: &str) -> Result<Vec<String>, Fail> {
+    Ok(vec![in alloc; String::from_str(alloc, word)?]?)
+}
+
+/// What is said of a text that comes in pieces of this many bytes, where all goes well.
+fn said<R: Threads + Wait + Clone + Send + Sync + 'static>(
+    rt: &R,
+    alloc: Global,
+    text: Vec<u8>,
+    chunk: u32,
+) -> Result<Vec<u8>, Fail>
+    requires { 1 ≤ chunk }
+{
+    let words = words(alloc, "play")?;
+    let gate = Arc::new(alloc, NoGate)?;
+    let mut source = SteadySource::new(text, chunk);
+    let mut station = station(alloc, Vec::new(alloc))?;
+    let status = serve(rt, alloc, &words, &mut source, &mut station, &gate);
+    if status == Status::Done {
+        Ok(station.said().to_vec(alloc)?)
+    } else {
+        Ok(Vec::new(alloc))
+    }
+}
+
+/// The smallest session, and a line whose form is to come.
 #[test]
 fn smallest_session_in_any_pieces(rt: HostRuntime) -> Result<(), Fail> {
     let alloc = rt.alloc();
-    let words = words_of(alloc, &["play"])?;
-    let gate = Arc::new(alloc, NoGate)?;
-    // The last line is a form that is to come.
-    let more =
-        "{\"ask\":1,\"dir\":\"back\",\"path\":[[0,0]],\"cells\":[[0,0]]}\n{\"show\":1,\"node\":0}";
-    let said = "1 array a 1\n2 flow f\n3 started 1\n4 done 1\n5 cells 1 0,0\n6 refused 21\n";
-    for chunk in [1u32, 2, 3, 16, 65_536] {
-        let mut source = SteadySource::new(session(alloc, more)?, chunk.max(1));
-        let mut station = station(alloc, Vec::new(alloc))?;
-        let status = serve(&rt, alloc, &words, &mut source, &mut station, &gate);
-        assert_eq!(rt; status, Status::Done);
-        assert_eq!(rt; station.said(), said.as_bytes(), "in pieces of {chunk}");
-    }
+    let more = b"{\"ask\":1,\"dir\":\"back\",\"path\":[[0,0]],\"cells\":[[0,0]]}
+{\"show\":1,\"node\":0}
+";
+    let want = b"1 array a 1\n2 flow f\n3 started 1\n4 done 1\n5 cells 1 0,0\n6 refused 21\n";
+    assert_eq!(rt;
+        said(&rt, alloc, session(alloc, more)?, 1)?.as_slice(),
+        want.as_slice()
+    );
+    assert_eq!(rt;
+        said(&rt, alloc, session(alloc, more)?, 2)?.as_slice(),
+        want.as_slice()
+    );
+    assert_eq!(rt;
+        said(&rt, alloc, session(alloc, more)?, 3)?.as_slice(),
+        want.as_slice()
+    );
+    assert_eq!(rt;
+        said(&rt, alloc, session(alloc, more)?, 16)?.as_slice(),
+        want.as_slice()
+    );
+    assert_eq!(rt;
+        said(&rt, alloc, session(alloc, more)?, 65_536)?.as_slice(),
+        want.as_slice()
+    );
     Ok(())
 }
 
+/// A cell named twice is there once, there may be none, and cells come in row-major order.
 #[test]
-fn replies(rt: HostRuntime) -> Result<(), Fail> {
+fn asked_cells(rt: HostRuntime) -> Result<(), Fail> {
     let alloc = rt.alloc();
-    let words = words_of(alloc, &["play"])?;
-    let gate = Arc::new(alloc, NoGate)?;
-    let begun = "1 array a 1\n2 flow f\n3 started 1\n4 done 1\n";
-    for (more, replies) in [
-        // A cell named twice is there once, and there may be none.
-        (
-            "{\"ask\":1,\"dir\":\"back\",\"path\":[[0,0]],\"cells\":[[0,0],[0,0]]}\n",
-            "5 cells 1 0,0\n",
-        ),
-        (
-            "{\"ask\":1,\"dir\":\"back\",\"path\":[[0,0]],\"cells\":[]}\n",
-            "5 cells 0\n",
-        ),
-        // A line that is no JSON, a blank line, and a line without a newline.
-        (
-            "{\"array\":\n   \n{\"await\":9}",
-            "5 refused 1\n7 refused 21\n",
-        ),
-        // A blank line may have tabs and a byte 13; a line may end in one.
-        (
-            "\t \r\n{\"await\":1}\r\n\n\n{\"await\":1}",
-            "6 done 1\n9 done 1\n",
-        ),
-        // Cells come in row-major order, whatever the order in which they are asked.
-        (
-            "{\"array\":\"b\",\"cells\":[[1,null,3],[4,5,6]]}\n{\"start\":\"f\",\"base\":[[\"b\",1]]}\n{\"ask\":2,\"dir\":\"back\",\"path\":[[0,0]],\"cells\":[[1,2],[0,1],[1,0]]}",
-            "5 array b 1\n6 started 2\n7 cells 3 0,1 1,0 1,2\n",
-        ),
-        ("", ""),
-    ] {
-        let mut source = SteadySource::new(session(alloc, more)?, 7);
-        let mut station = station(alloc, Vec::new(alloc))?;
-        let status = serve(&rt, alloc, &words, &mut source, &mut station, &gate);
-        assert_eq!(rt; status, Status::Done);
-        let want = format!(in alloc; "{begun}{replies}")?;
-        assert_eq!(rt; station.said(), want.as_bytes(), "to {more}");
-    }
+    let more = b"{\"ask\":1,\"dir\":\"back\",\"path\":[[0,0]],\"cells\":[[0,0],[0,0]]}
+{\"ask\":1,\"dir\":\"back\",\"path\":[[0,0]],\"cells\":[]}
+{\"array\":\"b\",\"cells\":[[1,null,3],[4,5,6]]}
+{\"start\":\"f\",\"base\":[[\"b\",1]]}
+{\"ask\":2,\"dir\":\"back\",\"path\":[[0,0]],\"cells\":[[1,2],[0,1],[1,0]]}
+";
+    let want =
+        b"1 array a 1\n2 flow f\n3 started 1\n4 done 1\n5 cells 1 0,0\n6 cells 0\n7 array b 1\n8 started 2\n9 cells 3 0,1 1,0 1,2\n";
+    assert_eq!(rt;
+        said(&rt, alloc, session(alloc, more)?, 100)?.as_slice(),
+        want.as_slice()
+    );
     Ok(())
 }
 
+/// No JSON, a blank line, and a line without a newline that awaits what is not there; no line at all; lines that end
+/// in a byte 13, and blank ones.
 #[test]
 fn lines_are_numbered_from_the_first(rt: HostRuntime) -> Result<(), Fail> {
     let alloc = rt.alloc();
-    let words = words_of(alloc, &["play"])?;
-    let gate = Arc::new(alloc, NoGate)?;
-    // No JSON, a blank line, and a line without a newline that awaits what is not there.
     let text = b"{\"array\":\n   \n{\"await\":9}".to_vec(alloc)?;
-    let mut source = SteadySource::new(text, 2);
-    let mut station = station(alloc, Vec::new(alloc))?;
-    let status = serve(&rt, alloc, &words, &mut source, &mut station, &gate);
-    assert_eq!(rt; status, Status::Done);
-    assert_eq!(rt; station.said(), b"1 refused 1\n3 refused 21\n".as_slice());
+    assert_eq!(rt;
+        said(&rt, alloc, text, 2)?.as_slice(),
+        b"1 refused 1\n3 refused 21\n".as_slice()
+    );
+    assert_eq!(rt;
+        said(&rt, alloc, Vec::new(alloc), 2)?.as_slice(),
+        b"".as_slice()
+    );
+    let text = b"\t \r\n{\"await\":1}\r\n\n\n{".to_vec(alloc)?;
+    assert_eq!(rt;
+        said(&rt, alloc, text, 2)?.as_slice(),
+        b"2 refused 21\n5 refused 1\n".as_slice()
+    );
     Ok(())
 }
 
@@ -116,9 +125,9 @@ fn lines_are_numbered_from_the_first(rt: HostRuntime) -> Result<(), Fail> {
 #[test]
 fn a_read_fails_in_a_line(rt: HostRuntime) -> Result<(), Fail> {
     let alloc = rt.alloc();
-    let words = words_of(alloc, &["play"])?;
+    let words = words(alloc, "play")?;
     let gate = Arc::new(alloc, NoGate)?;
-    let mut source = MemSource::new(session(alloc, "")?, 100, vec![in alloc; 2]?);
+    let mut source = MemSource::new(BEGIN.to_vec(alloc)?, 100, vec![in alloc; 2]?);
     let mut station = station(alloc, Vec::new(alloc))?;
     let status = serve(&rt, alloc, &words, &mut source, &mut station, &gate);
     assert_eq!(rt; status, Status::ReadFault);
@@ -129,9 +138,9 @@ fn a_read_fails_in_a_line(rt: HostRuntime) -> Result<(), Fail> {
 #[test]
 fn the_third_reply_cannot_be_said(rt: HostRuntime) -> Result<(), Fail> {
     let alloc = rt.alloc();
-    let words = words_of(alloc, &["play"])?;
+    let words = words(alloc, "play")?;
     let gate = Arc::new(alloc, NoGate)?;
-    let mut source = MemSource::new(session(alloc, "")?, 16, Vec::new(alloc));
+    let mut source = MemSource::new(BEGIN.to_vec(alloc)?, 16, Vec::new(alloc));
     let mut station = station(alloc, vec![in alloc; 3]?)?;
     let status = serve(&rt, alloc, &words, &mut source, &mut station, &gate);
     assert_eq!(rt; status, Status::SayFault);
@@ -143,21 +152,27 @@ fn the_third_reply_cannot_be_said(rt: HostRuntime) -> Result<(), Fail> {
 fn other_words_read_nothing(rt: HostRuntime) -> Result<(), Fail> {
     let alloc = rt.alloc();
     let gate = Arc::new(alloc, NoGate)?;
-    for words in [
-        ["play", "x"].as_slice(),
-        ["run"].as_slice(),
-        ["Play"].as_slice(),
-        [].as_slice(),
-    ] {
-        let words = words_of(alloc, words)?;
-        let mut source = SteadySource::new(session(alloc, "")?, 100);
-        let mut station = station(alloc, Vec::new(alloc))?;
-        let status = serve(&rt, alloc, &words, &mut source, &mut station, &gate);
-        assert_eq!(rt; status, Status::Usage);
-        assert!(rt; station.said().is_empty());
-        let mut buffer = [0; 4];
-        assert_eq!(rt; source.read(&mut buffer), Ok(4));
-    }
+    let mut source = SteadySource::new(BEGIN.to_vec(alloc)?, 100);
+    let mut station = station(alloc, Vec::new(alloc))?;
+    let mut words = words(alloc, "Play")?;
+    assert_eq!(rt;
+        serve(&rt, alloc, &words, &mut source, &mut station, &gate),
+        Status::Usage
+    );
+    words.clear();
+    assert_eq!(rt;
+        serve(&rt, alloc, &words, &mut source, &mut station, &gate),
+        Status::Usage
+    );
+    words.push(String::from_str(alloc, "play")?)?;
+    words.push(String::from_str(alloc, "x")?)?;
+    assert_eq!(rt;
+        serve(&rt, alloc, &words, &mut source, &mut station, &gate),
+        Status::Usage
+    );
+    assert!(rt; station.said().is_empty());
+    let mut buffer = [0; 4];
+    assert_eq!(rt; source.read(&mut buffer), Ok(4));
     Ok(())
 }
 
