@@ -10,6 +10,8 @@ ghost use Rattle.sz_spec.specs.Paths.{compose};
 use std::marker::Model;
 use sz_cells::{Cell, Shape};
 
+pub mod laws;
+
 /// What a cell holds: a number, or nothing.
 pub type Value = Option<i64>;
 
