@@ -1,11 +1,12 @@
 -- What a reader may take for granted of values, lineage and paths. Each law is proved of the definitions.
-use Rattle.std.specs.Prelude.{◌≡◌, ℕ, ◌++◌, List, [], Bool, true, ◌&&◌, ◌↔◌}
+use Rattle.std.specs.Prelude.{◌≡◌, ℕ, ◌^◌, ℤ, pos, neg_ℤ, ◌≤ℤ◌, ◌<ℤ◌, ◌++◌, List, [], length, Bool, true, ◌&&◌, ◌↔◌, Some, None}
 use Rattle.sz_cells.specs.declared.Cell.{Cell}
-use Rattle.sz_cells.specs.Extent.{Extent, holds}
+use Rattle.sz_cells.specs.Extent.{Extent, size_of, holds}
 use Rattle.sz_cells.specs.Cells.{Cells, cells_where, any_cell, has}
 use Rattle.sz_spec.specs.declared.Dir.{Dir}
+use Rattle.sz_spec.specs.declared.Op.{Op}
 use Rattle.sz_spec.specs.declared.Op.TheVariants.{Neg}
-use Rattle.sz_spec.specs.Values.{Grid}
+use Rattle.sz_spec.specs.Values.{Grid, fit, value_at, value_of, output_of}
 use Rattle.sz_spec.specs.Flows.{Flow}
 use Rattle.sz_spec.specs.Lineage.{related, back, forward}
 use Rattle.sz_spec.specs.Paths.{Step, compose}
@@ -40,3 +41,19 @@ NoStepKeepsTheSet = (dir : Dir) (flow : Flow) (base outputs : List Grid) (set : 
 -- an output cell of the negation is related to the same cell of its first input, and to no other
 abbrev pub NegationRelatesTheSameCell : Type 0
 NegationRelatesTheSameCell = (inputs : List Grid) (i : ℕ) (o x : Cell) → (related Neg inputs i o x ≡ true) ↔ ((i ≡ 0) × (x ≡ o))
+
+-- a whole number from -2^63 to 2^63 - 1 is a value
+abbrev pub I64sAreValues : Type 0
+I64sAreValues = (z : ℤ) → neg_ℤ (pos (2 ^ 63)) ≤ℤ z → z <ℤ pos (2 ^ 63) → fit z ≡ Some z
+
+-- any other whole number is empty
+abbrev pub OtherNumbersAreEmpty : Type 0
+OtherNumbersAreEmpty = (z : ℤ) → ((neg_ℤ (pos (2 ^ 63)) ≤ℤ z) × (z <ℤ pos (2 ^ 63)) → ⊥) → fit z ≡ None
+
+-- an operator's output has as many values as its shape has cells
+abbrev pub OutputsHaveAValueForEachCell : Type 0
+OutputsHaveAValueForEachCell = (op : Op) (inputs : List Grid) → length (output_of op inputs).values ≡ size_of (output_of op inputs).extent
+
+-- what an operator's output holds at a cell is the operator's value there
+abbrev pub OutputsHoldTheirValues : Type 0
+OutputsHoldTheirValues = (op : Op) (inputs : List Grid) (c : Cell) → holds (output_of op inputs).extent c ≡ true → value_at (output_of op inputs) c ≡ value_of op inputs c
