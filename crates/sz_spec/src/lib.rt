@@ -86,3 +86,6 @@ impl Array {
         self.cells[self.shape.index(cell) as usize]
     }
 }
+
+#[cfg(test)]
+mod tests;
