@@ -1,7 +1,7 @@
 -- Small cases worked by hand, each the same as what the definitions compute.
 --
 -- The key idea: on written-out arrays and paths every definition is a computation, so each row is its own proof.
-use Rattle.std.proofs.Common.{◌≡◌, ℕ, ◌-◌, ◌^◌, ℤ, pos, negsuc, Bool, true, false, List, [], ◌∷◌, Option, Some, None, refl}
+use Rattle.std.proofs.Common.{◌≡◌, ℕ, ◌-◌, ◌^◌, ℤ, pos, negsuc, true, false, [], ◌∷◌, Option, Some, None, refl}
 use Rattle.sz_cells.specs.Cells.{Cells}
 use Rattle.sz_spec.specs.declared.Dir.TheVariants.{Back, Forward}
 use Rattle.sz_spec.specs.declared.Op.TheVariants.{Neg}
