@@ -2,3 +2,4 @@ pub mod Values
 pub mod Flows
 pub mod Lineage
 pub mod Paths
+pub mod Laws
