@@ -6,6 +6,7 @@ mod catalogue;
 mod command;
 mod evaluate;
 mod feed;
+pub mod laws;
 mod reading;
 mod reply;
 mod serving;
