@@ -14,3 +14,4 @@ pub mod LawsLines
 pub mod LawsSessions
 pub mod LawsRefusals
 pub mod LawsAsks
+mod Rows
