@@ -2,7 +2,7 @@
 --
 -- The key idea: the negation relates each cell to itself, and its flow has one path, so an accepted ask's answer is the set
 -- of the asked cells. A set of the cells that pass a test has just those of the shape that pass it.
-use Rattle.std.proofs.Common.{◌≡◌, ℕ, List, [], ◌∷◌, refl, sym, ap, ◌∙◌, subst, Bool, true, false, ◌&&◌, Option, Some, None}
+use Rattle.std.proofs.Common.{◌≡◌, List, refl, sym, ap, ◌∙◌, Bool, true, false, ◌&&◌, Option, Some}
 use Rattle.std.specs.List.{list_all, list_any}
 use Rattle.std.proofs.lemmas.Bool.{and_parts}
 use Rattle.sz_cells.specs.declared.Cell.{Cell}

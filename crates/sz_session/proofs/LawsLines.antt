@@ -2,9 +2,9 @@
 --
 -- The key idea: a byte 10 behind bytes that have none ends their line, whatever comes behind it. So lines joined by
 -- newlines are cut off one by one, and bytes that end with a newline are cut as if nothing came behind them.
-use Rattle.std.proofs.Common.{◌≡◌, ℕ, ◌+◌, ◌<◌, ◌≤◌, List, [], ◌∷◌, ◌++◌, length, refl, sym, ap, ◌∙◌, append_assoc, arith, Bool, true, false, not, ◌&&◌, inl, inr}
-use Rattle.std.specs.Prelude.{◌==◌, if◌then◌else◌}
-use Rattle.std.proofs.lemmas.Bool.{and_parts, and_from, cases_Bool, eqb-true}
+use Rattle.std.proofs.Common.{◌≡◌, ℕ, ◌<◌, List, [], ◌∷◌, ◌++◌, length, refl, ap, ◌∙◌, append_assoc, arith, true, false, inl, inr}
+use Rattle.std.specs.Prelude.{◌==◌}
+use Rattle.std.proofs.lemmas.Bool.{and_parts, cases_Bool, eqb-true}
 use Rattle.sz_session.specs.Lines.{lines_of, before_first_line}
 use Rattle.sz_session.specs.Serving.{is_within_line}
 use Rattle.sz_session.specs.Laws.{text_of, are_lines}

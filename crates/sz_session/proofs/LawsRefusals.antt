@@ -3,15 +3,15 @@
 -- The key idea: whatever an order gives is an answer and no refusal. So what a line comes to is one of four things, told by
 -- whether it is too long, whether it is JSON, and whether its order gave something; three of them are refusals, each of
 -- its own number, and those leave the catalogue.
-use Rattle.std.proofs.Common.{◌≡◌, ℕ, ◌<◌, ◌≤◌, List, [], ◌∷◌, ◌++◌, length, refl, sym, ap, ◌∙◌, arith, Bool, true, false, inl, inr, true≢false, Option, Some, None, option_and_then}
-use Rattle.std.specs.Prelude.{◌↔◌, ◌⊎◌, nat_lt, if◌then◌else◌, option_map, Result, Ok, Err, ⊤}
+use Rattle.std.proofs.Common.{◌≡◌, ℕ, ◌<◌, ◌≤◌, List, length, refl, sym, ap, ◌∙◌, arith, Bool, true, false, inl, inr, true≢false, Option, Some, None, option_and_then}
+use Rattle.std.specs.Prelude.{◌↔◌, ◌⊎◌, nat_lt, if◌then◌else◌, option_map, Err, ⊤}
 use Rattle.std.proofs.lemmas.Bool.{ltb-true, ltb-false, lt-ltb, le-ltb}
 use Rattle.serde_json.specs.Data.{Data}
 use Rattle.sz_session.specs.Lines.{line_limit}
 use Rattle.sz_session.specs.Orders.{Order, hold_array, hold_flow, start, await, ask}
 use Rattle.sz_session.specs.Reading.{json_of, order_of, only_if, order_or_21, reading_of_json}
-use Rattle.sz_session.specs.Catalogues.{Version, Catalogue, flow_named, numbered}
-use Rattle.sz_session.specs.Replies.{Reply, array_held, flow_held, started, done, cells, refused}
+use Rattle.sz_session.specs.Catalogues.{Catalogue, flow_named, numbered}
+use Rattle.sz_session.specs.Replies.{Reply, refused}
 use Rattle.sz_session.specs.Steps.{bases_of, answer_of, after_order, or_refused, step_read, step}
 
 -- ---- answers are no refusals

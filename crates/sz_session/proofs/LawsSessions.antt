@@ -2,8 +2,7 @@
 --
 -- The key idea: the replies to a line depend on the catalogue and the line's number alone, so lines behind others begin
 -- from the catalogue that those left, with the next number. By induction over the first lines.
-use Rattle.std.proofs.Common.{◌≡◌, ℕ, ◌+◌, List, [], ◌∷◌, ◌++◌, length, refl, sym, ap, ap₂, ◌∙◌, append_assoc, arith, Bool, true, false, inl, inr}
-use Rattle.std.specs.Prelude.{if◌then◌else◌}
+use Rattle.std.proofs.Common.{◌≡◌, ℕ, ◌+◌, List, [], ◌∷◌, ◌++◌, length, refl, sym, ap, ◌∙◌, append_assoc, arith, true, false, inl, inr}
 use Rattle.std.proofs.lemmas.Bool.{cases_Bool}
 use Rattle.sz_session.specs.Lines.{lines_of, is_blank}
 use Rattle.sz_session.specs.Catalogues.{Catalogue}

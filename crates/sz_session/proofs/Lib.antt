@@ -15,3 +15,4 @@ pub mod LawsSessions
 pub mod LawsRefusals
 pub mod LawsAsks
 mod Rows
+mod SessionRows

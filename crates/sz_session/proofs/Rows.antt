@@ -1,20 +1,17 @@
 -- Worked rows of the definitions: each is found by computing.
-use Rattle.std.specs.Prelude.{◌≡◌, ℕ, pos, negsuc, true, false, List, [], ◌∷◌, ◌++◌, length, codes, Option, Some, None, option_and_then}
+use Rattle.std.specs.Prelude.{◌≡◌, ℕ, pos, negsuc, true, false, [], ◌∷◌, ◌++◌, codes, Some, None}
 use Rattle.std.specs.Fmt.{digits}
 use Rattle.std.proofs.Common.{refl}
-use Rattle.sz_cells.specs.declared.Cell.{Cell}
-use Rattle.sz_cells.specs.Extent.{Extent}
-use Rattle.sz_cells.specs.Cells.{Cells}
 use Rattle.sz_spec.specs.declared.Dir.TheVariants.{Back}
 use Rattle.sz_spec.specs.Values.{Grid}
 use Rattle.sz_spec.specs.Flows.{evaluations}
 use Rattle.sz_session.specs.Lines.{lines_of, is_blank}
-use Rattle.sz_session.specs.Orders.{Order, hold_array, hold_flow, start, await, ask}
+use Rattle.sz_session.specs.Orders.{hold_array, hold_flow, start, await, ask}
 use Rattle.sz_session.specs.Reading.{negation, is_name}
-use Rattle.sz_session.specs.Catalogues.{Catalogue, empty, named, numbered, array_version, flow_named, held_cells}
-use Rattle.sz_session.specs.Steps.{after_order, step}
-use Rattle.sz_session.specs.Replies.{Reply, array_held, flow_held, started, done, cells, refused, reply_text, reply_line}
-use Rattle.sz_session.specs.Output.{replies_to, output_of}
+use Rattle.sz_session.specs.Catalogues.{Catalogue, empty, named, numbered, array_version, held_cells}
+use Rattle.sz_session.specs.Steps.{after_order}
+use Rattle.sz_session.specs.Replies.{array_held, flow_held, started, done, cells, refused, reply_text, reply_line}
+use Rattle.sz_session.specs.Output.{output_of}
 
 -- ---- lines
 

@@ -1,5 +1,5 @@
 -- What a reader may take for granted of lines, replies, steps and sessions. Each law is proved of the definitions.
-use Rattle.std.specs.Prelude.{◌≡◌, ℕ, ◌+◌, ◌^◌, ◌<◌, ◌≤◌, ◌↔◌, ◌⊎◌, Bool, true, false, ◌&&◌, if◌then◌else◌, List, [], ◌∷◌, ◌++◌, length, Option, Some, None, option_and_then}
+use Rattle.std.specs.Prelude.{◌≡◌, ℕ, ◌+◌, ◌^◌, ◌<◌, ◌≤◌, ◌↔◌, ◌⊎◌, Bool, true, false, ◌&&◌, if◌then◌else◌, List, [], ◌∷◌, ◌++◌, length, Some, None, option_and_then}
 use Rattle.std.specs.List.{list_all, list_any}
 use Rattle.std.specs.Fmt.{decimal}
 use Rattle.std.specs.Str.Parse.{IsNumeral, digits_value}
@@ -9,8 +9,8 @@ use Rattle.sz_cells.specs.Extent.{holds}
 use Rattle.sz_cells.specs.Cells.{Cells, is_same, has}
 use Rattle.sz_spec.specs.declared.Dir.TheVariants.{Back}
 use Rattle.sz_spec.specs.Values.{Grid}
-use Rattle.sz_spec.specs.Paths.{Step, is_joined}
-use Rattle.sz_session.specs.Lines.{lines_of, is_blank, line_limit}
+use Rattle.sz_spec.specs.Paths.{Step}
+use Rattle.sz_session.specs.Lines.{lines_of, is_blank}
 use Rattle.sz_session.specs.Reading.{json_of, order_of, negation}
 use Rattle.sz_session.specs.Catalogues.{Version, Catalogue}
 use Rattle.sz_session.specs.Steps.{step, after_order, answer_of}
