@@ -170,3 +170,12 @@ refused-last c line = (
   λ all. told c line false (Some None) (le-ltb line_limit (length line) all.0)
       (ap (option_map (given c)) all.2 ∙ ap (λ (a : Option (Catalogue × Reply)). Some a) all.3),
 )
+
+-- what an order gives is what its line comes to
+pub order-taken : (c : Catalogue) (line : List ℕ) (d : Data) (o : Order) (r : Catalogue × Reply) → length line ≤ 33554432 → json_of line ≡ Some d → order_of d ≡ Some o
+    → after_order c o ≡ Some r → step c line ≡ r
+order-taken c line d o r short json order gives =
+    let is_given : given c d ≡ Some r = ap (option_and_then (after_order c)) order ∙ gives in
+    let is_all : option_map (given c) (json_of line) ≡ Some (Some r) = ap (option_map (given c)) json ∙ ap (λ (a : Option (Catalogue × Reply)). Some a) is_given in
+    step-fate c line ∙ ap (λ (long : Bool). fate c long (option_map (given c) (json_of line))) (le-ltb line_limit (length line) short)
+    ∙ ap (fate c false) is_all

@@ -11,6 +11,7 @@ use Rattle.sz_spec.specs.declared.Dir.TheVariants.{Back}
 use Rattle.sz_spec.specs.Values.{Grid}
 use Rattle.sz_spec.specs.Paths.{Step}
 use Rattle.sz_session.specs.Lines.{lines_of, is_blank}
+use Rattle.sz_session.specs.Orders.{Order}
 use Rattle.sz_session.specs.Reading.{json_of, order_of, negation}
 use Rattle.sz_session.specs.Catalogues.{Version, Catalogue}
 use Rattle.sz_session.specs.Steps.{step, after_order, answer_of}
@@ -75,6 +76,11 @@ NoOrderIsTwentyOne = (c : Catalogue) (line : List ℕ)
 -- no other number is ever refused
 abbrev pub NoOtherNumberIsRefused : Type 0
 NoOtherNumberIsRefused = (c : Catalogue) (line : List ℕ) (n : ℕ) → (step c line).1 ≡ refused n → (n ≡ 1) ⊎ ((n ≡ 2) ⊎ (n ≡ 21))
+
+-- a line that is an order, which the catalogue takes, changes and replies what the order does
+abbrev pub OtherLinesAreTaken : Type 0
+OtherLinesAreTaken = (c : Catalogue) (line : List ℕ) (d : Data) (o : Order) (r : Catalogue × Reply) → length line ≤ 33554432 → json_of line ≡ Some d → order_of d ≡ Some o
+    → after_order c o ≡ Some r → step c line ≡ r
 
 -- ---- sessions
 

@@ -1,6 +1,6 @@
 //! Laws of the definitions, for a reader: each function has an empty body, and its contract is the law.
 
-ghost use Rattle.sz_session.specs.Laws.{LinesAreThoseJoined, BytesLeftAreTheLastLine, EachTextIsLines, NumbersReadBack, ReplyLinesAreNumbered, RefusedLinesChangeNothing, TooLongIsTwo, NoJsonIsOne, NoOrderIsTwentyOne, NoOtherNumberIsRefused, RepliesGoOn, OutputsGoOn, BlankLinesAreCounted, OtherLinesHaveOneReply, AsksOfHeldCellsAreAccepted, AcceptedAsksAreOfHeldCells, AnswersAreTheAskedCells};
+ghost use Rattle.sz_session.specs.Laws.{LinesAreThoseJoined, BytesLeftAreTheLastLine, EachTextIsLines, NumbersReadBack, ReplyLinesAreNumbered, RefusedLinesChangeNothing, TooLongIsTwo, NoJsonIsOne, NoOrderIsTwentyOne, NoOtherNumberIsRefused, OtherLinesAreTaken, RepliesGoOn, OutputsGoOn, BlankLinesAreCounted, OtherLinesHaveOneReply, AsksOfHeldCellsAreAccepted, AcceptedAsksAreOfHeldCells, AnswersAreTheAskedCells};
 
 /// The lines of a text are the bytes between its newlines, and those behind the last one where there are any.
 pub fn lines_are_those_joined_by_newlines()
@@ -30,6 +30,11 @@ pub fn refusals_are_exact()
     ensures no_json { NoJsonIsOne }
     ensures no_order { NoOrderIsTwentyOne }
     ensures no_other { NoOtherNumberIsRefused }
+{}
+
+/// A line that is not refused changes and replies what its order does.
+pub fn other_lines_are_taken()
+    ensures { OtherLinesAreTaken }
 {}
 
 /// A session goes on from what its lines so far left, wherever it is cut between lines.
