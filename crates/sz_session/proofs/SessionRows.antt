@@ -1,5 +1,5 @@
 -- Worked rows of whole lines, and of a whole session: each is found by computing.
-use Rattle.std.specs.Prelude.{◌≡◌, pos, List, ℕ, [], ◌∷◌, ◌++◌, codes, None, Some, Ok, Err}
+use Rattle.std.specs.Prelude.{◌≡◌, pos, [], ◌∷◌, ◌++◌, codes, None, Some, Ok, Err}
 use Rattle.std.specs.Fmt.{digits}
 use Rattle.std.specs.Str.{is_utf8, chars}
 use Rattle.std.proofs.Common.{refl}
