@@ -10,3 +10,9 @@ pub mod CatalogueNames
 pub mod CatalogueOutputs
 pub mod Asks
 pub mod CatalogueSteps
+pub mod LawsLines
+pub mod LawsSessions
+pub mod LawsRefusals
+pub mod LawsAsks
+mod Rows
+mod SessionRows

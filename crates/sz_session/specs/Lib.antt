@@ -9,3 +9,4 @@ pub mod Seen
 pub mod Serving
 pub mod Statuses
 pub mod Kept
+pub mod Laws

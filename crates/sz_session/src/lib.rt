@@ -26,6 +26,7 @@ mod catalogue;
 mod command;
 mod evaluate;
 mod feed;
+pub mod laws;
 mod reading;
 mod reply;
 mod serving;

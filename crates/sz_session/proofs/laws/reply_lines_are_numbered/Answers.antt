@@ -1,0 +1,5 @@
+use Rattle.std.proofs.Common.{refl}
+use Rattle.sz_session.proofs.laws.reply_lines_are_numbered.Goals as goal
+
+pub returns : goal.returns
+returns c = λ n reply. refl
