@@ -37,6 +37,7 @@ const LIMIT: u64 = 1 << 62;
 /// Reads at most `room` bytes into the front of the buffer.
 fn read_front<S: Source>(source: &mut S, buffer: &mut [u8], room: usize) -> Result<usize, Failed>
     requires room { 0 < room }
+    requires piece { room ≤ 65536 }
     requires fits { room ≤ length buffer.old }
     ensures bound { IfOk result (λ n. n ≤ room) }
     ensures length { length buffer.new ≡ length buffer.old }
@@ -51,7 +52,7 @@ fn read_front<S: Source>(source: &mut S, buffer: &mut [u8], room: usize) -> Resu
 fn room_after(total: u64) -> usize
     requires { total ≤ LIMIT }
     ensures some { 0 < result }
-    ensures most { result ≤ PIECE }
+    ensures most { result ≤ 65536 }
     ensures within { total < LIMIT → total + result ≤ LIMIT }
 {
     if total == LIMIT {

@@ -26,6 +26,9 @@ room_after-room-requires g c = c.pieces.invariant.within
 pub read_front-requires-clause-room : goal.read_front-requires-clause-room
 read_front-requires-clause-room g c = c.room_after-room.ensures.some
 
+pub read_front-requires-clause-piece : goal.read_front-requires-clause-piece
+read_front-requires-clause-piece g c = c.room_after-room.ensures.most
+
 pub read_front-requires-clause-fits : goal.read_front-requires-clause-fits
 read_front-requires-clause-fits g c =
     let most : c.room_after-room.result ≤ 65536 = c.room_after-room.ensures.most in
