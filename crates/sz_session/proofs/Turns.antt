@@ -1,18 +1,16 @@
 -- Taking bytes in goes on from turn to turn: what was said in two turns is what was said in the first and then
 -- in the second, and nothing depends on where the bytes were cut, since each turn agrees whatever comes behind.
-use Rattle.std.proofs.Common.{◌≡◌, ℕ, suc, zero, ◌+◌, ◌-◌, ◌<◌, ◌≤◌, List, [], ◌∷◌, ◌++◌, length, get_or, take, drop, refl, sym, ap, ◌∙◌, subst, append_assoc, arith, take-add, length-drop, ◌≢◌, Bool, true, false, cond, Some, None}
-use Rattle.std.specs.Prelude.{Option, Result, Ok, Err, OnOk, min, ◌^◌}
+use Rattle.std.proofs.Common.{◌≡◌, ℕ, suc, zero, ◌+◌, ◌-◌, ◌<◌, ◌≤◌, List, [], ◌∷◌, ◌++◌, length, get_or, take, drop, refl, sym, ap, ◌∙◌, subst, append_assoc, arith, take-add, length-drop, ◌≢◌, true, Some, None}
+use Rattle.std.specs.Prelude.{Option, Result, Ok, Err, OnOk, ◌^◌}
 use Rattle.std.proofs.lemmas.List.{take_more, take-append-drop}
 use Rattle.std.proofs.lemmas.Grind.{common_steps}
 use Rattle.sz_outside.specs.Outside.{Says, Rose, Gives, GivesNext}
-use Rattle.sz_session.specs.Lines.{lines_of, is_blank}
+use Rattle.sz_session.specs.Lines.{lines_of}
 use Rattle.sz_session.specs.Catalogues.{Catalogue, empty}
-use Rattle.sz_session.specs.Steps.{step}
-use Rattle.sz_session.specs.Replies as replies
 use Rattle.sz_session.specs.Output.{replies_to, output_of}
 use Rattle.sz_session.specs.Serving.{Moment, Advances, Finishes, Goes, Done, IsPastLimit, still_to_say, is_within_line, Answers}
 use Rattle.sz_session.specs.declared.reply.Reply.{Reply}
-use Rattle.sz_session.specs.Seen.{answer_text, reply_seen}
+use Rattle.sz_session.specs.Seen.{answer_text}
 use Rattle.sz_session.proofs.Cuts.{lines_of-within, lines_of-ended}
 
 append_nil : (xs : List ℕ) → xs ++ [] ≡ xs

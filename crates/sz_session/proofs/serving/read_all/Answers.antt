@@ -1,5 +1,5 @@
 -- Each turn reads the next bytes and takes them in, so the session goes on; at the end what was still to be said is said.
-use Rattle.std.proofs.Common.{◌≡◌, ◌≢◌, ◌≤◌, ◌<◌, ℕ, List, ◌+◌, ◌^◌, length, take, subst, sym, ap, arith, ◌∙◌}
+use Rattle.std.proofs.Common.{◌≡◌, ◌≢◌, ◌≤◌, ◌<◌, ℕ, ◌+◌, ◌^◌, length, subst, sym, ap, arith}
 use Rattle.std.specs.Prelude.{Err}
 use Rattle.sz_session.specs.Serving.{Moment, Goes}
 use Rattle.sz_outside.specs.Outside.{Gives}

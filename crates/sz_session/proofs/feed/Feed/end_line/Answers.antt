@@ -1,6 +1,4 @@
 -- The line was answered as the step answers it, and that was said.
-use Rattle.std.proofs.Common.{◌≡◌, ℕ, List, [], ◌∷◌, ◌+◌, subst, sym}
-use Rattle.sz_session.specs.Serving.{Moment, Advances, Answers}
 use Rattle.sz_session.proofs.Turns.{advances-line}
 use Rattle.sz_session.proofs.feed.Feed.end_line.Goals as goal
 

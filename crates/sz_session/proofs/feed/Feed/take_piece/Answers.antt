@@ -1,5 +1,5 @@
 -- Each turn takes in the bytes up to a byte 10 and that byte: the turns so far and this one are the piece's front.
-use Rattle.std.proofs.Common.{◌≡◌, ℕ, List, [], ◌∷◌, ◌++◌, ◌+◌, ◌-◌, take, drop, subst, sym, ap, arith}
+use Rattle.std.proofs.Common.{ℕ, List, ◌-◌, take, drop, subst, sym, ap, arith}
 use Rattle.sz_session.specs.Serving.{Moment, Advances}
 use Rattle.sz_session.proofs.Turns.{advances-then, advances-pending, cut-at}
 use Rattle.sz_session.proofs.feed.Feed.take_piece.Goals as goal
