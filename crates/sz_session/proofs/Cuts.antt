@@ -10,13 +10,13 @@ use Rattle.sz_session.specs.Serving.{is_within_line}
 no_newline : (x : ℕ) → x ≢ 10 → not (x == 10) ≡ true
 no_newline x ne = grind (arith, nat_tests)
 
-is_other : (x : ℕ) (xs : List ℕ) → is_within_line (x ∷ xs) ≡ true → (x == 10) ≡ false
+pub is_other : (x : ℕ) (xs : List ℕ) → is_within_line (x ∷ xs) ≡ true → (x == 10) ≡ false
 is_other x xs h = not_not (x == 10) (and_parts (not (x == 10)) (is_within_line xs) h).0 where
   not_not : (b : Bool) → not b ≡ true → b ≡ false
   not_not true h = cc
   not_not false h = refl
 
-rest_within : (x : ℕ) (xs : List ℕ) → is_within_line (x ∷ xs) ≡ true → is_within_line xs ≡ true
+pub rest_within : (x : ℕ) (xs : List ℕ) → is_within_line (x ∷ xs) ≡ true → is_within_line xs ≡ true
 rest_within x xs h = (and_parts (not (x == 10)) (is_within_line xs) h).1
 
 -- one byte more that is no byte 10

@@ -16,3 +16,4 @@ pub mod LawsRefusals
 pub mod LawsAsks
 mod Rows
 mod SessionRows
+pub mod Longs

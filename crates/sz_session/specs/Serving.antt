@@ -1,9 +1,9 @@
 -- A session in the middle: what was read so far, and what is still to be said.
-use Rattle.std.specs.Prelude.{◌≡◌, ℕ, ◌+◌, ◌^◌, ◌≤◌, ◌<◌, List, [], ◌∷◌, ◌++◌, length, Bool, true, false, not, ◌==◌, Option, Some, None, ⊤, codes}
+use Rattle.std.specs.Prelude.{◌≡◌, ◌⊎◌, ℕ, ◌+◌, ◌^◌, ◌≤◌, ◌<◌, List, [], ◌∷◌, ◌++◌, length, Bool, true, false, not, ◌==◌, Option, Some, None, ⊤, codes}
 use Rattle.std.specs.List.{list_all}
 use Rattle.std.specs.Str.{bytes_eq}
 use Rattle.sz_outside.specs.Outside.{Says}
-use Rattle.sz_session.specs.Lines.{lines_of, is_blank}
+use Rattle.sz_session.specs.Lines.{lines_of, is_blank, line_limit}
 use Rattle.sz_session.specs.Catalogues.{Catalogue, empty}
 use Rattle.sz_session.specs.Steps.{step}
 use Rattle.sz_session.specs.Output.{replies_to, output_of}
@@ -19,6 +19,11 @@ pub record Moment : Type 0 where
 -- no byte 10 is among these
 abbrev pub is_within_line : List ℕ → Bool
 is_within_line bytes = list_all (λ b. not (b == 10)) bytes
+
+-- Behind a line that has not ended, some bytes stand for others: they are those, or the line is past the limit, and with either it is blank or it is not.
+pub record StandsFor (line bytes kept : List ℕ) : Type 0 where
+  pub within : is_within_line kept ≡ true
+  pub alike : (kept ≡ bytes) ⊎ ((line_limit < length line) × (is_blank (line ++ kept) ≡ is_blank (line ++ bytes)))
 
 -- what is to be said where these bytes are all that is still to come
 abbrev pub still_to_say : Moment → List ℕ → List ℕ

@@ -1,15 +1,15 @@
 // Between the source and the catalogue: bytes are taken in, lines are cut and numbered, each line is
 // answered, and its reply is said before the next line is looked at.
-ghost use Rattle.std.specs.Prelude.{◌≡◌, ◌<◌, ◌≤◌, ◌+◌, ◌-◌, ◌^◌, ◌++◌, [], ◌∷◌, Err, IfOk, OnOk, OnErr, MatchOption, length, drop, take, slice_index, true, false};
+ghost use Rattle.std.specs.Prelude.{◌≡◌, ◌⊎◌, ℕ, List, Option, ◌<◌, ◌≤◌, ◌+◌, ◌-◌, ◌^◌, ◌++◌, [], ◌∷◌, Err, IfOk, OnOk, OnErr, MatchOption, length, drop, take, slice_index, true, false};
 ghost use Rattle.sz_outside.specs.Outside.{Rose, Says};
 ghost use Rattle.sz_session.specs.Lines.{is_blank};
 ghost use Rattle.sz_session.specs.Catalogues.{empty};
 ghost use Rattle.sz_session.specs.Seen.{answer_text};
-ghost use Rattle.sz_session.specs.Serving.{Answers, Advances, Finishes, is_within_line};
+ghost use Rattle.sz_session.specs.Serving.{Answers, Advances, Finishes, StandsFor, is_within_line};
 
 use crate::catalogue::Catalogue;
 use crate::command::LineFault;
-use crate::reading::read_line;
+use crate::reading::{LINE_LIMIT, read_line};
 use crate::reply::{Reply, line_of};
 use std::alloc::Global;
 use std::marker::Model;
@@ -61,6 +61,39 @@ fn newline_from(piece: &[u8], start: usize) -> Option<usize>
         }
     }
     None
+}
+
+/// One byte that is not blank, if there is one, and else all bytes.
+fn first_filled(bytes: &[u8]) -> &[u8]
+    ensures { (is_blank result.now ≡ false) × (is_within_line bytes.entry.now ≡ true → is_within_line result.now ≡ true) ⊎ (result.now ≡ bytes.entry.now) }
+{
+    for at in 0..bytes.len() {
+        let one = &bytes[at..at + 1];
+        if !blank(one) {
+            return one;
+        }
+    }
+    bytes
+}
+
+/// As many of the bytes as have to stand behind a line that has not ended, so that its reply is as if all of them did: a line past
+/// the limit is refused, or has no reply where it is blank, whatever comes behind it.
+fn enough<'a>(line: &[u8], bytes: &'a [u8]) -> &'a [u8]
+    requires { is_within_line bytes.now ≡ true }
+    ensures { StandsFor line.now bytes.entry.now result.now }
+{
+    if line.len() <= LINE_LIMIT {
+        return bytes;
+    }
+    if blank(bytes) {
+        return &bytes[..0];
+    }
+    let end = &line[line.len() - 1..];
+    if blank(end) {
+        first_filled(bytes)
+    } else {
+        &bytes[..0]
+    }
 }
 
 /// Says the reply of the line of this number, where it has one.
@@ -119,16 +152,18 @@ impl Feed {
         }
     }
 
-    /// Takes in bytes of the line that has not ended.
+    /// Takes in bytes of the line that has not ended. Of a line past the limit no more is kept than tells its reply.
     fn extend(&mut self, bytes: &[u8]) -> Result<(), Stop>
         requires { is_within_line bytes.now ≡ true }
-        ensures ok { OnOk result (self.new ≡ record self.old { pending = self.old.pending ++ bytes.now }) }
+        ensures takes { OnOk result ((said : Option (List ℕ)) → Advances said said self.old self.new bytes.now) }
+        ensures number { self.new.number ≡ self.old.number }
         ensures err { OnErr result (result ≡ Err Stop.NoMemory) }
     {
-        match self.pending.extend_from_slice(bytes) {
-            Ok(()) => Ok(()),
-            Err(_) => Err(Stop::NoMemory),
-        }
+        let kept = enough(&self.pending, bytes);
+        let Ok(()) = self.pending.extend_from_slice(kept) else {
+            return Err(Stop::NoMemory);
+        };
+        Ok(())
     }
 
     /// Ends the line that has not ended: answers it, says its reply where it has one, and begins the next line.

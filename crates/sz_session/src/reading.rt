@@ -16,7 +16,7 @@ use serde_json::Value;
 use std::alloc::{AllocError, Global};
 
 /// The most bytes that a line may have.
-const LINE_LIMIT: usize = 33_554_432;
+pub const LINE_LIMIT: usize = 33_554_432;
 
 /// The rule that refuses a line of too many bytes.
 const TOO_LONG: u32 = 2;
