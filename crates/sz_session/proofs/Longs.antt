@@ -1,6 +1,6 @@
 -- A line past the limit need not be kept: whatever comes behind it, its reply is the refusal of its length, or none where it is
 -- blank. So bytes that keep it past the limit, and blank or not, stand for all that came.
-use Rattle.std.proofs.Common.{◌≡◌, ℕ, suc, zero, ◌+◌, ◌<◌, ◌≤◌, List, [], ◌∷◌, ◌++◌, length, take, drop, refl, sym, ap, ◌∙◌, subst, append_assoc, length-append, arith, Bool, true, false, not, cond}
+use Rattle.std.proofs.Common.{◌≡◌, ℕ, ◌+◌, ◌<◌, List, [], ◌∷◌, ◌++◌, length, take, drop, refl, sym, ap, ◌∙◌, subst, append_assoc, length-append, arith, take-add, ◌-◌, Bool, true, false, not}
 use Rattle.std.specs.Prelude.{◌==◌, ◌&&◌, ◌||◌, ◌⊎◌, Option, nat_lt}
 use Rattle.std.proofs.Common.{inl, inr}
 use Rattle.std.proofs.lemmas.Bool.{and_parts, and_from, and_left, and_right}
@@ -10,7 +10,7 @@ use Rattle.std.proofs.lemmas.List.Folds.{list_all-append}
 use Rattle.sz_session.specs.Lines.{lines_of, before_first_line, is_blank, line_limit}
 use Rattle.sz_session.specs.Catalogues.{Catalogue}
 use Rattle.sz_session.specs.Steps.{step}
-use Rattle.sz_session.specs.Replies.{Reply, refused, reply_line}
+use Rattle.sz_session.specs.Replies.{refused}
 use Rattle.sz_session.specs.Output.{replies_to}
 use Rattle.sz_session.specs.Serving.{Moment, Advances, StandsFor, is_within_line}
 use Rattle.sz_session.proofs.Cuts.{is_other, rest_within}
@@ -117,14 +117,19 @@ stands-filled line bytes long h = record {
 }
 
 -- a byte that is not blank stands for bytes that are not blank
-pub stands-one : (line bytes kept : List ℕ) → line_limit < length line → is_blank bytes ≡ false → is_within_line bytes ≡ true
-    → ((is_blank kept ≡ false) × (is_within_line bytes ≡ true → is_within_line kept ≡ true)) ⊎ (kept ≡ bytes) → StandsFor line bytes kept
-stands-one line bytes kept long filled within (inl one) = record {
-  within = one.1 within;
+pub stands-one : (line bytes kept : List ℕ) → line_limit < length line → is_blank bytes ≡ false → is_blank kept ≡ false → is_within_line kept ≡ true → StandsFor line bytes kept
+stands-one line bytes kept long filled one within = record {
+  within = within;
   alike = inr (
     long,
-    blank-append line kept ∙ and_right (is_blank line) (is_blank kept) one.0
+    blank-append line kept ∙ and_right (is_blank line) (is_blank kept) one
         ∙ sym (and_right (is_blank line) (is_blank bytes) filled) ∙ sym (blank-append line bytes),
   );
 }
-stands-one line bytes kept long filled within (inr same) = record { within = rw same within; alike = inl same }
+
+-- one blank byte more
+pub blank-more : (xs : List ℕ) (i : ℕ) → is_blank (take i xs) ≡ true → is_blank (take (i + 1 - i) (drop i xs)) ≡ true → is_blank (take (i + 1) xs) ≡ true
+blank-more xs i so_far next =
+    let one : i + 1 - i ≡ 1 = omega arith in
+    let P : ℕ → Type 0 = λ n. is_blank (take n (drop i xs)) ≡ true in
+    ap is_blank (take-add i 1 xs) ∙ blank-append (take i xs) (take 1 (drop i xs)) ∙ and_from (is_blank (take i xs)) (is_blank (take 1 (drop i xs))) so_far (subst P one next)

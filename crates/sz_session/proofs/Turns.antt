@@ -42,18 +42,6 @@ advances-then a b c l m n xs ys p q = record {
       ∙ p.agrees (ys ++ rest) ∙ ap (still_to_say l) (sym (append_assoc xs ys rest));
 }
 
--- no turn
-pub advances-none : (a : Option (List ℕ)) (m : Moment) → Advances a a m m []
-advances-none a m = record { told = []; says = says-nothing a; agrees = λ rest. refl }
-
--- bytes of the line that has not ended
-pub advances-pending : (a : Option (List ℕ)) (m : Moment) (xs : List ℕ) → Advances a a m (record m { pending = m.pending ++ xs }) xs
-advances-pending a m xs = record {
-  told = [];
-  says = says-nothing a;
-  agrees = λ rest. ap (λ (bytes : List ℕ). replies_to m.catalogue m.number (lines_of bytes)) (append_assoc m.pending xs rest);
-}
-
 -- the end of a line: its reply, where it has one, is what was to be said of it
 pub advances-line : (a b : Option (List ℕ)) (m : Moment) (c : Catalogue) (r : Option Reply) → is_within_line m.pending ≡ true
     → Answers m.catalogue m.pending c r → Says a b (answer_text m.number r)
@@ -81,9 +69,6 @@ finishes-line a b m n some within begins p =
       whole = sym (append_nil p.told) ∙ ap (λ (z : List ℕ). p.told ++ z) (sym nothing) ∙ p.agrees []
           ∙ ap (replies_to m.catalogue m.number) (lines_of-ended m.pending [] within ∙ sym one_line);
     }
-
-pub finishes-none : (a : Option (List ℕ)) (m : Moment) → m.pending ≡ [] → Finishes a a m
-finishes-none a m is = record { told = []; says = says-nothing a; whole = rw is refl }
 
 -- two facts about an `Ok` that give a third
 pub on_ok-both : {T E A B C : Type 0} (r : Result T E) → OnOk r A → OnOk r B → (A → B → C) → OnOk r C

@@ -63,9 +63,12 @@ fn newline_from(piece: &[u8], start: usize) -> Option<usize>
     None
 }
 
-/// One byte that is not blank, if there is one, and else all bytes.
+/// The first byte that is not blank.
 fn first_filled(bytes: &[u8]) -> &[u8]
-    ensures { (is_blank result.now ≡ false) × (is_within_line bytes.entry.now ≡ true → is_within_line result.now ≡ true) ⊎ (result.now ≡ bytes.entry.now) }
+    requires { is_blank bytes.now ≡ false }
+    ensures filled { is_blank result.now ≡ false }
+    ensures within { is_within_line bytes.entry.now ≡ true → is_within_line result.now ≡ true }
+    ensures one { length result.now ≡ 1 }
 {
     for at in 0..bytes.len() {
         let one = &bytes[at..at + 1];
@@ -73,14 +76,15 @@ fn first_filled(bytes: &[u8]) -> &[u8]
             return one;
         }
     }
-    bytes
+    unreachable!()
 }
 
 /// As many of the bytes as have to stand behind a line that has not ended, so that its reply is as if all of them did: a line past
 /// the limit is refused, or has no reply where it is blank, whatever comes behind it.
 fn enough<'a>(line: &[u8], bytes: &'a [u8]) -> &'a [u8]
     requires { is_within_line bytes.now ≡ true }
-    ensures { StandsFor line.now bytes.entry.now result.now }
+    ensures stands { StandsFor line.now bytes.entry.now result.now }
+    ensures few { 33554432 < length line.now → length result.now ≤ 1 }
 {
     if line.len() <= LINE_LIMIT {
         return bytes;

@@ -1,7 +1,7 @@
 -- Each turn takes in the bytes up to a byte 10 and that byte: the turns so far and this one are the piece's front.
-use Rattle.std.proofs.Common.{ℕ, List, ◌++◌, ◌-◌, take, drop, subst, sym, ap, ◌∙◌, arith}
+use Rattle.std.proofs.Common.{ℕ, List, ◌++◌, take, subst, ap, ◌∙◌, arith}
 use Rattle.std.proofs.lemmas.List.{take-append-drop, take_rest}
-use Rattle.sz_session.specs.Serving.{Moment, Advances}
+use Rattle.sz_session.specs.Serving.{Advances}
 use Rattle.sz_session.proofs.Turns.{advances-then, on_ok-both, cut-at}
 use Rattle.sz_session.proofs.feed.Feed.take_piece.Goals as goal
 
