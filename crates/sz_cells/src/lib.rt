@@ -1,15 +1,16 @@
 //! Cells, shapes and sets of cells: what every other crate of SubZero speaks of.
 //!
-//! A [`Shape`] says how many rows and columns an array has; no side is 0, and there are at most 1,048,576 cells. Its
-//! cells have indexes from 0 to `size() - 1`, row by row, and [`Shape::index`] and [`Shape::cell_at`] lead from a cell
-//! to its index and back.
+//! A [`Shape`] says how many layers, rows and columns an array has. Rows are counted through the
+//! layers, so a cell is a row and a column; no side is 0, and there are at most 16 layers and
+//! 1,048,576 cells. The cells have indexes from 0 to `size() - 1`, row by row, and [`Shape::index`]
+//! and [`Shape::cell_at`] lead from a cell to its index and back.
 //!
-//! A [`CellSet`] is a set of cells of one shape. [`CellSet::from_cells`] makes it of a list, [`CellSet::has`] tells
-//! whether a cell is in it, [`CellSet::count`] how many are, and [`CellSet::runs`] lends the set as it is kept: the
-//! longest runs of indexes, rising.
+//! There are two sets of cells of one shape. A [`CellSet`] is made once and kept small: the longest
+//! runs of indexes, rising. A [`CellBits`] is a bitmap that is added to, and cleared to be used
+//! again, without memory.
 //!
-//! Of 2 rows and 3 columns the indexes are 0, 1, 2 and 3, 4, 5. So of the list (0,1), (0,0), (0,1), (1,2) the set has
-//! three cells, in two runs:
+//! Of 2 rows and 3 columns the indexes are 0, 1, 2 and 3, 4, 5. So of the list (0,1), (0,0), (0,1),
+//! (1,2) the set has three cells, in two runs:
 //!
 //! ```
 //! let Some(shape) = Shape::make(2, 3) else { return Err(Fault::NoShape) };
@@ -25,27 +26,55 @@
 //! // set.has(Cell { row: 1, col: 2 }), and not set.has(Cell { row: 2, col: 0 })
 //! ```
 //!
-//! Contracts see a shape as its rows and columns, and a set as its shape and its rising indexes, in one way only: two
-//! sets with the same cells are equal. Most sets are stated as the cells of a shape that pass a test, and [`laws`] says
-//! what may be taken for granted of those.
+//! Contracts see a shape as its layers, rows and columns, and either kind of set as its shape and
+//! its rising indexes, in one way only: two sets with the same cells are equal. Most sets are
+//! stated as the cells of a shape that pass a test, and [`laws`] says what may be taken for granted
+//! of those.
 #![tactic(auto)]
 
-ghost use Rattle.std.specs.Prelude.{◌≡◌, ◌<◌, ◌==◌, true, if◌then◌else◌, Some, None, length, All, IfOk};
-ghost use Rattle.std.specs.List.{list_any};
-ghost use Rattle.sz_cells.specs.Extent.{size_of, is_shape, holds, index_of, cell_of};
+ghost use Rattle.std.specs.Prelude.{◌≡◌, ◌<◌, ◌≤◌, ◌*◌, true, if◌then◌else◌, Some, None};
+ghost use Rattle.sz_cells.specs.Extent.{size_of, height_of, is_shape, is_layered, layered, flat};
+ghost use Rattle.sz_cells.specs.Extent.{holds, index_of, cell_of, layer_of, row_in, is_place};
+ghost use Rattle.sz_cells.specs.Extent.{cell_in};
 
-use crate::spelling::{add_next, place_of, rising_indexes};
-use std::alloc::Global;
+pub use cell_bits::CellBits;
+pub use cell_set::CellSet;
+use std::alloc::{AllocError, AllocFailed};
 use std::marker::Model;
 
+mod cell_bits;
+mod cell_set;
 pub mod laws;
 mod spelling;
+mod words;
 
 /// There was no memory for what the call had to make.
 #[derive(Clone, Copy, Debug, Drop, PartialEq, Eq)]
 pub struct NoMemory;
 
-/// A cell of an array: its row and its column, both from 0.
+impl From<AllocError> for NoMemory {
+    ghost use Rattle.std.specs.Prelude.{◌≡◌};
+    ghost use Rattle.sz_cells.specs.declared.NoMemory.{NoMemory};
+
+    ghost from_gives = { λ _ e. e ≡ record {} };
+
+    fn from(_error: AllocError) -> NoMemory {
+        NoMemory
+    }
+}
+
+impl<T: Drop> From<AllocFailed<T>> for NoMemory {
+    ghost use Rattle.std.specs.Prelude.{◌≡◌};
+    ghost use Rattle.sz_cells.specs.declared.NoMemory.{NoMemory};
+
+    ghost from_gives = { λ _ e. e ≡ record {} };
+
+    fn from(_error: AllocFailed<T>) -> NoMemory {
+        NoMemory
+    }
+}
+
+/// A cell of an array: its row, counted through the layers, and its column, both from 0.
 #[derive(Clone, Copy, Debug, PartialEq, Eq)]
 pub struct Cell {
     pub row: u32,
@@ -61,44 +90,91 @@ pub struct Bounds {
     pub right: u32,
 }
 
-/// How many rows and columns an array has. No side is 0, and there are at most 1,048,576 cells.
+/// A run of cells that follow one another in row-major order: the indexes of its first and its
+/// last.
+#[derive(Clone, Copy, Debug, PartialEq, Eq)]
+pub struct Run {
+    pub first: u32,
+    pub last: u32,
+}
+
+/// How many layers, rows and columns an array has. The layers, at most 16, have equally many rows,
+/// and `rows` counts those of all of them. No side is 0, and there are at most 1,048,576 cells.
 #[derive(Clone, Copy, Debug, PartialEq, Eq)]
 pub struct Shape {
+    pub layers: u32,
     pub rows: u32,
     pub cols: u32,
 }
 
 impl Model for Shape {
     ghost use Rattle.std.specs.Prelude.{◌≡◌, true};
-    ghost use Rattle.sz_cells.specs.Extent.{Extent, is_shape};
+    ghost use Rattle.sz_cells.specs.Extent.{Extent, is_extent};
 
     ghost Value = { Extent };
 
-    ghost view = { λ s. record { rows = s.rows; cols = s.cols } };
+    ghost view = { λ s. record { layers = s.layers; rows = s.rows; cols = s.cols } };
 
-    ghost invariant = { λ s. is_shape s.rows s.cols ≡ true };
+    ghost invariant = { λ s.
+        is_extent (record { layers = s.layers; rows = s.rows; cols = s.cols }) ≡ true };
 
-    ghost inverse = { λ e. record { rows = e.rows; cols = e.cols } };
+    ghost inverse = { λ e. record { layers = e.layers; rows = e.rows; cols = e.cols } };
 }
 
 impl Shape {
     /// The largest number of cells that a shape has.
     const MOST: u64 = 1_048_576;
 
-    /// The shape of these sides. `None` exactly where a side is 0 or there would be more than 1,048,576 cells.
+    /// The largest number of layers that a shape has.
+    const MOST_LAYERS: u32 = 16;
+
+    /// The shape of one layer with these sides. `None` exactly where a side is 0 or there would be
+    /// more than 1,048,576 cells.
     pub fn make(rows: u32, cols: u32) -> Option<Shape>
-        ensures { result ≡ (if is_shape rows cols then Some (record { rows = rows; cols = cols }) else None) }
+        ensures { result ≡ (if is_shape rows cols then Some (flat rows cols) else None) }
     {
-        if rows > 0 && cols > 0 && u64::from(rows) * u64::from(cols) <= Self::MOST {
-            Some(Shape { rows, cols })
+        Shape::make_layers(1, rows, cols)
+    }
+
+    /// The shape of so many layers, each with `height` rows and `cols` columns. `None` exactly
+    /// where a number is 0, there would be more than 16 layers, or more than 1,048,576 cells in all
+    /// of them.
+    pub fn make_layers(layers: u32, height: u32, cols: u32) -> Option<Shape>
+        ensures { result ≡ (if is_layered layers height cols
+            then Some (layered layers height cols) else None) }
+    {
+        let rows = u64::from(layers) * u64::from(height);
+        if layers > 0
+            && layers <= Self::MOST_LAYERS
+            && rows > 0
+            && cols > 0
+            && rows <= Self::MOST
+            && rows * u64::from(cols) <= Self::MOST
+        {
+            Some(Shape {
+                layers,
+                rows: rows as u32,
+                cols,
+            })
         } else {
             None
         }
     }
 
+    /// How many rows each layer has.
+    pub fn height(&self) -> u32
+        ensures value { result ≡ height_of self.now }
+        ensures some { 0 < result }
+        ensures whole { self.now.layers * result ≡ self.now.rows }
+    {
+        self.rows / self.layers
+    }
+
     /// How many cells the shape has.
     pub fn size(&self) -> u32
-        ensures { result ≡ size_of self.now }
+        ensures value { result ≡ size_of self.now }
+        ensures some { 0 < result }
+        ensures few { result ≤ 1048576 }
     {
         self.rows * self.cols
     }
@@ -108,6 +184,41 @@ impl Shape {
         ensures { result ≡ holds self.now cell }
     {
         cell.row < self.rows && cell.col < self.cols
+    }
+
+    /// The layer of a cell of the shape, from 0.
+    pub fn layer_of(&self, cell: Cell) -> u32
+        requires { holds self.now cell ≡ true }
+        ensures value { result ≡ layer_of self.now cell }
+        ensures within { result < self.now.layers }
+    {
+        cell.row / self.height()
+    }
+
+    /// The row of a cell of the shape in its layer, from 0.
+    pub fn row_in(&self, cell: Cell) -> u32
+        requires { holds self.now cell ≡ true }
+        ensures value { result ≡ row_in self.now cell }
+        ensures within { result < height_of self.now }
+    {
+        cell.row % self.height()
+    }
+
+    /// The cell of a layer, a row in that layer and a column. `None` exactly where the shape has no
+    /// such place.
+    pub fn cell_in(&self, layer: u32, row: u32, col: u32) -> Option<Cell>
+        ensures { result ≡ (if is_place self.now layer row col
+            then Some (cell_in self.now layer row col) else None) }
+    {
+        let height = self.height();
+        if layer < self.layers && row < height && col < self.cols {
+            Some(Cell {
+                row: layer * height + row,
+                col,
+            })
+        } else {
+            None
+        }
     }
 
     /// The row-major index of a cell of the shape, from 0.
@@ -130,105 +241,6 @@ impl Shape {
             row: index / self.cols,
             col: index % self.cols,
         }
-    }
-}
-
-/// A run of cells that follow one another in row-major order: the indexes of its first and its last.
-#[derive(Clone, Copy, Debug, PartialEq, Eq)]
-pub struct Run {
-    pub first: u32,
-    pub last: u32,
-}
-
-/// A set of cells of one shape, kept as the longest runs of row-major indexes, rising.
-#[derive(Drop)]
-pub struct CellSet {
-    shape: Shape,
-    runs: Vec<Run>,
-    count: u32,
-}
-
-impl Model for CellSet {
-    ghost use Rattle.std.specs.Prelude.{◌≡◌, length};
-    ghost use Rattle.std.specs.List.{flat_map};
-    ghost use Rattle.sz_cells.specs.Extent.{size_of};
-    ghost use Rattle.sz_cells.specs.Cells.{Cells, indexes_of, AreRunsFrom};
-
-    ghost Value = { Cells };
-
-    ghost view = { λ s. record { extent = s.shape; indexes = flat_map indexes_of s.runs.items } };
-
-    ghost invariant = { λ s. AreRunsFrom 0 (size_of s.shape) s.runs.items × (s.count ≡ length (flat_map indexes_of s.runs.items)) };
-}
-
-impl CellSet {
-    ghost use Rattle.sz_cells.specs.Cells.{Cells, Spells, has, named_in};
-    ghost use Rattle.sz_cells.specs.Rising.{AreRising};
-
-    /// The set of the cells that a list names, a cell named twice once.
-    ///
-    /// Takes time in `n log n`, and memory in `n`, for a list of `n` cells.
-    pub fn from_cells(alloc: Global, shape: Shape, cells: &[Cell]) -> Result<CellSet, NoMemory>
-        requires held { All (λ c. holds shape c ≡ true) cells.now }
-        ensures { IfOk result (λ s. s ≡ named_in shape cells.now) }
-    {
-        let indexes = rising_indexes(alloc, &shape, cells)?;
-        CellSet::of_indexes(alloc, shape, &indexes)
-    }
-
-    /// The set of the cells of indexes that strictly rise.
-    fn of_indexes(alloc: Global, shape: Shape, indexes: &[u32]) -> Result<CellSet, NoMemory>
-        requires { AreRising 0 (size_of shape) indexes.now }
-        ensures { IfOk result (λ s. s ≡ record { extent = shape; indexes = indexes.now }) }
-    {
-        prove!(indexes.len() <= shape.size() as usize);
-        let mut runs = Vec::new(alloc);
-        for index in indexes {
-            add_next(&mut runs, *index)?;
-        }
-        Ok(CellSet {
-            shape,
-            runs,
-            count: indexes.len() as u32,
-        })
-    }
-
-    /// Whether the set has the cell. False for a cell that the shape does not hold.
-    ///
-    /// Takes time in the logarithm of the number of runs, and no memory.
-    pub fn has(&self, cell: Cell) -> bool
-        ensures { result ≡ has self.now cell }
-    {
-        self.shape.holds(cell) && self.has_index(self.shape.index(cell))
-    }
-
-    /// Whether the set has the cell of an index.
-    fn has_index(&self, index: u32) -> bool
-        ensures { result ≡ list_any (λ k. k == index) self.now.indexes }
-    {
-        let place = place_of(&self.runs, index);
-        place < self.runs.len() && self.runs[place].first <= index
-    }
-
-    /// The shape of which the cells are.
-    pub fn shape(&self) -> Shape
-        ensures { result ≡ self.now.extent }
-    {
-        self.shape
-    }
-
-    /// How many cells the set has.
-    pub fn count(&self) -> u32
-        ensures { result ≡ length self.now.indexes }
-    {
-        self.count
-    }
-
-    /// The longest runs of the set's row-major indexes, rising. Between two of them there is a gap.
-    pub fn runs(&self) -> &[Run]
-        ensures { Spells result.now self.now }
-    {
-        &self.runs
     }
 }
 

@@ -1,3 +1,4 @@
+-- A row and a column are the quotient and the remainder of the index.
 use Rattle.sz_cells.proofs.Sets.{index-below, cell-held, index-cell, cell-index}
 use Rattle.sz_cells.proofs.laws.cells_and_indexes_are_one_to_one.Goals as goal
 

@@ -1,3 +1,4 @@
+-- The indexes so far are those of the cells so far.
 use Rattle.std.proofs.Common.{◌≡◌, map, take}
 use Rattle.sz_cells.specs.Extent.{index_of}
 use Rattle.sz_cells.proofs.spelling.indexes_named.Given as goal
