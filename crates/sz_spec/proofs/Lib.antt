@@ -1,3 +1,21 @@
+-- What the functions' proofs share, what follows of the definitions, and rows that these compute.
+pub mod CodeShapes
+pub mod CodeSquare
+pub mod RowsArrays
+pub mod RowsValues
+pub mod RowsOperators
+pub mod RowsLayers
+pub mod RowsFlows
+pub mod RowsPaths
+pub mod RowsModes
+pub mod Components
+pub mod OutputValues
 pub mod Images
-pub mod Values
-pub mod Rows
+pub mod Composition
+pub mod OutputShapes
+pub mod CellPieces
+pub mod FlowOutputs
+pub mod Ways
+pub mod SetWords
+pub mod PayloadLineage
+pub mod Dependence

@@ -1,10 +1,10 @@
--- Values, arrays, and what an operator makes of its inputs.
-use Rattle.std.specs.Prelude.{ℕ, ℤ, pos, negsuc, ◌^◌, List, [], ◌∷◌, map, nat_lt, if◌then◌else◌, Option, Some, None, unwrap_or, option_and_then, neg_ℤ}
-use Rattle.std.specs.List.{slice_get, range_with_len}
+-- Values, arrays, and the values that an array holds at cells.
+use Rattle.std.specs.Prelude.{ℕ, ℤ, pos, negsuc, ◌+ℤ◌, ◌^◌, List, [], map, fold, nat_lt}
+use Rattle.std.specs.Prelude.{if◌then◌else◌, Option, Some, None, unwrap_or, option_and_then}
+use Rattle.std.specs.List.{slice_get, filter_map}
 use Rattle.sz_cells.specs.declared.Cell.{Cell}
-use Rattle.sz_cells.specs.Extent.{Extent, size_of, index_of, cell_of}
-use Rattle.sz_spec.specs.declared.Op.{Op}
-use Rattle.sz_spec.specs.declared.Op.TheVariants.{Neg}
+use Rattle.sz_cells.specs.Extent.{Extent, index_of, cell_of}
+use Rattle.sz_cells.specs.Cells.{Cells}
 
 -- an array: a shape, and for each cell in row-major order a number or nothing
 pub record Grid : Type 0 where
@@ -20,32 +20,34 @@ fit (negsuc n) = if nat_lt n (2 ^ 63) then Some (negsuc n) else None
 abbrev pub value_at : Grid → Cell → Option ℤ
 value_at grid c = unwrap_or (slice_get grid.values (index_of grid.extent c)) None
 
--- how many inputs an operator has
-abbrev pub arity : Op → ℕ
-arity Neg = 1
+-- the numbers that the cells of a set hold, in row-major order: an empty cell holds none
+abbrev pub numbers_at : Grid → Cells → List ℤ
+numbers_at grid set = filter_map (λ k. value_at grid (cell_of set.extent k)) set.indexes
 
--- an array that is not there: no input of an operator with right arity is it
+-- a shape and an array that are not there: no input of an operator with right arity is either
+abbrev pub no_extent : Extent
+no_extent = record { layers = 0; rows = 0; cols = 0 }
+
 abbrev pub no_grid : Grid
-no_grid = record { extent = record { rows = 0; cols = 0 }; values = [] }
+no_grid = record { extent = no_extent; values = [] }
 
--- the array that an operator takes as input i
+-- the array, and the shape, that an operator takes as input i
 abbrev pub input_at : List Grid → ℕ → Grid
 input_at inputs i = unwrap_or (slice_get inputs i) no_grid
 
--- the shape of what an operator makes of inputs of these shapes, where its shape rule holds
-abbrev pub shape_of : Op → List Extent → Option Extent
-shape_of Neg (e ∷ []) = Some e
-shape_of Neg _ = None
+abbrev pub extent_at : List Extent → ℕ → Extent
+extent_at ins i = unwrap_or (slice_get ins i) no_extent
 
--- the value of an output cell
-abbrev pub value_of : Op → List Grid → Cell → Option ℤ
-value_of Neg inputs o = option_and_then (λ z. fit (neg_ℤ z)) (value_at (input_at inputs 0) o)
+abbrev pub extents_of : List Grid → List Extent
+extents_of grids = map (λ g. g.extent) grids
 
--- the shape of an operator's output, where its shape rule holds
-abbrev pub output_extent : Op → List Grid → Extent
-output_extent op inputs = unwrap_or (shape_of op (map (λ g. g.extent) inputs)) no_grid.extent
+-- what f makes of one number, and of two: nothing where one is not there
+abbrev pub with_number : (ℤ → Option ℤ) → Option ℤ → Option ℤ
+with_number f v = option_and_then f v
 
--- an operator's output: at each cell its value
-abbrev pub output_of : Op → List Grid → Grid
-output_of op inputs = let e = output_extent op inputs in
-    record { extent = e; values = map (λ k. value_of op inputs (cell_of e k)) (range_with_len 0 (size_of e)) }
+abbrev pub with_numbers : (ℤ → ℤ → Option ℤ) → Option ℤ → Option ℤ → Option ℤ
+with_numbers f v w = option_and_then (λ a. option_and_then (f a) w) v
+
+-- the sum of whole numbers, taken before anything is fitted
+abbrev pub total : List ℤ → ℤ
+total zs = fold (λ a z. a +ℤ z) (pos 0) zs

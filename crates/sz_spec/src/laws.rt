@@ -1,6 +1,64 @@
-//! Laws of the definitions, for a reader: each function has an empty body, and its contract is the law.
+//! Laws of the definitions, for a reader: each function has an empty body, and its contract is the
+//! law.
 
-ghost use Rattle.sz_spec.specs.Laws.{ImagesBackAreTheRelatedCells, ImagesForwardAreTheRelatedCells, ImagesBackSayThereIs, ImagesForwardSayThereIs, PathsComposeByTheirParts, NoStepKeepsTheSet, NegationRelatesTheSameCell, I64sAreValues, OtherNumbersAreEmpty, OutputsHaveAValueForEachCell, OutputsHoldTheirValues};
+ghost use Rattle.sz_spec.specs.LawsValues.{I64sAreValues, OtherNumbersAreEmpty};
+ghost use Rattle.sz_spec.specs.LawsValues.{SumsOfNumbersAreTotals, SumsWithAnEmptyOneAreEmpty};
+ghost use Rattle.sz_spec.specs.LawsValues.{OutputsHaveAValueForEachCell, OutputsHoldTheirValues};
+ghost use Rattle.sz_spec.specs.LawsShapes.{OutputsAreShapes, EachCellIsInOnePiece};
+ghost use Rattle.sz_spec.specs.LawsShapes.{PiecesAreOfTheShape, PiecesAreFew};
+ghost use Rattle.sz_spec.specs.LawsImages.{ImagesBackAreTheRelatedCells};
+ghost use Rattle.sz_spec.specs.LawsImages.{ImagesForwardAreTheRelatedCells, ImagesBackSayThereIs};
+ghost use Rattle.sz_spec.specs.LawsImages.{ImagesForwardSayThereIs, ImagesBackOfUnions};
+ghost use Rattle.sz_spec.specs.LawsImages.{ImagesForwardOfUnions, ImagesBackAgree};
+ghost use Rattle.sz_spec.specs.LawsImages.{ImagesForwardAgree, PathsComposeByTheirParts};
+ghost use Rattle.sz_spec.specs.LawsRegions.{ConnectedCellsAreLedTo, ConnectedCellsAreHigh};
+ghost use Rattle.sz_spec.specs.LawsRegions.{HighCellsAreConnectedToThemselves};
+ghost use Rattle.sz_spec.specs.LawsRegions.{ConnectionIsSymmetric, ConnectionGoesByParts};
+ghost use Rattle.sz_spec.specs.LawsRegions.{ComponentsAreClosed, ComponentsAreWhole};
+ghost use Rattle.sz_spec.specs.LawsRegions.{ConnectedCellsHaveOneComponent};
+ghost use Rattle.sz_spec.specs.LawsRegions.{OtherCellsAreLabelledZero};
+ghost use Rattle.sz_spec.specs.LawsRegions.{HighCellsAreLabelledByTheLeast};
+ghost use Rattle.sz_spec.specs.LawsLineage.{RelatedCellsAreOfInputs, MappingsAreTheRelation};
+ghost use Rattle.sz_spec.specs.LawsLineage.{PayloadsAreLawful, PayloadsAreTheRelation};
+ghost use Rattle.sz_spec.specs.LawsLineage.{DefaultsAreTheRelation, ValuesDependOnRelatedCells};
+ghost use Rattle.sz_spec.specs.LawsLineage.{RelationsDependOnRelatedCells};
+ghost use Rattle.sz_spec.specs.LawsFlows.{WellFormedFlowsAreRight, EachNodeHasAnOutput};
+ghost use Rattle.sz_spec.specs.LawsFlows.{OutputsAreThoseOfTheirNodes};
+ghost use Rattle.sz_spec.specs.LawsModes.{ThreeHaveNoMapping, MappedOperatorsSupport};
+ghost use Rattle.sz_spec.specs.LawsModes.{OtherOperatorsSupport, NumbersTellStrategiesApart};
+ghost use Rattle.sz_spec.specs.LawsModes.{OrdersHaveEachStrategyOnce, ListedStrategiesAreInTheList};
+ghost use Rattle.sz_spec.specs.LawsModes.{WaysAreInTheList, WaysAreTheFirst};
+
+/// A whole number that is an i64 is a value, and any other is empty.
+pub fn values_are_the_i64s()
+    ensures value { I64sAreValues }
+    ensures empty { OtherNumbersAreEmpty }
+{}
+
+/// The sum of values is that of their numbers where all are there, and is not there where one is
+/// not.
+pub fn sums_are_of_all()
+    ensures numbers { SumsOfNumbersAreTotals }
+    ensures empty { SumsWithAnEmptyOneAreEmpty }
+{}
+
+/// An operator's output has one value for each cell of its shape: the operator's value there.
+pub fn outputs_hold_their_values()
+    ensures count { OutputsHaveAValueForEachCell }
+    ensures values { OutputsHoldTheirValues }
+{}
+
+/// Of shapes within the limits an operator makes a shape within the limits.
+pub fn outputs_are_shapes()
+    ensures { OutputsAreShapes }
+{}
+
+/// Each cell of a shape is in exactly one piece, and there are 1 to 16,384 pieces.
+pub fn cells_are_in_one_piece()
+    ensures one { EachCellIsInOnePiece }
+    ensures held { PiecesAreOfTheShape }
+    ensures few { PiecesAreFew }
+{}
 
 /// The image of a set under a relation is exactly the related cells.
 pub fn images_are_the_related_cells()
@@ -10,26 +68,97 @@ pub fn images_are_the_related_cells()
     ensures forward_there_is { ImagesForwardSayThereIs }
 {}
 
-/// Composition along a path that is joined of two parts is the composition of the parts, and along no step it changes
-/// nothing.
+/// The image of a union is the union of the images, in both directions.
+pub fn images_of_unions_are_unions()
+    ensures back { ImagesBackOfUnions }
+    ensures forward { ImagesForwardOfUnions }
+{}
+
+/// Relations that agree on the cells of both shapes have the same images.
+pub fn images_agree_with_their_relations()
+    ensures back { ImagesBackAgree }
+    ensures forward { ImagesForwardAgree }
+{}
+
+/// Composition along a path that is joined of two parts is the composition of the parts.
 pub fn paths_compose_by_their_parts()
-    ensures parts { PathsComposeByTheirParts }
-    ensures no_step { NoStepKeepsTheSet }
+    ensures { PathsComposeByTheirParts }
 {}
 
-/// The negation relates each cell to itself.
-pub fn negation_relates_the_same_cell()
-    ensures { NegationRelatesTheSameCell }
+/// A cell is connected to another exactly where a list of high cells leads there, each a neighbour
+/// of the one before. So it goes back, and by parts.
+pub fn connected_cells_are_led_to()
+    ensures led_to { ConnectedCellsAreLedTo }
+    ensures high { ConnectedCellsAreHigh }
+    ensures itself { HighCellsAreConnectedToThemselves }
+    ensures symmetric { ConnectionIsSymmetric }
+    ensures parts { ConnectionGoesByParts }
 {}
 
-/// A whole number that is an i64 is a value, and any other is empty.
-pub fn values_are_the_i64s()
-    ensures value { I64sAreValues }
-    ensures empty { OtherNumbersAreEmpty }
+/// A component has every high neighbour of its cells, and is that of each of them.
+pub fn components_are_closed()
+    ensures closed { ComponentsAreClosed }
+    ensures whole { ComponentsAreWhole }
+    ensures one { ConnectedCellsHaveOneComponent }
 {}
 
-/// An operator's output has one value for each cell of its shape: the operator's value there.
-pub fn outputs_hold_their_values()
-    ensures count { OutputsHaveAValueForEachCell }
-    ensures values { OutputsHoldTheirValues }
+/// A high cell is labelled by 1 plus the least index of a connected cell, and any other cell by 0.
+pub fn regions_are_labelled_by_their_least()
+    ensures other { OtherCellsAreLabelledZero }
+    ensures high { HighCellsAreLabelledByTheLeast }
+{}
+
+/// A cell is related to cells of the inputs alone, and the relation of an operator that supports
+/// Map is its mapping of cells.
+pub fn mappings_are_the_relation()
+    ensures inputs { RelatedCellsAreOfInputs }
+    ensures mapped { MappingsAreTheRelation }
+{}
+
+/// The payload that is kept for a cell is one of the operator's and stands for the relation. Where
+/// a composite store keeps none, the default is the relation.
+pub fn payloads_are_the_relation()
+    ensures lawful { PayloadsAreLawful }
+    ensures stands { PayloadsAreTheRelation }
+    ensures default { DefaultsAreTheRelation }
+{}
+
+/// Where the cells to which a cell is related hold the same values in old and in new inputs, the
+/// cell has the same value and the same relation.
+pub fn values_depend_on_related_cells()
+    ensures value { ValuesDependOnRelatedCells }
+    ensures relation { RelationsDependOnRelatedCells }
+{}
+
+/// A flow is well formed exactly where its sizes and each of its nodes keep the rules.
+pub fn well_formed_flows_are_right()
+    ensures { WellFormedFlowsAreRight }
+{}
+
+/// A flow has one output for each node: that of its operator over the arrays that its sources stand
+/// for.
+pub fn outputs_are_those_of_their_nodes()
+    ensures count { EachNodeHasAnOutput }
+    ensures value { OutputsAreThoseOfTheirNodes }
+{}
+
+/// Which strategies an operator supports: it is settled by whether it has a mapping of cells, as
+/// all but three have.
+pub fn operators_support_by_their_mapping()
+    ensures three { ThreeHaveNoMapping }
+    ensures mapped { MappedOperatorsSupport }
+    ensures others { OtherOperatorsSupport }
+{}
+
+/// The order of each direction has each strategy exactly once.
+pub fn orders_have_each_strategy_once()
+    ensures apart { NumbersTellStrategiesApart }
+    ensures once { OrdersHaveEachStrategyOnce }
+{}
+
+/// The way is in the list, and no strategy that comes before it in the direction's order is.
+pub fn ways_are_the_first_listed()
+    ensures listed { ListedStrategiesAreInTheList }
+    ensures way { WaysAreInTheList }
+    ensures first { WaysAreTheFirst }
 {}

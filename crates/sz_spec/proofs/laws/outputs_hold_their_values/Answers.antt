@@ -1,4 +1,5 @@
-use Rattle.sz_spec.proofs.Values.{output-length, output-value}
+-- Each clause is a lemma of the definitions.
+use Rattle.sz_spec.proofs.OutputValues.{output-length, output-value}
 use Rattle.sz_spec.proofs.laws.outputs_hold_their_values.Goals as goal
 
 pub returns-clause-count : goal.returns-clause-count

@@ -1,5 +1,6 @@
-use Rattle.sz_spec.proofs.Images.{compose-append}
+-- The law is a lemma of the definitions.
+use Rattle.sz_spec.proofs.Composition.{compose-append}
 use Rattle.sz_spec.proofs.laws.paths_compose_by_their_parts.Goals as goal
 
-pub returns-clause-parts : goal.returns-clause-parts
-returns-clause-parts c = compose-append
+pub returns : goal.returns
+returns c = compose-append

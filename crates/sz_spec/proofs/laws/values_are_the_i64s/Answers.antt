@@ -1,4 +1,5 @@
-use Rattle.sz_spec.proofs.Values.{fit-value, fit-empty}
+-- Each clause is a lemma of the definitions.
+use Rattle.sz_spec.proofs.OutputValues.{fit-value, fit-empty}
 use Rattle.sz_spec.proofs.laws.values_are_the_i64s.Goals as goal
 
 pub returns-clause-value : goal.returns-clause-value

@@ -1,0 +1,66 @@
+-- What a reader may take for granted of mappings, payloads and composite defaults, and of what a
+-- value depends on. Each law is proved of the definitions.
+use Rattle.std.specs.Prelude.{◌≡◌, ℕ, ◌<◌, List, length, true, false, ◌||◌}
+use Rattle.sz_cells.specs.declared.Cell.{Cell}
+use Rattle.sz_cells.specs.Extent.{holds}
+use Rattle.sz_spec.specs.declared.op.Op.{Op}
+use Rattle.sz_spec.specs.Values.{Grid, value_at, input_at, extent_at, extents_of}
+use Rattle.sz_spec.specs.Shapes.{Site, IsSite, arity}
+use Rattle.sz_spec.specs.Lineage.{mapped, related}
+use Rattle.sz_spec.specs.Evaluation.{value_of}
+use Rattle.sz_spec.specs.Modes.{has_mapping}
+use Rattle.sz_spec.specs.Payloads.{is_payload, mapped_by_payload, payload_of, overrides}
+use Rattle.sz_spec.specs.LawsShapes.{AreExtents}
+
+-- the arrays are inputs of an operator at its shapes, and these are within the limits
+pub record AreInputsOf (s : Site) (inputs : List Grid) : Type 0 where
+  pub site : IsSite s
+  pub shapes : extents_of inputs ≡ s.ins
+  pub right : AreExtents s.ins
+
+-- a cell is related to cells of the operator's inputs alone
+abbrev pub RelatedCellsAreOfInputs : Type 0
+RelatedCellsAreOfInputs = (op : Op) (inputs : List Grid) (i : ℕ) (o x : Cell)
+    → related op inputs i o x ≡ true → i < arity op
+
+-- the relation of an operator that supports Map is its mapping of cells
+abbrev pub MappingsAreTheRelation : Type 0
+MappingsAreTheRelation = (op : Op) (inputs : List Grid) (i : ℕ) (o x : Cell) → has_mapping op ≡ true
+    → related op inputs i o x ≡ mapped op (extents_of inputs) i o x
+
+-- the payload that is kept for a cell is one of the operator's
+abbrev pub PayloadsAreLawful : Type 0
+PayloadsAreLawful = (s : Site) (inputs : List Grid) (o : Cell) → AreInputsOf s inputs
+    → has_mapping s.op ≡ false
+    → is_payload s.op s.ins (payload_of s.op inputs o) ≡ true
+
+-- it stands for exactly the cells to which the cell is related
+abbrev pub PayloadsAreTheRelation : Type 0
+PayloadsAreTheRelation = (s : Site) (inputs : List Grid) (i : ℕ) (o x : Cell) → AreInputsOf s inputs
+    → has_mapping s.op ≡ false
+    → mapped_by_payload s.op s.ins (payload_of s.op inputs o) i o x ≡ related s.op inputs i o x
+
+-- of a cell for which a composite store keeps no entry, the relation is the default
+abbrev pub DefaultsAreTheRelation : Type 0
+DefaultsAreTheRelation = (s : Site) (inputs : List Grid) (i : ℕ) (o x : Cell) → AreInputsOf s inputs
+    → overrides s.op inputs o ≡ false → related s.op inputs i o x ≡ mapped s.op s.ins i o x
+
+-- old and new inputs hold the same value at each cell to which o is related, by the old relation or
+-- by the new one
+abbrev pub AgreeFor : Site → List Grid → List Grid → Cell → Type 0
+AgreeFor s old new o = (i : ℕ) (x : Cell) → i < length s.ins → holds (extent_at s.ins i) x ≡ true
+    → (related s.op old i o x || related s.op new i o x) ≡ true
+    → value_at (input_at old i) x ≡ value_at (input_at new i) x
+
+-- then o has one value
+abbrev pub ValuesDependOnRelatedCells : Type 0
+ValuesDependOnRelatedCells = (s : Site) (old new : List Grid) (o : Cell) → AreInputsOf s old
+    → AreInputsOf s new
+    → holds s.out o ≡ true → AgreeFor s old new o → value_of s.op old o ≡ value_of s.op new o
+
+-- and is related to the same cells
+abbrev pub RelationsDependOnRelatedCells : Type 0
+RelationsDependOnRelatedCells = (s : Site) (old new : List Grid) (i : ℕ) (o x : Cell)
+    → AreInputsOf s old
+    → AreInputsOf s new → holds s.out o ≡ true → AgreeFor s old new o
+    → related s.op old i o x ≡ related s.op new i o x
