@@ -1,8 +1,10 @@
 -- The index by name, and the set of names, beside the lists that they speak of.
 --
--- The key idea: what is found under a name is a filter of the list, so one more element at the list's end is one more at
--- the end of what its own name finds, and nothing at the other names.
-use Rattle.std.proofs.Common.{◌≡◌, ℕ, ◌≤◌, Bool, true, false, cond, ◌||◌, if◌then◌else◌, List, [], ◌∷◌, ◌++◌, map, length, Option, Some, None, String, Vec, string_bytes, string_cmp, refl, sym, ap, inl, inr, unwrap_or, ◌∙◌, arith}
+-- The key idea: what is found under a name is a filter of the list, so one more element at the list's end is one more
+-- at the end of what its own name finds, and nothing at the other names.
+use Rattle.std.proofs.Common.{◌≡◌, ℕ, ◌≤◌, Bool, true, false, cond, ◌||◌, if◌then◌else◌, List}
+use Rattle.std.proofs.Common.{[], ◌∷◌, ◌++◌, map, length, Option, Some, None, String, Vec, string_bytes}
+use Rattle.std.proofs.Common.{string_cmp, refl, sym, ap, inl, inr, unwrap_or, ◌∙◌, arith}
 use Rattle.std.specs.List.{filter, list_any, slice_get}
 use Rattle.std.specs.Ordering.{nat_cmp}
 use Rattle.std.specs.Cmp.Lexicographic.{slice_cmp}
@@ -20,7 +22,7 @@ use Rattle.std.proofs.lemmas.List.Folds.{list_any-append}
 use Rattle.std.proofs.lemmas.List.Sums.{length-filter, count_by-le-length}
 use Rattle.std.proofs.lemmas.Map.Text.{btree_set_updates_text}
 use Rattle.std.proofs.lemmas.Slice.Eq.{bytes_eq-Decides}
-use Rattle.sz_session.specs.Catalogues.{Named, named}
+use Rattle.sz_session.specs.Holdings.{Named, things_named}
 use Rattle.sz_session.specs.Reading.{negation}
 use Rattle.sz_session.specs.Kept.{versions_in, IsVersionIndex, IsNameSet}
 
@@ -32,29 +34,49 @@ bytes_eq-flip a b =
     same_from_decides (bytes_eq a b) (bytes_eq b a) (bytes_eq-Decides a b) (λ t. sym (back.0 t), λ e. back.1 (sym e))
 
 -- one more at the end
-pub named-push : {X : Type 0} (q : List ℕ) (xs : List (Named X)) (y : Named X) → named q (xs ++ y ∷ []) ≡ named q xs ++ (if bytes_eq q y.name then y.thing ∷ [] else [])
-named-push q xs y =
+pub things_named-push : {X : Type 0} (q : List ℕ) (xs : List (Named X)) (y : Named X)
+    → things_named q (xs ++ y ∷ []) ≡ things_named q xs ++ (if bytes_eq q y.name then y.thing ∷ [] else [])
+things_named-push q xs y =
     ap (map (λ x. x.thing)) (filter-append (λ x. bytes_eq q x.name) xs (y ∷ []))
     ∙ map-append (λ x. x.thing) (filter (λ x. bytes_eq q x.name) xs) (filter (λ x. bytes_eq q x.name) (y ∷ []))
-    ∙ ap (λ zs. named q xs ++ zs) (elim (cases_Bool (bytes_eq q y.name)) [ inl t ↦ rw t refl | inr f ↦ rw f refl ])
+    ∙ ap (λ zs. things_named q xs ++ zs) (elim (cases_Bool (bytes_eq q y.name)) [
+      | inl t ↦ rw t refl
+      | inr f ↦
+          rw f refl
+    ])
 
 -- a name has no more things than there are
-pub length-named : {X : Type 0} (q : List ℕ) (xs : List (Named X)) → length (named q xs) ≤ length xs
-length-named q xs =
-    omega (arith, length-map (filter (λ x. bytes_eq q x.name) xs) (λ x. x.thing), length-filter (λ x. bytes_eq q x.name) xs, count_by-le-length (λ x. bytes_eq q x.name) xs)
+pub length-things_named : {X : Type 0} (q : List ℕ) (xs : List (Named X)) → length (things_named q xs) ≤ length xs
+length-things_named q xs =
+    omega (
+      arith,
+      length-map (filter (λ x. bytes_eq q x.name) xs) (λ x. x.thing),
+      length-filter (λ x. bytes_eq q x.name) xs,
+      count_by-le-length (λ x. bytes_eq q x.name) xs,
+    )
 
 -- an index that got one more under its name
-pub IsVersionIndex-push : {X Y Z W : Type 0} (m n : BTreeMap (String Y) (Vec (Arc X Z) W)) (xs : List (Named X)) (y : Named X) → IsVersionIndex m xs → ((q : List ℕ) → versions_in n q ≡ versions_in m q ++ (if bytes_eq q y.name then y.thing ∷ [] else [])) → IsVersionIndex n (xs ++ y ∷ [])
+pub IsVersionIndex-push : {X Y Z W : Type 0} (m n : BTreeMap (String Y) (Vec (Arc X Z) W)) (xs : List (Named X))
+    (y : Named X) → IsVersionIndex m xs
+    → ((q : List ℕ) → versions_in n q ≡ versions_in m q ++ (if bytes_eq q y.name then y.thing ∷ [] else []))
+    → IsVersionIndex n (xs ++ y ∷ [])
 IsVersionIndex-push m n xs y was added =
-    record { each = λ q. added q ∙ ap (λ zs. zs ++ (if bytes_eq q y.name then y.thing ∷ [] else [])) (was.each q) ∙ sym (named-push q xs y) }
+    record {
+      each = λ q. added q ∙ ap (λ zs. zs ++ (if bytes_eq q y.name then y.thing ∷ [] else [])) (was.each q)
+          ∙ sym (things_named-push q xs y);
+    }
 
 -- a set that got a name
-pub IsNameSet-push : {Y : Type 0} (m n : BTreeSet (String Y)) (xs : List (String Y)) (name : List ℕ) (held : String Y) → IsNameSet m xs → UpdatesBy string_cmp (λ k. slice_cmp nat_cmp name (string_bytes k)) m n true → string_bytes held ≡ name → IsNameSet n (xs ++ held ∷ [])
+pub IsNameSet-push : {Y : Type 0} (m n : BTreeSet (String Y)) (xs : List (String Y)) (name : List ℕ) (held : String Y)
+    → IsNameSet m xs → UpdatesBy string_cmp (λ k. slice_cmp nat_cmp name (string_bytes k)) m n true
+    → string_bytes held ≡ name → IsNameSet n (xs ++ held ∷ [])
 IsNameSet-push m n xs name held was updates same =
     record {
       each = λ q.
-          btree_set_updates_text name m n true updates q ∙ ap (λ (b : Bool). cond (bytes_eq name q) true b) (was.each q)
-          ∙ here q (list_any (λ x. bytes_eq q (string_bytes x)) xs) ∙ sym (list_any-append (λ x. bytes_eq q (string_bytes x)) xs (held ∷ []));
+          btree_set_updates_text name m n true updates q
+          ∙ ap (λ (b : Bool). cond (bytes_eq name q) true b) (was.each q)
+          ∙ here q (list_any (λ x. bytes_eq q (string_bytes x)) xs)
+          ∙ sym (list_any-append (λ x. bytes_eq q (string_bytes x)) xs (held ∷ []));
     } where
       turned : (q : List ℕ) → bytes_eq name q ≡ bytes_eq q (string_bytes held)
       turned q = bytes_eq-flip name q ∙ ap (bytes_eq q) (sym same)
@@ -65,28 +87,42 @@ IsNameSet-push m n xs name held was updates same =
       either false true = refl
       either false false = refl
 
-      here : (q : List ℕ) (b : Bool) → cond (bytes_eq name q) true b ≡ (b || (bytes_eq q (string_bytes held) || false))
+      here : (q : List ℕ) (b : Bool)
+          → cond (bytes_eq name q) true b ≡ (b || (bytes_eq q (string_bytes held) || false))
       here q b = ap (λ (a : Bool). cond a true b) (turned q) ∙ either (bytes_eq q (string_bytes held)) b
 
 -- the flow of a name among flows that are all the negation
-pub first-named : {Y : Type 0} (q : List ℕ) (xs : List (String Y)) → slice_get (named q (map (λ x. record { name = string_bytes x; thing = negation }) xs)) 0 ≡ (if list_any (λ x. bytes_eq q (string_bytes x)) xs then Some negation else None)
-first-named q [] = refl
-first-named q (x ∷ xs) = elim (cases_Bool (bytes_eq q (string_bytes x))) [ inl t ↦ rw t refl | inr f ↦ rw f (first-named q xs) ]
+pub first-things_named : {Y : Type 0} (q : List ℕ) (xs : List (String Y))
+    → slice_get (things_named q (map (λ x. record { name = string_bytes x; thing = negation }) xs)) 0
+    ≡ (if list_any (λ x. bytes_eq q (string_bytes x)) xs then Some negation else None)
+first-things_named q [] = refl
+first-things_named q (x ∷ xs) =
+    elim (cases_Bool (bytes_eq q (string_bytes x))) [ inl t ↦ rw t refl | inr f ↦ rw f (first-things_named q xs) ]
 
 -- ---- one name's list, changed
 
 -- what an index has under a name, where what was read of it, or else a list of nothing, is `was`
-pub versions_in-here : {X Y Z W : Type 0} (index : BTreeMap (String Y) (Vec (Arc X Z) W)) (name : List ℕ) (was none : Vec (Arc X Z) W) → was ≡ unwrap_or (get_by_text index name) none → none.items ≡ [] → versions_in index name ≡ map (λ a. arc_value a) was.items
+pub versions_in-here : {X Y Z W : Type 0} (index : BTreeMap (String Y) (Vec (Arc X Z) W)) (name : List ℕ)
+    (was none : Vec (Arc X Z) W) → was ≡ unwrap_or (get_by_text index name) none → none.items ≡ []
+    → versions_in index name ≡ map (λ a. arc_value a) was.items
 versions_in-here {X} {Y} {Z} {W} index name was none is empty =
     at (get_by_text index name) ∙ ap (λ (v : Vec (Arc X Z) W). map (λ a. arc_value a) v.items) (sym is) where
-      at : (o : Option (Vec (Arc X Z) W)) → map (λ a. arc_value a) (option_map_or (λ v. v.items) o []) ≡ map (λ a. arc_value a) (unwrap_or o none).items
+      at : (o : Option (Vec (Arc X Z) W))
+          → map (λ a. arc_value a) (option_map_or (λ v. v.items) o [])
+          ≡ map (λ a. arc_value a) (unwrap_or o none).items
       at None = ap (map (λ a. arc_value a)) (sym empty)
       at (Some v) = refl
 
 -- one name's list got more at its end
-pub versions_in-changed : {X Y Z W : Type 0} (old new : BTreeMap (String Y) (Vec (Arc X Z) W)) (name : List ℕ) (was now none : Vec (Arc X Z) W) (more : List X) → ((q : List ℕ) → get_by_text new q ≡ cond (bytes_eq name q) (Some now) (get_by_text old q)) → was ≡ unwrap_or (get_by_text old name) none → none.items ≡ [] → map (λ a. arc_value a) now.items ≡ map (λ a. arc_value a) was.items ++ more → (q : List ℕ) → versions_in new q ≡ versions_in old q ++ (if bytes_eq q name then more else [])
+pub versions_in-changed : {X Y Z W : Type 0} (old new : BTreeMap (String Y) (Vec (Arc X Z) W)) (name : List ℕ)
+    (was now none : Vec (Arc X Z) W) (more : List X)
+    → ((q : List ℕ) → get_by_text new q ≡ cond (bytes_eq name q) (Some now) (get_by_text old q))
+    → was ≡ unwrap_or (get_by_text old name) none → none.items ≡ []
+    → map (λ a. arc_value a) now.items ≡ map (λ a. arc_value a) was.items ++ more → (q : List ℕ)
+    → versions_in new q ≡ versions_in old q ++ (if bytes_eq q name then more else [])
 versions_in-changed {X} {Y} {Z} {W} old new name was now none more after is empty grown q =
-    let seen : Option (Vec (Arc X Z) W) → List X = λ o. map (λ a. arc_value a) (option_map_or (λ v. v.items) o []) in
+    let seen : Option (Vec (Arc X Z) W)
+    → List X = λ o. map (λ a. arc_value a) (option_map_or (λ v. v.items) o []) in
     let chosen : Bool → List X = λ b. versions_in old q ++ (if b then more else []) in
     let read : versions_in new q ≡ seen (cond (bytes_eq q name) (Some now) (get_by_text old q)) =
     ap seen (after q ∙ ap (λ (b : Bool). cond b (Some now) (get_by_text old q)) (bytes_eq-flip name q)) in
@@ -94,15 +130,23 @@ versions_in-changed {X} {Y} {Z} {W} old new name was now none more after is empt
       | inl t ↦
           let same : q ≡ name = (bytes_eq-Decides q name).0 t in
           read ∙ ap (λ (b : Bool). seen (cond b (Some now) (get_by_text old q))) t ∙ grown
-          ∙ ap (λ (zs : List X). zs ++ more) (sym (versions_in-here old name was none is empty) ∙ ap (versions_in old) (sym same))
+          ∙ ap (λ (zs : List X). zs ++ more) (sym (versions_in-here old name was none is empty)
+          ∙ ap (versions_in old) (sym same))
           ∙ ap chosen (sym t)
-      | inr f ↦ read ∙ ap (λ (b : Bool). seen (cond b (Some now) (get_by_text old q))) f ∙ sym (append-nil (versions_in old q)) ∙ ap chosen (sym f)
+      | inr f ↦ read ∙ ap (λ (b : Bool). seen (cond b (Some now) (get_by_text old q))) f
+          ∙ sym (append-nil (versions_in old q)) ∙ ap chosen (sym f)
     ]
 
 -- one name's list stayed as it was
-pub versions_in-kept : {X Y Z W : Type 0} (old new : BTreeMap (String Y) (Vec (Arc X Z) W)) (name : List ℕ) (was now none : Vec (Arc X Z) W) → ((q : List ℕ) → get_by_text new q ≡ cond (bytes_eq name q) (Some now) (get_by_text old q)) → was ≡ unwrap_or (get_by_text old name) none → none.items ≡ [] → map (λ a. arc_value a) now.items ≡ map (λ a. arc_value a) was.items → (q : List ℕ) → versions_in new q ≡ versions_in old q
+pub versions_in-kept : {X Y Z W : Type 0} (old new : BTreeMap (String Y) (Vec (Arc X Z) W)) (name : List ℕ)
+    (was now none : Vec (Arc X Z) W)
+    → ((q : List ℕ) → get_by_text new q ≡ cond (bytes_eq name q) (Some now) (get_by_text old q))
+    → was ≡ unwrap_or (get_by_text old name) none → none.items ≡ []
+    → map (λ a. arc_value a) now.items ≡ map (λ a. arc_value a) was.items → (q : List ℕ)
+    → versions_in new q ≡ versions_in old q
 versions_in-kept {X} old new name was now none after is empty same q =
-    versions_in-changed old new name was now none [] after is empty (same ∙ sym (append-nil (map (λ a. arc_value a) was.items))) q
+    versions_in-changed old new name was now none [] after is empty (same
+    ∙ sym (append-nil (map (λ a. arc_value a) was.items))) q
     ∙ nothing (bytes_eq q name) (versions_in old q) where
       nothing : (b : Bool) (xs : List X) → xs ++ (if b then [] else []) ≡ xs
       nothing true xs = append-nil xs

@@ -1,33 +1,312 @@
--- The status that a session ends with is Done only where its end was answered Ok, and a say fault only where one stopped it.
-use Rattle.std.proofs.Common.{◌≡◌, refl}
-use Rattle.std.specs.Prelude.{Result, Ok, Err, OnOk}
+-- How a session ends.
+--
+-- The key idea: between two reads, what was said is what the bytes so far tell. What all bytes tell, and what is told
+-- at their end, is the transcript; so what was said by then is a first part of it, and at the end it is the whole.
+use Rattle.std.proofs.Common.{◌≡◌, ℕ, ◌+◌, ◌<◌, ◌≤◌, List, []}
+use Rattle.std.proofs.Common.{◌++◌, length, take, drop, refl, sym, ap, ap₂, ◌∙◌, subst, append_assoc}
+use Rattle.std.proofs.Common.{arith, take-add, length-drop, Some, None, inl, inr}
+use Rattle.std.specs.Prelude.{Option, Result, Ok, Err, OnOk, ◌⊎◌}
+use Rattle.std.proofs.lemmas.List.{append-nil, take-append-drop, drop-drop, take_all}
+use Rattle.std.proofs.Math.Seq.{drop-length}
+use Rattle.sz_outside.specs.Outside.{Says, SaysPart, Rose, Gives, GivesNext, Keeps}
+use Rattle.sz_session.specs.Lines.{lines_of, Cut, cut, last_line}
+use Rattle.sz_session.specs.Holdings.{no_holdings}
+use Rattle.sz_session.specs.Transcript.{transcript, whole_replies}
+use Rattle.sz_session.specs.Moments.{Moment, moment_before, cut_after, told_in, moment_after, told_at_end, AreAlike}
+use Rattle.sz_session.specs.Serving.{Advances, SaysFirst, HasAnswered, Answered, AreAll, Done, SaidOfRead, SaidToLimit}
+use Rattle.sz_session.specs.Serving.{SaidInPart, SaidInLines, IsPastLimit, IsWithinLimit}
+use Rattle.sz_session.specs.Statuses.{stop_status, end_status, Ends, HasFault}
 use Rattle.sz_session.specs.declared.feed.Stop.{Stop}
 use Rattle.sz_session.specs.declared.feed.Stop.TheVariants as stop
 use Rattle.sz_session.specs.declared.serving.Status.{Status}
 use Rattle.sz_session.specs.declared.serving.Status.TheVariants as status
-use Rattle.sz_session.specs.Statuses.{end_status}
+use Rattle.sz_session.proofs.Cuts.{before_cut-nothing, lines_of-cut}
+use Rattle.sz_session.proofs.Moments.{cut_after-parts, told_in-parts, told_in-whole, transcript-told, told_at_end-alike}
+use Rattle.sz_session.proofs.Moments.{are_alike-same}
+use Rattle.sz_session.proofs.Turns.{says-nothing, says-then, says-quiet, part-longer, part-then, first-longer}
+use Rattle.sz_session.proofs.Turns.{advances-then, advances-part, advances-first, first-whole}
 
-pub ends-done : {A : Type 0} (r : Result (Unit {0}) Stop) (s : Status) → s ≡ end_status r → OnOk r A → s ≡ status.Done → A
-ends-done (Ok u) s is a e = a
-ends-done (Err stop.SayFault) s is a e = cc
-ends-done (Err stop.NoMemory) s is a e = cc
+-- ---- between two reads
 
-pub ends-say : {A : Type 0} (r : Result (Unit {0}) Stop) (s : Status) → s ≡ end_status r → (r ≡ Err stop.SayFault → A) → s ≡ status.SayFault → A
-ends-say (Ok u) s is f e = cc
-ends-say (Err stop.SayFault) s is f e = f refl
-ends-say (Err stop.NoMemory) s is f e = cc
+-- before the first byte
+abbrev start : Moment
+start = moment_before no_holdings
 
-pub ends-usage : (r : Result (Unit {0}) Stop) (s : Status) → s ≡ end_status r → s ≡ status.Usage → ⊥
-ends-usage (Ok u) s is e = cc
-ends-usage (Err stop.SayFault) s is e = cc
-ends-usage (Err stop.NoMemory) s is e = cc
+-- what the bytes so far told, and what is held
+so_far-advances : (bytes : List ℕ) (left a b : Option (List ℕ)) (m : Moment) (count : ℕ)
+    → HasAnswered bytes left a b m count → Advances a b start m (take count bytes)
+so_far-advances bytes left a b m count h =
+    let P : List ℕ → Type 0 = λ told. Says a b told in
+    record { says = subst P (sym (told_in-whole no_holdings (take count bytes))) h.says; alike = h.alike }
 
-pub ends-read : (r : Result (Unit {0}) Stop) (s : Status) → s ≡ end_status r → s ≡ status.ReadFault → ⊥
-ends-read (Ok u) s is e = cc
-ends-read (Err stop.SayFault) s is e = cc
-ends-read (Err stop.NoMemory) s is e = cc
+-- nothing was read yet
+pub answered-start : (left said : Option (List ℕ)) → Answered left left said said start 0
+answered-start None said = tt
+answered-start (Some bytes) said = record {
+  within = omega arith;
+  is_left = refl;
+  says = says-nothing said;
+  alike = are_alike-same start (moment_after start []) refl;
+}
 
-pub ends-limit : (r : Result (Unit {0}) Stop) (s : Status) → s ≡ end_status r → s ≡ status.InputLimit → ⊥
-ends-limit (Ok u) s is e = cc
-ends-limit (Err stop.SayFault) s is e = cc
-ends-limit (Err stop.NoMemory) s is e = cc
+-- the bytes so far, and those that a read gives
+front-more : (bytes buffer : List ℕ) (total count : ℕ) → take count buffer ≡ take count (drop total bytes)
+    → take total bytes ++ take count buffer ≡ take (total + count) bytes
+front-more bytes buffer total count same = ap (λ (xs : List ℕ). take total bytes ++ xs) same
+    ∙ sym (take-add total count bytes)
+
+-- what a read gave, where so many bytes were read before
+given-next : (bytes : List ℕ) (left next : Option (List ℕ)) (total count : ℕ) (buffer : List ℕ)
+    → left ≡ Some (drop total bytes)
+    → Gives left next buffer count → GivesNext (drop total bytes) next buffer count
+given-next bytes left next total count buffer is gives = let P : Option (List ℕ)
+    → Type 0 = λ o. Gives o next buffer count in subst P is gives
+
+-- a read and the turn that takes in what it gave
+pub answered-turn : (all left next a b c : Option (List ℕ)) (m n : Moment) (total count : ℕ) (buffer : List ℕ)
+    → Answered all left a b m total → Gives left next buffer count → Advances b c m n (take count buffer)
+    → Answered all next a c n (total + count)
+answered-turn None left next a b c m n total count buffer so_far gives turn = tt
+answered-turn (Some bytes) left next a b c m n total count buffer so_far gives turn =
+    let given = given-next bytes left next total count buffer so_far.is_left gives in
+    let P : List ℕ → Type 0 = λ told. Says a c told in
+    let Q : List ℕ → Type 0 = λ xs. Advances a c start n xs in
+    let both : Advances a c start n (take (total + count) bytes) =
+    subst Q (front-more bytes buffer total count given.bytes)
+    (advances-then a b c start m n (take total bytes) (take count buffer)
+    (so_far-advances bytes left a b m total so_far) turn) in
+    record {
+      within = omega (arith, so_far.within, given.fits, length-drop total bytes);
+      is_left = given.left ∙ ap (λ (xs : List ℕ). Some xs) (drop-drop count total bytes);
+      says = subst P (told_in-whole no_holdings (take (total + count) bytes)) both.says;
+      alike = both.alike;
+    }
+
+-- a read that gave no byte came to the end
+pub all-read : (all left next a b : Option (List ℕ)) (m : Moment) (total : ℕ) (buffer : List ℕ)
+    → 0 < length buffer
+    → Answered all left a b m total → Gives left next buffer 0 → AreAll all total
+all-read None left next a b m total buffer some so_far gives = tt
+all-read (Some bytes) left next a b m total buffer some so_far gives =
+    let given = given-next bytes left next total 0 buffer so_far.is_left gives in
+    let none : length (drop total bytes) ≡ 0 = ap (λ (xs : List ℕ). length xs) (given.end some refl) in
+    omega (arith, so_far.within, none, length-drop total bytes)
+
+-- ---- the transcript, and what the first of its bytes tell
+
+-- a transcript is what the first bytes tell, and more
+transcript-front : (bytes : List ℕ) (n : ℕ)
+    → (more : List ℕ) × (told_in start (take n bytes) ++ more ≡ transcript no_holdings bytes)
+transcript-front bytes n =
+    let first = told_in start (take n bytes) in
+    let rest = told_in (moment_after start (take n bytes)) (drop n bytes) in
+    let end = told_at_end (moment_after start bytes) in (
+      rest ++ end,
+      sym (append_assoc first rest end)
+          ∙ ap (λ (xs : List ℕ). xs ++ end) (sym (told_in-parts start (take n bytes) (drop n bytes))
+          ∙ ap (told_in start) (take-append-drop n bytes))
+          ∙ sym (transcript-told no_holdings bytes),
+    )
+
+-- lines that end in the first bytes are the first of all lines
+lines-front : (a b : Option (List ℕ)) (bytes : List ℕ) (n : ℕ)
+    → SaysFirst a b no_holdings 1 (cut_after start (take n bytes)).whole
+    → SaysFirst a b no_holdings 1 (lines_of bytes)
+lines-front a b bytes n p =
+    let first = (cut_after start (take n bytes)).whole in
+    let further = (cut_after (moment_after start (take n bytes)) (drop n bytes)).whole in
+    let last = last_line (cut bytes).last in
+    let P : List (List ℕ) → Type 0 = λ ls. SaysFirst a b no_holdings 1 ls in
+    let same : (first ++ further) ++ last ≡ lines_of bytes =
+    ap (λ (ls : List (List ℕ)). ls ++ last)
+    (sym (ap (λ (c : Cut). c.whole) (cut_after-parts start (take n bytes) (drop n bytes)))
+    ∙ ap (λ (xs : List ℕ). (cut_after start xs).whole) (take-append-drop n bytes)
+    ∙ ap (λ (c : Cut). c.whole) (before_cut-nothing (cut bytes)))
+    ∙ sym (lines_of-cut bytes) in
+    subst P same
+    (first-longer a b no_holdings 1 (first ++ further) last (first-longer a b no_holdings 1 first further p))
+
+-- what all bytes told, and what is told at their end, is the transcript
+whole-transcript : (bytes : List ℕ) (m : Moment) (total : ℕ) → total ≡ length bytes
+    → AreAlike m (moment_after start (take total bytes))
+    → told_in start (take total bytes) ++ told_at_end m ≡ transcript no_holdings bytes
+whole-transcript bytes m total is_all alike =
+    let whole : take total bytes ≡ bytes = take_all total bytes (omega (arith, is_all)) in
+    ap (λ (xs : List ℕ). told_in start (take total bytes) ++ xs)
+    (told_at_end-alike m (moment_after start (take total bytes)) alike)
+    ∙ ap (λ (xs : List ℕ). told_in start xs ++ told_at_end (moment_after start xs)) whole
+    ∙ sym (transcript-told no_holdings bytes)
+
+-- ---- endings
+
+-- every byte was read, and what is told at the end was said
+done : (limit : ℕ) (all left a b c : Option (List ℕ)) (m : Moment) (total : ℕ) → total ≤ limit
+    → Answered all left a b m total → AreAll all total → Says b c (told_at_end m) → Done limit all left a c
+done limit None left a b c m total le so_far is_all end = tt
+done limit (Some bytes) left a b c m total le so_far is_all end =
+    let none : drop total bytes ≡ [] = ap (λ (n : ℕ). drop n bytes) is_all ∙ drop-length bytes in
+    let front = so_far-advances bytes left a b m total so_far in
+    let P : List ℕ → Type 0 = λ told. Says a c told in (
+      so_far.is_left ∙ ap (λ (xs : List ℕ). Some xs) none,
+      omega (arith, is_all, le),
+      subst P (whole-transcript bytes m total is_all so_far.alike)
+          (says-then a b c (told_in start (take total bytes)) (told_at_end m) front.says end),
+    )
+
+-- a read failed between two lines or within one
+pub read-failed : (all left next a b : Option (List ℕ)) (m : Moment) (total : ℕ) → Answered all left a b m total
+    → Keeps left next → SaidOfRead all next a b
+read-failed None left next a b m total so_far keeps = tt
+read-failed (Some bytes) left next a b m total so_far keeps =
+    let P : Option (List ℕ) → Type 0 = λ o. Keeps o next in
+    (total, so_far.within, subst P so_far.is_left keeps, so_far.says)
+
+-- at the limit a further read gave a byte
+pub past-limit : (limit : ℕ) (all left next a b : Option (List ℕ)) (m : Moment) (total count : ℕ)
+    (buffer : List ℕ) → total ≡ limit → count ≡ 1
+    → Answered all left a b m total → Gives left next buffer count → SaidToLimit limit all next a b
+past-limit limit None left next a b m total count buffer at one so_far gives = tt
+past-limit limit (Some bytes) left next a b m total count buffer at one so_far gives =
+    let given = given-next bytes left next total count buffer so_far.is_left gives in
+    let P : ℕ → Type 0 = λ n. Says a b (whole_replies no_holdings (take n bytes)) in (
+      omega (arith, at, one, given.fits, length-drop total bytes),
+      given.left
+          ∙ ap (λ (xs : List ℕ). Some xs) (drop-drop count total bytes
+          ∙ ap₂ (λ (n k : ℕ). drop (n + k) bytes) at one),
+      subst P at so_far.says,
+    )
+
+-- a say failed in a turn
+turn-in_part : (all left next a b c : Option (List ℕ)) (m : Moment) (total count : ℕ) (buffer : List ℕ)
+    → Answered all left a b m total → Gives left next buffer count → SaysPart b c (told_in m (take count buffer))
+    → SaidInPart all a c
+turn-in_part None left next a b c m total count buffer so_far gives part = tt
+turn-in_part (Some bytes) left next a b c m total count buffer so_far gives part =
+    let given = given-next bytes left next total count buffer so_far.is_left gives in
+    let P : List ℕ → Type 0 = λ xs. SaysPart a c (told_in start xs) in
+    let Q : List ℕ → Type 0 = λ xs. SaysPart a c xs in
+    let both = subst P (front-more bytes buffer total count given.bytes)
+    (advances-part a b c start m (take total bytes) (take count buffer)
+    (so_far-advances bytes left a b m total so_far) part) in
+    let front = transcript-front bytes (total + count) in
+    subst Q front.1 (part-longer a c (told_in start (take (total + count) bytes)) front.0 both)
+
+-- memory was refused in a turn
+turn-in_lines : (all left next a b c : Option (List ℕ)) (m : Moment) (total count : ℕ) (buffer : List ℕ)
+    → Answered all left a b m total → Gives left next buffer count
+    → SaysFirst b c m.catalogue m.number (cut_after m (take count buffer)).whole → SaidInLines all a c
+turn-in_lines None left next a b c m total count buffer so_far gives first = tt
+turn-in_lines (Some bytes) left next a b c m total count buffer so_far gives first =
+    let given = given-next bytes left next total count buffer so_far.is_left gives in
+    let P : List ℕ → Type 0 = λ xs. SaysFirst a c no_holdings 1 (cut_after start xs).whole in
+    lines-front a c bytes (total + count) (subst P (front-more bytes buffer total count given.bytes)
+    (advances-first a b c start m (take total bytes) (take count buffer)
+    (so_far-advances bytes left a b m total so_far) first))
+
+-- a say failed at the end
+end-in_part : (all left a b c : Option (List ℕ)) (m : Moment) (total : ℕ)
+    → Answered all left a b m total → AreAll all total → SaysPart b c (told_at_end m) → SaidInPart all a c
+end-in_part None left a b c m total so_far is_all part = tt
+end-in_part (Some bytes) left a b c m total so_far is_all part =
+    let front = so_far-advances bytes left a b m total so_far in
+    let P : List ℕ → Type 0 = λ xs. SaysPart a c xs in
+    subst P (whole-transcript bytes m total is_all so_far.alike)
+    (part-then a b c (told_in start (take total bytes)) (told_at_end m) front.says part)
+
+-- memory was refused at the end
+end-in_lines : (all left a b c : Option (List ℕ)) (m : Moment) (total : ℕ) → Answered all left a b m total
+    → Says b c [] → SaidInLines all a c
+end-in_lines None left a b c m total so_far nothing = tt
+end-in_lines (Some bytes) left a b c m total so_far nothing =
+    let front = so_far-advances bytes left a b m total so_far in
+    let told = told_in start (take total bytes) in
+    let P : List ℕ → Type 0 = λ xs. SaysFirst a c no_holdings 1 (cut_after start xs).whole in
+    lines-front a c bytes total (subst P (append-nil (take total bytes))
+    (first-whole a c start (take total bytes) [] (says-quiet a b c told front.says nothing)))
+
+-- memory was refused before the first read
+pub none-in_lines : (all said : Option (List ℕ)) → SaidInLines all said said
+none-in_lines None said = tt
+none-in_lines (Some bytes) said = record { many = 0; within = omega arith; says = says-nothing said }
+
+-- ---- statuses
+
+-- a turn that stopped
+pub turn-ends : (s : Stop) (limit : ℕ) (all left next a b c : Option (List ℕ)) (m : Moment) (total count : ℕ)
+    (buffer : List ℕ)
+    → Answered all left a b m total → Gives left next buffer count
+    → (s ≡ stop.SayFault → SaysPart b c (told_in m (take count buffer)))
+    → (s ≡ stop.NoMemory → SaysFirst b c m.catalogue m.number (cut_after m (take count buffer)).whole)
+    → Ends (stop_status s) limit all next a c
+turn-ends stop.SayFault limit all left next a b c m total count buffer so_far gives part first =
+    turn-in_part all left next a b c m total count buffer so_far gives (part refl)
+turn-ends stop.NoMemory limit all left next a b c m total count buffer so_far gives part first =
+    turn-in_lines all left next a b c m total count buffer so_far gives (first refl)
+
+-- the end of the source
+pub end-ends : (r : Result (Unit {0}) Stop) (limit : ℕ) (all left a b c : Option (List ℕ)) (m : Moment)
+    (total : ℕ) → total ≤ limit
+    → Answered all left a b m total → AreAll all total
+    → OnOk r (Says b c (told_at_end m)) → (r ≡ Err stop.SayFault → SaysPart b c (told_at_end m))
+    → (r ≡ Err stop.NoMemory → Says b c [])
+    → Ends (end_status r) limit all left a c
+end-ends (Ok u) limit all left a b c m total le so_far is_all whole part nothing =
+    done limit all left a b c m total le so_far is_all whole
+end-ends (Err stop.SayFault) limit all left a b c m total le so_far is_all whole part nothing =
+    end-in_part all left a b c m total so_far is_all (part refl)
+end-ends (Err stop.NoMemory) limit all left a b c m total le so_far is_all whole part nothing =
+    end-in_lines all left a b c m total so_far (nothing refl)
+
+-- the fault of a turn that stopped
+pub turn-fault : (s : Stop) (reads reads' says says' : ℕ) → (s ≡ stop.SayFault → Rose says says')
+    → HasFault (stop_status s) reads reads' says says'
+turn-fault stop.SayFault reads reads' says says' rose = rose refl
+turn-fault stop.NoMemory reads reads' says says' rose = tt
+
+-- the fault of an end
+pub end-fault : (r : Result (Unit {0}) Stop) (reads reads' says says' : ℕ)
+    → (r ≡ Err stop.SayFault → Rose says says') → HasFault (end_status r) reads reads' says says'
+end-fault (Ok u) reads reads' says says' rose = tt
+end-fault (Err stop.SayFault) reads reads' says says' rose = rose refl
+end-fault (Err stop.NoMemory) reads reads' says says' rose = tt
+
+-- a fault that is counted after a time in which no count fell
+pub fault-later : (s : Status) (r r' r'' t t' t'' : ℕ) → r ≤ r' → t ≤ t' → HasFault s r' r'' t' t''
+    → HasFault s r r'' t t''
+fault-later status.Done r r' r'' t t' t'' le le' h = tt
+fault-later status.Usage r r' r'' t t' t'' le le' h = tt
+fault-later status.ReadFault r r' r'' t t' t'' le le' h = omega (arith, h)
+fault-later status.SayFault r r' r'' t t' t'' le le' h = omega (arith, h)
+fault-later status.NoMemory r r' r'' t t' t'' le le' h = tt
+fault-later status.InputLimit r r' r'' t t' t'' le le' h = tt
+
+-- what a status tells, where the session ended with it
+pub ends-with : (s t : Status) (limit : ℕ) (all left a b : Option (List ℕ)) → Ends s limit all left a b
+    → s ≡ t → Ends t limit all left a b
+ends-with s t limit all left a b h is = let P : Status → Type 0 = λ s. Ends s limit all left a b in subst P is h
+
+-- and the fault that it names
+pub fault-of : (s t : Status) (r r' q q' : ℕ) → HasFault s r r' q q' → s ≡ t → HasFault t r r' q q'
+fault-of s t r r' q q' h is = let P : Status → Type 0 = λ s. HasFault s r r' q q' in subst P is h
+
+-- past the limit there were more bytes than it has
+pub limit-passed : (limit : ℕ) (all left a b : Option (List ℕ)) → SaidToLimit limit all left a b
+    → IsPastLimit limit all
+limit-passed limit None left a b h = tt
+limit-passed limit (Some bytes) left a b h = h.0
+
+-- a session within the limit, with no fault counted, is done unless memory was refused
+pub completes : (s : Status) (limit : ℕ) (all left a b : Option (List ℕ)) (r r' q q' : ℕ)
+    → Ends s limit all left a b → HasFault s r r' q q'
+    → IsWithinLimit limit all → (Rose r r' → ⊥) → (Rose q q' → ⊥)
+    → (s ≡ status.Done) ⊎ (s ≡ status.NoMemory)
+completes status.Done limit all left a b r r' q q' ends fault within no_read no_say = inl refl
+completes status.Usage limit all left a b r r' q q' ends fault within no_read no_say = absurd ends
+completes status.ReadFault limit all left a b r r' q q' ends fault within no_read no_say = absurd (no_read fault)
+completes status.SayFault limit all left a b r r' q q' ends fault within no_read no_say = absurd (no_say fault)
+completes status.NoMemory limit all left a b r r' q q' ends fault within no_read no_say = inr refl
+completes status.InputLimit limit all left a b r r' q q' ends fault within no_read no_say =
+    absurd (over all within ends) where
+      over : (all : Option (List ℕ)) → IsWithinLimit limit all → SaidToLimit limit all left a b → ⊥
+      over None within past = within
+      over (Some bytes) within past = omega (arith, within, past.0)

@@ -1,3 +1,4 @@
+-- The files of lemmas and of worked rows.
 mod ReadingLists
 mod ReadingFields
 mod ReadingLines
@@ -9,11 +10,13 @@ pub mod Ends
 pub mod CatalogueNames
 pub mod CatalogueOutputs
 pub mod Asks
-pub mod CatalogueSteps
+pub mod CatalogueChanges
 pub mod LawsLines
 pub mod LawsSessions
 pub mod LawsRefusals
 pub mod LawsAsks
 mod Rows
 mod SessionRows
-pub mod Longs
+mod RowsServing
+pub mod Blanks
+pub mod Moments

@@ -1,5 +1,7 @@
 -- The fields of an object: their number, and that each is there. The items of a list of one or of two.
-use Rattle.std.proofs.Common.{◌≡◌, ◌≢◌, ◌+◌, ◌<◌, ℕ, suc, List, [], ◌∷◌, ◌&&◌, ◌==◌, length, get_or, take, Bool, true, false, Bor, eq-eqb, Option, Some, None, option_map, map, is_some, ap, ◌∙◌, refl, sym, arith}
+use Rattle.std.proofs.Common.{◌≡◌, ◌≢◌, ◌+◌, ◌<◌, ℕ, suc, List, [], ◌∷◌, ◌&&◌, ◌==◌}
+use Rattle.std.proofs.Common.{length, get_or, take, Bool, true, false, Bor, eq-eqb, Option, Some, None, option_map, map}
+use Rattle.std.proofs.Common.{is_some, ap, ◌∙◌, refl, sym, arith}
 use Rattle.std.specs.List.{list_all}
 use Rattle.std.specs.declared.alloc.Global.{Global}
 use Rattle.std.specs.Prelude.{String}
@@ -16,7 +18,8 @@ use Rattle.sz_session.specs.Reading.{member_count, has_fields, one_item, two_ite
 
 pub member_count-members_view : (es : List (String Global × Value)) → member_count (members_view es) ≡ length es
 member_count-members_view [] = refl
-member_count-members_view (e ∷ es) = let same : member_count (members_view es) ≡ length es = member_count-members_view es in
+member_count-members_view (e ∷ es) = let same : member_count (members_view es) ≡ length es =
+    member_count-members_view es in
     let more : member_count (members_view es) + 1 ≡ suc (length es) = omega arith in more
 
 pub has_fields-object : (names : List (List ℕ)) (d : Data) (ms : Members) → as_object d ≡ Some ms
@@ -42,33 +45,46 @@ not_two (x ∷ y ∷ z ∷ xs) ne = refl
 
 -- the same of texts behind references
 pub has_fields-texts : (names : List (Bor (List ℕ))) (d : Data) (ms : Members) → as_object d ≡ Some ms
-    → has_fields (map (λ n. n.now) names) d ≡ ((member_count ms == length names) && list_all (λ n. is_some (get n.now d)) names)
+    → has_fields (map (λ n. n.now) names) d
+    ≡ ((member_count ms == length names) && list_all (λ n. is_some (get n.now d)) names)
 has_fields-texts names d ms e = has_fields-object (map (λ n. n.now) names) d ms e
-    ∙ ap (λ (n : ℕ). (member_count ms == n) && list_all (λ k. is_some (get k d)) (map (λ n. n.now) names)) (length-map names (λ (n : Bor (List ℕ)). n.now))
-    ∙ ap (λ (b : Bool). (member_count ms == length names) && b) (list_all-map (λ k. is_some (get k d)) (λ n. n.now) names)
+    ∙ ap (λ (n : ℕ). (member_count ms == n)
+    && list_all (λ k. is_some (get k d)) (map (λ n. n.now) names)) (length-map names (λ (n : Bor (List ℕ)). n.now))
+    ∙ ap (λ (b : Bool). (member_count ms == length names)
+    && b) (list_all-map (λ k. is_some (get k d)) (λ n. n.now) names)
 
-pub fewer_fields : (names : List (Bor (List ℕ))) (d : Data) (es : List (String Global × Value)) → as_object d ≡ Some (members_view es) → length es ≢ length names
+pub fewer_fields : (names : List (Bor (List ℕ))) (d : Data) (es : List (String Global × Value))
+    → as_object d ≡ Some (members_view es) → length es ≢ length names
     → has_fields (map (λ n. n.now) names) d ≡ false
 fewer_fields names d es e ne = has_fields-texts names d (members_view es) e
-    ∙ ap (λ (n : ℕ). (n == length names) && list_all (λ n. is_some (get n.now d)) names) (member_count-members_view es)
+    ∙ ap (λ (n : ℕ). (n == length names)
+    && list_all (λ n. is_some (get n.now d)) names) (member_count-members_view es)
     ∙ ap (λ (b : Bool). b && list_all (λ n. is_some (get n.now d)) names) (ne_eqb _ _ ne)
 
 -- where a look-up finds nothing, nothing is there
-gone : (r : Option (Bor Value)) (o : Option Data) → option_map {T = Bor Value} {U = Data} (λ v. view v.now) r ≡ o → is_some r ≡ false → is_some o ≡ false
+gone : (r : Option (Bor Value)) (o : Option Data) → option_map {T = Bor Value} {U = Data} (λ v. view v.now) r ≡ o
+    → is_some r ≡ false → is_some o ≡ false
 gone None o e none = ap is_some (sym e)
 gone (Some v) o e none = cc
 
-pub no_field : (names : List (Bor (List ℕ))) (d : Data) (ms : Members) (i : ℕ) (name : Bor (List ℕ)) (r : Option (Bor Value)) → as_object d ≡ Some ms → i < length names
-    → option_map {T = Bor Value} {U = Data} (λ v. view v.now) r ≡ get (get_or names i name).now d → is_some r ≡ false → has_fields (map (λ n. n.now) names) d ≡ false
+pub no_field : (names : List (Bor (List ℕ))) (d : Data) (ms : Members) (i : ℕ) (name : Bor (List ℕ))
+    (r : Option (Bor Value)) → as_object d ≡ Some ms → i < length names
+    → option_map {T = Bor Value} {U = Data} (λ v. view v.now) r ≡ get (get_or names i name).now d
+    → is_some r ≡ false → has_fields (map (λ n. n.now) names) d ≡ false
 no_field names d ms i name r e lt found none = has_fields-texts names d ms e
-    ∙ ap (λ (b : Bool). (member_count ms == length names) && b) (list_all_at (λ n. is_some (get n.now d)) names i name lt (gone r _ found none))
+    ∙ ap (λ (b : Bool). (member_count ms == length names)
+    && b) (list_all_at (λ n. is_some (get n.now d)) names i name lt (gone r _ found none))
     ∙ and-false (member_count ms == length names)
 
-pub all_fields : (names : List (Bor (List ℕ))) (d : Data) (es : List (String Global × Value)) (i : ℕ) → as_object d ≡ Some (members_view es) → length es ≡ length names
-    → i ≡ length names → list_all (λ n. is_some (get n.now d)) (take i names) ≡ true → has_fields (map (λ n. n.now) names) d ≡ true
+pub all_fields : (names : List (Bor (List ℕ))) (d : Data) (es : List (String Global × Value)) (i : ℕ)
+    → as_object d ≡ Some (members_view es) → length es ≡ length names
+    → i ≡ length names → list_all (λ n. is_some (get n.now d)) (take i names) ≡ true
+    → has_fields (map (λ n. n.now) names) d ≡ true
 all_fields names d es i e long end each =
     let whole : take i names ≡ names = ap (λ (n : ℕ). take n names) end ∙ take-length names in
     has_fields-texts names d (members_view es) e
-    ∙ ap (λ (n : ℕ). (n == length names) && list_all (λ n. is_some (get n.now d)) names) (member_count-members_view es ∙ long)
-    ∙ ap (λ (b : Bool). b && list_all (λ n. is_some (get n.now d)) names) (eq-eqb (length names) (length names) refl)
+    ∙ ap (λ (n : ℕ). (n == length names)
+    && list_all (λ n. is_some (get n.now d)) names) (member_count-members_view es ∙ long)
+    ∙ ap (λ (b : Bool). b
+    && list_all (λ n. is_some (get n.now d)) names) (eq-eqb (length names) (length names) refl)
     ∙ ap (list_all (λ n. is_some (get n.now d))) (sym whole) ∙ each

@@ -2,16 +2,17 @@
 use Rattle.std.specs.Prelude.{◌≡◌, ℕ, pos, negsuc, true, false, [], ◌∷◌, ◌++◌, codes, Some, None}
 use Rattle.std.specs.Fmt.{digits}
 use Rattle.std.proofs.Common.{refl}
-use Rattle.sz_spec.specs.declared.Dir.TheVariants.{Back}
+use Rattle.sz_cells.specs.Extent.{flat}
+use Rattle.sz_spec.specs.declared.modes.Dir.TheVariants.{Back}
 use Rattle.sz_spec.specs.Values.{Grid}
 use Rattle.sz_spec.specs.Flows.{evaluations}
 use Rattle.sz_session.specs.Lines.{lines_of, is_blank}
 use Rattle.sz_session.specs.Orders.{hold_array, hold_flow, start, await, ask}
 use Rattle.sz_session.specs.Reading.{negation, is_name}
-use Rattle.sz_session.specs.Catalogues.{Catalogue, empty, named, numbered, array_version, held_cells}
-use Rattle.sz_session.specs.Steps.{after_order}
-use Rattle.sz_session.specs.Replies.{array_held, flow_held, started, done, cells, refused, reply_text, reply_line}
-use Rattle.sz_session.specs.Output.{output_of}
+use Rattle.sz_session.specs.Holdings.{Holdings, no_holdings, things_named, thing_numbered, array_version, held_cells}
+use Rattle.sz_session.specs.Changes.{after_order}
+use Rattle.sz_session.specs.Responses.{array_held, flow_held, started, done, cells, refused, reply_text, reply_line}
+use Rattle.sz_session.specs.Transcript.{transcript}
 
 -- ---- lines
 
@@ -36,7 +37,7 @@ blank-line = refl
 blank-other : is_blank (32 ∷ 11 ∷ []) ≡ false
 blank-other = refl
 
-blank-output : output_of empty (32 ∷ 10 ∷ 13 ∷ 10 ∷ []) ≡ []
+blank-output : transcript no_holdings (32 ∷ 10 ∷ 13 ∷ 10 ∷ []) ≡ []
 blank-output = refl
 
 -- ---- names
@@ -53,41 +54,47 @@ name-upper = refl
 -- ---- the smallest session: its orders, what each leaves, and its reply
 
 abbrev one-cell : Grid
-one-cell = record { extent = record { rows = 1; cols = 1 }; values = Some (pos 5) ∷ [] }
+one-cell = record { extent = flat 1 1; values = Some (pos 5) ∷ [] }
 
 -- the array `a` is held
-abbrev with_array : Catalogue
+abbrev with_array : Holdings
 with_array = record { arrays = record { name = codes "a"; thing = one-cell } ∷ []; flows = []; versions = [] }
 
 -- then the flow `f`
-abbrev with_flow : Catalogue
+abbrev with_flow : Holdings
 with_flow = record with_array { flows = record { name = codes "f"; thing = negation } ∷ [] }
 
 -- then version 1 of it on version 1 of the array
-abbrev with_version : Catalogue
-with_version = record with_flow { versions = record { flow = negation; base = one-cell ∷ []; awaited = false } ∷ [] }
+abbrev with_version : Holdings
+with_version =
+    record with_flow { versions = record { flow = negation; base = one-cell ∷ []; awaited = false } ∷ [] }
 
 -- then that version is awaited
-abbrev with_awaited : Catalogue
+abbrev with_awaited : Holdings
 with_awaited = record with_flow { versions = record { flow = negation; base = one-cell ∷ []; awaited = true } ∷ [] }
 
-array-held : after_order empty (hold_array (codes "a") one-cell) ≡ Some (with_array, array_held (codes "a") 1)
+array-held : after_order no_holdings (hold_array (codes "a") one-cell) ≡ Some (with_array, array_held (codes "a") 1)
 array-held = refl
 
 flow-held : after_order with_array (hold_flow (codes "f") negation) ≡ Some (with_flow, flow_held (codes "f"))
 flow-held = refl
 
-version-started : after_order with_flow (start (codes "f") (record { name = codes "a"; version = 1 } ∷ [])) ≡ Some (with_version, started 1)
+version-started : after_order with_flow (start (codes "f") (record { name = codes "a"; version = 1 } ∷ []))
+    ≡ Some (with_version, started 1)
 version-started = refl
 
 version-awaited : after_order with_version (await 1) ≡ Some (with_awaited, done 1)
 version-awaited = refl
 
-cells-asked : after_order with_awaited (ask 1 Back (record { node = 0; input = 0 } ∷ []) (record { row = 0; col = 0 } ∷ []))
-    ≡ Some (with_awaited, cells (record { extent = record { rows = 1; cols = 1 }; indexes = 0 ∷ [] }))
+cells-asked : after_order with_awaited
+    (ask 1 Back (record { node = 0; input = 0 } ∷ []) (record { row = 0; col = 0 } ∷ []))
+    ≡ Some (with_awaited, cells (record { extent = flat 1 1; indexes = 0 ∷ [] }))
 cells-asked = refl
 
-output-negated : evaluations negation (one-cell ∷ []) ≡ record { extent = record { rows = 1; cols = 1 }; values = Some (negsuc 4) ∷ [] } ∷ []
+output-negated : evaluations negation (one-cell ∷ []) ≡ record {
+  extent = flat 1 1;
+  values = Some (negsuc 4) ∷ [];
+} ∷ []
 output-negated = refl
 
 -- ---- what is held, looked up
@@ -105,14 +112,25 @@ array-other_name : array_version with_array (codes "b") 1 ≡ None
 array-other_name = refl
 
 array-next_version : after_order with_array (hold_array (codes "a") one-cell)
-    ≡ Some (record with_array { arrays = record { name = codes "a"; thing = one-cell } ∷ record { name = codes "a"; thing = one-cell } ∷ [] }, array_held (codes "a") 2)
+    ≡ Some (
+      record with_array {
+        arrays =
+            record { name = codes "a"; thing = one-cell } ∷ record { name = codes "a"; thing = one-cell } ∷ [];
+      },
+      array_held (codes "a") 2,
+    )
 array-next_version = refl
 
-named-apart : named {X = ℕ} (codes "a") (record { name = codes "a"; thing = 1 } ∷ record { name = codes "b"; thing = 2 } ∷ record { name = codes "a"; thing = 3 } ∷ []) ≡ 1 ∷ 3 ∷ []
-named-apart = refl
+things_named-apart : things_named {X =
+    ℕ} (codes "a") (record { name = codes "a"; thing = 1 } ∷ record {
+      name = codes "b";
+      thing =
+          2;
+    } ∷ record { name = codes "a"; thing = 3 } ∷ []) ≡ 1 ∷ 3 ∷ []
+things_named-apart = refl
 
-numbered-from_1 : numbered {X = ℕ} 2 (7 ∷ 8 ∷ 9 ∷ []) ≡ Some 8
-numbered-from_1 = refl
+thing_numbered-from_1 : thing_numbered {X = ℕ} 2 (7 ∷ 8 ∷ 9 ∷ []) ≡ Some 8
+thing_numbered-from_1 = refl
 
 held-counted : held_cells with_awaited ≡ 2
 held-counted = refl
@@ -140,12 +158,13 @@ ask-along_nothing = refl
 ask-of_another_input : after_order with_awaited (ask 1 Back (record { node = 0; input = 1 } ∷ []) []) ≡ None
 ask-of_another_input = refl
 
-ask-outside : after_order with_awaited (ask 1 Back (record { node = 0; input = 0 } ∷ []) (record { row = 0; col = 1 } ∷ [])) ≡ None
+ask-outside : after_order with_awaited
+    (ask 1 Back (record { node = 0; input = 0 } ∷ []) (record { row = 0; col = 1 } ∷ [])) ≡ None
 ask-outside = refl
 
 -- an ask does not wait for the version to be awaited, and may name no cell
 ask-of_nothing : after_order with_version (ask 1 Back (record { node = 0; input = 0 } ∷ []) [])
-    ≡ Some (with_version, cells (record { extent = record { rows = 1; cols = 1 }; indexes = [] }))
+    ≡ Some (with_version, cells (record { extent = flat 1 1; indexes = [] }))
 ask-of_nothing = refl
 
 -- ---- reply lines
@@ -166,11 +185,13 @@ text-of_await : reply_line 4 (done 1) ≡ codes "4 done 1" ++ 10 ∷ []
 unfolding digits
 text-of_await = refl
 
-text-of_cells : reply_line 15 (cells (record { extent = record { rows = 2; cols = 3 }; indexes = 0 ∷ 4 ∷ [] })) ≡ codes "15 cells 2 0,0 1,1" ++ 10 ∷ []
+text-of_cells : reply_line 15 (cells (record { extent = flat 2 3; indexes = 0 ∷ 4 ∷ [] }))
+    ≡ codes "15 cells 2 0,0 1,1" ++ 10 ∷ []
 unfolding digits
 text-of_cells = refl
 
-text-of_no_cells : reply_text (cells (record { extent = record { rows = 2; cols = 3 }; indexes = [] })) ≡ codes "cells 0"
+text-of_no_cells : reply_text (cells (record { extent = flat 2 3; indexes = [] }))
+    ≡ codes "cells 0"
 unfolding digits
 text-of_no_cells = refl
 

@@ -4,23 +4,29 @@ use Rattle.std.specs.Fmt.{digits}
 use Rattle.std.specs.Str.{is_utf8, chars}
 use Rattle.std.proofs.Common.{refl}
 use Rattle.serde_json.proofs.OnLiterals.{serde_json_on_literals}
-use Rattle.sz_spec.specs.declared.Dir.TheVariants.{Back}
+use Rattle.sz_spec.specs.declared.modes.Dir.TheVariants.{Back}
 use Rattle.sz_session.specs.Orders.{hold_array, hold_flow, start, await, ask}
 use Rattle.sz_session.specs.Reading.{negation, reading}
-use Rattle.sz_session.specs.Catalogues.{empty}
-use Rattle.sz_session.specs.Output.{output_of}
+use Rattle.sz_session.specs.Holdings.{no_holdings}
+use Rattle.sz_session.specs.Transcript.{transcript}
 
 -- ---- lines and the orders that they are
 
-line-array : reading (codes "{\"array\":\"a\",\"cells\":[[5,null]]}") ≡ Ok (hold_array (codes "a") (record { extent = record { rows = 1; cols = 2 }; values = Some (pos 5) ∷ None ∷ [] }))
+line-array : reading (codes "{\"array\":\"a\",\"cells\":[[5,null]]}")
+    ≡ Ok (hold_array (codes "a") (record {
+      extent = record { layers = 1; rows = 1; cols = 2 };
+      values = Some (pos 5) ∷ None ∷ [];
+    }))
 unfolding serde_json_on_literals is_utf8 chars
 line-array = refl
 
-line-flow : reading (codes "{\"flow\":\"f\",\"inputs\":1,\"nodes\":[{\"op\":\"neg\",\"from\":[{\"i\":0}]}]}") ≡ Ok (hold_flow (codes "f") negation)
+line-flow : reading (codes "{\"flow\":\"f\",\"inputs\":1,\"nodes\":[{\"op\":\"neg\",\"from\":[{\"i\":0}]}]}")
+    ≡ Ok (hold_flow (codes "f") negation)
 unfolding serde_json_on_literals is_utf8 chars
 line-flow = refl
 
-line-start : reading (codes "{\"start\":\"f\",\"base\":[[\"a\",1]]}") ≡ Ok (start (codes "f") (record { name = codes "a"; version = 1 } ∷ []))
+line-start : reading (codes "{\"start\":\"f\",\"base\":[[\"a\",1]]}")
+    ≡ Ok (start (codes "f") (record { name = codes "a"; version = 1 } ∷ []))
 unfolding serde_json_on_literals is_utf8 chars
 line-start = refl
 
@@ -66,9 +72,12 @@ line-field_twice = refl
 
 -- ---- the smallest session, with a blank line and a line of a form that is none
 
-whole-session : output_of empty (codes "{\"array\":\"a\",\"cells\":[[5]]}" ++ 10 ∷ codes "{\"flow\":\"f\",\"inputs\":1,\"nodes\":[{\"op\":\"neg\",\"from\":[{\"i\":0}]}]}"
-    ++ 10 ∷ codes "{\"start\":\"f\",\"base\":[[\"a\",1]]}" ++ 10 ∷ codes "{\"await\":1}" ++ 10 ∷ 10 ∷ codes "{\"ask\":1,\"dir\":\"back\",\"path\":[[0,0]],\"cells\":[[0,0]]}"
+whole-session : transcript no_holdings (codes "{\"array\":\"a\",\"cells\":[[5]]}"
+    ++ 10 ∷ codes "{\"flow\":\"f\",\"inputs\":1,\"nodes\":[{\"op\":\"neg\",\"from\":[{\"i\":0}]}]}"
+    ++ 10 ∷ codes "{\"start\":\"f\",\"base\":[[\"a\",1]]}" ++ 10 ∷ codes "{\"await\":1}"
+    ++ 10 ∷ 10 ∷ codes "{\"ask\":1,\"dir\":\"back\",\"path\":[[0,0]],\"cells\":[[0,0]]}"
     ++ 10 ∷ codes "{\"show\":1,\"node\":0}")
-    ≡ codes "1 array a 1" ++ 10 ∷ codes "2 flow f" ++ 10 ∷ codes "3 started 1" ++ 10 ∷ codes "4 done 1" ++ 10 ∷ codes "6 cells 1 0,0" ++ 10 ∷ codes "7 refused 21" ++ 10 ∷ []
+    ≡ codes "1 array a 1" ++ 10 ∷ codes "2 flow f" ++ 10 ∷ codes "3 started 1" ++ 10 ∷ codes "4 done 1"
+    ++ 10 ∷ codes "6 cells 1 0,0" ++ 10 ∷ codes "7 refused 21" ++ 10 ∷ []
 unfolding serde_json_on_literals is_utf8 chars digits
 whole-session = refl

@@ -1,16 +1,21 @@
 -- Which order a JSON value is, by its form.
-use Rattle.std.specs.Prelude.{ℕ, ◌+◌, ◌^◌, ℤ, List, [], ◌∷◌, length, codes, Bool, false, ◌&&◌, ◌||◌, ◌==◌, nat_lt, nat_le, if◌then◌else◌, Option, Some, None, is_some, option_and_then, option_map, Result, Ok, Err}
+use Rattle.std.specs.Prelude.{ℕ, ◌+◌, ◌^◌, ℤ, List, [], ◌∷◌, length, codes, Bool, false, ◌&&◌}
+use Rattle.std.specs.Prelude.{◌||◌, ◌==◌, nat_lt, nat_le, if◌then◌else◌, Option, Some, None}
+use Rattle.std.specs.Prelude.{is_some, option_and_then, option_map, Result, Ok, Err}
 use Rattle.std.specs.List.{list_all, flat_map}
 use Rattle.std.specs.Str.{bytes_eq, is_utf8}
-use Rattle.serde_json.specs.Data.{Data, null, boolean, number, string, array, object, Items, no_items, item, Members, no_members, member}
-use Rattle.serde_json.specs.Find.{get, get_member, as_number, as_str, as_array, as_object, as_u64, as_i64}
+use Rattle.serde_json.specs.Data.{Data, null, boolean, number, string, array, object, Items}
+use Rattle.serde_json.specs.Data.{no_items, item, Members, no_members, member}
+use Rattle.serde_json.specs.Find.{get, get_member, as_number, as_str, as_array, as_object, as_u64}
+use Rattle.serde_json.specs.Find.{as_i64}
 use Rattle.serde_json.specs.Read.{read}
-use Rattle.sz_cells.specs.Extent.{is_shape}
+use Rattle.sz_cells.specs.Extent.{is_shape, flat}
 use Rattle.sz_cells.specs.declared.Cell.{Cell}
-use Rattle.sz_spec.specs.declared.Op.TheVariants.{Neg}
-use Rattle.sz_spec.specs.declared.Dir.TheVariants.{Back}
+use Rattle.sz_spec.specs.declared.op.Op.TheVariants.{Neg}
+use Rattle.sz_spec.specs.declared.modes.Dir.TheVariants.{Back}
 use Rattle.sz_spec.specs.Values.{Grid}
-use Rattle.sz_spec.specs.Flows.{input, Flow}
+use Rattle.sz_spec.specs.declared.flow.SourceRef.TheVariants.{Input}
+use Rattle.sz_spec.specs.Flows.{Graph}
 use Rattle.sz_spec.specs.Paths.{Step}
 use Rattle.sz_session.specs.Lines.{line_limit}
 use Rattle.sz_session.specs.Orders.{Base, Order, hold_array, hold_flow, start, await, ask}
@@ -24,10 +29,12 @@ abbrev pub member_count : Members → ℕ
 member_count no_members = 0
 member_count (member k d ms) = member_count ms + 1
 
--- An object with exactly these fields: each of them, and no more members. (An object has each key once.)
+-- An object with exactly these fields: each of them, and no more members. (An object has each key
+-- once.)
 abbrev pub are_fields : List (List ℕ) → Option Members → Bool
 are_fields names None = false
-are_fields names (Some ms) = (member_count ms == length names) && list_all (λ k. is_some (get_member k ms)) names
+are_fields names (Some ms) = (member_count ms == length names)
+    && list_all (λ k. is_some (get_member k ms)) names
 
 abbrev pub has_fields : List (List ℕ) → Data → Bool
 has_fields names d = are_fields names (as_object d)
@@ -62,7 +69,9 @@ one_item _ = None
 
 -- a whole number from 0 to 4,294,967,295
 abbrev pub number_of : Data → Option ℕ
-number_of d = option_and_then (λ n. only_if (nat_lt n (2 ^ 32)) (Some n)) (option_and_then as_u64 (as_number d))
+number_of d =
+    option_and_then (λ n. only_if (nat_lt n (2 ^ 32)) (Some n))
+    (option_and_then as_u64 (as_number d))
 
 -- a to z, 0 to 9 or _
 abbrev pub is_name_byte : ℕ → Bool
@@ -100,20 +109,25 @@ width (r ∷ rows) = length r
 
 -- rows of one length make an array, where there is a cell and not too many of them
 abbrev pub grid_of : List (List (Option ℤ)) → Option Grid
-grid_of rows = only_if (list_all (λ r. length r == width rows) rows && is_shape (length rows) (width rows))
-    (Some (record { extent = record { rows = length rows; cols = width rows }; values = flat_map (λ r. r) rows }))
+grid_of rows =
+    only_if (list_all (λ r. length r == width rows) rows && is_shape (length rows) (width rows))
+    (Some (record {
+      extent = flat (length rows) (width rows);
+      values = flat_map (λ r. r) rows;
+    }))
 
 abbrev pub array_form : Data → Option Order
 array_form d = only_if (has_fields (codes "array" ∷ codes "cells" ∷ []) d)
     (option_and_then (λ name. option_map (hold_array name)
-    (option_and_then grid_of (option_and_then (list_of (list_of value_of)) (get (codes "cells") d))))
+    (option_and_then grid_of
+    (option_and_then (list_of (list_of value_of)) (get (codes "cells") d))))
     (option_and_then name_of (get (codes "array") d)))
 
 -- ---- {"flow":NAME,"inputs":1,"nodes":[{"op":"neg","from":[{"i":0}]}]}
 
 -- the flow of one base array and one node, its negation
-abbrev pub negation : Flow
-negation = record { inputs = 1; nodes = record { op = Neg; from = input 0 ∷ [] } ∷ [] }
+abbrev pub negation : Graph
+negation = record { inputs = 1; nodes = record { op = Neg; from = Input 0 ∷ [] } ∷ [] }
 
 -- some value passes a test
 abbrev pub passes : (Data → Bool) → Option Data → Bool
@@ -132,35 +146,47 @@ is_first_input d = has_fields (codes "i" ∷ []) d && passes (is_number 0) (get 
 
 -- {"op":"neg","from":[{"i":0}]}
 abbrev pub is_negation : Data → Bool
-is_negation d = has_fields (codes "op" ∷ codes "from" ∷ []) d && passes (is_text (codes "neg")) (get (codes "op") d)
-    && passes is_first_input (option_and_then one_item (option_and_then as_array (get (codes "from") d)))
+is_negation d = has_fields (codes "op" ∷ codes "from" ∷ []) d
+    && passes (is_text (codes "neg")) (get (codes "op") d)
+    && passes is_first_input
+    (option_and_then one_item (option_and_then as_array (get (codes "from") d)))
 
 abbrev pub flow_form : Data → Option Order
 flow_form d = only_if (has_fields (codes "flow" ∷ codes "inputs" ∷ codes "nodes" ∷ []) d
     && passes (is_number 1) (get (codes "inputs") d)
-    && passes is_negation (option_and_then one_item (option_and_then as_array (get (codes "nodes") d))))
+    && passes is_negation
+    (option_and_then one_item (option_and_then as_array (get (codes "nodes") d))))
     (option_map (λ name. hold_flow name negation) (option_and_then name_of (get (codes "flow") d)))
 
 -- ---- {"start":NAME,"base":[[NAME,U],..]}
 
 abbrev pub base_of : Data → Option Base
-base_of d = option_and_then (λ (p : Data × Data). option_and_then (λ name. option_map (λ v. record { name = name; version = v }) (number_of p.1)) (name_of p.0))
+base_of d =
+    option_and_then
+    (λ (p : Data × Data). option_and_then
+    (λ name. option_map (λ v. record { name = name; version = v }) (number_of p.1)) (name_of p.0))
     (option_and_then two_items (as_array d))
 
 abbrev pub start_form : Data → Option Order
 start_form d = only_if (has_fields (codes "start" ∷ codes "base" ∷ []) d)
-    (option_and_then (λ name. option_map (start name) (option_and_then (list_of base_of) (get (codes "base") d)))
+    (option_and_then
+    (λ name. option_map (start name) (option_and_then (list_of base_of) (get (codes "base") d)))
     (option_and_then name_of (get (codes "start") d)))
 
 -- ---- {"await":U}
 
 abbrev pub await_form : Data → Option Order
-await_form d = only_if (has_fields (codes "await" ∷ []) d) (option_map await (option_and_then number_of (get (codes "await") d)))
+await_form d =
+    only_if (has_fields (codes "await" ∷ []) d)
+    (option_map await (option_and_then number_of (get (codes "await") d)))
 
 -- ---- {"ask":U,"dir":"back","path":[[U,U],..],"cells":[[U,U],..]}
 
 abbrev pub pair_of : Data → Option (ℕ × ℕ)
-pair_of d = option_and_then (λ (p : Data × Data). option_and_then (λ a. option_map (λ b. (a, b)) (number_of p.1)) (number_of p.0))
+pair_of d =
+    option_and_then
+    (λ (p : Data × Data). option_and_then (λ a. option_map (λ b. (a, b)) (number_of p.1))
+    (number_of p.0))
     (option_and_then two_items (as_array d))
 
 abbrev pub step_of : Data → Option Step
@@ -170,7 +196,9 @@ abbrev pub asked_cell : Data → Option Cell
 asked_cell d = option_map (λ (p : ℕ × ℕ). record { row = p.0; col = p.1 }) (pair_of d)
 
 abbrev pub ask_form : Data → Option Order
-ask_form d = only_if (has_fields (codes "ask" ∷ codes "dir" ∷ codes "path" ∷ codes "cells" ∷ []) d && passes (is_text (codes "back")) (get (codes "dir") d))
+ask_form d =
+    only_if (has_fields (codes "ask" ∷ codes "dir" ∷ codes "path" ∷ codes "cells" ∷ []) d
+    && passes (is_text (codes "back")) (get (codes "dir") d))
     (option_and_then (λ version. option_and_then (λ path. option_map (ask version Back path)
     (option_and_then (list_of asked_cell) (get (codes "cells") d)))
     (option_and_then (list_of step_of) (get (codes "path") d)))
@@ -178,9 +206,12 @@ ask_form d = only_if (has_fields (codes "ask" ∷ codes "dir" ∷ codes "path" �
 
 -- the order that a JSON value is: it has the fields of one form at most
 abbrev pub order_of : Data → Option Order
-order_of d = or_else (array_form d) (or_else (flow_form d) (or_else (start_form d) (or_else (await_form d) (ask_form d))))
+order_of d =
+    or_else (array_form d)
+    (or_else (flow_form d) (or_else (start_form d) (or_else (await_form d) (ask_form d))))
 
--- a line as an order, or the number of the rule that refuses it: 2 where it is too long, else 1 where it is no JSON, else 21 where it is no order
+-- a line as an order, or the number of the rule that refuses it: 2 where it is too long, else 1
+-- where it is no JSON, else 21 where it is no order
 abbrev pub order_or_21 : Option Order → Result Order ℕ
 order_or_21 None = Err 21
 order_or_21 (Some o) = Ok o

@@ -1,14 +1,33 @@
--- The status that a session ends with.
-use Rattle.std.specs.Prelude.{Result, Ok, Err}
+-- The status that a session ends with, and what it tells.
+use Rattle.std.specs.Prelude.{ℕ, List, Option, Result, Ok, Err, ⊤}
+use Rattle.sz_outside.specs.Outside.{Rose}
+use Rattle.sz_session.specs.Serving.{Done, SaidOfRead, SaidInPart, SaidInLines, SaidToLimit}
 use Rattle.sz_session.specs.declared.feed.Stop.{Stop}
 use Rattle.sz_session.specs.declared.feed.Stop.TheVariants as stop
 use Rattle.sz_session.specs.declared.serving.Status.{Status}
 use Rattle.sz_session.specs.declared.serving.Status.TheVariants as status
 
-abbrev pub status_of : Stop → Status
-status_of stop.SayFault = status.SayFault
-status_of stop.NoMemory = status.NoMemory
+abbrev pub stop_status : Stop → Status
+stop_status stop.SayFault = status.SayFault
+stop_status stop.NoMemory = status.NoMemory
 
 abbrev pub end_status : Result (Unit {0}) Stop → Status
 end_status (Ok u) = status.Done
-end_status (Err s) = status_of s
+end_status (Err s) = stop_status s
+
+-- What was read and said by then, for each status that a session of lines ends with.
+abbrev pub Ends : Status → ℕ → Option (List ℕ) → Option (List ℕ) → Option (List ℕ) → Option (List ℕ)
+    → Type 0
+Ends status.Done limit before left said_before said = Done limit before left said_before said
+Ends status.Usage limit before left said_before said = ⊥
+Ends status.ReadFault limit before left said_before said = SaidOfRead before left said_before said
+Ends status.SayFault limit before left said_before said = SaidInPart before said_before said
+Ends status.NoMemory limit before left said_before said = SaidInLines before said_before said
+Ends status.InputLimit limit before left said_before said =
+    SaidToLimit limit before left said_before said
+
+-- The count of its object rose, for each status that is a fault's.
+abbrev pub HasFault : Status → ℕ → ℕ → ℕ → ℕ → Type 0
+HasFault status.ReadFault reads_before reads says_before says = Rose reads_before reads
+HasFault status.SayFault reads_before reads says_before says = Rose says_before says
+HasFault _ reads_before reads says_before says = ⊤

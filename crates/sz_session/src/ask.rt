@@ -1,11 +1,11 @@
-// What an ask of a version gives.
+//! What an ask of a version gives.
 ghost use Rattle.std.specs.Prelude.{◌≡◌, ◌∷◌, [], Bool, map, IfOk};
 ghost use Rattle.std.specs.List.{list_all};
 ghost use Rattle.sz_cells.specs.Extent.{holds};
 ghost use Rattle.sz_spec.specs.Values.{Grid};
 ghost use Rattle.sz_spec.specs.Paths.{is_joined};
-ghost use Rattle.sz_spec.specs.declared.Dir.TheVariants.{Back};
-ghost use Rattle.sz_session.specs.Steps.{answer_of};
+ghost use Rattle.sz_spec.specs.declared.modes.Dir.TheVariants.{Back};
+ghost use Rattle.sz_session.specs.Changes.{cells_answered};
 ghost use Rattle.sz_session.specs.Reading.{negation};
 ghost use Rattle.sz_session.specs.Seen.{step_seen};
 
@@ -13,15 +13,21 @@ use crate::command::PathStep;
 use std::alloc::Global;
 use sz_cells::{Cell, CellSet, NoMemory, Shape};
 
-/// The cells that an ask of a version gives, backward along a path: the base array of the version has this shape.
-/// `None` where the path is not joined, or a cell lies outside of the shape.
-pub fn answer(
+/// The cells that an ask of a version gives, backward along a path: the base array of the version
+/// has this shape. `None` where the path is not joined, or a cell lies outside of the shape.
+pub fn cells_answered(
     alloc: Global,
     shape: Shape,
     path: &[PathStep],
     cells: &[Cell],
 ) -> Result<Option<CellSet>, NoMemory>
-    ensures { IfOk result (λ r. (g : Grid) (w : Bool) → g.extent ≡ shape → answer_of Back (map step_seen path.now) cells.now (record { flow = negation; base = g ∷ []; awaited = w }) ≡ r) }
+    ensures { IfOk result (λ r. (g : Grid) (w : Bool) → g.extent ≡ shape
+        → cells_answered Back (map step_seen path.now) cells.now (record {
+          flow = negation;
+          base =
+              g ∷ [];
+          awaited = w;
+        }) ≡ r) }
 {
     if !is_path(path) || !are_held(shape, cells) {
         return Ok(None);
@@ -30,7 +36,8 @@ pub fn answer(
     Ok(Some(set))
 }
 
-/// Whether these steps are joined: the flow has one node with one input, so the one path is the one step along it.
+/// Whether these steps are joined: the flow has one node with one input, so the one path is the one
+/// step along it.
 fn is_path(path: &[PathStep]) -> bool
     ensures { result ≡ is_joined Back negation (map step_seen path.now) }
 {

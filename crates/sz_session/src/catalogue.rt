@@ -1,15 +1,16 @@
-// What a session holds.
+//! What a session holds. Contracts see a catalogue as its `Holdings`.
 mod arrays;
 mod flows;
 mod memory;
 mod versions;
 
-ghost use Rattle.std.specs.Prelude.{◌≡◌, ◌+◌, ◌<◌, [], ◌∷◌, length, map, string_bytes, Some, None, IfOk, OnErr, MatchOption};
+ghost use Rattle.std.specs.Prelude.{◌≡◌, ◌+◌, ◌<◌, [], ◌∷◌, length, map, string_bytes, Some, None};
+ghost use Rattle.std.specs.Prelude.{IfOk, OnErr, MatchOption};
 ghost use Rattle.std.specs.Arc.{arc_value};
-ghost use Rattle.sz_spec.specs.declared.Dir.TheVariants.{Back};
+ghost use Rattle.sz_spec.specs.declared.modes.Dir.TheVariants.{Back};
 ghost use Rattle.sz_session.specs.Orders as orders;
-ghost use Rattle.sz_session.specs.Catalogues.{empty, numbered, flow_named};
-ghost use Rattle.sz_session.specs.Steps.{after_start, bases_of};
+ghost use Rattle.sz_session.specs.Holdings.{no_holdings, thing_numbered, flow_named};
+ghost use Rattle.sz_session.specs.Changes.{after_start, bases_of};
 ghost use Rattle.sz_session.specs.Reading.{negation};
 ghost use Rattle.sz_session.specs.Seen.{base_seen, step_seen, order_seen, Takes};
 
@@ -36,14 +37,23 @@ pub struct Catalogue {
 }
 
 impl Model for Catalogue {
-    ghost use Rattle.sz_session.specs.Catalogues.{Catalogue};
-    ghost use Rattle.sz_session.specs.Kept.{IsWithin};
+    ghost use Rattle.sz_session.specs.Holdings.{Holdings};
+    ghost use Rattle.sz_session.specs.Kept.{KeepsLimits};
 
-    ghost Value = { Catalogue };
+    ghost Value = { Holdings };
 
-    ghost view = { λ c. record { arrays = c.arrays; flows = c.flows; versions = c.versions.items } };
+    ghost view = { λ c. record {
+      arrays = c.arrays;
+      flows = c.flows;
+      versions = c.versions.items;
+    } };
 
-    ghost invariant = { λ c. IsWithin c.cells (record { arrays = c.arrays; flows = c.flows; versions = c.versions.items }) };
+    ghost invariant = { λ c. KeepsLimits c.cells (record {
+      arrays = c.arrays;
+      flows = c.flows;
+      versions =
+          c.versions.items;
+    }) };
 }
 
 /// The most arrays that are held.
@@ -61,7 +71,7 @@ const MOST_CELLS: u64 = 4_194_304;
 impl Catalogue {
     /// The catalogue that holds nothing.
     pub fn new(alloc: Global) -> Catalogue
-        ensures { result ≡ empty }
+        ensures { result ≡ no_holdings }
     {
         Catalogue {
             arrays: HeldArrays::new(alloc),
@@ -72,8 +82,9 @@ impl Catalogue {
         }
     }
 
-    /// Takes a command: changes what is held, or refuses it, `None`, and changes nothing. Logarithmic in the names held,
-    /// and linear in the command and in the cells of the array that a start runs on.
+    /// Takes a command: changes what is held, or refuses it, `None`, and changes nothing.
+    /// Logarithmic in the names held, and linear in the command and in the cells of the array that
+    /// a start runs on.
     pub fn take(&mut self, command: Command) -> Result<Option<Reply>, NoMemory>
         ensures ok { IfOk result (λ r. Takes self.old (order_seen command) self.new r) }
         ensures err { OnErr result (self.new ≡ self.old) }
@@ -82,7 +93,7 @@ impl Catalogue {
             Command::Array { name, array } => self.hold_array(name, array),
             Command::Flow { name } => self.hold_flow(name),
             Command::Start { name, base } => self.start(name.as_str(), base.as_slice()),
-            Command::Await { version } => Ok(self.finish(version)),
+            Command::Await { version } => Ok(self.await_version(version)),
             Command::Ask {
                 version,
                 path,
@@ -93,7 +104,8 @@ impl Catalogue {
 
     /// Holds an array as the next version of a name.
     fn hold_array(&mut self, name: String, array: Array) -> Result<Option<Reply>, NoMemory>
-        ensures ok { IfOk result (λ r. Takes self.old (orders.hold_array (string_bytes name) array) self.new r) }
+        ensures ok { IfOk result
+            (λ r. Takes self.old (orders.hold_array (string_bytes name) array) self.new r) }
         ensures err { OnErr result (self.new ≡ self.old) }
     {
         let size = u64::from(array.shape().size());
@@ -110,7 +122,8 @@ impl Catalogue {
 
     /// Holds a flow under a name that no flow has.
     fn hold_flow(&mut self, name: String) -> Result<Option<Reply>, NoMemory>
-        ensures ok { IfOk result (λ r. Takes self.old (orders.hold_flow (string_bytes name) negation) self.new r) }
+        ensures ok { IfOk result
+            (λ r. Takes self.old (orders.hold_flow (string_bytes name) negation) self.new r) }
         ensures err { OnErr result (self.new ≡ self.old) }
     {
         if self.flows.len() >= MOST_FLOWS || self.flows.contains(name.as_str()) {
@@ -122,7 +135,8 @@ impl Catalogue {
 
     /// Starts a version of a flow.
     fn start(&mut self, name: &str, base: &[BaseName]) -> Result<Option<Reply>, NoMemory>
-        ensures ok { IfOk result (λ r. Takes self.old (orders.start name.now (map base_seen base.now)) self.new r) }
+        ensures ok { IfOk result
+            (λ r. Takes self.old (orders.start name.now (map base_seen base.now)) self.new r) }
         ensures err { OnErr result (self.new ≡ self.old) }
     {
         let Some(array) = self.base_of(name, base)? else {
@@ -133,9 +147,7 @@ impl Catalogue {
             return Ok(None);
         }
         let version = HeldVersion::start(self.alloc, array)?;
-        if self.versions.push(version).is_err() {
-            return Err(NoMemory);
-        }
+        self.versions.push(version)?;
         self.cells += size;
         Ok(Some(Reply::Started {
             version: self.versions.len() as u32,
@@ -144,7 +156,10 @@ impl Catalogue {
 
     /// The one base array of a start, where the flow is held and takes that many.
     fn base_of(&self, name: &str, base: &[BaseName]) -> Result<Option<Arc<Array>>, NoMemory>
-        ensures { IfOk result (λ r. MatchOption r (after_start self.now name.now (map base_seen base.now) ≡ None) (λ a. (flow_named self.now name.now ≡ Some negation) × (bases_of self.now (map base_seen base.now) ≡ Some (arc_value a ∷ [])))) }
+        ensures { IfOk result
+            (λ r. MatchOption r (after_start self.now name.now (map base_seen base.now)
+            ≡ None) (λ a. (flow_named self.now name.now ≡ Some negation)
+            × (bases_of self.now (map base_seen base.now) ≡ Some (arc_value a ∷ [])))) }
     {
         if !self.flows.contains(name) || base.len() != 1 {
             return Ok(None);
@@ -158,7 +173,8 @@ impl Catalogue {
 
     /// Where a version of this number stands.
     fn place_of(&self, number: u32) -> Option<usize>
-        ensures { MatchOption result (numbered number self.now.versions ≡ None) (λ i. (i + 1 ≡ number) × (i < length self.now.versions)) }
+        ensures { MatchOption result (thing_numbered number self.now.versions
+            ≡ None) (λ i. (i + 1 ≡ number) × (i < length self.now.versions)) }
     {
         if number > 0 && number as usize <= self.versions.len() {
             Some(number as usize - 1)
@@ -168,22 +184,24 @@ impl Catalogue {
     }
 
     /// Notes that a version was awaited.
-    fn finish(&mut self, number: u32) -> Option<Reply>
+    fn await_version(&mut self, number: u32) -> Option<Reply>
         ensures { Takes self.old (orders.await number) self.new result }
     {
         let place = self.place_of(number)?;
-        self.versions[place].finish();
+        self.versions[place].note_await();
         Some(Reply::Done { version: number })
     }
 
     /// The cells that a version gives along a path.
     fn ask(&self, number: u32, path: &[PathStep], cells: &[Cell]) -> Result<Option<Reply>, NoMemory>
-        ensures { IfOk result (λ r. Takes self.now (orders.ask number Back (map step_seen path.now) cells.now) self.now r) }
+        ensures { IfOk result
+            (λ r. Takes self.now
+            (orders.ask number Back (map step_seen path.now) cells.now) self.now r) }
     {
         let Some(place) = self.place_of(number) else {
             return Ok(None);
         };
-        match self.versions[place].answer(self.alloc, path, cells)? {
+        match self.versions[place].cells_answered(self.alloc, path, cells)? {
             Some(cells) => Ok(Some(Reply::Cells { cells })),
             None => Ok(None),
         }

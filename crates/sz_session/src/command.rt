@@ -1,20 +1,6 @@
-// What a line orders.
+//! What a line orders. Contracts see a command as an `Order`.
 use sz_cells::Cell;
 use sz_spec::Array;
-
-/// A base array that a start names: the name, and the version from 1.
-#[derive(Drop)]
-pub struct BaseName {
-    pub name: String,
-    pub version: u32,
-}
-
-/// One step of a path: a node of the flow, and one of its inputs, both from 0.
-#[derive(Clone, Copy, Debug, PartialEq, Eq)]
-pub struct PathStep {
-    pub node: u32,
-    pub input: u32,
-}
 
 /// What a line orders. A flow is always the one of one base array and one node, its negation,
 /// and an ask is always backward.
@@ -39,6 +25,20 @@ pub enum Command {
         path: Vec<PathStep>,
         cells: Vec<Cell>,
     },
+}
+
+/// A base array that a start names: the name, and the version from 1.
+#[derive(Drop)]
+pub struct BaseName {
+    pub name: String,
+    pub version: u32,
+}
+
+/// One step of a path: a node of the flow, and one of its inputs, both from 0.
+#[derive(Clone, Copy, Debug, PartialEq, Eq)]
+pub struct PathStep {
+    pub node: u32,
+    pub input: u32,
 }
 
 /// Why a line is no command.

@@ -1,12 +1,53 @@
-//! Laws of the definitions, for a reader: each function has an empty body, and its contract is the law.
+//! Laws of the definitions, for a reader: each function has an empty body, and its contract is the
+//! law.
 
-ghost use Rattle.sz_session.specs.Laws.{LinesAreThoseJoined, BytesLeftAreTheLastLine, EachTextIsLines, NumbersReadBack, ReplyLinesAreNumbered, RefusedLinesChangeNothing, TooLongIsTwo, NoJsonIsOne, NoOrderIsTwentyOne, NoOtherNumberIsRefused, OtherLinesAreTaken, RepliesGoOn, OutputsGoOn, BlankLinesAreCounted, OtherLinesHaveOneReply, AsksOfHeldCellsAreAccepted, AcceptedAsksAreOfHeldCells, AnswersAreTheAskedCells};
+ghost use Rattle.sz_session.specs.Laws.{LinesAreThoseJoined, BytesLeftAreTheLastLine};
+ghost use Rattle.sz_session.specs.Laws.{EachTextIsLines, CutsAreThoseJoined, LinesAreTheCut};
+ghost use Rattle.sz_session.specs.Laws.{CutsGoByParts, CutsBehindAreOfBoth, TellingGoesByParts};
+ghost use Rattle.sz_session.specs.Laws.{MomentsGoByParts, WholeLinesAreTold, TranscriptsAreTold};
+ghost use Rattle.sz_session.specs.Laws.{AlikeTellTheSame, AlikeStayAlike, AlikeEndTheSame};
+ghost use Rattle.sz_session.specs.Laws.{NumbersReadBack, ReplyLinesAreNumbered};
+ghost use Rattle.sz_session.specs.Laws.{RefusedLinesChangeNothing, TooLongIsTwo, NoJsonIsOne};
+ghost use Rattle.sz_session.specs.Laws.{NoOrderIsTwentyOne, NoOtherNumberIsRefused};
+ghost use Rattle.sz_session.specs.Laws.{OtherLinesAreTaken, RepliesGoOn, TranscriptsGoOn};
+ghost use Rattle.sz_session.specs.Laws.{BlankLinesAreCounted, OtherLinesHaveOneReply};
+ghost use Rattle.sz_session.specs.Laws.{AsksOfHeldCellsAreAccepted, AcceptedAsksAreOfHeldCells};
+ghost use Rattle.sz_session.specs.Laws.{AnswersAreTheAskedCells, FirstRepliesAreAPart};
 
-/// The lines of a text are the bytes between its newlines, and those behind the last one where there are any.
+/// The lines of a text are the bytes between its newlines, and those behind the last one where
+/// there are any.
 pub fn lines_are_those_joined_by_newlines()
     ensures joined { LinesAreThoseJoined }
     ensures last { BytesLeftAreTheLastLine }
     ensures each { EachTextIsLines }
+{}
+
+/// The whole lines of a text, and the bytes of the line that has not ended.
+pub fn lines_are_cut_where_they_end()
+    ensures joined { CutsAreThoseJoined }
+    ensures lines { LinesAreTheCut }
+    ensures parts { CutsGoByParts }
+    ensures both { CutsBehindAreOfBoth }
+{}
+
+/// What bytes tell as they come does not depend on where they are cut.
+pub fn telling_goes_by_parts()
+    ensures told { TellingGoesByParts }
+    ensures moments { MomentsGoByParts }
+    ensures whole { WholeLinesAreTold }
+    ensures transcripts { TranscriptsAreTold }
+{}
+
+/// Moments that are alike cannot be told apart by what is said.
+pub fn alike_moments_tell_the_same()
+    ensures told { AlikeTellTheSame }
+    ensures alike { AlikeStayAlike }
+    ensures end { AlikeEndTheSame }
+{}
+
+/// What is said where memory is refused is no more than a first part of what was to be said.
+pub fn first_replies_are_a_part()
+    ensures { FirstRepliesAreAPart }
 {}
 
 /// The text of a number is its decimal digits.
@@ -40,7 +81,7 @@ pub fn other_lines_are_taken()
 /// A session goes on from what its lines so far left, wherever it is cut between lines.
 pub fn sessions_go_on()
     ensures replies { RepliesGoOn }
-    ensures outputs { OutputsGoOn }
+    ensures transcripts { TranscriptsGoOn }
 {}
 
 /// A blank line is counted and has no reply; each other line has one.
@@ -49,7 +90,8 @@ pub fn each_line_has_one_reply_unless_blank()
     ensures other { OtherLinesHaveOneReply }
 {}
 
-/// An ask of the negation is accepted exactly where the array has the asked cells, and those are its answer.
+/// An ask of the negation is accepted exactly where the array has the asked cells, and those are
+/// its answer.
 pub fn asks_of_the_negation_give_the_asked_cells()
     ensures accepted { AsksOfHeldCellsAreAccepted }
     ensures held { AcceptedAsksAreOfHeldCells }

@@ -1,9 +1,7 @@
-// Reading one line as a command.
+//! Reading one line as a command.
 mod fields;
 mod forms;
 mod rows;
-#[cfg(test)]
-mod tests;
 
 ghost use Rattle.std.specs.Prelude.{◌≡◌, ◌⊎◌, Some, None, option_map, Err, IfOk, IfErr};
 ghost use Rattle.sz_session.specs.Reading.{json_of, order_of, reading};
@@ -79,3 +77,6 @@ fn command_of(alloc: Global, value: &Value) -> Result<Option<Command>, AllocErro
     }
     forms::ask_command(alloc, value)
 }
+
+#[cfg(test)]
+mod tests;

@@ -1,8 +1,8 @@
-// Replies, and the lines that they are written as.
+//! Replies, and the lines that they are written as. Contracts see a reply as a `Response`.
 ghost use Rattle.std.specs.Prelude.{◌≡◌, ◌<◌, ◌≤◌, ◌++◌, OnOk, IfOk, string_bytes, flat_map};
 ghost use Rattle.sz_cells.specs.Extent.{size_of};
-ghost use Rattle.sz_cells.specs.Cells.{indexes_of};
-ghost use Rattle.sz_session.specs.Replies.{cell_text, reply_text, reply_line};
+ghost use Rattle.sz_cells.specs.Runs.{indexes_of};
+ghost use Rattle.sz_session.specs.Responses.{cell_text, reply_text, reply_line};
 ghost use Rattle.sz_session.specs.Seen.{reply_seen};
 
 use std::alloc::{AllocError, Global};
@@ -20,33 +20,32 @@ pub enum Reply {
     Refused { number: u32 },
 }
 
-/// Writes the cells of a run, each behind a blank.
-fn push_run(text: &mut String, shape: Shape, run: Run) -> Result<(), AllocError>
-    requires rising { run.first ≤ run.last }
-    requires within { run.last < size_of shape }
-    ensures { OnOk result (string_bytes text.new ≡ string_bytes text.old ++ flat_map (cell_text shape) (indexes_of run)) }
+/// The reply line of the line of this number: the number, a blank, the reply's text and a newline.
+/// Takes time in the length of the text.
+pub fn line_of(alloc: Global, number: u64, reply: &Reply) -> Result<String, NoMemory>
+    ensures { IfOk result (λ text. string_bytes text ≡ reply_line number (reply_seen reply.now)) }
 {
-    for index in run.first..run.last + 1 {
-        let cell = shape.cell_at(index);
-        write!(text, " {},{}", cell.row, cell.col)?;
+    let mut text = String::new(alloc);
+    match push_line(&mut text, number, reply) {
+        Ok(()) => Ok(text),
+        Err(_) => Err(NoMemory),
     }
-    Ok(())
 }
 
-/// Writes the cells of a set in row-major order, each behind a blank.
-fn push_cells(text: &mut String, cells: &CellSet) -> Result<(), AllocError>
-    ensures { OnOk result (string_bytes text.new ≡ string_bytes text.old ++ flat_map (cell_text cells.now.extent) cells.now.indexes) }
+/// Writes the reply line of the line of this number.
+fn push_line(text: &mut String, number: u64, reply: &Reply) -> Result<(), AllocError>
+    ensures { OnOk result (string_bytes text.new
+        ≡ string_bytes text.old ++ reply_line number (reply_seen reply.now)) }
 {
-    let shape = cells.shape();
-    for run in cells.runs() {
-        push_run(text, shape, *run)?;
-    }
-    Ok(())
+    write!(text, "{number} ")?;
+    push_reply(text, reply)?;
+    text.push('\n')
 }
 
 /// Writes the text of a reply.
 fn push_reply(text: &mut String, reply: &Reply) -> Result<(), AllocError>
-    ensures { OnOk result (string_bytes text.new ≡ string_bytes text.old ++ reply_text (reply_seen reply.now)) }
+    ensures { OnOk result (string_bytes text.new
+        ≡ string_bytes text.old ++ reply_text (reply_seen reply.now)) }
 {
     match reply {
         Reply::Array { name, version } => write!(text, "array {name} {version}"),
@@ -62,22 +61,28 @@ fn push_reply(text: &mut String, reply: &Reply) -> Result<(), AllocError>
     }
 }
 
-/// The reply line of the line of this number: the number, a blank, the reply's text and a newline.
-/// Takes time in the length of the text.
-pub fn line_of(alloc: Global, number: u64, reply: &Reply) -> Result<String, NoMemory>
-    ensures { IfOk result (λ text. string_bytes text ≡ reply_line number (reply_seen reply.now)) }
+/// Writes the cells of a set in row-major order, each behind a blank.
+fn push_cells(text: &mut String, cells: &CellSet) -> Result<(), AllocError>
+    ensures { OnOk result (string_bytes text.new
+        ≡ string_bytes text.old ++ flat_map (cell_text cells.now.extent) cells.now.indexes) }
 {
-    let mut text = String::new(alloc);
-    match push_line(&mut text, number, reply) {
-        Ok(()) => Ok(text),
-        Err(_) => Err(NoMemory),
+    let shape = cells.shape();
+    for run in cells.runs() {
+        push_run(text, shape, *run)?;
     }
+    Ok(())
 }
 
-fn push_line(text: &mut String, number: u64, reply: &Reply) -> Result<(), AllocError>
-    ensures { OnOk result (string_bytes text.new ≡ string_bytes text.old ++ reply_line number (reply_seen reply.now)) }
+/// Writes the cells of a run, each behind a blank.
+fn push_run(text: &mut String, shape: Shape, run: Run) -> Result<(), AllocError>
+    requires rising { run.first ≤ run.last }
+    requires within { run.last < size_of shape }
+    ensures { OnOk result (string_bytes text.new
+        ≡ string_bytes text.old ++ flat_map (cell_text shape) (indexes_of run)) }
 {
-    write!(text, "{number} ")?;
-    push_reply(text, reply)?;
-    text.push('\n')
+    for index in run.first..run.last + 1 {
+        let cell = shape.cell_at(index);
+        write!(text, " {},{}", cell.row, cell.col)?;
+    }
+    Ok(())
 }

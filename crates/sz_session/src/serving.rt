@@ -1,9 +1,17 @@
-// The top call: it reads a source to its end, and says the replies.
-ghost use Rattle.std.specs.Prelude.{◌≡◌, ◌<◌, ◌≤◌, ◌+◌, ◌-◌, ◌^◌, ◌↔◌, true, false, Ok, Err, IfOk, OnErr, MatchResult, length, map, string_bytes, []};
+//! The top call: it reads a source to its end, and says the replies.
+//!
+//! A turn makes one read and answers every line that ends in what it gave. Its contract asks that
+//! what was said so far is the replies of all whole lines read so far, from the start of the
+//! session, and gives the same with the bytes read: so no read is made while a reply is still to be
+//! said.
+ghost use Rattle.std.specs.Prelude.{◌≡◌, ◌⊎◌, ℕ, ◌<◌, ◌≤◌, ◌+◌, ◌-◌, ◌^◌};
+ghost use Rattle.std.specs.Prelude.{◌↔◌, true, false, Ok, Err, IfOk, IfErr, OnErr, length, map};
+ghost use Rattle.std.specs.Prelude.{string_bytes};
 ghost use Rattle.sz_outside.specs.Outside.{Rose, Gives, Keeps};
-ghost use Rattle.sz_session.specs.Catalogues.{empty};
-ghost use Rattle.sz_session.specs.Statuses.{status_of, end_status};
-ghost use Rattle.sz_session.specs.Serving.{Done, Goes, IsPastLimit, are_play};
+ghost use Rattle.sz_session.specs.Statuses.{stop_status, end_status, Ends, HasFault};
+ghost use Rattle.sz_session.specs.Serving.{are_play, Done, SaidOfRead, SaidToLimit, SaidInPart};
+ghost use Rattle.sz_session.specs.Serving.{SaidInLines, IsPastLimit, IsWithinLimit, Opening};
+ghost use Rattle.sz_session.specs.Serving.{Answered, AreAll};
 
 use crate::feed::{Feed, Stop};
 use std::alloc::Global;
@@ -34,101 +42,49 @@ const PIECE: usize = 65_536;
 /// The most bytes of a session.
 const LIMIT: u64 = 1 << 62;
 
-/// Reads at most `room` bytes into the front of the buffer.
-fn read_front<S: Source>(source: &mut S, buffer: &mut [u8], room: usize) -> Result<usize, Failed>
-    requires room { 0 < room }
-    requires piece { room ≤ 65536 }
-    requires fits { room ≤ length buffer.old }
-    ensures bound { IfOk result (λ n. n ≤ room) }
-    ensures length { length buffer.new ≡ length buffer.old }
-    ensures bytes { IfOk result (λ n. Gives (S.left source.old) (S.left source.new) buffer.new n) }
-    ensures fault { OnErr result (Rose (S.faults source.old) (S.faults source.new)) }
-    ensures counts { S.faults source.old ≤ S.faults source.new }
+/// Runs the program: `words` are those of the command line without the program's name. It reads
+/// pieces of at most 65,536 bytes, and before each read every whole line read so far has its reply
+/// said.
+///
+/// The gate and the leave to start threads are for workers that are to come: nothing calls them
+/// yet.
+pub fn serve<
+    S: Source,
+    T: Station,
+    G: Gate + 'static,
+    R: Threads + Wait + Clone + Send + Sync + 'static,
+>(rt: &R, alloc: Global, words: &[String], source: &mut S, station: &mut T, gate: &Arc<G>) -> Status
+    ensures done { result ≡ Status.Done
+        → Done (2 ^ 62) (S.left source.old) (S.left source.new)
+        (T.said station.old) (T.said station.new) }
+    ensures usage { (result ≡ Status.Usage) ↔ (are_play (map string_bytes words.now) ≡ false) }
+    ensures untouched { result ≡ Status.Usage
+        → (source.new ≡ source.old) × (station.new ≡ station.old) }
+    ensures read_fault { result ≡ Status.ReadFault
+        → Rose (S.faults source.old) (S.faults source.new) }
+    ensures say_fault { result ≡ Status.SayFault
+        → Rose (T.say_faults station.old) (T.say_faults station.new) }
+    ensures input_limit { result ≡ Status.InputLimit → IsPastLimit (2 ^ 62) (S.left source.old) }
+    ensures after_read_fault { result ≡ Status.ReadFault
+        → SaidOfRead (S.left source.old) (S.left source.new)
+        (T.said station.old) (T.said station.new) }
+    ensures after_say_fault { result ≡ Status.SayFault
+        → SaidInPart (S.left source.old) (T.said station.old) (T.said station.new) }
+    ensures after_no_memory { result ≡ Status.NoMemory
+        → SaidInLines (S.left source.old) (T.said station.old) (T.said station.new) }
+    ensures after_input_limit { result ≡ Status.InputLimit
+        → SaidToLimit (2 ^ 62) (S.left source.old) (S.left source.new)
+        (T.said station.old) (T.said station.new) }
+    ensures completes { are_play (map string_bytes words.now) ≡ true
+        → IsWithinLimit (2 ^ 62) (S.left source.old)
+        → ¬ Rose (S.faults source.old) (S.faults source.new)
+        → ¬ Rose (T.say_faults station.old) (T.say_faults station.new)
+        → (result ≡ Status.Done) ⊎ (result ≡ Status.NoMemory) }
 {
-    source.read(&mut buffer[..room])
-}
-
-/// How many bytes the next read asks for: at the limit one, to see whether there are more.
-fn room_after(total: u64) -> usize
-    requires { total ≤ LIMIT }
-    ensures some { 0 < result }
-    ensures most { result ≤ 65536 }
-    ensures within { total < LIMIT → total + result ≤ LIMIT }
-{
-    if total == LIMIT {
-        1
+    if is_play(words) {
+        play(alloc, source, station, LIMIT)
     } else {
-        (LIMIT - total).min(PIECE as u64) as usize
-    }
-}
-
-/// Reads the source to its end and answers its lines.
-fn play<S: Source, T: Station>(alloc: Global, source: &mut S, station: &mut T) -> Status
-    ensures done { result ≡ Status.Done → Done (S.left source.old) (S.left source.new) (T.said station.old) (T.said station.new) }
-    ensures usage { result ≡ Status.Usage → ⊥ }
-    ensures read_fault { result ≡ Status.ReadFault → Rose (S.faults source.old) (S.faults source.new) }
-    ensures say_fault { result ≡ Status.SayFault → Rose (T.say_faults station.old) (T.say_faults station.new) }
-    ensures input_limit { result ≡ Status.InputLimit → IsPastLimit (S.left source.old) }
-{
-    let Ok(mut buffer) = vec![in alloc; 0u8; PIECE] else {
-        return Status::NoMemory;
-    };
-    let mut feed = Feed::new(alloc);
-    read_all(source, station, &mut buffer, &mut feed)
-}
-
-/// Reads piece by piece. Each turn takes at least one byte, and at the limit the next read tells whether there are more.
-fn read_all<S: Source, T: Station>(
-    source: &mut S,
-    station: &mut T,
-    buffer: &mut [u8],
-    feed: &mut Feed,
-) -> Status
-    requires room { length buffer.old ≡ PIECE }
-    requires start { feed.old ≡ record { catalogue = empty; pending = []; number = 1 } }
-    ensures done { result ≡ Status.Done → Done (S.left source.old) (S.left source.new) (T.said station.old) (T.said station.new) }
-    ensures usage { result ≡ Status.Usage → ⊥ }
-    ensures read_fault { result ≡ Status.ReadFault → Rose (S.faults source.old) (S.faults source.new) }
-    ensures say_fault { result ≡ Status.SayFault → Rose (T.say_faults station.old) (T.say_faults station.new) }
-    ensures input_limit { result ≡ Status.InputLimit → IsPastLimit (S.left source.old) }
-{
-    let mut total = 0u64;
-    'pieces: loop {
-        let room = room_after(total);
-        let Ok(count) = read_front(source, buffer, room) else {
-            return Status::ReadFault;
-        };
-        if count == 0 {
-            return ended(feed.finish(station));
-        }
-        if total == LIMIT {
-            return Status::InputLimit;
-        }
-        total += count as u64;
-        match feed.take_piece(&buffer[..count], station) {
-            Ok(()) => {}
-            Err(stop) => return stopped(stop),
-        }
-    }
-}
-
-/// The status of a session that stopped.
-fn stopped(stop: Stop) -> Status
-    ensures { result ≡ status_of stop }
-{
-    match stop {
-        Stop::SayFault => Status::SayFault,
-        Stop::NoMemory => Status::NoMemory,
-    }
-}
-
-/// The status of a session that was read to its end.
-fn ended(end: Result<(), Stop>) -> Status
-    ensures { result ≡ end_status end }
-{
-    match end {
-        Ok(()) => Status::Done,
-        Err(stop) => stopped(stop),
+        Status::Usage
     }
 }
 
@@ -142,24 +98,156 @@ fn is_play(words: &[String]) -> bool
     }
 }
 
-/// Runs the program: `words` are those of the command line without the program's name. It reads pieces of at
-/// most 65,536 bytes, and before each read every whole line read so far has its reply said.
-pub fn serve<
-    S: Source,
-    T: Station,
-    G: Gate + 'static,
-    R: Threads + Wait + Clone + Send + Sync + 'static,
->(rt: &R, alloc: Global, words: &[String], source: &mut S, station: &mut T, gate: &Arc<G>) -> Status
-    ensures done { result ≡ Status.Done → Done (S.left source.old) (S.left source.new) (T.said station.old) (T.said station.new) }
-    ensures usage { (result ≡ Status.Usage) ↔ (are_play (map string_bytes words.now) ≡ false) }
-    ensures untouched { result ≡ Status.Usage → (source.new ≡ source.old) × (station.new ≡ station.old) }
-    ensures read_fault { result ≡ Status.ReadFault → Rose (S.faults source.old) (S.faults source.new) }
-    ensures say_fault { result ≡ Status.SayFault → Rose (T.say_faults station.old) (T.say_faults station.new) }
-    ensures input_limit { result ≡ Status.InputLimit → IsPastLimit (S.left source.old) }
+/// Reads the source to its end, or to a limit, and answers its lines.
+fn play<S: Source, T: Station>(alloc: Global, source: &mut S, station: &mut T, limit: u64) -> Status
+    requires { limit ≤ LIMIT }
+    ensures ends { Ends result limit (S.left source.old) (S.left source.new)
+        (T.said station.old) (T.said station.new) }
+    ensures fault { HasFault result (S.faults source.old) (S.faults source.new)
+        (T.say_faults station.old) (T.say_faults station.new) }
 {
-    if is_play(words) {
-        play(alloc, source, station)
-    } else {
-        Status::Usage
+    let Ok(mut buffer) = vec![in alloc; 0u8; PIECE] else {
+        return Status::NoMemory;
+    };
+    let mut feed = Feed::new(alloc);
+    read_all(source, station, &mut buffer, &mut feed, limit)
+}
+
+/// Takes turn after turn, until no byte is left. Each takes at least one byte, and at the limit the
+/// next one tells whether there are more.
+fn read_all<S: Source, T: Station>(
+    source: &mut S,
+    station: &mut T,
+    buffer: &mut [u8],
+    feed: &mut Feed,
+    limit: u64,
+) -> Status
+    ghost opening: { Opening }
+    requires room { length buffer.old ≡ PIECE }
+    requires limit { limit ≤ LIMIT }
+    requires number { feed.old.number ≡ 1 }
+    requires answered { Answered opening.left (S.left source.old)
+        opening.said (T.said station.old) feed.old 0 }
+    ensures ends { Ends result limit opening.left (S.left source.new)
+        opening.said (T.said station.new) }
+    ensures fault { HasFault result (S.faults source.old) (S.faults source.new)
+        (T.say_faults station.old) (T.say_faults station.new) }
+{
+    let mut total = 0u64;
+    'pieces: loop {
+        match take_turn(source, station, buffer, feed, total, limit) {
+            Ok(0) => return status_of_end(feed.end_input(station)),
+            Ok(count) => total += count as u64,
+            Err(status) => return status,
+        }
     }
 }
+
+/// One turn: reads at most a piece, and says the replies of the lines that end in it. Gives how
+/// many bytes were read, or the status that the session ends with.
+fn take_turn<S: Source, T: Station>(
+    source: &mut S,
+    station: &mut T,
+    buffer: &mut [u8],
+    feed: &mut Feed,
+    total: u64,
+    limit: u64,
+) -> Result<usize, Status>
+    ghost opening: { Opening }
+    requires room { length buffer.old ≡ PIECE }
+    requires limit { limit ≤ LIMIT }
+    requires within { total ≤ limit }
+    requires number { feed.old.number ≤ total + 1 }
+    requires answered { Answered opening.left (S.left source.old)
+        opening.said (T.said station.old) feed.old total }
+    ensures within { IfOk result (λ count. total + count ≤ limit) }
+    ensures number { IfOk result (λ count. feed.new.number ≤ total + count + 1) }
+    ensures answered { IfOk result (λ count. Answered opening.left (S.left source.new)
+        opening.said (T.said station.new) feed.new (total + count)) }
+    ensures all { result ≡ Ok 0 → AreAll opening.left total }
+    ensures ends { IfErr result (λ status. Ends status limit opening.left (S.left source.new)
+        opening.said (T.said station.new)) }
+    ensures fault { IfErr result (λ status. HasFault status
+        (S.faults source.old) (S.faults source.new)
+        (T.say_faults station.old) (T.say_faults station.new)) }
+    ensures reads { S.faults source.old ≤ S.faults source.new }
+    ensures says { T.say_faults station.old ≤ T.say_faults station.new }
+{
+    let Ok(count) = read_piece(source, buffer, feed, station, total, limit) else {
+        return Err(Status::ReadFault);
+    };
+    if total == limit && count > 0 {
+        return Err(Status::InputLimit);
+    }
+    match feed.take_piece(&buffer[..count], station) {
+        Ok(()) => Ok(count),
+        Err(stop) => Err(status_of(stop)),
+    }
+}
+
+/// The one read of a turn, into the front of the buffer. Feed and station are lent for the contract
+/// alone: a read may be made only where every whole line read so far has its reply said.
+fn read_piece<S: Source, T: Station>(
+    source: &mut S,
+    buffer: &mut [u8],
+    _feed: &Feed,
+    _station: &T,
+    total: u64,
+    limit: u64,
+) -> Result<usize, Failed>
+    ghost opening: { Opening }
+    requires room { length buffer.old ≡ PIECE }
+    requires within { total ≤ limit }
+    requires answered { Answered opening.left (S.left source.old)
+        opening.said (T.said _station.now) _feed.now total }
+    ensures most { IfOk result (λ count. count ≤ 65536) }
+    ensures within { IfOk result (λ count. total < limit → total + count ≤ limit) }
+    ensures one { IfOk result (λ count. total ≡ limit → count ≤ 1) }
+    ensures length { length buffer.new ≡ length buffer.old }
+    ensures bytes { IfOk result (λ count.
+        Gives (S.left source.old) (S.left source.new) buffer.new count) }
+    ensures fault { OnErr result (Rose (S.faults source.old) (S.faults source.new)) }
+    ensures kept { OnErr result (Keeps (S.left source.old) (S.left source.new)) }
+    ensures counts { S.faults source.old ≤ S.faults source.new }
+{
+    let room = room_after(total, limit);
+    source.read(&mut buffer[..room])
+}
+
+/// How many bytes the next read asks for: at the limit one, to see whether there are more.
+fn room_after(total: u64, limit: u64) -> usize
+    requires { total ≤ limit }
+    ensures some { 0 < result }
+    ensures most { result ≤ 65536 }
+    ensures within { total < limit → total + result ≤ limit }
+    ensures one { total ≡ limit → result ≡ 1 }
+{
+    if total == limit {
+        1
+    } else {
+        (limit - total).min(PIECE as u64) as usize
+    }
+}
+
+/// The status of a session that stopped.
+fn status_of(stop: Stop) -> Status
+    ensures { result ≡ stop_status stop }
+{
+    match stop {
+        Stop::SayFault => Status::SayFault,
+        Stop::NoMemory => Status::NoMemory,
+    }
+}
+
+/// The status of a session that was read to its end.
+fn status_of_end(end: Result<(), Stop>) -> Status
+    ensures { result ≡ end_status end }
+{
+    match end {
+        Ok(()) => Status::Done,
+        Err(stop) => status_of(stop),
+    }
+}
+
+#[cfg(test)]
+mod tests;

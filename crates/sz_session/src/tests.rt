@@ -1,3 +1,4 @@
+//! Whole sessions: each row is a text, and the replies that are said of it.
 ghost use Rattle.std.specs.Prelude.{◌≤◌};
 
 use crate::{Status, serve};
@@ -7,144 +8,159 @@ use std::test::Fail;
 use std::thread::Threads;
 use sz_outside::{MemSource, MemStation, NoGate, Source, SteadySource};
 
-const BEGIN: &[u8] = b"{\"array\":\"a\",\"cells\":[[5]]}
+mod greatest;
+
+/// The smallest session.
+const TEXT: &[u8] = b"{\"array\":\"a\",\"cells\":[[5]]}
 {\"flow\":\"f\",\"inputs\":1,\"nodes\":[{\"op\":\"neg\",\"from\":[{\"i\":0}]}]}
 {\"start\":\"f\",\"base\":[[\"a\",1]]}
 {\"await\":1}
+{\"ask\":1,\"dir\":\"back\",\"path\":[[0,0]],\"cells\":[[0,0]]}
 ";
 
-/// The smallest session up to its ask, and then this text.
-fn session(alloc: Global, more: &[u8]) -> Result<Vec<u8>, Fail> {
-    let mut text = BEGIN.to_vec(alloc)?;
-    text.extend_from_slice(more)?;
-    Ok(text)
+/// Its replies.
+const REPLIES: &[u8] = b"1 array a 1\n2 flow f\n3 started 1\n4 done 1\n5 cells 1 0,0\n";
+
+/// How a session ended, and what was said by then.
+#[derive(Debug, Drop)]
+struct Outcome {
+    status: Status,
+    said: Vec<u8>,
 }
 
-fn station(alloc: Global, say_fails: Vec<u64>) -> Result<MemStation, Fail> {
-    Ok(MemStation::new(alloc, Vec::new(alloc), Vec::new(alloc), say_fails)?)
+impl Outcome {
+    /// Whether it was done, and said these replies.
+    fn is_done(&self, replies: &[u8]) -> bool {
+        self.status == Status::Done && self.said.as_slice() == replies
+    }
+
+    /// Whether it ended so, and said the first so many bytes of the smallest session's replies.
+    fn is_cut(&self, status: Status, bytes: usize) -> bool {
+        self.status == status && Some(self.said.as_slice()) == REPLIES.get(..bytes)
+    }
 }
 
-fn words(alloc: Global, word: &str) -> Result<Vec<String>, Fail> {
-    Ok(vec![in alloc; String::from_str(alloc, word)?]?)
-}
-
-/// What is said of a text that comes in pieces of this many bytes, where all goes well.
-fn said<R: Threads + Wait + Clone + Send + Sync + 'static>(
+/// Plays a session of this text, of which a read gives at most so many bytes. The reads and the
+/// says of these numbers fail.
+fn session<R: Threads + Wait + Clone + Send + Sync + 'static>(
     rt: &R,
     alloc: Global,
     text: Vec<u8>,
     chunk: u32,
-) -> Result<Vec<u8>, Fail>
+    read_fails: &[u64],
+    say_fails: &[u64],
+) -> Result<Outcome, Fail>
     requires { 1 ≤ chunk }
 {
-    let words = words(alloc, "play")?;
+    let words = vec![in alloc; String::from_str(alloc, "play")?]?;
     let gate = Arc::new(alloc, NoGate)?;
-    let mut source = SteadySource::new(text, chunk);
-    let mut station = station(alloc, Vec::new(alloc))?;
+    let mut source = MemSource::new(text, chunk, read_fails.to_vec(alloc)?);
+    let says = say_fails.to_vec(alloc)?;
+    let mut station = MemStation::new(alloc, Vec::new(alloc), Vec::new(alloc), says)?;
     let status = serve(rt, alloc, &words, &mut source, &mut station, &gate);
-    if status == Status::Done {
-        Ok(station.said().to_vec(alloc)?)
-    } else {
-        Ok(Vec::new(alloc))
-    }
+    let said = station.said().to_vec(alloc)?;
+    Ok(Outcome { status, said })
 }
 
-/// The smallest session, and a line whose form is to come.
 #[test]
-fn smallest_session_in_any_pieces(rt: HostRuntime) -> Result<(), Fail> {
+fn pieces_of_any_size_say_the_same(rt: HostRuntime) -> Result<(), Fail> {
     let alloc = rt.alloc();
-    let more = b"{\"ask\":1,\"dir\":\"back\",\"path\":[[0,0]],\"cells\":[[0,0]]}
-{\"show\":1,\"node\":0}
-";
-    let want = b"1 array a 1\n2 flow f\n3 started 1\n4 done 1\n5 cells 1 0,0\n6 refused 21\n";
-    assert_eq!(rt;
-        said(&rt, alloc, session(alloc, more)?, 1)?.as_slice(),
-        want.as_slice()
-    );
-    assert_eq!(rt;
-        said(&rt, alloc, session(alloc, more)?, 2)?.as_slice(),
-        want.as_slice()
-    );
-    assert_eq!(rt;
-        said(&rt, alloc, session(alloc, more)?, 3)?.as_slice(),
-        want.as_slice()
-    );
-    assert_eq!(rt;
-        said(&rt, alloc, session(alloc, more)?, 16)?.as_slice(),
-        want.as_slice()
-    );
-    assert_eq!(rt;
-        said(&rt, alloc, session(alloc, more)?, 65_536)?.as_slice(),
-        want.as_slice()
-    );
+    for chunk in [1u32, 2, 3, 16, 65_536] {
+        let played = session(&rt, alloc, TEXT.to_vec(alloc)?, chunk.max(1), &[], &[])?;
+        assert!(rt; played.is_done(REPLIES), "pieces of {chunk}");
+    }
+    Ok(())
+}
+
+/// Of each read in turn, with reads of 16 bytes: as many bytes as the whole lines before it have
+/// replies.
+#[test]
+fn a_read_that_fails_leaves_the_replies_of_whole_lines(rt: HostRuntime) -> Result<(), Fail> {
+    let alloc = rt.alloc();
+    let mut read = 0u64;
+    for bytes in [0usize, 0, 12, 12, 12, 12, 21, 21, 33, 42, 42, 42, 56] {
+        read = read.saturating_add(1);
+        let played = session(&rt, alloc, TEXT.to_vec(alloc)?, 16, &[read], &[])?;
+        assert!(rt; played.is_cut(Status::ReadFault, bytes), "read {read}");
+    }
+    Ok(())
+}
+
+/// Of each say in turn; a session has no sixth.
+#[test]
+fn a_say_that_fails_leaves_the_replies_before_it(rt: HostRuntime) -> Result<(), Fail> {
+    let alloc = rt.alloc();
+    let mut say = 0u64;
+    for bytes in [0usize, 12, 21, 33, 42] {
+        say = say.saturating_add(1);
+        let played = session(&rt, alloc, TEXT.to_vec(alloc)?, 16, &[], &[say])?;
+        assert!(rt; played.is_cut(Status::SayFault, bytes), "say {say}");
+    }
+    let played = session(&rt, alloc, TEXT.to_vec(alloc)?, 16, &[14], &[6])?;
+    assert!(rt; played.is_done(REPLIES));
     Ok(())
 }
 
 /// A cell named twice is there once, there may be none, and cells come in row-major order.
 #[test]
-fn asked_cells(rt: HostRuntime) -> Result<(), Fail> {
+fn asked_cells_come_once_and_in_order(rt: HostRuntime) -> Result<(), Fail> {
     let alloc = rt.alloc();
-    let more = b"{\"ask\":1,\"dir\":\"back\",\"path\":[[0,0]],\"cells\":[[0,0],[0,0]]}
-{\"ask\":1,\"dir\":\"back\",\"path\":[[0,0]],\"cells\":[]}
-{\"array\":\"b\",\"cells\":[[1,null,3],[4,5,6]]}
+    let text = b"{\"array\":\"b\",\"cells\":[[1,null,3],[4,5,6]]}
+{\"flow\":\"f\",\"inputs\":1,\"nodes\":[{\"op\":\"neg\",\"from\":[{\"i\":0}]}]}
 {\"start\":\"f\",\"base\":[[\"b\",1]]}
-{\"ask\":2,\"dir\":\"back\",\"path\":[[0,0]],\"cells\":[[1,2],[0,1],[1,0]]}
+{\"ask\":1,\"dir\":\"back\",\"path\":[[0,0]],\"cells\":[[0,0],[0,0]]}
+{\"ask\":1,\"dir\":\"back\",\"path\":[[0,0]],\"cells\":[]}
+{\"ask\":1,\"dir\":\"back\",\"path\":[[0,0]],\"cells\":[[1,2],[0,1],[1,0]]}
+{\"ask\":1,\"dir\":\"back\",\"path\":[[0,0]],\"cells\":[[2,0]]}
+{\"show\":1,\"node\":0}
 ";
-    let want =
-        b"1 array a 1\n2 flow f\n3 started 1\n4 done 1\n5 cells 1 0,0\n6 cells 0\n7 array b 1\n8 started 2\n9 cells 3 0,1 1,0 1,2\n";
-    assert_eq!(rt;
-        said(&rt, alloc, session(alloc, more)?, 100)?.as_slice(),
-        want.as_slice()
-    );
+    let replies = b"1 array b 1
+2 flow f
+3 started 1
+4 cells 1 0,0
+5 cells 0
+6 cells 3 0,1 1,0 1,2
+7 refused 21
+8 refused 21
+";
+    let played = session(&rt, alloc, text.to_vec(alloc)?, 100, &[], &[])?;
+    assert!(rt; played.is_done(replies));
     Ok(())
 }
 
-/// No JSON, a blank line, and a line without a newline that awaits what is not there; no line at all; lines that end
-/// in a byte 13, and blank ones.
+/// No JSON, blank lines, lines that end in a byte 13, and a line without a newline; and no line at
+/// all.
 #[test]
 fn lines_are_numbered_from_the_first(rt: HostRuntime) -> Result<(), Fail> {
     let alloc = rt.alloc();
-    let text = b"{\"array\":\n   \n{\"await\":9}".to_vec(alloc)?;
-    assert_eq!(rt;
-        said(&rt, alloc, text, 2)?.as_slice(),
-        b"1 refused 1\n3 refused 21\n".as_slice()
-    );
-    assert_eq!(rt;
-        said(&rt, alloc, Vec::new(alloc), 2)?.as_slice(),
-        b"".as_slice()
-    );
-    let text = b"\t \r\n{\"await\":1}\r\n\n\n{".to_vec(alloc)?;
-    assert_eq!(rt;
-        said(&rt, alloc, text, 2)?.as_slice(),
-        b"2 refused 21\n5 refused 1\n".as_slice()
-    );
+    let text = b"{\"array\":\n   \n\t \r\n{\"await\":1}\r\n\n{";
+    let played = session(&rt, alloc, text.to_vec(alloc)?, 2, &[], &[])?;
+    assert!(rt; played.is_done(b"1 refused 1\n4 refused 21\n6 refused 1\n"));
+    let played = session(&rt, alloc, Vec::new(alloc), 2, &[], &[])?;
+    assert!(rt; played.is_done(b""));
     Ok(())
 }
 
-/// The first read gives two lines and a part of the third, and the second read fails.
+/// A name of 32 bytes, and one of 33. A path of more steps than one is none of the flow's.
 #[test]
-fn a_read_fails_in_a_line(rt: HostRuntime) -> Result<(), Fail> {
+fn names_and_paths_are_as_long_as_they_may_be(rt: HostRuntime) -> Result<(), Fail> {
     let alloc = rt.alloc();
-    let words = words(alloc, "play")?;
-    let gate = Arc::new(alloc, NoGate)?;
-    let mut source = MemSource::new(BEGIN.to_vec(alloc)?, 100, vec![in alloc; 2]?);
-    let mut station = station(alloc, Vec::new(alloc))?;
-    let status = serve(&rt, alloc, &words, &mut source, &mut station, &gate);
-    assert_eq!(rt; status, Status::ReadFault);
-    assert_eq!(rt; station.said(), b"1 array a 1\n2 flow f\n".as_slice());
-    Ok(())
-}
-
-#[test]
-fn the_third_reply_cannot_be_said(rt: HostRuntime) -> Result<(), Fail> {
-    let alloc = rt.alloc();
-    let words = words(alloc, "play")?;
-    let gate = Arc::new(alloc, NoGate)?;
-    let mut source = MemSource::new(BEGIN.to_vec(alloc)?, 16, Vec::new(alloc));
-    let mut station = station(alloc, vec![in alloc; 3]?)?;
-    let status = serve(&rt, alloc, &words, &mut source, &mut station, &gate);
-    assert_eq!(rt; status, Status::SayFault);
-    assert_eq!(rt; station.said(), b"1 array a 1\n2 flow f\n".as_slice());
+    let text = b"{\"array\":\"abcdefghijklmnopqrstuvwxyz_01234\",\"cells\":[[1]]}
+{\"array\":\"abcdefghijklmnopqrstuvwxyz_012345\",\"cells\":[[1]]}
+{\"flow\":\"f\",\"inputs\":1,\"nodes\":[{\"op\":\"neg\",\"from\":[{\"i\":0}]}]}
+{\"start\":\"f\",\"base\":[[\"abcdefghijklmnopqrstuvwxyz_01234\",1]]}
+{\"ask\":1,\"dir\":\"back\",\"path\":[[0,0]],\"cells\":[]}
+{\"ask\":1,\"dir\":\"back\",\"path\":[[0,0],[0,0]],\"cells\":[]}
+";
+    let replies = b"1 array abcdefghijklmnopqrstuvwxyz_01234 1
+2 refused 21
+3 flow f
+4 started 1
+5 cells 0
+6 refused 21
+";
+    let played = session(&rt, alloc, text.to_vec(alloc)?, 65_536, &[], &[])?;
+    assert!(rt; played.is_done(replies));
     Ok(())
 }
 
@@ -152,9 +168,9 @@ fn the_third_reply_cannot_be_said(rt: HostRuntime) -> Result<(), Fail> {
 fn other_words_read_nothing(rt: HostRuntime) -> Result<(), Fail> {
     let alloc = rt.alloc();
     let gate = Arc::new(alloc, NoGate)?;
-    let mut source = SteadySource::new(BEGIN.to_vec(alloc)?, 100);
-    let mut station = station(alloc, Vec::new(alloc))?;
-    let mut words = words(alloc, "Play")?;
+    let mut source = SteadySource::new(TEXT.to_vec(alloc)?, 100);
+    let mut station = MemStation::new(alloc, Vec::new(alloc), Vec::new(alloc), Vec::new(alloc))?;
+    let mut words = vec![in alloc; String::from_str(alloc, "Play")?]?;
     assert_eq!(rt;
         serve(&rt, alloc, &words, &mut source, &mut station, &gate),
         Status::Usage
@@ -178,20 +194,10 @@ fn other_words_read_nothing(rt: HostRuntime) -> Result<(), Fail> {
 
 #[test]
 fn statuses_have_their_numbers(rt: HostRuntime) {
-    assert_eq!(rt;
-        [
-            Status::Done as u8,
-            Status::Usage as u8,
-            Status::ReadFault as u8
-        ],
-        [0, 1, 2]
-    );
-    assert_eq!(rt;
-        [
-            Status::SayFault as u8,
-            Status::NoMemory as u8,
-            Status::InputLimit as u8
-        ],
-        [3, 8, 9]
-    );
+    assert_eq!(rt; Status::Done as u8, 0);
+    assert_eq!(rt; Status::Usage as u8, 1);
+    assert_eq!(rt; Status::ReadFault as u8, 2);
+    assert_eq!(rt; Status::SayFault as u8, 3);
+    assert_eq!(rt; Status::NoMemory as u8, 8);
+    assert_eq!(rt; Status::InputLimit as u8, 9);
 }

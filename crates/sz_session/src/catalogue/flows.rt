@@ -1,6 +1,7 @@
-// The flows held, in the order in which they came, with a set of their names.
-ghost use Rattle.std.specs.Prelude.{◌≡◌, [], ◌∷◌, ◌++◌, length, if◌then◌else◌, Some, None, OnOk, OnErr};
-ghost use Rattle.sz_session.specs.Catalogues.{named, numbered};
+//! The flows held, in the order in which they came, with a set of their names.
+ghost use Rattle.std.specs.Prelude.{◌≡◌, [], ◌∷◌, ◌++◌, length, if◌then◌else◌, Some, None, OnOk};
+ghost use Rattle.std.specs.Prelude.{OnErr};
+ghost use Rattle.sz_session.specs.Holdings.{things_named, thing_numbered};
 ghost use Rattle.sz_session.specs.Reading.{negation};
 
 use super::memory::own_text;
@@ -18,14 +19,15 @@ pub struct HeldFlows {
 
 impl Model for HeldFlows {
     ghost use Rattle.std.specs.Prelude.{List, map, string_bytes};
-    ghost use Rattle.sz_spec.specs.Flows.{Flow};
-    ghost use Rattle.sz_session.specs.Catalogues.{Named};
+    ghost use Rattle.sz_spec.specs.Flows.{Graph};
+    ghost use Rattle.sz_session.specs.Holdings.{Named};
     ghost use Rattle.sz_session.specs.Reading.{negation};
     ghost use Rattle.sz_session.specs.Kept.{IsNameSet};
 
-    ghost Value = { List (Named Flow) };
+    ghost Value = { List (Named Graph) };
 
-    ghost view = { λ f. map (λ x. record { name = string_bytes x; thing = negation }) f.list.items };
+    ghost view = { λ f. map
+        (λ x. record { name = string_bytes x; thing = negation }) f.list.items };
 
     ghost invariant = { λ f. IsNameSet f.names f.list.items };
 }
@@ -49,27 +51,26 @@ impl HeldFlows {
 
     /// Whether a flow has this name. Logarithmic in the names.
     pub fn contains(&self, name: &str) -> bool
-        ensures { numbered 1 (named name.now self.now) ≡ (if result then Some negation else None) }
+        ensures { thing_numbered 1 (things_named name.now self.now)
+            ≡ (if result then Some negation else None) }
     {
         self.names.contains(name)
     }
 
     /// Holds a flow under a name. Logarithmic in the names.
     pub fn push(&mut self, alloc: Global, name: &str) -> Result<(), NoMemory>
-        ensures held { OnOk result (self.new ≡ self.old ++ record { name = name.now; thing = negation } ∷ []) }
+        ensures held { OnOk result (self.new ≡ self.old ++ record {
+          name = name.now;
+          thing =
+              negation;
+        } ∷ []) }
         ensures err { OnErr result (self.new ≡ self.old) }
     {
         let held = own_text(alloc, name)?;
         let key = own_text(alloc, name)?;
-        if self.list.reserve(1).is_err() {
-            return Err(NoMemory);
-        }
-        match self.names.insert(key) {
-            Ok(_) => {
-                self.list.push_reserved(held);
-                Ok(())
-            }
-            Err(_) => Err(NoMemory),
-        }
+        self.list.reserve(1)?;
+        self.names.insert(key)?;
+        self.list.push_reserved(held);
+        Ok(())
     }
 }

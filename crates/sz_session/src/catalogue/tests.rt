@@ -7,7 +7,7 @@ use crate::reply::Reply;
 use std::alloc::Global;
 use std::test::Fail;
 use sz_cells::{Cell, Shape};
-use sz_spec::{Array, Op, Value};
+use sz_spec::{Array, Value};
 
 /// A reply in short: its version, or how many cells it has.
 #[derive(Clone, Copy, Debug, Drop, PartialEq, Eq)]
@@ -20,7 +20,7 @@ enum Said {
     Cells(u32),
 }
 
-fn in_short(reply: &Reply) -> Said {
+fn short_form(reply: &Reply) -> Said {
     match reply {
         Reply::Array { version, .. } => Said::Array(*version),
         Reply::Flow { .. } => Said::Flow,
@@ -34,7 +34,7 @@ fn in_short(reply: &Reply) -> Said {
 fn take(held: &mut Catalogue, command: Command) -> Result<Said, Fail> {
     match held.take(command)? {
         None => Ok(Said::Refused),
-        Some(reply) => Ok(in_short(&reply)),
+        Some(reply) => Ok(short_form(&reply)),
     }
 }
 
@@ -55,7 +55,8 @@ fn hold_night(alloc: Global, held: &mut Catalogue) -> Result<Said, Fail> {
     take(held, Command::Flow { name })
 }
 
-/// What a start of a flow on versions of an array says, where the array `sky` and the flow `night` are held.
+/// What a start of a flow on versions of an array says, where the array `sky` and the flow `night`
+/// are held.
 fn start(alloc: Global, flow: &str, array: &str, versions: &[u32]) -> Result<Said, Fail> {
     let mut held = Catalogue::new(alloc);
     let _array = hold_sky(alloc, &mut held)?;
@@ -73,7 +74,7 @@ fn start(alloc: Global, flow: &str, array: &str, versions: &[u32]) -> Result<Sai
 }
 
 /// A catalogue with one version started.
-fn started(alloc: Global) -> Result<Catalogue, Fail> {
+fn started_catalogue(alloc: Global) -> Result<Catalogue, Fail> {
     let mut held = Catalogue::new(alloc);
     let _array = hold_sky(alloc, &mut held)?;
     let _flow = hold_night(alloc, &mut held)?;
@@ -90,7 +91,7 @@ fn started(alloc: Global) -> Result<Catalogue, Fail> {
 
 /// What an ask of the one version says.
 fn ask(alloc: Global, path: &[PathStep], cells: &[Cell]) -> Result<Said, Fail> {
-    let mut held = started(alloc)?;
+    let mut held = started_catalogue(alloc)?;
     let path = Vec::from_slice(alloc, path)?;
     let cells = Vec::from_slice(alloc, cells)?;
     take(
@@ -141,7 +142,7 @@ fn a_start_needs_its_flow_and_one_array(rt: HostRuntime) -> Result<(), Fail> {
 
 #[test]
 fn a_version_is_awaited_again(rt: HostRuntime) -> Result<(), Fail> {
-    let mut held = started(rt.alloc())?;
+    let mut held = started_catalogue(rt.alloc())?;
     assert_eq!(rt;
         take(&mut held, Command::Await { version: 1 })?,
         Said::Done(1)
@@ -177,7 +178,7 @@ fn an_ask_gives_its_cells(rt: HostRuntime) -> Result<(), Fail> {
 #[test]
 fn the_least_number_has_no_negation(rt: HostRuntime) -> Result<(), Fail> {
     let input = row_of(rt.alloc(), &[Some(i64::MIN), None, Some(i64::MAX)])?;
-    let output = evaluate::output(rt.alloc(), &Op::Neg, &input)?;
+    let output = evaluate::negation(rt.alloc(), &input)?;
     assert_eq!(rt; output.cells(), [None, None, Some(-i64::MAX)].as_slice());
     Ok(())
 }

@@ -1,8 +1,9 @@
-// Numbers, names, texts and fields of a JSON value.
+//! Numbers, names, texts and fields of a JSON value.
 ghost use Rattle.std.specs.Prelude.{◌≡◌, map, option_map, option_and_then};
 ghost use Rattle.serde_json.specs.Find.{get, as_array};
 ghost use Rattle.serde_json.specs.View.{view, items_view};
-ghost use Rattle.sz_session.specs.Reading.{has_fields, number_of, is_number, is_name_byte, is_name, name_of, is_text, passes, two_items, one_item};
+ghost use Rattle.sz_session.specs.Reading.{has_fields, number_of, is_number, is_name_byte, is_name};
+ghost use Rattle.sz_session.specs.Reading.{name_of, is_text, passes, two_items, one_item};
 
 use serde_json::Value;
 
@@ -27,20 +28,47 @@ pub fn has_fields(value: &Value, names: &[&str]) -> bool
     true
 }
 
-/// A whole number from 0 to 4,294,967,295.
-pub fn number_of(value: &Value) -> Option<u32>
-    ensures { result ≡ number_of (view value.now) }
+/// The name of a field.
+pub fn name_at<'a>(value: &'a Value, key: &str) -> Option<&'a str>
+    ensures { option_map (λ s. s.now) result
+        ≡ option_and_then name_of (get key.now (view value.now)) }
 {
-    match value.as_u64() {
-        Some(n) => {
-            if n <= u32::MAX as u64 {
-                Some(n as u32)
-            } else {
-                None
-            }
-        }
+    match value.get(key) {
+        Some(field) => name_of(field),
         None => None,
     }
+}
+
+/// A name.
+pub fn name_of(value: &Value) -> Option<&str>
+    ensures { option_map (λ s. s.now) result ≡ name_of (view value.now) }
+{
+    match value.as_str() {
+        Some(text) => { if is_name(text) { Some(text) } else { None } }
+        None => None,
+    }
+}
+
+/// Whether a text is a name: 1 to 32 of a to z, 0 to 9 and _.
+fn is_name(text: &str) -> bool
+    ensures { result ≡ is_name text.now }
+{
+    let bytes = text.as_bytes();
+    if bytes.is_empty() || bytes.len() > NAME_LIMIT {
+        return false;
+    }
+    for byte in bytes {
+        if !is_name_byte(*byte) {
+            return false;
+        }
+    }
+    true
+}
+
+fn is_name_byte(byte: u8) -> bool
+    ensures { result ≡ is_name_byte byte }
+{
+    matches!(byte, b'a'..=b'z' | b'0'..=b'9' | b'_')
 }
 
 /// The number of a field.
@@ -63,6 +91,22 @@ pub fn is_number_at(value: &Value, key: &str, number: u32) -> bool
     }
 }
 
+/// A whole number from 0 to 4,294,967,295.
+pub fn number_of(value: &Value) -> Option<u32>
+    ensures { result ≡ number_of (view value.now) }
+{
+    match value.as_u64() {
+        Some(n) => {
+            if n <= u32::MAX as u64 {
+                Some(n as u32)
+            } else {
+                None
+            }
+        }
+        None => None,
+    }
+}
+
 /// Whether a field is this text.
 pub fn is_text_at(value: &Value, key: &str, text: &str) -> bool
     ensures { result ≡ passes (is_text text.now) (get key.now (view value.now)) }
@@ -76,51 +120,10 @@ pub fn is_text_at(value: &Value, key: &str, text: &str) -> bool
     }
 }
 
-fn is_name_byte(byte: u8) -> bool
-    ensures { result ≡ is_name_byte byte }
-{
-    matches!(byte, b'a'..=b'z' | b'0'..=b'9' | b'_')
-}
-
-/// Whether a text is a name: 1 to 32 of a to z, 0 to 9 and _.
-fn is_name(text: &str) -> bool
-    ensures { result ≡ is_name text.now }
-{
-    let bytes = text.as_bytes();
-    if bytes.is_empty() || bytes.len() > NAME_LIMIT {
-        return false;
-    }
-    for byte in bytes {
-        if !is_name_byte(*byte) {
-            return false;
-        }
-    }
-    true
-}
-
-/// A name.
-pub fn name_of(value: &Value) -> Option<&str>
-    ensures { option_map (λ s. s.now) result ≡ name_of (view value.now) }
-{
-    match value.as_str() {
-        Some(text) => { if is_name(text) { Some(text) } else { None } }
-        None => None,
-    }
-}
-
-/// The name of a field.
-pub fn name_at<'a>(value: &'a Value, key: &str) -> Option<&'a str>
-    ensures { option_map (λ s. s.now) result ≡ option_and_then name_of (get key.now (view value.now)) }
-{
-    match value.get(key) {
-        Some(field) => name_of(field),
-        None => None,
-    }
-}
-
 /// The list of a field.
 pub fn list_at<'a>(value: &'a Value, key: &str) -> Option<&'a Vec<Value>>
-    ensures { option_map (λ v. items_view v.now.items) result ≡ option_and_then as_array (get key.now (view value.now)) }
+    ensures { option_map (λ v. items_view v.now.items) result
+        ≡ option_and_then as_array (get key.now (view value.now)) }
 {
     match value.get(key) {
         Some(field) => field.as_array(),

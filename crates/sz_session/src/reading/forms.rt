@@ -1,7 +1,9 @@
-// The forms of a line: each gives the command of a value that has it.
+//! The forms of a line: each gives the command of a value that has it.
 ghost use Rattle.std.specs.Prelude.{◌≡◌, map, option_map, IfOk};
 ghost use Rattle.serde_json.specs.View.{view, items_view};
-ghost use Rattle.sz_session.specs.Reading.{each_of, array_form, flow_form, start_form, await_form, ask_form, is_first_input, is_negation, base_of, pair_of, step_of, asked_cell};
+ghost use Rattle.sz_session.specs.Reading.{each_of, array_form, flow_form, start_form, await_form};
+ghost use Rattle.sz_session.specs.Reading.{ask_form, is_first_input, is_negation, base_of, pair_of};
+ghost use Rattle.sz_session.specs.Reading.{step_of, asked_cell};
 ghost use Rattle.sz_session.specs.Seen.{order_seen, base_seen, step_seen};
 
 use super::{fields, rows};
@@ -30,26 +32,6 @@ pub fn array_command(alloc: Global, value: &Value) -> Result<Option<Command>, Al
     Ok(Some(Command::Array { name, array }))
 }
 
-/// {"i":0}
-fn is_first_input(value: &Value) -> bool
-    ensures { result ≡ is_first_input (view value.now) }
-{
-    fields::has_fields(value, &["i"]) && fields::is_number_at(value, "i", 0)
-}
-
-/// {"op":"neg","from":[{"i":0}]}
-fn is_negation(value: &Value) -> bool
-    ensures { result ≡ is_negation (view value.now) }
-{
-    if !fields::has_fields(value, &["op", "from"]) || !fields::is_text_at(value, "op", "neg") {
-        return false;
-    }
-    match fields::one_at(value, "from") {
-        Some(source) => is_first_input(source),
-        None => false,
-    }
-}
-
 /// {"flow":NAME,"inputs":1,"nodes":[{"op":"neg","from":[{"i":0}]}]}
 pub fn flow_command(alloc: Global, value: &Value) -> Result<Option<Command>, AllocError>
     ensures { IfOk result (λ o. option_map order_seen o ≡ flow_form (view value.now)) }
@@ -72,35 +54,24 @@ pub fn flow_command(alloc: Global, value: &Value) -> Result<Option<Command>, All
     Ok(Some(Command::Flow { name }))
 }
 
-/// [NAME,U]
-fn base_of(alloc: Global, value: &Value) -> Result<Option<BaseName>, AllocError>
-    ensures { IfOk result (λ o. option_map base_seen o ≡ base_of (view value.now)) }
+/// {"op":"neg","from":[{"i":0}]}
+fn is_negation(value: &Value) -> bool
+    ensures { result ≡ is_negation (view value.now) }
 {
-    let Some((name, version)) = fields::two_of(value) else {
-        return Ok(None);
-    };
-    let Some(name) = fields::name_of(name) else {
-        return Ok(None);
-    };
-    let Some(version) = fields::number_of(version) else {
-        return Ok(None);
-    };
-    let name = String::from_str(alloc, name)?;
-    Ok(Some(BaseName { name, version }))
+    if !fields::has_fields(value, &["op", "from"]) || !fields::is_text_at(value, "op", "neg") {
+        return false;
+    }
+    match fields::one_at(value, "from") {
+        Some(source) => is_first_input(source),
+        None => false,
+    }
 }
 
-/// [[NAME,U],..]
-fn bases_of(alloc: Global, list: &[Value]) -> Result<Option<Vec<BaseName>>, AllocError>
-    ensures { IfOk result (λ o. option_map (λ v. map base_seen v.items) o ≡ each_of base_of (items_view list.now)) }
+/// {"i":0}
+fn is_first_input(value: &Value) -> bool
+    ensures { result ≡ is_first_input (view value.now) }
 {
-    let mut bases = Vec::new(alloc);
-    for item in list {
-        let Some(base) = base_of(alloc, item)? else {
-            return Ok(None);
-        };
-        bases.push(base)?;
-    }
-    Ok(Some(bases))
+    fields::has_fields(value, &["i"]) && fields::is_number_at(value, "i", 0)
 }
 
 /// {"start":NAME,"base":[[NAME,U],..]}
@@ -123,6 +94,38 @@ pub fn start_command(alloc: Global, value: &Value) -> Result<Option<Command>, Al
     Ok(Some(Command::Start { name, base }))
 }
 
+/// [[NAME,U],..]
+fn bases_of(alloc: Global, list: &[Value]) -> Result<Option<Vec<BaseName>>, AllocError>
+    ensures { IfOk result (λ o. option_map (λ v. map base_seen v.items) o
+        ≡ each_of base_of (items_view list.now)) }
+{
+    let mut bases = Vec::new(alloc);
+    for item in list {
+        let Some(base) = base_of(alloc, item)? else {
+            return Ok(None);
+        };
+        bases.push(base)?;
+    }
+    Ok(Some(bases))
+}
+
+/// [NAME,U]
+fn base_of(alloc: Global, value: &Value) -> Result<Option<BaseName>, AllocError>
+    ensures { IfOk result (λ o. option_map base_seen o ≡ base_of (view value.now)) }
+{
+    let Some((name, version)) = fields::two_of(value) else {
+        return Ok(None);
+    };
+    let Some(name) = fields::name_of(name) else {
+        return Ok(None);
+    };
+    let Some(version) = fields::number_of(version) else {
+        return Ok(None);
+    };
+    let name = String::from_str(alloc, name)?;
+    Ok(Some(BaseName { name, version }))
+}
+
 /// {"await":U}
 pub fn await_command(value: &Value) -> Option<Command>
     ensures { option_map order_seen result ≡ await_form (view value.now) }
@@ -134,45 +137,6 @@ pub fn await_command(value: &Value) -> Option<Command>
         Some(version) => Some(Command::Await { version }),
         None => None,
     }
-}
-
-/// [U,U]
-fn pair_of(value: &Value) -> Option<(u32, u32)>
-    ensures { result ≡ pair_of (view value.now) }
-{
-    let (first, second) = fields::two_of(value)?;
-    match (fields::number_of(first), fields::number_of(second)) {
-        (Some(a), Some(b)) => Some((a, b)),
-        _ => None,
-    }
-}
-
-/// [[U,U],..] as steps
-fn path_of(alloc: Global, list: &[Value]) -> Result<Option<Vec<PathStep>>, AllocError>
-    ensures { IfOk result (λ o. option_map (λ v. map step_seen v.items) o ≡ each_of step_of (items_view list.now)) }
-{
-    let mut path = Vec::with_capacity(alloc, list.len())?;
-    for item in list {
-        let Some((node, input)) = pair_of(item) else {
-            return Ok(None);
-        };
-        path.push(PathStep { node, input })?;
-    }
-    Ok(Some(path))
-}
-
-/// [[U,U],..] as cells
-fn cells_of(alloc: Global, list: &[Value]) -> Result<Option<Vec<Cell>>, AllocError>
-    ensures { IfOk result (λ o. option_map (λ v. v.items) o ≡ each_of asked_cell (items_view list.now)) }
-{
-    let mut cells = Vec::with_capacity(alloc, list.len())?;
-    for item in list {
-        let Some((row, col)) = pair_of(item) else {
-            return Ok(None);
-        };
-        cells.push(Cell { row, col })?;
-    }
-    Ok(Some(cells))
 }
 
 /// {"ask":U,"dir":"back","path":[[U,U],..],"cells":[[U,U],..]}
@@ -204,4 +168,45 @@ pub fn ask_command(alloc: Global, value: &Value) -> Result<Option<Command>, Allo
         path,
         cells,
     }))
+}
+
+/// [[U,U],..] as steps
+fn path_of(alloc: Global, list: &[Value]) -> Result<Option<Vec<PathStep>>, AllocError>
+    ensures { IfOk result (λ o. option_map (λ v. map step_seen v.items) o
+        ≡ each_of step_of (items_view list.now)) }
+{
+    let mut path = Vec::with_capacity(alloc, list.len())?;
+    for item in list {
+        let Some((node, input)) = pair_of(item) else {
+            return Ok(None);
+        };
+        path.push(PathStep { node, input })?;
+    }
+    Ok(Some(path))
+}
+
+/// [[U,U],..] as cells
+fn cells_of(alloc: Global, list: &[Value]) -> Result<Option<Vec<Cell>>, AllocError>
+    ensures { IfOk result (λ o. option_map (λ v. v.items) o
+        ≡ each_of asked_cell (items_view list.now)) }
+{
+    let mut cells = Vec::with_capacity(alloc, list.len())?;
+    for item in list {
+        let Some((row, col)) = pair_of(item) else {
+            return Ok(None);
+        };
+        cells.push(Cell { row, col })?;
+    }
+    Ok(Some(cells))
+}
+
+/// [U,U]
+fn pair_of(value: &Value) -> Option<(u32, u32)>
+    ensures { result ≡ pair_of (view value.now) }
+{
+    let (first, second) = fields::two_of(value)?;
+    match (fields::number_of(first), fields::number_of(second)) {
+        (Some(a), Some(b)) => Some((a, b)),
+        _ => None,
+    }
 }

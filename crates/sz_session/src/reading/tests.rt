@@ -1,3 +1,5 @@
+//! Each form of a line, and lines that are refused.
+
 use super::read_line;
 use crate::command::{Command, LineFault, PathStep};
 use std::alloc::Global;

@@ -1,3 +1,4 @@
+-- A path of another length than one is not joined.
 use Rattle.std.proofs.Common.{sym}
 use Rattle.sz_session.proofs.Asks.{path-not_one}
 use Rattle.sz_session.proofs.ask.is_path.Goals as goal

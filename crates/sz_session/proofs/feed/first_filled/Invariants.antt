@@ -1,3 +1,4 @@
+-- The bytes so far are blank.
 use Rattle.std.proofs.Common.{◌≡◌, true, take}
 use Rattle.sz_session.specs.Lines.{is_blank}
 use Rattle.sz_session.proofs.feed.first_filled.Given as goal

@@ -1,3 +1,4 @@
+-- Of the negation a cell is related to itself.
 use Rattle.sz_session.proofs.LawsAsks.{ask-accepted, ask-held, answer-asked}
 use Rattle.sz_session.proofs.laws.asks_of_the_negation_give_the_asked_cells.Goals as goal
 

@@ -1,3 +1,4 @@
+-- A line comes to one of four things, three of them refusals.
 use Rattle.sz_session.proofs.LawsRefusals.{refused-two, refused-one, refused-last, refused-number}
 use Rattle.sz_session.proofs.laws.refusals_are_exact.Goals as goal
 

@@ -1,5 +1,6 @@
 -- The entry of the name is changed and no other: `text_keys` reads that off the call of `entry`.
-use Rattle.std.proofs.Common.{◌≡◌, ℕ, ◌+◌, List, [], ◌∷◌, cond, Some, unwrap_or, length, sym, ap, ◌∙◌, arith}
+use Rattle.std.proofs.Common.{◌≡◌, ℕ, ◌+◌, List, [], ◌∷◌, cond, Some, unwrap_or, length, sym, ap}
+use Rattle.std.proofs.Common.{◌∙◌, arith}
 use Rattle.std.specs.Arc.{arc_value}
 use Rattle.std.specs.BTreeMap.{get_by_text}
 use Rattle.std.specs.Str.{bytes_eq}
@@ -8,25 +9,39 @@ use Rattle.std.proofs.lemmas.Result.{IfOk-weaker, on_err_weaker}
 use Rattle.sz_session.proofs.CatalogueNames.{versions_in-here, versions_in-changed, versions_in-kept}
 use Rattle.sz_session.proofs.catalogue.arrays.enlist.Goals as goal
 
-pub returns-in-Ok-clause-added : goal.returns-in-Ok-clause-added
-returns-in-Ok-clause-added c =
-    let was : c.or_insert.result.now ≡ unwrap_or (get_by_text c.args.index.now c.args.name.now) c.new.result = grind (arith, text_keys) in
-    let after : (q : List ℕ) → get_by_text c.index-in-Ok-1.given.0 q ≡ cond (bytes_eq c.args.name.now q) (Some c.add.new.versions) (get_by_text c.args.index.now q) = λ q. grind (arith, text_keys) in
+pub returns-clause-added : goal.returns-clause-added
+returns-clause-added c =
+    let was : c.or_insert.result.now ≡ unwrap_or (get_by_text c.args.index.now c.args.name.now) c.new.result =
+    grind (arith, text_keys) in
+    let after : (q : List ℕ)
+    → get_by_text c.index-3-1.given.0 q
+    ≡ cond (bytes_eq c.args.name.now q) (Some c.add.new.versions) (get_by_text c.args.index.now q) =
+    λ q. grind (arith, text_keys) in
     IfOk-weaker c.add.result _ _
-    (λ n p. versions_in-changed c.args.index.now c.index-in-Ok-1.given.0 c.args.name.now c.or_insert.result.now c.add.new.versions c.new.result (arc_value c.args.array ∷ []) after was c.new.ensures.items p)
+    (λ n p. versions_in-changed c.args.index.now c.index-3-1.given.0 c.args.name.now c.or_insert.result.now
+    c.add.new.versions c.new.result (arc_value c.args.array ∷ []) after was c.new.ensures.items p)
     c.add.ensures.added
 
-pub returns-in-Ok-clause-count : goal.returns-in-Ok-clause-count
-returns-in-Ok-clause-count c =
-    let was : c.or_insert.result.now ≡ unwrap_or (get_by_text c.args.index.now c.args.name.now) c.new.result = grind (arith, text_keys) in
+pub returns-clause-count : goal.returns-clause-count
+returns-clause-count c =
+    let was : c.or_insert.result.now ≡ unwrap_or (get_by_text c.args.index.now c.args.name.now) c.new.result =
+    grind (arith, text_keys) in
     IfOk-weaker c.add.result _ _
-    (λ n p. p ∙ ap (λ (xs : List _). length xs + 1) (sym (versions_in-here c.args.index.now c.args.name.now c.or_insert.result.now c.new.result was c.new.ensures.items)))
+    (λ n p. p
+    ∙ ap (λ (xs : List _). length xs + 1)
+    (sym (versions_in-here c.args.index.now c.args.name.now c.or_insert.result.now c.new.result was
+    c.new.ensures.items)))
     c.add.ensures.count
 
-pub returns-in-Ok-clause-err : goal.returns-in-Ok-clause-err
-returns-in-Ok-clause-err c =
-    let was : c.or_insert.result.now ≡ unwrap_or (get_by_text c.args.index.now c.args.name.now) c.new.result = grind (arith, text_keys) in
-    let after : (q : List ℕ) → get_by_text c.index-in-Ok-1.given.0 q ≡ cond (bytes_eq c.args.name.now q) (Some c.add.new.versions) (get_by_text c.args.index.now q) = λ q. grind (arith, text_keys) in
+pub returns-clause-err : goal.returns-clause-err
+returns-clause-err c =
+    let was : c.or_insert.result.now ≡ unwrap_or (get_by_text c.args.index.now c.args.name.now) c.new.result =
+    grind (arith, text_keys) in
+    let after : (q : List ℕ)
+    → get_by_text c.index-3-1.given.0 q
+    ≡ cond (bytes_eq c.args.name.now q) (Some c.add.new.versions) (get_by_text c.args.index.now q) =
+    λ q. grind (arith, text_keys) in
     on_err_weaker c.add.result
-    (λ p. versions_in-kept c.args.index.now c.index-in-Ok-1.given.0 c.args.name.now c.or_insert.result.now c.add.new.versions c.new.result after was c.new.ensures.items p)
+    (λ p. versions_in-kept c.args.index.now c.index-3-1.given.0 c.args.name.now c.or_insert.result.now
+    c.add.new.versions c.new.result after was c.new.ensures.items p)
     c.add.ensures.err

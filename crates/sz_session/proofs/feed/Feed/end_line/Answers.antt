@@ -1,9 +1,32 @@
--- The line was answered as the step answers it, and that was said.
-use Rattle.sz_session.proofs.Turns.{advances-line}
+-- The line was answered as it orders, and that was said, or a part of it.
+use Rattle.std.proofs.lemmas.Result.{err_from_is_err_and}
+use Rattle.sz_session.proofs.Turns.{advances-line, told-line}
 use Rattle.sz_session.proofs.feed.Feed.end_line.Goals as goal
 
 pub returns-clause-line : goal.returns-clause-line
 returns-clause-line g c =
-    let answers = rw c.deref.ensures.value at c.in-Ok.ensures in
+    let replies = rw c.deref.ensures.value at c.in_ok-reply.ensures in
     rw (← c.self.view_is, c.clear.ensures.items)
-    (advances-line _ _ (record { catalogue = c.self.inside.catalogue; pending = c.self.inside.pending.items; number = c.self.inside.number }) _ _ c.self.invariant answers c.in_ok-say.ensures.said)
+    (advances-line _ _ (record {
+      catalogue = c.self.inside.catalogue;
+      pending = c.self.inside.pending.items;
+      number =
+          c.self.inside.number;
+    }) _ _ replies c.in_ok-say.ensures.said)
+
+pub returns-in_err-say-clause-part : goal.returns-in_err-say-clause-part
+returns-in_err-say-clause-part g c =
+    let replies = rw c.deref.ensures.value at c.in_ok-reply.ensures in
+    let p = err_from_is_err_and c.from_residual-in_err-say.result c.from_residual-in_err-say.ensures.1 in
+    rw (
+      p.1,
+      p.2,
+      ← c.self.view_is,
+      told-line (record {
+        catalogue = c.self.inside.catalogue;
+        pending = c.self.inside.pending.items;
+        number =
+            c.self.inside.number;
+      }) _ _ replies,
+    )
+    c.in_err-say.ensures.part

@@ -1,3 +1,4 @@
+-- The bytes up to where the next line begins were taken in.
 use Rattle.std.proofs.Common.{◌≤◌, ◌+◌, ◌-◌, length, take}
 use Rattle.sz_session.specs.Serving.{Advances}
 use Rattle.sz_session.proofs.feed.Feed.take_piece.Given as goal
@@ -5,7 +6,8 @@ use Rattle.sz_session.proofs.feed.Feed.take_piece.Given as goal
 abbrev pub invariant-loop-at : goal.invariant-loop-at
 invariant-loop-at g l = record {
   within : l.start ≤ length l.piece;
-  advances : Advances (g.T.Station.said l.initial.station) (g.T.Station.said l.station) l.initial.self l.self (take l.start l.piece);
+  advances : Advances (g.T.Station.said l.initial.station) (g.T.Station.said l.station) l.initial.self l.self
+      (take l.start l.piece);
   number : l.self.number ≤ l.initial.self.number + l.start;
   counts : g.T.Station.say_faults l.initial.station ≤ g.T.Station.say_faults l.station;
 }

@@ -10,10 +10,12 @@ returns-then-len-names c =
 
 pub returns-then-is_none : goal.returns-then-is_none
 returns-then-is_none c =
-    sym (no_field c.args.names.now _ _ c.loop-name.name-index _ c.get.result (sym c.in-Some.ensures) c.loop-name-test.true c.get.ensures c.if-is_none.ensures)
+    sym (no_field c.args.names.now _ _ c.loop-name.name-index _ c.get.result
+    (sym c.in-Some.ensures) c.loop-name-test.true c.get.ensures c.if-is_none.ensures)
 
 pub returns : goal.returns
 returns c =
     let same : length c.in-Some.members.now.entries ≡ length c.args.names.now = omega arith in
     let end : c.loop-name.name-index ≡ length c.args.names.now = omega arith in
-    sym (all_fields c.args.names.now _ c.in-Some.members.now.entries _ (sym c.in-Some.ensures) same end c.loop-name.invariant)
+    sym (all_fields c.args.names.now _ c.in-Some.members.now.entries _
+    (sym c.in-Some.ensures) same end c.loop-name.invariant)

@@ -1,3 +1,4 @@
+-- The value has each of the fields so far.
 use Rattle.std.proofs.Common.{◌≡◌, take, true, is_some}
 use Rattle.std.specs.List.{list_all}
 use Rattle.serde_json.specs.Find.{get}

@@ -1,3 +1,4 @@
+-- Each of the bytes so far may stand in a name.
 use Rattle.std.proofs.Common.{◌≡◌, take, true}
 use Rattle.std.specs.List.{list_all}
 use Rattle.sz_session.specs.Reading.{is_name_byte}

@@ -1,3 +1,4 @@
+-- The base arrays so far are those that the items so far name.
 use Rattle.std.proofs.Common.{map}
 use Rattle.sz_session.specs.Reading.{base_of}
 use Rattle.sz_session.specs.Seen.{base_seen}

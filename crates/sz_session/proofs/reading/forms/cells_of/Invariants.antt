@@ -1,3 +1,4 @@
+-- The cells so far are those that the items so far are.
 use Rattle.sz_session.specs.Reading.{asked_cell}
 use Rattle.sz_session.proofs.ReadingLists.{IsReadUpTo}
 use Rattle.sz_session.proofs.reading.forms.cells_of.Given as goal

@@ -1,3 +1,4 @@
+-- The steps so far are those that the items so far are.
 use Rattle.std.proofs.Common.{map}
 use Rattle.sz_session.specs.Reading.{step_of}
 use Rattle.sz_session.specs.Seen.{step_seen}

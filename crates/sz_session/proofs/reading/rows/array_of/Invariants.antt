@@ -1,3 +1,4 @@
+-- The cells so far are those of the rows so far, each of the width of the first.
 use Rattle.sz_session.proofs.ReadingRows.{IsJoinedUpTo}
 use Rattle.sz_session.proofs.reading.rows.array_of.Given as goal
 

@@ -6,7 +6,8 @@ use Rattle.sz_session.proofs.reading.rows.push_row.Goals as goal
 pub returns-then-len-width : goal.returns-then-len-width
 returns-then-len-width c =
     let long : length c.in-Some.items.now.items ≡ c.args.width = omega arith in
-    rw (row_same c.args.width _ c.in-Some.items.now.items (sym c.in-Some.ensures) long) (rw c.deref.ensures.value at c.push_values.ensures)
+    rw (row_same c.args.width _ c.in-Some.items.now.items (sym c.in-Some.ensures) long)
+    (rw c.deref.ensures.value at c.push_values.ensures)
 
 pub returns-else-len-width : goal.returns-else-len-width
 returns-else-len-width c =

@@ -1,0 +1,28 @@
+-- A line that has not ended and has a byte tells at the end what it tells where it ends; and else nothing is told.
+use Rattle.std.proofs.Common.{◌<◌, List, ℕ, length, subst, arith}
+use Rattle.std.proofs.lemmas.Bool.Decides.{nat_tests}
+use Rattle.std.proofs.lemmas.Result.{on_ok_weaker}
+use Rattle.sz_outside.specs.Outside.{Says, SaysPart}
+use Rattle.sz_session.specs.Moments.{Moment}
+use Rattle.sz_session.proofs.Turns.{told_at_end-line}
+use Rattle.sz_session.proofs.feed.Feed.end_input.Goals as goal
+
+pub returns-else-is_empty-clause-whole : goal.returns-else-is_empty-clause-whole
+returns-else-is_empty-clause-whole g c =
+    let P : Moment → Type 0 = λ m. 0 < length m.pending in
+    let some : 0 < length c.self.inside.pending.items = grind (arith, nat_tests) in
+    let Q : List ℕ
+    → Type 0 =
+    λ told. Says (g.T.Station.said c.args.station.now) (g.T.Station.said c.end_line.new.station) told in
+    on_ok_weaker c.end_line.result
+    (λ line. subst Q (told_at_end-line c.args.self.now (subst P c.self.view_is some)) line.says)
+    c.end_line.ensures.line
+
+pub returns-else-is_empty-clause-part : goal.returns-else-is_empty-clause-part
+returns-else-is_empty-clause-part g c =
+    let P : Moment → Type 0 = λ m. 0 < length m.pending in
+    let some : 0 < length c.self.inside.pending.items = grind (arith, nat_tests) in
+    let Q : List ℕ
+    → Type 0 =
+    λ told. SaysPart (g.T.Station.said c.args.station.now) (g.T.Station.said c.end_line.new.station) told in
+    λ e. subst Q (told_at_end-line c.args.self.now (subst P c.self.view_is some)) (c.end_line.ensures.part e)
