@@ -1,17 +1,35 @@
 //! The program: `subzero play` answers a session that comes on standard input, on standard output.
 //!
-//! All that it does is the call of `serve`. This file makes the real input and output, hands in the words,
-//! prints one line on standard error where the status is not Done, and ends with the status's number.
+//! All that it does is the call of `serve`. This file makes the real input and output, hands in the
+//! words, prints one line on standard error where the status is not Done, and ends with the number
+//! of the status.
 #![tactic(auto)]
+
+ghost use Rattle.std.specs.Prelude.{◌≡◌, ◌≢◌};
+ghost use Rattle.std.specs.IoError.{error_kind};
+ghost use Rattle.std.specs.Process.{exit_status};
+ghost use Rattle.subzero.specs.Endings.{error_line, exit_number};
 
 use std::alloc::Global;
 use std::env;
-use std::io::{self, ErrorKind};
+use std::io::{self, Eprint, ErrorKind};
 use std::process::ExitCode;
 use std::sync::{Arc, Wait};
 use std::thread::Threads;
 use sz_outside::{FileStation, NoGate, StdinSource};
 use sz_session::{Status, serve};
+
+fn main(rt: HostRuntime) -> ExitCode {
+    let status = match words_of(&rt) {
+        Ok(words) => {
+            let mut source = StdinSource::new(&rt);
+            let mut station = FileStation::closed(&rt);
+            run(&rt, rt.alloc(), &words, &mut source, &mut station)
+        }
+        Err(fault) => status_of(&fault),
+    };
+    end(&rt, status)
+}
 
 /// The words of the command line, without the program's name.
 fn words_of(rt: &HostRuntime) -> io::Result<Vec<String>> {
@@ -22,8 +40,11 @@ fn words_of(rt: &HostRuntime) -> io::Result<Vec<String>> {
     Ok(words)
 }
 
-/// The status where the words could not be had: a word that is no text is no word of a mode.
-fn status_of(fault: &io::Error) -> Status {
+/// The status where the words could not be read: a word that is no text is no word of a mode.
+fn status_of(fault: &io::Error) -> Status
+    ensures memory { error_kind fault.now ≡ ErrorKind.OutOfMemory → result ≡ Status.NoMemory }
+    ensures usage { error_kind fault.now ≢ ErrorKind.OutOfMemory → result ≡ Status.Usage }
+{
     if fault.kind() == ErrorKind::OutOfMemory {
         Status::NoMemory
     } else {
@@ -45,33 +66,42 @@ fn run<R: Threads + Wait + Clone + Send + Sync + 'static>(
     serve(rt, alloc, words, source, station, &gate)
 }
 
-/// The line that a status has on standard error.
-fn text_of(status: Status) -> &'static str {
-    match status {
-        Status::Done => "",
-        Status::Usage => {
-            "usage: subzero MODE [PLACE] [--workers N] [--askers N] [--seed N] [--side N]"
-        }
-        Status::ReadFault => "subzero: reading the session failed",
-        Status::SayFault => "subzero: writing a reply failed",
-        Status::NoMemory => "subzero: out of memory",
-        Status::InputLimit => "subzero: the session is too long",
+/// Prints the status's line, where it has one, and gives its number. That the line cannot be
+/// printed changes nothing: the number still tells how the session ended.
+fn end<E: Eprint>(rt: &E, status: Status) -> ExitCode
+    ensures { exit_status result ≡ exit_number status }
+{
+    let ending = ending_of(status);
+    if !ending.line.is_empty() {
+        let _ = rt.eprintln(ending.line);
     }
+    ExitCode::from(ending.number)
 }
 
-fn main(rt: HostRuntime) -> ExitCode {
-    let status = match words_of(&rt) {
-        Ok(words) => {
-            let mut source = StdinSource::new(&rt);
-            let mut station = FileStation::closed(&rt);
-            run(&rt, rt.alloc(), &words, &mut source, &mut station)
-        }
-        Err(fault) => status_of(&fault),
+/// How the program ends.
+#[derive(Clone, Copy, Debug, PartialEq, Eq)]
+struct Ending {
+    number: u8,
+    line: &'static str,
+}
+
+/// The exit number of a status and its line on standard error, which is empty for none.
+fn ending_of(status: Status) -> Ending
+    ensures number { result.number ≡ exit_number status }
+    ensures line { result.line.now ≡ error_line status }
+{
+    let (number, line) = match status {
+        Status::Done => (0, ""),
+        Status::Usage => (
+            1,
+            "usage: subzero MODE [PLACE] [--workers N] [--askers N] [--seed N] [--side N]",
+        ),
+        Status::ReadFault => (2, "subzero: reading the session failed"),
+        Status::SayFault => (3, "subzero: writing a reply failed"),
+        Status::NoMemory => (8, "subzero: out of memory"),
+        Status::InputLimit => (9, "subzero: the session is too long"),
     };
-    if status != Status::Done {
-        let _ = rt.eprintln(text_of(status));
-    }
-    ExitCode::from(status as u8)
+    Ending { number, line }
 }
 
 #[cfg(test)]

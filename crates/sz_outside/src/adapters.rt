@@ -1,110 +1,99 @@
-//! The real standard input and output. They tell nothing of their bytes, and keep a count of their faults.
-ghost use Rattle.std.specs.Prelude.{◌≡◌, ◌≤◌, ℕ, None, length, IfOk, OnOk, OnErr, is_ok, if◌then◌else◌};
+//! Sources and stations over streams, and so over standard input and output.
+//!
+//! Both are written and proved for any reader and any writer, and tell the bytes that their stream
+//! tells. The real streams tell none, but the body that serves them is the same, and cannot tell
+//! them apart from any other.
+ghost use Rattle.std.specs.Prelude.{◌≡◌, ◌≤◌, length, IfOk, OnOk, OnErr, IsTrue};
+ghost use Rattle.std.specs.Prelude.{is_ok, if◌then◌else◌};
 ghost use Rattle.sz_outside.specs.Outside.{Rose, Gives, Keeps, Says, SaysPart};
 ghost use Rattle.sz_outside.specs.Memory.{count_after};
 
-use crate::streams::{read_uninterrupted, write_out};
+use crate::streams::{Outlet, read_and_count, write_and_count};
 use crate::{Failed, Source, Station};
-use std::io::{Stdin, Stdout};
-use std::marker::Model;
+use std::io::{Read, Stdin, Stdout};
 
-/// Standard input. For contracts it is the count of its faults.
+/// Standard input.
+pub type StdinSource = ReaderSource<Stdin>;
+
+/// Standard output, with no disk.
+pub type FileStation = WriterStation<Stdout>;
+
+/// A source over a reader, with the count of its faults.
 #[derive(Drop)]
-pub struct StdinSource {
-    stdin: Stdin,
+pub struct ReaderSource<R> {
+    reader: R,
     faults: u64,
 }
 
-impl Model for StdinSource {
-    ghost use Rattle.std.specs.Prelude.{ℕ};
-
-    ghost Value = { ℕ };
-
-    ghost view = { λ s. s.faults };
-}
-
-impl StdinSource {
+impl ReaderSource<Stdin> {
     /// Standard input, with no faults so far.
     pub fn new(rt: &HostRuntime) -> StdinSource
-        ensures { result ≡ 0 }
+        ensures { result.faults ≡ 0 }
     {
-        StdinSource {
-            stdin: rt.stdin(),
+        ReaderSource {
+            reader: rt.stdin(),
             faults: 0,
         }
     }
 }
 
-impl Source for StdinSource {
-    ghost left = { λ _. None };
+impl<R: Read> Source for ReaderSource<R> {
+    ghost left = { λ s. R.remaining s.reader };
 
-    ghost faults = { λ faults. faults };
+    ghost faults = { λ s. s.faults };
 
     fn read(&mut self, into: &mut [u8]) -> Result<usize, Failed>
         ensures bound { IfOk result (λ n. n ≤ length into.new) }
-        ensures bytes { IfOk result (λ n. Gives None None into.new n) }
-        ensures failed { OnErr result (Rose self.old self.new) }
-        ensures kept { OnErr result (Keeps None None) }
-        ensures faults { self.old ≤ self.new }
+        ensures bytes { IfOk result (λ n.
+            Gives (R.remaining self.old.reader) (R.remaining self.new.reader) into.new n) }
+        ensures failed { OnErr result (Rose self.old.faults self.new.faults) }
+        ensures kept { OnErr result
+            (Keeps (R.remaining self.old.reader) (R.remaining self.new.reader)) }
+        ensures faults { self.old.faults ≤ self.new.faults }
 
-        ensures counted { self.new ≡ (if is_ok result then self.old else count_after self.old) }
+        ensures counted { self.new.faults
+            ≡ (if is_ok result then self.old.faults else count_after self.old.faults) }
     {
-        match read_uninterrupted(&mut self.stdin, into) {
-            Ok(count) => Ok(count),
-            Err(_) => {
-                self.faults = self.faults.saturating_add(1);
-                Err(Failed)
-            }
-        }
+        read_and_count(&mut self.reader, &mut self.faults, into)
     }
 }
 
-/// Standard output, with no disk. For contracts it is the count of its faults in saying.
+/// A station over a writer, with the count of its faults in saying, and with no disk.
 #[derive(Drop)]
-pub struct FileStation {
-    stdout: Stdout,
+pub struct WriterStation<W> {
+    writer: W,
     say_faults: u64,
 }
 
-impl Model for FileStation {
-    ghost use Rattle.std.specs.Prelude.{ℕ};
-
-    ghost Value = { ℕ };
-
-    ghost view = { λ s. s.say_faults };
-}
-
-impl FileStation {
+impl WriterStation<Stdout> {
     /// Standard output and no file, with no faults so far.
     pub fn closed(rt: &HostRuntime) -> FileStation
-        ensures { result ≡ 0 }
+        ensures { result.say_faults ≡ 0 }
     {
-        FileStation {
-            stdout: rt.stdout(),
+        WriterStation {
+            writer: rt.stdout(),
             say_faults: 0,
         }
     }
 }
 
-impl Station for FileStation {
-    ghost said = { λ _. None };
+impl<W: Outlet> Station for WriterStation<W> {
+    ghost said = { λ s. W.contents s.writer };
 
-    ghost say_faults = { λ faults. faults };
+    ghost say_faults = { λ s. s.say_faults };
 
     fn say(&mut self, bytes: &[u8]) -> Result<(), Failed>
-        ensures said { OnOk result (Says None None bytes.now) }
-        ensures part { OnErr result (SaysPart None None bytes.now) }
-        ensures failed { OnErr result (Rose self.old self.new) }
-        ensures faults { self.old ≤ self.new }
+        ensures said { OnOk result
+            (Says (W.contents self.old.writer) (W.contents self.new.writer) bytes.now) }
+        ensures part { OnErr result
+            (SaysPart (W.contents self.old.writer) (W.contents self.new.writer) bytes.now) }
+        ensures failed { OnErr result (Rose self.old.say_faults self.new.say_faults) }
+        ensures faults { self.old.say_faults ≤ self.new.say_faults }
 
-        ensures counted { self.new ≡ (if is_ok result then self.old else count_after self.old) }
+        ensures sent { OnOk result (IsTrue (W.holds_none self.new.writer)) }
+        ensures counted { self.new.say_faults
+            ≡ (if is_ok result then self.old.say_faults else count_after self.old.say_faults) }
     {
-        match write_out(&mut self.stdout, bytes) {
-            Ok(()) => Ok(()),
-            Err(_) => {
-                self.say_faults = self.say_faults.saturating_add(1);
-                Err(Failed)
-            }
-        }
+        write_and_count(&mut self.writer, &mut self.say_faults, bytes)
     }
 }

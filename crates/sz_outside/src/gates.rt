@@ -1,6 +1,10 @@
 //! The places at which a test may hold up a worker or an asker.
 
-/// Is called where a test may want to wait or to look. The program passes one that does nothing.
+/// Is called where a test may want to wait or to look. The program passes one that does nothing,
+/// and nothing calls it yet: workers and askers will.
+///
+/// It is `Send` and `Sync`, since threads share it, and `Drop`, since a thread's body must be able
+/// to let go of the gate that it holds.
 pub trait Gate: Send + Sync + Drop {
     /// Before a worker takes up this piece of the node.
     fn at_piece(&self, version: u32, node: u32, piece: u32);

@@ -1,12 +1,15 @@
-//! The edges of the program: where bytes come from, where they go, and where a test may hold up a thread.
+//! The edges of the program: where bytes come from, where they go, and where a test may hold up a
+//! thread.
 //!
-//! A [`Source`] gives bytes by `read`, and a [`Station`] takes what the program says by `say`. Each counts its faults,
-//! and answers `Failed` only where the count rose in that call. A [`Gate`] is called as a piece of work begins and as an
-//! ask was answered. The rest of the program is written for any of them.
+//! A [`Source`] gives bytes by `read`, and a [`Station`] takes what the program says by `say`. Each
+//! counts its faults, and answers `Failed` only where the count rose in that call. A [`Gate`] is
+//! called as a piece of work begins and as an ask was answered. The rest of the program is written
+//! for any of them.
 //!
-//! In memory there are `MemSource`, `SteadySource` and `MemStation`. They tell their bytes, so that a contract can
-//! speak of what was read and said, and they fail at the calls whose numbers they are given. `StdinSource` and
-//! `FileStation` stand over the real streams and tell nothing of their bytes. `NoGate` holds up nobody.
+//! In memory there are `MemSource`, `SteadySource` and `MemStation`. They tell their bytes, so that
+//! a contract can speak of what was read and said, and they fail at the calls whose numbers they
+//! are given. `StdinSource` and `FileStation` stand over the real streams, of whose bytes nothing
+//! is told. `NoGate` holds up nobody.
 //!
 //! ```
 //! let mut source = MemSource::new(b"12345".to_vec(alloc)?, 2, Vec::new(alloc));
@@ -19,20 +22,33 @@
 #![tactic(auto)]
 
 mod adapters;
+mod cursor;
 mod gates;
 mod sources;
 mod stations;
 mod streams;
-mod supply;
 
 pub use adapters::{FileStation, StdinSource};
 pub use gates::{Gate, NoGate};
 pub use sources::{MemSource, Source, SteadySource};
 pub use stations::{MemStation, Station};
+use std::alloc::{AllocError, AllocFailed};
 
 /// There was no memory for what the call had to make.
 #[derive(Clone, Copy, Debug, Drop, PartialEq, Eq)]
 pub struct NoMemory;
+
+impl From<AllocError> for NoMemory {
+    fn from(_fault: AllocError) -> NoMemory {
+        NoMemory
+    }
+}
+
+impl<T: Drop> From<AllocFailed<T>> for NoMemory {
+    fn from(_fault: AllocFailed<T>) -> NoMemory {
+        NoMemory
+    }
+}
 
 /// The call did not do its work, and its fault was counted.
 #[derive(Clone, Copy, Debug, Drop, PartialEq, Eq)]

@@ -1,22 +1,24 @@
-//! Where bytes come from.
-ghost use Rattle.std.specs.Prelude.{◌≡◌, ◌≤◌, ◌++◌, ℕ, List, Option, None, Some, Ok, length, take, drop, IfOk, OnErr, is_err};
+//! Where bytes come from: what a source is, and the two in memory.
+ghost use Rattle.std.specs.Prelude.{◌≡◌, ◌≤◌, ◌++◌, ℕ, List, Option, None, Some, Ok, IfOk, OnErr};
+ghost use Rattle.std.specs.Prelude.{length, take, drop, is_err};
 ghost use Rattle.sz_outside.specs.Outside.{Rose, Gives, Keeps};
-ghost use Rattle.sz_outside.specs.Memory.{bytes_given, fails_next, reading_after, supply_after};
+ghost use Rattle.sz_outside.specs.Memory.{bytes_given, fails_next, tape_after, supply_after};
 
 use crate::Failed;
-use crate::supply::Supply;
+use crate::cursor::Cursor;
 use std::marker::Model;
 
 /// Gives bytes in pieces of its own choice.
 ///
-/// Two meanings stand beside it: the bytes that are left, where it tells them, and the count of its faults.
+/// Two meanings stand beside it: the bytes that are left, where it tells them, and the count of its
+/// faults.
 pub trait Source {
     ghost left: { Self → Option (List ℕ) };
 
     ghost faults: { Self → ℕ };
 
-    /// Reads the next bytes into the front of `into`, at most as many as it has room for, and says how many. 0 for a
-    /// buffer with room means that no byte is left.
+    /// Reads the next bytes into the front of `into`, at most as many as it has room for, and says
+    /// how many. 0 for a buffer with room means that no byte is left.
     fn read(&mut self, into: &mut [u8]) -> Result<usize, Failed>
         ensures bound { IfOk result (λ n. n ≤ length into.new) }
         ensures bytes { IfOk result (λ n. Gives (left self.old) (left self.new) into.new n) }
@@ -28,19 +30,19 @@ pub trait Source {
 /// Bytes in memory, some of whose reads fail.
 #[derive(Drop)]
 pub struct MemSource {
-    supply: Supply,
+    cursor: Cursor,
     fails: Vec<u64>,
     reads: u64,
     faults: u64,
 }
 
 impl Model for MemSource {
-    ghost use Rattle.sz_outside.specs.Memory.{MemReading};
+    ghost use Rattle.sz_outside.specs.Memory.{Tape};
 
-    ghost Value = { MemReading };
+    ghost Value = { Tape };
 
     ghost view = { λ s. record {
-      supply = s.supply;
+      supply = s.cursor;
       fails = s.fails.items;
       reads = s.reads;
       faults = s.faults;
@@ -48,7 +50,8 @@ impl Model for MemSource {
 }
 
 impl MemSource {
-    /// A source of these bytes, of which a read gives at most `chunk`. The reads numbered in `fails`, counted from 1, fail.
+    /// A source of these bytes, of which a read gives at most `chunk`. The reads numbered in
+    /// `fails`, counted from 1, fail.
     pub fn new(bytes: Vec<u8>, chunk: u32, fails: Vec<u64>) -> MemSource
         requires { 1 ≤ chunk }
         ensures { result ≡ record {
@@ -59,7 +62,7 @@ impl MemSource {
         } }
     {
         MemSource {
-            supply: Supply::new(bytes, chunk),
+            cursor: Cursor::new(bytes, chunk),
             fails,
             reads: 0,
             faults: 0,
@@ -77,36 +80,38 @@ impl Source for MemSource {
         ensures bytes { IfOk result (λ n.
             Gives (Some self.old.supply.left) (Some self.new.supply.left) into.new n) }
         ensures failed { OnErr result (Rose self.old.faults self.new.faults) }
-        ensures kept { OnErr result (Keeps (Some self.old.supply.left) (Some self.new.supply.left)) }
+        ensures kept { OnErr result
+            (Keeps (Some self.old.supply.left) (Some self.new.supply.left)) }
         ensures faults { self.old.faults ≤ self.new.faults }
 
         ensures fails { is_err result ≡ fails_next self.old.fails self.old.reads }
         ensures count { IfOk result (λ n. n ≡ bytes_given self.old.supply (length into.old)) }
-        ensures filled { IfOk result (λ n. into.new ≡ take n self.old.supply.left ++ drop n into.old) }
+        ensures filled { IfOk result (λ n.
+            into.new ≡ take n self.old.supply.left ++ drop n into.old) }
         ensures untouched { OnErr result (into.new ≡ into.old) }
-        ensures after { self.new ≡ reading_after self.old (length into.old) }
+        ensures after { self.new ≡ tape_after self.old (length into.old) }
     {
         self.reads = self.reads.saturating_add(1);
         if self.fails.contains(&self.reads) {
             self.faults = self.faults.saturating_add(1);
             return Err(Failed);
         }
-        Ok(self.supply.give(into))
+        Ok(self.cursor.give(into))
     }
 }
 
 /// Bytes in memory, none of whose reads fails.
 #[derive(Drop)]
 pub struct SteadySource {
-    supply: Supply,
+    cursor: Cursor,
 }
 
 impl Model for SteadySource {
-    ghost use Rattle.sz_outside.specs.Memory as memory;
+    ghost use Rattle.sz_outside.specs.Memory.{Supply};
 
-    ghost Value = { memory.Supply };
+    ghost Value = { Supply };
 
-    ghost view = { λ s. s.supply };
+    ghost view = { λ s. s.cursor };
 }
 
 impl SteadySource {
@@ -116,7 +121,7 @@ impl SteadySource {
         ensures { result ≡ record { left = bytes.items; chunk = chunk } }
     {
         SteadySource {
-            supply: Supply::new(bytes, chunk),
+            cursor: Cursor::new(bytes, chunk),
         }
     }
 }
@@ -128,7 +133,8 @@ impl Source for SteadySource {
 
     fn read(&mut self, into: &mut [u8]) -> Result<usize, Failed>
         ensures bound { IfOk result (λ n. n ≤ length into.new) }
-        ensures bytes { IfOk result (λ n. Gives (Some self.old.left) (Some self.new.left) into.new n) }
+        ensures bytes { IfOk result (λ n.
+            Gives (Some self.old.left) (Some self.new.left) into.new n) }
         ensures failed { OnErr result (Rose 0 0) }
         ensures kept { OnErr result (Keeps (Some self.old.left) (Some self.new.left)) }
         ensures faults { 0 ≤ 0 }
@@ -137,6 +143,6 @@ impl Source for SteadySource {
         ensures filled { IfOk result (λ n. into.new ≡ take n self.old.left ++ drop n into.old) }
         ensures after { IfOk result (λ n. self.new ≡ supply_after self.old n) }
     {
-        Ok(self.supply.give(into))
+        Ok(self.cursor.give(into))
     }
 }

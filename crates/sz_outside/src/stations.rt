@@ -1,7 +1,8 @@
-//! Where bytes go.
-ghost use Rattle.std.specs.Prelude.{◌≡◌, ◌≤◌, ◌++◌, ℕ, [], List, Option, Some, IsTrue, IsErr, IfOk, OnOk, OnErr, is_ok};
+//! Where bytes go: what a station is, and the one in memory.
+ghost use Rattle.std.specs.Prelude.{◌≡◌, ◌≤◌, ◌++◌, ℕ, [], List, Option, Some, is_ok};
+ghost use Rattle.std.specs.Prelude.{IsTrue, IsErr, IfOk, OnOk, OnErr};
 ghost use Rattle.sz_outside.specs.Outside.{Rose, Says, SaysPart};
-ghost use Rattle.sz_outside.specs.Memory.{fails_next, saying_after};
+ghost use Rattle.sz_outside.specs.Memory.{fails_next, ledger_after};
 
 use crate::{Failed, NoMemory};
 use std::alloc::Global;
@@ -9,7 +10,8 @@ use std::marker::Model;
 
 /// Takes the bytes that the program says.
 ///
-/// Two meanings stand beside it: the bytes said so far, where it tells them, and the count of its faults in saying.
+/// Two meanings stand beside it: the bytes said so far, where it tells them, and the count of its
+/// faults in saying.
 pub trait Station {
     ghost said: { Self → Option (List ℕ) };
 
@@ -35,9 +37,9 @@ pub struct MemStation {
 }
 
 impl Model for MemStation {
-    ghost use Rattle.sz_outside.specs.Memory.{MemSaying};
+    ghost use Rattle.sz_outside.specs.Memory.{Ledger};
 
-    ghost Value = { MemSaying };
+    ghost Value = { Ledger };
 
     ghost view = { λ s. record {
       said = s.said.items;
@@ -50,8 +52,8 @@ impl Model for MemStation {
 }
 
 impl MemStation {
-    /// A station with this disk, nothing said and no faults. The disk calls and the says of these numbers, counted from
-    /// 1, fail.
+    /// A station with this disk, nothing said and no faults. The disk calls and the says of these
+    /// numbers, counted from 1, fail.
     pub fn new(
         alloc: Global,
         disk: Vec<u8>,
@@ -98,7 +100,7 @@ impl Station for MemStation {
 
         // A say whose number is not among these fails only where it finds no memory.
         ensures fails { IsTrue (fails_next self.old.say_fails self.old.says) → IsErr result }
-        ensures after { self.new ≡ saying_after self.old bytes.now (is_ok result) }
+        ensures after { self.new ≡ ledger_after self.old bytes.now (is_ok result) }
     {
         self.says = self.says.saturating_add(1);
         if self.say_fails.contains(&self.says) || self.said.extend_from_slice(bytes).is_err() {

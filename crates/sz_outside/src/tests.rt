@@ -1,7 +1,10 @@
-ghost use Rattle.std.specs.Prelude.{◌≤◌, length, IfOk};
+//! Each form of a source and a station once on its happy path, through its trait, and what no
+//! clause says: that a call can succeed, and what the real streams do.
+ghost use Rattle.std.specs.Prelude.{◌≤◌, length, IfOk, not};
 
-use crate::streams::{read_uninterrupted, write_out};
+use crate::streams::{Outlet, read_and_count, write_and_count};
 use crate::*;
+use std::alloc::Global;
 use std::io;
 use std::io::{ErrorKind, Read, Write};
 use std::test::Fail;
@@ -16,18 +19,18 @@ fn say_to<S: Station>(station: &mut S, bytes: &[u8]) -> Result<(), Failed> {
     station.say(bytes)
 }
 
-fn passes<G: Gate>(gate: &G) {
+fn call_gate<G: Gate>(gate: &G) {
     gate.at_piece(1, 0, 3);
     gate.after_ask(7);
 }
 
-fn is_sent<T: Send>(_value: &T) {}
+fn need_send<T: Send>(_value: &T) {}
 
 #[test]
 fn a_source_gives_its_bytes_in_pieces(rt: HostRuntime) -> Result<(), Fail> {
     let alloc = rt.alloc();
     let mut source = MemSource::new(b"lineage".to_vec(alloc)?, 3, Vec::new(alloc));
-    is_sent(&source);
+    need_send(&source);
     let mut into = [0; 8];
     let first = read_from(&mut source, &mut into)?;
     assert_eq!(rt; &into[..first], b"lin".as_slice());
@@ -58,7 +61,7 @@ fn a_read_that_fails_takes_no_byte(rt: HostRuntime) -> Result<(), Fail> {
 #[test]
 fn a_steady_source_gives_one_byte_at_a_time(rt: HostRuntime) -> Result<(), Fail> {
     let mut source = SteadySource::new(b"ok".to_vec(rt.alloc())?, 1);
-    is_sent(&source);
+    need_send(&source);
     let mut into = [0; 4];
     assert_eq!(rt; read_from(&mut source, &mut into), Ok(1));
     assert_eq!(rt; into, *b"o\0\0\0");
@@ -73,7 +76,7 @@ fn a_station_keeps_what_is_said(rt: HostRuntime) -> Result<(), Fail> {
     let alloc = rt.alloc();
     let say_fails = [2].to_vec(alloc)?;
     let mut station = MemStation::new(alloc, Vec::new(alloc), Vec::new(alloc), say_fails)?;
-    is_sent(&station);
+    need_send(&station);
     assert_eq!(rt; station.said(), b"".as_slice());
     say_to(&mut station, b"1 done\n")?;
     assert_eq!(rt; say_to(&mut station, b"2 done\n"), Err(Failed));
@@ -83,9 +86,35 @@ fn a_station_keeps_what_is_said(rt: HostRuntime) -> Result<(), Fail> {
 }
 
 #[test]
+fn a_station_says_a_megabyte(rt: HostRuntime) -> Result<(), Fail> {
+    let alloc = rt.alloc();
+    let mut station = MemStation::new(alloc, Vec::new(alloc), Vec::new(alloc), Vec::new(alloc))?;
+    let bytes = vec![in alloc; b'x'; 1_048_576]?;
+    say_to(&mut station, b"<")?;
+    say_to(&mut station, &bytes)?;
+    say_to(&mut station, b">")?;
+    assert_eq!(rt; station.said().len(), 1_048_578);
+    assert_eq!(rt; station.said().first(), Some(&b'<'));
+    assert_eq!(rt; station.said().last(), Some(&b'>'));
+    Ok(())
+}
+
+fn numbers(alloc: Global) -> Result<Vec<u64>, NoMemory> {
+    let mut numbers = [1].to_vec(alloc)?;
+    numbers.push(2)?;
+    Ok(numbers)
+}
+
+#[test]
+fn want_of_memory_is_passed_on_by_a_question_mark(rt: HostRuntime) -> Result<(), Fail> {
+    assert_eq!(rt; numbers(rt.alloc())?.as_slice(), [1, 2].as_slice());
+    Ok(())
+}
+
+#[test]
 fn the_real_output_is_said_to(rt: HostRuntime) -> Result<(), Fail> {
     let mut station = FileStation::closed(&rt);
-    is_sent(&station);
+    need_send(&station);
     say_to(&mut station, b"said\n")?;
     Ok(())
 }
@@ -93,62 +122,153 @@ fn the_real_output_is_said_to(rt: HostRuntime) -> Result<(), Fail> {
 #[test]
 fn the_real_input_is_read(rt: HostRuntime) -> Result<(), Fail> {
     let mut source = StdinSource::new(&rt);
-    is_sent(&source);
+    need_send(&source);
     assert_eq!(rt; read_from(&mut source, &mut []), Ok(0));
     Ok(())
 }
 
 #[test]
 fn no_gate_holds_nobody() {
-    passes(&NoGate);
+    call_gate(&NoGate);
 }
 
-// A reader whose first reads are interrupted, and a writer that takes two bytes at a time until it has taken its fill.
+/// A reader of endless bytes, two at a time, whose next reads a signal breaks off, and the others
+/// of which work until it is torn.
 #[derive(Drop)]
-struct Interrupted {
-    times: u8,
+struct Pipe {
+    signals: u8,
+    is_torn: bool,
 }
 
-impl Read for Interrupted {
+impl Read for Pipe {
     fn read(&mut self, into: &mut [u8]) -> io::Result<usize> {
-        if self.times > 0 {
-            self.times -= 1;
+        if self.signals > 0 {
+            self.signals -= 1;
             return Err(io::Error::from(ErrorKind::Interrupted));
+        }
+        if self.is_torn {
+            return Err(io::Error::from(ErrorKind::BrokenPipe));
         }
         Ok(into.len().min(2))
     }
 }
 
+/// A writer that takes two bytes at a time until it has no room, whose next writes a signal breaks
+/// off. It holds what it takes until it is flushed.
 #[derive(Drop)]
-struct Narrow {
+struct Sink {
+    signals: u8,
     room: usize,
+    is_stuck: bool,
+    holds_some: bool,
 }
 
-impl Write for Narrow {
+impl Write for Sink {
     fn write(&mut self, bytes: &[u8]) -> io::Result<usize> {
+        if self.signals > 0 {
+            self.signals -= 1;
+            return Err(io::Error::from(ErrorKind::Interrupted));
+        }
         let count = bytes.len().min(2);
         if count > self.room {
             return Err(io::Error::from(ErrorKind::StorageFull));
         }
         self.room -= count;
+        self.holds_some = true;
         Ok(count)
     }
 
     fn flush(&mut self) -> io::Result<()> {
+        self.hand_on()
+    }
+}
+
+impl Outlet for Sink {
+    ghost holds_none = { λ sink. not sink.holds_some };
+
+    fn hand_on(&mut self) -> io::Result<()> {
+        if self.is_stuck {
+            return Err(io::Error::from(ErrorKind::StorageFull));
+        }
+        self.holds_some = false;
         Ok(())
     }
 }
 
-#[test]
-fn an_interrupted_read_is_tried_again(rt: HostRuntime) -> Result<(), Fail> {
-    let mut reader = Interrupted { times: 2 };
-    assert_eq!(rt; read_uninterrupted(&mut reader, &mut [0; 4])?, 2);
-    assert_eq!(rt; reader.times, 0);
-    Ok(())
+/// A sink with this much room.
+fn sink_with(room: usize) -> Sink {
+    Sink {
+        signals: 0,
+        room,
+        is_stuck: false,
+        holds_some: false,
+    }
 }
 
 #[test]
-fn a_write_that_fails_midway_fails(rt: HostRuntime) {
-    assert!(rt; write_out(&mut Narrow { room: 5 }, b"12345").is_ok());
-    assert!(rt; write_out(&mut Narrow { room: 4 }, b"12345").is_err());
+fn a_read_that_a_signal_broke_off_is_tried_again(rt: HostRuntime) {
+    let mut pipe = Pipe {
+        signals: 2,
+        is_torn: false,
+    };
+    let mut faults = 0;
+    assert_eq!(rt; read_and_count(&mut pipe, &mut faults, &mut [0; 4]), Ok(2));
+    assert_eq!(rt; pipe.signals, 0);
+    assert_eq!(rt; faults, 0);
+}
+
+#[test]
+fn a_stream_read_that_fails_is_counted(rt: HostRuntime) {
+    let mut pipe = Pipe {
+        signals: 1,
+        is_torn: true,
+    };
+    let mut faults = u64::MAX - 1;
+    assert_eq!(rt;
+        read_and_count(&mut pipe, &mut faults, &mut [0; 4]),
+        Err(Failed)
+    );
+    assert_eq!(rt; faults, u64::MAX);
+    assert_eq!(rt;
+        read_and_count(&mut pipe, &mut faults, &mut [0; 4]),
+        Err(Failed)
+    );
+    assert_eq!(rt; faults, u64::MAX);
+}
+
+#[test]
+fn a_say_is_written_and_flushed(rt: HostRuntime) {
+    let mut sink = sink_with(9);
+    sink.signals = 3;
+    let mut faults = 0;
+    assert_eq!(rt; write_and_count(&mut sink, &mut faults, b"12345"), Ok(()));
+    assert_eq!(rt; sink.signals, 0);
+    assert_eq!(rt; sink.room, 4);
+    assert!(rt; !sink.holds_some);
+    assert_eq!(rt; faults, 0);
+}
+
+#[test]
+fn a_write_that_fails_midway_is_counted(rt: HostRuntime) {
+    let mut sink = sink_with(4);
+    let mut faults = 0;
+    assert_eq!(rt;
+        write_and_count(&mut sink, &mut faults, b"12345"),
+        Err(Failed)
+    );
+    assert_eq!(rt; sink.room, 0);
+    assert_eq!(rt; faults, 1);
+}
+
+#[test]
+fn a_flush_that_fails_is_counted(rt: HostRuntime) {
+    let mut sink = sink_with(5);
+    sink.is_stuck = true;
+    let mut faults = 0;
+    assert_eq!(rt;
+        write_and_count(&mut sink, &mut faults, b"12345"),
+        Err(Failed)
+    );
+    assert_eq!(rt; sink.room, 0);
+    assert_eq!(rt; faults, 1);
 }

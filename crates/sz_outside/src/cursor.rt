@@ -6,29 +6,29 @@ use std::marker::Model;
 
 /// Bytes, the place of the next one, and the most that one read gives.
 #[derive(Drop)]
-pub(crate) struct Supply {
+pub(crate) struct Cursor {
     bytes: Vec<u8>,
     at: usize,
     chunk: u32,
 }
 
-impl Model for Supply {
+impl Model for Cursor {
     ghost use Rattle.std.specs.Prelude.{◌≤◌, drop, length};
-    ghost use Rattle.sz_outside.specs.Memory as memory;
+    ghost use Rattle.sz_outside.specs.Memory.{Supply};
 
-    ghost Value = { memory.Supply };
+    ghost Value = { Supply };
 
     ghost view = { λ s. record { left = drop s.at s.bytes.items; chunk = s.chunk } };
 
     ghost invariant = { λ s. (s.at ≤ length s.bytes.items) × (1 ≤ s.chunk) };
 }
 
-impl Supply {
-    pub(crate) fn new(bytes: Vec<u8>, chunk: u32) -> Supply
+impl Cursor {
+    pub(crate) fn new(bytes: Vec<u8>, chunk: u32) -> Cursor
         requires { 1 ≤ chunk }
         ensures { result ≡ record { left = bytes.items; chunk = chunk } }
     {
-        Supply {
+        Cursor {
             bytes,
             at: 0,
             chunk,
