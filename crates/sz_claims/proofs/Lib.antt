@@ -1,4 +1,7 @@
+-- The lemmas, from the counts up to the laws. Reach is for callers.
 mod Counts
-pub mod Reached
+mod Change
+pub mod Reach
 mod Readings
+mod Rows
 mod Steps

@@ -1,12 +1,15 @@
-//! Claims on pieces, without a lock: several threads share out numbered pieces of work, and no piece goes to two of them.
+//! Claims on pieces, without a lock: several threads share out numbered pieces of work, and no
+//! piece goes to two of them.
 //!
-//! A [`Claims`] is a row of words, one for each piece, 0 while it is free and 1 once it is claimed. A [`ClaimPass`] is
-//! the right to claim pieces of one such table. It takes no bytes, and contracts see in it which pieces it claimed and
-//! which it met claimed, each in the order of its claims.
+//! A [`Claims`] is a row of words, one for each piece, 0 while it is free and 1 once it is claimed.
+//! A [`ClaimPass`] is the right to claim pieces of one such table, and takes no bytes. Contracts
+//! see in it which pieces it claimed and which it met claimed, each in the order of its claims.
+//! They see the word that its last claim found, how many compare-exchanges (`tries`), looks and
+//! splits it made, and its `depth`, the number of splits between the first pass and it.
 //!
-//! - `Claims::new` makes a table whose pieces are all free, and its first pass.
-//! - `claim` is one compare-exchange. It takes no memory and waits for nobody. True: this step took the free piece.
-//!   False: this step found the piece claimed, be it by this pass or by another.
+//! - `Claims::new` makes a table and its first pass, which has no piece and made no step.
+//! - `claim` is one compare-exchange. It takes no memory and waits for nobody. True: this step took
+//!   the free piece. False: this step found the piece claimed, be it by this pass or by another.
 //! - `split` makes one more pass, for one more thread.
 //! - `join` puts a pass into another, once its thread is done. No piece was in the lists of both.
 //!
@@ -21,57 +24,145 @@
 //! claims.join(&mut mine, theirs);  // mine has claimed 0 and 2, and met 0
 //! ```
 //!
-//! Between any two steps a word is the number of times that its piece stands in the lists of claimed pieces of all
-//! passes, and it is 0 or 1. So a claimed piece is in the list of one pass, once, and a free one in none. A piece that
-//! a pass met is claimed. A pass that was joined has empty lists.
+//! # What is proved of the steps
 //!
-//! Nothing is said of who wins a piece, that any claim is ever won, or that a thread gets on. A pass that is dropped
-//! keeps its pieces, which nobody can claim again.
+//! [`laws`] says it in public clauses:
 //!
-//! A loop that claims piece after piece keeps that each piece so far is claimed or met. `reached` in
-//! `proofs/Reached.antt` is the lemma for its step.
+//! - Between any two steps a word is the number of times that its piece stands in the lists of
+//!   claimed pieces of all passes, and it is 0 or 1. So a claimed piece is in the list of one pass,
+//!   once, and a free one in none. A piece that a pass met is claimed. A first pass that was never
+//!   split is alone.
+//! - A try is a compare-exchange of 0 for 1, won or lost. A look, a split and a join change no
+//!   word. Each kind of step says what it changes of the pass that makes it, and leaves all other
+//!   passes.
+//! - No step of any kind that keeps the rule loses a free piece, or wins a claimed one.
 //!
-//! To whoever changes this crate: `src/rule.rt` says which steps there are, `specs/Rule.antt` what they do, and
-//! `proofs/Steps.antt` has one lemma for each. A join ends with a load that changes nothing, since the step that joins
+//! So a `claim` that is false found the piece claimed, and a pass that is alone wins each piece
+//! that it has not claimed. That `claim` makes one try and nothing else is a clause, since each
+//! call by which it can reach the words is counted.
+//!
+//! # What is not
+//!
+//! - A lost compare-exchange changes nothing, so no clause can tell it from a load that finds 1. A
+//!   try says by which operands it is made, so no other call makes one. That no further kind of
+//!   step is made beside the four, and no load that tells the pass nothing, is read in
+//!   `src/words.rt`: it alone reaches the table, by five calls of a line or two. A split and a join
+//!   each load a word for the step, which is not counted.
+//! - Of several passes nothing is said of who wins a piece, nor that any does, nor that a thread
+//!   gets on.
+//! - A pass that is dropped keeps its pieces, which nobody can claim again.
+//!
+//! A loop that claims piece after piece keeps that each piece so far is claimed or met.
+//! `reach-next` in `proofs/Reach.antt` is the lemma for its step.
+//!
+//! To whoever changes this crate: `src/rule.rt` has the kinds of step, `specs/Rule.antt` what they
+//! tell, `specs/Changes.antt` and `specs/Owners.antt` what the laws say of them, and
+//! `proofs/Steps.antt` one lemma for each. A join ends with a look, since the step that joins
 //! cannot tell its caller what the rule says.
 #![tactic(auto)]
 
-ghost use Rattle.std.specs.Prelude.{◌≡◌, ◌<◌, ◌≤◌, [], ◌∷◌, ◌++◌, IfOk, Contains, true, false, Some, None};
+ghost use Rattle.std.specs.Prelude.{◌≡◌, ◌<◌, ◌≤◌, ◌+◌, [], ◌∷◌, ◌++◌, IfOk, Contains};
+ghost use Rattle.std.specs.Prelude.{true, false, Some};
 ghost use Rattle.std.specs.Arc.{arc_value};
-ghost use Rattle.sz_claims.specs.Claims.{AreDisjoint, ClaimsView, PassView};
+ghost use Rattle.sz_claims.specs.Claims.{AreDisjoint, newcomer};
 
+pub mod laws;
 mod rule;
 #[cfg(test)]
 mod tests;
+mod words;
 
-use crate::rule::{Looks, OnePassEach, StartsFresh, TakesBoth, Tries, View};
-use atomic_table::{Seat, Table};
-use std::alloc::Global;
+use crate::rule::View;
+use crate::words::Words;
+use atomic_table::Seat;
+use std::alloc::{AllocError, AllocFailed, Global};
 use std::marker::Model;
 use std::sync::Arc;
 
-/// There was no memory for what the call had to make.
-#[derive(Clone, Copy, Debug, Drop, PartialEq, Eq)]
-pub struct NoMemory;
-
-/// Pieces numbered from 0, each free or claimed by one pass. Contracts see which table it is, and how many pieces it has.
-/// Threads share it by a reference or an `Arc`.
+/// Pieces numbered from 0, each free or claimed by one pass. Contracts see which table it is, and
+/// how many pieces it has. Threads share it by a reference or an `Arc`.
 #[derive(Drop)]
 pub struct Claims {
-    table: Table<(), View, usize, OnePassEach, Global>,
-    ghost sized: { (table.shared.key ≡ table.shared.table_id.words) × (0 < table.shared.table_id.words) },
+    words: Words,
+}
+
+impl Claims {
+    /// A table whose pieces are all free, and its first pass. The cost is linear in the number of
+    /// pieces.
+    pub fn new(alloc: Global, pieces: u32) -> Result<(Arc<Claims>, ClaimPass), NoMemory>
+        requires { 1 ≤ pieces }
+        ensures pieces { IfOk result (λ made. (arc_value made.0).count ≡ pieces) }
+        ensures pass { IfOk result (λ made. made.1 ≡ newcomer (arc_value made.0).table 0) }
+    {
+        let (words, seat) = Words::new(alloc, pieces)?;
+        let claims = Arc::new(alloc, Claims { words })?;
+        Ok((claims, ClaimPass { seat }))
+    }
+
+    /// Claims the piece, by one compare-exchange. True where this step took it. False where this
+    /// step found it claimed: by any pass, this one among them.
+    pub fn claim(&self, pass: &mut ClaimPass, piece: u32) -> bool
+        requires own { pass.old.table ≡ self.now.table }
+        requires inside { piece < self.now.count }
+        ensures own { pass.new.table ≡ pass.old.table }
+        ensures tries { pass.new.tries ≡ pass.old.tries + 1 }
+        ensures won { result ≡ true → pass.new ≡ record pass.old {
+          claimed = pass.old.claimed ++ piece ∷ [];
+          found = Some 0;
+          tries = pass.old.tries + 1;
+        } }
+        ensures lost { result ≡ false → pass.new ≡ record pass.old {
+          met = pass.old.met ++ piece ∷ [];
+          found = Some 1;
+          tries = pass.old.tries + 1;
+        } }
+        ensures unclaimed { result ≡ true → ¬ Contains pass.old.claimed piece }
+        ensures unmet { result ≡ true → ¬ Contains pass.old.met piece }
+        ensures alone { pass.old.depth ≡ 0 → pass.old.splits ≡ 0
+            → ¬ Contains pass.old.claimed piece → result ≡ true }
+    {
+        self.words.exchange(&mut pass.seat, piece) == 0
+    }
+
+    /// One more pass, which has no claims, by one load.
+    pub fn split(&self, pass: &mut ClaimPass) -> ClaimPass
+        requires { pass.old.table ≡ self.now.table }
+        ensures counted { pass.new ≡ record pass.old { splits = pass.old.splits + 1 } }
+        ensures new { result ≡ newcomer pass.old.table (pass.old.depth + 1) }
+    {
+        let seat = self.words.split(&mut pass.seat);
+        ClaimPass { seat }
+    }
+
+    /// Puts the second pass into the first, by the load that joins them and one look.
+    pub fn join(&self, into: &mut ClaimPass, from: ClaimPass)
+        requires into { into.old.table ≡ self.now.table }
+        requires from { from.table ≡ self.now.table }
+        ensures disjoint { AreDisjoint into.old.claimed from.claimed }
+        ensures both { into.new ≡ record into.old {
+          claimed = into.old.claimed ++ from.claimed;
+          met = into.old.met ++ from.met;
+          looks = into.old.looks + 1;
+        } }
+    {
+        let ClaimPass { seat } = from;
+        self.words.join(&mut into.seat, seat);
+        self.words.look(&mut into.seat);
+    }
 }
 
 impl Model for Claims {
-    ghost use Rattle.sz_claims.specs.Claims.{ClaimsView};
+    ghost use Rattle.sz_claims.specs.Claims.{Pieces};
 
-    ghost Value = { ClaimsView };
+    ghost Value = { Pieces };
 
-    ghost view = { λ c. record { table = c.table.shared.table_id; pieces = c.table.shared.table_id.words } };
+    ghost view = { λ c. record { table = c.words; count = c.words.words } };
 }
 
-/// The right to claim pieces of one table. It takes no bytes and moves between threads. Contracts see its table, the
-/// pieces that it claimed and those that it met claimed, and the word that its last claim found: 0 free, 1 claimed.
+/// The right to claim pieces of one table. It takes no bytes and moves between threads. Contracts
+/// see its table, the pieces that it claimed and those that it met claimed, the word that its last
+/// claim found (0 free, 1 claimed), and how many compare-exchanges, looks and splits it made, and
+/// how many splits lie between the first pass and it.
 #[derive(Drop)]
 pub struct ClaimPass {
     seat: Seat<(), View>,
@@ -79,73 +170,36 @@ pub struct ClaimPass {
 
 impl Model for ClaimPass {
     ghost use Rattle.std.specs.Prelude.{◌≡◌, []};
-    ghost use Rattle.sz_claims.specs.Claims.{PassView};
+    ghost use Rattle.sz_claims.specs.Claims.{Claimant};
 
-    ghost Value = { PassView };
+    ghost Value = { Claimant };
 
-    ghost view = { λ p. record { table = p.seat.table_id; claimed = p.seat.me.0.claimed; met = p.seat.me.0.met; found = p.seat.me.0.found } };
+    ghost view = { λ p. record {
+      table = p.seat.table_id;
+      claimed = p.seat.me.0.claimed;
+      met = p.seat.me.0.met;
+      found = p.seat.me.0.found;
+      tries = p.seat.me.0.tries;
+      looks = p.seat.me.0.looks;
+      splits = p.seat.me.0.splits;
+      depth = p.seat.me.0.depth;
+    } };
 
     ghost invariant = { λ p. p.seat.me.1 ≡ [] };
 }
 
-impl Claims {
-    /// A table whose pieces are all free, and its first pass. The cost is linear in the number of pieces.
-    pub fn new(alloc: Global, pieces: u32) -> Result<(Arc<Claims>, ClaimPass), NoMemory>
-        requires { 1 ≤ pieces }
-        ensures own { IfOk result (λ made. made.1.table ≡ (arc_value made.0).table) }
-        ensures pieces { IfOk result (λ made. (arc_value made.0).pieces ≡ pieces) }
-        ensures fresh { IfOk result (λ made. (made.1.claimed ≡ []) × (made.1.met ≡ []) × (made.1.found ≡ None)) }
-    {
-        let count = pieces as usize;
-        let words = Vec::from_elem(alloc, 0, count).map_err(|_| NoMemory)?;
-        let (table, seat) = Table::of_words(alloc, &words, &count).map_err(|_| NoMemory)?;
-        let claims = Arc::new(alloc, Claims { table }).map_err(|_| NoMemory)?;
-        Ok((claims, ClaimPass { seat }))
-    }
+/// There was no memory for what the call had to make.
+#[derive(Clone, Copy, Debug, Drop, PartialEq, Eq)]
+pub struct NoMemory;
 
-    /// Claims the piece, by one compare-exchange. True where this step took it. False where this step found it
-    /// claimed: by any pass, this one among them.
-    pub fn claim(&self, pass: &mut ClaimPass, piece: u32) -> bool
-        requires own { pass.old.table ≡ self.now.table }
-        requires inside { piece < self.now.pieces }
-        ensures own { pass.new.table ≡ pass.old.table }
-        ensures won { result ≡ true → (pass.new.claimed ≡ pass.old.claimed ++ piece ∷ []) × (pass.new.met ≡ pass.old.met) }
-        ensures lost { result ≡ false → (pass.new.claimed ≡ pass.old.claimed) × (pass.new.met ≡ pass.old.met ++ piece ∷ []) }
-        ensures found_free { result ≡ true → pass.new.found ≡ Some 0 }
-        ensures found_claimed { result ≡ false → pass.new.found ≡ Some 1 }
-        ensures was_free { result ≡ true → (¬ Contains pass.old.claimed piece) × (¬ Contains pass.old.met piece) }
-    {
-        self.table
-            .shared
-            .compare_exchange::<Tries>(&mut pass.seat, piece as usize, 0, 1)
-            == 0
+impl From<AllocError> for NoMemory {
+    fn from(_: AllocError) -> NoMemory {
+        NoMemory
     }
+}
 
-    /// One more pass, which has no claims, by one load.
-    pub fn split(&self, pass: &mut ClaimPass) -> ClaimPass
-        requires { pass.old.table ≡ self.now.table }
-        ensures same { pass.new ≡ pass.old }
-        ensures own { result.table ≡ pass.old.table }
-        ensures fresh { (result.claimed ≡ []) × (result.met ≡ []) × (result.found ≡ None) }
-    {
-        let seat = self.table.shared.split_seat::<StartsFresh>(&mut pass.seat);
-        ClaimPass { seat }
-    }
-
-    /// Puts the second pass into the first, by two loads.
-    pub fn join(&self, into: &mut ClaimPass, from: ClaimPass)
-        requires into { into.old.table ≡ self.now.table }
-        requires from { from.table ≡ self.now.table }
-        ensures own { into.new.table ≡ into.old.table }
-        ensures disjoint { AreDisjoint into.old.claimed from.claimed }
-        ensures claimed { into.new.claimed ≡ into.old.claimed ++ from.claimed }
-        ensures met { into.new.met ≡ into.old.met ++ from.met }
-        ensures found { into.new.found ≡ into.old.found }
-    {
-        let ClaimPass { seat } = from;
-        self.table
-            .shared
-            .join_seat::<TakesBoth>(&mut into.seat, seat);
-        self.table.shared.load::<Looks>(&mut into.seat, 0);
+impl<T: Drop> From<AllocFailed<T>> for NoMemory {
+    fn from(_: AllocFailed<T>) -> NoMemory {
+        NoMemory
     }
 }

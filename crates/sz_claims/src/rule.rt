@@ -1,5 +1,7 @@
-// What a pass knows, the rule that ties it to the words, and what each kind of step does to it.
-ghost use Rattle.sz_claims.specs.Rule.{IsKept, Tried, Looked, fresh, joined};
+//! What a seat knows, the rule that ties it to the words, and the four kinds of step: a try, a
+//! look, a split, a join.
+ghost use Rattle.std.specs.Prelude.{◌+◌};
+ghost use Rattle.sz_claims.specs.Rule.{IsKept, IsTry, IsLook, empty_view, after_split, after_join};
 
 use atomic_table::{Join, Play, Split, TableRule};
 use std::collections::LinkedList;
@@ -9,6 +11,10 @@ pub struct View {
     pub claimed: LinkedList<u32>,
     pub met: LinkedList<u32>,
     pub found: Option<u64>,
+    pub tries: u64,
+    pub looks: u64,
+    pub splits: u64,
+    pub depth: u64,
 }
 
 // The key is the number of pieces.
@@ -17,37 +23,38 @@ pub struct OnePassEach;
 impl TableRule<(), View, usize> for OnePassEach {
     ghost holds = { IsKept };
 
-    ghost first = { λ _. fresh };
+    ghost first = { λ _. empty_view 0 };
 }
 
-// A claim, won or lost.
+// One compare-exchange of 0 for 1, a win or a loss.
 pub struct Tries;
 
 impl Play<(), View> for Tries {
-    ghost then = { λ st m r n. Tried st.word m r n };
+    ghost then = { IsTry };
 }
 
-// A load that changes nothing.
+// One load, which changes nothing but the number of looks.
 pub struct Looks;
 
 impl Play<(), View> for Looks {
-    ghost then = { λ st m r n. Looked m n };
+    ghost then = { λ st m _ n. IsLook st m n };
 }
 
-// The seat that is split stays, and the new one knows nothing.
-pub struct StartsFresh;
+// The seat that is split counts it and stays else as it is, and the new one, one split deeper,
+// knows nothing.
+pub struct StartsEmpty;
 
-impl Split<View> for StartsFresh {
-    ghost left = { λ v. v };
+impl Split<View> for StartsEmpty {
+    ghost left = { after_split };
 
-    ghost right = { λ _. fresh };
+    ghost right = { λ v. empty_view (v.depth + 1) };
 }
 
-// The kept seat has the lists of both, and the spent one none.
+// The kept seat has the lists of both, and the spent one knows nothing any more.
 pub struct TakesBoth;
 
 impl Join<View> for TakesBoth {
-    ghost both = { joined };
+    ghost both = { after_join };
 
-    ghost spent = { fresh };
+    ghost spent = { empty_view 1 };
 }

@@ -1,4 +1,6 @@
-ghost use Rattle.std.specs.Prelude.{◌≡◌, ◌+◌, ◌<◌, ◌≤◌, ◌⊎◌, ℕ, List, ◌++◌, Contains, length};
+//! Threads that share out all pieces, and the calls that no clause ties to each other.
+ghost use Rattle.std.specs.Prelude.{◌≡◌, ◌+◌, ◌<◌, ◌≤◌, ◌⊎◌, ℕ, List, ◌++◌, Contains};
+ghost use Rattle.std.specs.Prelude.{length};
 ghost use Rattle.sz_claims.specs.Claims.{AreDisjoint};
 
 use crate::{ClaimPass, Claims};
@@ -12,11 +14,12 @@ const PIECES: u32 = 1_000;
 // Claims every piece, and counts those that the pass won.
 fn claim_all(claims: &Claims, pass: &mut ClaimPass) -> u32
     requires own { pass.old.table ≡ claims.now.table }
-    requires pieces { claims.now.pieces ≡ 1000 }
+    requires pieces { claims.now.count ≡ 1000 }
     ensures own { pass.new.table ≡ pass.old.table }
     ensures won { length pass.new.claimed ≡ length pass.old.claimed + result }
     ensures some { result ≤ 1000 }
-    ensures every { (piece : ℕ) → piece < 1000 → Contains pass.new.claimed piece ⊎ Contains pass.new.met piece }
+    ensures every { (piece : ℕ) → piece < 1000
+        → Contains pass.new.claimed piece ⊎ Contains pass.new.met piece }
 {
     let mut won = 0;
     for piece in 0..PIECES {
@@ -27,13 +30,16 @@ fn claim_all(claims: &Claims, pass: &mut ClaimPass) -> u32
     won
 }
 
-// Two threads claim every piece, each with a pass of its own, and the passes are joined. What they won has no piece in
-// common, so where they won as many as there are pieces, each piece was won by exactly one of them.
+// Two threads claim every piece, each with a pass of its own, and the passes are joined. What they
+// won has no piece in common, so where they won as many as there are pieces, each piece was won by
+// exactly one of them.
 fn claim_by_two<R: Threads + Sync>(rt: &R, claims: &Claims, pass: &mut ClaimPass) -> (u32, u32)
     requires own { pass.old.table ≡ claims.now.table }
-    requires pieces { claims.now.pieces ≡ 1000 }
+    requires pieces { claims.now.count ≡ 1000 }
     ensures some { (result.0 ≤ 1000) × (result.1 ≤ 1000) }
-    ensures won { (here : List ℕ) × (there : List ℕ) × (pass.new.claimed ≡ here ++ there) × AreDisjoint here there × (length here ≡ length pass.old.claimed + result.0) × (length there ≡ result.1) }
+    ensures won { (here : List ℕ) × (there : List ℕ) × (pass.new.claimed ≡ here ++ there)
+        × AreDisjoint here there × (length here ≡ length pass.old.claimed + result.0)
+        × (length there ≡ result.1) }
 {
     let mut other = claims.split(pass);
     let won = thread::join_mut(
