@@ -3,29 +3,30 @@
 -- the first draw of what is written.
 use Rattle.std.specs.Prelude.{ℕ, ◌+◌, ◌*◌, ◌/◌, List, [], ◌∷◌, ◌++◌, flat_map, codes, decimal}
 use Rattle.std.specs.List.{range_with_len}
-use Rattle.sz_gen.specs.Draws.{after, drawn}
-use Rattle.sz_gen.specs.Lists.{list_of}
+use Rattle.sz_gen.specs.Draws.{number_after, draw_of}
+use Rattle.sz_gen.specs.Lists.{list_text}
 
 -- the draw of m at k, counted from 0
-unfoldable pub cell : ℕ → ℕ → ℕ → List ℕ
-cell x m k = decimal (drawn (after x k) m)
+unfoldable pub draw_text : ℕ → ℕ → ℕ → List ℕ
+draw_text x m k = decimal (draw_of (number_after x k) m)
 
 -- a list of n draws of m
-unfoldable pub row : ℕ → ℕ → ℕ → List ℕ
-row x n m = list_of (cell x m) n
+unfoldable pub row_text : ℕ → ℕ → ℕ → List ℕ
+row_text x n m = list_text (draw_text x m) n
 
 -- the row at r, counted from 0, where each has so many columns
-unfoldable pub row_at : ℕ → ℕ → ℕ → ℕ → List ℕ
-row_at x columns m r = row (after x (r * columns)) columns m
+unfoldable pub row_text_at : ℕ → ℕ → ℕ → ℕ → List ℕ
+row_text_at x columns m r = row_text (number_after x (r * columns)) columns m
 
--- a list of rows, one after another, in which each cell is a draw of m
-unfoldable pub grid : ℕ → ℕ → ℕ → ℕ → List ℕ
-grid x rows columns m = list_of (row_at x columns m) rows
+-- a list of rows, one after another, in which each number is a draw of m
+unfoldable pub rows_text : ℕ → ℕ → ℕ → ℕ → List ℕ
+rows_text x rows columns m = list_text (row_text_at x columns m) rows
 
--- the line that loads the array of this name: a grid of draws of m
+-- the line that loads the array of this name: rows of draws of m
 unfoldable pub array_line : List ℕ → ℕ → ℕ → ℕ → ℕ → List ℕ
 array_line name x rows columns m =
-    codes "{\"array\":\"" ++ name ++ codes "\",\"cells\":" ++ grid x rows columns m ++ codes "}"
+    codes "{\"array\":\"" ++ name ++ codes "\",\"cells\":"
+    ++ rows_text x rows columns m ++ codes "}"
 
 -- the line of a flow of six nodes over an image and a table
 unfoldable pub flow_line : List ℕ
@@ -59,7 +60,7 @@ await_line = codes "{\"await\":1}"
 -- a line that asks this way, in a direction and along a path, of the cell at two draws of m
 unfoldable pub ask_line : List ℕ → ℕ → ℕ → List ℕ
 ask_line way x m =
-    codes "{\"ask\":1," ++ way ++ codes ",\"cells\":" ++ grid x 1 2 m ++ codes "}"
+    codes "{\"ask\":1," ++ way ++ codes ",\"cells\":" ++ rows_text x 1 2 m ++ codes "}"
 
 -- back from the block's output, through four nodes to the image
 unfoldable pub way_back : List ℕ
@@ -73,37 +74,38 @@ way_forward = codes "\"dir\":\"forward\",\"path\":[[0,0],[1,0],[2,0],[3,0]]"
 unfoldable pub way_to_table : List ℕ
 way_to_table = codes "\"dir\":\"back\",\"path\":[[5,1]]"
 
--- three asks. The block's output, on which the first one asks, has half the array's side, rounded up
+-- three asks. The block's output, on which the first one asks, has half the image's side, rounded
+-- up
 unfoldable pub triple : ℕ → ℕ → List (List ℕ)
 triple side x =
     ask_line way_back x ((side + 1) / 2)
-    ∷ ask_line way_forward (after x 2) side
-    ∷ ask_line way_to_table (after x 4) side
+    ∷ ask_line way_forward (number_after x 2) side
+    ∷ ask_line way_to_table (number_after x 4) side
     ∷ []
 
 -- so many triples one after another, each of six draws
 unfoldable pub triples : ℕ → ℕ → ℕ → List (List ℕ)
-triples count side x = flat_map (λ k. triple side (after x (k * 6))) (range_with_len 0 count)
+triples count side x = flat_map (λ k. triple side (number_after x (k * 6))) (range_with_len 0 count)
 
 -- the session's lines: two arrays, a flow, its strategies, its start, three asks, the await, and
--- thirty asks. The image has a draw for each of its cells, the table has 16, and a triple has six, so
--- the first asks come after cells + 16 draws and the last ones after cells + 22
+-- thirty asks. The image has a draw for each of its cells, the table has 16, and a triple has six,
+-- so the first asks come after cells + 16 draws and the last ones after cells + 22
 abbrev pub load_lines : ℕ → ℕ → List (List ℕ)
 load_lines seed side =
     let cells = side * side in
     (array_line (codes "img") seed side side 1000
-    ∷ array_line (codes "tab") (after seed cells) 1 16 100
+    ∷ array_line (codes "tab") (number_after seed cells) 1 16 100
     ∷ flow_line ∷ [])
     ++ strategy_lines
     ++ start_line ∷ []
-    ++ triples 1 side (after seed (cells + 16))
+    ++ triples 1 side (number_after seed (cells + 16))
     ++ await_line ∷ []
-    ++ triples 10 side (after seed (cells + 22))
+    ++ triples 10 side (number_after seed (cells + 22))
 
 -- lines, each ended by a newline
-abbrev pub ended : List (List ℕ) → List ℕ
-ended lines = flat_map (λ line. line ++ codes "\n") lines
+abbrev pub text_of_lines : List (List ℕ) → List ℕ
+text_of_lines lines = flat_map (λ line. line ++ codes "\n") lines
 
 -- the session's text
 unfoldable pub load_text : ℕ → ℕ → List ℕ
-load_text seed side = ended (load_lines seed side)
+load_text seed side = text_of_lines (load_lines seed side)

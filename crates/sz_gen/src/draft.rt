@@ -1,9 +1,14 @@
 //! A session's text while it is written, beside the generator of its draws.
+//!
+//! Each call appends one definition's text and leaves the generator's number after its draws. What
+//! is written and which draws were made depends on the order of the calls alone.
 
 ghost use Rattle.std.specs.Prelude.{◌≡◌, ◌*◌, ◌<◌, [], ◌++◌, codes, decimal, OnOk};
-ghost use Rattle.sz_gen.specs.Draws.{step, after, drawn};
+ghost use Rattle.sz_gen.specs.Draws.{next_number, number_after, draw_of};
 ghost use Rattle.sz_gen.specs.Lists.{separator};
-ghost use Rattle.sz_gen.specs.Session.{row, grid, array_line, ask_line, triple, triples, flow_line, strategy_lines, start_line, await_line, ended};
+ghost use Rattle.sz_gen.specs.Session.{row_text, rows_text, array_line, ask_line, triple, triples};
+ghost use Rattle.sz_gen.specs.Session.{flow_line, strategy_lines, start_line, await_line};
+ghost use Rattle.sz_gen.specs.Session.{text_of_lines};
 
 use crate::NoMemory;
 use itoa::Buffer;
@@ -32,35 +37,58 @@ impl Draft {
         }
     }
 
-    /// A draw of `below`: a number under it.
-    #[tactic(auto, unfolding(crate::specs::Draws::step, crate::specs::Draws::drawn))]
-    fn draw(&mut self, below: u64) -> u64
+    /// Appends the line that loads an array: a grid of draws of `below`.
+    #[tactic(auto, unfolding(crate::specs::Session::array_line))]
+    pub fn push_array(
+        &mut self,
+        name: &[u8],
+        rows: u32,
+        columns: u32,
+        below: u64,
+    ) -> Result<(), NoMemory>
         requires { 0 < below }
-        ensures value { result ≡ drawn self.old.number below }
-        ensures number { self.new.number ≡ step self.old.number }
-        ensures text { self.new.text ≡ self.old.text }
+        ensures text { OnOk result (self.new.text.items ≡ self.old.text.items
+            ++ (array_line name.now self.old.number rows columns below ++ codes "\n")) }
+        ensures number { OnOk result
+            (self.new.number ≡ number_after self.old.number (rows * columns)) }
     {
-        self.number = self.number.wrapping_mul(MULTIPLIER).wrapping_add(INCREMENT);
-        (self.number >> 33) % below
+        self.push(br#"{"array":""#)?;
+        self.push(name)?;
+        self.push(br#"","cells":"#)?;
+        self.push_rows(rows, columns, below)?;
+        self.push_line(b"}")
     }
 
-    /// Appends bytes as they are.
-    fn push(&mut self, bytes: &[u8]) -> Result<(), NoMemory>
-        ensures text { OnOk result (self.new.text.items ≡ self.old.text.items ++ bytes.now) }
-        ensures number { self.new.number ≡ self.old.number }
-    {
-        self.text.extend_from_slice(bytes)?;
-        Ok(())
-    }
-
-    /// Appends a line and its newline.
-    pub fn push_line(&mut self, line: &[u8]) -> Result<(), NoMemory>
+    /// Appends a list of rows of draws of `below`.
+    fn push_rows(&mut self, rows: u32, columns: u32, below: u64) -> Result<(), NoMemory>
+        requires { 0 < below }
         ensures text { OnOk result
-            (self.new.text.items ≡ self.old.text.items ++ (line.now ++ codes "\n")) }
-        ensures number { self.new.number ≡ self.old.number }
+            (self.new.text.items
+            ≡ self.old.text.items ++ rows_text self.old.number rows columns below) }
+        ensures number { OnOk result
+            (self.new.number ≡ number_after self.old.number (rows * columns)) }
     {
-        self.push(line)?;
-        self.push(b"\n")
+        self.push(b"[")?;
+        for line in 0..rows {
+            self.push_comma(line)?;
+            self.push_row(columns, below)?;
+        }
+        self.push(b"]")
+    }
+
+    /// Appends a list of draws of `below`.
+    fn push_row(&mut self, columns: u32, below: u64) -> Result<(), NoMemory>
+        requires { 0 < below }
+        ensures text { OnOk result
+            (self.new.text.items ≡ self.old.text.items ++ row_text self.old.number columns below) }
+        ensures number { OnOk result (self.new.number ≡ number_after self.old.number columns) }
+    {
+        self.push(b"[")?;
+        for column in 0..columns {
+            self.push_comma(column)?;
+            self.push_draw(below)?;
+        }
+        self.push(b"]")
     }
 
     /// Appends the comma that stands before each item of a list but the first.
@@ -75,105 +103,24 @@ impl Draft {
     fn push_draw(&mut self, below: u64) -> Result<(), NoMemory>
         requires { 0 < below }
         ensures text { OnOk result
-            (self.new.text.items ≡ self.old.text.items ++ decimal (drawn self.old.number below)) }
-        ensures number { OnOk result (self.new.number ≡ step self.old.number) }
+            (self.new.text.items ≡ self.old.text.items ++ decimal (draw_of self.old.number below)) }
+        ensures number { OnOk result (self.new.number ≡ next_number self.old.number) }
     {
         let mut buffer = Buffer::new();
         let number = self.draw(below);
         self.push(buffer.format(number).as_bytes())
     }
 
-    /// Appends a list of draws of `below`.
-    fn push_row(&mut self, columns: u32, below: u64) -> Result<(), NoMemory>
+    /// A draw of `below`: a number under it.
+    #[tactic(auto, unfolding(crate::specs::Draws::next_number, crate::specs::Draws::draw_of))]
+    fn draw(&mut self, below: u64) -> u64
         requires { 0 < below }
-        ensures text { OnOk result
-            (self.new.text.items ≡ self.old.text.items ++ row self.old.number columns below) }
-        ensures number { OnOk result (self.new.number ≡ after self.old.number columns) }
+        ensures value { result ≡ draw_of self.old.number below }
+        ensures number { self.new.number ≡ next_number self.old.number }
+        ensures text { self.new.text ≡ self.old.text }
     {
-        self.push(b"[")?;
-        for column in 0..columns {
-            self.push_comma(column)?;
-            self.push_draw(below)?;
-        }
-        self.push(b"]")
-    }
-
-    /// Appends a list of rows of draws of `below`.
-    fn push_grid(&mut self, rows: u32, columns: u32, below: u64) -> Result<(), NoMemory>
-        requires { 0 < below }
-        ensures text { OnOk result
-            (self.new.text.items ≡ self.old.text.items ++ grid self.old.number rows columns below) }
-        ensures number { OnOk result (self.new.number ≡ after self.old.number (rows * columns)) }
-    {
-        self.push(b"[")?;
-        for line in 0..rows {
-            self.push_comma(line)?;
-            self.push_row(columns, below)?;
-        }
-        self.push(b"]")
-    }
-
-    /// Appends the line that loads an array: a grid of draws of `below`.
-    #[tactic(auto, unfolding(crate::specs::Session::array_line))]
-    pub fn push_array(
-        &mut self,
-        name: &[u8],
-        rows: u32,
-        columns: u32,
-        below: u64,
-    ) -> Result<(), NoMemory>
-        requires { 0 < below }
-        ensures text { OnOk result (self.new.text.items ≡ self.old.text.items
-            ++ (array_line name.now self.old.number rows columns below ++ codes "\n")) }
-        ensures number { OnOk result (self.new.number ≡ after self.old.number (rows * columns)) }
-    {
-        self.push(br#"{"array":""#)?;
-        self.push(name)?;
-        self.push(br#"","cells":"#)?;
-        self.push_grid(rows, columns, below)?;
-        self.push_line(b"}")
-    }
-
-    /// Appends a line that asks this way of the cell at two draws of `below`.
-    #[tactic(auto, unfolding(crate::specs::Session::ask_line))]
-    fn push_ask(&mut self, way: &[u8], below: u64) -> Result<(), NoMemory>
-        requires { 0 < below }
-        ensures text { OnOk result (self.new.text.items ≡ self.old.text.items
-            ++ (ask_line way.now self.old.number below ++ codes "\n")) }
-        ensures number { OnOk result (self.new.number ≡ after self.old.number 2) }
-    {
-        self.push(br#"{"ask":1,"#)?;
-        self.push(way)?;
-        self.push(br#","cells":"#)?;
-        self.push_grid(1, 2, below)?;
-        self.push_line(b"}")
-    }
-
-    /// Appends three asks of an array of this side.
-    fn push_triple(&mut self, side: u32) -> Result<(), NoMemory>
-        requires { 0 < side }
-        ensures text { OnOk result
-            (self.new.text.items ≡ self.old.text.items ++ ended (triple side self.old.number)) }
-        ensures number { OnOk result (self.new.number ≡ after self.old.number 6) }
-    {
-        let half = u64::from(side.div_ceil(2));
-        let side = u64::from(side);
-        self.push_ask(br#""dir":"back","path":[[3,0],[2,0],[1,0],[0,0]]"#, half)?;
-        self.push_ask(br#""dir":"forward","path":[[0,0],[1,0],[2,0],[3,0]]"#, side)?;
-        self.push_ask(br#""dir":"back","path":[[5,1]]"#, side)
-    }
-
-    /// Appends so many triples of asks.
-    pub fn push_triples(&mut self, count: u32, side: u32) -> Result<(), NoMemory>
-        requires { 0 < side }
-        ensures text { OnOk result (self.new.text.items
-            ≡ self.old.text.items ++ ended (triples count side self.old.number)) }
-        ensures number { OnOk result (self.new.number ≡ after self.old.number (count * 6)) }
-    {
-        for _done in 0..count {
-            self.push_triple(side)?;
-        }
-        Ok(())
+        self.number = self.number.wrapping_mul(MULTIPLIER).wrapping_add(INCREMENT);
+        (self.number >> 33) % below
     }
 
     /// Appends the flow.
@@ -196,7 +143,7 @@ impl Draft {
     #[tactic(auto, unfolding(crate::specs::Session::strategy_lines))]
     pub fn push_strategies(&mut self) -> Result<(), NoMemory>
         ensures text { OnOk result
-            (self.new.text.items ≡ self.old.text.items ++ ended strategy_lines) }
+            (self.new.text.items ≡ self.old.text.items ++ text_of_lines strategy_lines) }
         ensures number { self.new.number ≡ self.old.number }
     {
         self.push_line(br#"{"strategy":"scan","node":0,"list":["comp_one"]}"#)?;
@@ -215,6 +162,48 @@ impl Draft {
         self.push_line(br#"{"start":"scan","base":[["img",1],["tab",1]]}"#)
     }
 
+    /// Appends so many triples of asks.
+    pub fn push_triples(&mut self, count: u32, side: u32) -> Result<(), NoMemory>
+        requires { 0 < side }
+        ensures text { OnOk result (self.new.text.items
+            ≡ self.old.text.items ++ text_of_lines (triples count side self.old.number)) }
+        ensures number { OnOk result (self.new.number ≡ number_after self.old.number (count * 6)) }
+    {
+        for _done in 0..count {
+            self.push_triple(side)?;
+        }
+        Ok(())
+    }
+
+    /// Appends three asks of an array of this side.
+    fn push_triple(&mut self, side: u32) -> Result<(), NoMemory>
+        requires { 0 < side }
+        ensures text { OnOk result (self.new.text.items
+            ≡ self.old.text.items ++ text_of_lines (triple side self.old.number)) }
+        ensures number { OnOk result (self.new.number ≡ number_after self.old.number 6) }
+    {
+        let half = u64::from(side.div_ceil(2));
+        let side = u64::from(side);
+        self.push_ask(br#""dir":"back","path":[[3,0],[2,0],[1,0],[0,0]]"#, half)?;
+        self.push_ask(br#""dir":"forward","path":[[0,0],[1,0],[2,0],[3,0]]"#, side)?;
+        self.push_ask(br#""dir":"back","path":[[5,1]]"#, side)
+    }
+
+    /// Appends a line that asks this way of the cell at two draws of `below`.
+    #[tactic(auto, unfolding(crate::specs::Session::ask_line))]
+    fn push_ask(&mut self, way: &[u8], below: u64) -> Result<(), NoMemory>
+        requires { 0 < below }
+        ensures text { OnOk result (self.new.text.items ≡ self.old.text.items
+            ++ (ask_line way.now self.old.number below ++ codes "\n")) }
+        ensures number { OnOk result (self.new.number ≡ number_after self.old.number 2) }
+    {
+        self.push(br#"{"ask":1,"#)?;
+        self.push(way)?;
+        self.push(br#","cells":"#)?;
+        self.push_rows(1, 2, below)?;
+        self.push_line(b"}")
+    }
+
     /// Appends the await of the version that was started.
     #[tactic(auto, unfolding(crate::specs::Session::await_line))]
     pub fn push_await(&mut self) -> Result<(), NoMemory>
@@ -223,5 +212,24 @@ impl Draft {
         ensures number { self.new.number ≡ self.old.number }
     {
         self.push_line(br#"{"await":1}"#)
+    }
+
+    /// Appends a line and its newline.
+    pub fn push_line(&mut self, line: &[u8]) -> Result<(), NoMemory>
+        ensures text { OnOk result
+            (self.new.text.items ≡ self.old.text.items ++ (line.now ++ codes "\n")) }
+        ensures number { self.new.number ≡ self.old.number }
+    {
+        self.push(line)?;
+        self.push(b"\n")
+    }
+
+    /// Appends bytes as they are.
+    fn push(&mut self, bytes: &[u8]) -> Result<(), NoMemory>
+        ensures text { OnOk result (self.new.text.items ≡ self.old.text.items ++ bytes.now) }
+        ensures number { self.new.number ≡ self.old.number }
+    {
+        self.text.extend_from_slice(bytes)?;
+        Ok(())
     }
 }

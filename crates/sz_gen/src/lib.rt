@@ -21,6 +21,7 @@
 #![tactic(auto)]
 
 mod draft;
+pub mod laws;
 mod load;
 #[cfg(test)]
 mod tests;

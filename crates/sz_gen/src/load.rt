@@ -2,7 +2,7 @@
 
 ghost use Rattle.std.specs.Prelude.{◌≡◌, ◌≤◌, IfOk};
 ghost use Rattle.sz_gen.specs.Session.{load_text};
-ghost use Rattle.sz_gen.specs.Summary.{summary};
+ghost use Rattle.sz_gen.specs.Summary.{summary_line};
 
 use crate::NoMemory;
 use crate::draft::Draft;
@@ -30,7 +30,7 @@ pub fn session_text(alloc: Global, seed: u32, side: u32) -> Result<Vec<u8>, NoMe
 
 /// The line that sums up a session of this seed and side: how many lines it had, and the SHA-256
 /// digest of its replies. The cost is linear in the replies.
-#[tactic(auto, unfolding(crate::specs::Summary::summary))]
+#[tactic(auto, unfolding(crate::specs::Summary::summary_line))]
 pub fn summary_text(
     alloc: Global,
     seed: u32,
@@ -38,7 +38,7 @@ pub fn summary_text(
     lines: u64,
     replies: &[u8],
 ) -> Result<Vec<u8>, NoMemory>
-    ensures { IfOk result (λ text. text.items ≡ summary seed side lines replies.now) }
+    ensures { IfOk result (λ text. text.items ≡ summary_line seed side lines replies.now) }
 {
     let digest = hex::encode(alloc, Sha256::digest(replies))?;
     let text = format!(in alloc; "load seed {seed} side {side} lines {lines} sha256 {digest}\n")?;

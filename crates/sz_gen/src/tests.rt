@@ -4,7 +4,7 @@ ghost use Rattle.std.specs.Prelude.{◌≤◌};
 
 use crate::{NoMemory, session_text, summary_text};
 use sha2::{Digest, Sha256};
-use std::alloc::Global;
+use std::alloc::{AllocFailed, Global};
 use std::test::Fail;
 
 fn digest_of_text(alloc: Global, seed: u32, side: u32) -> Result<String, NoMemory>
@@ -16,12 +16,17 @@ fn digest_of_text(alloc: Global, seed: u32, side: u32) -> Result<String, NoMemor
     Ok(digest)
 }
 
-fn line_count(alloc: Global, seed: u32, side: u32) -> Result<usize, NoMemory>
-    requires some { 1 ≤ side }
-    requires limit { side ≤ 512 }
-{
-    let text = session_text(alloc, seed, side)?;
-    Ok(text.iter().filter(|byte| **byte == b'\n').count())
+fn line_count(text: &[u8]) -> usize {
+    text.iter().filter(|byte| **byte == b'\n').count()
+}
+
+/// The numbers from 0 to 250 over and over, so many in all.
+fn long_replies(alloc: Global, length: u32) -> Result<Vec<u8>, AllocFailed<u8>> {
+    let mut replies = Vec::new(alloc);
+    for index in 0..length {
+        replies.push((index % 251) as u8)?;
+    }
+    Ok(replies)
 }
 
 #[test]
@@ -42,35 +47,63 @@ fn texts_are_those_of_another_program(rt: HostRuntime) -> Result<(), Fail> {
 }
 
 #[test]
+fn the_greatest_side_has_its_whole_text(rt: HostRuntime) -> Result<(), Fail> {
+    let text = session_text(rt.alloc(), 1, 512)?;
+    assert_eq!(rt; text.len(), 1023696);
+    assert_eq!(rt; line_count(text.as_slice()), 42);
+    assert_eq!(rt;
+        digest_of_text(rt.alloc(), 1, 512)?.as_str(),
+        "2c92ede982672bf2d13ae74e58ff50d21ea8854940d37eaa22d264953b829ef6"
+    );
+    assert_eq!(rt;
+        digest_of_text(rt.alloc(), 4294967295, 512)?.as_str(),
+        "8854a80e490ffdb20851d07b2ae6e3bbb4f76102c7dce995161a930ff3f2772b"
+    );
+    Ok(())
+}
+
+#[test]
 fn begins_with_the_first_draws(rt: HostRuntime) -> Result<(), Fail> {
     let text = session_text(rt.alloc(), 0, 2)?;
     let first = br#"{"array":"img","cells":[[807,424],[937,236]]}"#;
     assert!(rt; text.starts_with(first));
-    let again = session_text(rt.alloc(), 0, 2)?;
-    assert_eq!(rt; text.as_slice(), again.as_slice());
+    assert_eq!(rt; line_count(text.as_slice()), 42);
     Ok(())
 }
 
 #[test]
-fn has_42_lines(rt: HostRuntime) -> Result<(), Fail> {
-    assert_eq!(rt; line_count(rt.alloc(), 0, 1)?, 42);
-    assert_eq!(rt; line_count(rt.alloc(), 0, 2)?, 42);
-    assert_eq!(rt; line_count(rt.alloc(), 0, 3)?, 42);
-    assert_eq!(rt; line_count(rt.alloc(), 0, 512)?, 42);
-    Ok(())
-}
-
-#[test]
-fn sums_up(rt: HostRuntime) -> Result<(), Fail> {
+fn sums_up_short_replies(rt: HostRuntime) -> Result<(), Fail> {
     let none = summary_text(rt.alloc(), 1, 256, 42, b"")?;
-    assert_eq!(rt;
-        none.as_slice(),
-        b"load seed 1 side 256 lines 42 sha256 e3b0c44298fc1c149afbf4c8996fb92427ae41e4649b934ca495991b7852b855\n".as_slice()
+    let none_expected = concat!(
+        "load seed 1 side 256 lines 42 sha256 ",
+        "e3b0c44298fc1c149afbf4c8996fb92427ae41e4649b934ca495991b7852b855\n"
     );
+    assert_eq!(rt; none.as_slice(), none_expected.as_bytes());
     let one = summary_text(rt.alloc(), 0, 1, 7, b"1 done\n")?;
-    assert_eq!(rt;
-        one.as_slice(),
-        b"load seed 0 side 1 lines 7 sha256 b5ccf9a98eb53d56e299185cb04c58fb5ab1ca0a527d404b54b7c4713d18039c\n".as_slice()
+    let one_expected = concat!(
+        "load seed 0 side 1 lines 7 sha256 ",
+        "b5ccf9a98eb53d56e299185cb04c58fb5ab1ca0a527d404b54b7c4713d18039c\n"
     );
+    assert_eq!(rt; one.as_slice(), one_expected.as_bytes());
+    Ok(())
+}
+
+#[test]
+fn sums_up_more_than_a_megabyte(rt: HostRuntime) -> Result<(), Fail> {
+    let Ok(replies) = long_replies(rt.alloc(), 1048577) else {
+        return Err(Fail::from("no memory for the replies"));
+    };
+    let line = summary_text(
+        rt.alloc(),
+        4294967295,
+        512,
+        18446744073709551615,
+        replies.as_slice(),
+    )?;
+    let expected = concat!(
+        "load seed 4294967295 side 512 lines 18446744073709551615 sha256 ",
+        "5769f52bc3eef28afa39c6fc68cadb7d0bd69812ae3a3d71452f519ec3c7aa56\n"
+    );
+    assert_eq!(rt; line.as_slice(), expected.as_bytes());
     Ok(())
 }

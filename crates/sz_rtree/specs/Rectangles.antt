@@ -3,16 +3,19 @@ use Rattle.std.specs.Prelude.{ℕ, ◌≤◌, ◌<◌, List, length, Option, Mat
 use Rattle.std.specs.List.{AllWithin, HoldsAt}
 use Rattle.sz_cells.specs.declared.Bounds.{Bounds}
 
--- the two have a row and a column in common
-abbrev pub Overlaps : Bounds → Bounds → Type 0
-Overlaps a b = (a.top ≤ b.bottom) × (b.top ≤ a.bottom) × (a.left ≤ b.right) × (b.left ≤ a.right)
-
--- what is seen of a tree: its rectangles in the order of their numbers, and how many more it has room for
-pub record Numbered : Type 0 where
+-- what is seen of a tree: its rectangles in the order of their numbers, and how many more it has
+-- room for
+pub record Rectangles : Type 0 where
   pub rectangles : List Bounds
   pub spare : ℕ
 
--- the least number at or above `from` whose rectangle overlaps `bounds`, and none where no such rectangle does
+-- the two have a row and a column in common
+abbrev pub Overlaps : Bounds → Bounds → Type 0
+Overlaps a b =
+    (a.top ≤ b.bottom) × (b.top ≤ a.bottom) × (a.left ≤ b.right) × (b.left ≤ a.right)
+
+-- the least number at or above `from` whose rectangle overlaps `bounds`, and none where no such
+-- rectangle does
 abbrev pub IsNextHit : List Bounds → Bounds → ℕ → Option ℕ → Type 0
 IsNextHit rectangles bounds from hit =
     MatchOption hit

@@ -1,9 +1,16 @@
-//! The levels of the tree: each has one box for each run of `span` rectangles whose numbers follow one another.
+//! The levels of the tree: each has one box for each run of `span` rectangles whose numbers follow
+//! one another.
+//!
+//! All that a look may rest on is `Covers`, that a box is round all its rectangles; `HasRoom` is
+//! what lets a rectangle be added without memory.
 
-ghost use Rattle.std.specs.Prelude.{◌≡◌, ◌<◌, ◌≤◌, ◌+◌, ◌^◌, ◌*◌, ◌++◌, [], ◌∷◌, ℕ, List, length, slice_index_or, OnOk, IfOk, IfSome, All, IsTrue, ◌↔◌, vec_len, vec_capacity};
+ghost use Rattle.std.specs.Prelude.{◌≡◌, ◌<◌, ◌≤◌, ◌+◌, ◌^◌, ◌*◌, ◌++◌, [], ◌∷◌};
+ghost use Rattle.std.specs.Prelude.{ℕ, List, length, slice_index_or, OnOk, IfOk, IfSome, All};
+ghost use Rattle.std.specs.Prelude.{IsTrue, ◌↔◌};
+ghost use Rattle.std.specs.Prelude.{vec_len, vec_capacity};
 ghost use Rattle.sz_cells.specs.declared.Bounds.{Bounds};
 ghost use Rattle.sz_rtree.specs.Rectangles.{Overlaps};
-ghost use Rattle.sz_rtree.specs.Levels.{IsWithin, Covers, HasRoom, MissesUpTo};
+ghost use Rattle.sz_rtree.specs.Levels.{IsInside, Covers, HasRoom, MissesUpTo};
 
 use std::alloc::Global;
 use sz_cells::{Bounds, NoMemory};
@@ -23,13 +30,62 @@ pub(crate) struct Level {
     boxes: Vec<Bounds>,
 }
 
+/// The levels of a tree without rectangles.
+pub(crate) fn empty_levels(alloc: Global) -> Result<Vec<Level>, NoMemory>
+    ensures { IfOk result (λ levels. All (Covers []) levels.items) }
+{
+    let mut levels = Vec::new(alloc);
+    let mut span = FAN;
+    while span <= GREATEST_SPAN {
+        let level = Level {
+            span,
+            boxes: Vec::new(alloc),
+        };
+        levels.push(level)?;
+        span *= FAN;
+    }
+    Ok(levels)
+}
+
+/// Takes room for the boxes of `count` rectangles on every level.
+pub(crate) fn reserve_all(levels: &mut [Level], count: usize) -> Result<(), NoMemory>
+    requires positive { All (λ level. 0 < level.span) levels.old }
+    requires count_fits { count < 2 ^ 32 }
+    ensures covers { (rectangles : List Bounds)
+        → All (Covers rectangles) levels.old → All (Covers rectangles) levels.new }
+    ensures kept { (room : ℕ)
+        → All (HasRoom room) levels.old → All (HasRoom room) levels.new }
+    ensures ok { OnOk result (All (HasRoom count) levels.new) }
+{
+    for level in levels.iter_mut() {
+        level.reserve(count)?;
+    }
+    Ok(())
+}
+
+/// Puts the rectangle `number`, which comes after all others, into its box on every level.
+pub(crate) fn add_to_all(levels: &mut [Level], number: usize, bounds: Bounds)
+    requires positive { All (λ level. 0 < level.span) levels.old }
+    requires room { All (HasRoom (number + 1)) levels.old }
+    ensures covers { (rectangles : List Bounds) → length rectangles ≡ number
+        → All (Covers rectangles) levels.old
+        → All (Covers (rectangles ++ bounds ∷ [])) levels.new }
+    ensures kept { (room : ℕ)
+        → All (HasRoom room) levels.old → All (HasRoom room) levels.new }
+{
+    for level in levels.iter_mut() {
+        level.add(number, bounds);
+    }
+}
+
 impl Level {
     /// Takes room for the boxes of `count` rectangles.
     fn reserve(&mut self, count: usize) -> Result<(), NoMemory>
         requires positive { 0 < self.old.span }
         requires count_fits { count < 2 ^ 32 }
         ensures span { self.new.span ≡ self.old.span }
-        ensures covers { (rectangles : List Bounds) → Covers rectangles self.old → Covers rectangles self.new }
+        ensures covers { (rectangles : List Bounds)
+            → Covers rectangles self.old → Covers rectangles self.new }
         ensures kept { (room : ℕ) → HasRoom room self.old → HasRoom room self.new }
         ensures ok { OnOk result (HasRoom count self.new) }
     {
@@ -43,28 +99,29 @@ impl Level {
         requires positive { 0 < self.old.span }
         requires room { HasRoom (number + 1) self.old }
         ensures span { self.new.span ≡ self.old.span }
-        ensures covers { (rectangles : List Bounds) → length rectangles ≡ number →
-            Covers rectangles self.old → Covers (rectangles ++ bounds ∷ []) self.new }
+        ensures covers { (rectangles : List Bounds) → length rectangles ≡ number
+            → Covers rectangles self.old → Covers (rectangles ++ bounds ∷ []) self.new }
         ensures kept { (room : ℕ) → HasRoom room self.old → HasRoom room self.new }
     {
         let place = number / self.span;
         if place < self.boxes.len() {
             let before = self.boxes[place];
-            self.boxes[place] = around(before, bounds);
+            self.boxes[place] = box_round(before, bounds);
         } else {
             self.boxes.push_reserved(bounds);
         }
     }
 
-    /// The number after the last one in the box of `number`, where that box does not overlap `bounds`.
+    /// The number after the last one in the box of `number`, where that box does not overlap
+    /// `bounds`.
     pub(crate) fn end_of_miss(&self, number: usize, bounds: &Bounds) -> Option<usize>
         requires positive { 0 < self.now.span }
         requires small { self.now.span < 2 ^ 32 }
         requires number_fits { number < 2 ^ 32 }
         requires inside { number < vec_len self.now.boxes * self.now.span }
         ensures ahead { IfSome result (λ end. number < end) }
-        ensures missed { IfSome result (λ end. (rectangles : List Bounds) → Covers rectangles self.now →
-            MissesUpTo rectangles bounds.now number end) }
+        ensures missed { IfSome result (λ end. (rectangles : List Bounds)
+            → Covers rectangles self.now → MissesUpTo rectangles bounds.now number end) }
     {
         let place = number / self.span;
         if overlap(&self.boxes[place], bounds) {
@@ -75,65 +132,20 @@ impl Level {
     }
 }
 
-/// The levels of a tree without rectangles.
-pub(crate) fn empty_levels(alloc: Global) -> Result<Vec<Level>, NoMemory>
-    ensures { IfOk result (λ levels. All (Covers []) levels.items) }
-{
-    let mut levels = Vec::new(alloc);
-    let mut span = FAN;
-    while span <= GREATEST_SPAN {
-        let level = Level {
-            span,
-            boxes: Vec::new(alloc),
-        };
-        if levels.push(level).is_err() {
-            return Err(NoMemory);
-        }
-        span *= FAN;
-    }
-    Ok(levels)
-}
-
-/// Takes room for the boxes of `count` rectangles on every level.
-pub(crate) fn reserve_all(levels: &mut [Level], count: usize) -> Result<(), NoMemory>
-    requires positive { All (λ level. 0 < level.span) levels.old }
-    requires count_fits { count < 2 ^ 32 }
-    ensures covers { (rectangles : List Bounds) → All (Covers rectangles) levels.old → All (Covers rectangles) levels.new }
-    ensures kept { (room : ℕ) → All (HasRoom room) levels.old → All (HasRoom room) levels.new }
-    ensures ok { OnOk result (All (HasRoom count) levels.new) }
-{
-    for level in levels.iter_mut() {
-        level.reserve(count)?;
-    }
-    Ok(())
-}
-
-/// Puts the rectangle `number`, which comes after all others, into its box on every level.
-pub(crate) fn add_to_all(levels: &mut [Level], number: usize, bounds: Bounds)
-    requires positive { All (λ level. 0 < level.span) levels.old }
-    requires room { All (HasRoom (number + 1)) levels.old }
-    ensures covers { (rectangles : List Bounds) → length rectangles ≡ number →
-        All (Covers rectangles) levels.old → All (Covers (rectangles ++ bounds ∷ [])) levels.new }
-    ensures kept { (room : ℕ) → All (HasRoom room) levels.old → All (HasRoom room) levels.new }
-{
-    for level in levels.iter_mut() {
-        level.add(number, bounds);
-    }
-}
-
 /// Takes room for `more` beside those that are there.
 pub(crate) fn reserve_bounds(list: &mut Vec<Bounds>, more: usize) -> Result<(), NoMemory>
     ensures items { list.new.items ≡ list.old.items }
     ensures capacity { vec_capacity list.old ≤ vec_capacity list.new }
     ensures ok { OnOk result (vec_len list.old + more ≤ vec_capacity list.new) }
 {
-    list.reserve(more).map_err(|_| NoMemory)
+    list.reserve(more)?;
+    Ok(())
 }
 
 /// The smallest box round the two.
-fn around(a: Bounds, b: Bounds) -> Bounds
-    ensures first { IsWithin a result }
-    ensures second { IsWithin b result }
+fn box_round(a: Bounds, b: Bounds) -> Bounds
+    ensures first { IsInside a result }
+    ensures second { IsInside b result }
 {
     Bounds {
         top: a.top.min(b.top),

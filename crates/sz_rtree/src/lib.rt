@@ -1,11 +1,11 @@
 //! Rectangles by number, and the next one that overlaps a given one.
 //!
-//! A store of lineage keeps the bounds of each of its sets as a rectangle of an [`RTree`]. A look asks for the sets whose
-//! bounds overlap those of the cells that it is about, one after another in the order of their numbers, and leaves all
-//! others alone.
+//! A store of lineage keeps the bounds of each of its sets as a rectangle of an [`RTree`]. A look
+//! asks for the sets whose bounds overlap those of the cells that it is about, one after another in
+//! the order of their numbers, and leaves all others alone.
 //!
 //! - [`RTree::new`] makes a tree without rectangles.
-//! - [`RTree::reserve`] takes the memory for rectangles to come, and for all that stands above them.
+//! - [`RTree::reserve`] takes the memory for rectangles to come, and for all that is above them.
 //! - [`RTree::insert`] adds a rectangle. Its number is the count of those before it.
 //! - [`RTree::len`] is that count.
 //! - [`RTree::next_hit`] is the least number, from a given one on, whose rectangle overlaps.
@@ -23,27 +23,34 @@
 //! }
 //! ```
 //!
-//! A rectangle has both its corners in it, and two overlap where they have a row and a column in common. One whose top is
-//! below its bottom, or whose left is right of its right, is taken as that formula takes it.
+//! A rectangle has both its corners in it, and two overlap where they have a row and a column in
+//! common. One whose top is below its bottom, or whose left is right of its right, is taken as that
+//! formula takes it. [`laws`] says what may be taken for granted of overlapping and of looks.
 //!
 //! # For whoever changes it
 //!
-//! Above the rectangles stand levels of boxes. On the level of span `s`, box `k` is round the rectangles from number
-//! `k * s` up to `(k + 1) * s`. Numbers follow the pieces of an array, so neighbours in number are mostly neighbours in
-//! place, and the boxes are small without any sorting.
+//! Above the rectangles stand levels of boxes. On the level of span `s`, box `k` is round the
+//! rectangles from number `k * s` up to `(k + 1) * s`. Numbers follow the pieces of an array, so
+//! neighbours in number are mostly neighbours in place, and the boxes are small without sorting.
 //!
-//! Every level is there from the start, and a box begins with the first rectangle in it: no node is ever moved or split
-//! in two. So `reserve` can count beforehand what each level may need, which is why `insert` takes no memory.
+//! Every level is there from the start, and a box begins with the first rectangle in it: no node is
+//! ever moved or split in two. So `reserve` can count beforehand what each level may need, which is
+//! why `insert` takes no memory.
 //!
-//! What a look answers rests on `Covers` of `specs/Levels.antt` alone, that a box is round all its rectangles. The level
-//! that the search tries next (`height_at` in `search.rt`) decides what a look costs, and never what it answers.
+//! What a look answers rests on `Covers` of `specs/Levels.antt` alone, that a box is round all its
+//! rectangles. The level that the search tries next (`height_at` in `search.rt`) decides what a
+//! look costs, and never what it answers.
 #![tactic(auto)]
 
-ghost use Rattle.std.specs.Prelude.{◌≡◌, ◌<◌, ◌≤◌, ◌+◌, ◌-◌, ◌^◌, [], ◌∷◌, ◌++◌, length, max, OnOk, OnErr, IsOk, IfOk};
+ghost use Rattle.std.specs.Prelude.{◌≡◌, ◌<◌, ◌≤◌, ◌+◌, ◌-◌, ◌^◌, [], ◌∷◌, ◌++◌};
+ghost use Rattle.std.specs.Prelude.{length, max, OnOk, OnErr, IsOk, IfOk};
 ghost use Rattle.sz_rtree.specs.Rectangles.{IsNextHit};
 
+pub mod laws;
 mod levels;
 mod search;
+#[cfg(test)]
+mod tests;
 
 use crate::levels::{Level, add_to_all, empty_levels, reserve_all, reserve_bounds};
 use crate::search::first_hit;
@@ -60,16 +67,15 @@ pub struct RTree {
 }
 
 impl Model for RTree {
-    ghost use Rattle.sz_rtree.specs.Rectangles.{Numbered};
+    ghost use Rattle.sz_rtree.specs.Rectangles.{Rectangles};
 
-    ghost Value = { Numbered };
+    ghost Value = { Rectangles };
 
-    ghost use Rattle.std.specs.Prelude.{vec_capacity};
     ghost use Rattle.sz_rtree.specs.Levels.{IsReady};
 
     ghost view = { λ t. record { rectangles = t.rectangles.items; spare = t.spare } };
 
-    ghost invariant = { λ t. IsReady t.rectangles.items t.spare (vec_capacity t.rectangles) t.levels.items };
+    ghost invariant = { λ t. IsReady t.rectangles t.spare t.levels.items };
 }
 
 impl RTree {
@@ -86,8 +92,8 @@ impl RTree {
 
     /// Makes room for `more` rectangles and the boxes above them, where there is none yet.
     ///
-    /// Costs a step for each level, and a copy of the tree where a list has to grow. A list at least doubles then, so
-    /// that many small calls cost no more than a few large ones.
+    /// Costs a visit to each level, and a copy of the tree where a list has to grow. A list at
+    /// least doubles then, so that many small calls cost no more than a few large ones.
     pub fn reserve(&mut self, more: u32) -> Result<(), NoMemory>
         requires { length self.old.rectangles + more < 2 ^ 32 }
         ensures ok { OnOk result (self.new ≡ record self.old { spare = max self.old.spare more }) }
@@ -106,8 +112,8 @@ impl RTree {
 
     /// Adds a rectangle, whose number is the `len` before. It takes no memory.
     ///
-    /// Costs one box on each of the fifteen levels, however many rectangles there are: 262,144 unit squares in row-major
-    /// order take some 20 ms.
+    /// Costs one box on each of the fifteen levels, however many rectangles there are: 262,144 unit
+    /// squares in row-major order take some 20 ms.
     pub fn insert(&mut self, bounds: Bounds)
         requires { 0 < self.old.spare }
         ensures { self.new ≡ record {
@@ -130,9 +136,10 @@ impl RTree {
 
     /// The least number at or above `from` whose rectangle overlaps `bounds`. It takes no memory.
     ///
-    /// Costs a few boxes on each level where the boxes that overlap are those of hits: among 262,144 unit squares in
-    /// row-major order, a look for one cell visits some thirty boxes, and the next look, which finds no other, some
-    /// fifteen. At worst, where boxes overlap and their rectangles do not, it visits all.
+    /// Costs a few boxes on each level where the boxes that overlap are those of hits: among
+    /// 262,144 unit squares in row-major order, a look for one cell visits some thirty boxes, and
+    /// the next look, which finds no other, some fifteen. At worst, where boxes overlap and their
+    /// rectangles do not, it visits all.
     pub fn next_hit(&self, bounds: Bounds, from: u32) -> Option<u32>
         ensures hit { IsNextHit self.now.rectangles bounds from result }
 
@@ -144,6 +151,3 @@ impl RTree {
         )
     }
 }
-
-#[cfg(test)]
-mod tests;

@@ -1,6 +1,7 @@
 //! The search for the next rectangle that overlaps.
 
-ghost use Rattle.std.specs.Prelude.{◌≡◌, ◌<◌, ◌≤◌, ◌+◌, ◌^◌, ℕ, length, MatchOption, IfSome, All};
+ghost use Rattle.std.specs.Prelude.{◌≡◌, ◌<◌, ◌≤◌, ◌+◌, ◌^◌, ℕ, length, MatchOption, IfSome};
+ghost use Rattle.std.specs.Prelude.{All};
 ghost use Rattle.std.specs.List.{HoldsAt};
 ghost use Rattle.sz_rtree.specs.Rectangles.{Overlaps, IsNextHit};
 ghost use Rattle.sz_rtree.specs.Levels.{Covers, MissesUpTo};
@@ -10,9 +11,9 @@ use sz_cells::Bounds;
 
 /// The least number at or above `from` whose rectangle overlaps `bounds`.
 ///
-/// A box that does not overlap is left whole. A box that does is looked into, a level lower. After a miss the search goes on
-/// with the largest box that begins where that miss ends. The choice of the level decides what a look costs, and never what
-/// it answers.
+/// A box that does not overlap is left whole. A box that does is looked into, a level lower. After
+/// a miss the search goes on with the largest box that begins where that miss ends. The choice of
+/// the level decides what a look costs, and never what it answers.
 pub(crate) fn first_hit(
     rectangles: &[Bounds],
     levels: &[Level],
@@ -38,8 +39,8 @@ pub(crate) fn first_hit(
     None
 }
 
-/// The number up to which nothing overlaps `bounds`, where the rectangle `number` (at height 0) or its box `height` levels
-/// above does not.
+/// The number up to which nothing overlaps `bounds`, where the rectangle `number` (at height 0) or
+/// its box `height` levels above does not.
 fn end_of_miss(
     rectangles: &[Bounds],
     levels: &[Level],
@@ -51,7 +52,8 @@ fn end_of_miss(
     requires few { length rectangles.now < 2 ^ 32 }
     requires number_is_there { number < length rectangles.now }
     requires height_is_there { height ≤ length levels.now }
-    ensures hit { result ≡ None → height ≡ 0 → HoldsAt (λ r. Overlaps r bounds.now) rectangles.now number }
+    ensures hit { result ≡ None → height ≡ 0
+        → HoldsAt (λ r. Overlaps r bounds.now) rectangles.now number }
     ensures ahead { IfSome result (λ end. number < end) }
     ensures missed { IfSome result (λ end. MissesUpTo rectangles.now bounds.now number end) }
 {

@@ -1,3 +1,5 @@
+//! Looks in small trees against plain scans, and in a tree of the greatest array.
+
 ghost use Rattle.std.specs.Prelude.{◌<◌, ◌^◌, length};
 
 use super::*;
@@ -40,7 +42,7 @@ fn scan(rectangles: &[Bounds], sought: Bounds, from: usize) -> Option<usize> {
 }
 
 /// Some hundreds of rectangles, a few of them turned over, that drift down and to the right.
-fn drifting(alloc: Global) -> Result<Vec<Bounds>, AllocError> {
+fn drifting_rectangles(alloc: Global) -> Result<Vec<Bounds>, AllocError> {
     let mut rectangles = Vec::new(alloc);
     for n in 0..400u32 {
         let top = n / 8 + n * 7 % 5;
@@ -108,7 +110,7 @@ fn reaches_the_last_row_and_column(rt: HostRuntime) -> Result<(), Fail> {
 
 #[test]
 fn agrees_with_a_plain_scan(rt: HostRuntime) -> Result<(), Fail> {
-    let rectangles = drifting(rt.alloc())?;
+    let rectangles = drifting_rectangles(rt.alloc())?;
     assert!(rt; rectangles.len() == 400);
     let tree = tree_of(rt.alloc(), &rectangles)?;
     for turn in 0..60u32 {
@@ -124,5 +126,36 @@ fn agrees_with_a_plain_scan(rt: HostRuntime) -> Result<(), Fail> {
             );
         }
     }
+    Ok(())
+}
+
+/// The cells of a square of this side, each a rectangle of its own, in row-major order.
+fn unit_squares(alloc: Global, side: u32) -> Result<Vec<Bounds>, AllocError> {
+    let mut rectangles = Vec::new(alloc);
+    for row in 0..side {
+        for column in 0..side {
+            rectangles.push(bounds(row, column, row, column))?;
+        }
+    }
+    Ok(rectangles)
+}
+
+#[test]
+fn finds_the_last_of_262144(rt: HostRuntime) -> Result<(), Fail> {
+    let rectangles = unit_squares(rt.alloc(), 512)?;
+    assert!(rt; rectangles.len() == 262144);
+    let tree = tree_of(rt.alloc(), &rectangles)?;
+    assert_eq!(rt; tree.len(), 262144);
+    let corner = bounds(511, 511, 511, 511);
+    assert_eq!(rt; tree.next_hit(corner, 0), Some(262143));
+    assert_eq!(rt; tree.next_hit(corner, 262143), Some(262143));
+    assert_eq!(rt; tree.next_hit(corner, 262144), None);
+    assert_eq!(rt; tree.next_hit(bounds(510, 511, 511, 511), 0), Some(261631));
+    assert_eq!(rt;
+        tree.next_hit(bounds(510, 511, 511, 511), 261632),
+        Some(262143)
+    );
+    assert_eq!(rt; tree.next_hit(bounds(0, 0, 511, 511), 262142), Some(262142));
+    assert_eq!(rt; tree.next_hit(bounds(512, 0, 600, 511), 0), None);
     Ok(())
 }

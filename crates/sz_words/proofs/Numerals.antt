@@ -1,12 +1,12 @@
 -- A text that clap's parser of whole numbers takes, in a range with no negative number, is read by
 -- the typed getter without its minus, and what is left is a numeral of that range. With a minus it
 -- can only be some spelling of 0, whose digits are 0 too; without one, both read the same digits.
-use Rattle.std.proofs.Common.{◌≡◌, ◌==◌, ℕ, Bool, cond, true, false, List, [], ◌∷◌, Option, Some, None, drop, refl, sym, ap, ◌∙◌, arith}
+use Rattle.std.proofs.Common.{◌≡◌, ◌==◌, ℕ, Bool, cond, true, false, List, [], ◌∷◌, Option, Some}
+use Rattle.std.proofs.Common.{None, drop, refl, sym, ap, ◌∙◌, arith}
 use Rattle.std.specs.Prelude.{Err, IsSome, Ok, Result, pos, unwrap_or}
 use Rattle.std.specs.Str.Parse.{IsNumeral, ParsesUnsigned, starts_with_minus, without_leading_plus}
-use Rattle.std.proofs.lemmas.Bool.{ne_eqb}
 use Rattle.std.proofs.lemmas.Int.{ints}
-use Rattle.std.proofs.lemmas.Str.Parse.{digit_from_value}
+use Rattle.std.proofs.lemmas.Str.Parse.{digit_from_value, without_leading_plus_none}
 use Rattle.clap.specs.Words.{IsSignedIn, ReadsOne, Text, without_minus}
 use Rattle.sz_words.specs.Numbers.{IsNumberIn, number_of}
 
@@ -21,14 +21,15 @@ without_minus-cond (x ∷ xs) = go (x == 45)
 without_leading_plus-numeral : (ds : Text) → IsNumeral 10 ds → without_leading_plus ds ≡ ds
 without_leading_plus-numeral [] h = refl
 without_leading_plus-numeral (d ∷ ds) h =
-    let plus : (d == 43) ≡ false = ne_eqb _ _ (λ e. omega (arith, digit_from_value d h.1.0)) in
-    ap (λ (b : Bool). drop (cond b 1 0) (d ∷ ds)) plus
+    without_leading_plus_none (d ∷ ds) (λ e. omega (arith, digit_from_value d h.1.0))
 
+-- a text of the range has a number in it once its minus is passed over
 pub number_without_minus : (low high : ℕ) (t : Text) → IsSignedIn (pos low) (pos high) t
     → IsNumberIn low high (Some (without_minus t))
 number_without_minus low high t passed = rw (without_minus-cond t) (go (starts_with_minus t) refl)
   where
-    go : (b : Bool) → starts_with_minus t ≡ b → IsNumberIn low high (Some (cond (starts_with_minus t) (drop 1 t) t))
+    go : (b : Bool) → starts_with_minus t ≡ b
+        → IsNumberIn low high (Some (cond (starts_with_minus t) (drop 1 t) t))
     go true minus =
         let low_ok = rw minus at passed.2 in
         let high_ok = rw minus at passed.3 in
@@ -42,7 +43,8 @@ number_without_minus low high t passed = rw (without_minus-cond t) (go (starts_w
         rw minus (numeral, omega (arith, ints), omega (arith, ints))
 
 -- what the typed getter of 32 bits gives, where such a text stands
-pub number_read : {E : Type 0} (gives : List ℕ → Result ℕ E → Type 0) (got : Option ℕ) (o : Option Text) {text : Option Text} → text ≡ o → IsNumberIn 0 4294967295 o
+pub number_read : {E : Type 0} (gives : List ℕ → Result ℕ E → Type 0) (got : Option ℕ) (o : Option Text)
+    {text : Option Text} → text ≡ o → IsNumberIn 0 4294967295 o
     → ((t : Text) → text ≡ Some t → ReadsOne gives t got)
     → ((u : List ℕ) (x : Result ℕ E) → gives u x → ParsesUnsigned 32 10 u x)
     → IsSome got × ((n : ℕ) → got ≡ Some n → n ≡ number_of o)

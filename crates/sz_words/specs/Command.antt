@@ -24,10 +24,11 @@ rules = record (new_rule (codes "MODE")) { required = true }
     ∷ number_option (codes "side") (pos 1) (pos 512) (codes "64")
     ∷ []
 
--- `subzero MODE [PLACE] [--workers N] [--askers N] [--seed N] [--side N]`, on words that do not begin
--- with the program's name
+-- `subzero MODE [PLACE] [--workers N] [--askers N] [--seed N] [--side N]`, on words that do not
+-- begin with the program's name
 abbrev pub subzero : App
-subzero = on_top (λ s. record s { no_binary_name = true; rules = rules }) (new_app (codes "subzero"))
+subzero =
+    on_top (λ s. record s { no_binary_name = true; rules = rules }) (new_app (codes "subzero"))
 
 -- the kinds of clap's error at these words: none exactly where clap takes them
 unfoldable pub faults_of : List Text → Kinds
@@ -35,5 +36,5 @@ faults_of words = fault_of subzero words
 
 -- what clap finds in words that it takes: the values of each positional and option, with the
 -- defaults of the options that were not given
-unfoldable pub found_in : List Text → List Row
-found_in words = matches_of subzero words
+unfoldable pub matches_in : List Text → List Row
+matches_in words = matches_of subzero words

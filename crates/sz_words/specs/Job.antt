@@ -1,8 +1,9 @@
 -- Which job words ask for.
-use Rattle.std.specs.Prelude.{◌≤◌, Bool, true, false, List, [], ◌∷◌, Option, Some, None, codes, not, is_some, if◌then◌else◌, option_and_then, option_map}
+use Rattle.std.specs.Prelude.{◌≤◌, Bool, true, false, List, [], ◌∷◌, Option, Some, None, codes, not}
+use Rattle.std.specs.Prelude.{is_some, if◌then◌else◌, option_and_then, option_map}
 use Rattle.std.specs.Str.{bytes_eq}
 use Rattle.clap.specs.Words.{Kinds, Row, Text, first_of, one_of}
-use Rattle.sz_words.specs.Command.{faults_of, found_in}
+use Rattle.sz_words.specs.Command.{faults_of, matches_in}
 use Rattle.sz_words.specs.Numbers.{number_of}
 use Rattle.sz_words.specs.declared.Job.{Job}
 use Rattle.sz_words.specs.declared.JobMode.{JobMode}
@@ -36,13 +37,13 @@ fitting_mode found = option_and_then
     (option_and_then mode_named (first_of (codes "MODE") found))
 
 -- this mode, where clap finds no fault
-abbrev pub unless_faulty : Kinds → Option JobMode → Option JobMode
-unless_faulty [] mode = mode
-unless_faulty (kind ∷ more) mode = None
+abbrev pub mode_if_taken : Kinds → Option JobMode → Option JobMode
+mode_if_taken [] mode = mode
+mode_if_taken (kind ∷ more) mode = None
 
 -- the mode of words that are accepted: clap takes them, MODE names a mode, and PLACE fits it
 unfoldable pub mode_of : List Text → Option JobMode
-mode_of words = unless_faulty (faults_of words) (fitting_mode (found_in words))
+mode_of words = mode_if_taken (faults_of words) (fitting_mode (matches_in words))
 
 -- the job in this mode, with the numbers that clap's typed getter gives
 abbrev pub job_in : JobMode → List Row → Job
@@ -56,7 +57,7 @@ job_in mode found = record {
 
 -- the job of the words; none where they are refused
 unfoldable pub job_of : List Text → Option Job
-job_of words = option_map (λ mode. job_in mode (found_in words)) (mode_of words)
+job_of words = option_map (λ mode. job_in mode (matches_in words)) (mode_of words)
 
 -- each number is in the range of its option
 pub record IsInRange (job : Job) : Type 0 where

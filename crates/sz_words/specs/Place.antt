@@ -1,7 +1,8 @@
 -- Which file words name.
-use Rattle.std.specs.Prelude.{Bool, true, false, List, Option, codes, option_and_then, option_map, string_bytes}
+use Rattle.std.specs.Prelude.{Bool, true, false, List, Option, codes, option_and_then, option_map}
+use Rattle.std.specs.Prelude.{string_bytes}
 use Rattle.clap.specs.Words.{Text, first_of}
-use Rattle.sz_words.specs.Command.{found_in}
+use Rattle.sz_words.specs.Command.{matches_in}
 use Rattle.sz_words.specs.Job.{mode_of}
 use Rattle.sz_words.specs.declared.JobMode.{JobMode}
 use Rattle.sz_words.specs.declared.JobMode.TheVariants.{Play, Init, Run, Check, Load}
@@ -19,9 +20,10 @@ makes_log Load = false
 -- no PLACE
 unfoldable pub place_of : List Text → Option (Text × Bool)
 place_of words = option_and_then
-    (λ mode. option_map (λ path. (path, makes_log mode)) (first_of (codes "PLACE") (found_in words)))
+    (λ mode. option_map (λ path. (path, makes_log mode))
+    (first_of (codes "PLACE") (matches_in words)))
     (mode_of words)
 
 -- a place as its path's bytes, and whether the file is made
-abbrev pub shown_place : LogPlace → Text × Bool
-shown_place place = (string_bytes place.path, place.make)
+abbrev pub path_and_make : LogPlace → Text × Bool
+path_and_make place = (string_bytes place.path, place.make)

@@ -1,7 +1,12 @@
 //! The command as `clap` has it, and what is read of its matches.
-ghost use Rattle.std.specs.Prelude.{◌≡◌, ◌≢◌, ◌≤◌, [], Err, IfOk, OnOk, codes, false, map, option_map, pos, string_bytes};
+//!
+//! The command is built once for each reading of words. What stands in its matches is read by the
+//! names of its arguments, so a name that is written here stands in `command` too.
+
+ghost use Rattle.std.specs.Prelude.{◌≡◌, ◌≢◌, ◌≤◌, [], Err, IfOk, OnOk, false, map};
+ghost use Rattle.std.specs.Prelude.{option_map, pos, string_bytes};
 ghost use Rattle.clap.specs.Words.{app_of, found_of, first_of, one_of, rows_of, rule_of};
-ghost use Rattle.sz_words.specs.Command.{faults_of, found_in, number_option, subzero};
+ghost use Rattle.sz_words.specs.Command.{faults_of, matches_in, number_option, subzero};
 ghost use Rattle.sz_words.specs.Job.{fitting_mode, is_on_log, mode_named};
 ghost use Rattle.sz_words.specs.Numbers.{HasNumbers, IsNumberIn, number_of};
 ghost use Rattle.sz_words.specs.Place.{makes_log};
@@ -11,22 +16,30 @@ use clap::error::ErrorKind;
 use clap::{Arg, ArgAction, ArgMatches, Command, value_parser};
 use std::alloc::{AllocError, Global};
 
-fn number_option<'a>(
+/// What clap finds in the words, refused exactly where clap refuses them for another cause than
+/// memory.
+pub(crate) fn matches_of<'a>(
     alloc: Global,
-    name: &'a str,
-    least: u32,
-    most: u32,
-    default: &'a str,
-) -> Arg<'a>
-    requires { least ≤ most }
-    ensures rule { rule_of result ≡ number_option name.entry.now (pos least) (pos most) default.entry.now }
-    ensures local { result.global ≡ false }
+    words: &'a [String],
+) -> Result<ArgMatches<'a>, WordsFault>
+    ensures ok { OnOk result (faults_of (map string_bytes words.entry.now) ≡ []) }
+    ensures usage { result ≡ Err WordsFault.Usage
+        → faults_of (map string_bytes words.entry.now) ≢ [] }
+    ensures rows { IfOk result
+        (λ m. rows_of (found_of m) ≡ matches_in (map string_bytes words.entry.now)) }
+    ensures numbers { IfOk result (λ m. HasNumbers (rows_of (found_of m))) }
 {
-    Arg::new(alloc, name)
-        .long(name)
-        .action(ArgAction::Set)
-        .value_parser(value_parser!(u32).range(i64::from(least)..=i64::from(most)))
-        .default_value(default)
+    let command = command(alloc)?;
+    match command.try_get_matches_from(words) {
+        Ok(found) => Ok(found),
+        Err(e) => {
+            if e.kind() == ErrorKind::OutOfMemory {
+                Err(WordsFault::NoMemory)
+            } else {
+                Err(WordsFault::Usage)
+            }
+        }
+    }
 }
 
 fn command<'a>(alloc: Global) -> Result<Command<'a>, AllocError>
@@ -48,45 +61,23 @@ fn command<'a>(alloc: Global) -> Result<Command<'a>, AllocError>
         .arg(side)
 }
 
-/// What clap finds in the words, refused exactly where clap refuses them for another cause than
-/// memory.
-pub(crate) fn matches_of<'a>(
+fn number_option<'a>(
     alloc: Global,
-    words: &'a [String],
-) -> Result<ArgMatches<'a>, WordsFault>
-    ensures ok { OnOk result (faults_of (map string_bytes words.entry.now) ≡ []) }
-    ensures usage { result ≡ Err WordsFault.Usage → faults_of (map string_bytes words.entry.now) ≢ [] }
-    ensures rows { IfOk result (λ m. rows_of (found_of m) ≡ found_in (map string_bytes words.entry.now)) }
-    ensures numbers { IfOk result (λ m. HasNumbers (rows_of (found_of m))) }
+    name: &'a str,
+    least: u32,
+    most: u32,
+    default: &'a str,
+) -> Arg<'a>
+    requires { least ≤ most }
+    ensures rule { rule_of result
+        ≡ number_option name.entry.now (pos least) (pos most) default.entry.now }
+    ensures local { result.global ≡ false }
 {
-    let Ok(command) = command(alloc) else {
-        return Err(WordsFault::NoMemory);
-    };
-    match command.try_get_matches_from(words) {
-        Ok(found) => Ok(found),
-        Err(e) => {
-            if e.kind() == ErrorKind::OutOfMemory {
-                Err(WordsFault::NoMemory)
-            } else {
-                Err(WordsFault::Usage)
-            }
-        }
-    }
-}
-
-/// The text of a positional, where it is given.
-pub(crate) fn text<'a>(matches: &ArgMatches<'a>, name: &str) -> Option<&'a str>
-    ensures { option_map (λ s. s.now) result ≡ first_of name.now (rows_of (found_of matches.now)) }
-{
-    matches.get_str(name)
-}
-
-/// The number of an option, which stands in the matches of words that clap takes.
-pub(crate) fn number(matches: &ArgMatches<'_>, name: &str) -> u32
-    requires { IsNumberIn 0 4294967295 (one_of name.now (rows_of (found_of matches.now))) }
-    ensures { result ≡ number_of (one_of name.now (rows_of (found_of matches.now))) }
-{
-    matches.get_one::<u32>(name).unwrap()
+    Arg::new(alloc, name)
+        .long(name)
+        .action(ArgAction::Set)
+        .value_parser(value_parser!(u32).range(i64::from(least)..=i64::from(most)))
+        .default_value(default)
 }
 
 /// The mode that MODE names, where PLACE is given exactly if the mode is one on a log.
@@ -122,6 +113,21 @@ fn is_on_log(mode: JobMode) -> bool
         JobMode::Init | JobMode::Run | JobMode::Check => true,
         JobMode::Play | JobMode::Load => false,
     }
+}
+
+/// The text of a positional, where it is given.
+pub(crate) fn text<'a>(matches: &ArgMatches<'a>, name: &str) -> Option<&'a str>
+    ensures { option_map (λ s. s.now) result ≡ first_of name.now (rows_of (found_of matches.now)) }
+{
+    matches.get_str(name)
+}
+
+/// The number of an option, which stands in the matches of words that clap takes.
+pub(crate) fn number(matches: &ArgMatches<'_>, name: &str) -> u32
+    requires { IsNumberIn 0 4294967295 (one_of name.now (rows_of (found_of matches.now))) }
+    ensures { result ≡ number_of (one_of name.now (rows_of (found_of matches.now))) }
+{
+    matches.get_one::<u32>(name).unwrap()
 }
 
 /// Whether the file of the log is made where it is not there.

@@ -1,9 +1,9 @@
 //! The words of SubZero's command line: which job they ask for.
 //!
-//! `subzero MODE [PLACE] [--workers N] [--askers N] [--seed N] [--side N]` is one command of `clap`.
-//! This crate refuses exactly the words that `clap` refuses, those whose MODE is no mode, and those
-//! whose PLACE does not fit the mode; and it reads the rest. An option that a mode does not use is
-//! allowed.
+//! `subzero MODE [PLACE] [--workers N] [--askers N] [--seed N] [--side N]` is one command of
+//! `clap`. This crate refuses exactly the words that `clap` refuses, those whose MODE is no mode,
+//! and those whose PLACE does not fit the mode; and it reads the rest. An option that a mode does
+//! not use is allowed.
 //!
 //! | Mode | PLACE |
 //! |---|---|
@@ -17,8 +17,8 @@
 //! | `--seed` | 0 to 4,294,967,295 | 1 |
 //! | `--side` | 1 to 512 | 64 |
 //!
-//! `read_words` gives the job, and `log_place` the file of its log. The words are those after the
-//! program's name. For `run log.bin --workers 8`:
+//! [`read_words`] gives the job, and [`log_place`] the file of its log. The words are those after
+//! the program's name. For `run log.bin --workers 8`:
 //!
 //! ```text
 //! let job = read_words(alloc, words.as_slice())?;
@@ -28,32 +28,63 @@
 //! ```
 #![tactic(auto)]
 
-ghost use Rattle.std.specs.Prelude.{◌≡◌, IfOk, Err, None, Some, map, option_map, string_bytes};
+ghost use Rattle.std.specs.Prelude.{◌≡◌, IfOk, OnOk, Err, None, Some, map};
+ghost use Rattle.std.specs.Prelude.{option_map, string_bytes};
+ghost use Rattle.sz_words.specs.Command.{matches_in};
 ghost use Rattle.sz_words.specs.Job.{IsInRange, job_of};
-ghost use Rattle.sz_words.specs.Place.{place_of, shown_place};
+ghost use Rattle.sz_words.specs.Numbers.{HasNumbers};
+ghost use Rattle.sz_words.specs.Place.{place_of, path_and_make};
 
 mod arguments;
+#[cfg(test)]
+mod tests;
 
 use arguments::{fitting_mode, makes_log, matches_of, number, text};
-use std::alloc::Global;
+use std::alloc::{AllocError, Global};
 
-/// There was no memory for what the call had to make.
-#[derive(Clone, Copy, Debug, Drop, PartialEq, Eq)]
-pub struct NoMemory;
+/// The job of the words after the program's name. The time grows with the length of the words.
+pub fn read_words(alloc: Global, words: &[String]) -> Result<Job, WordsFault>
+    ensures ok { IfOk result (λ job. job_of (map string_bytes words.now) ≡ Some job) }
+    ensures usage { result ≡ Err WordsFault.Usage → job_of (map string_bytes words.now) ≡ None }
+    ensures ranges { IfOk result IsInRange }
 
-/// What the program is asked to do.
-#[derive(Clone, Copy, Debug, PartialEq, Eq)]
-pub enum JobMode {
-    /// A session without a log.
-    Play,
-    /// Makes the empty log.
-    Init,
-    /// A session on a log.
-    Run,
-    /// Says whether a log is sound.
-    Check,
-    /// The generated session, on memory.
-    Load,
+    // Each option has a numeral, its own or its default: no number is made up for one.
+    ensures numerals { OnOk result (HasNumbers (matches_in (map string_bytes words.now))) }
+{
+    let matches = matches_of(alloc, words)?;
+    let Some(mode) = fitting_mode(&matches) else {
+        return Err(WordsFault::Usage);
+    };
+    Ok(Job {
+        mode,
+        workers: number(&matches, "workers"),
+        askers: number(&matches, "askers"),
+        seed: number(&matches, "seed"),
+        side: number(&matches, "side"),
+    })
+}
+
+/// The file of the log that the words name; `None` where they are refused or have no PLACE. It
+/// costs what `read_words` does, and the path is a copy.
+pub fn log_place(alloc: Global, words: &[String]) -> Result<Option<LogPlace>, NoMemory>
+    ensures { IfOk result
+        (λ place. option_map path_and_make place ≡ place_of (map string_bytes words.now)) }
+{
+    let matches = match matches_of(alloc, words) {
+        Ok(matches) => matches,
+        Err(WordsFault::Usage) => return Ok(None),
+        Err(WordsFault::NoMemory) => return Err(NoMemory),
+    };
+    let Some(mode) = fitting_mode(&matches) else {
+        return Ok(None);
+    };
+    let Some(place) = text(&matches, "PLACE") else {
+        return Ok(None);
+    };
+    Ok(Some(LogPlace {
+        path: String::from_str(alloc, place)?,
+        make: makes_log(mode),
+    }))
 }
 
 /// What the words ask for; an option that was not given has its default.
@@ -70,13 +101,19 @@ pub struct Job {
     pub side: u32,
 }
 
-/// Why there is no job.
+/// What the program is asked to do.
 #[derive(Clone, Copy, Debug, PartialEq, Eq)]
-pub enum WordsFault {
-    /// The words are refused.
-    Usage,
-    /// There was no memory for reading them.
-    NoMemory,
+pub enum JobMode {
+    /// A session without a log.
+    Play,
+    /// Makes the empty log.
+    Init,
+    /// A session on a log.
+    Run,
+    /// Says whether a log is sound.
+    Check,
+    /// The generated session, on memory.
+    Load,
 }
 
 /// The file of the log that the words name.
@@ -88,49 +125,31 @@ pub struct LogPlace {
     pub make: bool,
 }
 
-/// The job of the words after the program's name. The time grows with the length of the words.
-pub fn read_words(alloc: Global, words: &[String]) -> Result<Job, WordsFault>
-    ensures ok { IfOk result (λ job. job_of (map string_bytes words.now) ≡ Some job) }
-    ensures usage { result ≡ Err WordsFault.Usage → job_of (map string_bytes words.now) ≡ None }
-    ensures ranges { IfOk result IsInRange }
-{
-    let matches = matches_of(alloc, words)?;
-    let Some(mode) = fitting_mode(&matches) else {
-        return Err(WordsFault::Usage);
-    };
-    Ok(Job {
-        mode,
-        workers: number(&matches, "workers"),
-        askers: number(&matches, "askers"),
-        seed: number(&matches, "seed"),
-        side: number(&matches, "side"),
-    })
+/// Why there is no job.
+#[derive(Clone, Copy, Debug, PartialEq, Eq)]
+pub enum WordsFault {
+    /// The words are refused.
+    Usage,
+    /// There was no memory for reading them.
+    NoMemory,
 }
 
-/// The file of the log that the words name; `None` where they are refused or have no PLACE. It costs
-/// what `read_words` does, and the path is a copy.
-pub fn log_place(alloc: Global, words: &[String]) -> Result<Option<LogPlace>, NoMemory>
-    ensures { IfOk result (λ place. option_map shown_place place ≡ place_of (map string_bytes words.now)) }
-{
-    let matches = match matches_of(alloc, words) {
-        Ok(matches) => matches,
-        Err(WordsFault::Usage) => return Ok(None),
-        Err(WordsFault::NoMemory) => return Err(NoMemory),
-    };
-    let Some(mode) = fitting_mode(&matches) else {
-        return Ok(None);
-    };
-    let Some(place) = text(&matches, "PLACE") else {
-        return Ok(None);
-    };
-    match String::from_str(alloc, place) {
-        Ok(path) => Ok(Some(LogPlace {
-            path,
-            make: makes_log(mode),
-        })),
-        Err(_) => Err(NoMemory),
+impl From<AllocError> for WordsFault {
+    ghost use Rattle.sz_words.specs.declared.WordsFault.TheVariants.{NoMemory};
+
+    ghost from_gives = { λ _ fault. fault ≡ NoMemory };
+
+    fn from(_: AllocError) -> Self {
+        WordsFault::NoMemory
     }
 }
 
-#[cfg(test)]
-mod tests;
+/// There was no memory for what the call had to make.
+#[derive(Clone, Copy, Debug, Drop, PartialEq, Eq)]
+pub struct NoMemory;
+
+impl From<AllocError> for NoMemory {
+    fn from(_: AllocError) -> Self {
+        NoMemory
+    }
+}

@@ -1,8 +1,13 @@
-use crate::{Job, JobMode, NoMemory, WordsFault, log_place, read_words};
+//! That each mode's words are read, that refused ones are, and that the longest are.
+//!
+//! Which job or fault words have is proved, and rows of `proofs/Rows.antt` have it worked by hand.
+//! No clause says that there is memory for it, so each kind of answer is met here once.
+
+use crate::{Job, JobMode, LogPlace, NoMemory, WordsFault, log_place, read_words};
 use std::alloc::{AllocError, Global};
 use std::test::Fail;
 
-// The words of a line, apart at each blank, where `_` stands for the empty word.
+/// The words of a line, apart at each blank, where `_` stands for the empty word.
 fn words_of(alloc: Global, line: &str) -> Result<Vec<String>, AllocError> {
     let mut words = Vec::new(alloc);
     for word in line.split(' ') {
@@ -14,13 +19,15 @@ fn words_of(alloc: Global, line: &str) -> Result<Vec<String>, AllocError> {
     Ok(words)
 }
 
-const PLAY: Job = Job {
-    mode: JobMode::Play,
-    workers: 4,
-    askers: 1,
-    seed: 1,
-    side: 64,
-};
+fn job_of(alloc: Global, line: &str) -> Result<Job, WordsFault> {
+    let words = words_of(alloc, line)?;
+    read_words(alloc, words.as_slice())
+}
+
+fn place_of(alloc: Global, line: &str) -> Result<Option<LogPlace>, NoMemory> {
+    let words = words_of(alloc, line)?;
+    log_place(alloc, words.as_slice())
+}
 
 fn job(mode: JobMode, workers: u32, askers: u32, seed: u32, side: u32) -> Job {
     Job {
@@ -33,39 +40,25 @@ fn job(mode: JobMode, workers: u32, askers: u32, seed: u32, side: u32) -> Job {
 }
 
 #[test]
-fn reads_jobs(rt: HostRuntime) -> Result<(), Fail> {
-    let rows = [
-        ("play", PLAY),
-        ("-- play", PLAY),
-        ("play --workers 2", job(JobMode::Play, 2, 1, 1, 64)),
-        ("--workers=2 play", job(JobMode::Play, 2, 1, 1, 64)),
-        (
-            "play --askers +5 --workers 05",
-            job(JobMode::Play, 5, 5, 1, 64),
-        ),
-        ("init x", job(JobMode::Init, 4, 1, 1, 64)),
-        ("run x", job(JobMode::Run, 4, 1, 1, 64)),
-        ("run _", job(JobMode::Run, 4, 1, 1, 64)),
-        ("run -- --help", job(JobMode::Run, 4, 1, 1, 64)),
-        ("check x", job(JobMode::Check, 4, 1, 1, 64)),
-        ("load --seed 7 --side 8", job(JobMode::Load, 4, 1, 7, 8)),
-        (
-            "load --workers 1 --askers 1 --seed 0 --side 1",
-            job(JobMode::Load, 1, 1, 0, 1),
-        ),
-        (
-            "load --workers 64 --askers 64 --seed 4294967295 --side 512",
-            job(JobMode::Load, 64, 64, 4294967295, 512),
-        ),
-    ];
-    for (line, want) in rows {
-        let words = words_of(rt.alloc(), line)?;
-        assert_eq!(rt;
-            read_words(rt.alloc(), words.as_slice()),
-            Ok(want),
-            "at {line}"
-        );
-    }
+fn reads_the_words_of_each_mode(rt: HostRuntime) -> Result<(), Fail> {
+    let alloc = rt.alloc();
+    assert_eq!(rt; job_of(alloc, "play"), Ok(job(JobMode::Play, 4, 1, 1, 64)));
+    assert_eq!(rt;
+        job_of(alloc, "init x"),
+        Ok(job(JobMode::Init, 4, 1, 1, 64))
+    );
+    assert_eq!(rt;
+        job_of(alloc, "run _ --workers 2"),
+        Ok(job(JobMode::Run, 2, 1, 1, 64))
+    );
+    assert_eq!(rt;
+        job_of(alloc, "--askers=5 check x"),
+        Ok(job(JobMode::Check, 4, 5, 1, 64))
+    );
+    assert_eq!(rt;
+        job_of(alloc, "load --seed 7 --side 8"),
+        Ok(job(JobMode::Load, 4, 1, 7, 8))
+    );
     Ok(())
 }
 
@@ -73,69 +66,66 @@ fn reads_jobs(rt: HostRuntime) -> Result<(), Fail> {
 fn refuses_words(rt: HostRuntime) -> Result<(), Fail> {
     let lines = [
         "",
-        "_",
         "fly",
-        "Play",
         "play x",
-        "load x",
-        "init",
         "run",
-        "check",
         "run a b",
         "play --workers 2 --workers 3",
-        "play --workers 0",
         "play --workers 65",
-        "play --workers 4294967296",
-        "play --workers -5",
         "play --workers",
-        "play --workers=",
-        "play --askers 0",
-        "play --askers 65",
-        "load --seed 4294967296",
-        "load --side 0",
-        "load --side 513",
-        "play --work 2",
         "-x play",
-        "run -x",
-        "play --help",
         "--help",
-        "-h",
         "--version",
-        "-V",
     ];
     for line in lines {
-        let words = words_of(rt.alloc(), line)?;
         assert_eq!(rt;
-            read_words(rt.alloc(), words.as_slice()),
+            job_of(rt.alloc(), line),
             Err(WordsFault::Usage),
             "at {line}"
         );
-        assert!(rt;
-            log_place(rt.alloc(), words.as_slice()) == Ok(None),
-            "at {line}"
-        );
+        assert!(rt; place_of(rt.alloc(), line) == Ok(None), "at {line}");
     }
     Ok(())
 }
 
 #[test]
 fn names_the_log(rt: HostRuntime) -> Result<(), Fail> {
-    let rows = [
-        ("init x", Some(("x", true))),
-        ("run x", Some(("x", false))),
-        ("run _", Some(("", false))),
-        ("check --workers 2 dir/x", Some(("dir/x", false))),
-        ("run -- --help", Some(("--help", false))),
-        ("play", None),
-        ("load --seed 7", None),
-    ];
-    for (line, want) in rows {
-        let words = words_of(rt.alloc(), line)?;
-        let place = log_place(rt.alloc(), words.as_slice()).map_err(|_: NoMemory| "memory")?;
-        let shown = place
-            .as_ref()
-            .map(|place| (place.path.as_str(), place.make));
-        assert!(rt; shown == want, "at {line}");
+    let Ok(Some(made)) = place_of(rt.alloc(), "init dir/x") else {
+        return Err(Fail::from("no place at init"));
+    };
+    assert_eq!(rt; made.path.as_str(), "dir/x");
+    assert!(rt; made.make);
+    let Ok(Some(opened)) = place_of(rt.alloc(), "run -- --help") else {
+        return Err(Fail::from("no place at run"));
+    };
+    assert_eq!(rt; opened.path.as_str(), "--help");
+    assert!(rt; !opened.make);
+    assert!(rt; place_of(rt.alloc(), "play") == Ok(None));
+    Ok(())
+}
+
+/// A line that names a log by a path of so many bytes, with every option at its greatest number.
+fn longest_line(alloc: Global, path_length: u32) -> Result<String, AllocError> {
+    let mut line = String::from_str(alloc, "init ")?;
+    for _ in 0..path_length {
+        line.push('x')?;
     }
+    line.push_str(" --workers 64 --askers 64 --seed 4294967295 --side 512")?;
+    Ok(line)
+}
+
+#[test]
+fn reads_a_place_of_4096_bytes(rt: HostRuntime) -> Result<(), Fail> {
+    let line = longest_line(rt.alloc(), 4096)?;
+    assert_eq!(rt;
+        job_of(rt.alloc(), line.as_str()),
+        Ok(job(JobMode::Init, 64, 64, 4294967295, 512))
+    );
+    let Ok(Some(place)) = place_of(rt.alloc(), line.as_str()) else {
+        return Err(Fail::from("no place"));
+    };
+    assert!(rt; place.make);
+    assert_eq!(rt; place.path.len(), 4096);
+    assert!(rt; place.path.bytes().all(|byte| byte == b'x'));
     Ok(())
 }

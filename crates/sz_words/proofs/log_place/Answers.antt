@@ -13,20 +13,25 @@ returns-in-Err-Usage c = sym (place_of-refused (map string_bytes c.args.words.no
 pub returns-in_default : goal.returns-in_default
 returns-in_default c =
     let found = rows_of (found_of c.in-Ok.matches) in
-    sym (place_of-taken (map string_bytes c.args.words.now) found c.in-Ok.ensures.ok c.in-Ok.ensures.rows
+    let words = map string_bytes c.args.words.now in
+    sym (place_of-taken words found c.in-Ok.ensures.ok c.in-Ok.ensures.rows
     ∙ ap (option_and_then (place_in found)) (sym c.fitting_mode.ensures ∙ c.in_default.is))
 
 pub returns-in_default-text : goal.returns-in_default-text
 returns-in_default-text c =
     let found = rows_of (found_of c.in-Ok.matches) in
-    sym (place_of-taken (map string_bytes c.args.words.now) found c.in-Ok.ensures.ok c.in-Ok.ensures.rows
-    ∙ (ap (option_and_then (place_in found)) (sym c.fitting_mode.ensures ∙ c.in-Some.is)
-    ∙ ap (option_map (λ (path : Text). (path, makes_log c.in-Some.mode))) (sym c.text.ensures ∙ ap (option_map (λ (s : Bor Text). s.now)) c.in_default-text.is)))
+    let words = map string_bytes c.args.words.now in
+    let no_text = sym c.text.ensures ∙ ap (option_map (λ (s : Bor Text). s.now)) c.in_default-text.is in
+    sym (place_of-taken words found c.in-Ok.ensures.ok c.in-Ok.ensures.rows
+    ∙ ap (option_and_then (place_in found)) (sym c.fitting_mode.ensures ∙ c.in-Some.is)
+    ∙ ap (option_map (λ (path : Text). (path, makes_log c.in-Some.mode))) no_text)
 
-pub returns-in-Ok-from_str : goal.returns-in-Ok-from_str
-returns-in-Ok-from_str c =
+pub returns : goal.returns
+returns c =
     let found = rows_of (found_of c.in-Ok.matches) in
-    sym (place_of-taken (map string_bytes c.args.words.now) found c.in-Ok.ensures.ok c.in-Ok.ensures.rows
-    ∙ (ap (option_and_then (place_in found)) (sym c.fitting_mode.ensures ∙ c.in-Some.is)
-    ∙ (ap (option_map (λ (path : Text). (path, makes_log c.in-Some.mode))) (sym c.text.ensures ∙ ap (option_map (λ (s : Bor Text). s.now)) c.in-Some-text.is)
-    ∙ rw (c.in-Ok-from_str.ensures.ok, c.makes_log.ensures) refl)))
+    let words = map string_bytes c.args.words.now in
+    let the_text = sym c.text.ensures ∙ ap (option_map (λ (s : Bor Text). s.now)) c.in-Some-text.is in
+    sym (place_of-taken words found c.in-Ok.ensures.ok c.in-Ok.ensures.rows
+    ∙ ap (option_and_then (place_in found)) (sym c.fitting_mode.ensures ∙ c.in-Some.is)
+    ∙ ap (option_map (λ (path : Text). (path, makes_log c.in-Some.mode))) the_text
+    ∙ rw (c.in_ok-from_str.ensures.ok, c.makes_log.ensures) refl)

@@ -11,11 +11,15 @@ returns-in_err-matches-clause-usage c = search (rules, job_of-refused)
 
 pub returns-in_default-clause-usage : goal.returns-in_default-clause-usage
 returns-in_default-clause-usage c =
-    λ _. job_of-taken (map string_bytes c.args.words.now) (rows_of (found_of c.in_ok-matches.matches)) c.in_ok-matches.ensures.ok c.in_ok-matches.ensures.rows
-    ∙ ap (option_map (λ mode. job_in mode (rows_of (found_of c.in_ok-matches.matches)))) (sym c.fitting_mode.ensures ∙ c.in_default.is)
+    λ _. job_of-taken (map string_bytes c.args.words.now) (rows_of (found_of c.in_ok-matches.matches))
+    c.in_ok-matches.ensures.ok c.in_ok-matches.ensures.rows
+    ∙ ap (option_map (λ mode. job_in mode (rows_of (found_of c.in_ok-matches.matches))))
+    (sym c.fitting_mode.ensures ∙ c.in_default.is)
 
 pub returns-clause-ok : goal.returns-clause-ok
 returns-clause-ok c =
-    job_of-taken (map string_bytes c.args.words.now) (rows_of (found_of c.in_ok-matches.matches)) c.in_ok-matches.ensures.ok c.in_ok-matches.ensures.rows
-    ∙ (ap (option_map (λ mode. job_in mode (rows_of (found_of c.in_ok-matches.matches)))) (sym c.fitting_mode.ensures ∙ c.in-Some.is)
+    job_of-taken (map string_bytes c.args.words.now) (rows_of (found_of c.in_ok-matches.matches))
+    c.in_ok-matches.ensures.ok c.in_ok-matches.ensures.rows
+    ∙ (ap (option_map (λ mode. job_in mode (rows_of (found_of c.in_ok-matches.matches))))
+    (sym c.fitting_mode.ensures ∙ c.in-Some.is)
     ∙ rw (c.number.ensures, c.number-2.ensures, c.number-3.ensures, c.number-4.ensures) refl)

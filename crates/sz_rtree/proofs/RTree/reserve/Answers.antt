@@ -7,7 +7,8 @@ pub invariant_of-self-in_err-reserve_all : goal.invariant_of-self-in_err-reserve
 invariant_of-self-in_err-reserve_all c =
     let was = c.self.invariant in
     let levels = c.reserve_all.new.levels in
-    let back = take_at levels (drop (length levels) c.self.inside.levels.items) c.self.inside.levels.len (omega arith) in
+    let back =
+    take_at levels (drop (length levels) c.self.inside.levels.items) c.self.inside.levels.len (omega arith) in
     rw (c.reserve_bounds.ensures.items, back) (record {
       few = was.few;
       room = omega arith;
@@ -19,7 +20,8 @@ pub invariant_of-self-2 : goal.invariant_of-self-2
 invariant_of-self-2 c =
     let was = c.self.invariant in
     let levels = c.reserve_all.new.levels in
-    let back = take_at levels (drop (length levels) c.self.inside.levels.items) c.self.inside.levels.len (omega arith) in
+    let back =
+    take_at levels (drop (length levels) c.self.inside.levels.items) c.self.inside.levels.len (omega arith) in
     let seen = ap (λ tree. length tree.rectangles) c.self.view_is in
     rw (c.reserve_bounds.ensures.items, back) (record {
       few = omega (arith, seen, c.requires);

@@ -13,10 +13,18 @@ loop-level-preserved c =
     let inside : i < length levels = omega arith in
     let span = c.add.ensures.span in
     record {
-      positive = All-carried (λ (level : Level). 0 < level.span) levels i c.level-item.result c.add.new.self inside (λ before. omega arith) c.loop-level.invariant.positive;
+      positive =
+          All-carried (λ (level : Level). 0 < level.span) levels i c.level-item.result c.add.new.self inside
+          (λ before. omega arith) c.loop-level.invariant.positive;
       done = λ rectangles count before.
-          AllWithin-more_set levels i c.add.new.self inside (Covers (rectangles ++ c.args.bounds ∷ [])) (c.loop-level.invariant.done rectangles count before)
-          (c.add.ensures.covers rectangles count (c.loop-level.invariant.ahead rectangles before i c.level-item.result (omega arith) inside));
-      ahead = λ rectangles before. rest_after_set (Covers rectangles) levels i c.add.new.self (c.loop-level.invariant.ahead rectangles before);
-      kept = λ room before. All-carried (HasRoom room) levels i c.level-item.result c.add.new.self inside (c.add.ensures.kept room) (c.loop-level.invariant.kept room before);
+          AllWithin-more_set levels i c.add.new.self inside (Covers (rectangles ++ c.args.bounds ∷ []))
+          (c.loop-level.invariant.done rectangles count before)
+          (c.add.ensures.covers rectangles count
+          (c.loop-level.invariant.ahead rectangles before i c.level-item.result (omega arith) inside));
+      ahead =
+          λ rectangles before. rest_after_set (Covers rectangles) levels i c.add.new.self
+          (c.loop-level.invariant.ahead rectangles before);
+      kept =
+          λ room before. All-carried (HasRoom room) levels i c.level-item.result c.add.new.self inside
+          (c.add.ensures.kept room) (c.loop-level.invariant.kept room before);
     }

@@ -8,7 +8,8 @@ use Rattle.sz_rtree.proofs.levels.reserve_all.Given as goal
 abbrev pub invariant-loop-level : goal.invariant-loop-level
 invariant-loop-level l = record {
   positive : All (λ level. 0 < level.span) l.levels;
-  covers : (rectangles : List Bounds) → All (Covers rectangles) l.initial.levels → All (Covers rectangles) l.levels;
+  covers : (rectangles : List Bounds) → All (Covers rectangles) l.initial.levels
+      → All (Covers rectangles) l.levels;
   kept : (room : ℕ) → All (HasRoom room) l.initial.levels → All (HasRoom room) l.levels;
   done : AllWithin (HasRoom l.count) l.levels 0 l.level-index;
 }

@@ -1,4 +1,5 @@
--- The key idea: nothing overlaps from the start up to the number that has been reached, at whatever height the search is.
+-- The key idea: nothing overlaps from the start up to the number that has been reached, at whatever height the
+-- search is.
 use Rattle.std.proofs.Common.{length, ◌-◌, ◌≤◌, ◌+◌, ◌*◌}
 use Rattle.sz_rtree.specs.Levels.{MissesUpTo}
 use Rattle.sz_rtree.proofs.search.first_hit.Given as goal

@@ -1,9 +1,9 @@
 -- Each turn adds one triple, and makes its six draws.
 use Rattle.std.proofs.Common.{◌≡◌, ◌+◌, ◌*◌, ◌++◌, sym, ap, ◌∙◌, append-nil, arith}
-use Rattle.sz_gen.specs.Draws.{after}
-use Rattle.sz_gen.specs.Session.{triple, triples, ended}
-use Rattle.sz_gen.proofs.Steps.{after_none, after_after}
-use Rattle.sz_gen.proofs.LineSteps.{lines_joined, triples_none, triples_more}
+use Rattle.sz_gen.specs.Draws.{number_after}
+use Rattle.sz_gen.specs.Session.{triple, triples, text_of_lines}
+use Rattle.sz_gen.proofs.DrawSteps.{number_after-zero, number_after-twice}
+use Rattle.sz_gen.proofs.LineSteps.{text_of_lines-join, triples-zero, triples-suc}
 use Rattle.sz_gen.proofs.draft.Draft.push_triples.Goals as goal
 
 pub loop-done-init : goal.loop-done-init
@@ -11,8 +11,8 @@ loop-done-init c =
     let x = c.args.self.now.number in
     let text = c.args.self.now.text.items in
     record {
-      number = sym (after_none x);
-      text = sym (ap (λ ls. text ++ ended ls) (triples_none c.args.side x) ∙ append-nil text);
+      number = sym (number_after-zero x);
+      text = sym (ap (λ ls. text ++ text_of_lines ls) (triples-zero c.args.side x) ∙ append-nil text);
     }
 
 pub loop-done-preserved : goal.loop-done-preserved
@@ -24,7 +24,9 @@ loop-done-preserved c =
     let so_far = c.loop-done.invariant in
     let more : k * 6 + 6 ≡ (k + 1) * 6 = omega arith in
     record {
-      number = c.in_ok-push_triple.ensures.number ∙ ap (λ n. after n 6) so_far.number ∙ after_after x (k * 6) 6 ∙ ap (after x) more;
-      text = lines_joined text (triples k side x) (triple side (after x (k * 6))) so_far.text c.in_ok-push_triple.ensures.text (ap (triple side) so_far.number)
-          ∙ ap (λ ls. text ++ ended ls) (sym (triples_more k side x));
+      number = c.in_ok-push_triple.ensures.number ∙ ap (λ n. number_after n 6) so_far.number
+          ∙ number_after-twice x (k * 6) 6 ∙ ap (number_after x) more;
+      text = text_of_lines-join text (triples k side x) (triple side (number_after x (k * 6))) so_far.text
+          c.in_ok-push_triple.ensures.text (ap (triple side) so_far.number)
+          ∙ ap (λ ls. text ++ text_of_lines ls) (sym (triples-suc k side x));
     }

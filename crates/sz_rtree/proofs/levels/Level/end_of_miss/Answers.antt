@@ -8,5 +8,7 @@ pub returns-else-overlap-clause-missed : goal.returns-else-overlap-clause-missed
 returns-else-overlap-clause-missed c = λ rectangles has.
     let level = c.args.self.now in
     let inside : c.args.number / level.span < length level.boxes.items =
-    place_below c.args.number level.span (length level.boxes.items) c.requires.positive (rw (← level.boxes.ok.0) c.requires.inside) in
-    clears rectangles level.boxes.items level.span c.args.number c.args.bounds.now c.index.result.now has inside c.index.ensures (λ o. false≢true (c.if-overlap.ensures.1 o))
+    place_below c.args.number level.span (length level.boxes.items) c.requires.positive
+    (rw (← level.boxes.ok.0) c.requires.inside) in
+    clears rectangles level.boxes.items level.span c.args.number c.args.bounds.now c.index.result.now has inside
+    c.index.ensures (λ o. false≢true (c.if-overlap.ensures.1 o))

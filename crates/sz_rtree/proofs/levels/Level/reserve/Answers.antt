@@ -6,4 +6,5 @@ use Rattle.sz_rtree.proofs.levels.Level.reserve.Goals as goal
 
 pub returns-clause-ok : goal.returns-clause-ok
 returns-clause-ok c =
-    on_ok_weaker c.reserve_bounds.result (λ fits. room_for _ _ _ c.requires.positive (omega arith)) c.reserve_bounds.ensures.ok
+    on_ok_weaker c.reserve_bounds.result (λ fits. room_for _ _ _ c.requires.positive (omega arith))
+    c.reserve_bounds.ensures.ok
