@@ -1,0 +1,41 @@
+-- What a reader may take for granted of lineages that fit: together, those of all pieces stand for
+-- exactly the relation. Each law is proved of the definitions.
+use Rattle.std.specs.Prelude.{◌≡◌, ℕ, ◌<◌, List, length, Bool, true}
+use Rattle.std.specs.List.{flat_map, range_with_len}
+use Rattle.sz_cells.specs.declared.Cell.{Cell}
+use Rattle.sz_cells.specs.Extent.{holds}
+use Rattle.sz_spec.specs.declared.modes.Mode.TheVariants as mode
+use Rattle.sz_spec.specs.declared.modes.Strategy.{Strategy}
+use Rattle.sz_spec.specs.Values.{extent_at}
+use Rattle.sz_spec.specs.Pieces.{pieces_of}
+use Rattle.sz_region.specs.Parts.{Parts}
+use Rattle.sz_region.specs.Stands.{full_stands, pay_stands, comp_stands}
+use Rattle.sz_region.specs.Fits.{Measure, Fits, needs}
+
+-- what all pieces have, one after the other
+abbrev pub of_all : {X : Type 0} → Measure → (ℕ → List X) → List X
+of_all m part = flat_map part (range_with_len 0 (pieces_of m.out))
+
+-- the lineage of each piece fits
+abbrev pub EachFits : Measure → List Strategy → (ℕ → Parts) → Type 0
+EachFits m list parts = (k : ℕ) → k < pieces_of m.out → Fits m list k (parts k)
+
+-- a test of cells is the relation, on each output cell and each cell of an input
+abbrev pub IsTheRelation : Measure → (ℕ → Cell → Cell → Bool) → Type 0
+IsTheRelation m stands = (i : ℕ) (o x : Cell) → i < length m.ins → holds m.out o ≡ true
+    → holds (extent_at m.ins i) x ≡ true → stands i o x ≡ m.relation i o x
+
+abbrev pub RegionsOfAllPiecesAreTheRelation : Type 0
+RegionsOfAllPiecesAreTheRelation = (m : Measure) (list : List Strategy) (parts : ℕ → Parts)
+    → EachFits m list parts → needs list mode.Full ≡ true
+    → IsTheRelation m (full_stands (of_all m (λ k. (parts k).regions)))
+
+abbrev pub PayloadsOfAllPiecesAreTheRelation : Type 0
+PayloadsOfAllPiecesAreTheRelation = (m : Measure) (list : List Strategy) (parts : ℕ → Parts)
+    → EachFits m list parts → needs list mode.Pay ≡ true
+    → IsTheRelation m (pay_stands m.kept (of_all m (λ k. (parts k).pays)))
+
+abbrev pub OverridesOfAllPiecesAreTheRelation : Type 0
+OverridesOfAllPiecesAreTheRelation = (m : Measure) (list : List Strategy) (parts : ℕ → Parts)
+    → EachFits m list parts → needs list mode.Comp ≡ true
+    → IsTheRelation m (comp_stands m.kept m.default (of_all m (λ k. (parts k).comps)))
