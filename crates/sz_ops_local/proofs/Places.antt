@@ -1,0 +1,258 @@
+-- What follows of operators that work cell by cell.
+--
+-- The key idea: by the shape rules the inputs and the output have one shape, so a cell of the one is a cell of the
+-- others,
+-- and each output cell is related to the cell at its own place alone.
+use Rattle.std.proofs.Common.{◌≡◌, ℕ, ◌<◌, Bool, true, true≢false, ◌&&◌}
+use Rattle.std.proofs.Common.{◌==◌, List, [], ◌∷◌, length, map, get_or, Option, Some, None}
+use Rattle.std.proofs.Common.{refl, sym, ap, subst, ◌∙◌, arith, inl, inr, eq-eqb, lt-ltb}
+use Rattle.std.proofs.Common.{eqb-true}
+use Rattle.std.specs.Prelude.{ℤ, Result, Ok, unwrap_or}
+use Rattle.std.specs.List.{list_any}
+use Rattle.std.proofs.Math.Bool.{or-false}
+use Rattle.std.specs.Option.{option_map}
+use Rattle.std.proofs.lemmas.List.{length-map, get_or_default}
+use Rattle.std.proofs.lemmas.List.Elements.{All-from_get_or}
+use Rattle.std.specs.Result.{result_unwrap_or}
+use Rattle.std.proofs.lemmas.Bool.{cases_Bool}
+use Rattle.std.proofs.lemmas.Bool.Decides.{nat_tests}
+use Rattle.std.proofs.lemmas.Option.{slice_get-map, slice_get-get_or}
+use Rattle.sz_cells.specs.declared.Cell.{Cell}
+use Rattle.sz_cells.specs.Extent.{Extent, holds, is_extent}
+use Rattle.sz_cells.specs.Cells.{Cells, is_same, cells_where, any_cell, has, named_in}
+use Rattle.sz_cells.proofs.Sets.{has-cells_where, cells_where-ext, any_cell-ext}
+use Rattle.sz_cells.proofs.Sets.{any_cell-same_turned, is_same-flip}
+use Rattle.sz_spec.specs.declared.modes.Dir.{Dir}
+use Rattle.sz_spec.specs.declared.modes.Dir.TheVariants.{Back, Forward}
+use Rattle.sz_spec.specs.declared.op.Op.{Op}
+use Rattle.sz_spec.specs.declared.op.Op.TheVariants.{Neg, Abs, AddK, MulK, Clip, Add, Sub, Mul, Min}
+use Rattle.sz_spec.specs.declared.op.Op.TheVariants.{Max, Transpose, Slice, Convolve, Block, Lookup}
+use Rattle.sz_spec.specs.declared.op.Op.TheVariants.{Regions, Clean, FoldLayers}
+use Rattle.sz_spec.specs.declared.shapes.ShapeFault.{ShapeFault}
+use Rattle.sz_spec.specs.Values.{Grid, no_grid, no_extent, extent_at, extents_of, input_at}
+use Rattle.sz_spec.specs.Values.{value_at}
+use Rattle.sz_spec.specs.Shapes.{Site, IsSite, arity, same_shape, shape_of}
+use Rattle.sz_spec.specs.LawsShapes.{AreExtents}
+use Rattle.sz_spec.specs.Lineage.{mapped, related}
+use Rattle.sz_spec.specs.Evaluation.{value_of}
+use Rattle.sz_spec.proofs.OutputShapes.{same-shape_first, same-shape_second}
+use Rattle.sz_spec.proofs.PayloadLineage.{extent-of_input}
+use Rattle.sz_region.specs.Images.{IsAtWork, near_side, far_side, image_in}
+use Rattle.sz_ops_local.specs.Local.{is_local}
+
+-- ---- shapes
+
+-- one input, or one of two
+of-one : (ins : List Extent) (out : Extent) (i : ℕ) → i < 1 → shape_of Neg ins ≡ Ok out → extent_at ins i
+    ≡ out
+of-one ins out i few rule =
+    let first : i ≡ 0 = omega arith in
+    ap (extent_at ins) first ∙ ap (λ (r : Result Extent ShapeFault). result_unwrap_or r no_extent) rule
+
+of-two : (ins : List Extent) (out : Extent) (i : ℕ) → i < 2 → same_shape ins ≡ Ok out → extent_at ins i ≡
+    out
+of-two ins out i few rule =
+    elim (cases_Bool (i == 0)) [
+      | inl zero ↦ ap (extent_at ins) (eqb-true i 0 zero) ∙ same-shape_first ins out rule
+      | inr other ↦
+          let second : i ≡ 1 = grind (arith, nat_tests) in
+          ap (extent_at ins) second ∙ same-shape_second ins out rule
+    ]
+
+-- each input has the output's shape
+pub same-shapes : (op : Op) (ins : List Extent) (out : Extent) (i : ℕ) → is_local op ≡ true → i < arity op
+    → shape_of op ins ≡ Ok out → extent_at ins i ≡ out
+same-shapes Neg ins out i h few rule = of-one ins out i few rule
+same-shapes Abs ins out i h few rule = of-one ins out i few rule
+same-shapes (AddK k) ins out i h few rule = of-one ins out i few rule
+same-shapes (MulK k) ins out i h few rule = of-one ins out i few rule
+same-shapes (Clip lo hi) ins out i h few rule = of-one ins out i few rule
+same-shapes Add ins out i h few rule = of-two ins out i few rule
+same-shapes Sub ins out i h few rule = of-two ins out i few rule
+same-shapes Mul ins out i h few rule = of-two ins out i few rule
+same-shapes Min ins out i h few rule = of-two ins out i few rule
+same-shapes Max ins out i h few rule = of-two ins out i few rule
+same-shapes Transpose ins out i h few rule = absurd (true≢false (sym h))
+same-shapes (Slice r0 c0 height width) ins out i h few rule = absurd (true≢false (sym h))
+same-shapes (Convolve kernel) ins out i h few rule = absurd (true≢false (sym h))
+same-shapes (Block fold height width) ins out i h few rule = absurd (true≢false (sym h))
+same-shapes Lookup ins out i h few rule = absurd (true≢false (sym h))
+same-shapes (Regions t) ins out i h few rule = absurd (true≢false (sym h))
+same-shapes (Clean t) ins out i h few rule = absurd (true≢false (sym h))
+same-shapes (FoldLayers fold) ins out i h few rule = absurd (true≢false (sym h))
+
+-- so has each input's array
+pub input-extent : (s : Site) (inputs : List Grid) (i : ℕ) → is_local s.op ≡ true → IsAtWork s inputs → i <
+    length s.ins
+    → (input_at inputs i).extent ≡ s.out
+input-extent s inputs i h work few =
+    sym (extent-of_input inputs i) ∙ ap (λ (es : List Extent). extent_at es i) work.shapes
+    ∙ same-shapes s.op s.ins s.out i h (omega (arith, work.site.arity)) work.site.shape
+
+-- ---- lineage
+
+-- a cell is mapped to the cell at its own place
+pub mapped-same : (op : Op) (ins : List Extent) (i : ℕ) (o x : Cell) → is_local op ≡ true → i < arity op
+    → mapped op ins i o x ≡ is_same x o
+mapped-same Neg ins i o x h few = ap (λ b. b && is_same x o) (eq-eqb i 0 (omega arith))
+mapped-same Abs ins i o x h few = ap (λ b. b && is_same x o) (eq-eqb i 0 (omega arith))
+mapped-same (AddK k) ins i o x h few = ap (λ b. b && is_same x o) (eq-eqb i 0 (omega arith))
+mapped-same (MulK k) ins i o x h few = ap (λ b. b && is_same x o) (eq-eqb i 0 (omega arith))
+mapped-same (Clip lo hi) ins i o x h few = ap (λ b. b && is_same x o) (eq-eqb i 0 (omega arith))
+mapped-same Add ins i o x h few = ap (λ b. b && is_same x o) (lt-ltb i 2 few)
+mapped-same Sub ins i o x h few = ap (λ b. b && is_same x o) (lt-ltb i 2 few)
+mapped-same Mul ins i o x h few = ap (λ b. b && is_same x o) (lt-ltb i 2 few)
+mapped-same Min ins i o x h few = ap (λ b. b && is_same x o) (lt-ltb i 2 few)
+mapped-same Max ins i o x h few = ap (λ b. b && is_same x o) (lt-ltb i 2 few)
+mapped-same Transpose ins i o x h few = absurd (true≢false (sym h))
+mapped-same (Slice r0 c0 height width) ins i o x h few = absurd (true≢false (sym h))
+mapped-same (Convolve kernel) ins i o x h few = absurd (true≢false (sym h))
+mapped-same (Block fold height width) ins i o x h few = absurd (true≢false (sym h))
+mapped-same Lookup ins i o x h few = absurd (true≢false (sym h))
+mapped-same (Regions t) ins i o x h few = absurd (true≢false (sym h))
+mapped-same (Clean t) ins i o x h few = absurd (true≢false (sym h))
+mapped-same (FoldLayers fold) ins i o x h few = absurd (true≢false (sym h))
+
+-- and related to it
+pub related-same : (op : Op) (inputs : List Grid) (i : ℕ) (o x : Cell) → is_local op ≡ true → i < arity op
+    → related op inputs i o x ≡ is_same x o
+related-same Neg inputs i o x h few = mapped-same Neg (extents_of inputs) i o x h few
+related-same Abs inputs i o x h few = mapped-same Abs (extents_of inputs) i o x h few
+related-same (AddK k) inputs i o x h few = mapped-same (AddK k) (extents_of inputs) i o x h few
+related-same (MulK k) inputs i o x h few = mapped-same (MulK k) (extents_of inputs) i o x h few
+related-same (Clip lo hi) inputs i o x h few = mapped-same (Clip lo hi) (extents_of inputs) i o x h few
+related-same Add inputs i o x h few = mapped-same Add (extents_of inputs) i o x h few
+related-same Sub inputs i o x h few = mapped-same Sub (extents_of inputs) i o x h few
+related-same Mul inputs i o x h few = mapped-same Mul (extents_of inputs) i o x h few
+related-same Min inputs i o x h few = mapped-same Min (extents_of inputs) i o x h few
+related-same Max inputs i o x h few = mapped-same Max (extents_of inputs) i o x h few
+related-same Transpose inputs i o x h few = absurd (true≢false (sym h))
+related-same (Slice r0 c0 height width) inputs i o x h few = absurd (true≢false (sym h))
+related-same (Convolve kernel) inputs i o x h few = absurd (true≢false (sym h))
+related-same (Block fold height width) inputs i o x h few = absurd (true≢false (sym h))
+related-same Lookup inputs i o x h few = absurd (true≢false (sym h))
+related-same (Regions t) inputs i o x h few = absurd (true≢false (sym h))
+related-same (Clean t) inputs i o x h few = absurd (true≢false (sym h))
+related-same (FoldLayers fold) inputs i o x h few = absurd (true≢false (sym h))
+
+-- some cell of a set is at the place of a cell exactly where the cell is in the set
+pub any-at_place : (e : Extent) (from : Cells) (q : Cell → Bool) (o : Cell) → from ≡ cells_where e (has from)
+    → holds e o ≡ true
+    → ((x : Cell) → q x ≡ is_same x o) → any_cell q from ≡ has from o
+any-at_place e from q o own held same =
+    ap (any_cell q) own ∙ any_cell-ext e (has from) q (λ x. is_same x o) (λ x inside passes. same x)
+    ∙ any_cell-same_turned e (has from) o held
+
+-- the image of a set is the set of the cells at the same places
+pub image-same : (dir : Dir) (s : Site) (i : ℕ) (from : Cells) (x : Cell) → is_local s.op ≡ true → IsSite s
+    → i < length s.ins
+    → from ≡ cells_where (near_side dir s i) (has from) → holds (far_side dir s i) x ≡ true
+    → has from x ≡ has (image_in dir s i (mapped s.op s.ins i) from) x
+image-same Back s i from x h site few own held =
+    let few' : i < arity s.op = omega (arith, site.arity) in
+    let near : holds s.out x ≡ true = rw (← same-shapes s.op s.ins s.out i h few' site.shape) held in
+    sym
+    (has-cells_where (extent_at s.ins i) (λ y. any_cell (λ o. mapped s.op s.ins i o y) from) x held
+    ∙ any-at_place s.out from (λ o. mapped s.op s.ins i o x) x own near (λ o. mapped-same s.op s.ins i o x h few'
+    ∙ is_same-flip x o))
+image-same Forward s i from x h site few own held =
+    let few' : i < arity s.op = omega (arith, site.arity) in
+    let near : holds (extent_at s.ins i) x ≡ true = rw (same-shapes s.op s.ins s.out i h few' site.shape) held in
+    sym
+    (has-cells_where s.out (λ o. any_cell (λ c. mapped s.op s.ins i o c) from) x held
+    ∙ any-at_place (extent_at s.ins i) from (λ c. mapped s.op s.ins i x c) x own near (λ c. mapped-same s.op
+    s.ins i x c h few'))
+
+-- the two sides of a step have one shape
+pub same-sides : (dir : Dir) (s : Site) (i : ℕ) → ((j : ℕ) → j < length s.ins → extent_at s.ins j ≡
+    s.out) → i < length s.ins
+    → near_side dir s i ≡ far_side dir s i
+same-sides Back s i same few = sym (same i few)
+same-sides Forward s i same few = same i few
+
+-- ---- values
+
+-- where an input has nothing, the output has nothing
+pub first-empty : (op : Op) (inputs : List Grid) (o : Cell) → is_local op ≡ true → value_at (input_at inputs 0)
+    o ≡ None
+    → None ≡ value_of op inputs o
+first-empty Neg inputs o h none = rw none refl
+first-empty Abs inputs o h none = rw none refl
+first-empty (AddK k) inputs o h none = rw none refl
+first-empty (MulK k) inputs o h none = rw none refl
+first-empty (Clip lo hi) inputs o h none = rw none refl
+first-empty Add inputs o h none = rw none refl
+first-empty Sub inputs o h none = rw none refl
+first-empty Mul inputs o h none = rw none refl
+first-empty Min inputs o h none = rw none refl
+first-empty Max inputs o h none = rw none refl
+first-empty Transpose inputs o h none = absurd (true≢false (sym h))
+first-empty (Slice r0 c0 height width) inputs o h none = absurd (true≢false (sym h))
+first-empty (Convolve kernel) inputs o h none = absurd (true≢false (sym h))
+first-empty (Block fold height width) inputs o h none = absurd (true≢false (sym h))
+first-empty Lookup inputs o h none = absurd (true≢false (sym h))
+first-empty (Regions t) inputs o h none = absurd (true≢false (sym h))
+first-empty (Clean t) inputs o h none = absurd (true≢false (sym h))
+first-empty (FoldLayers fold) inputs o h none = absurd (true≢false (sym h))
+
+pub second-empty : (op : Op) (inputs : List Grid) (o : Cell) (a : ℤ) → is_local op ≡ true → 1 < arity op
+    → value_at (input_at inputs 0) o ≡ Some a → value_at (input_at inputs 1) o ≡ None → None ≡ value_of
+    op inputs o
+second-empty Neg inputs o a h two some none = absurd (omega (arith, two))
+second-empty Abs inputs o a h two some none = absurd (omega (arith, two))
+second-empty (AddK k) inputs o a h two some none = absurd (omega (arith, two))
+second-empty (MulK k) inputs o a h two some none = absurd (omega (arith, two))
+second-empty (Clip lo hi) inputs o a h two some none = absurd (omega (arith, two))
+second-empty Add inputs o a h two some none = rw (some, none) refl
+second-empty Sub inputs o a h two some none = rw (some, none) refl
+second-empty Mul inputs o a h two some none = rw (some, none) refl
+second-empty Min inputs o a h two some none = rw (some, none) refl
+second-empty Max inputs o a h two some none = rw (some, none) refl
+second-empty Transpose inputs o a h two some none = absurd (true≢false (sym h))
+second-empty (Slice r0 c0 height width) inputs o a h two some none = absurd (true≢false (sym h))
+second-empty (Convolve kernel) inputs o a h two some none = absurd (true≢false (sym h))
+second-empty (Block fold height width) inputs o a h two some none = absurd (true≢false (sym h))
+second-empty Lookup inputs o a h two some none = absurd (true≢false (sym h))
+second-empty (Regions t) inputs o a h two some none = absurd (true≢false (sym h))
+second-empty (Clean t) inputs o a h two some none = absurd (true≢false (sym h))
+second-empty (FoldLayers fold) inputs o a h two some none = absurd (true≢false (sym h))
+
+-- how many inputs there are
+pub inputs-count : (s : Site) (inputs : List Grid) → IsAtWork s inputs → length inputs ≡ arity s.op
+inputs-count s inputs work =
+    sym (length-map inputs (λ (g : Grid). g.extent)) ∙ ap (λ (es : List Extent). length es) work.shapes ∙
+    work.site.arity
+
+-- the input at a place of a list of shared arrays
+pub input-is : {A : Type 0} (view : A → Grid) (xs : List A) (i : ℕ) (x : A) → i < length xs → x ≡ get_or xs
+    i x
+    → input_at (map view xs) i ≡ view x
+input-is view xs i x inside is =
+    ap (λ (o : Option Grid). unwrap_or o no_grid)
+    (slice_get-map view xs i ∙ ap (option_map view) (slice_get-get_or xs i x inside ∙ ap (λ y. Some y) (sym is)))
+
+-- the shape at a place of a list of shapes
+pub shape-is : (xs : List Extent) (i : ℕ) (x : Extent) → i < length xs → x ≡ get_or xs i x → x ≡
+    extent_at xs i
+shape-is xs i x inside is =
+    sym (ap (λ (o : Option Extent). unwrap_or o no_extent) (slice_get-get_or xs i x inside ∙ ap (λ y. Some y)
+    (sym is)))
+
+-- shapes that are each one right shape are right
+pub all-right : (ins : List Extent) (out : Extent) → ((i : ℕ) → i < length ins → extent_at ins i ≡ out) →
+    is_extent out ≡ true
+    → AreExtents ins
+all-right ins out same right =
+    All-from_get_or (λ e. is_extent e ≡ true) ins no_extent
+    (λ i inside.
+    let here = shape-is ins i (get_or ins i no_extent) inside (get_or_default ins i no_extent (get_or ins i
+    no_extent) inside) in
+    subst (λ (e : Extent). is_extent e ≡ true) (sym (here ∙ same i inside)) right)
+
+-- a set of one cell at a place of the shape
+pub one-cell : (op : Op) (inputs : List Grid) (i : ℕ) (o : Cell) (e : Extent) → is_local op ≡ true → i <
+    arity op
+    → named_in e (o ∷ []) ≡ cells_where e (related op inputs i o)
+one-cell op inputs i o e h few =
+    cells_where-ext e (λ c. list_any (is_same c) (o ∷ [])) (related op inputs i o)
+    (λ c held. or-false (is_same c o) ∙ sym (related-same op inputs i o c h few))

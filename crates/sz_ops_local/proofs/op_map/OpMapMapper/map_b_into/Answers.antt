@@ -1,0 +1,33 @@
+-- The one cell is at the same place.
+use Rattle.std.proofs.Common.{sym, ◌∙◌, arith}
+use Rattle.std.specs.Arc.{arc_value}
+use Rattle.sz_cells.specs.Cells.{is_same}
+use Rattle.sz_spec.specs.Lineage.{mapped}
+use Rattle.sz_region.proofs.Added.{with-ext}
+use Rattle.sz_ops_local.proofs.Places.{mapped-same, same-shapes}
+use Rattle.sz_ops_local.proofs.op_map.OpMapMapper.map_b_into.Goals as goal
+
+pub set-requires : goal.set-requires
+set-requires c =
+    let s = arc_value c.args.self.now.at in
+    let site = rw c.deref.ensures at c.shape_of_all.ensures.site in
+    rw (
+      c.requires.to,
+      same-shapes s.op s.ins s.out c.args._input c.args.self.now.local (omega (
+        arith,
+        c.requires.input,
+        site.arity,
+      )) site.shape,
+    ) c.requires.out
+
+pub returns : goal.returns
+returns c =
+    let s = arc_value c.args.self.now.at in
+    let site = rw c.deref.ensures at c.shape_of_all.ensures.site in
+    c.set.ensures
+    ∙ with-ext c.args.to.now (λ x. is_same x c.args.out) (λ x. mapped s.op s.ins c.args._input c.args.out x)
+    (λ x held. sym (mapped-same s.op s.ins c.args._input c.args.out x c.args.self.now.local (omega (
+      arith,
+      c.requires.input,
+      site.arity,
+    ))))
