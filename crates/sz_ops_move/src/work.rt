@@ -1,0 +1,121 @@
+//! A moving operator at work over its inputs.
+
+ghost use Rattle.std.specs.Prelude.{◌≡◌, ◌<◌, true, length, map, Option, IfSome};
+ghost use Rattle.std.specs.Arc.{arc_value};
+ghost use Rattle.sz_cells.specs.Extent.{holds};
+ghost use Rattle.sz_spec.specs.Values.{input_at, extent_at};
+ghost use Rattle.sz_spec.specs.Shapes.{IsSite};
+ghost use Rattle.sz_spec.specs.Lineage.{related};
+ghost use Rattle.sz_region.specs.Images.{IsAtWork};
+ghost use Rattle.sz_ops_move.specs.Moving.{is_moving, IsOnly};
+
+use crate::op_map::source;
+use crate::single::{add_cell, has_cell, set_of_cell};
+use crate::{lookup, slice, transpose};
+use std::alloc::Global;
+use std::sync::Arc;
+use sz_cells::{Cell, CellBits, CellSet, NoMemory, Shape};
+use sz_region::{AtWork, Payload};
+use sz_spec::{Array, Op, OpAt, Value};
+
+/// A moving operator with its shapes, and its inputs.
+#[derive(Drop)]
+pub(crate) struct Work<'a> {
+    pub(crate) at: &'a OpAt,
+    pub(crate) inputs: &'a [Arc<Array>],
+    ghost moving: { is_moving at.now.op ≡ true },
+}
+
+impl<'a> AtWork for Work<'a> {
+    ghost site = { λ w. w.at.now };
+
+    ghost inputs = { λ w. map (λ a. arc_value a) w.inputs.now };
+
+    fn out(&self) -> Shape {
+        self.at.out()
+    }
+
+    fn arity(&self) -> u32 {
+        self.at.ins().len() as u32
+    }
+
+    fn value(&self, out: Cell, _index: u32) -> Value {
+        match self.at.op() {
+            Op::Transpose => transpose::value(self.at, self.input(0), out),
+            Op::Slice { r0, c0, h, w } => {
+                slice::value(self.at, *r0, *c0, *h, *w, self.input(0), out)
+            }
+            Op::Lookup => lookup::value(self.input(0), self.input(1), out),
+            _ => unreachable!(),
+        }
+    }
+
+    fn back_into(&self, out: Cell, input: u32, to: &mut CellBits) {
+        add_cell(to, self.cell_of(out, input));
+    }
+
+    fn meets(&self, out: Cell, input: u32, from: &CellBits) -> bool {
+        from.shape(); // the set is that of its cells
+        has_cell(from, self.cell_of(out, input))
+    }
+
+    fn related_set(&self, alloc: Global, out: Cell, input: u32) -> Result<Arc<CellSet>, NoMemory> {
+        let shape = self.at.ins()[input as usize];
+        set_of_cell(alloc, shape, self.cell_of(out, input))
+    }
+
+    fn payload(&self, alloc: Global, out: Cell) -> Result<Arc<Payload>, NoMemory> {
+        match self.at.op() {
+            Op::Lookup => lookup::payload(alloc, self.input(0), self.input(1), out),
+            _ => Ok(Arc::new(alloc, Payload::of(Vec::new(alloc)))?),
+        }
+    }
+
+    fn overrides(&self, out: Cell) -> bool {
+        match self.at.op() {
+            Op::Lookup => lookup::matched(self.input(0), self.input(1), out).is_some(),
+            _ => false,
+        }
+    }
+}
+
+impl<'a> Work<'a> {
+    /// An input.
+    fn input(&self, input: u32) -> &Array
+        requires right { IsAtWork self.now.at.now (map (λ a. arc_value a) self.now.inputs.now) }
+        requires input { input < length self.now.at.now.ins }
+        ensures value { result.now
+            ≡ input_at (map (λ a. arc_value a) self.now.inputs.now) input }
+        ensures shape { result.now.extent ≡ extent_at self.now.at.now.ins input }
+    {
+        &self.inputs[input as usize]
+    }
+
+    /// The cell of an input to which an output cell is related, where there is one.
+    fn cell_of(&self, out: Cell, input: u32) -> Option<Cell>
+        requires right { IsAtWork self.now.at.now (map (λ a. arc_value a) self.now.inputs.now) }
+        requires out { holds self.now.at.now.out out ≡ true }
+        requires input { input < length self.now.at.now.ins }
+        ensures held { IfSome result (λ c. holds (extent_at self.now.at.now.ins input) c ≡ true) }
+        ensures only { IsOnly (extent_at self.now.at.now.ins input)
+            (related self.now.at.now.op (map (λ a. arc_value a) self.now.inputs.now) input out)
+            result }
+    {
+        match self.at.op() {
+            Op::Lookup if input == 0 => Some(out),
+            Op::Lookup => lookup::matched(self.input(0), self.input(1), out),
+            _ => source(self.at, out),
+        }
+    }
+}
+
+/// The output's shape. Its caller knows from now on that the operator has right parameters, and as
+/// many inputs as it takes.
+pub(crate) fn right_shapes(at: &OpAt) -> Shape
+    ensures value { result ≡ at.now.out }
+    ensures right { IsSite at.now }
+{
+    at.op();
+    at.ins();
+    at.out()
+}
