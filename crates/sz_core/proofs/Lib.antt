@@ -1,0 +1,11 @@
+pub mod Groups
+pub mod Relations
+pub mod Placing
+pub mod Flowing
+pub mod Going
+pub mod Running
+pub mod Starting
+pub mod Ending
+pub mod Sealing
+pub mod Composing
+mod Rows
