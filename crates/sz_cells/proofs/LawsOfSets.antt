@@ -240,7 +240,7 @@ bounds-none set is = bounds-of_none set.extent set.indexes is
 -- ---- bytes
 
 -- lists of one length that begin one list are one, and so is what follows them
-split-same : (xs ys x y : List ℕ) → length xs ≡ length ys → xs ++ x ≡ ys ++ y → (xs ≡ ys) × (x ≡ y)
+pub split-same : (xs ys x y : List ℕ) → length xs ≡ length ys → xs ++ x ≡ ys ++ y → (xs ≡ ys) × (x ≡ y)
 split-same [] [] x y long same = (refl, same)
 split-same [] (b ∷ ys) x y long same = absurd (omega arith)
 split-same (a ∷ xs) [] x y long same = absurd (omega arith)

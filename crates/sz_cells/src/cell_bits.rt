@@ -176,6 +176,6 @@ impl CellBits {
         ensures { IfOk result (λ s. s ≡ self.now) }
     {
         let runs = longest_runs(alloc, &self.words, self.first, self.end)?;
-        Ok(CellSet::of_runs(self.shape, runs))
+        Ok(CellSet::from_runs(self.shape, runs))
     }
 }

@@ -62,11 +62,14 @@ impl CellSet {
                 },
             )?;
         }
-        Ok(CellSet::of_runs(shape, runs))
+        Ok(CellSet::from_runs(shape, runs))
     }
 
-    /// The set that the longest runs of a shape spell.
-    pub(crate) fn of_runs(shape: Shape, runs: Vec<Run>) -> CellSet
+    /// The set that these runs spell, which rise, with a gap between any two, and end below the
+    /// shape's size.
+    ///
+    /// Takes time in the number of runs, and no memory.
+    pub fn from_runs(shape: Shape, runs: Vec<Run>) -> CellSet
         requires { AreRunsFrom 0 (size_of shape) runs.items }
         ensures { result ≡ record { extent = shape; indexes = flat_map indexes_of runs.items } }
     {
@@ -95,7 +98,7 @@ impl CellSet {
                 from_right += 1;
             }
         }
-        Ok(CellSet::of_runs(self.shape(), runs))
+        Ok(CellSet::from_runs(self.shape(), runs))
     }
 
     /// The smallest rectangle that has every cell of the set. `None` exactly where the set is

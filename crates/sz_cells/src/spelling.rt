@@ -46,8 +46,9 @@ fn indexes_named(alloc: Global, shape: &Shape, cells: &[Cell]) -> Result<Vec<u32
 }
 
 /// Adds a run that begins no earlier than any of the runs: to the last run where it touches or
-/// overlaps it.
-pub(crate) fn add_run(runs: &mut Vec<Run>, next: Run) -> Result<(), NoMemory>
+/// overlaps it. So the longest runs of a set are made one after the other, for
+/// [`CellSet::from_runs`](crate::CellSet::from_runs).
+pub fn add_run(runs: &mut Vec<Run>, next: Run) -> Result<(), NoMemory>
     requires order { next.first ≤ next.last }
     requires later { All (λ r. r.first ≤ next.first) runs.old.items }
     ensures longest { OnOk result ((bound : ℕ) → AreRunsFrom 0 bound runs.old.items

@@ -15,6 +15,7 @@ pub mod Composition
 pub mod OutputShapes
 pub mod CellPieces
 pub mod FlowOutputs
+pub mod FlowShapes
 pub mod Ways
 pub mod SetWords
 pub mod PayloadLineage

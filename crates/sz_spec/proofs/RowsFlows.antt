@@ -4,6 +4,8 @@
 -- values by hand.
 use Rattle.std.proofs.Common.{◌≡◌, ℕ, ◌*◌, ◌-◌, ◌^◌, pos, negsuc, true, false, List, []}
 use Rattle.std.proofs.Common.{◌∷◌, map, Some, None, refl}
+use Rattle.std.specs.Prelude.{Ok, Err}
+use Rattle.sz_cells.specs.Extent.{flat}
 use Rattle.std.specs.List.{range_with_len}
 use Rattle.sz_spec.specs.declared.op.Op.{Op}
 use Rattle.sz_spec.specs.declared.op.Op.TheVariants as op
@@ -14,6 +16,7 @@ use Rattle.sz_spec.specs.declared.flow.FlowFault.TheVariants as fault
 use Rattle.sz_spec.specs.Weights.{Weights, is_kernel, taps_of}
 use Rattle.sz_spec.specs.Shapes.{has_right_parameters}
 use Rattle.sz_spec.specs.Flows.{Graph, flow_fault, evaluations}
+use Rattle.sz_spec.specs.FlowShapes.{output_shapes}
 use Rattle.sz_spec.proofs.RowsArrays.{node, flow, n, minus, none, grid, kernel, six}
 
 -- ---- limits
@@ -214,3 +217,21 @@ pub turned-sliced : evaluations
     (flow 1 (node op.Transpose (Input 0 ∷ []) ∷ node (op.Slice 1 1 2 1) (Output 0 ∷ []) ∷ [])) (six ∷ [])
     ≡ grid 3 2 (n 1 ∷ n 4 ∷ n 2 ∷ n 5 ∷ n 3 ∷ n 6 ∷ []) ∷ grid 2 1 (n 5 ∷ n 6 ∷ []) ∷ []
 turned-sliced = refl
+
+-- ---- shapes: those of all outputs, or the first node whose rule is broken
+
+-- the transposed first base array, one row of that, and the sum of that row and the second base array
+abbrev summing : Graph
+summing = flow 2
+    (node op.Transpose (Input 0 ∷ [])
+    ∷ node (op.Slice 1 0 1 2) (Output 0 ∷ [])
+    ∷ node op.Add (Output 1 ∷ Input 1 ∷ []) ∷ [])
+
+pub shapes-fit : output_shapes summing (flat 2 3 ∷ flat 1 2 ∷ []) ≡ Ok (flat 3 2 ∷ flat 1 2 ∷ flat 1 2 ∷ [])
+shapes-fit = refl
+
+pub second-breaks : output_shapes summing (flat 2 1 ∷ flat 1 3 ∷ []) ≡ Err 1
+second-breaks = refl
+
+pub third-breaks : output_shapes summing (flat 2 3 ∷ flat 1 3 ∷ []) ≡ Err 2
+third-breaks = refl

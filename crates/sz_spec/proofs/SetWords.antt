@@ -19,7 +19,7 @@ use Rattle.sz_cells.specs.SetWords.{runs_spelled, set_spelled, are_rising, is_se
 use Rattle.sz_cells.proofs.Runs.{runs_of-longest, spelled-runs_of}
 
 -- runs are read back from their bytes
-runs-back : (least bound : ℕ) (runs : List Run) → bound ≤ 2 ^ 32 → AreRunsFrom least bound runs
+pub runs-back : (least bound : ℕ) (runs : List Run) → bound ≤ 2 ^ 32 → AreRunsFrom least bound runs
     → runs_spelled (flat_map run_bytes runs) ≡ runs
 runs-back least bound [] small runs = refl
 runs-back least bound (r ∷ rest) small runs =

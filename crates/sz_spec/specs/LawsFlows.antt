@@ -1,12 +1,14 @@
 -- What a reader may take for granted of flows and of their evaluations. Each law is proved of the
 -- definitions.
-use Rattle.std.specs.Prelude.{◌≡◌, ℕ, ◌≤◌, List, map, length, All, true, ◌↔◌, Some}
+use Rattle.std.specs.Prelude.{◌≡◌, ℕ, ◌≤◌, List, map, length, All, true, ◌↔◌, Some, Ok}
 use Rattle.std.specs.List.{slice_get}
 use Rattle.sz_spec.specs.declared.flow.Node.{Node}
-use Rattle.sz_spec.specs.Values.{Grid}
+use Rattle.sz_cells.specs.Extent.{Extent}
+use Rattle.sz_spec.specs.Values.{Grid, extents_of}
 use Rattle.sz_spec.specs.Shapes.{arity, has_right_parameters}
 use Rattle.sz_spec.specs.Evaluation.{output_of}
 use Rattle.sz_spec.specs.Flows.{Graph, is_source, is_well_formed, array_of, evaluations}
+use Rattle.sz_spec.specs.FlowShapes.{output_shapes}
 
 -- node n has as many sources as its operator has inputs, each a base array or an earlier node, and
 -- right parameters
@@ -32,3 +34,9 @@ OutputsAreThoseOfTheirNodes = (g : Graph) (base : List Grid) (n : ℕ) (x : Node
     → slice_get g.nodes n ≡ Some x
     → slice_get (evaluations g base) n
     ≡ Some (output_of x.op (map (array_of base (evaluations g base)) x.from))
+
+-- where no node's shape rule is broken, the shapes found from those of the base arrays alone are
+-- the shapes of the outputs
+abbrev pub ShapesFoundAreThoseOfTheOutputs : Type 0
+ShapesFoundAreThoseOfTheOutputs = (g : Graph) (base : List Grid) (shapes : List Extent)
+    → output_shapes g (extents_of base) ≡ Ok shapes → extents_of (evaluations g base) ≡ shapes

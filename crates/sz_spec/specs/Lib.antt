@@ -8,6 +8,7 @@ pub mod Modes
 pub mod Payloads
 pub mod Pieces
 pub mod Flows
+pub mod FlowShapes
 pub mod Paths
 pub mod Rectangles
 pub mod LawsRegions

@@ -1,10 +1,12 @@
 //! Arrays: what each cell of a shape holds.
 
-ghost use Rattle.std.specs.Prelude.{◌≡◌, true, ◌==◌, if◌then◌else◌, Some, None, length};
+ghost use Rattle.std.specs.Prelude.{◌≡◌, true, ◌==◌, if◌then◌else◌, Some, None, length, map};
+ghost use Rattle.std.specs.Arc.{arc_value};
 ghost use Rattle.sz_cells.specs.Extent.{size_of, holds};
 ghost use Rattle.sz_spec.specs.Values.{value_at};
 
 use std::marker::Model;
+use std::sync::Arc;
 use sz_cells::{Cell, Shape};
 
 /// A rectangle of values, in layers. Contracts see its shape and the values in row-major order.
@@ -64,5 +66,38 @@ impl Array {
         ensures { result ≡ value_at self.now cell }
     {
         self.cells[self.shape.index(cell) as usize]
+    }
+}
+
+/// Shared arrays, in an order: those that an operator takes, or those that a flow is run over.
+/// Contracts see the list of the arrays.
+#[derive(Drop)]
+pub struct ArrayList {
+    items: Vec<Arc<Array>>,
+}
+
+impl Model for ArrayList {
+    ghost use Rattle.std.specs.Prelude.{List, map};
+    ghost use Rattle.std.specs.Arc.{arc_value};
+    ghost use Rattle.sz_spec.specs.Values.{Grid};
+
+    ghost Value = { List Grid };
+
+    ghost view = { λ s. map (λ a. arc_value a) s.items.items };
+}
+
+impl ArrayList {
+    /// These arrays, in this order.
+    pub fn of(items: Vec<Arc<Array>>) -> ArrayList
+        ensures { result ≡ map (λ a. arc_value a) items.items }
+    {
+        ArrayList { items }
+    }
+
+    /// The arrays, in their order.
+    pub fn as_slice(&self) -> &[Arc<Array>]
+        ensures { map (λ a. arc_value a) result.now ≡ self.now }
+    {
+        &self.items
     }
 }

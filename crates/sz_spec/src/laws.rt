@@ -24,6 +24,7 @@ ghost use Rattle.sz_spec.specs.LawsLineage.{DefaultsAreTheRelation, ValuesDepend
 ghost use Rattle.sz_spec.specs.LawsLineage.{RelationsDependOnRelatedCells};
 ghost use Rattle.sz_spec.specs.LawsFlows.{WellFormedFlowsAreRight, EachNodeHasAnOutput};
 ghost use Rattle.sz_spec.specs.LawsFlows.{OutputsAreThoseOfTheirNodes};
+ghost use Rattle.sz_spec.specs.LawsFlows.{ShapesFoundAreThoseOfTheOutputs};
 ghost use Rattle.sz_spec.specs.LawsModes.{ThreeHaveNoMapping, MappedOperatorsSupport};
 ghost use Rattle.sz_spec.specs.LawsModes.{OtherOperatorsSupport, NumbersTellStrategiesApart};
 ghost use Rattle.sz_spec.specs.LawsModes.{OrdersHaveEachStrategyOnce, ListedStrategiesAreInTheList};
@@ -140,6 +141,11 @@ pub fn well_formed_flows_are_right()
 pub fn outputs_are_those_of_their_nodes()
     ensures count { EachNodeHasAnOutput }
     ensures value { OutputsAreThoseOfTheirNodes }
+{}
+
+/// The shapes of a flow's outputs are found without computing a value.
+pub fn shapes_found_are_those_of_the_outputs()
+    ensures { ShapesFoundAreThoseOfTheOutputs }
 {}
 
 /// Which strategies an operator supports: it is settled by whether it has a mapping of cells, as

@@ -45,7 +45,7 @@ mod tally;
 #[cfg(test)]
 mod tests;
 
-pub use array::{Array, Value};
+pub use array::{Array, ArrayList, Value};
 pub use flow::{Flow, FlowFault, Node, SourceList, SourceRef};
 pub use kernel::Kernel;
 pub use mapper::Mapper;

@@ -15,7 +15,7 @@ returns c =
     let runs = c.in_ok-runs.runs.items in
     let make : List ℕ → Cells = λ xs. record { extent = e; indexes = xs } in
     let said = rw c.deref.ensures.value at c.in_ok-runs.ensures in
-    c.of_runs.ensures
+    c.from_runs.ensures
     ∙ ap make (runs-filter (size_of e) runs (said.longest (size_of e) c.self.invariant.no_more))
     ∙ cells_at-ext e (covers runs) (has_bit words) (λ k below. said.covered k)
     ∙ c.self.view_is

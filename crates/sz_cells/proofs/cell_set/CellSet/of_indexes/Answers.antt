@@ -47,7 +47,7 @@ loop-index-preserved c =
 pub returns : goal.returns
 returns c =
     let set : List ℕ → Cells = λ xs. record { extent = c.args.shape; indexes = xs } in
-    c.of_runs.ensures
+    c.from_runs.ensures
     ∙ ap set
     (spelled-rising (size_of c.args.shape) c.loop-index.runs.items c.args.indexes.now c.loop-index.invariant.0
     c.requires

@@ -58,7 +58,7 @@ loop-from_left-preserved c =
 
 pub returns : goal.returns
 returns c =
-    rw (c.of_runs.ensures, c.shape.ensures.value)
+    rw (c.from_runs.ensures, c.shape.ensures.value)
     (sym
     (union-spelled c.args.self.now c.args.other.now c.runs-left.result.now c.runs-right.result.now
     c.loop-from_left.runs.items c.requires c.runs-left.ensures.spelled
