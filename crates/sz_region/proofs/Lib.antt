@@ -1,3 +1,6 @@
 pub mod Added
 pub mod Fitting
 pub mod AllPieces
+pub mod Spelling
+pub mod Folded
+pub mod FoldedCells

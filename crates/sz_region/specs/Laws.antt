@@ -1,9 +1,11 @@
--- What a reader may take for granted of lineages that fit: together, those of all pieces stand for
--- exactly the relation. Each law is proved of the definitions.
-use Rattle.std.specs.Prelude.{◌≡◌, ℕ, ◌<◌, List, length, Bool, true}
+-- What a reader may take for granted of lineages that fit, together those of all pieces stand for
+-- exactly the relation, and of the bytes of sets. Each law is proved of the definitions.
+use Rattle.std.specs.Prelude.{◌≡◌, ℕ, ◌+◌, ◌<◌, ◌≤◌, List, ◌++◌, length, Bool, true}
 use Rattle.std.specs.List.{flat_map, range_with_len}
 use Rattle.sz_cells.specs.declared.Cell.{Cell}
-use Rattle.sz_cells.specs.Extent.{holds}
+use Rattle.sz_cells.specs.Extent.{Extent, holds, is_extent}
+use Rattle.sz_cells.specs.Cells.{Cells}
+use Rattle.sz_cells.specs.SetBytes.{IsSetOf, BeginsSet, set_bytes}
 use Rattle.sz_spec.specs.declared.modes.Mode.TheVariants as mode
 use Rattle.sz_spec.specs.declared.modes.Strategy.{Strategy}
 use Rattle.sz_spec.specs.Values.{extent_at}
@@ -39,3 +41,12 @@ abbrev pub OverridesOfAllPiecesAreTheRelation : Type 0
 OverridesOfAllPiecesAreTheRelation = (m : Measure) (list : List Strategy) (parts : ℕ → Parts)
     → EachFits m list parts → needs list mode.Comp ≡ true
     → IsTheRelation m (comp_stands m.kept m.default (of_all m (λ k. (parts k).comps)))
+
+-- The bytes of a set, whatever stands before and behind them, begin that set and end behind them;
+-- and any reading of that place within the bytes is this one.
+abbrev pub WrittenSetsAreRead : Type 0
+WrittenSetsAreRead = (e : Extent) (before : List ℕ) (set : Cells) (rest : List ℕ)
+    → is_extent e ≡ true → IsSetOf e set → let bytes = before ++ (set_bytes set ++ rest) in
+    BeginsSet e bytes (length before) (length before + length (set_bytes set)) set
+    × ((other : Cells) (next : ℕ) → BeginsSet e bytes (length before) next other
+    → next ≤ length bytes → (other ≡ set) × (next ≡ length before + length (set_bytes set)))

@@ -4,4 +4,6 @@ pub mod Fits
 pub mod Images
 pub mod Walks
 pub mod Written
+pub mod Taking
+pub mod Folding
 pub mod Laws
