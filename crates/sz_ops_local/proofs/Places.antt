@@ -24,6 +24,7 @@ use Rattle.sz_cells.proofs.Sets.{has-cells_where, cells_where-ext, any_cell-ext}
 use Rattle.sz_cells.proofs.Sets.{any_cell-same_turned, is_same-flip}
 use Rattle.sz_spec.specs.declared.modes.Dir.{Dir}
 use Rattle.sz_spec.specs.declared.modes.Dir.TheVariants.{Back, Forward}
+use Rattle.sz_spec.specs.declared.op.Fold.{Fold}
 use Rattle.sz_spec.specs.declared.op.Op.{Op}
 use Rattle.sz_spec.specs.declared.op.Op.TheVariants.{Neg, Abs, AddK, MulK, Clip, Add, Sub, Mul, Min}
 use Rattle.sz_spec.specs.declared.op.Op.TheVariants.{Max, Transpose, Slice, Convolve, Block, Lookup}
@@ -38,7 +39,7 @@ use Rattle.sz_spec.specs.Evaluation.{value_of}
 use Rattle.sz_spec.proofs.OutputShapes.{same-shape_first, same-shape_second}
 use Rattle.sz_spec.proofs.PayloadLineage.{extent-of_input}
 use Rattle.sz_region.specs.Images.{IsAtWork, near_side, far_side, image_in}
-use Rattle.sz_ops_local.specs.Local.{is_local}
+use Rattle.sz_ops_local.specs.Local.{is_elementwise, is_local}
 
 -- ---- shapes
 
@@ -60,7 +61,7 @@ of-two ins out i few rule =
     ]
 
 -- each input has the output's shape
-pub same-shapes : (op : Op) (ins : List Extent) (out : Extent) (i : ℕ) → is_local op ≡ true → i < arity op
+pub same-shapes : (op : Op) (ins : List Extent) (out : Extent) (i : ℕ) → is_elementwise op ≡ true → i < arity op
     → shape_of op ins ≡ Ok out → extent_at ins i ≡ out
 same-shapes Neg ins out i h few rule = of-one ins out i few rule
 same-shapes Abs ins out i h few rule = of-one ins out i few rule
@@ -82,7 +83,7 @@ same-shapes (Clean t) ins out i h few rule = absurd (true≢false (sym h))
 same-shapes (FoldLayers fold) ins out i h few rule = absurd (true≢false (sym h))
 
 -- so has each input's array
-pub input-extent : (s : Site) (inputs : List Grid) (i : ℕ) → is_local s.op ≡ true → IsAtWork s inputs → i <
+pub input-extent : (s : Site) (inputs : List Grid) (i : ℕ) → is_elementwise s.op ≡ true → IsAtWork s inputs → i <
     length s.ins
     → (input_at inputs i).extent ≡ s.out
 input-extent s inputs i h work few =
@@ -92,7 +93,7 @@ input-extent s inputs i h work few =
 -- ---- lineage
 
 -- a cell is mapped to the cell at its own place
-pub mapped-same : (op : Op) (ins : List Extent) (i : ℕ) (o x : Cell) → is_local op ≡ true → i < arity op
+pub mapped-same : (op : Op) (ins : List Extent) (i : ℕ) (o x : Cell) → is_elementwise op ≡ true → i < arity op
     → mapped op ins i o x ≡ is_same x o
 mapped-same Neg ins i o x h few = ap (λ b. b && is_same x o) (eq-eqb i 0 (omega arith))
 mapped-same Abs ins i o x h few = ap (λ b. b && is_same x o) (eq-eqb i 0 (omega arith))
@@ -113,28 +114,6 @@ mapped-same (Regions t) ins i o x h few = absurd (true≢false (sym h))
 mapped-same (Clean t) ins i o x h few = absurd (true≢false (sym h))
 mapped-same (FoldLayers fold) ins i o x h few = absurd (true≢false (sym h))
 
--- and related to it
-pub related-same : (op : Op) (inputs : List Grid) (i : ℕ) (o x : Cell) → is_local op ≡ true → i < arity op
-    → related op inputs i o x ≡ is_same x o
-related-same Neg inputs i o x h few = mapped-same Neg (extents_of inputs) i o x h few
-related-same Abs inputs i o x h few = mapped-same Abs (extents_of inputs) i o x h few
-related-same (AddK k) inputs i o x h few = mapped-same (AddK k) (extents_of inputs) i o x h few
-related-same (MulK k) inputs i o x h few = mapped-same (MulK k) (extents_of inputs) i o x h few
-related-same (Clip lo hi) inputs i o x h few = mapped-same (Clip lo hi) (extents_of inputs) i o x h few
-related-same Add inputs i o x h few = mapped-same Add (extents_of inputs) i o x h few
-related-same Sub inputs i o x h few = mapped-same Sub (extents_of inputs) i o x h few
-related-same Mul inputs i o x h few = mapped-same Mul (extents_of inputs) i o x h few
-related-same Min inputs i o x h few = mapped-same Min (extents_of inputs) i o x h few
-related-same Max inputs i o x h few = mapped-same Max (extents_of inputs) i o x h few
-related-same Transpose inputs i o x h few = absurd (true≢false (sym h))
-related-same (Slice r0 c0 height width) inputs i o x h few = absurd (true≢false (sym h))
-related-same (Convolve kernel) inputs i o x h few = absurd (true≢false (sym h))
-related-same (Block fold height width) inputs i o x h few = absurd (true≢false (sym h))
-related-same Lookup inputs i o x h few = absurd (true≢false (sym h))
-related-same (Regions t) inputs i o x h few = absurd (true≢false (sym h))
-related-same (Clean t) inputs i o x h few = absurd (true≢false (sym h))
-related-same (FoldLayers fold) inputs i o x h few = absurd (true≢false (sym h))
-
 -- some cell of a set is at the place of a cell exactly where the cell is in the set
 pub any-at_place : (e : Extent) (from : Cells) (q : Cell → Bool) (o : Cell) → from ≡ cells_where e (has from)
     → holds e o ≡ true
@@ -144,7 +123,7 @@ any-at_place e from q o own held same =
     ∙ any_cell-same_turned e (has from) o held
 
 -- the image of a set is the set of the cells at the same places
-pub image-same : (dir : Dir) (s : Site) (i : ℕ) (from : Cells) (x : Cell) → is_local s.op ≡ true → IsSite s
+pub image-same : (dir : Dir) (s : Site) (i : ℕ) (from : Cells) (x : Cell) → is_elementwise s.op ≡ true → IsSite s
     → i < length s.ins
     → from ≡ cells_where (near_side dir s i) (has from) → holds (far_side dir s i) x ≡ true
     → has from x ≡ has (image_in dir s i (mapped s.op s.ins i) from) x
@@ -173,7 +152,7 @@ same-sides Forward s i same few = same i few
 -- ---- values
 
 -- where an input has nothing, the output has nothing
-pub first-empty : (op : Op) (inputs : List Grid) (o : Cell) → is_local op ≡ true → value_at (input_at inputs 0)
+pub first-empty : (op : Op) (inputs : List Grid) (o : Cell) → is_elementwise op ≡ true → value_at (input_at inputs 0)
     o ≡ None
     → None ≡ value_of op inputs o
 first-empty Neg inputs o h none = rw none refl
@@ -195,7 +174,7 @@ first-empty (Regions t) inputs o h none = absurd (true≢false (sym h))
 first-empty (Clean t) inputs o h none = absurd (true≢false (sym h))
 first-empty (FoldLayers fold) inputs o h none = absurd (true≢false (sym h))
 
-pub second-empty : (op : Op) (inputs : List Grid) (o : Cell) (a : ℤ) → is_local op ≡ true → 1 < arity op
+pub second-empty : (op : Op) (inputs : List Grid) (o : Cell) (a : ℤ) → is_elementwise op ≡ true → 1 < arity op
     → value_at (input_at inputs 0) o ≡ Some a → value_at (input_at inputs 1) o ≡ None → None ≡ value_of
     op inputs o
 second-empty Neg inputs o a h two some none = absurd (omega (arith, two))
@@ -250,9 +229,60 @@ all-right ins out same right =
     subst (λ (e : Extent). is_extent e ≡ true) (sym (here ∙ same i inside)) right)
 
 -- a set of one cell at a place of the shape
-pub one-cell : (op : Op) (inputs : List Grid) (i : ℕ) (o : Cell) (e : Extent) → is_local op ≡ true → i <
-    arity op
-    → named_in e (o ∷ []) ≡ cells_where e (related op inputs i o)
-one-cell op inputs i o e h few =
-    cells_where-ext e (λ c. list_any (is_same c) (o ∷ [])) (related op inputs i o)
-    (λ c held. or-false (is_same c o) ∙ sym (related-same op inputs i o c h few))
+pub one-cell : (op : Op) (ins : List Extent) (i : ℕ) (o : Cell) (e : Extent) → is_elementwise op ≡ true
+    → i < arity op
+    → named_in e (o ∷ []) ≡ cells_where e (mapped op ins i o)
+one-cell op ins i o e h few =
+    cells_where-ext e (λ c. list_any (is_same c) (o ∷ [])) (mapped op ins i o)
+    (λ c held. or-false (is_same c o) ∙ sym (mapped-same op ins i o c h few))
+
+-- ---- all local operators
+
+-- an operator of this crate that folds no blocks is elementwise
+pub elementwise-else : (op : Op) → is_local op ≡ true
+    → ((how : Fold) (h w : ℕ) → op ≡ Block how h w → ⊥) → is_elementwise op ≡ true
+elementwise-else (Block how h w) local none = absurd (none how h w refl)
+elementwise-else Neg local none = local
+elementwise-else Abs local none = local
+elementwise-else (AddK k) local none = local
+elementwise-else (MulK k) local none = local
+elementwise-else (Clip lo hi) local none = local
+elementwise-else Add local none = local
+elementwise-else Sub local none = local
+elementwise-else Mul local none = local
+elementwise-else Min local none = local
+elementwise-else Max local none = local
+elementwise-else Transpose local none = local
+elementwise-else (Slice r0 c0 height width) local none = local
+elementwise-else (Convolve kernel) local none = local
+elementwise-else Lookup local none = local
+elementwise-else (Regions t) local none = local
+elementwise-else (Clean t) local none = local
+elementwise-else (FoldLayers fold) local none = local
+
+-- the relation of a local operator is its mapping
+by-mapping : (op : Op) (inputs : List Grid) (i : ℕ) (o x : Cell) → is_local op ≡ true
+    → related op inputs i o x ≡ mapped op (extents_of inputs) i o x
+by-mapping Lookup inputs i o x h = absurd (true≢false (sym h))
+by-mapping (Regions t) inputs i o x h = absurd (true≢false (sym h))
+by-mapping (Clean t) inputs i o x h = absurd (true≢false (sym h))
+by-mapping (Block how height width) inputs i o x h = refl
+by-mapping Neg inputs i o x h = refl
+by-mapping Abs inputs i o x h = refl
+by-mapping (AddK k) inputs i o x h = refl
+by-mapping (MulK k) inputs i o x h = refl
+by-mapping (Clip lo hi) inputs i o x h = refl
+by-mapping Add inputs i o x h = refl
+by-mapping Sub inputs i o x h = refl
+by-mapping Mul inputs i o x h = refl
+by-mapping Min inputs i o x h = refl
+by-mapping Max inputs i o x h = refl
+by-mapping Transpose inputs i o x h = refl
+by-mapping (Slice r0 c0 height width) inputs i o x h = refl
+by-mapping (Convolve kernel) inputs i o x h = refl
+by-mapping (FoldLayers fold) inputs i o x h = refl
+
+pub related-mapped : (s : Site) (inputs : List Grid) (i : ℕ) (o x : Cell) → is_local s.op ≡ true
+    → IsAtWork s inputs → related s.op inputs i o x ≡ mapped s.op s.ins i o x
+related-mapped s inputs i o x h work =
+    by-mapping s.op inputs i o x h ∙ ap (λ ins. mapped s.op ins i o x) work.shapes

@@ -14,12 +14,14 @@ ghost use Rattle.sz_region.specs.Images.{near_side, far_side, image_in, measure_
 ghost use Rattle.sz_region.specs.Written.{cells_in_piece};
 ghost use Rattle.sz_ops_local.specs.Local.{is_local};
 
-use crate::work::{Work, shape_of_all};
+use crate::elementwise;
+use crate::op_map::Maps;
+use crate::work::{Work, right_shapes};
 use std::alloc::Global;
 use std::sync::Arc;
 use sz_cells::{Cell, CellBits, NoMemory};
-use sz_region::{AtWork, PieceLineage, piece_by, run_by, trace_by};
-use sz_spec::{Array, Dir, OpAt, Strategy, Tally, Value};
+use sz_region::{AtWork, PieceLineage, image_by, piece_by, run_by, trace_by};
+use sz_spec::{Array, Dir, Op, OpAt, Strategy, Tally, Value};
 
 /// What is prepared once for an operator at work: of these operators, nothing.
 #[derive(Clone, Copy, Debug, Drop)]
@@ -41,7 +43,7 @@ pub fn value_at(at: &OpAt, inputs: &[Arc<Array>], aid: &Aid, cell: Cell) -> Valu
     requires cell { holds at.now.out cell ≡ true }
     ensures { result ≡ value_of at.now.op (map (λ a. arc_value a) inputs.now) cell }
 {
-    let shape = shape_of_all(at);
+    let shape = right_shapes(at);
     Work { at, inputs }.value(cell, shape.index(cell))
 }
 
@@ -51,7 +53,7 @@ pub fn run(alloc: Global, at: &OpAt, inputs: &[Arc<Array>]) -> Result<Array, NoM
     requires inputs { extents_of (map (λ a. arc_value a) inputs.now) ≡ at.now.ins }
     ensures { IfOk result (λ a. a ≡ output_of at.now.op (map (λ a. arc_value a) inputs.now)) }
 {
-    shape_of_all(at);
+    right_shapes(at);
     run_by(alloc, &Work { at, inputs })
 }
 
@@ -76,7 +78,7 @@ pub fn piece(
         (λ p. Fits (measure_of at.now (map (λ a. arc_value a) inputs.now)) list.now k p) }
     ensures ticks { OnOk result (tally.new ≡ tally.old + cells_in_piece at.now.out k) }
 {
-    shape_of_all(at);
+    right_shapes(at);
     piece_by(alloc, &Work { at, inputs }, k, list, tally)
 }
 
@@ -101,13 +103,13 @@ pub fn trace(
         (related at.now.op (map (λ a. arc_value a) inputs.now) input) from.now))) }
     ensures ticks { OnOk result (tally.new ≡ tally.old + size_of at.now.out) }
 {
-    shape_of_all(at);
+    right_shapes(at);
     trace_by(&Work { at, inputs }, dir, input, from, to, tally);
     Ok(())
 }
 
-/// Adds the image of a set of cells by the mapping: the same cells, as they are at the same
-/// places. Takes no memory.
+/// Adds the image of a set of cells by the mapping. Of an elementwise operator these are the same
+/// cells, added at once; of blocks it goes cell by cell of the set. Takes no memory.
 pub fn image_by_map(at: &OpAt, dir: Dir, input: u32, from: &CellBits, to: &mut CellBits)
     requires local { is_local at.now.op ≡ true }
     requires input { input < length at.now.ins }
@@ -116,7 +118,8 @@ pub fn image_by_map(at: &OpAt, dir: Dir, input: u32, from: &CellBits, to: &mut C
     ensures { to.new ≡ with_those to.old
         (has (image_in dir at.now input (mapped at.now.op at.now.ins input) from.now)) }
 {
-    shape_of_all(at);
-    from.shape(); // the set is that of its cells
-    to.add_bits(from);
+    match at.op() {
+        Op::Block { .. } => image_by(&Maps { at }, dir, input, from, to),
+        _ => elementwise::image(at, dir, input, from, to),
+    }
 }

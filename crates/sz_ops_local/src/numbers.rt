@@ -6,14 +6,14 @@ ghost use Rattle.sz_spec.specs.Values.{Grid, fit, value_at, input_at};
 ghost use Rattle.sz_spec.specs.Shapes.{arity};
 ghost use Rattle.sz_spec.specs.Evaluation.{value_of};
 ghost use Rattle.sz_spec.specs.Operators.Elementwise.{clipped};
-ghost use Rattle.sz_ops_local.specs.Local.{is_local};
+ghost use Rattle.sz_ops_local.specs.Local.{is_elementwise};
 
 use sz_spec::{Op, Value};
 
 /// The operator's value at a cell at which its first input holds `a` and its second, where it has
 /// one, holds `b`. Sums and products are taken as whole numbers, and fitted once.
 pub(crate) fn of_numbers(op: &Op, a: i64, b: i64) -> Value
-    requires { is_local op.now ≡ true }
+    requires { is_elementwise op.now ≡ true }
     ensures { (inputs : List Grid) (o : Cell) → value_at (input_at inputs 0) o ≡ Some a
         → (arity op.now ≡ 2 → value_at (input_at inputs 1) o ≡ Some b)
         → result ≡ value_of op.now inputs o }

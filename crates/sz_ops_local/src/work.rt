@@ -1,19 +1,21 @@
 //! A local operator at work over its inputs.
 
-ghost use Rattle.std.specs.Prelude.{◌≡◌, ◌<◌, ℕ, true, length, map};
+ghost use Rattle.std.specs.Prelude.{◌≡◌, ◌<◌, true, length, map};
 ghost use Rattle.std.specs.Arc.{arc_value};
-ghost use Rattle.sz_cells.specs.Extent.{holds, index_of};
-ghost use Rattle.sz_spec.specs.Values.{value_at, input_at, extent_at};
+ghost use Rattle.sz_spec.specs.Values.{input_at, extent_at};
 ghost use Rattle.sz_spec.specs.Shapes.{IsSite};
 ghost use Rattle.sz_spec.specs.LawsShapes.{AreExtents};
+ghost use Rattle.sz_region.specs.Images.{IsAtWork};
 ghost use Rattle.sz_ops_local.specs.Local.{is_local};
 
-use crate::numbers::of_numbers;
+use crate::maps::{back_into, meets, set};
+use crate::{block, elementwise};
 use std::alloc::Global;
 use std::sync::Arc;
+use sz_cells::laws::a_shape_is_within_limits;
 use sz_cells::{Cell, CellBits, CellSet, NoMemory, Shape};
 use sz_region::{AtWork, Payload};
-use sz_spec::{Array, OpAt, Value};
+use sz_spec::{Array, Op, OpAt, Value};
 
 /// A local operator with its shapes, and its inputs.
 #[derive(Drop)]
@@ -37,28 +39,22 @@ impl<'a> AtWork for Work<'a> {
     }
 
     fn value(&self, out: Cell, index: u32) -> Value {
-        let a = value_of_input(self.inputs, 0, out, index)?;
-        let b = if self.inputs.len() > 1 {
-            value_of_input(self.inputs, 1, out, index)?
-        } else {
-            0
-        };
-        of_numbers(self.at.op(), a, b)
+        match self.at.op() {
+            Op::Block { fold, h, w } => { block::value(self.at, *fold, *h, *w, self.first(), out) }
+            _ => elementwise::value(self.at, self.inputs, out, index),
+        }
     }
 
-    fn back_into(&self, out: Cell, _input: u32, to: &mut CellBits) {
-        to.set(out);
+    fn back_into(&self, out: Cell, input: u32, to: &mut CellBits) {
+        back_into(self.at, out, input, to);
     }
 
-    fn meets(&self, out: Cell, _input: u32, from: &CellBits) -> bool {
-        from.shape(); // the set is that of its cells
-        from.has(out)
+    fn meets(&self, out: Cell, input: u32, from: &CellBits) -> bool {
+        meets(self.at, out, input, from)
     }
 
     fn related_set(&self, alloc: Global, out: Cell, input: u32) -> Result<Arc<CellSet>, NoMemory> {
-        let shape = self.at.ins()[input as usize];
-        let set = CellSet::from_cells(alloc, shape, &[out])?;
-        Ok(Arc::new(alloc, set)?)
+        set(alloc, self.at, out, input)
     }
 
     fn payload(&self, alloc: Global, _out: Cell) -> Result<Arc<Payload>, NoMemory> {
@@ -70,28 +66,28 @@ impl<'a> AtWork for Work<'a> {
     }
 }
 
-/// What an input holds at a cell, which has this row-major index.
-fn value_of_input(inputs: &[Arc<Array>], input: usize, cell: Cell, index: u32) -> Value
-    requires input { input < length inputs.now }
-    requires cell { holds (input_at (map (λ a. arc_value a) inputs.now) input).extent cell ≡ true }
-    requires index { index
-        ≡ index_of (input_at (map (λ a. arc_value a) inputs.now) input).extent cell }
-    ensures { result ≡ value_at (input_at (map (λ a. arc_value a) inputs.now) input) cell }
-{
-    inputs[input].cells()[index as usize]
+impl<'a> Work<'a> {
+    /// The first input.
+    fn first(&self) -> &Array
+        requires right { IsAtWork self.now.at.now (map (λ a. arc_value a) self.now.inputs.now) }
+        ensures value { result.now ≡ input_at (map (λ a. arc_value a) self.now.inputs.now) 0 }
+        ensures shape { result.now.extent ≡ extent_at self.now.at.now.ins 0 }
+    {
+        &self.inputs[0]
+    }
 }
 
-/// The shape that a local operator's inputs and its output have.
-pub(crate) fn shape_of_all(at: &OpAt) -> Shape
-    requires { is_local at.now.op ≡ true }
-    ensures out { result ≡ at.now.out }
+/// The output's shape. Its caller knows from now on that the operator has right parameters, as many
+/// inputs as it takes, and the output that its shape rule gives, and that the inputs have right
+/// shapes.
+pub(crate) fn right_shapes(at: &OpAt) -> Shape
+    ensures value { result ≡ at.now.out }
     ensures site { IsSite at.now }
-    ensures ins { (i : ℕ) → i < length at.now.ins → extent_at at.now.ins i ≡ at.now.out }
     ensures right { AreExtents at.now.ins }
 {
     at.op();
-    at.ins();
-    let shape = at.out();
-    let _ = &shape.rows; // a shape is within the limits
-    shape
+    for shape in at.ins() {
+        a_shape_is_within_limits(shape);
+    }
+    at.out()
 }

@@ -10,7 +10,7 @@ use Rattle.sz_spec.specs.Values.{Grid, extents_of}
 use Rattle.sz_spec.specs.Shapes.{Site, IsSite, arity}
 use Rattle.sz_spec.specs.Lineage.{mapped, related}
 use Rattle.sz_region.specs.Images.{IsAtWork}
-use Rattle.sz_ops_move.specs.Moving.{is_mapping}
+use Rattle.sz_ops_move.specs.Moving.{is_mapping, is_single}
 
 -- one input
 one-input : (op : Op) → is_mapping op ≡ true → arity op ≡ 1
@@ -32,6 +32,27 @@ one-input Lookup h = absurd (true≢false (sym h))
 one-input (Regions t) h = refl
 one-input (Clean t) h = refl
 one-input (FoldLayers fold) h = refl
+
+-- a mapping to one cell is a mapping
+pub single-mapping : (op : Op) → is_single op ≡ true → is_mapping op ≡ true
+single-mapping Transpose h = refl
+single-mapping (Slice r0 c0 height width) h = refl
+single-mapping Neg h = h
+single-mapping Abs h = h
+single-mapping (AddK k) h = h
+single-mapping (MulK k) h = h
+single-mapping (Clip lo hi) h = h
+single-mapping Add h = h
+single-mapping Sub h = h
+single-mapping Mul h = h
+single-mapping Min h = h
+single-mapping Max h = h
+single-mapping (Convolve kernel) h = h
+single-mapping (Block fold height width) h = h
+single-mapping Lookup h = h
+single-mapping (Regions t) h = h
+single-mapping (Clean t) h = h
+single-mapping (FoldLayers fold) h = refl
 
 pub first-input : (s : Site) (i : ℕ) → is_mapping s.op ≡ true → IsSite s → i < length s.ins → i ≡ 0
 first-input s i h site few = omega (arith, few, site.arity, one-input s.op h)

@@ -1,3 +1,4 @@
 pub mod OneCell
 pub mod Windows
 pub mod Inputs
+pub mod Layers

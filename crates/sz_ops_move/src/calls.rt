@@ -1,13 +1,17 @@
 //! The calls of the crate, each one of the frame's over a moving operator at work.
 
-ghost use Rattle.std.specs.Prelude.{◌≡◌, ◌<◌, ◌+◌, ◌^◌, true, length, map, IfOk, Ok, OnOk};
+ghost use Rattle.std.specs.Prelude.{◌≡◌, ◌<◌, ◌+◌, ◌^◌, true, length, map, All, IfOk, Ok, OnOk};
 ghost use Rattle.std.specs.Arc.{arc_value};
 ghost use Rattle.sz_cells.specs.Extent.{holds, size_of};
 ghost use Rattle.sz_cells.specs.Cells.{has, with_those};
 ghost use Rattle.sz_spec.specs.Values.{extents_of};
 ghost use Rattle.sz_spec.specs.Evaluation.{value_of, output_of};
 ghost use Rattle.sz_spec.specs.Lineage.{related, mapped};
-ghost use Rattle.sz_region.specs.Images.{near_side, far_side, image_in};
+ghost use Rattle.sz_spec.specs.Modes.{supports};
+ghost use Rattle.sz_spec.specs.Pieces.{pieces_of};
+ghost use Rattle.sz_region.specs.Fits.{Fits};
+ghost use Rattle.sz_region.specs.Images.{near_side, far_side, image_in, measure_of};
+ghost use Rattle.sz_region.specs.Written.{cells_in_piece};
 ghost use Rattle.sz_ops_move.specs.Moving.{is_moving, is_mapping};
 
 use crate::op_map::Moves;
@@ -15,8 +19,8 @@ use crate::work::{Work, right_shapes};
 use std::alloc::Global;
 use std::sync::Arc;
 use sz_cells::{Cell, CellBits, NoMemory};
-use sz_region::{AtWork, image_by, run_by, trace_by};
-use sz_spec::{Array, Dir, OpAt, Tally, Value};
+use sz_region::{AtWork, PieceLineage, image_by, piece_by, run_by, trace_by};
+use sz_spec::{Array, Dir, OpAt, Strategy, Tally, Value};
 
 /// What is prepared once for an operator at work: of these operators, nothing.
 #[derive(Clone, Copy, Debug, Drop)]
@@ -50,6 +54,31 @@ pub fn run(alloc: Global, at: &OpAt, inputs: &[Arc<Array>]) -> Result<Array, NoM
 {
     right_shapes(at); // so the operator is at work
     run_by(alloc, &Work { at, inputs })
+}
+
+/// The lineage of piece `k` of the output: the parts that the strategies of a list need. Each cell
+/// of the piece is looked at once, and counted.
+pub fn piece(
+    alloc: Global,
+    at: &OpAt,
+    inputs: &[Arc<Array>],
+    aid: &Aid,
+    k: u32,
+    list: &[Strategy],
+    tally: &mut Tally,
+) -> Result<PieceLineage, NoMemory>
+    requires moving { is_moving at.now.op ≡ true }
+    requires inputs { extents_of (map (λ a. arc_value a) inputs.now) ≡ at.now.ins }
+    requires piece { k < pieces_of at.now.out }
+    requires supported { All (λ s. supports at.now.op s ≡ true) list.now }
+    requires room { tally.old + cells_in_piece at.now.out k < 2 ^ 63 }
+    ensures piece { IfOk result (λ p. p.piece ≡ k) }
+    ensures fits { IfOk result
+        (λ p. Fits (measure_of at.now (map (λ a. arc_value a) inputs.now)) list.now k p) }
+    ensures ticks { OnOk result (tally.new ≡ tally.old + cells_in_piece at.now.out k) }
+{
+    right_shapes(at); // so the operator is at work
+    piece_by(alloc, &Work { at, inputs }, k, list, tally)
 }
 
 /// Adds the image of a set of cells by tracing: each output cell is looked at once, and counted.

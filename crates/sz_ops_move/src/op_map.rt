@@ -1,15 +1,16 @@
 //! The mapping of a moving operator.
 
-ghost use Rattle.std.specs.Prelude.{◌≡◌, true, Option, IfSome};
+ghost use Rattle.std.specs.Prelude.{◌≡◌, ◌<◌, true, length, Option, IfSome};
 ghost use Rattle.std.specs.Arc.{arc_value};
 ghost use Rattle.sz_cells.specs.Extent.{holds};
+ghost use Rattle.sz_cells.specs.Cells.{with_those};
 ghost use Rattle.sz_spec.specs.Values.{extent_at};
 ghost use Rattle.sz_spec.specs.Lineage.{mapped};
-ghost use Rattle.sz_ops_move.specs.Moving.{is_mapping, IsOnly};
+ghost use Rattle.sz_ops_move.specs.Moving.{is_mapping, is_single, IsOnly};
 
 use crate::single::add_cell;
 use crate::work::right_shapes;
-use crate::{slice, transpose};
+use crate::{fold_layers, slice, transpose};
 use std::sync::Arc;
 use sz_cells::{Cell, CellBits};
 use sz_spec::{Mapper, Op, OpAt};
@@ -57,9 +58,11 @@ pub(crate) struct Moves<'a> {
 impl<'a> Mapper for Moves<'a> {
     ghost site = { λ m. m.at.now };
 
-    fn map_b_into(&self, out: Cell, _input: u32, to: &mut CellBits) {
-        right_shapes(self.at); // so it has one input
-        add_cell(to, source(self.at, out));
+    fn map_b_into(&self, out: Cell, input: u32, to: &mut CellBits) {
+        match self.at.op() {
+            Op::FoldLayers { fold } => fold_layers::back_into(self.at, *fold, out, input, to),
+            _ => back_into(self.at, out, input, to),
+        }
     }
 
     fn map_f_into(&self, cell: Cell, _input: u32, to: &mut CellBits) {
@@ -72,9 +75,21 @@ impl<'a> Mapper for Moves<'a> {
     }
 }
 
+/// Adds the input's cell to which an output cell is mapped.
+fn back_into(at: &OpAt, out: Cell, input: u32, to: &mut CellBits)
+    requires single { is_single at.now.op ≡ true }
+    requires out { holds at.now.out out ≡ true }
+    requires input { input < length at.now.ins }
+    requires to { to.old.extent ≡ extent_at at.now.ins input }
+    ensures { to.new ≡ with_those to.old (λ x. mapped at.now.op at.now.ins input out x) }
+{
+    right_shapes(at); // so it has one input
+    add_cell(to, source(at, out));
+}
+
 /// The input's cell to which an output cell is mapped.
 pub(crate) fn source(at: &OpAt, out: Cell) -> Option<Cell>
-    requires mapping { is_mapping at.now.op ≡ true }
+    requires single { is_single at.now.op ≡ true }
     requires out { holds at.now.out out ≡ true }
     ensures held { IfSome result (λ c. holds (extent_at at.now.ins 0) c ≡ true) }
     ensures only { IsOnly (extent_at at.now.ins 0) (mapped at.now.op at.now.ins 0 out) result }
@@ -96,6 +111,7 @@ pub(crate) fn target(at: &OpAt, cell: Cell) -> Option<Cell>
     match at.op() {
         Op::Transpose => Some(transpose::target(at, cell)),
         Op::Slice { r0, c0, h, w } => slice::target(at, *r0, *c0, *h, *w, cell),
+        Op::FoldLayers { fold } => Some(fold_layers::target(at, *fold, cell)),
         _ => unreachable!(),
     }
 }

@@ -7,12 +7,12 @@ ghost use Rattle.sz_spec.specs.Values.{extents_of};
 ghost use Rattle.sz_region.specs.Images.{near_side, far_side};
 ghost use Rattle.sz_ops_move.specs.Moving.{is_moving};
 
-use crate::{image_by_map, prepare, run, trace, value_at};
+use crate::{image_by_map, piece, prepare, run, trace, value_at};
 use std::alloc::Global;
 use std::sync::Arc;
 use std::test::Fail;
 use sz_cells::{Cell, CellBits, CellSet, Run, Shape};
-use sz_spec::{Array, Dir, Op, OpAt, Tally, Value};
+use sz_spec::{Array, Dir, Fold, Op, OpAt, Strategy, Tally, Value};
 
 fn array(alloc: Global, shape: Shape, cells: &[Value]) -> Result<Arc<Array>, Fail>
     ensures { IfOk result (λ a. (arc_value a).extent ≡ shape) }
@@ -206,5 +206,93 @@ fn a_column_leads_to_the_cells_that_name_it(rt: HostRuntime) -> Result<(), Fail>
         Cell { row: 0, col: 0 },
     )?;
     assert_eq!(rt; on.runs(), [Run { first: 0, last: 1 }].as_slice());
+    Ok(())
+}
+
+#[test]
+fn layers_are_folded_at_one_place(rt: HostRuntime) -> Result<(), Fail> {
+    let shape = Shape::make_layers(2, 1, 2).ok_or("2 by 1 by 2 is a shape")?;
+    let inputs = [array(rt.alloc(), shape, &[Some(1), Some(2), Some(3), None])?];
+    let op = Op::FoldLayers { fold: Fold::Sum };
+    let at = OpAt::of(op, vec![in rt.alloc(); shape]?)
+        .ok()
+        .ok_or("it has a shape")?;
+    let output = run(rt.alloc(), &at, &inputs)?;
+    assert_eq!(rt; output.shape().layers, 1);
+    assert_eq!(rt; output.cells(), [Some(4), Some(2)].as_slice());
+    let cell = Cell { row: 0, col: 1 };
+    let sides = (at.out(), shape);
+    let back = traced(rt.alloc(), &at, &inputs, Dir::Back, 0, sides, cell)?;
+    let both = [Run { first: 1, last: 1 }, Run { first: 3, last: 3 }];
+    assert_eq!(rt; back.runs(), both.as_slice());
+    let cell = Cell { row: 1, col: 0 };
+    let sides = (shape, at.out());
+    let on = traced(rt.alloc(), &at, &inputs, Dir::Forward, 0, sides, cell)?;
+    assert_eq!(rt; on.runs(), [Run { first: 0, last: 0 }].as_slice());
+    Ok(())
+}
+
+#[test]
+fn one_image_by_mapping_by_tracing_and_by_pieces(rt: HostRuntime) -> Result<(), Fail> {
+    let shape = Shape::make_layers(2, 1, 2).ok_or("2 by 1 by 2 is a shape")?;
+    let inputs = [array(rt.alloc(), shape, &[Some(1), Some(2), Some(3), None])?];
+    let op = Op::FoldLayers { fold: Fold::Count };
+    let at = OpAt::of(op, vec![in rt.alloc(); shape]?)
+        .ok()
+        .ok_or("it has a shape")?;
+    let cell = Cell { row: 0, col: 1 };
+    let sides = (at.out(), shape);
+    let back = traced(rt.alloc(), &at, &inputs, Dir::Back, 0, sides, cell)?;
+    let mut from = CellBits::new(rt.alloc(), at.out())?;
+    if at.out().holds(cell) {
+        from.set(cell);
+    }
+    let mut to = CellBits::new(rt.alloc(), shape)?;
+    image_by_map(&at, Dir::Back, 0, &from, &mut to);
+    assert_eq!(rt; to.to_set(rt.alloc())?.runs(), back.runs());
+    let aid = prepare(&at, &inputs)?;
+    let list = [Strategy::FullOneB];
+    let mut steps = Tally::new();
+    let lineage = piece(rt.alloc(), &at, &inputs, &aid, 0, &list, &mut steps)?;
+    let Some(region) = lineage.regions().get(1) else {
+        return Err("each cell has a region".into())
+    };
+    assert!(rt; region.out.has(cell));
+    let Some(set) = region.ins.as_slice().get(0) else {
+        return Err("there is one input".into())
+    };
+    assert_eq!(rt; set.runs(), back.runs());
+    Ok(())
+}
+
+#[test]
+fn a_piece_of_a_lookup_keeps_the_columns(rt: HostRuntime) -> Result<(), Fail> {
+    let shape = Shape::make(1, 2).ok_or("1 by 2 is a shape")?;
+    let table = Shape::make(1, 3).ok_or("1 by 3 is a shape")?;
+    let inputs = [
+        array(rt.alloc(), shape, &[Some(2), None])?,
+        array(rt.alloc(), table, &[Some(10), Some(20), Some(30)])?,
+    ];
+    let at = OpAt::of(Op::Lookup, vec![in rt.alloc(); shape, table]?)
+        .ok()
+        .ok_or("one row")?;
+    let aid = prepare(&at, &inputs)?;
+    let list = [Strategy::FullOneB, Strategy::PayOne, Strategy::CompOne];
+    let mut steps = Tally::new();
+    let lineage = piece(rt.alloc(), &at, &inputs, &aid, 0, &list, &mut steps)?;
+    assert_eq!(rt; steps.count(), 2);
+    assert_eq!(rt; lineage.regions().len(), 2);
+    assert_eq!(rt; lineage.pays().len(), 2);
+    assert_eq!(rt; lineage.comps().len(), 1);
+    let Some(kept) = lineage.comps().get(0) else {
+        return Err("a matched cell overrides".into())
+    };
+    assert_eq!(rt; kept.out.runs(), [Run { first: 0, last: 0 }].as_slice());
+    assert_eq!(rt; kept.payload.bytes(), [0, 0, 0, 2].as_slice());
+    let Some(none) = lineage.pays().get(1) else {
+        return Err("each cell has an entry".into())
+    };
+    assert_eq!(rt; none.out.runs(), [Run { first: 1, last: 1 }].as_slice());
+    assert_eq!(rt; none.payload.bytes().len(), 0);
     Ok(())
 }

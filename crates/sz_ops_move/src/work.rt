@@ -1,19 +1,22 @@
 //! A moving operator at work over its inputs.
 
-ghost use Rattle.std.specs.Prelude.{◌≡◌, ◌<◌, true, length, map, Option, IfSome};
+ghost use Rattle.std.specs.Prelude.{◌≡◌, ◌<◌, true, length, map, Option, IfSome, IfOk};
 ghost use Rattle.std.specs.Arc.{arc_value};
 ghost use Rattle.sz_cells.specs.Extent.{holds};
+ghost use Rattle.sz_cells.specs.Cells.{any_cell, with_those};
 ghost use Rattle.sz_spec.specs.Values.{input_at, extent_at};
 ghost use Rattle.sz_spec.specs.Shapes.{IsSite};
 ghost use Rattle.sz_spec.specs.Lineage.{related};
-ghost use Rattle.sz_region.specs.Images.{IsAtWork};
-ghost use Rattle.sz_ops_move.specs.Moving.{is_moving, IsOnly};
+ghost use Rattle.sz_spec.specs.LawsShapes.{AreExtents};
+ghost use Rattle.sz_region.specs.Images.{IsAtWork, related_cells};
+ghost use Rattle.sz_ops_move.specs.Moving.{is_moving, is_one, IsOnly};
 
 use crate::op_map::source;
 use crate::single::{add_cell, has_cell, set_of_cell};
-use crate::{lookup, slice, transpose};
+use crate::{fold_layers, lookup, slice, transpose};
 use std::alloc::Global;
 use std::sync::Arc;
+use sz_cells::laws::a_shape_is_within_limits;
 use sz_cells::{Cell, CellBits, CellSet, NoMemory, Shape};
 use sz_region::{AtWork, Payload};
 use sz_spec::{Array, Op, OpAt, Value};
@@ -46,22 +49,30 @@ impl<'a> AtWork for Work<'a> {
                 slice::value(self.at, *r0, *c0, *h, *w, self.input(0), out)
             }
             Op::Lookup => lookup::value(self.input(0), self.input(1), out),
+            Op::FoldLayers { fold } => fold_layers::value(self.at, *fold, self.input(0), out),
             _ => unreachable!(),
         }
     }
 
     fn back_into(&self, out: Cell, input: u32, to: &mut CellBits) {
-        add_cell(to, self.cell_of(out, input));
+        match self.at.op() {
+            Op::FoldLayers { fold } => fold_layers::back_into(self.at, *fold, out, input, to),
+            _ => self.back_to_one(out, input, to),
+        }
     }
 
     fn meets(&self, out: Cell, input: u32, from: &CellBits) -> bool {
-        from.shape(); // the set is that of its cells
-        has_cell(from, self.cell_of(out, input))
+        match self.at.op() {
+            Op::FoldLayers { fold } => fold_layers::meets(self.at, *fold, out, input, from),
+            _ => self.meets_cell(out, input, from),
+        }
     }
 
     fn related_set(&self, alloc: Global, out: Cell, input: u32) -> Result<Arc<CellSet>, NoMemory> {
-        let shape = self.at.ins()[input as usize];
-        set_of_cell(alloc, shape, self.cell_of(out, input))
+        match self.at.op() {
+            Op::FoldLayers { fold } => fold_layers::set(alloc, self.at, *fold, out, input),
+            _ => self.set_of_one(alloc, out, input),
+        }
     }
 
     fn payload(&self, alloc: Global, out: Cell) -> Result<Arc<Payload>, NoMemory> {
@@ -91,8 +102,49 @@ impl<'a> Work<'a> {
         &self.inputs[input as usize]
     }
 
+    /// Adds the cell to which an output cell is related, where it is related to one or none.
+    fn back_to_one(&self, out: Cell, input: u32, to: &mut CellBits)
+        requires one { is_one self.now.at.now.op ≡ true }
+        requires right { IsAtWork self.now.at.now (map (λ a. arc_value a) self.now.inputs.now) }
+        requires out { holds self.now.at.now.out out ≡ true }
+        requires input { input < length self.now.at.now.ins }
+        requires to { to.old.extent ≡ extent_at self.now.at.now.ins input }
+        ensures { to.new ≡ with_those to.old (related self.now.at.now.op
+            (map (λ a. arc_value a) self.now.inputs.now) input out) }
+    {
+        add_cell(to, self.cell_of(out, input));
+    }
+
+    /// Whether an output cell is related to a cell of this set, where it is related to one or none.
+    fn meets_cell(&self, out: Cell, input: u32, from: &CellBits) -> bool
+        requires one { is_one self.now.at.now.op ≡ true }
+        requires right { IsAtWork self.now.at.now (map (λ a. arc_value a) self.now.inputs.now) }
+        requires out { holds self.now.at.now.out out ≡ true }
+        requires input { input < length self.now.at.now.ins }
+        requires from { from.now.extent ≡ extent_at self.now.at.now.ins input }
+        ensures { result ≡ any_cell (related self.now.at.now.op
+            (map (λ a. arc_value a) self.now.inputs.now) input out) from.now }
+    {
+        from.shape(); // the set is that of its cells
+        has_cell(from, self.cell_of(out, input))
+    }
+
+    /// The set of the cell to which an output cell is related, where it is related to one or none.
+    fn set_of_one(&self, alloc: Global, out: Cell, input: u32) -> Result<Arc<CellSet>, NoMemory>
+        requires one { is_one self.now.at.now.op ≡ true }
+        requires right { IsAtWork self.now.at.now (map (λ a. arc_value a) self.now.inputs.now) }
+        requires out { holds self.now.at.now.out out ≡ true }
+        requires input { input < length self.now.at.now.ins }
+        ensures { IfOk result (λ s. arc_value s ≡ related_cells self.now.at.now
+            (map (λ a. arc_value a) self.now.inputs.now) input out) }
+    {
+        let shape = self.at.ins()[input as usize];
+        set_of_cell(alloc, shape, self.cell_of(out, input))
+    }
+
     /// The cell of an input to which an output cell is related, where there is one.
     fn cell_of(&self, out: Cell, input: u32) -> Option<Cell>
+        requires one { is_one self.now.at.now.op ≡ true }
         requires right { IsAtWork self.now.at.now (map (λ a. arc_value a) self.now.inputs.now) }
         requires out { holds self.now.at.now.out out ≡ true }
         requires input { input < length self.now.at.now.ins }
@@ -109,13 +161,17 @@ impl<'a> Work<'a> {
     }
 }
 
-/// The output's shape. Its caller knows from now on that the operator has right parameters, and as
-/// many inputs as it takes.
+/// The output's shape. Its caller knows from now on that the operator has right parameters, as many
+/// inputs as it takes, and the output that its shape rule gives, and that the inputs have right
+/// shapes.
 pub(crate) fn right_shapes(at: &OpAt) -> Shape
     ensures value { result ≡ at.now.out }
-    ensures right { IsSite at.now }
+    ensures site { IsSite at.now }
+    ensures right { AreExtents at.now.ins }
 {
     at.op();
-    at.ins();
+    for shape in at.ins() {
+        a_shape_is_within_limits(shape);
+    }
     at.out()
 }

@@ -3,4 +3,4 @@ use Rattle.sz_ops_local.proofs.calls.piece.Goals as goal
 
 pub piece_by-requires-clause-right : goal.piece_by-requires-clause-right
 piece_by-requires-clause-right c =
-    record { site = c.shape_of_all.ensures.site; shapes = c.requires.inputs; right = c.shape_of_all.ensures.right }
+    record { site = c.right_shapes.ensures.site; shapes = c.requires.inputs; right = c.right_shapes.ensures.right }

@@ -2,4 +2,4 @@
 use Rattle.sz_ops_local.proofs.calls.run.Goals as goal
 
 pub run_by-requires : goal.run_by-requires
-run_by-requires c = record { right = record { site = c.shape_of_all.ensures.site; shapes = c.requires.inputs } }
+run_by-requires c = record { right = record { site = c.right_shapes.ensures.site; shapes = c.requires.inputs } }

@@ -2,4 +2,4 @@
 use Rattle.sz_ops_move.proofs.calls.run.Goals as goal
 
 pub run_by-requires : goal.run_by-requires
-run_by-requires c = record { right = record { site = c.right_shapes.ensures.right; shapes = c.requires.inputs } }
+run_by-requires c = record { right = record { site = c.right_shapes.ensures.site; shapes = c.requires.inputs } }

@@ -2,4 +2,4 @@
 use Rattle.sz_ops_move.proofs.calls.value_at.Goals as goal
 
 pub value-requires-clause-right : goal.value-requires-clause-right
-value-requires-clause-right c = record { site = c.right_shapes-shape.ensures.right; shapes = c.requires.inputs }
+value-requires-clause-right c = record { site = c.right_shapes-shape.ensures.site; shapes = c.requires.inputs }

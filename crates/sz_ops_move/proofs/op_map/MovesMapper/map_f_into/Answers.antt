@@ -11,14 +11,14 @@ pub target-requires-clause-cell : goal.target-requires-clause-cell
 target-requires-clause-cell c =
     let s = c.args.self.now.at.now in
     let zero : c.args._input ≡ 0 =
-    first-input s c.args._input c.args.self.now.mapping c.right_shapes.ensures.right c.requires.input in
+    first-input s c.args._input c.args.self.now.mapping c.right_shapes.ensures.site c.requires.input in
     subst (λ (i : ℕ). holds (extent_at s.ins i) c.args.cell ≡ true) zero c.requires.cell
 
 pub returns : goal.returns
 returns c =
     let s = c.args.self.now.at.now in
     let zero : c.args._input ≡ 0 =
-    first-input s c.args._input c.args.self.now.mapping c.right_shapes.ensures.right c.requires.input in
+    first-input s c.args._input c.args.self.now.mapping c.right_shapes.ensures.site c.requires.input in
     c.add_cell.ensures
     ∙ adds-only c.args.to.now s.out
     (λ o. mapped s.op s.ins c.args._input o c.args.cell) c.target.result c.requires.to
