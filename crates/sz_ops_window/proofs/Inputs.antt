@@ -1,0 +1,129 @@
+-- What the operators take: one input, of the output's shape, and to which of its cells they relate a cell.
+use Rattle.std.proofs.Common.{◌≡◌, ℕ, ◌<◌, true, false, true≢false, List, [], ◌∷◌, length, refl, sym, ap}
+use Rattle.std.proofs.Common.{◌∙◌, arith, Bool, FitsSigned, to_z, of_z, w64}
+use Rattle.std.proofs.lemmas.Int.{to_z-of_z}
+use Rattle.std.specs.Prelude.{ℤ, Result, Ok}
+use Rattle.std.specs.Result.{result_unwrap_or}
+use Rattle.sz_cells.specs.declared.Cell.{Cell}
+use Rattle.sz_cells.specs.Extent.{Extent}
+use Rattle.sz_spec.specs.declared.op.Op.{Op}
+use Rattle.sz_spec.specs.declared.op.Op.TheVariants.{Neg, Abs, AddK, MulK, Clip, Add, Sub, Mul, Min}
+use Rattle.sz_spec.specs.declared.op.Op.TheVariants.{Max, Transpose, Slice, Convolve, Block, Lookup}
+use Rattle.sz_spec.specs.declared.op.Op.TheVariants.{Regions, Clean, FoldLayers}
+use Rattle.sz_spec.specs.declared.shapes.ShapeFault.{ShapeFault}
+use Rattle.sz_spec.specs.Values.{Grid, no_extent, extent_at, extents_of, input_at}
+use Rattle.sz_spec.specs.Shapes.{Site, IsSite, arity, shape_of}
+use Rattle.sz_spec.specs.Weights.{Weights}
+use Rattle.sz_spec.specs.Operators.Convolve.{is_convolved}
+use Rattle.sz_spec.specs.Operators.Clean.{is_hot, is_in_square}
+use Rattle.sz_spec.specs.Lineage.{related, mapped}
+use Rattle.sz_spec.proofs.PayloadLineage.{extent-of_input}
+use Rattle.sz_region.specs.Images.{IsAtWork}
+use Rattle.sz_ops_window.specs.Windowed.{is_windowed, is_convolution}
+use Rattle.sz_ops_window.specs.Taps.{one, nine}
+use Rattle.sz_ops_window.proofs.Squares.{nine-square, one-same}
+
+-- the shape of a list of one
+one-shape : (xs : List Extent) → length xs ≡ 1 → xs ≡ extent_at xs 0 ∷ []
+one-shape [] count = absurd (omega arith)
+one-shape (x ∷ []) count = refl
+one-shape (x ∷ y ∷ xs) count = absurd (omega arith)
+
+first-is : (ins : List Extent) (out : Extent) → shape_of Neg ins ≡ Ok out → extent_at ins 0 ≡ out
+first-is ins out rule = ap (λ (r : Result Extent ShapeFault). result_unwrap_or r no_extent) rule
+
+by-op : (op : Op) (ins : List Extent) (out : Extent) → is_windowed op ≡ true → shape_of op ins ≡ Ok out
+    → length ins ≡ arity op → (extent_at ins 0 ≡ out) × (length ins ≡ 1)
+by-op (Convolve kernel) ins out h rule count = (first-is ins out rule, count)
+by-op (Clean t) ins out h rule count = (first-is ins out rule, count)
+by-op Neg ins out h rule count = absurd (true≢false (sym h))
+by-op Abs ins out h rule count = absurd (true≢false (sym h))
+by-op (AddK k) ins out h rule count = absurd (true≢false (sym h))
+by-op (MulK k) ins out h rule count = absurd (true≢false (sym h))
+by-op (Clip lo hi) ins out h rule count = absurd (true≢false (sym h))
+by-op Add ins out h rule count = absurd (true≢false (sym h))
+by-op Sub ins out h rule count = absurd (true≢false (sym h))
+by-op Mul ins out h rule count = absurd (true≢false (sym h))
+by-op Min ins out h rule count = absurd (true≢false (sym h))
+by-op Max ins out h rule count = absurd (true≢false (sym h))
+by-op Transpose ins out h rule count = absurd (true≢false (sym h))
+by-op (Slice r0 c0 height width) ins out h rule count = absurd (true≢false (sym h))
+by-op (Block fold height width) ins out h rule count = absurd (true≢false (sym h))
+by-op Lookup ins out h rule count = absurd (true≢false (sym h))
+by-op (Regions t) ins out h rule count = absurd (true≢false (sym h))
+by-op (FoldLayers fold) ins out h rule count = absurd (true≢false (sym h))
+
+-- one input, and its shape is the output's
+pub one-input : (s : Site) → is_windowed s.op ≡ true → IsSite s → s.ins ≡ s.out ∷ []
+one-input s h site =
+    let both = by-op s.op s.ins s.out h site.shape site.arity in
+    one-shape s.ins both.1 ∙ ap (λ (e : Extent). e ∷ []) both.0
+
+pub no-other_input : (s : Site) (i : ℕ) → s.ins ≡ s.out ∷ [] → i < length s.ins → i ≡ 0
+no-other_input s i is few = let count = ap (λ (xs : List Extent). length xs) is in omega (arith, count, few)
+
+pub input-side : (s : Site) (i : ℕ) → s.ins ≡ s.out ∷ [] → i < length s.ins → extent_at s.ins i ≡ s.out
+input-side s i is few =
+    ap (extent_at s.ins) (no-other_input s i is few) ∙ ap (λ (es : List Extent). extent_at es 0) is
+
+-- a convolution is one of the operators
+pub convolution-windowed : (op : Op) → is_convolution op ≡ true → is_windowed op ≡ true
+convolution-windowed (Convolve kernel) h = refl
+convolution-windowed (Clean t) h = refl
+convolution-windowed Neg h = absurd (true≢false (sym h))
+convolution-windowed Abs h = absurd (true≢false (sym h))
+convolution-windowed (AddK k) h = absurd (true≢false (sym h))
+convolution-windowed (MulK k) h = absurd (true≢false (sym h))
+convolution-windowed (Clip lo hi) h = absurd (true≢false (sym h))
+convolution-windowed Add h = absurd (true≢false (sym h))
+convolution-windowed Sub h = absurd (true≢false (sym h))
+convolution-windowed Mul h = absurd (true≢false (sym h))
+convolution-windowed Min h = absurd (true≢false (sym h))
+convolution-windowed Max h = absurd (true≢false (sym h))
+convolution-windowed Transpose h = absurd (true≢false (sym h))
+convolution-windowed (Slice r0 c0 height width) h = absurd (true≢false (sym h))
+convolution-windowed (Block fold height width) h = absurd (true≢false (sym h))
+convolution-windowed Lookup h = absurd (true≢false (sym h))
+convolution-windowed (Regions t) h = absurd (true≢false (sym h))
+convolution-windowed (FoldLayers fold) h = absurd (true≢false (sym h))
+
+-- the input's shape
+pub input-shape : (s : Site) (inputs : List Grid) → is_windowed s.op ≡ true → IsAtWork s inputs
+    → (input_at inputs 0).extent ≡ s.out
+input-shape s inputs h work =
+    sym (extent-of_input inputs 0) ∙ ap (λ (es : List Extent). extent_at es 0) work.shapes
+    ∙ ap (λ (es : List Extent). extent_at es 0) (one-input s h work.site)
+
+-- a convolution relates a cell to the cells under its kernel
+pub convolve-related : (s : Site) (inputs : List Grid) (kernel : Weights) (o x : Cell) → s.op ≡ Convolve kernel
+    → is_windowed s.op ≡ true → IsAtWork s inputs → is_convolved s.out kernel o x ≡ related s.op inputs 0 o x
+convolve-related s inputs kernel o x is h work =
+    let at : extent_at (extents_of inputs) 0 ≡ s.out =
+    ap (λ (es : List Extent). extent_at es 0) (work.shapes ∙ one-input s h work.site) in
+    rw is (ap (λ (e : Extent). is_convolved e kernel o x) (sym at))
+
+pub convolve-mapped : (s : Site) (kernel : Weights) (o x : Cell) → s.op ≡ Convolve kernel
+    → s.ins ≡ s.out ∷ [] → is_convolved s.out kernel o x ≡ mapped s.op s.ins 0 o x
+convolve-mapped s kernel o x is ins =
+    rw is (ap (λ (es : List Extent). is_convolved (extent_at es 0) kernel o x) (sym ins))
+
+-- clean relates a hot cell to its square, and any other to itself
+pub hot-related : (s : Site) (inputs : List Grid) (t : ℤ) (o x : Cell) → s.op ≡ Clean t → is_windowed s.op ≡ true
+    → IsAtWork s inputs → is_hot t (input_at inputs 0) o ≡ true
+    → is_convolved s.out nine o x ≡ related s.op inputs 0 o x
+hot-related s inputs t o x is h work hot =
+    nine-square s.out o x
+    ∙ ap (λ (e : Extent). is_in_square e o x) (sym (input-shape s inputs h work))
+    ∙ (rw (is, hot) refl)
+
+pub other-related : (s : Site) (inputs : List Grid) (t : ℤ) (o x : Cell) → s.op ≡ Clean t
+    → is_hot t (input_at inputs 0) o ≡ false → is_convolved s.out one o x ≡ related s.op inputs 0 o x
+other-related s inputs t o x is cold = one-same s.out o x ∙ (rw (is, cold) refl)
+
+-- whether a cell is hot, as a call tells it
+pub hot-told : (t : ℤ) (g given : Grid) (o : Cell) (told answer : Bool) → FitsSigned w64 t → given ≡ g
+    → told ≡ is_hot (to_z w64 (of_z w64 t)) given o → told ≡ answer → is_hot t g o ≡ answer
+hot-told t g given o told answer fits same is answers =
+    ap (λ (h : Grid). is_hot t h o) (sym same)
+    ∙ ap (λ (z : ℤ). is_hot z given o) (sym (to_z-of_z w64 t fits))
+    ∙ sym is ∙ answers

@@ -1,0 +1,11 @@
+-- The operator has one input, of the output's shape.
+use Rattle.sz_ops_window.proofs.Inputs.{one-input}
+use Rattle.sz_ops_window.proofs.work.same_shape.Goals as goal
+
+pub returns-clause-ins : goal.returns-clause-ins
+returns-clause-ins c =
+    one-input c.args.at.now c.requires (record {
+      arity = c.ins.ensures.arity;
+      parameters = c.op.ensures.parameters;
+      shape = c.out-shape.ensures.rule;
+    })

@@ -1,0 +1,4 @@
+pub mod Windowed
+pub mod Taps
+pub mod Sums
+pub mod Least

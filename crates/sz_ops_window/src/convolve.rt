@@ -1,0 +1,129 @@
+//! Convolve: the weighted sum of the cells under a kernel.
+
+ghost use Rattle.std.specs.Prelude.{◌≡◌, ◌≤◌, ◌<◌, ◌+◌, ◌-◌, ◌*◌, ◌/◌, true, IfSome};
+ghost use Rattle.sz_cells.specs.Extent.{holds, is_extent};
+ghost use Rattle.sz_spec.specs.Values.{fit};
+ghost use Rattle.sz_spec.specs.Weights.{is_weight, is_kernel};
+ghost use Rattle.sz_spec.specs.Operators.Convolve.{convolved_at};
+ghost use Rattle.sz_ops_window.specs.Sums.{times, part_of, sum_from, reach_of, IsWithin};
+
+use crate::mask::{Mask, a_mask_is_a_kernel};
+use crate::window::Window;
+use sz_cells::laws::a_shape_is_within_limits;
+use sz_cells::{Cell, Shape};
+use sz_spec::{Array, Value};
+
+/// The value of an output cell: the sum under the kernel, fitted once. Each weight whose cell is in
+/// the layer is looked at once. Which these are is found once a cell, and where the whole kernel
+/// lies in the layer they are all: no weight is tested for its place.
+pub(crate) fn value(mask: &Mask<'_>, array: &Array, out: Cell) -> Value
+    requires { holds array.now.extent out ≡ true }
+    ensures { result ≡ convolved_at mask.now array.now out }
+{
+    let shape = array.shape();
+    a_shape_is_within_limits(&shape);
+    a_mask_is_a_kernel(mask);
+    let reach = reach_of(shape, mask, out);
+    fit(sum_of_rows(mask, array, out, reach)?)
+}
+
+/// A whole number as a value: empty where it is no i64.
+fn fit(number: i128) -> Value
+    ensures { result ≡ fit number }
+{
+    i64::try_from(number).ok()
+}
+
+/// The rows and columns of the kernel that lie on cells of the layer.
+fn reach_of(shape: Shape, mask: &Mask<'_>, out: Cell) -> Window
+    requires { holds shape out ≡ true }
+    ensures { result ≡ reach_of shape mask.now out }
+{
+    a_shape_is_within_limits(&shape);
+    let row = shape.row_in(out);
+    let rows = mask.rows / 2;
+    let cols = mask.cols / 2;
+    Window {
+        top: rows.saturating_sub(row),
+        bottom: mask.rows.min(shape.height() + rows - row),
+        left: cols.saturating_sub(out.col),
+        right: mask.cols.min(shape.cols + cols - out.col),
+    }
+}
+
+/// The sum under the kernel: at most 81 products of an i32 and an i64, so below 2^101. `None` where
+/// one of the cells is empty.
+fn sum_of_rows(mask: &Mask<'_>, array: &Array, out: Cell, reach: Window) -> Option<i128>
+    requires out { holds array.now.extent out ≡ true }
+    requires shape { is_extent array.now.extent ≡ true }
+    requires kernel { is_kernel mask.now ≡ true }
+    requires reach { reach ≡ reach_of array.now.extent mask.now out }
+    ensures { result ≡ sum_from array.now mask.now out 0 (mask.now.rows * mask.now.cols) }
+{
+    let mut sum = 0;
+    for row in reach.top..reach.bottom {
+        sum += sum_of_row(mask, array, out, reach, row)?;
+    }
+    Some(sum)
+}
+
+/// The sum under one row of the kernel, of which all columns of the reach lie on cells.
+fn sum_of_row(mask: &Mask<'_>, array: &Array, out: Cell, reach: Window, row: u32) -> Option<i128>
+    requires out { holds array.now.extent out ≡ true }
+    requires shape { is_extent array.now.extent ≡ true }
+    requires kernel { is_kernel mask.now ≡ true }
+    requires reach { reach ≡ reach_of array.now.extent mask.now out }
+    requires top { reach.top ≤ row }
+    requires bottom { row < reach.bottom }
+    ensures sum { result
+        ≡ sum_from array.now mask.now out (row * mask.now.cols) mask.now.cols }
+    ensures bound { IfSome result (λ z. IsWithin 9 z) }
+{
+    let mut sum = 0;
+    for col in reach.left..reach.right {
+        sum += part(mask, array, out, reach, row, col)?;
+    }
+    Some(sum)
+}
+
+/// What one tap of the reach adds: its weight times the value of the cell under it.
+fn part(
+    mask: &Mask<'_>,
+    array: &Array,
+    out: Cell,
+    reach: Window,
+    row: u32,
+    col: u32,
+) -> Option<i128>
+    requires out { holds array.now.extent out ≡ true }
+    requires reach { reach ≡ reach_of array.now.extent mask.now out }
+    requires top { reach.top ≤ row }
+    requires bottom { row < reach.bottom }
+    requires left { reach.left ≤ col }
+    requires right { col < reach.right }
+    ensures value { result ≡ part_of array.now mask.now out (row * mask.now.cols + col) }
+    ensures bound { IfSome result (λ z. IsWithin 1 z) }
+{
+    let shape = array.shape();
+    a_shape_is_within_limits(&shape);
+    let rows = mask.rows / 2;
+    let cols = mask.cols / 2;
+    let row_under = out.row + row - rows;
+    let col_under = out.col + col - cols;
+    let index = row_under * shape.cols + col_under;
+    let weight = mask.weight(row * mask.cols + col);
+    times(weight, array.cells()[index as usize])
+}
+
+/// A weight times a value, and 0 where the weight is 0.
+fn times(weight: i64, value: Value) -> Option<i128>
+    requires { is_weight weight ≡ true }
+    ensures value { result ≡ times weight value }
+    ensures bound { IfSome result (λ z. IsWithin 1 z) }
+{
+    if weight == 0 {
+        return Some(0);
+    }
+    let value = value?;
+    Some(i128::from(weight) * i128::from(value))
+}
