@@ -1,0 +1,71 @@
+-- What is prepared is the component of each cell, and that of a high cell has the cell itself.
+use Rattle.std.proofs.Common.{◌≡◌, ◌<◌, ℕ, true, map, length, List, sym, ap, subst, ◌∙◌, arith}
+use Rattle.std.specs.Arc.{arc_value}
+use Rattle.sz_cells.specs.Extent.{Extent, index_of, holds, size_of}
+use Rattle.sz_cells.specs.Cells.{Cells, no_cells}
+use Rattle.sz_cells.proofs.Sets.{index-below}
+use Rattle.std.specs.Prelude.{ℤ}
+use Rattle.std.proofs.Common.{get_or}
+use Rattle.sz_cells.specs.declared.Cell.{Cell}
+use Rattle.sz_spec.specs.Values.{Grid, input_at}
+use Rattle.sz_spec.specs.Operators.Regions.{component_of}
+use Rattle.sz_ops_region.specs.Regions.{components_of}
+use Rattle.sz_ops_region.proofs.Labels.{aid-length, aid-at, full-high, none-low, grid-shape}
+use Rattle.sz_ops_region.proofs.work.Work.component.Goals as goal
+
+pub component-requires : goal.component-requires
+component-requires c =
+    let w = c.args.self.now in
+    let grids = map (λ a. arc_value a) w.inputs.now in
+    let g = input_at grids 0 in
+    let shape = grid-shape w.at.now grids w.t w.labels c.requires.right in
+    let many : length w.aid.now ≡ size_of g.extent = ap (λ (xs : List Cells). length xs) w.found ∙ aid-length w.t g in
+    omega (
+      arith,
+      many,
+      ap size_of shape,
+      index-below w.at.now.out c.args.out c.requires.out,
+      c.index.ensures.value,
+      ap (λ (e : Extent). index_of e c.args.out) c.out.ensures.value,
+    )
+
+-- the component that was prepared for the cell
+prepared : (t : ℤ) (g : Grid) (aid : List Cells) (e : Extent) (k : ℕ) (o : Cell) (d : Cells)
+    → aid ≡ components_of t g → g.extent ≡ e → k ≡ index_of e o → holds e o ≡ true
+    → get_or aid k d ≡ component_of t g o
+prepared t g aid e k o d found shape at held =
+    ap (λ (n : ℕ). get_or aid n d) (at ∙ ap (λ (f : Extent). index_of f o) (sym shape))
+    ∙ ap (λ (xs : List Cells). get_or xs (index_of g.extent o) d) found
+    ∙ aid-at t g o d (rw shape held)
+
+pub returns-in-Some-clause-value : goal.returns-in-Some-clause-value
+returns-in-Some-clause-value c =
+    let w = c.args.self.now in
+    let grids = map (λ a. arc_value a) w.inputs.now in
+    let shape = grid-shape w.at.now grids w.t w.labels c.requires.right in
+    let at = c.index.ensures.value ∙ ap (λ (e : Extent). index_of e c.args.out) c.out.ensures.value in
+    c.in-Some.ensures.some ∙ prepared w.t (input_at grids 0) w.aid.now w.at.now.out c.index.result c.args.out
+    c.in-Some.component.now w.found shape at c.requires.out
+
+pub returns-in-Some-clause-high : goal.returns-in-Some-clause-high
+returns-in-Some-clause-high c =
+    let w = c.args.self.now in
+    let grids = map (λ a. arc_value a) w.inputs.now in
+    let shape = grid-shape w.at.now grids w.t w.labels c.requires.right in
+    let at = c.index.ensures.value ∙ ap (λ (e : Extent). index_of e c.args.out) c.out.ensures.value in
+    let is = c.in-Some.ensures.some ∙ prepared w.t (input_at grids 0) w.aid.now w.at.now.out c.index.result c.args.out
+    c.in-Some.component.now w.found shape at c.requires.out in
+    sym (full-high w.t (input_at grids 0) c.args.out
+    (subst (λ (s : Cells). 0 < length s.indexes) is c.in-Some.ensures.full))
+
+pub returns-in-None-clause-high : goal.returns-in-None-clause-high
+returns-in-None-clause-high c =
+    let w = c.args.self.now in
+    let grids = map (λ a. arc_value a) w.inputs.now in
+    let g = input_at grids 0 in
+    let shape = grid-shape w.at.now grids w.t w.labels c.requires.right in
+    let at = c.index.ensures.value ∙ ap (λ (e : Extent). index_of e c.args.out) c.out.ensures.value in
+    let is = prepared w.t g w.aid.now w.at.now.out c.index.result c.args.out (no_cells g.extent) w.found shape at
+    c.requires.out in
+    sym (none-low w.t g c.args.out (rw shape c.requires.out) (ap (λ (s : Cells). s.indexes) (sym is)
+    ∙ c.in-None.ensures.none (no_cells g.extent)))

@@ -1,0 +1,5 @@
+pub mod Regions
+pub mod Filling
+pub mod Sides
+pub mod Sets
+pub mod Tracing

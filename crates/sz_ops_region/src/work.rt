@@ -1,0 +1,141 @@
+//! The operator at work over its input.
+
+ghost use Rattle.std.specs.Prelude.{◌≡◌, true, map, is_some, IfSome};
+ghost use Rattle.std.specs.Arc.{arc_value};
+ghost use Rattle.sz_cells.specs.Extent.{holds};
+ghost use Rattle.sz_cells.specs.Cells.{any_cell, has};
+ghost use Rattle.sz_spec.specs.Values.{input_at, extent_at};
+ghost use Rattle.sz_spec.specs.Shapes.{IsSite};
+ghost use Rattle.sz_spec.specs.LawsShapes.{AreExtents};
+ghost use Rattle.sz_spec.specs.declared.op.Op.TheVariants.{Regions};
+ghost use Rattle.sz_spec.specs.Operators.Regions.{is_high, component_of};
+ghost use Rattle.sz_region.specs.Images.{IsAtWork};
+ghost use Rattle.sz_ops_region.specs.Regions.{is_regions, components_of};
+
+use crate::aid::{Aid, Component};
+use std::alloc::Global;
+use std::sync::Arc;
+use sz_cells::{Cell, CellBits, CellSet, NoMemory, Shape};
+use sz_region::{AtWork, Payload};
+use sz_spec::{Array, Op, OpAt, Value};
+
+/// The operator with its shapes, its input, and the input's components.
+#[derive(Drop)]
+pub(crate) struct Work<'a> {
+    pub(crate) at: &'a OpAt,
+    pub(crate) inputs: &'a [Arc<Array>],
+    pub(crate) aid: &'a Aid,
+    pub(crate) t: i64,
+    ghost labels: { at.now.op ≡ Regions t },
+    ghost found: { aid.now ≡ components_of t (input_at (map (λ a. arc_value a) inputs.now) 0) },
+}
+
+impl<'a> AtWork for Work<'a> {
+    ghost site = { λ w. w.at.now };
+
+    ghost inputs = { λ w. map (λ a. arc_value a) w.inputs.now };
+
+    fn out(&self) -> Shape {
+        self.at.out()
+    }
+
+    fn arity(&self) -> u32 {
+        self.at.ins().len() as u32
+    }
+
+    fn value(&self, out: Cell, _index: u32) -> Value {
+        match self.component(out) {
+            Some(component) => Some(i64::from(component.label())),
+            None => Some(0),
+        }
+    }
+
+    fn back_into(&self, out: Cell, _input: u32, to: &mut CellBits) {
+        match self.component(out) {
+            Some(component) => to.add_set(component.cells()),
+            None => to.set(out),
+        }
+    }
+
+    fn meets(&self, out: Cell, _input: u32, from: &CellBits) -> bool {
+        from.shape(); // the set is that of its cells
+        match self.component(out) {
+            Some(component) => have_one(component.cells(), from),
+            None => from.has(out),
+        }
+    }
+
+    fn related_set(&self, alloc: Global, out: Cell, _input: u32) -> Result<Arc<CellSet>, NoMemory> {
+        match self.component(out) {
+            Some(component) => Ok(component.set()?),
+            None => {
+                let set = CellSet::from_cells(alloc, self.at.out(), &[out])?;
+                Ok(Arc::new(alloc, set)?)
+            }
+        }
+    }
+
+    fn payload(&self, alloc: Global, out: Cell) -> Result<Arc<Payload>, NoMemory> {
+        match self.component(out) {
+            Some(component) => Ok(component.payload()?),
+            None => Ok(Arc::new(alloc, Payload::of(Vec::new(alloc)))?),
+        }
+    }
+
+    fn overrides(&self, out: Cell) -> bool {
+        self.component(out).is_some()
+    }
+}
+
+impl<'a> Work<'a> {
+    /// The component of a cell. `None` exactly where the cell is not high.
+    pub(crate) fn component(&self, out: Cell) -> Option<&Component>
+        requires right { IsAtWork self.now.at.now (map (λ a. arc_value a) self.now.inputs.now) }
+        requires out { holds self.now.at.now.out out ≡ true }
+        ensures value { IfSome result (λ c. c.now ≡ component_of self.now.t
+            (input_at (map (λ a. arc_value a) self.now.inputs.now) 0) out) }
+        ensures high { is_some result ≡ is_high self.now.t
+            (input_at (map (λ a. arc_value a) self.now.inputs.now) 0) out }
+    {
+        match self.aid.component(self.at.out().index(out)) {
+            Some(component) => Some(component),
+            None => None,
+        }
+    }
+}
+
+/// Whether a set and a bitmap of one shape have a cell in common.
+///
+/// Takes time in the number of the shape's cells.
+fn have_one(set: &CellSet, from: &CellBits) -> bool
+    requires { from.now.extent ≡ set.now.extent }
+    ensures { result ≡ any_cell (has set.now) from.now }
+{
+    from.shape(); // the set is that of its cells
+    let shape = set.shape();
+    for index in 0..shape.size() {
+        let cell = shape.cell_at(index);
+        if from.has(cell) && set.has(cell) {
+            return true;
+        }
+    }
+    false
+}
+
+/// The least value that is high. Its caller knows from now on that the operator has one input, of
+/// the output's shape.
+pub(crate) fn threshold(at: &OpAt) -> i64
+    requires { is_regions at.now.op ≡ true }
+    ensures value { at.now.op ≡ Regions result }
+    ensures site { IsSite at.now }
+    ensures shape { extent_at at.now.ins 0 ≡ at.now.out }
+    ensures right { AreExtents at.now.ins }
+{
+    at.ins();
+    let shape = at.out();
+    let _ = &shape.rows; // a shape is within the limits
+    match at.op() {
+        Op::Regions { t } => *t,
+        _ => unreachable!(),
+    }
+}
