@@ -1,0 +1,3 @@
+-- Each file of definitions.
+pub mod Aids
+pub mod Maps

@@ -1,0 +1,155 @@
+//! The calls of all operators, each that of the operator's crate.
+
+ghost use Rattle.std.specs.Prelude.{◌≡◌, ◌<◌, ◌+◌, ◌^◌, true, length, map, All, IfOk, OnOk};
+ghost use Rattle.std.specs.Arc.{arc_value};
+ghost use Rattle.sz_cells.specs.Extent.{holds, size_of};
+ghost use Rattle.sz_cells.specs.Cells.{has, with_those};
+ghost use Rattle.sz_spec.specs.Values.{extents_of};
+ghost use Rattle.sz_spec.specs.Evaluation.{value_of, output_of};
+ghost use Rattle.sz_spec.specs.Lineage.{related, mapped};
+ghost use Rattle.sz_spec.specs.Modes.{has_mapping, supports};
+ghost use Rattle.sz_spec.specs.Pieces.{pieces_of};
+ghost use Rattle.sz_region.specs.Fits.{Fits};
+ghost use Rattle.sz_region.specs.Images.{near_side, far_side, image_in, measure_of};
+ghost use Rattle.sz_region.specs.Written.{cells_in_piece};
+ghost use Rattle.sz_ops.specs.Aids.{aid_of};
+
+use crate::aid::Aid;
+use crate::family::{Family, family_of};
+use std::alloc::Global;
+use std::sync::Arc;
+use sz_cells::{Cell, CellBits, NoMemory};
+use sz_region::PieceLineage;
+use sz_spec::{Array, Dir, OpAt, Strategy, Tally, Value};
+
+/// What is prepared for an operator and these inputs. For connected regions it takes time and
+/// memory in the number of cells, for the others none.
+pub fn prepare(alloc: Global, at: &OpAt, inputs: &[Arc<Array>]) -> Result<Aid, NoMemory>
+    requires inputs { extents_of (map (λ a. arc_value a) inputs.now) ≡ at.now.ins }
+    ensures { IfOk result (λ a. a ≡ aid_of at.now.op (map (λ a. arc_value a) inputs.now)) }
+{
+    match family_of(at.op()) {
+        Family::Regions => Ok(Aid::Components(sz_ops_region::prepare(alloc, at, inputs)?)),
+        Family::Local | Family::Moving | Family::Window => Ok(Aid::Nothing),
+    }
+}
+
+/// The value of an output cell, by what was prepared for these inputs. Takes no memory.
+pub fn value_at(at: &OpAt, inputs: &[Arc<Array>], aid: &Aid, cell: Cell) -> Value
+    requires inputs { extents_of (map (λ a. arc_value a) inputs.now) ≡ at.now.ins }
+    requires aid { aid.now ≡ aid_of at.now.op (map (λ a. arc_value a) inputs.now) }
+    requires cell { holds at.now.out cell ≡ true }
+    ensures { result ≡ value_of at.now.op (map (λ a. arc_value a) inputs.now) cell }
+{
+    match family_of(at.op()) {
+        Family::Local => sz_ops_local::value_at(at, inputs, &sz_ops_local::Aid, cell),
+        Family::Moving => sz_ops_move::value_at(at, inputs, &sz_ops_move::Aid, cell),
+        Family::Window => sz_ops_window::value_at(at, inputs, &sz_ops_window::Aid, cell),
+        Family::Regions => sz_ops_region::value_at(at, inputs, aid.components(at, inputs), cell),
+    }
+}
+
+/// The operator's output. One pass over its cells.
+pub fn run(alloc: Global, at: &OpAt, inputs: &[Arc<Array>]) -> Result<Array, NoMemory>
+    requires inputs { extents_of (map (λ a. arc_value a) inputs.now) ≡ at.now.ins }
+    ensures { IfOk result (λ a. a ≡ output_of at.now.op (map (λ a. arc_value a) inputs.now)) }
+{
+    match family_of(at.op()) {
+        Family::Local => sz_ops_local::run(alloc, at, inputs),
+        Family::Moving => sz_ops_move::run(alloc, at, inputs),
+        Family::Window => sz_ops_window::run(alloc, at, inputs),
+        Family::Regions => sz_ops_region::run(alloc, at, inputs),
+    }
+}
+
+/// The lineage of piece `k` of the output: the parts that the strategies of a list need. Each cell
+/// of the piece is looked at once, and counted.
+pub fn piece(
+    alloc: Global,
+    at: &OpAt,
+    inputs: &[Arc<Array>],
+    aid: &Aid,
+    k: u32,
+    list: &[Strategy],
+    tally: &mut Tally,
+) -> Result<PieceLineage, NoMemory>
+    requires inputs { extents_of (map (λ a. arc_value a) inputs.now) ≡ at.now.ins }
+    requires aid { aid.now ≡ aid_of at.now.op (map (λ a. arc_value a) inputs.now) }
+    requires piece { k < pieces_of at.now.out }
+    requires supported { All (λ s. supports at.now.op s ≡ true) list.now }
+    requires room { tally.old + cells_in_piece at.now.out k < 2 ^ 63 }
+    ensures piece { IfOk result (λ p. p.piece ≡ k) }
+    ensures fits { IfOk result
+        (λ p. Fits (measure_of at.now (map (λ a. arc_value a) inputs.now)) list.now k p) }
+    ensures ticks { OnOk result (tally.new ≡ tally.old + cells_in_piece at.now.out k) }
+{
+    match family_of(at.op()) {
+        Family::Local => {
+            sz_ops_local::piece(alloc, at, inputs, &sz_ops_local::Aid, k, list, tally)
+        }
+        Family::Moving => {
+            sz_ops_move::piece(alloc, at, inputs, &sz_ops_move::Aid, k, list, tally)
+        }
+        Family::Window => {
+            sz_ops_window::piece(alloc, at, inputs, &sz_ops_window::Aid, k, list, tally)
+        }
+        Family::Regions => {
+            sz_ops_region::piece(
+                alloc,
+                at,
+                inputs,
+                aid.components(at, inputs),
+                k,
+                list,
+                tally,
+            )
+        }
+    }
+}
+
+/// Adds the image of a set of cells by tracing: each output cell is looked at once, and counted.
+/// After `NoMemory`, `to` may hold some of the image and the tally may have risen.
+pub fn trace(
+    alloc: Global,
+    at: &OpAt,
+    inputs: &[Arc<Array>],
+    dir: Dir,
+    input: u32,
+    from: &CellBits,
+    to: &mut CellBits,
+    tally: &mut Tally,
+) -> Result<(), NoMemory>
+    requires inputs { extents_of (map (λ a. arc_value a) inputs.now) ≡ at.now.ins }
+    requires input { input < length at.now.ins }
+    requires from { from.now.extent ≡ near_side dir at.now input }
+    requires to { to.old.extent ≡ far_side dir at.now input }
+    requires room { tally.old + size_of at.now.out < 2 ^ 63 }
+    ensures to { OnOk result (to.new ≡ with_those to.old (has (image_in dir at.now input
+        (related at.now.op (map (λ a. arc_value a) inputs.now) input) from.now))) }
+    ensures ticks { OnOk result (tally.new ≡ tally.old + size_of at.now.out) }
+{
+    match family_of(at.op()) {
+        Family::Local => sz_ops_local::trace(at, inputs, dir, input, from, to, tally),
+        Family::Moving => sz_ops_move::trace(at, inputs, dir, input, from, to, tally),
+        Family::Window => sz_ops_window::trace(at, inputs, dir, input, from, to, tally),
+        Family::Regions => sz_ops_region::trace(alloc, at, inputs, dir, input, from, to, tally),
+    }
+}
+
+/// Adds the image of a set of cells by the mapping of an operator that has one. It goes by the
+/// cells of the set, never by those of the array, and takes no memory.
+pub fn image_by_map(at: &OpAt, dir: Dir, input: u32, from: &CellBits, to: &mut CellBits)
+    requires mapping { has_mapping at.now.op ≡ true }
+    requires input { input < length at.now.ins }
+    requires from { from.now.extent ≡ near_side dir at.now input }
+    requires to { to.old.extent ≡ far_side dir at.now input }
+    ensures { to.new ≡ with_those to.old
+        (has (image_in dir at.now input (mapped at.now.op at.now.ins input) from.now)) }
+{
+    match family_of(at.op()) {
+        Family::Local => sz_ops_local::image_by_map(at, dir, input, from, to),
+        Family::Moving => sz_ops_move::image_by_map(at, dir, input, from, to),
+        Family::Window => sz_ops_window::image_by_map(at, dir, input, from, to),
+        Family::Regions => unreachable!(),
+    }
+}
