@@ -1,0 +1,55 @@
+-- What a reader may take for granted of answers. Each law is proved of the definitions.
+use Rattle.std.specs.Prelude.{◌≡◌, ℕ, List, ◌∷◌, ◌++◌, map, length, true, Some, option_map}
+use Rattle.std.specs.List.{All, AllZip, slice_get}
+use Rattle.sz_cells.specs.Cells.{Cells}
+use Rattle.sz_spec.specs.declared.flow.Node.{Node}
+use Rattle.sz_spec.specs.declared.modes.Dir.{Dir}
+use Rattle.sz_spec.specs.Values.{Grid, extents_of}
+use Rattle.sz_spec.specs.Flows.{Graph}
+use Rattle.sz_spec.specs.Modes.{has_mapping}
+use Rattle.sz_spec.specs.Paths.{Step, are_joined, inputs_of, extent_of, start_extent, compose}
+use Rattle.sz_query.specs.Views.{View, by_map, by_trace, site_of, IsReady}
+use Rattle.sz_query.specs.Answers.{answered, AreSteps}
+
+-- views taken in two parts: the set is taken along the first, and what that gives along the second
+abbrev pub AnswersGoByParts : Type 0
+AnswersGoByParts = (dir : Dir) (views more : List View) (inputs rest : List ℕ) (set : Cells)
+    → length views ≡ length inputs
+    → answered dir (views ++ more) (inputs ++ rest) set
+    ≡ answered dir more rest (answered dir views inputs set)
+
+-- what makes a view stand for the relation of its operator over these inputs: the operator has a
+-- mapping, or the arrays that are traced are these
+abbrev pub IsFaithful : View → List Grid → Type 0
+IsFaithful (by_map s) inputs = has_mapping s.op ≡ true
+IsFaithful (by_trace s own) inputs = own ≡ inputs
+
+-- a view is one of a node of a flow, of which the base arrays and the outputs are given
+pub record IsOfNode (flow : Graph) (base outputs : List Grid) (n : ℕ) (v : View) : Type 0 where
+  pub op : option_map (λ (x : Node). x.op) (slice_get flow.nodes n) ≡ Some (site_of v).op
+  pub ins : (site_of v).ins ≡ extents_of (inputs_of flow base outputs n)
+  pub out : (site_of v).out ≡ extent_of outputs n
+  pub faithful : IsFaithful v (inputs_of flow base outputs n)
+
+-- each view is one of the node of the step at its place
+abbrev pub AreOfPath : Graph → List Grid → List Grid → List Step → List View → Type 0
+AreOfPath flow base outputs path views =
+    AllZip (λ (s : Step) (v : View). IsOfNode flow base outputs s.node v) path views
+
+-- by views of a path's nodes, the answer is the composed relation along the path
+abbrev pub AnswersAreTheComposedRelation : Type 0
+AnswersAreTheComposedRelation = (dir : Dir) (flow : Graph) (base outputs : List Grid)
+    (path : List Step) (views : List View) (set : Cells)
+    → AreOfPath flow base outputs path views
+    → answered dir views (map (λ (s : Step). s.input) path) set
+    ≡ compose dir flow base outputs path set
+
+-- along a joined path of a flow, by views of its nodes that can be used, each step can be taken
+-- from the shape to which the one before it leads, the first from that in which the path starts
+abbrev pub JoinedPathsAreSteps : Type 0
+JoinedPathsAreSteps = (dir : Dir) (flow : Graph) (base outputs : List Grid) (s : Step)
+    (path : List Step) (views : List View)
+    → are_joined dir flow (s ∷ path) ≡ true
+    → AreOfPath flow base outputs (s ∷ path) views → All IsReady views
+    → AreSteps dir views (map (λ (t : Step). t.input) (s ∷ path))
+    (start_extent dir flow base outputs s)

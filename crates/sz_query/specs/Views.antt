@@ -1,0 +1,57 @@
+-- Views of the nodes that a path goes through: how the lineage of each is looked at. A further kind
+-- of view is a further line in each table.
+use Rattle.std.specs.Prelude.{◌≡◌, ℕ, List, Bool, true}
+use Rattle.std.specs.Arc.{arc_value}
+use Rattle.sz_cells.specs.declared.Cell.{Cell}
+use Rattle.sz_cells.specs.Extent.{size_of}
+use Rattle.sz_cells.specs.Cells.{Cells}
+use Rattle.sz_spec.specs.declared.modes.Dir.{Dir}
+use Rattle.sz_spec.specs.declared.modes.Strategy.TheVariants as strategy
+use Rattle.sz_spec.specs.Values.{Grid, extents_of}
+use Rattle.sz_spec.specs.Shapes.{Site}
+use Rattle.sz_spec.specs.Lineage.{mapped, related}
+use Rattle.sz_region.specs.Images.{image_in}
+use Rattle.sz_spec.specs.Modes.{has_mapping}
+use Rattle.sz_query.specs.declared.views.NodeView.{NodeView}
+use Rattle.sz_query.specs.declared.views.NodeView.TheVariants.{Mapped, Traced}
+use Rattle.sz_query.specs.declared.used.Used.{Used}
+use Rattle.sz_query.specs.declared.used.Used.TheVariants as used
+
+-- an operator seen by its mapping, or at work over its inputs
+pub data View : Type 0 where
+  by_map : Site → View
+  by_trace : Site → List Grid → View
+
+-- what a view of the code stands for
+abbrev pub view_of : NodeView → View
+view_of (Mapped at) = by_map (arc_value at)
+view_of (Traced run) = by_trace (arc_value run.at) run.inputs
+
+-- the operator, at its shapes
+abbrev pub site_of : View → Site
+site_of (by_map s) = s
+site_of (by_trace s inputs) = s
+
+-- what a view needs so that it can be used: an operator with a mapping, or arrays of its shapes
+abbrev pub IsReady : View → Type 0
+IsReady (by_map s) = has_mapping s.op ≡ true
+IsReady (by_trace s inputs) = extents_of inputs ≡ s.ins
+
+-- output cell o is related to cell x of input i, as the view tells it
+abbrev pub relation_of : View → ℕ → Cell → Cell → Bool
+relation_of (by_map s) i o x = mapped s.op s.ins i o x
+relation_of (by_trace s inputs) i o x = related s.op inputs i o x
+
+-- how a step goes that uses the view
+abbrev pub used_of : View → Used
+used_of (by_map s) = used.By strategy.Map
+used_of (by_trace s inputs) = used.Traced
+
+-- how many output cells are looked at: all of a step that is traced
+abbrev pub traced_by : View → ℕ
+traced_by (by_map s) = 0
+traced_by (by_trace s inputs) = size_of s.out
+
+-- the image of a set under one step: by a view and one of its inputs
+abbrev pub image_by : Dir → View → ℕ → Cells → Cells
+image_by dir v i set = image_in dir (site_of v) i (relation_of v i) set

@@ -1,0 +1,22 @@
+//! Laws of answers, for a reader and for whoever holds a flow's outputs: each function has an empty
+//! body, and its contract is the law.
+
+ghost use Rattle.sz_query.specs.Laws.{AnswersGoByParts, AnswersAreTheComposedRelation};
+ghost use Rattle.sz_query.specs.Laws.{JoinedPathsAreSteps};
+
+/// The answer by views in two parts is the answer by the second part from that by the first.
+pub fn answers_go_by_parts()
+    ensures { AnswersGoByParts }
+{}
+
+/// By views of the nodes of a flow's path, each by the node's mapping or over the node's inputs,
+/// the answer is the composed relation along the path.
+pub fn answers_are_the_composed_relation()
+    ensures { AnswersAreTheComposedRelation }
+{}
+
+/// Along a joined path of a flow, by views of its nodes that can be used, the steps are as
+/// [`crate::answer`] needs them from a set of the shape in which the path starts.
+pub fn joined_paths_are_steps()
+    ensures { JoinedPathsAreSteps }
+{}

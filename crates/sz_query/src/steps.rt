@@ -1,0 +1,78 @@
+//! The steps of a path, one after the other.
+
+ghost use Rattle.std.specs.Prelude.{◌≡◌, ◌+◌, ◌<◌, ◌^◌, map, IfOk, OnOk};
+ghost use Rattle.sz_query.specs.Views.{view_of, used_of};
+ghost use Rattle.sz_query.specs.Answers.{answered, traced_of, AreSteps};
+ghost use Rattle.sz_query.specs.Sides.{empty_sides};
+
+use crate::used::UsedList;
+use crate::views::NodeView;
+use std::alloc::Global;
+use sz_cells::{CellBits, CellSet, NoMemory};
+use sz_spec::{Dir, Tally};
+
+/// An empty bitmap for each step, of the shape to which it leads.
+pub(crate) fn sides_of(
+    alloc: Global,
+    views: &[NodeView],
+    inputs: &[u32],
+    dir: Dir,
+    cells: &CellSet,
+) -> Result<Vec<CellBits>, NoMemory>
+    requires { AreSteps dir (map view_of views.now) inputs.now cells.now.extent }
+    ensures { IfOk result (λ s. s.items ≡ empty_sides dir (map view_of views.now) inputs.now) }
+{
+    let mut sides = Vec::with_capacity(alloc, views.len())?;
+    for index in 0..views.len() {
+        let shape = views[index].far_shape(dir, inputs[index]);
+        sides.push(CellBits::new(alloc, shape)?)?;
+    }
+    Ok(sides)
+}
+
+/// A bitmap with the cells of a set.
+pub(crate) fn bits_of(alloc: Global, cells: &CellSet) -> Result<CellBits, NoMemory>
+    ensures { IfOk result (λ b. b ≡ cells.now) }
+{
+    let mut bits = CellBits::new(alloc, cells.shape())?;
+    bits.add_set(cells);
+    Ok(bits)
+}
+
+/// Takes a set through all steps. `set` is the answer at last; each of `sides` is used once. After
+/// `NoMemory`, none of them is of use, nor is the tally.
+pub(crate) fn take_steps(
+    alloc: Global,
+    views: &[NodeView],
+    inputs: &[u32],
+    dir: Dir,
+    set: &mut CellBits,
+    sides: &mut [CellBits],
+    tally: &mut Tally,
+) -> Result<(), NoMemory>
+    requires steps { AreSteps dir (map view_of views.now) inputs.now set.old.extent }
+    requires sides { sides.old ≡ empty_sides dir (map view_of views.now) inputs.now }
+    requires room { tally.old + traced_of (map view_of views.now) < 2 ^ 63 }
+    ensures set { OnOk result
+        (set.new ≡ answered dir (map view_of views.now) inputs.now set.old) }
+    ensures ticks { OnOk result
+        (tally.new ≡ tally.old + traced_of (map view_of views.now)) }
+{
+    for index in 0..views.len() {
+        let side = &mut sides[index];
+        views[index].step_into(alloc, dir, inputs[index], set, side, tally)?;
+        std::mem::swap(set, side);
+    }
+    Ok(())
+}
+
+/// How each step goes.
+pub(crate) fn used_by(alloc: Global, views: &[NodeView]) -> Result<UsedList, NoMemory>
+    ensures { IfOk result (λ u. u ≡ map used_of (map view_of views.now)) }
+{
+    let mut items = Vec::with_capacity(alloc, views.len())?;
+    for index in 0..views.len() {
+        items.push(views[index].used())?;
+    }
+    Ok(UsedList::of(items))
+}
