@@ -1,0 +1,14 @@
+-- The files of lemmas and of worked rows.
+pub mod FieldsRead
+pub mod ItemsRead
+pub mod Lines
+pub mod Walks
+pub mod LayersRead
+pub mod TableRead
+pub mod KernelsRead
+pub mod LawsLines
+mod RowsTold
+mod RowsForms
+mod RowsRules
+mod RowsNodes
+mod RowsLayers

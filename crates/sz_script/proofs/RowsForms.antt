@@ -1,0 +1,131 @@
+-- Rows of lines that are commands, one of each form. Each is found by computing.
+use Rattle.std.specs.Prelude.{◌≡◌, ℕ, List, pos, negsuc, [], ◌∷◌, ◌++◌, codes, Some, None, Ok, Err}
+use Rattle.std.specs.Str.{is_utf8, chars}
+use Rattle.std.proofs.Common.{refl}
+use Rattle.serde_json.proofs.OnLiterals.{serde_json_on_literals}
+use Rattle.sz_spec.specs.declared.modes.Dir.TheVariants.{Back, Forward}
+use Rattle.sz_spec.specs.declared.modes.Strategy.TheVariants as strategy
+use Rattle.sz_spec.specs.declared.op.Op.TheVariants as op
+use Rattle.sz_spec.specs.declared.op.Fold.TheVariants as fold
+use Rattle.sz_spec.specs.declared.flow.SourceRef.TheVariants.{Input, Node}
+use Rattle.sz_script.specs.declared.command.Command.TheVariants as command
+use Rattle.sz_script.specs.declared.refusal.Refusal.TheVariants as refusal
+use Rattle.sz_script.specs.Reading.{reading}
+
+line-array : reading (codes "{\"array\":\"a\",\"cells\":[[5,null],[-1,0]]}")
+    ≡ Ok (command.Array (codes "a") (record {
+      extent = record { layers = 1; rows = 2; cols = 2 };
+      values = Some (pos 5) ∷ None ∷ Some (negsuc 0) ∷ Some (pos 0) ∷ [];
+    }))
+unfolding serde_json_on_literals is_utf8 chars
+line-array = refl
+
+line-layers : reading (codes "{\"layers\":\"a\",\"cells\":[[[1,2]],[[3,null]]]}")
+    ≡ Ok (command.Layers (codes "a") (record {
+      extent = record { layers = 2; rows = 2; cols = 2 };
+      values = Some (pos 1) ∷ Some (pos 2) ∷ Some (pos 3) ∷ None ∷ [];
+    }))
+unfolding serde_json_on_literals is_utf8 chars
+line-layers = refl
+
+line-flow : reading (codes "{\"flow\":\"f\",\"inputs\":1,\"nodes\":[{\"op\":\"neg\",\"from\":[{\"i\":0}]}]}")
+    ≡ Ok (command.Flow (codes "f") (record {
+      inputs = 1;
+      nodes = record { op = op.Neg; from = Input 0 ∷ [] } ∷ [];
+    }))
+unfolding serde_json_on_literals is_utf8 chars
+line-flow = refl
+
+line-strategy : reading (codes "{\"strategy\":\"f\",\"node\":2,\"list\":[\"full_many_b\",\"blackbox\"]}")
+    ≡ Ok (command.Strategy (codes "f") 2 (strategy.FullManyB ∷ strategy.BlackBox ∷ []))
+unfolding serde_json_on_literals is_utf8 chars
+line-strategy = refl
+
+line-start : reading (codes "{\"start\":\"f\",\"base\":[[\"a\",1],[\"b\",4294967295]]}")
+    ≡ Ok (command.Start (codes "f")
+    (record { name = codes "a"; version = 1 } ∷ record { name = codes "b"; version = 4294967295 } ∷ []))
+unfolding serde_json_on_literals is_utf8 chars
+line-start = refl
+
+line-await : reading (codes "{\"await\":1}") ≡ Ok (command.Await 1)
+unfolding serde_json_on_literals is_utf8 chars
+line-await = refl
+
+-- two numbers are a row and a column of layer 0, three begin with the layer
+line-ask : reading (codes "{\"ask\":1,\"dir\":\"back\",\"path\":[[3,1]],\"cells\":[[5,6],[7,8,9]]}")
+    ≡ Ok (command.Ask 1 Back (record { node = 3; input = 1 } ∷ [])
+    (record { layer = 0; row = 5; col = 6 } ∷ record { layer = 7; row = 8; col = 9 } ∷ []))
+unfolding serde_json_on_literals is_utf8 chars
+line-ask = refl
+
+line-explain : reading (codes "{\"explain\":1,\"dir\":\"forward\",\"path\":[],\"cells\":[]}")
+    ≡ Ok (command.Explain 1 Forward [] [])
+unfolding serde_json_on_literals is_utf8 chars
+line-explain = refl
+
+line-show : reading (codes "{\"show\":1,\"node\":2}") ≡ Ok (command.Show 1 2)
+unfolding serde_json_on_literals is_utf8 chars
+line-show = refl
+
+-- bytes that are no UTF-8
+line-no_utf8 : reading (34 ∷ 255 ∷ 34 ∷ []) ≡ Err refusal.NoJson
+unfolding serde_json_on_literals is_utf8 chars
+line-no_utf8 = refl
+
+-- ---- the values of parameters
+
+-- the beginning of a flow of one base array, up to its nodes
+abbrev one_base : List ℕ
+one_base = codes "{\"flow\":\"f\",\"inputs\":1,\"nodes\":["
+
+node-add_k : reading (one_base
+    ++ codes "{\"op\":\"add_k\",\"k\":-2,\"from\":[{\"i\":0}]}]}")
+    ≡ Ok (command.Flow (codes "f") (record {
+      inputs = 1;
+      nodes = record { op = op.AddK (negsuc 1); from = Input 0 ∷ [] } ∷ [];
+    }))
+unfolding serde_json_on_literals is_utf8 chars
+node-add_k = refl
+
+node-second : reading (one_base
+    ++ codes "{\"op\":\"clip\",\"hi\":5,\"lo\":-2,\"from\":[{\"i\":0}]},"
+    ++ codes "{\"op\":\"sub\",\"from\":[{\"n\":0},{\"i\":0}]}]}")
+    ≡ Ok (command.Flow (codes "f") (record {
+      inputs = 1;
+      nodes =
+          record { op = op.Clip (negsuc 1) (pos 5); from = Input 0 ∷ [] }
+          ∷ record { op = op.Sub; from = Node 0 ∷ Input 0 ∷ [] } ∷ [];
+    }))
+unfolding serde_json_on_literals is_utf8 chars
+node-second = refl
+
+node-slice : reading (one_base
+    ++ codes "{\"op\":\"slice\",\"r0\":1,\"c0\":2,\"h\":3,\"w\":4,\"from\":[{\"i\":0}]}]}")
+    ≡ Ok (command.Flow (codes "f") (record {
+      inputs = 1;
+      nodes = record { op = op.Slice 1 2 3 4; from = Input 0 ∷ [] } ∷ [];
+    }))
+unfolding serde_json_on_literals is_utf8 chars
+node-slice = refl
+
+node-block : reading (one_base
+    ++ codes "{\"op\":\"block\",\"fold\":\"max\",\"h\":3,\"w\":4,\"from\":[{\"i\":0}]}]}")
+    ≡ Ok (command.Flow (codes "f") (record {
+      inputs = 1;
+      nodes = record { op = op.Block fold.Max 3 4; from = Input 0 ∷ [] } ∷ [];
+    }))
+unfolding serde_json_on_literals is_utf8 chars
+node-block = refl
+
+node-convolve : reading (one_base
+    ++ codes "{\"op\":\"convolve\",\"kernel\":[[1,0,-1]],\"from\":[{\"i\":0}]}]}")
+    ≡ Ok (command.Flow (codes "f") (record {
+      inputs = 1;
+      nodes =
+          record {
+            op = op.Convolve (record { rows = 1; cols = 3; weights = pos 1 ∷ pos 0 ∷ negsuc 0 ∷ [] });
+            from = Input 0 ∷ [];
+          } ∷ [];
+    }))
+unfolding serde_json_on_literals is_utf8 chars
+node-convolve = refl

@@ -1,0 +1,16 @@
+-- {"explain":U,"dir":DIR,"path":[[U,U],..],"cells":[CELL,..]}: by which ways an ask goes.
+use Rattle.std.specs.Prelude.{codes, option_map}
+use Rattle.sz_script.specs.Questions.{question_fields, question_in}
+use Rattle.sz_script.specs.declared.forms.question.Question.{Question}
+use Rattle.sz_script.specs.Drafts.{Draft, plain}
+use Rattle.sz_script.specs.Form.{Form}
+use Rattle.sz_script.specs.declared.command.Command.TheVariants as command
+
+abbrev pub as_explain : Question → Draft
+as_explain q = plain (command.Explain q.version q.dir q.path q.cells)
+
+abbrev pub explain_form : Form
+explain_form = record {
+  fields = question_fields (codes "explain");
+  draft = λ d. option_map as_explain (question_in (codes "explain") d);
+}

@@ -1,0 +1,58 @@
+//! The table of forms, with a file for each.
+
+mod array;
+mod ask;
+mod awaiting;
+mod explain;
+mod flow;
+mod layers;
+mod question;
+mod show;
+mod start;
+mod strategy;
+
+ghost use Rattle.std.specs.Prelude.{◌≡◌};
+ghost use Rattle.serde_json.specs.View.{view};
+ghost use Rattle.sz_script.specs.Drafts.{judged_or_none};
+ghost use Rattle.sz_script.specs.Forms.{draft_of};
+ghost use Rattle.sz_script.specs.Reading.{Reads};
+
+use crate::command::{Command, LineFault};
+use crate::fields::has_fields;
+use crate::refusal::Refusal;
+use serde_json::Value;
+use std::alloc::Global;
+
+/// The command that a value is, by the first form whose fields it has, or the rule that refuses it.
+pub fn command_of(alloc: Global, value: &Value) -> Result<Command, LineFault>
+    ensures { Reads (judged_or_none (draft_of (view value.now))) result }
+{
+    if has_fields(value, &["array", "cells"]) {
+        return array::read(alloc, value);
+    }
+    if has_fields(value, &["layers", "cells"]) {
+        return layers::read(alloc, value);
+    }
+    if has_fields(value, &["flow", "inputs", "nodes"]) {
+        return flow::read(alloc, value);
+    }
+    if has_fields(value, &["strategy", "node", "list"]) {
+        return strategy::read(alloc, value);
+    }
+    if has_fields(value, &["start", "base"]) {
+        return start::read(alloc, value);
+    }
+    if has_fields(value, &["await"]) {
+        return awaiting::read(value);
+    }
+    if has_fields(value, &["ask", "dir", "path", "cells"]) {
+        return ask::read(alloc, value);
+    }
+    if has_fields(value, &["explain", "dir", "path", "cells"]) {
+        return explain::read(alloc, value);
+    }
+    if has_fields(value, &["show", "node"]) {
+        return show::read(value);
+    }
+    Err(LineFault::Refused(Refusal::NoForm))
+}

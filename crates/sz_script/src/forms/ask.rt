@@ -1,0 +1,27 @@
+//! {"ask":U,"dir":DIR,"path":[[U,U],..],"cells":[CELL,..]}
+
+ghost use Rattle.std.specs.Prelude.{◌≡◌};
+ghost use Rattle.serde_json.specs.View.{view};
+ghost use Rattle.sz_script.specs.Drafts.{judged_or_none};
+ghost use Rattle.sz_script.specs.Forms.Ask.{ask_form};
+ghost use Rattle.sz_script.specs.Reading.{Reads};
+
+use super::question::question_of;
+use crate::command::{Command, LineFault};
+use crate::refusal::Refusal;
+use serde_json::Value;
+use std::alloc::Global;
+
+pub fn read(alloc: Global, value: &Value) -> Result<Command, LineFault>
+    ensures { Reads (judged_or_none (ask_form.draft (view value.now))) result }
+{
+    match question_of(alloc, value, "ask")? {
+        Some(q) => Ok(Command::Ask {
+            version: q.version,
+            dir: q.dir,
+            path: q.path,
+            cells: q.cells,
+        }),
+        None => Err(LineFault::Refused(Refusal::NoForm)),
+    }
+}

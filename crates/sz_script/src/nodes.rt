@@ -1,0 +1,219 @@
+//! Nodes of a flow: a table of operators by their words, and each one's parameters.
+
+ghost use Rattle.std.specs.Prelude.{◌≡◌, ◌∷◌, codes, map, option_map, IfOk};
+ghost use Rattle.serde_json.specs.View.{view};
+ghost use Rattle.sz_script.specs.Fields.{each_of, at};
+ghost use Rattle.sz_script.specs.Words.{fold_in};
+ghost use Rattle.sz_script.specs.Nodes.{has_parameters, alone, one_whole, clip_in, sides_in};
+ghost use Rattle.sz_script.specs.Nodes.{slice_in, block_in, fold_layers_in, convolve_in, operators};
+ghost use Rattle.sz_script.specs.Nodes.{op_by, op_in, source_in, node_in};
+
+use crate::{fields, kernels, words};
+use serde_json::Value;
+use std::alloc::{AllocError, Global};
+use sz_spec::{Fold, Node, Op, SourceList, SourceRef};
+
+/// [NODE,..]
+pub fn nodes_of(alloc: Global, list: &[Value]) -> Result<Option<Vec<Node>>, AllocError>
+    ensures { IfOk result (λ o. option_map (λ v. v.items) o
+        ≡ each_of node_in (map view list.now)) }
+{
+    let mut nodes = Vec::new(alloc);
+    for item in list {
+        let Some(node) = node_of(alloc, item)? else {
+            return Ok(None);
+        };
+        nodes.push(node)?;
+    }
+    Ok(Some(nodes))
+}
+
+/// {"op":WORD,"from":[SOURCE,..]} and the operator's parameters
+fn node_of(alloc: Global, value: &Value) -> Result<Option<Node>, AllocError>
+    ensures { IfOk result (λ o. o ≡ node_in (view value.now)) }
+{
+    let Some(op) = op_of(alloc, value)? else {
+        return Ok(None);
+    };
+    let Some(list) = fields::list_at(value, "from") else {
+        return Ok(None);
+    };
+    let Some(from) = sources_of(alloc, list)? else {
+        return Ok(None);
+    };
+    Ok(Some(Node {
+        op,
+        from: SourceList::of(from),
+    }))
+}
+
+/// [SOURCE,..]
+fn sources_of(alloc: Global, list: &[Value]) -> Result<Option<Vec<SourceRef>>, AllocError>
+    ensures { IfOk result (λ o. option_map (λ v. v.items) o
+        ≡ each_of source_in (map view list.now)) }
+{
+    let mut from = Vec::new(alloc);
+    for item in list {
+        let Some(source) = source_of(item) else {
+            return Ok(None);
+        };
+        from.push(source)?;
+    }
+    Ok(Some(from))
+}
+
+/// {"i":U} or {"n":U}
+fn source_of(value: &Value) -> Option<SourceRef>
+    ensures { result ≡ source_in (view value.now) }
+{
+    if fields::has_fields(value, &["i"]) {
+        return match fields::number_at(value, "i") {
+            Some(input) => Some(SourceRef::Input(input)),
+            None => None,
+        };
+    }
+    if !fields::has_fields(value, &["n"]) {
+        return None;
+    }
+    match fields::number_at(value, "n") {
+        Some(node) => Some(SourceRef::Node(node)),
+        None => None,
+    }
+}
+
+/// The operator of a node, by its word.
+fn op_of(alloc: Global, value: &Value) -> Result<Option<Op>, AllocError>
+    ensures { IfOk result (λ o. o ≡ op_in (view value.now)) }
+{
+    match fields::text_at(value, "op") {
+        Some(word) => op_by(alloc, word, value),
+        None => Ok(None),
+    }
+}
+
+/// The table of operators: the operator of this word with the parameters of the node.
+fn op_by(alloc: Global, word: &str, value: &Value) -> Result<Option<Op>, AllocError>
+    ensures { IfOk result (λ o. o ≡ op_by operators word.now (view value.now)) }
+{
+    match word {
+        "neg" => Ok(alone(value, Op::Neg)),
+        "abs" => Ok(alone(value, Op::Abs)),
+        "add" => Ok(alone(value, Op::Add)),
+        "sub" => Ok(alone(value, Op::Sub)),
+        "mul" => Ok(alone(value, Op::Mul)),
+        "min" => Ok(alone(value, Op::Min)),
+        "max" => Ok(alone(value, Op::Max)),
+        "transpose" => Ok(alone(value, Op::Transpose)),
+        "lookup" => Ok(alone(value, Op::Lookup)),
+        "add_k" => Ok(one_whole(value, "k").map(|k| Op::AddK { k })),
+        "mul_k" => Ok(one_whole(value, "k").map(|k| Op::MulK { k })),
+        "regions" => Ok(one_whole(value, "t").map(|t| Op::Regions { t })),
+        "clean" => Ok(one_whole(value, "t").map(|t| Op::Clean { t })),
+        "clip" => Ok(clip_of(value)),
+        "slice" => Ok(slice_of(value)),
+        "block" => Ok(block_of(value)),
+        "fold_layers" => Ok(fold_layers_of(value)),
+        "convolve" => convolve_of(alloc, value),
+        _ => Ok(None),
+    }
+}
+
+/// An operator without parameters.
+fn alone(value: &Value, op: Op) -> Option<Op>
+    ensures { result ≡ alone op (view value.now) }
+{
+    if fields::has_fields(value, &["op", "from"]) {
+        Some(op)
+    } else {
+        None
+    }
+}
+
+/// The parameter of an operator that has one, a whole number.
+fn one_whole(value: &Value, key: &str) -> Option<i64>
+    ensures { result ≡ one_whole key.now (view value.now) }
+{
+    if fields::has_fields(value, &["op", "from", key]) {
+        fields::whole_at(value, key)
+    } else {
+        None
+    }
+}
+
+fn clip_of(value: &Value) -> Option<Op>
+    ensures { result ≡ clip_in (view value.now) }
+{
+    if !fields::has_fields(value, &["op", "from", "lo", "hi"]) {
+        return None;
+    }
+    let lo = fields::whole_at(value, "lo")?;
+    let hi = fields::whole_at(value, "hi")?;
+    Some(Op::Clip { lo, hi })
+}
+
+fn slice_of(value: &Value) -> Option<Op>
+    ensures { result ≡ slice_in (view value.now) }
+{
+    if !fields::has_fields(value, &["op", "from", "r0", "c0", "h", "w"]) {
+        return None;
+    }
+    let r0 = fields::number_at(value, "r0")?;
+    let c0 = fields::number_at(value, "c0")?;
+    let (h, w) = sides_of(value)?;
+    Some(Op::Slice { r0, c0, h, w })
+}
+
+/// How high and how wide.
+fn sides_of(value: &Value) -> Option<(u32, u32)>
+    ensures { result ≡ sides_in (view value.now) }
+{
+    let h = fields::number_at(value, "h")?;
+    let w = fields::number_at(value, "w")?;
+    Some((h, w))
+}
+
+fn block_of(value: &Value) -> Option<Op>
+    ensures { result ≡ block_in (view value.now) }
+{
+    if !fields::has_fields(value, &["op", "from", "fold", "h", "w"]) {
+        return None;
+    }
+    let fold = fold_at(value, "fold")?;
+    let (h, w) = sides_of(value)?;
+    Some(Op::Block { fold, h, w })
+}
+
+fn fold_layers_of(value: &Value) -> Option<Op>
+    ensures { result ≡ fold_layers_in (view value.now) }
+{
+    if !fields::has_fields(value, &["op", "from", "fold"]) {
+        return None;
+    }
+    let fold = fold_at(value, "fold")?;
+    Some(Op::FoldLayers { fold })
+}
+
+/// The fold of a field, by its word.
+fn fold_at(value: &Value, key: &str) -> Option<Fold>
+    ensures { result ≡ at fold_in key.now (view value.now) }
+{
+    match fields::text_at(value, key) {
+        Some(word) => words::fold_named(word),
+        None => None,
+    }
+}
+
+fn convolve_of(alloc: Global, value: &Value) -> Result<Option<Op>, AllocError>
+    ensures { IfOk result (λ o. o ≡ convolve_in (view value.now)) }
+{
+    if !fields::has_fields(value, &["op", "from", "kernel"]) {
+        return Ok(None);
+    }
+    let Some(rows) = fields::list_at(value, "kernel") else {
+        return Ok(None);
+    };
+    let Some(kernel) = kernels::kernel_of(alloc, rows)? else {
+        return Ok(None);
+    };
+    Ok(Some(Op::Convolve { kernel }))
+}
