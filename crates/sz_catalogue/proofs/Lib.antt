@@ -1,0 +1,14 @@
+-- The files of lemmas and of worked rows.
+pub mod Names
+pub mod OutputShapes
+pub mod ByName
+pub mod NodeLists
+pub mod Runs
+pub mod Numbers
+pub mod Texts
+pub mod Bases
+pub mod Counts
+pub mod Judging
+pub mod Refusals
+pub mod PathStarts
+mod Rows

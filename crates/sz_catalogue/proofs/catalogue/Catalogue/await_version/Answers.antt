@@ -1,0 +1,21 @@
+-- The outputs of a version that is awaited stay.
+use Rattle.std.proofs.Common.{ap, sym, ◌∙◌}
+use Rattle.sz_script.specs.declared.command.Command.TheVariants as order
+use Rattle.sz_catalogue.specs.Holdings.{Holdings}
+use Rattle.sz_catalogue.specs.Rules.{judged}
+use Rattle.sz_catalogue.proofs.Counts.{await-cells}
+use Rattle.sz_catalogue.proofs.catalogue.Catalogue.await_version.Goals as goal
+
+pub invariant_of-self : goal.invariant_of-self
+invariant_of-self c =
+    let held : Holdings = record {
+      arrays = c.self.inside.arrays;
+      flows = c.self.inside.flows;
+      versions = c.self.inside.versions;
+    } in
+    let taken = ap (λ (h : Holdings). judged h (order.Await c.args.number)) c.self.view_is ∙ c.requires in
+    rw c.note_await.ensures (record {
+      counted = c.self.invariant.counted ∙ sym (await-cells held c.args.number taken);
+      few_cells = c.self.invariant.few_cells;
+      few_arrays = c.self.invariant.few_arrays;
+    })

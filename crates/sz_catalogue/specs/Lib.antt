@@ -1,0 +1,9 @@
+-- The files of definitions, the lower ones first.
+pub mod Holdings
+pub mod Starts
+pub mod Rules
+pub mod Responses
+pub mod Changes
+pub mod Kept
+pub mod Seen
+pub mod Laws

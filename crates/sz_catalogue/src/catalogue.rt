@@ -1,0 +1,128 @@
+//! What a session holds. Contracts see a catalogue as its `Holdings`.
+mod accepting;
+mod judging;
+
+ghost use Rattle.std.specs.Prelude.{◌≡◌, ◌≤◌, ℕ, true, length, map, option_map, Some, None, All};
+ghost use Rattle.std.specs.Prelude.{IfOk, OnOk, OnErr, if◌then◌else◌};
+ghost use Rattle.std.specs.Arc.{arc_value};
+ghost use Rattle.std.specs.Option.{option_copied};
+ghost use Rattle.std.specs.Result.{result_err};
+ghost use Rattle.sz_spec.specs.Flows.{is_well_formed};
+ghost use Rattle.sz_spec.specs.FlowShapes.{output_shapes};
+ghost use Rattle.sz_script.specs.declared.command.Command.TheVariants as order;
+ghost use Rattle.sz_script.specs.declared.refusal.Refusal.TheVariants as rule;
+ghost use Rattle.sz_script.specs.Right.{is_right};
+ghost use Rattle.sz_catalogue.specs.Holdings.{no_holdings, array_version, flow_named};
+ghost use Rattle.sz_catalogue.specs.Holdings.{version_numbered, shapes_of, cells_of, output_cells};
+ghost use Rattle.sz_catalogue.specs.Starts.{bases_of};
+ghost use Rattle.sz_catalogue.specs.Rules as rules;
+ghost use Rattle.sz_catalogue.specs.Changes.{accepted, with_version};
+ghost use Rattle.sz_catalogue.specs.Seen.{response_of, Judges};
+
+use crate::arrays::HeldArrays;
+use crate::flows::{HeldFlow, HeldFlows};
+use crate::lists::BaseArrays;
+use crate::memory::{another_flow, another_owner, own_name};
+use crate::paths::is_joined;
+use crate::reply::Reply;
+use crate::shapes::{cells_of, output_shapes};
+use crate::strategies::{is_list_of, names_a_store};
+use crate::version::{BaseArray, HeldVersion, Run};
+use crate::versions::HeldVersions;
+use std::alloc::Global;
+use std::marker::Model;
+use std::sync::Arc;
+use sz_cells::{NoMemory, Shape};
+use sz_script::{BaseName, Command, LineFault, Name, PathStep, Place, Refusal, StrategyList};
+use sz_spec::{Array, Dir, Flow, Strategy};
+
+/// Everything held: arrays and flows by name, and versions by number.
+#[derive(Drop)]
+pub struct Catalogue {
+    arrays: HeldArrays,
+    flows: HeldFlows,
+    versions: HeldVersions,
+    cells: u64,
+    alloc: Global,
+}
+
+impl Model for Catalogue {
+    ghost use Rattle.sz_catalogue.specs.Holdings.{Holdings};
+    ghost use Rattle.sz_catalogue.specs.Kept.{KeepsLimits};
+
+    ghost Value = { Holdings };
+
+    ghost view = { λ c. record { arrays = c.arrays; flows = c.flows; versions = c.versions } };
+
+    ghost invariant = { λ c. KeepsLimits c.cells (record {
+      arrays = c.arrays;
+      flows = c.flows;
+      versions = c.versions;
+    }) };
+}
+
+/// The most arrays that are held.
+const MOST_ARRAYS: usize = 4_096;
+
+/// The most flows that are held.
+const MOST_FLOWS: usize = 1_024;
+
+/// The most versions that are held.
+const MOST_VERSIONS: usize = 4_096;
+
+/// The most cells that the arrays and the versions' outputs have together.
+const MOST_CELLS: u64 = 4_194_304;
+
+/// The greatest number of a version.
+const GREATEST_NUMBER: u64 = 4_294_967_295;
+
+impl Catalogue {
+    /// The catalogue that holds nothing. Takes no memory.
+    pub fn new(alloc: Global) -> Catalogue
+        ensures { result ≡ no_holdings }
+    {
+        Catalogue {
+            arrays: HeldArrays::new(alloc),
+            flows: HeldFlows::new(alloc),
+            versions: HeldVersions::new(alloc),
+            cells: 0,
+            alloc,
+        }
+    }
+
+    /// The flow of a name. Logarithmic in the names, and takes no memory.
+    pub fn flow(&self, name: &str) -> Option<&Arc<Flow>>
+        ensures { option_map (λ f. arc_value f.now) result
+            ≡ option_map (λ w. w.graph) (flow_named self.now name.now) }
+    {
+        match self.flows.get(name) {
+            Some(held) => Some(held.flow()),
+            None => None,
+        }
+    }
+
+    /// The array of a name and a version, from 1. Logarithmic in the names, and takes no memory.
+    pub fn array(&self, name: &str, version: u32) -> Option<&Arc<Array>>
+        ensures { option_map (λ a. arc_value a.now) result
+            ≡ array_version self.now name.now version }
+    {
+        self.arrays.get(name, version)
+    }
+
+    /// The version of a number. Logarithmic in the versions, and takes no memory.
+    pub fn version(&self, number: u32) -> Option<&HeldVersion>
+        ensures { option_copied result ≡ version_numbered self.now number }
+    {
+        match self.versions.get(number) {
+            Some(run) => Some(run.version()),
+            None => None,
+        }
+    }
+
+    /// Whether a further version is held whose outputs have so many cells. Takes no memory.
+    pub fn has_room(&self, cells: u64) -> bool
+        ensures { result ≡ rules.has_room self.now cells }
+    {
+        self.versions.len() < MOST_VERSIONS && cells <= MOST_CELLS - self.cells
+    }
+}

@@ -1,0 +1,208 @@
+//! What commands that no rule refuses change.
+ghost use Rattle.std.specs.Prelude.{◌≡◌, ◌≤◌, true, is_some, [], ◌++◌, length, Some, None, All};
+ghost use Rattle.std.specs.Prelude.{option_map, IfOk, OnOk, OnErr};
+ghost use Rattle.std.specs.List.{cons_option};
+ghost use Rattle.std.specs.Result.{result_err};
+ghost use Rattle.sz_spec.specs.Flows.{is_well_formed};
+ghost use Rattle.sz_spec.specs.FlowShapes.{output_shapes};
+ghost use Rattle.sz_script.specs.declared.command.Command.TheVariants as order;
+ghost use Rattle.sz_script.specs.Right.{is_right};
+ghost use Rattle.sz_catalogue.specs.Holdings.{array_version, flow_named, version_numbered};
+ghost use Rattle.sz_catalogue.specs.Holdings.{shapes_of, output_cells};
+ghost use Rattle.sz_catalogue.specs.Starts.{base_of, bases_of, workflow_of, version_started};
+ghost use Rattle.sz_catalogue.specs.Rules.{judged, has_room, are_lists_for};
+ghost use Rattle.sz_catalogue.specs.Changes.{accepted, changes_what_is_held, with_version};
+ghost use Rattle.sz_catalogue.specs.Seen.{response_of};
+
+use super::Catalogue;
+use crate::flows::HeldFlow;
+use crate::lists::BaseArrays;
+use crate::memory::{another_flow, another_owner, own_name};
+use crate::reply::Reply;
+use crate::shapes::cells_of;
+use crate::version::{BaseArray, HeldVersion, Run};
+use sz_cells::NoMemory;
+use sz_script::{BaseName, Command, Name, StrategyList};
+use sz_spec::{Array, Flow};
+
+impl Catalogue {
+    /// Takes a command that changes what is held and that no rule refuses. Without memory nothing
+    /// is changed.
+    ///
+    /// Takes time in the command, in the flow for a start, and in the logarithm of what is held.
+    pub fn accept(&mut self, command: Command) -> Result<Reply, NoMemory>
+        requires right { is_right command ≡ true }
+        requires judged { judged self.old command ≡ None }
+        requires changes { changes_what_is_held command ≡ true }
+        ensures ok { IfOk result (λ r. (self.new, response_of r) ≡ accepted self.old command) }
+        ensures err { OnErr result (self.new ≡ self.old) }
+    {
+        match command {
+            Command::Array { name, array } => self.hold_array(name, array),
+            Command::Layers { name, array } => self.hold_array(name, array),
+            Command::Flow { name, flow } => self.hold_flow(name, flow),
+            Command::Strategy { name, node, list } => Ok(self.set_list(name, node, list)),
+            Command::Start { name, base } => self.start(name, base.as_slice()),
+            Command::Await { version } => Ok(self.await_version(version)),
+            _ => unreachable!(),
+        }
+    }
+
+    /// Holds an array as the next version of a name.
+    fn hold_array(&mut self, name: Name, array: Array) -> Result<Reply, NoMemory>
+        requires { judged self.old (order.Array name array) ≡ None }
+        ensures ok { IfOk result
+            (λ r. (self.new, response_of r) ≡ accepted self.old (order.Array name array)) }
+        ensures err { OnErr result (self.new ≡ self.old) }
+    {
+        let size = u64::from(array.shape().size());
+        let version = self.arrays.push(self.alloc, name.as_str(), array)?;
+        self.cells += size;
+        Ok(Reply::Array {
+            name,
+            version: version as u32,
+        })
+    }
+
+    /// Holds a flow under a name that no flow has.
+    fn hold_flow(&mut self, name: Name, flow: Flow) -> Result<Reply, NoMemory>
+        requires { is_well_formed flow ≡ true }
+        ensures ok { IfOk result
+            (λ r. (self.new, response_of r) ≡ accepted self.old (order.Flow name flow)) }
+        ensures err { OnErr result (self.new ≡ self.old) }
+    {
+        let held = HeldFlow::make(self.alloc, flow)?;
+        self.flows.push(self.alloc, name.as_str(), held)?;
+        Ok(Reply::Flow { name })
+    }
+
+    /// Sets the list of a node of a flow.
+    fn set_list(&mut self, name: Name, node: u32, list: StrategyList) -> Reply
+        requires { judged self.old (order.Strategy name node list) ≡ None }
+        ensures { (self.new, response_of result)
+            ≡ accepted self.old (order.Strategy name node list) }
+    {
+        self.flows.set_list(name.as_str(), node, list);
+        Reply::Strategy { name, node }
+    }
+
+    /// Starts a version of a flow.
+    fn start(&mut self, name: Name, base: &[BaseName]) -> Result<Reply, NoMemory>
+        requires { judged self.old (order.Start name base.now) ≡ None }
+        ensures ok { IfOk result
+            (λ r. (self.new, response_of r) ≡ accepted self.old (order.Start name base.now)) }
+        ensures err { OnErr result (self.new ≡ self.old) }
+    {
+        let number = self.versions.next_number() as u32;
+        let version = self.version_started(name, base)?;
+        self.add(number, version)?;
+        Ok(Reply::Started { version: number })
+    }
+
+    /// The version that a start makes.
+    fn version_started(&self, name: Name, base: &[BaseName]) -> Result<HeldVersion, NoMemory>
+        requires { is_some (flow_named self.now name) ≡ true }
+        ensures started { IfOk result (λ v. v ≡ version_started self.now name base.now) }
+        ensures right { OnOk result (is_well_formed (workflow_of self.now name).graph ≡ true) }
+        ensures lists { OnOk result (are_lists_for (workflow_of self.now name).graph.nodes
+            (workflow_of self.now name).lists ≡ true) }
+    {
+        let Some(held) = self.flows.get(name.as_str()) else {
+            unreachable!()
+        };
+        let flow = another_flow(held.flow())?;
+        let lists = held.lists().copy(self.alloc)?;
+        let base = self.arrays_named(base)?;
+        Ok(HeldVersion {
+            flow_name: name,
+            flow,
+            base,
+            lists,
+            awaited: false,
+        })
+    }
+
+    /// The base arrays that are held.
+    fn arrays_named(&self, base: &[BaseName]) -> Result<BaseArrays, NoMemory>
+        ensures { IfOk result (λ b. b ≡ bases_of self.now base.now) }
+    {
+        let mut arrays = Vec::with_capacity(self.alloc, base.len())?;
+        for only in base {
+            self.push_named(&mut arrays, only)?;
+        }
+        Ok(BaseArrays::of(arrays))
+    }
+
+    /// Adds a base array, where it is held.
+    fn push_named(&self, arrays: &mut Vec<BaseArray>, only: &BaseName) -> Result<(), NoMemory>
+        ensures { OnOk result (arrays.new.items
+            ≡ arrays.old.items ++ cons_option (base_of self.now only.now) []) }
+    {
+        let Some(array) = self.array(only.name.as_str(), only.version) else {
+            return Ok(());
+        };
+        let name = own_name(self.alloc, only.name.as_str())?;
+        let array = another_owner(array)?;
+        let version = only.version;
+        arrays.push(BaseArray {
+            name,
+            version,
+            array,
+        })?;
+        Ok(())
+    }
+
+    /// Notes that a version was awaited.
+    fn await_version(&mut self, number: u32) -> Reply
+        requires { judged self.old (order.Await number) ≡ None }
+        ensures { (self.new, response_of result) ≡ accepted self.old (order.Await number) }
+    {
+        self.versions.note_await(number);
+        Reply::Done { version: number }
+    }
+
+    /// Holds a version that is awaited, under a number: at least 1, and not held. The flow and the
+    /// base arrays are those that are held under these names; as many as the flow takes, and their
+    /// shapes fit. There is one list for each node. There is room for the outputs. Without memory
+    /// nothing is changed.
+    ///
+    /// Takes time in the flow's sources, and in the logarithm of what is held.
+    pub fn add_version(&mut self, number: u32, version: HeldVersion) -> Result<(), NoMemory>
+        requires some { 1 ≤ number }
+        requires new { version_numbered self.old number ≡ None }
+        requires awaited { version.awaited ≡ true }
+        requires flow { option_map (λ w. w.graph) (flow_named self.old version.flow_name)
+            ≡ Some version.flow }
+        requires base { All (λ b. array_version self.old b.name b.version ≡ Some b.array)
+            version.base }
+        requires count { length version.base ≡ version.flow.inputs }
+        requires fits { result_err (output_shapes version.flow (shapes_of version.base)) ≡ None }
+        requires lists { are_lists_for version.flow.nodes version.lists ≡ true }
+        requires room { has_room self.old (output_cells version) ≡ true }
+        ensures ok { OnOk result (self.new ≡ with_version self.old number version) }
+        ensures err { OnErr result (self.new ≡ self.old) }
+    {
+        if let Some(held) = self.flows.get(version.flow_name.as_str()) {
+            let _flow = held.flow();
+        }
+        self.add(number, version)
+    }
+
+    /// Holds a version under a number that is not held.
+    fn add(&mut self, number: u32, version: HeldVersion) -> Result<(), NoMemory>
+        requires new { version_numbered self.old number ≡ None }
+        requires right { is_well_formed version.flow ≡ true }
+        requires count { length version.base ≡ version.flow.inputs }
+        requires fits { result_err (output_shapes version.flow (shapes_of version.base)) ≡ None }
+        requires lists { are_lists_for version.flow.nodes version.lists ≡ true }
+        requires room { has_room self.old (output_cells version) ≡ true }
+        ensures ok { OnOk result (self.new ≡ with_version self.old number version) }
+        ensures err { OnErr result (self.new ≡ self.old) }
+    {
+        let run = Run::make(self.alloc, version)?;
+        let cells = cells_of(run.outputs());
+        self.versions.push(number, run)?;
+        self.cells += cells;
+        Ok(())
+    }
+}

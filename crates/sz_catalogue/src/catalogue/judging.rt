@@ -1,0 +1,269 @@
+//! Which commands are refused: the rules of each, in their order.
+ghost use Rattle.std.specs.Prelude.{◌≡◌, ℕ, ◌≤◌, true, not, ◌||◌, nat_lt, length, List, []};
+ghost use Rattle.std.specs.Prelude.{◌∷◌, IfOk};
+ghost use Rattle.std.specs.List.{list_all};
+ghost use Rattle.sz_spec.specs.Flows.{Graph, is_well_formed};
+ghost use Rattle.sz_script.specs.declared.command.Command.TheVariants as order;
+ghost use Rattle.sz_script.specs.declared.refusal.Refusal.TheVariants as rule;
+ghost use Rattle.sz_catalogue.specs.Holdings.{shapes_of, cells_of, next_number};
+ghost use Rattle.sz_catalogue.specs.Starts.{bases_of};
+ghost use Rattle.sz_catalogue.specs.Rules.{judged, first_of, has_no_array, has_place};
+ghost use Rattle.sz_catalogue.specs.Rules.{has_room, greatest_number, is_not_awaited};
+ghost use Rattle.sz_catalogue.specs.Kept.{rules_of_shapes};
+ghost use Rattle.sz_catalogue.specs.Seen.{Judges};
+ghost use Rattle.sz_script.specs.Right.{is_right};
+
+use super::{Catalogue, GREATEST_NUMBER, MOST_ARRAYS, MOST_CELLS, MOST_FLOWS};
+use crate::paths::is_joined;
+use crate::shapes::{cells_of, output_shapes};
+use crate::strategies::{is_list_of, names_a_store};
+use std::alloc::Global;
+use sz_cells::{NoMemory, Shape};
+use sz_script::{BaseName, Command, LineFault, PathStep, Place, Refusal};
+use sz_spec::{Array, Dir, Flow, Strategy};
+
+impl Catalogue {
+    /// Whether a rule refuses a command, and which is the first that does. The command is one that
+    /// a line can be: its names are names, and its flow is well formed.
+    ///
+    /// Takes time in the command, in the flow's sources for a start, and in the logarithm of what
+    /// is held.
+    pub fn judge(&self, alloc: Global, command: &Command) -> Result<(), LineFault>
+        requires { is_right command.now ≡ true }
+        ensures { Judges (judged self.now command.now) result }
+    {
+        match self.refusal_of(alloc, command) {
+            Ok(None) => Ok(()),
+            Ok(Some(refusal)) => Err(LineFault::Refused(refusal)),
+            Err(_) => Err(LineFault::NoMemory),
+        }
+    }
+
+    /// The first rule that refuses a command.
+    fn refusal_of(&self, alloc: Global, command: &Command) -> Result<Option<Refusal>, NoMemory>
+        ensures { IfOk result (λ r. r ≡ judged self.now command.now) }
+    {
+        match command {
+            Command::Array { name: _, array } => Ok(self.refusal_of_array(array)),
+            Command::Layers { name: _, array } => Ok(self.refusal_of_array(array)),
+            Command::Flow { name, flow: _ } => Ok(self.refusal_of_flow(name.as_str())),
+            Command::Strategy { name, node, list } => {
+                Ok(self.refusal_of_strategies(name.as_str(), *node, list.as_slice()))
+            }
+            Command::Start { name, base } => {
+                self.refusal_of_start(alloc, name.as_str(), base.as_slice())
+            }
+            Command::Await { version } => Ok(self.refusal_of_await(*version)),
+            Command::Ask {
+                version,
+                dir,
+                path,
+                cells,
+            } => Ok(self.refusal_of_ask(*version, *dir, path.as_slice(), cells.as_slice())),
+            Command::Explain {
+                version,
+                dir,
+                path,
+                cells,
+            } => Ok(self.refusal_of_explain(*version, *dir, path.as_slice(), cells.as_slice())),
+            Command::Show { version, node } => Ok(self.refusal_of_show(*version, *node)),
+        }
+    }
+
+    /// The rule that refuses an array.
+    fn refusal_of_array(&self, array: &Array) -> Option<Refusal>
+        ensures one { (name : List ℕ) → result ≡ judged self.now (order.Array name array.now) }
+        ensures layers { (name : List ℕ) → result ≡ judged self.now (order.Layers name array.now) }
+    {
+        let size = u64::from(array.shape().size());
+        if self.arrays.len() >= MOST_ARRAYS || self.cells + size > MOST_CELLS {
+            Some(Refusal::NoRoomForArray)
+        } else {
+            None
+        }
+    }
+
+    /// The rule that refuses a flow under a name.
+    fn refusal_of_flow(&self, name: &str) -> Option<Refusal>
+        ensures { (flow : Graph) → result ≡ judged self.now (order.Flow name.now flow) }
+    {
+        if self.flows.len() >= MOST_FLOWS || self.flows.get(name).is_some() {
+            Some(Refusal::NoRoomForFlow)
+        } else {
+            None
+        }
+    }
+
+    /// The rule that refuses strategies of a node.
+    fn refusal_of_strategies(&self, name: &str, node: u32, list: &[Strategy]) -> Option<Refusal>
+        ensures { result ≡ judged self.now (order.Strategy name.now node list.now) }
+    {
+        let Some(held) = self.flows.get(name) else {
+            return Some(Refusal::NoSuchFlow);
+        };
+        if !is_list_of(held.flow().nodes(), node, list) {
+            return Some(Refusal::BadStrategies);
+        }
+        if names_a_store(list) {
+            return Some(Refusal::NotBuilt);
+        }
+        None
+    }
+
+    /// The rule that refuses a start.
+    fn refusal_of_start(
+        &self,
+        alloc: Global,
+        name: &str,
+        base: &[BaseName],
+    ) -> Result<Option<Refusal>, NoMemory>
+        ensures { IfOk result (λ r. r ≡ judged self.now (order.Start name.now base.now)) }
+    {
+        let Some(held) = self.flows.get(name) else {
+            return Ok(Some(Refusal::NoSuchFlow));
+        };
+        if self.has_no_array(base) {
+            return Ok(Some(Refusal::NoSuchArray));
+        }
+        let flow = held.flow();
+        if base.len() != flow.inputs() as usize {
+            return Ok(Some(Refusal::WrongBase));
+        }
+        let shapes = self.shapes_named(alloc, base)?;
+        self.refusal_of_shapes(alloc, flow, &shapes)
+    }
+
+    /// The rule that refuses a version of a flow over base arrays of these shapes.
+    fn refusal_of_shapes(
+        &self,
+        alloc: Global,
+        flow: &Flow,
+        base: &[Shape],
+    ) -> Result<Option<Refusal>, NoMemory>
+        requires right { is_well_formed flow.now ≡ true }
+        requires count { length base.now ≡ flow.now.inputs }
+        ensures { IfOk result
+            (λ r. r ≡ first_of (rules_of_shapes self.now flow.now base.now)) }
+    {
+        match output_shapes(alloc, flow, base)? {
+            Err(node) => Ok(Some(Refusal::ShapesDoNotFit { node })),
+            Ok(outputs) => Ok(self.refusal_of_outputs(&outputs)),
+        }
+    }
+
+    /// Whether a base array is not held.
+    fn has_no_array(&self, base: &[BaseName]) -> bool
+        ensures { result ≡ has_no_array self.now base.now }
+    {
+        base.iter().any(|only| self.array(only.name.as_str(), only.version).is_none())
+    }
+
+    /// The shapes of the base arrays that are held.
+    fn shapes_named(&self, alloc: Global, base: &[BaseName]) -> Result<Vec<Shape>, NoMemory>
+        ensures { IfOk result (λ v. v.items ≡ shapes_of (bases_of self.now base.now)) }
+    {
+        let mut shapes = Vec::with_capacity(alloc, base.len())?;
+        for only in base {
+            match self.array(only.name.as_str(), only.version) {
+                Some(array) => shapes.push(array.shape())?,
+                None => {}
+            }
+        }
+        Ok(shapes)
+    }
+
+    /// The rule that refuses a version whose outputs have these shapes.
+    fn refusal_of_outputs(&self, outputs: &[Shape]) -> Option<Refusal>
+        requires { length outputs.now ≤ 1024 }
+        ensures { result ≡ first_of ((
+          not (has_room self.now (cells_of outputs.now))
+              || nat_lt greatest_number (next_number self.now),
+          rule.NoRoomForVersion,
+        ) ∷ []) }
+    {
+        let next = self.versions.next_number();
+        if !self.has_room(cells_of(outputs)) || next > GREATEST_NUMBER {
+            Some(Refusal::NoRoomForVersion)
+        } else {
+            None
+        }
+    }
+
+    /// The rule that refuses an await.
+    fn refusal_of_await(&self, number: u32) -> Option<Refusal>
+        ensures { result ≡ judged self.now (order.Await number) }
+    {
+        match self.versions.get(number) {
+            Some(_) => None,
+            None => Some(Refusal::NoSuchVersion),
+        }
+    }
+
+    /// The rule that refuses an ask.
+    fn refusal_of_ask(
+        &self,
+        number: u32,
+        dir: Dir,
+        path: &[PathStep],
+        places: &[Place],
+    ) -> Option<Refusal>
+        ensures { result ≡ judged self.now (order.Ask number dir path.now places.now) }
+    {
+        let Some(run) = self.versions.get(number) else {
+            return Some(Refusal::NoSuchVersion);
+        };
+        if !is_joined(dir, run.flow(), path) {
+            return Some(Refusal::NotJoined);
+        }
+        if !are_places(run.step_start(dir, path[0]), places) {
+            return Some(Refusal::OutOfRange);
+        }
+        None
+    }
+
+    /// The rule that refuses an explain.
+    fn refusal_of_explain(
+        &self,
+        number: u32,
+        dir: Dir,
+        path: &[PathStep],
+        places: &[Place],
+    ) -> Option<Refusal>
+        ensures { result ≡ judged self.now (order.Explain number dir path.now places.now) }
+    {
+        match self.refusal_of_ask(number, dir, path, places) {
+            Some(refusal) => Some(refusal),
+            None => self.refusal_of_not_awaited(number),
+        }
+    }
+
+    /// The rule that refuses to explain a version that is not awaited.
+    fn refusal_of_not_awaited(&self, number: u32) -> Option<Refusal>
+        ensures { result ≡ first_of ((is_not_awaited self.now number, rule.NotAwaited) ∷ []) }
+    {
+        match self.version(number) {
+            Some(version) if version.awaited => None,
+            _ => Some(Refusal::NotAwaited),
+        }
+    }
+
+    /// The rule that refuses a show.
+    fn refusal_of_show(&self, number: u32, node: u32) -> Option<Refusal>
+        ensures { result ≡ judged self.now (order.Show number node) }
+    {
+        let Some(run) = self.versions.get(number) else {
+            return Some(Refusal::NoSuchVersion);
+        };
+        if node as usize >= run.flow().nodes().len() {
+            return Some(Refusal::NoSuchNode);
+        }
+        None
+    }
+}
+
+/// Whether a shape has each of some places.
+fn are_places(shape: Shape, places: &[Place]) -> bool
+    ensures { result ≡ list_all (has_place shape) places.now }
+{
+    places.iter().all(|place| shape.cell_in(place.layer, place.row, place.col).is_some())
+}

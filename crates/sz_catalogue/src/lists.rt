@@ -1,0 +1,90 @@
+//! The lists that a held version shows. Contracts see each as the list of what it holds.
+ghost use Rattle.std.specs.Prelude.{◌≡◌, ◌<◌, length, slice_set, IfOk};
+
+use crate::memory::own_list;
+use crate::version::BaseArray;
+use std::alloc::Global;
+use std::marker::Model;
+use sz_cells::NoMemory;
+use sz_script::StrategyList;
+
+/// The strategies of each node of a flow, in the nodes' order.
+#[derive(Drop)]
+pub struct StrategyLists {
+    items: Vec<StrategyList>,
+}
+
+impl Model for StrategyLists {
+    ghost use Rattle.std.specs.Prelude.{List};
+    ghost use Rattle.sz_spec.specs.declared.modes.Strategy.{Strategy};
+
+    ghost Value = { List (List Strategy) };
+
+    ghost view = { λ l. l.items.items };
+}
+
+impl StrategyLists {
+    /// These lists, in this order.
+    pub fn of(items: Vec<StrategyList>) -> StrategyLists
+        ensures { result ≡ items.items }
+    {
+        StrategyLists { items }
+    }
+
+    /// The lists, in their order.
+    pub fn as_slice(&self) -> &[StrategyList]
+        ensures { result.now ≡ self.now }
+    {
+        &self.items
+    }
+
+    /// Sets the list of a node.
+    pub(crate) fn set(&mut self, node: u32, list: StrategyList)
+        requires { node < length self.old }
+        ensures { self.new ≡ slice_set self.old node list }
+    {
+        self.items[node as usize] = list;
+    }
+
+    /// The same lists once more. Linear in their strategies.
+    pub(crate) fn copy(&self, alloc: Global) -> Result<StrategyLists, NoMemory>
+        ensures { IfOk result (λ l. l ≡ self.now) }
+    {
+        let mut items = Vec::with_capacity(alloc, self.items.len())?;
+        for list in &self.items {
+            items.push(own_list(alloc, list)?)?;
+        }
+        Ok(StrategyLists { items })
+    }
+}
+
+/// The base arrays of a version, in the order in which its flow takes them.
+#[derive(Drop)]
+pub struct BaseArrays {
+    items: Vec<BaseArray>,
+}
+
+impl Model for BaseArrays {
+    ghost use Rattle.std.specs.Prelude.{List};
+    ghost use Rattle.sz_catalogue.specs.Holdings.{Base};
+
+    ghost Value = { List Base };
+
+    ghost view = { λ l. l.items.items };
+}
+
+impl BaseArrays {
+    /// These base arrays, in this order.
+    pub fn of(items: Vec<BaseArray>) -> BaseArrays
+        ensures { result ≡ items.items }
+    {
+        BaseArrays { items }
+    }
+
+    /// The base arrays, in their order.
+    pub fn as_slice(&self) -> &[BaseArray]
+        ensures { result.now ≡ self.now }
+    {
+        &self.items
+    }
+}
