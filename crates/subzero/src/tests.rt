@@ -7,6 +7,8 @@ use std::io::{Eprint, Error, ErrorKind, Result};
 use std::process::ExitCode;
 use sz_session::Status;
 
+mod image;
+
 fn ending(number: u8, line: &'static str) -> Ending {
     Ending { number, line }
 }

@@ -7,7 +7,8 @@ use Rattle.std.proofs.Common.{sym, ap, ◌∙◌, subst, length-append, arith, t
 use Rattle.std.specs.Prelude.{◌&&◌}
 use Rattle.std.proofs.lemmas.Bool.{and_from, and_left, and_right}
 use Rattle.std.proofs.lemmas.List.{take-append-drop}
-use Rattle.sz_session.specs.Lines.{is_blank, line_limit}
+use Rattle.sz_script.specs.Reading.{line_limit}
+use Rattle.sz_session.specs.Lines.{is_blank}
 use Rattle.sz_session.specs.Moments.{Alike}
 use Rattle.sz_session.proofs.Moments.{blank-append}
 

@@ -10,14 +10,14 @@ use Rattle.std.proofs.lemmas.List.{append-nil, take-append-drop, drop-drop, take
 use Rattle.std.proofs.Math.Seq.{drop-length}
 use Rattle.sz_outside.specs.Outside.{Says, SaysPart, Rose, Gives, GivesNext, Keeps}
 use Rattle.sz_session.specs.Lines.{lines_of, Cut, cut, last_line}
-use Rattle.sz_session.specs.Holdings.{no_holdings}
+use Rattle.sz_catalogue.specs.Holdings.{no_holdings}
 use Rattle.sz_session.specs.Transcript.{transcript, whole_replies}
 use Rattle.sz_session.specs.Moments.{Moment, moment_before, cut_after, told_in, moment_after, told_at_end, AreAlike}
 use Rattle.sz_session.specs.Serving.{Advances, SaysFirst, HasAnswered, Answered, AreAll, Done, SaidOfRead, SaidToLimit}
 use Rattle.sz_session.specs.Serving.{SaidInPart, SaidInLines, IsPastLimit, IsWithinLimit}
-use Rattle.sz_session.specs.Statuses.{stop_status, end_status, Ends, HasFault}
-use Rattle.sz_session.specs.declared.feed.Stop.{Stop}
-use Rattle.sz_session.specs.declared.feed.Stop.TheVariants as stop
+use Rattle.sz_session.specs.Statuses.{halt_status, end_status, Ends, HasFault}
+use Rattle.sz_session.specs.declared.feed.Halt.{Halt}
+use Rattle.sz_session.specs.declared.feed.Halt.TheVariants as halt
 use Rattle.sz_session.specs.declared.serving.Status.{Status}
 use Rattle.sz_session.specs.declared.serving.Status.TheVariants as status
 use Rattle.sz_session.proofs.Cuts.{before_cut-nothing, lines_of-cut}
@@ -232,43 +232,43 @@ none-in_lines (Some bytes) said = record { many = 0; within = omega arith; says 
 -- ---- statuses
 
 -- a turn that stopped
-pub turn-ends : (s : Stop) (limit : ℕ) (all left next a b c : Option (List ℕ)) (m : Moment) (total count : ℕ)
+pub turn-ends : (s : Halt) (limit : ℕ) (all left next a b c : Option (List ℕ)) (m : Moment) (total count : ℕ)
     (buffer : List ℕ)
     → Answered all left a b m total → Gives left next buffer count
-    → (s ≡ stop.SayFault → SaysPart b c (told_in m (take count buffer)))
-    → (s ≡ stop.NoMemory → SaysFirst b c m.catalogue m.number (cut_after m (take count buffer)).whole)
-    → Ends (stop_status s) limit all next a c
-turn-ends stop.SayFault limit all left next a b c m total count buffer so_far gives part first =
+    → (s ≡ halt.SayFault → SaysPart b c (told_in m (take count buffer)))
+    → (s ≡ halt.NoMemory → SaysFirst b c m.catalogue m.number (cut_after m (take count buffer)).whole)
+    → Ends (halt_status s) limit all next a c
+turn-ends halt.SayFault limit all left next a b c m total count buffer so_far gives part first =
     turn-in_part all left next a b c m total count buffer so_far gives (part refl)
-turn-ends stop.NoMemory limit all left next a b c m total count buffer so_far gives part first =
+turn-ends halt.NoMemory limit all left next a b c m total count buffer so_far gives part first =
     turn-in_lines all left next a b c m total count buffer so_far gives (first refl)
 
 -- the end of the source
-pub end-ends : (r : Result (Unit {0}) Stop) (limit : ℕ) (all left a b c : Option (List ℕ)) (m : Moment)
+pub end-ends : (r : Result (Unit {0}) Halt) (limit : ℕ) (all left a b c : Option (List ℕ)) (m : Moment)
     (total : ℕ) → total ≤ limit
     → Answered all left a b m total → AreAll all total
-    → OnOk r (Says b c (told_at_end m)) → (r ≡ Err stop.SayFault → SaysPart b c (told_at_end m))
-    → (r ≡ Err stop.NoMemory → Says b c [])
+    → OnOk r (Says b c (told_at_end m)) → (r ≡ Err halt.SayFault → SaysPart b c (told_at_end m))
+    → (r ≡ Err halt.NoMemory → Says b c [])
     → Ends (end_status r) limit all left a c
 end-ends (Ok u) limit all left a b c m total le so_far is_all whole part nothing =
     done limit all left a b c m total le so_far is_all whole
-end-ends (Err stop.SayFault) limit all left a b c m total le so_far is_all whole part nothing =
+end-ends (Err halt.SayFault) limit all left a b c m total le so_far is_all whole part nothing =
     end-in_part all left a b c m total so_far is_all (part refl)
-end-ends (Err stop.NoMemory) limit all left a b c m total le so_far is_all whole part nothing =
+end-ends (Err halt.NoMemory) limit all left a b c m total le so_far is_all whole part nothing =
     end-in_lines all left a b c m total so_far (nothing refl)
 
 -- the fault of a turn that stopped
-pub turn-fault : (s : Stop) (reads reads' says says' : ℕ) → (s ≡ stop.SayFault → Rose says says')
-    → HasFault (stop_status s) reads reads' says says'
-turn-fault stop.SayFault reads reads' says says' rose = rose refl
-turn-fault stop.NoMemory reads reads' says says' rose = tt
+pub turn-fault : (s : Halt) (reads reads' says says' : ℕ) → (s ≡ halt.SayFault → Rose says says')
+    → HasFault (halt_status s) reads reads' says says'
+turn-fault halt.SayFault reads reads' says says' rose = rose refl
+turn-fault halt.NoMemory reads reads' says says' rose = tt
 
 -- the fault of an end
-pub end-fault : (r : Result (Unit {0}) Stop) (reads reads' says says' : ℕ)
-    → (r ≡ Err stop.SayFault → Rose says says') → HasFault (end_status r) reads reads' says says'
+pub end-fault : (r : Result (Unit {0}) Halt) (reads reads' says says' : ℕ)
+    → (r ≡ Err halt.SayFault → Rose says says') → HasFault (end_status r) reads reads' says says'
 end-fault (Ok u) reads reads' says says' rose = tt
-end-fault (Err stop.SayFault) reads reads' says says' rose = rose refl
-end-fault (Err stop.NoMemory) reads reads' says says' rose = tt
+end-fault (Err halt.SayFault) reads reads' says says' rose = rose refl
+end-fault (Err halt.NoMemory) reads reads' says says' rose = tt
 
 -- a fault that is counted after a time in which no count fell
 pub fault-later : (s : Status) (r r' r'' t t' t'' : ℕ) → r ≤ r' → t ≤ t' → HasFault s r' r'' t' t''

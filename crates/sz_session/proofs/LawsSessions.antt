@@ -6,9 +6,9 @@ use Rattle.std.proofs.Common.{◌≡◌, ℕ, ◌+◌, List, [], ◌∷◌, ◌+
 use Rattle.std.proofs.Common.{append_assoc, arith, inl, inr}
 use Rattle.std.proofs.lemmas.Bool.{cases_Bool}
 use Rattle.sz_session.specs.Lines.{lines_of, is_blank}
-use Rattle.sz_session.specs.Holdings.{Holdings}
-use Rattle.sz_session.specs.Changes.{after_line}
-use Rattle.sz_session.specs.Responses.{reply_line}
+use Rattle.sz_catalogue.specs.Holdings.{Holdings}
+use Rattle.sz_catalogue.specs.Changes.{after_line}
+use Rattle.sz_catalogue.specs.Responses.{reply_line}
 use Rattle.sz_session.specs.Transcript.{replies_to, after_lines}
 use Rattle.sz_session.specs.Laws.{RepliesGoOn, TranscriptsGoOn, BlankLinesAreCounted, OtherLinesHaveOneReply}
 use Rattle.sz_session.proofs.LawsLines.{lines-go_on}

@@ -10,10 +10,12 @@ use Rattle.std.proofs.Common.{inl, inr}
 use Rattle.std.specs.Prelude.{◌==◌, ◌&&◌, ◌||◌, nat_lt}
 use Rattle.std.proofs.lemmas.Bool.Decides.{nat_tests}
 use Rattle.std.proofs.lemmas.List.Folds.{list_all-append}
-use Rattle.sz_session.specs.Lines.{is_blank, line_limit, Cut, bytes_first, before_cut, cut, last_line}
-use Rattle.sz_session.specs.Holdings.{Holdings}
-use Rattle.sz_session.specs.Changes.{after_line}
-use Rattle.sz_session.specs.Responses.{refused}
+use Rattle.sz_script.specs.Reading.{line_limit}
+use Rattle.sz_script.specs.declared.refusal.Refusal.TheVariants.{TooLong}
+use Rattle.sz_session.specs.Lines.{is_blank, Cut, bytes_first, before_cut, cut, last_line}
+use Rattle.sz_catalogue.specs.Holdings.{Holdings}
+use Rattle.sz_catalogue.specs.Changes.{after_line}
+use Rattle.sz_catalogue.specs.Responses.{refused}
 use Rattle.sz_session.specs.Transcript.{replies_to, after_lines, transcript}
 use Rattle.sz_session.specs.Moments.{Moment, cut_after, moment_of, moment_after}
 use Rattle.sz_session.specs.Moments.{Alike, AreAlike}
@@ -84,7 +86,7 @@ alike-append a b rest (inr long) = inr (
 )
 
 -- a line past the limit is refused
-line-long : (c : Holdings) (line : List ℕ) → line_limit < length line → after_line c line ≡ (c, refused 2)
+line-long : (c : Holdings) (line : List ℕ) → line_limit < length line → after_line c line ≡ (c, refused TooLong)
 line-long c line long = let test : nat_lt line_limit (length line) ≡ true = grind (arith, nat_tests) in rw test refl
 
 -- lines that are alike have one reply, whatever comes behind them

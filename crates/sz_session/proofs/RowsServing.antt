@@ -5,7 +5,7 @@ use Rattle.std.specs.Str.{is_utf8, chars}
 use Rattle.std.proofs.Common.{refl, arith}
 use Rattle.serde_json.proofs.OnLiterals.{serde_json_on_literals}
 use Rattle.sz_session.specs.Lines.{cut}
-use Rattle.sz_session.specs.Holdings.{no_holdings}
+use Rattle.sz_catalogue.specs.Holdings.{no_holdings}
 use Rattle.sz_session.specs.Moments.{Moment, moment_before, told_in, moment_after, told_at_end}
 use Rattle.sz_session.specs.Serving.{Done, SaidOfRead, SaidToLimit, SaidInPart, SaidInLines, IsWithinLimit}
 use Rattle.sz_session.specs.Serving.{IsPastLimit}

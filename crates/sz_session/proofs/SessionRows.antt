@@ -1,76 +1,47 @@
--- Worked rows of whole lines, and of a whole session: each is found by computing.
-use Rattle.std.specs.Prelude.{◌≡◌, pos, [], ◌∷◌, ◌++◌, codes, None, Some, Ok, Err}
+-- Worked rows of lines, and of a whole session: each is found by computing.
+use Rattle.std.specs.Prelude.{◌≡◌, true, false, [], ◌∷◌, ◌++◌, codes}
 use Rattle.std.specs.Fmt.{digits}
 use Rattle.std.specs.Str.{is_utf8, chars}
 use Rattle.std.proofs.Common.{refl}
 use Rattle.serde_json.proofs.OnLiterals.{serde_json_on_literals}
-use Rattle.sz_spec.specs.declared.modes.Dir.TheVariants.{Back}
-use Rattle.sz_session.specs.Orders.{hold_array, hold_flow, start, await, ask}
-use Rattle.sz_session.specs.Reading.{negation, reading}
-use Rattle.sz_session.specs.Holdings.{no_holdings}
+use Rattle.sz_catalogue.specs.Holdings.{no_holdings}
+use Rattle.sz_session.specs.Lines.{lines_of, is_blank}
 use Rattle.sz_session.specs.Transcript.{transcript}
 
--- ---- lines and the orders that they are
+-- ---- lines
 
-line-array : reading (codes "{\"array\":\"a\",\"cells\":[[5,null]]}")
-    ≡ Ok (hold_array (codes "a") (record {
-      extent = record { layers = 1; rows = 1; cols = 2 };
-      values = Some (pos 5) ∷ None ∷ [];
-    }))
-unfolding serde_json_on_literals is_utf8 chars
-line-array = refl
+no-line : lines_of [] ≡ []
+no-line = refl
 
-line-flow : reading (codes "{\"flow\":\"f\",\"inputs\":1,\"nodes\":[{\"op\":\"neg\",\"from\":[{\"i\":0}]}]}")
-    ≡ Ok (hold_flow (codes "f") negation)
-unfolding serde_json_on_literals is_utf8 chars
-line-flow = refl
+line-between-newlines : lines_of (codes "a" ++ 10 ∷ 10 ∷ codes "b") ≡ codes "a" ∷ [] ∷ codes "b" ∷ []
+line-between-newlines = refl
 
-line-start : reading (codes "{\"start\":\"f\",\"base\":[[\"a\",1]]}")
-    ≡ Ok (start (codes "f") (record { name = codes "a"; version = 1 } ∷ []))
-unfolding serde_json_on_literals is_utf8 chars
-line-start = refl
+line-ended : lines_of (codes "a" ++ 10 ∷ []) ≡ codes "a" ∷ []
+line-ended = refl
 
-line-await : reading (codes "{\"await\":1}") ≡ Ok (await 1)
-unfolding serde_json_on_literals is_utf8 chars
-line-await = refl
+line-of_a_newline : lines_of (10 ∷ []) ≡ [] ∷ []
+line-of_a_newline = refl
 
-line-ask : reading (codes "{\"ask\":1,\"dir\":\"back\",\"path\":[[0,0]],\"cells\":[[0,1]]}")
-    ≡ Ok (ask 1 Back (record { node = 0; input = 0 } ∷ []) (record { row = 0; col = 1 } ∷ []))
-unfolding serde_json_on_literals is_utf8 chars
-line-ask = refl
+blank-empty : is_blank [] ≡ true
+blank-empty = refl
 
--- ---- lines that are refused
+blank-line : is_blank (32 ∷ 9 ∷ 13 ∷ []) ≡ true
+blank-line = refl
 
-line-cut : reading (codes "{\"await\":1") ≡ Err 1
-unfolding serde_json_on_literals is_utf8 chars
-line-cut = refl
+blank-other : is_blank (32 ∷ 11 ∷ []) ≡ false
+blank-other = refl
 
-line-no_utf8 : reading (34 ∷ 255 ∷ 34 ∷ []) ≡ Err 1
-unfolding serde_json_on_literals is_utf8 chars
-line-no_utf8 = refl
+blank-output : transcript no_holdings (32 ∷ 10 ∷ 13 ∷ 10 ∷ []) ≡ []
+blank-output = refl
 
-line-no_order : reading (codes "{\"show\":1,\"node\":0}") ≡ Err 21
-unfolding serde_json_on_literals is_utf8 chars
-line-no_order = refl
+-- ---- no JSON, blank lines, and a last line without a newline
 
-line-further_field : reading (codes "{\"await\":1,\"more\":1}") ≡ Err 21
-unfolding serde_json_on_literals is_utf8 chars
-line-further_field = refl
+some-refused : transcript no_holdings (codes "{\"array\":" ++ 10 ∷ codes "   " ++ 10 ∷ codes "{\"await\":9}")
+    ≡ codes "1 refused 1" ++ 10 ∷ codes "3 refused 15" ++ 10 ∷ []
+unfolding serde_json_on_literals is_utf8 chars digits
+some-refused = refl
 
-line-below_0 : reading (codes "{\"await\":-1}") ≡ Err 21
-unfolding serde_json_on_literals is_utf8 chars
-line-below_0 = refl
-
-line-ragged : reading (codes "{\"array\":\"a\",\"cells\":[[1],[1,2]]}") ≡ Err 21
-unfolding serde_json_on_literals is_utf8 chars
-line-ragged = refl
-
--- of a field that is given twice the last one stands
-line-field_twice : reading (codes "{\"await\":\"x\",\"await\":7}") ≡ Ok (await 7)
-unfolding serde_json_on_literals is_utf8 chars
-line-field_twice = refl
-
--- ---- the smallest session, with a blank line and a line of a form that is none
+-- ---- the smallest session, with a blank line
 
 whole-session : transcript no_holdings (codes "{\"array\":\"a\",\"cells\":[[5]]}"
     ++ 10 ∷ codes "{\"flow\":\"f\",\"inputs\":1,\"nodes\":[{\"op\":\"neg\",\"from\":[{\"i\":0}]}]}"
@@ -78,6 +49,6 @@ whole-session : transcript no_holdings (codes "{\"array\":\"a\",\"cells\":[[5]]}
     ++ 10 ∷ 10 ∷ codes "{\"ask\":1,\"dir\":\"back\",\"path\":[[0,0]],\"cells\":[[0,0]]}"
     ++ 10 ∷ codes "{\"show\":1,\"node\":0}")
     ≡ codes "1 array a 1" ++ 10 ∷ codes "2 flow f" ++ 10 ∷ codes "3 started 1" ++ 10 ∷ codes "4 done 1"
-    ++ 10 ∷ codes "6 cells 1 0,0" ++ 10 ∷ codes "7 refused 21" ++ 10 ∷ []
+    ++ 10 ∷ codes "6 cells 1 0,0" ++ 10 ∷ codes "7 values 1 1 -5" ++ 10 ∷ []
 unfolding serde_json_on_literals is_utf8 chars digits
 whole-session = refl

@@ -11,12 +11,12 @@ use Rattle.std.proofs.lemmas.List.{take_more, append-nil, take-append-le, take-a
 use Rattle.std.proofs.Math.Seq.{take-append-add, take-append_seam}
 use Rattle.sz_outside.specs.Outside.{Says, SaysPart, Rose}
 use Rattle.sz_session.specs.Lines.{is_within_line, Cut, before_cut, cut, last_line}
-use Rattle.sz_session.specs.Holdings.{Holdings}
+use Rattle.sz_catalogue.specs.Holdings.{Holdings}
 use Rattle.sz_session.specs.Transcript.{replies_to, after_lines}
 use Rattle.sz_session.specs.Moments.{Moment, cut_after, told_in, moment_of, moment_after, told_at_end, Alike, AreAlike}
-use Rattle.sz_session.specs.Serving.{Advances, SaysFirst, Responds}
-use Rattle.sz_session.specs.declared.reply.Reply.{Reply}
-use Rattle.sz_session.specs.Seen.{line_to_say}
+use Rattle.sz_session.specs.Serving.{Advances, SaysFirst, line_to_say}
+use Rattle.sz_session.specs.Commands.{Responds}
+use Rattle.sz_catalogue.specs.declared.reply.Reply.{Reply}
 use Rattle.sz_session.specs.Laws.{FirstRepliesAreAPart}
 use Rattle.sz_session.proofs.Cuts.{cut-within}
 use Rattle.sz_session.proofs.LawsSessions.{replies-go_on}

@@ -1,30 +1,17 @@
--- What a reader may take for granted of lines, replies, orders and sessions. Each law is proved of
--- the definitions.
-use Rattle.std.specs.Prelude.{◌≡◌, ℕ, ◌+◌, ◌^◌, ◌<◌, ◌≤◌, ◌↔◌, ◌⊎◌, Bool, true}
-use Rattle.std.specs.Prelude.{false, ◌&&◌, List, [], ◌∷◌, ◌++◌, length, Some, None}
-use Rattle.std.specs.Prelude.{Option, option_and_then}
-use Rattle.std.specs.List.{list_all, list_any}
-use Rattle.std.specs.Fmt.{decimal}
-use Rattle.std.specs.Str.Parse.{IsNumeral, digits_value}
-use Rattle.serde_json.specs.Data.{Data}
-use Rattle.sz_cells.specs.declared.Cell.{Cell}
-use Rattle.sz_cells.specs.Extent.{holds}
-use Rattle.sz_cells.specs.Cells.{Cells, is_same, has}
-use Rattle.sz_spec.specs.declared.modes.Dir.TheVariants.{Back}
-use Rattle.sz_spec.specs.Values.{Grid}
-use Rattle.sz_spec.specs.Paths.{Step}
+-- What a reader may take for granted of lines and sessions. Each law is proved of the definitions.
+use Rattle.std.specs.Prelude.{◌≡◌, ℕ, ◌+◌, ◌<◌, Bool, true, false, List, [], ◌∷◌, ◌++◌, length}
+use Rattle.std.specs.Prelude.{Option}
+use Rattle.std.specs.List.{list_all}
+use Rattle.sz_outside.specs.Outside.{SaysPart}
+use Rattle.sz_catalogue.specs.Holdings.{Holdings}
+use Rattle.sz_catalogue.specs.Changes.{after_line}
+use Rattle.sz_catalogue.specs.Responses.{reply_line}
 use Rattle.sz_session.specs.Lines.{lines_of, is_blank, is_within_line, before_cut, cut}
 use Rattle.sz_session.specs.Lines.{last_line}
-use Rattle.sz_session.specs.Orders.{Order}
-use Rattle.sz_session.specs.Reading.{json_of, order_of, negation}
-use Rattle.sz_session.specs.Holdings.{Version, Holdings}
-use Rattle.sz_session.specs.Changes.{after_line, after_order, cells_answered}
-use Rattle.sz_session.specs.Responses.{Response, refused, reply_text, reply_line}
 use Rattle.sz_session.specs.Transcript.{replies_to, after_lines, transcript, whole_replies}
 use Rattle.sz_session.specs.Moments.{Moment, moment_before, told_in, moment_after, told_at_end}
 use Rattle.sz_session.specs.Moments.{AreAlike}
 use Rattle.sz_session.specs.Serving.{SaysFirst}
-use Rattle.sz_outside.specs.Outside.{SaysPart}
 
 -- ---- lines
 
@@ -118,54 +105,6 @@ FirstRepliesAreAPart = (said_before said : Option (List ℕ)) (c : Holdings) (n 
     (lines : List (List ℕ))
     → SaysFirst said_before said c n lines → SaysPart said_before said (replies_to c n lines)
 
--- ---- replies
-
--- the text of a number below 2 ^ 64 is decimal digits, and read as a number they are that number
-abbrev pub NumbersReadBack : Type 0
-NumbersReadBack = (n : ℕ) → n < 2 ^ 64
-    → IsNumeral 10 (decimal n) × (digits_value 10 (decimal n) ≡ n)
-
--- a reply line is the line's number, a blank, the reply's text and a newline
-abbrev pub ReplyLinesAreNumbered : Type 0
-ReplyLinesAreNumbered = (n : ℕ) (reply : Response)
-    → reply_line n reply ≡ decimal n ++ 32 ∷ reply_text reply ++ 10 ∷ []
-
--- ---- refusals
-
--- a line that is refused leaves the catalogue as it was
-abbrev pub RefusedLinesChangeNothing : Type 0
-RefusedLinesChangeNothing = (c : Holdings) (line : List ℕ) (n : ℕ)
-    → (after_line c line).1 ≡ refused n → (after_line c line).0 ≡ c
-
--- refused 2 is the reply to just the lines of more than 33,554,432 bytes
-abbrev pub TooLongIsTwo : Type 0
-TooLongIsTwo = (c : Holdings) (line : List ℕ) → ((after_line c line).1 ≡ refused 2)
-    ↔ (33554432 < length line)
-
--- refused 1 is the reply to just the other lines that are no JSON
-abbrev pub NoJsonIsOne : Type 0
-NoJsonIsOne = (c : Holdings) (line : List ℕ) → ((after_line c line).1 ≡ refused 1)
-    ↔ ((length line ≤ 33554432) × (json_of line ≡ None))
-
--- refused 21 is the reply to just the other lines that are no order, or an order that a rule of the
--- catalogue refuses
-abbrev pub NoOrderIsTwentyOne : Type 0
-NoOrderIsTwentyOne = (c : Holdings) (line : List ℕ)
-    → ((after_line c line).1 ≡ refused 21)
-    ↔ ((length line ≤ 33554432) × (d : Data) × (json_of line ≡ Some d)
-    × (option_and_then (after_order c) (order_of d) ≡ None))
-
--- no other number is ever refused
-abbrev pub NoOtherNumberIsRefused : Type 0
-NoOtherNumberIsRefused = (c : Holdings) (line : List ℕ) (n : ℕ) → (after_line c line).1 ≡ refused n
-    → (n ≡ 1) ⊎ ((n ≡ 2) ⊎ (n ≡ 21))
-
--- a line that is an order, which the catalogue takes, changes and replies what the order does
-abbrev pub OtherLinesAreTaken : Type 0
-OtherLinesAreTaken = (c : Holdings) (line : List ℕ) (d : Data) (o : Order) (r : Holdings × Response)
-    → length line ≤ 33554432 → json_of line ≡ Some d → order_of d ≡ Some o
-    → after_order c o ≡ Some r → after_line c line ≡ r
-
 -- ---- sessions
 
 -- the replies to some lines and then others are those to the first, and those to the others from
@@ -197,33 +136,3 @@ OtherLinesHaveOneReply = (c : Holdings) (n : ℕ) (line : List ℕ) (lines : Lis
     → is_blank line ≡ false
     → replies_to c n (line ∷ lines)
     ≡ reply_line n (after_line c line).1 ++ replies_to (after_line c line).0 (n + 1) lines
-
--- ---- asks of the flow of one negation
-
--- its one path: input 0 of node 0
-abbrev pub the_path : List Step
-the_path = record { node = 0; input = 0 } ∷ []
-
--- a version of it over an array
-abbrev pub version_over : Grid → Bool → Version
-version_over g awaited = record { flow = negation; base = g ∷ []; awaited = awaited }
-
--- an ask back along the path is accepted where the array has each asked cell
-abbrev pub AsksOfHeldCellsAreAccepted : Type 0
-AsksOfHeldCellsAreAccepted = (g : Grid) (awaited : Bool) (asked : List Cell)
-    → list_all (holds g.extent) asked ≡ true
-    → (set : Cells) × (cells_answered Back the_path asked (version_over g awaited) ≡ Some set)
-
--- an ask that is accepted goes along that path, and asks cells of the array alone
-abbrev pub AcceptedAsksAreOfHeldCells : Type 0
-AcceptedAsksAreOfHeldCells =
-    (g : Grid) (awaited : Bool) (path : List Step) (asked : List Cell) (set : Cells)
-    → cells_answered Back path asked (version_over g awaited) ≡ Some set
-    → (path ≡ the_path) × (list_all (holds g.extent) asked ≡ true)
-
--- in the answer are just the cells of the array that are among the asked ones
-abbrev pub AnswersAreTheAskedCells : Type 0
-AnswersAreTheAskedCells =
-    (g : Grid) (awaited : Bool) (path : List Step) (asked : List Cell) (set : Cells)
-    → cells_answered Back path asked (version_over g awaited) ≡ Some set
-    → (x : Cell) → has set x ≡ (holds g.extent x && list_any (is_same x) asked)

@@ -21,10 +21,6 @@ is_within_line bytes = list_all (λ b. not (b == 10)) bytes
 abbrev pub is_blank : List ℕ → Bool
 is_blank line = list_all (λ b. (b == 32) || (b == 9) || (b == 13)) line
 
--- the most bytes that a line may have: 33,554,432
-abbrev pub line_limit : ℕ
-line_limit = 33554432
-
 -- ---- the lines that ended
 
 -- whole lines, each of which ended with a byte 10, and the bytes of the line that has not ended

@@ -1,7 +1,8 @@
 -- A session in the middle, and what bytes that come in say and leave.
 use Rattle.std.specs.Prelude.{◌≡◌, ◌⊎◌, ℕ, ◌+◌, ◌<◌, List, [], length}
-use Rattle.sz_session.specs.Lines.{Cut, before_cut, cut, last_line, is_blank, line_limit}
-use Rattle.sz_session.specs.Holdings.{Holdings}
+use Rattle.sz_script.specs.Reading.{line_limit}
+use Rattle.sz_session.specs.Lines.{Cut, before_cut, cut, last_line, is_blank}
+use Rattle.sz_catalogue.specs.Holdings.{Holdings}
 use Rattle.sz_session.specs.Transcript.{replies_to, after_lines}
 
 -- the catalogue, the bytes of the line that has not ended, and that line's number

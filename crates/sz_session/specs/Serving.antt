@@ -1,16 +1,16 @@
 -- What a session has said, while it goes on and when it ends. Nothing is claimed of bytes that the
 -- source or the station does not tell.
 use Rattle.std.specs.Prelude.{◌≡◌, ℕ, ◌+◌, ◌≤◌, ◌<◌, List, [], ◌∷◌, length, take, drop}
-use Rattle.std.specs.Prelude.{Bool, false, true, Option, Some, None, ⊤, codes}
+use Rattle.std.specs.Prelude.{Bool, false, Option, Some, None, ⊤, codes}
 use Rattle.std.specs.Str.{bytes_eq}
 use Rattle.sz_outside.specs.Outside.{Says, SaysPart}
-use Rattle.sz_session.specs.Lines.{lines_of, is_blank}
-use Rattle.sz_session.specs.Holdings.{Holdings, no_holdings}
-use Rattle.sz_session.specs.Changes.{after_line}
+use Rattle.sz_catalogue.specs.declared.reply.Reply.{Reply}
+use Rattle.sz_catalogue.specs.Holdings.{Holdings, no_holdings}
+use Rattle.sz_catalogue.specs.Responses.{reply_line}
+use Rattle.sz_catalogue.specs.Seen.{response_of}
+use Rattle.sz_session.specs.Lines.{lines_of}
 use Rattle.sz_session.specs.Transcript.{replies_to, transcript, whole_replies}
 use Rattle.sz_session.specs.Moments.{Moment, moment_before, told_in, moment_after, AreAlike}
-use Rattle.sz_session.specs.declared.reply.Reply.{Reply}
-use Rattle.sz_session.specs.Seen.{reply_seen}
 
 -- the words are the one word `play`
 abbrev pub are_play : List (List ℕ) → Bool
@@ -108,8 +108,7 @@ pub record Advances (said_before said : Option (List ℕ)) (before now : Moment)
   pub says : Says said_before said (told_in before bytes)
   pub alike : AreAlike now (moment_after before bytes)
 
--- the reply to a line: none to a blank one, which changes nothing, and else that of what it orders
-abbrev pub Responds : Holdings → List ℕ → Holdings → Option Reply → Type 0
-Responds old line new None = (is_blank line ≡ true) × (new ≡ old)
-Responds old line new (Some r) =
-    (is_blank line ≡ false) × (after_line old line ≡ (new, reply_seen r))
+-- what is written for an answer: nothing where there is none
+abbrev pub line_to_say : ℕ → Option Reply → List ℕ
+line_to_say number None = []
+line_to_say number (Some r) = reply_line number (response_of r)

@@ -2,18 +2,18 @@
 use Rattle.std.specs.Prelude.{ℕ, List, Option, Result, Ok, Err, ⊤}
 use Rattle.sz_outside.specs.Outside.{Rose}
 use Rattle.sz_session.specs.Serving.{Done, SaidOfRead, SaidInPart, SaidInLines, SaidToLimit}
-use Rattle.sz_session.specs.declared.feed.Stop.{Stop}
-use Rattle.sz_session.specs.declared.feed.Stop.TheVariants as stop
+use Rattle.sz_session.specs.declared.feed.Halt.{Halt}
+use Rattle.sz_session.specs.declared.feed.Halt.TheVariants as halt
 use Rattle.sz_session.specs.declared.serving.Status.{Status}
 use Rattle.sz_session.specs.declared.serving.Status.TheVariants as status
 
-abbrev pub stop_status : Stop → Status
-stop_status stop.SayFault = status.SayFault
-stop_status stop.NoMemory = status.NoMemory
+abbrev pub halt_status : Halt → Status
+halt_status halt.SayFault = status.SayFault
+halt_status halt.NoMemory = status.NoMemory
 
-abbrev pub end_status : Result (Unit {0}) Stop → Status
+abbrev pub end_status : Result (Unit {0}) Halt → Status
 end_status (Ok u) = status.Done
-end_status (Err s) = stop_status s
+end_status (Err s) = halt_status s
 
 -- What was read and said by then, for each status that a session of lines ends with.
 abbrev pub Ends : Status → ℕ → Option (List ℕ) → Option (List ℕ) → Option (List ℕ) → Option (List ℕ)

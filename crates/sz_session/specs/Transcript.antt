@@ -1,9 +1,9 @@
 -- What a session says of its lines: its transcript.
 use Rattle.std.specs.Prelude.{ℕ, ◌+◌, List, [], ◌∷◌, ◌++◌, if◌then◌else◌}
 use Rattle.sz_session.specs.Lines.{lines_of, is_blank, cut}
-use Rattle.sz_session.specs.Holdings.{Holdings}
-use Rattle.sz_session.specs.Changes.{after_line}
-use Rattle.sz_session.specs.Responses.{reply_line}
+use Rattle.sz_catalogue.specs.Holdings.{Holdings}
+use Rattle.sz_catalogue.specs.Changes.{after_line}
+use Rattle.sz_catalogue.specs.Responses.{reply_line}
 
 -- the reply lines of some lines, the first of which has this number: none of a blank line, and of
 -- each other line that of what it orders

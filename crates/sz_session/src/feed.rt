@@ -1,7 +1,7 @@
-//! Between the source and the catalogue: bytes are taken in, lines are cut and numbered, each line
+//! Between the source and the session: bytes are taken in, lines are cut and numbered, each line
 //! is answered, and its reply is said before the next line is looked at.
 //!
-//! Contracts see a feed as a `Moment`: the catalogue, the line that has not ended, and its number.
+//! Contracts see a feed as a `Moment`: what is held, the line that has not ended, and its number.
 //! What the feed keeps of a line past the limit is less than came of it, and *like* it: it tells
 //! the same whatever comes behind it. So every call says of the moment after it that it is like the
 //! one which kept all.
@@ -10,24 +10,30 @@ ghost use Rattle.std.specs.Prelude.{◌++◌, [], ◌∷◌, Err, IfOk, OnOk, On
 ghost use Rattle.std.specs.Prelude.{drop, take, slice_index, true, false};
 ghost use Rattle.sz_outside.specs.Outside.{Rose, Says, SaysPart};
 ghost use Rattle.sz_session.specs.Lines.{is_blank, is_within_line};
-ghost use Rattle.sz_session.specs.Holdings.{no_holdings};
-ghost use Rattle.sz_session.specs.Seen.{line_to_say};
+ghost use Rattle.sz_catalogue.specs.Holdings.{no_holdings};
 ghost use Rattle.sz_session.specs.Moments.{moment_before, cut_after, told_in, told_at_end, Alike};
-ghost use Rattle.sz_session.specs.Serving.{Responds, Advances, SaysFirst};
+ghost use Rattle.sz_session.specs.Serving.{Advances, SaysFirst, line_to_say};
 
-use crate::catalogue::Catalogue;
-use crate::command::LineFault;
-use crate::reading::{LINE_LIMIT, read_line};
-use crate::reply::{Reply, line_of};
+use crate::blank::is_blank;
+use crate::session::{Session, Stop};
 use std::alloc::{AllocError, Global};
 use std::marker::Model;
+use std::thread::Threads;
+use sz_catalogue::{Reply, reply_text};
 use sz_cells::NoMemory;
-use sz_outside::Station;
+use sz_outside::{Gate, Station};
+use sz_script::LINE_LIMIT;
+use sz_spec::Tally;
+
+/// How many workers and askers a session has: they are to come, and nothing calls on them yet.
+const WORKERS: u32 = 1;
+
+const ASKERS: u32 = 1;
 
 /// What is held, and what was read of the line that has not ended.
 #[derive(Drop)]
 pub struct Feed {
-    catalogue: Catalogue,
+    session: Session,
     pending: Vec<u8>,
     number: u64,
     alloc: Global,
@@ -39,7 +45,7 @@ impl Model for Feed {
     ghost Value = { Moment };
 
     ghost view = { λ f. record {
-      catalogue = f.catalogue;
+      catalogue = f.session;
       pending = f.pending.items;
       number = f.number;
     } };
@@ -47,99 +53,122 @@ impl Model for Feed {
 
 /// Why a session stopped within a piece.
 #[derive(Clone, Copy, Debug, Drop, PartialEq, Eq)]
-pub enum Stop {
+pub enum Halt {
     SayFault,
     NoMemory,
 }
 
-impl From<AllocError> for Stop {
+impl From<AllocError> for Halt {
     ghost use Rattle.std.specs.Prelude.{◌≡◌};
-    ghost use Rattle.sz_session.specs.declared.feed.Stop.TheVariants as stop;
+    ghost use Rattle.sz_session.specs.declared.feed.Halt.TheVariants as halt;
 
-    ghost from_gives = { λ _ e. e ≡ stop.NoMemory };
+    ghost from_gives = { λ _ e. e ≡ halt.NoMemory };
 
-    fn from(_fault: AllocError) -> Stop {
-        Stop::NoMemory
+    fn from(_fault: AllocError) -> Halt {
+        Halt::NoMemory
     }
 }
 
-impl From<NoMemory> for Stop {
+impl From<NoMemory> for Halt {
     ghost use Rattle.std.specs.Prelude.{◌≡◌};
-    ghost use Rattle.sz_session.specs.declared.feed.Stop.TheVariants as stop;
+    ghost use Rattle.sz_session.specs.declared.feed.Halt.TheVariants as halt;
 
-    ghost from_gives = { λ _ e. e ≡ stop.NoMemory };
+    ghost from_gives = { λ _ e. e ≡ halt.NoMemory };
 
-    fn from(_fault: NoMemory) -> Stop {
-        Stop::NoMemory
+    fn from(_fault: NoMemory) -> Halt {
+        Halt::NoMemory
+    }
+}
+
+impl From<Stop> for Halt {
+    ghost use Rattle.std.specs.Prelude.{◌≡◌};
+    ghost use Rattle.sz_session.specs.declared.feed.Halt.TheVariants as halt;
+
+    ghost from_gives = { λ _ e. e ≡ halt.NoMemory };
+
+    fn from(_stop: Stop) -> Halt {
+        Halt::NoMemory
     }
 }
 
 impl Feed {
     /// Nothing was read, and nothing is held.
-    pub fn new(alloc: Global) -> Feed
-        ensures { result ≡ moment_before no_holdings }
+    pub fn new(alloc: Global) -> Result<Feed, NoMemory>
+        ensures { IfOk result (λ f. f ≡ moment_before no_holdings) }
     {
-        Feed {
-            catalogue: Catalogue::new(alloc),
+        let session = Session::fresh(alloc, WORKERS, ASKERS)?;
+        Ok(Feed {
+            session,
             pending: Vec::new(alloc),
             number: 1,
             alloc,
-        }
+        })
     }
 
     /// Takes in a piece of what the source gave, and says the replies of the lines that end in it.
     /// Beside what its lines take, it takes time in the length of the piece.
-    pub fn take_piece<T: Station>(&mut self, piece: &[u8], station: &mut T) -> Result<(), Stop>
+    pub fn take_piece<T: Station, G: Gate, R: Threads + Sync>(
+        &mut self,
+        rt: &R,
+        piece: &[u8],
+        station: &mut T,
+        gate: &G,
+    ) -> Result<(), Halt>
         requires { self.old.number + length piece.now < 2 ^ 64 }
         ensures piece { OnOk result (
             Advances (T.said station.old) (T.said station.new) self.old self.new piece.now) }
-        ensures part { result ≡ Err Stop.SayFault
+        ensures part { result ≡ Err Halt.SayFault
             → SaysPart (T.said station.old) (T.said station.new) (told_in self.old piece.now) }
-        ensures first { result ≡ Err Stop.NoMemory
+        ensures first { result ≡ Err Halt.NoMemory
             → SaysFirst (T.said station.old) (T.said station.new)
             self.old.catalogue self.old.number (cut_after self.old piece.now).whole }
         ensures number { OnOk result (self.new.number ≤ self.old.number + length piece.now) }
-        ensures fault { result ≡ Err Stop.SayFault
+        ensures fault { result ≡ Err Halt.SayFault
             → Rose (T.say_faults station.old) (T.say_faults station.new) }
         ensures counts { T.say_faults station.old ≤ T.say_faults station.new }
     {
         let mut start = 0;
         while let Some(at) = newline_from(piece, start) {
             self.extend(&piece[start..at])?;
-            self.end_line(station)?;
+            self.end_line(rt, station, gate)?;
             start = at + 1;
         }
         self.extend(&piece[start..])
     }
 
     /// Ends the input: the line that has not ended is answered where it has bytes.
-    pub fn end_input<T: Station>(&mut self, station: &mut T) -> Result<(), Stop>
+    pub fn end_input<T: Station, G: Gate, R: Threads + Sync>(
+        &mut self,
+        rt: &R,
+        station: &mut T,
+        gate: &G,
+    ) -> Result<(), Halt>
         requires { self.old.number + 1 < 2 ^ 64 }
         ensures whole { OnOk result (
             Says (T.said station.old) (T.said station.new) (told_at_end self.old)) }
-        ensures part { result ≡ Err Stop.SayFault
+        ensures part { result ≡ Err Halt.SayFault
             → SaysPart (T.said station.old) (T.said station.new) (told_at_end self.old) }
-        ensures nothing { result ≡ Err Stop.NoMemory
+        ensures nothing { result ≡ Err Halt.NoMemory
             → Says (T.said station.old) (T.said station.new) [] }
-        ensures fault { result ≡ Err Stop.SayFault
+        ensures fault { result ≡ Err Halt.SayFault
             → Rose (T.say_faults station.old) (T.say_faults station.new) }
         ensures counts { T.say_faults station.old ≤ T.say_faults station.new }
     {
         if self.pending.as_slice().is_empty() {
             Ok(())
         } else {
-            self.end_line(station)
+            self.end_line(rt, station, gate)
         }
     }
 
     /// Takes in bytes of the line that has not ended. Of a line past the limit no more is kept than
     /// tells its reply.
-    fn extend(&mut self, bytes: &[u8]) -> Result<(), Stop>
+    fn extend(&mut self, bytes: &[u8]) -> Result<(), Halt>
         requires { is_within_line bytes.now ≡ true }
         ensures takes { OnOk result (
             (said : Option (List ℕ)) → Advances said said self.old self.new bytes.now) }
         ensures number { self.new.number ≡ self.old.number }
-        ensures err { OnErr result (result ≡ Err Stop.NoMemory) }
+        ensures err { OnErr result (result ≡ Err Halt.NoMemory) }
     {
         let kept = bytes_to_keep(&self.pending, bytes);
         self.pending.extend_from_slice(kept)?;
@@ -147,46 +176,32 @@ impl Feed {
     }
 
     /// Ends the line that has not ended: says its reply where it has one, and begins the next line.
-    fn end_line<T: Station>(&mut self, station: &mut T) -> Result<(), Stop>
+    fn end_line<T: Station, G: Gate, R: Threads + Sync>(
+        &mut self,
+        rt: &R,
+        station: &mut T,
+        gate: &G,
+    ) -> Result<(), Halt>
         requires { self.old.number + 1 < 2 ^ 64 }
         ensures line { OnOk result (
             Advances (T.said station.old) (T.said station.new) self.old self.new (10 ∷ [])) }
-        ensures part { result ≡ Err Stop.SayFault
+        ensures part { result ≡ Err Halt.SayFault
             → SaysPart (T.said station.old) (T.said station.new) (told_in self.old (10 ∷ [])) }
-        ensures nothing { result ≡ Err Stop.NoMemory
+        ensures nothing { result ≡ Err Halt.NoMemory
             → Says (T.said station.old) (T.said station.new) [] }
         ensures next { OnOk result (self.new.number ≡ self.old.number + 1) }
-        ensures fault { result ≡ Err Stop.SayFault
+        ensures fault { result ≡ Err Halt.SayFault
             → Rose (T.say_faults station.old) (T.say_faults station.new) }
         ensures counts { T.say_faults station.old ≤ T.say_faults station.new }
     {
-        let reply = reply_to(self.alloc, &mut self.catalogue, &self.pending)?;
+        let mut tally = Tally::new();
+        let reply = self
+            .session
+            .command(rt, &self.pending, self.number, station, gate, &mut tally)?;
         say(self.alloc, self.number, reply, station)?;
         self.pending.clear();
         self.number += 1;
         Ok(())
-    }
-}
-
-/// Takes one line through reading, judging and the change of the catalogue. A blank one has no
-/// reply.
-fn reply_to(
-    alloc: Global,
-    catalogue: &mut Catalogue,
-    line: &[u8],
-) -> Result<Option<Reply>, NoMemory>
-    ensures { IfOk result (λ r. Responds catalogue.old line.now catalogue.new r) }
-{
-    if is_blank(line) {
-        return Ok(None);
-    }
-    match read_line(alloc, line) {
-        Ok(command) => match catalogue.take(command)? {
-            Some(reply) => Ok(Some(reply)),
-            None => Ok(Some(Reply::Refused { number: 21 })),
-        },
-        Err(LineFault::Refused { number }) => Ok(Some(Reply::Refused { number })),
-        Err(LineFault::NoMemory) => Err(NoMemory),
     }
 }
 
@@ -197,24 +212,24 @@ fn say<T: Station>(
     number: u64,
     reply: Option<Reply>,
     station: &mut T,
-) -> Result<(), Stop>
+) -> Result<(), Halt>
     ensures said { OnOk result (
         Says (T.said station.old) (T.said station.new) (line_to_say number reply)) }
-    ensures part { result ≡ Err Stop.SayFault
+    ensures part { result ≡ Err Halt.SayFault
         → SaysPart (T.said station.old) (T.said station.new) (line_to_say number reply) }
-    ensures nothing { result ≡ Err Stop.NoMemory
+    ensures nothing { result ≡ Err Halt.NoMemory
         → Says (T.said station.old) (T.said station.new) [] }
-    ensures fault { result ≡ Err Stop.SayFault
+    ensures fault { result ≡ Err Halt.SayFault
         → Rose (T.say_faults station.old) (T.say_faults station.new) }
     ensures counts { T.say_faults station.old ≤ T.say_faults station.new }
 {
     let Some(reply) = reply else {
         return Ok(());
     };
-    let line = line_of(alloc, number, &reply)?;
-    match station.say(line.as_bytes()) {
+    let line = reply_text(alloc, number, &reply)?;
+    match station.say(&line) {
         Ok(()) => Ok(()),
-        Err(_) => Err(Stop::SayFault),
+        Err(_) => Err(Halt::SayFault),
     }
 }
 
@@ -267,12 +282,4 @@ fn first_filled(bytes: &[u8]) -> &[u8]
         }
     }
     unreachable!()
-}
-
-/// A line of spaces, tabs and bytes 13 alone.
-fn is_blank(line: &[u8]) -> bool
-    ensures { result ≡ is_blank line.now }
-{
-    line.iter()
-        .all(|b| *b == b' ' || *b == b'\t' || *b == b'\r')
 }

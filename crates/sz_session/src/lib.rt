@@ -14,34 +14,39 @@
 //! {"start":"f","base":[["a",1]]}                                      3 started 1
 //! {"await":1}                                                         4 done 1
 //! {"ask":1,"dir":"back","path":[[0,0]],"cells":[[0,0]]}               5 cells 1 0,0
+//! {"show":1,"node":0}                                                 6 values 1 1 -5
 //! ```
 //!
-//! The path of a line: `serving` reads pieces, `feed` cuts them into lines, `reading` makes a
-//! command of a line or refuses it, `catalogue` judges the command and changes what is held,
-//! `reply` writes the reply. `docs/FORMATS.md` describes lines and replies, `docs/DEFINITIONS.md`
-//! reads the definitions aloud.
+//! The path of a line: `serving` reads pieces, `feed` cuts them into lines, and
+//! [`Session::command`] gives the reply of each: it has the line read and judged, and then taken by
+//! the catalogue (`accept`), started (`starting` computes the values of all nodes, and `runs` keeps
+//! them by the version's number), answered along its path (`finding`), or shown. `docs/FORMATS.md`
+//! describes lines and replies, `docs/DEFINITIONS.md` reads the definitions aloud.
 //!
 //! To whoever changes this crate: what bytes tell as they come, and the moment that they leave, are
 //! functions of `specs/Moments.antt`, and both go by parts. `feed` is at each turn *like* that
 //! moment (`AreAlike`), since it keeps less of a line past the limit; `serving` carries from turn
 //! to turn that every whole line so far has its reply said (`Answered` of `specs/Serving.antt`),
-//! and the one function that reads asks for it. `catalogue` keeps an index by name beside a list,
-//! and counts beside both, as `specs/Kept.antt` says. A new form of a line is a new definition in
-//! `specs/Reading.antt`, a case of `Order` and of `after_order`, and a function in
-//! `reading/forms.rt`.
+//! and the one function that reads asks for it. All that these rest on of a line's meaning is that
+//! one which is too long is refused for that. A session keeps the runs of just the versions held
+//! (`KeepsRuns` of `specs/Runs.antt`), and that no list has a strategy that keeps a store: a view
+//! is then the mapping or a trace, and the way that is told is the one that was gone. What is
+//! answered by views of a path's nodes is the composed relation, by `sz_query`'s law; that these
+//! views are those of the nodes is read off the executions, in `proofs/Steps` and
+//! `proofs/PathViews`.
 #![tactic(auto)]
 
-mod ask;
-mod catalogue;
-mod command;
-mod evaluate;
+mod blank;
 mod feed;
+mod finding;
 pub mod laws;
-mod reading;
-mod reply;
+mod runs;
 mod serving;
+mod session;
+mod starting;
 
 pub use serving::{Status, serve};
+pub use session::{Session, Stop};
 
 #[cfg(test)]
 mod tests;

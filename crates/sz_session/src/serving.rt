@@ -8,12 +8,12 @@ ghost use Rattle.std.specs.Prelude.{◌≡◌, ◌⊎◌, ℕ, ◌<◌, ◌≤�
 ghost use Rattle.std.specs.Prelude.{◌↔◌, true, false, Ok, Err, IfOk, IfErr, OnErr, length, map};
 ghost use Rattle.std.specs.Prelude.{string_bytes};
 ghost use Rattle.sz_outside.specs.Outside.{Rose, Gives, Keeps};
-ghost use Rattle.sz_session.specs.Statuses.{stop_status, end_status, Ends, HasFault};
+ghost use Rattle.sz_session.specs.Statuses.{halt_status, end_status, Ends, HasFault};
 ghost use Rattle.sz_session.specs.Serving.{are_play, Done, SaidOfRead, SaidToLimit, SaidInPart};
 ghost use Rattle.sz_session.specs.Serving.{SaidInLines, IsPastLimit, IsWithinLimit, Opening};
 ghost use Rattle.sz_session.specs.Serving.{Answered, AreAll};
 
-use crate::feed::{Feed, Stop};
+use crate::feed::{Feed, Halt};
 use std::alloc::Global;
 use std::sync::{Arc, Wait};
 use std::thread::Threads;
@@ -46,8 +46,8 @@ const LIMIT: u64 = 1 << 62;
 /// pieces of at most 65,536 bytes, and before each read every whole line read so far has its reply
 /// said.
 ///
-/// The gate and the leave to start threads are for workers that are to come: nothing calls them
-/// yet.
+/// The gate is called after each accepted ask and explain, when its answer is found. Nothing waits
+/// yet: the leave to do so is for workers that are to come.
 pub fn serve<
     S: Source,
     T: Station,
@@ -82,7 +82,7 @@ pub fn serve<
         → (result ≡ Status.Done) ⊎ (result ≡ Status.NoMemory) }
 {
     if is_play(words) {
-        play(alloc, source, station, LIMIT)
+        play(rt, alloc, source, station, &**gate, LIMIT)
     } else {
         Status::Usage
     }
@@ -99,7 +99,14 @@ fn is_play(words: &[String]) -> bool
 }
 
 /// Reads the source to its end, or to a limit, and answers its lines.
-fn play<S: Source, T: Station>(alloc: Global, source: &mut S, station: &mut T, limit: u64) -> Status
+fn play<S: Source, T: Station, G: Gate, R: Threads + Sync>(
+    rt: &R,
+    alloc: Global,
+    source: &mut S,
+    station: &mut T,
+    gate: &G,
+    limit: u64,
+) -> Status
     requires { limit ≤ LIMIT }
     ensures ends { Ends result limit (S.left source.old) (S.left source.new)
         (T.said station.old) (T.said station.new) }
@@ -109,15 +116,19 @@ fn play<S: Source, T: Station>(alloc: Global, source: &mut S, station: &mut T, l
     let Ok(mut buffer) = vec![in alloc; 0u8; PIECE] else {
         return Status::NoMemory;
     };
-    let mut feed = Feed::new(alloc);
-    read_all(source, station, &mut buffer, &mut feed, limit)
+    let Ok(mut feed) = Feed::new(alloc) else {
+        return Status::NoMemory;
+    };
+    read_all(rt, source, station, gate, &mut buffer, &mut feed, limit)
 }
 
 /// Takes turn after turn, until no byte is left. Each takes at least one byte, and at the limit the
 /// next one tells whether there are more.
-fn read_all<S: Source, T: Station>(
+fn read_all<S: Source, T: Station, G: Gate, R: Threads + Sync>(
+    rt: &R,
     source: &mut S,
     station: &mut T,
+    gate: &G,
     buffer: &mut [u8],
     feed: &mut Feed,
     limit: u64,
@@ -135,8 +146,8 @@ fn read_all<S: Source, T: Station>(
 {
     let mut total = 0u64;
     'pieces: loop {
-        match take_turn(source, station, buffer, feed, total, limit) {
-            Ok(0) => return status_of_end(feed.end_input(station)),
+        match take_turn(rt, source, station, gate, buffer, feed, total, limit) {
+            Ok(0) => return status_of_end(feed.end_input(rt, station, gate)),
             Ok(count) => total += count as u64,
             Err(status) => return status,
         }
@@ -145,9 +156,11 @@ fn read_all<S: Source, T: Station>(
 
 /// One turn: reads at most a piece, and says the replies of the lines that end in it. Gives how
 /// many bytes were read, or the status that the session ends with.
-fn take_turn<S: Source, T: Station>(
+fn take_turn<S: Source, T: Station, G: Gate, R: Threads + Sync>(
+    rt: &R,
     source: &mut S,
     station: &mut T,
+    gate: &G,
     buffer: &mut [u8],
     feed: &mut Feed,
     total: u64,
@@ -179,9 +192,9 @@ fn take_turn<S: Source, T: Station>(
     if total == limit && count > 0 {
         return Err(Status::InputLimit);
     }
-    match feed.take_piece(&buffer[..count], station) {
+    match feed.take_piece(rt, &buffer[..count], station, gate) {
         Ok(()) => Ok(count),
-        Err(stop) => Err(status_of(stop)),
+        Err(halt) => Err(status_of(halt)),
     }
 }
 
@@ -230,22 +243,22 @@ fn room_after(total: u64, limit: u64) -> usize
 }
 
 /// The status of a session that stopped.
-fn status_of(stop: Stop) -> Status
-    ensures { result ≡ stop_status stop }
+fn status_of(halt: Halt) -> Status
+    ensures { result ≡ halt_status halt }
 {
-    match stop {
-        Stop::SayFault => Status::SayFault,
-        Stop::NoMemory => Status::NoMemory,
+    match halt {
+        Halt::SayFault => Status::SayFault,
+        Halt::NoMemory => Status::NoMemory,
     }
 }
 
 /// The status of a session that was read to its end.
-fn status_of_end(end: Result<(), Stop>) -> Status
+fn status_of_end(end: Result<(), Halt>) -> Status
     ensures { result ≡ end_status end }
 {
     match end {
         Ok(()) => Status::Done,
-        Err(stop) => status_of(stop),
+        Err(halt) => status_of(halt),
     }
 }
 

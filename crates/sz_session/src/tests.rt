@@ -9,6 +9,7 @@ use std::thread::Threads;
 use sz_outside::{MemSource, MemStation, NoGate, Source, SteadySource};
 
 mod greatest;
+mod rows;
 
 /// The smallest session.
 const TEXT: &[u8] = b"{\"array\":\"a\",\"cells\":[[5]]}
@@ -120,8 +121,8 @@ fn asked_cells_come_once_and_in_order(rt: HostRuntime) -> Result<(), Fail> {
 4 cells 1 0,0
 5 cells 0
 6 cells 3 0,1 1,0 1,2
-7 refused 21
-8 refused 21
+7 refused 17
+8 values 2 3 -1 - -3 -4 -5 -6
 ";
     let played = session(&rt, alloc, text.to_vec(alloc)?, 100, &[], &[])?;
     assert!(rt; played.is_done(replies));
@@ -135,13 +136,13 @@ fn lines_are_numbered_from_the_first(rt: HostRuntime) -> Result<(), Fail> {
     let alloc = rt.alloc();
     let text = b"{\"array\":\n   \n\t \r\n{\"await\":1}\r\n\n{";
     let played = session(&rt, alloc, text.to_vec(alloc)?, 2, &[], &[])?;
-    assert!(rt; played.is_done(b"1 refused 1\n4 refused 21\n6 refused 1\n"));
+    assert!(rt; played.is_done(b"1 refused 1\n4 refused 15\n6 refused 1\n"));
     let played = session(&rt, alloc, Vec::new(alloc), 2, &[], &[])?;
     assert!(rt; played.is_done(b""));
     Ok(())
 }
 
-/// A name of 32 bytes, and one of 33. A path of more steps than one is none of the flow's.
+/// A name of 32 bytes, and one of 33. A path in which a step does not follow is not joined.
 #[test]
 fn names_and_paths_are_as_long_as_they_may_be(rt: HostRuntime) -> Result<(), Fail> {
     let alloc = rt.alloc();
@@ -153,11 +154,11 @@ fn names_and_paths_are_as_long_as_they_may_be(rt: HostRuntime) -> Result<(), Fai
 {\"ask\":1,\"dir\":\"back\",\"path\":[[0,0],[0,0]],\"cells\":[]}
 ";
     let replies = b"1 array abcdefghijklmnopqrstuvwxyz_01234 1
-2 refused 21
+2 refused 4
 3 flow f
 4 started 1
 5 cells 0
-6 refused 21
+6 refused 16
 ";
     let played = session(&rt, alloc, text.to_vec(alloc)?, 65_536, &[], &[])?;
     assert!(rt; played.is_done(replies));

@@ -4,14 +4,21 @@ ghost use Rattle.std.specs.Prelude.{◌≤◌};
 use super::{Status, play};
 use std::alloc::Global;
 use std::test::Fail;
-use sz_outside::{MemStation, SteadySource};
+use std::thread::Threads;
+use sz_outside::{MemStation, NoGate, SteadySource};
 
 /// Whether a session of at most ten bytes of this text ends so, and says so many replies to lines
 /// that are no JSON.
-fn ends(alloc: Global, text: &[u8], status: Status, replies: usize) -> Result<bool, Fail> {
+fn ends<R: Threads + Sync>(
+    rt: &R,
+    alloc: Global,
+    text: &[u8],
+    status: Status,
+    replies: usize,
+) -> Result<bool, Fail> {
     let mut source = SteadySource::new(text.to_vec(alloc)?, 4);
     let mut station = MemStation::new(alloc, Vec::new(alloc), Vec::new(alloc), Vec::new(alloc))?;
-    let ended = play(alloc, &mut source, &mut station, 10);
+    let ended = play(rt, alloc, &mut source, &mut station, &NoGate, 10);
     let all = b"1 refused 1\n2 refused 1\n3 refused 1\n4 refused 1\n5 refused 1\n";
     Ok(ended == status && Some(station.said()) == all.get(..replies.saturating_mul(12)))
 }
@@ -19,9 +26,9 @@ fn ends(alloc: Global, text: &[u8], status: Status, replies: usize) -> Result<bo
 #[test]
 fn ten_bytes_are_read_and_not_eleven(rt: HostRuntime) -> Result<(), Fail> {
     let alloc = rt.alloc();
-    assert!(rt; ends(alloc, b"{\n{\n{\n{\n{\n", Status::Done, 5)?);
-    assert!(rt; ends(alloc, b"{\n{\n{\n{\n{\n{", Status::InputLimit, 5)?);
-    assert!(rt; ends(alloc, b"{\n{\n{\n{\n{{", Status::Done, 5)?);
-    assert!(rt; ends(alloc, b"{\n{\n{\n{\n{{\n", Status::InputLimit, 4)?);
+    assert!(rt; ends(&rt, alloc, b"{\n{\n{\n{\n{\n", Status::Done, 5)?);
+    assert!(rt; ends(&rt, alloc, b"{\n{\n{\n{\n{\n{", Status::InputLimit, 5)?);
+    assert!(rt; ends(&rt, alloc, b"{\n{\n{\n{\n{{", Status::Done, 5)?);
+    assert!(rt; ends(&rt, alloc, b"{\n{\n{\n{\n{{\n", Status::InputLimit, 4)?);
     Ok(())
 }

@@ -2,7 +2,7 @@
 use Rattle.std.proofs.Common.{subst, sym, ap, ◌∙◌}
 use Rattle.sz_session.specs.Moments.{Moment}
 use Rattle.sz_session.specs.Serving.{Answered}
-use Rattle.sz_session.proofs.Ends.{answered-start}
+use Rattle.sz_session.proofs.Ends.{answered-start, none-in_lines}
 use Rattle.sz_session.proofs.serving.play.Goals as goal
 
 pub read_all-requires : goal.read_all-requires
@@ -13,17 +13,36 @@ read_all-requires g c =
     λ κs lives. (
       lives.0,
       (
-        lives.1,
+        lives.1.0,
         (
-          c.deref_mut.ensures.len
-              ∙ c.in-Ok.ensures.len,
+          lives.1.1.0,
           (
-            c.requires,
+            lives.1.1.1,
             (
-              ap (λ (m : Moment). m.number) c.new-feed.ensures,
-              subst P (sym c.new-feed.ensures) (answered-start left said),
+              c.type_bounds.send-G,
+              (
+                c.type_bounds.sync-G,
+                (
+                  c.type_bounds.sync-R,
+                  (
+                    c.deref_mut.ensures.len
+                        ∙ c.in-Ok.ensures.len,
+                    (
+                      c.requires,
+                      (
+                        ap (λ (m : Moment). m.number) c.in-Ok-new.ensures,
+                        subst P (sym c.in-Ok-new.ensures) (answered-start left said),
+                      ),
+                    ),
+                  ),
+                ),
+              ),
             ),
           ),
         ),
       ),
     )
+
+pub returns-in_default-new-clause-ends : goal.returns-in_default-new-clause-ends
+returns-in_default-new-clause-ends g c =
+    none-in_lines (g.S.Source.left c.args.source.now) (g.T.Station.said c.args.station.now)

@@ -1,5 +1,5 @@
 -- Turns go on until no byte is left, or one of them ends the session.
-use Rattle.std.proofs.Common.{◌≡◌, ℕ, ◌+◌, subst, sym, ap, arith}
+use Rattle.std.proofs.Common.{◌≡◌, ℕ, ◌+◌, subst, sym, ap, ◌∙◌, arith}
 use Rattle.std.specs.Prelude.{Ok}
 use Rattle.sz_session.specs.declared.serving.Status.{Status}
 use Rattle.sz_session.specs.Serving.{Answered}
@@ -23,3 +23,36 @@ returns-in-Ok-eq0-clause-ends g c =
     (end-ends c.end_input.result c.args.limit _ _ _ _ _ c.take_turn.new.feed c.pieces.total c.pieces.invariant.within
     (subst Q same c.in-Ok-eq0.ensures.answered) (c.in-Ok-eq0.ensures.all (ap (λ (n : ℕ). Ok n) none))
     c.end_input.ensures.whole c.end_input.ensures.part c.end_input.ensures.nothing)
+
+-- the bounds of the types are those of the function itself
+pub take_turn-requires : goal.take_turn-requires
+take_turn-requires g c =
+    let bounds = c.requires.1.1.1.1 in
+    λ κs lives. (
+      lives.0,
+      (
+        lives.1.0,
+        (
+          lives.1.1.0,
+          (
+            lives.1.1.1,
+            (
+              bounds.0,
+              (
+                bounds.1.0,
+                (
+                  bounds.1.1.0,
+                  (
+                    c.pieces.auto.buffer ∙ bounds.1.1.1.0,
+                    (
+                      bounds.1.1.1.1.0,
+                      (c.pieces.invariant.within, (c.pieces.invariant.number, c.pieces.invariant.answered)),
+                    ),
+                  ),
+                ),
+              ),
+            ),
+          ),
+        ),
+      ),
+    )

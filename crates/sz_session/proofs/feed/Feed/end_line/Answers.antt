@@ -5,28 +5,30 @@ use Rattle.sz_session.proofs.feed.Feed.end_line.Goals as goal
 
 pub returns-clause-line : goal.returns-clause-line
 returns-clause-line g c =
-    let replies = rw c.deref.ensures.value at c.in_ok-reply.ensures in
+    let replies = rw c.deref.ensures.value at c.in_ok-reply.ensures.reply in
+    let said = rw c.command.ensures.station at c.in_ok-say.ensures.said in
     rw (← c.self.view_is, c.clear.ensures.items)
     (advances-line _ _ (record {
-      catalogue = c.self.inside.catalogue;
+      catalogue = c.self.inside.session;
       pending = c.self.inside.pending.items;
       number =
           c.self.inside.number;
-    }) _ _ replies c.in_ok-say.ensures.said)
+    }) _ _ replies said)
 
 pub returns-in_err-say-clause-part : goal.returns-in_err-say-clause-part
 returns-in_err-say-clause-part g c =
-    let replies = rw c.deref.ensures.value at c.in_ok-reply.ensures in
+    let replies = rw c.deref.ensures.value at c.in_ok-reply.ensures.reply in
+    let part = rw c.command.ensures.station at c.in_err-say.ensures.part in
     let p = err_from_is_err_and c.from_residual-in_err-say.result c.from_residual-in_err-say.ensures.1 in
     rw (
       p.1,
       p.2,
       ← c.self.view_is,
       told-line (record {
-        catalogue = c.self.inside.catalogue;
+        catalogue = c.self.inside.session;
         pending = c.self.inside.pending.items;
         number =
             c.self.inside.number;
       }) _ _ replies,
     )
-    c.in_err-say.ensures.part
+    part

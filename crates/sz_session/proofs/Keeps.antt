@@ -1,0 +1,324 @@
+-- What a command leaves true of a session.
+--
+-- The key idea: a command puts at most one flow or one version in, or changes one. What is put in is sound since no
+-- rule refused the command; and an awaited version has the runs that it had.
+use Rattle.std.proofs.Common.{◌≡◌, ℕ, suc, zero, ◌+◌, ◌<◌, List, [], ◌∷◌, map, length, Bool, true, false, not, refl}
+use Rattle.std.proofs.Common.{sym, ap, ap₂, ◌∙◌, subst, arith, Option, Some, None, unwrap_or, Ok, Err, eqb-true}
+use Rattle.std.specs.Prelude.{All, Result, ◌^◌, ◌&&◌, ◌||◌, nat_lt, nat_le, is_none, is_some, slice_set}
+use Rattle.std.specs.Prelude.{if◌then◌else◌}
+use Rattle.std.specs.Option.{IfSome, option_map}
+use Rattle.std.specs.Result.{result_err}
+use Rattle.std.specs.List.{list_all}
+use Rattle.std.specs.Ordering.{nat_cmp}
+use Rattle.std.specs.Cmp.Lexicographic.{slice_cmp}
+use Rattle.std.specs.Map.{lookup, keys_of, values_of}
+use Rattle.std.specs.BTreeMap.{is_at, insert_entry}
+use Rattle.std.proofs.lemmas.Bool.{and_parts}
+use Rattle.std.proofs.lemmas.Bool.Decides.{nat_tests}
+use Rattle.std.proofs.lemmas.Map.Made.{lookup-map_values}
+use Rattle.std.proofs.lemmas.Map.Views.{IfSome-lookup_from_All, All-values-set_value, All-values-insert_entry}
+use Rattle.sz_cells.specs.Extent.{Extent}
+use Rattle.sz_spec.specs.declared.flow.Node.{Node}
+use Rattle.sz_spec.specs.declared.modes.Strategy.{Strategy}
+use Rattle.sz_spec.specs.declared.modes.Strategy.TheVariants as strategy
+use Rattle.sz_spec.specs.Modes.{has_mapping}
+use Rattle.sz_spec.specs.Flows.{Graph, is_well_formed}
+use Rattle.sz_spec.specs.FlowShapes.{output_shapes}
+use Rattle.sz_script.specs.declared.command.BaseName.{BaseName}
+use Rattle.sz_script.specs.declared.command.Command.{Command}
+use Rattle.sz_script.specs.declared.command.Command.TheVariants as order
+use Rattle.sz_script.specs.declared.refusal.Refusal.{Refusal}
+use Rattle.sz_script.specs.declared.refusal.Refusal.TheVariants as refusal
+use Rattle.sz_script.specs.Names.{is_name}
+use Rattle.sz_script.specs.Right.{is_right, names_in, fault_in}
+use Rattle.sz_flow.specs.Executions.{Execution}
+use Rattle.sz_catalogue.specs.Holdings.{Workflow, Version, Holdings, flow_named, version_numbered, no_workflow}
+use Rattle.sz_catalogue.specs.Holdings.{no_version, next_number, shapes_of, greatest}
+use Rattle.sz_catalogue.specs.Starts.{first_list, first_lists, workflow_of, bases_of, version_started}
+use Rattle.sz_catalogue.specs.Rules as rules
+use Rattle.sz_catalogue.specs.Rules.{judged, first_of, version_of, names_a_store}
+use Rattle.sz_catalogue.specs.Changes.{accepted, with_flow, with_list, with_strategies, with_version}
+use Rattle.sz_catalogue.specs.Changes.{with_await}
+use Rattle.sz_catalogue.proofs.NodeLists.{firsts-right, set-right}
+use Rattle.sz_catalogue.proofs.Bases.{bases-length}
+use Rattle.sz_session.specs.Commands.{keeps_runs}
+use Rattle.sz_session.specs.Runs.{executions_of, keep_no_store, IsSoundFlow, IsSoundRun, KeepsRuns}
+use Rattle.sz_session.proofs.Entries.{insert-with_each, set-with_each, keys-with_each}
+
+-- ---- rules
+
+-- where no rule refuses, the first does not hold, and none of the others refuses
+pub rule-fails : (b : Bool) (r : Refusal) (rest : List (Bool × Refusal)) → first_of ((b, r) ∷ rest) ≡ None
+    → (b ≡ false) × (first_of rest ≡ None)
+rule-fails true r rest h = cc
+rule-fails false r rest h = (refl, h)
+
+not_true : (b : Bool) → not b ≡ true → b ≡ false
+not_true true h = cc
+not_true false h = refl
+
+pub not_false : (b : Bool) → not b ≡ false → b ≡ true
+not_false true h = refl
+not_false false h = cc
+
+there-is : {X : Type 0} (o : Option X) → is_none o ≡ false → (x : X) × (o ≡ Some x)
+there-is None h = cc
+there-is (Some x) h = (x, refl)
+
+-- ---- flows
+
+-- a flow that is held is sound
+pub flow-sound : (c : Holdings) (name : List ℕ) → All IsSoundFlow (values_of c.flows)
+    → rules.has_no_flow c name ≡ false → IsSoundFlow (workflow_of c name)
+flow-sound c name all held =
+    let found = there-is (flow_named c name) held in
+    let P : Option Workflow → Type 0 = λ o. IfSome o IsSoundFlow in
+    let sound = IfSome-lookup_from_All IsSoundFlow (is_at (slice_cmp nat_cmp name)) c.flows all in
+    subst IsSoundFlow (sym (ap (λ (o : Option Workflow). unwrap_or o no_workflow) found.1))
+    (subst P found.1 sound)
+
+-- the first lists keep no store
+firsts-unstored : (nodes : List Node) → keep_no_store (map first_list nodes) ≡ true
+firsts-unstored [] = refl
+firsts-unstored (x ∷ nodes) = ap₂ (λ (a b : Bool). a && b) (at (has_mapping x.op)) (firsts-unstored nodes) where
+  at : (b : Bool) → not (names_a_store ((if b then strategy.Map else strategy.BlackBox) ∷ [])) ≡ true
+  at true = refl
+  at false = refl
+
+-- nor do lists of which one was set to one that does not
+set-unstored : (lists : List (List Strategy)) (n : ℕ) (list : List Strategy) → keep_no_store lists ≡ true
+    → names_a_store list ≡ false → keep_no_store (slice_set lists n list) ≡ true
+set-unstored [] n list none here = refl
+set-unstored (l ∷ lists) zero list none here =
+    let both = and_parts (not (names_a_store l)) (keep_no_store lists) none in rw (here, both.1) refl
+set-unstored (l ∷ lists) (suc n) list none here =
+    let both = and_parts (not (names_a_store l)) (keep_no_store lists) none in
+    rw (both.0, set-unstored lists n list both.1 here) refl
+
+-- the flow of a command that is right is well formed
+right-flow : (name : List ℕ) (flow : Graph) → is_right (order.Flow name flow) ≡ true → is_well_formed flow ≡ true
+right-flow name flow right = (and_parts (list_all is_name (names_in (order.Flow name flow)))
+    (is_none (fault_in (order.Flow name flow))) right).1
+
+keeps-flow : (c : Holdings) (runs : List (ℕ × List Execution)) (name : List ℕ) (flow : Graph) → KeepsRuns c runs
+    → is_well_formed flow ≡ true → KeepsRuns (with_flow c name flow) runs
+keeps-flow c runs name flow k right =
+    let new : Workflow = record { graph = flow; lists = first_lists flow } in
+    let sound : IsSoundFlow new = record {
+      flow = record { right = right; lists = firsts-right flow.nodes };
+      no_store = firsts-unstored flow.nodes;
+    } in
+    record {
+      flows = All-values-insert_entry (slice_cmp nat_cmp) name new IsSoundFlow c.flows k.flows sound;
+      versions = k.versions;
+      kept = k.kept;
+    }
+
+-- a flow with another list for one of its nodes
+list-sound : (w : Workflow) (node : ℕ) (list : List Strategy) → IsSoundFlow w
+    → rules.is_list_of w.graph.nodes node list ≡ true → names_a_store list ≡ false
+    → IsSoundFlow (with_list w node list)
+list-sound w node list sound fits none = record {
+  flow = record {
+    right = sound.flow.right;
+    lists = (set-right w.graph.nodes w.lists node list sound.flow.lists fits).1;
+  };
+  no_store = set-unstored w.lists node list sound.no_store none;
+}
+
+keeps-strategies : (c : Holdings) (runs : List (ℕ × List Execution)) (name : List ℕ) (node : ℕ) (list : List Strategy)
+    → KeepsRuns c runs → judged c (order.Strategy name node list) ≡ None
+    → KeepsRuns (with_strategies c name node list) runs
+keeps-strategies c runs name node list k none =
+    let built = (names_a_store list, refusal.NotBuilt) ∷ [] in
+    let listed = (rules.has_bad_strategies c name node list, refusal.BadStrategies) ∷ built in
+    let held = rule-fails (rules.has_no_flow c name) refusal.NoSuchFlow listed none in
+    let fits = rule-fails (rules.has_bad_strategies c name node list) refusal.BadStrategies built held.1 in
+    let stores = rule-fails (names_a_store list) refusal.NotBuilt [] fits.1 in
+    let old = flow-sound c name k.flows held.0 in
+    let new = list-sound (workflow_of c name) node list old (not_false _ fits.0) stores.0 in
+    record {
+      flows = All-values-set_value (is_at (slice_cmp nat_cmp name)) IsSoundFlow c.flows
+          (with_list (workflow_of c name) node list) k.flows new;
+      versions = k.versions;
+      kept = k.kept;
+    }
+
+-- ---- versions
+
+-- a version that is held is sound
+pub version-found : (c : Holdings) (n : ℕ) → rules.has_no_version c n ≡ false
+    → version_numbered c n ≡ Some (version_of c n)
+version-found c n held =
+    let found = there-is (version_numbered c n) held in
+    found.1 ∙ ap (λ (v : Version). Some v) (sym (ap (λ (o : Option Version). unwrap_or o no_version) found.1))
+
+pub version-sound : (c : Holdings) (n : ℕ) → All IsSoundRun (values_of c.versions)
+    → rules.has_no_version c n ≡ false → IsSoundRun (version_of c n)
+version-sound c n all held =
+    let P : Option Version → Type 0 = λ o. IfSome o IsSoundRun in
+    subst P (version-found c n held) (IfSome-lookup_from_All IsSoundRun (is_at (nat_cmp n)) c.versions all)
+
+keeps-await : (c : Holdings) (runs : List (ℕ × List Execution)) (n : ℕ) → KeepsRuns c runs
+    → judged c (order.Await n) ≡ None → KeepsRuns (with_await c n) runs
+keeps-await c runs n k none =
+    let held = rule-fails (rules.has_no_version c n) refusal.NoSuchVersion [] none in
+    let v = version_of c n in
+    let w : Version = record v { awaited = true } in
+    let old = version-sound c n k.versions held.0 in
+    let new : IsSoundRun w = record {
+      run = (
+        old.run.0,
+        record {
+          right = old.run.1.right;
+          count = old.run.1.count;
+          fits = old.run.1.fits;
+          lists = old.run.1.lists;
+        },
+      );
+      no_store = old.no_store;
+    } in
+    record {
+      flows = k.flows;
+      versions = All-values-set_value (is_at (nat_cmp n)) IsSoundRun c.versions w k.versions new;
+      kept = k.kept ∙ sym (set-with_each executions_of (is_at (nat_cmp n)) c.versions v w
+          (version-found c n held.0) refl);
+    }
+
+-- the runs stay where no version is started
+pub keeps-accepted : (c : Holdings) (runs : List (ℕ × List Execution)) (command : Command) → KeepsRuns c runs
+    → is_right command ≡ true → judged c command ≡ None → keeps_runs command ≡ true
+    → KeepsRuns (accepted c command).0 runs
+keeps-accepted c runs (order.Array name array) k right none kind = record {
+  flows = k.flows;
+  versions = k.versions;
+  kept = k.kept;
+}
+keeps-accepted c runs (order.Layers name array) k right none kind = record {
+  flows = k.flows;
+  versions = k.versions;
+  kept = k.kept;
+}
+keeps-accepted c runs (order.Flow name flow) k right none kind =
+    keeps-flow c runs name flow k (right-flow name flow right)
+keeps-accepted c runs (order.Strategy name node list) k right none kind =
+    keeps-strategies c runs name node list k none
+keeps-accepted c runs (order.Start name base) k right none kind = cc
+keeps-accepted c runs (order.Await n) k right none kind = keeps-await c runs n k none
+keeps-accepted c runs (order.Ask n dir path places) k right none kind = cc
+keeps-accepted c runs (order.Explain n dir path places) k right none kind = cc
+keeps-accepted c runs (order.Show n node) k right none kind = cc
+
+-- ---- a start
+
+-- what a start that no rule refuses begins with
+pub record CanStart (c : Holdings) (name : List ℕ) (base : List BaseName) : Type 0 where
+  pub flow : rules.has_no_flow c name ≡ false
+  pub arrays : rules.has_no_array c base ≡ false
+  pub count : length base ≡ (workflow_of c name).graph.inputs
+  pub fits : (outputs : List Extent)
+      × (output_shapes (workflow_of c name).graph (shapes_of (bases_of c base)) ≡ Ok outputs)
+  pub number : next_number c < 2 ^ 32
+
+pub can-start : (c : Holdings) (name : List ℕ) (base : List BaseName) → judged c (order.Start name base) ≡ None
+    → CanStart c name base
+can-start c name base none =
+    let broken = refusal.ShapesDoNotFit (rules.first_broken c name base) in
+    let last = (rules.has_no_room_for_version c name base, refusal.NoRoomForVersion) ∷ [] in
+    let fourth = (rules.has_broken_shapes c name base, broken) ∷ last in
+    let third = (rules.has_wrong_base c name base, refusal.WrongBase) ∷ fourth in
+    let second = (rules.has_no_array c base, refusal.NoSuchArray) ∷ third in
+    let flow = rule-fails (rules.has_no_flow c name) refusal.NoSuchFlow second none in
+    let arrays = rule-fails (rules.has_no_array c base) refusal.NoSuchArray third flow.1 in
+    let count = rule-fails (rules.has_wrong_base c name base) refusal.WrongBase fourth arrays.1 in
+    let shapes = rule-fails (rules.has_broken_shapes c name base) broken last count.1 in
+    let room = rule-fails (rules.has_no_room_for_version c name base) refusal.NoRoomForVersion [] shapes.1 in
+    record {
+      flow = flow.0;
+      arrays = arrays.0;
+      count = eqb-true _ _ (not_false _ count.0);
+      fits = made (output_shapes (workflow_of c name).graph (shapes_of (bases_of c base))) shapes.0;
+      number = below (next_number c) (or_right _ _ room.0);
+    } where
+      made : (r : Result (List Extent) ℕ) → is_some (result_err r) ≡ false → (es : List Extent) × (r ≡ Ok es)
+      made (Ok es) h = (es, refl)
+      made (Err n) h = cc
+
+      or_right : (a b : Bool) → (a || b) ≡ false → b ≡ false
+      or_right true b h = cc
+      or_right false b h = h
+
+      below : (n : ℕ) → nat_lt rules.greatest_number n ≡ false → n < 2 ^ 32
+      below n h = grind (arith, nat_tests)
+
+-- the version that it makes is sound
+pub started-sound : (c : Holdings) (name : List ℕ) (base : List BaseName) → All IsSoundFlow (values_of c.flows)
+    → CanStart c name base → IsSoundRun (version_started c name base)
+started-sound c name base all can =
+    let w = flow-sound c name all can.flow in
+    record {
+      run = (
+        can.fits.0,
+        record {
+          right = w.flow.right;
+          count = bases-length c base can.arrays ∙ can.count;
+          fits = can.fits.1;
+          lists = w.flow.lists;
+        },
+      );
+      no_store = w.no_store;
+    }
+
+-- with its runs under the next number
+pub keeps-start : (c : Holdings) (runs : List (ℕ × List Execution)) (name : List ℕ) (base : List BaseName)
+    (made : List Execution) → KeepsRuns c runs → CanStart c name base
+    → made ≡ executions_of (version_started c name base)
+    → KeepsRuns (with_version c (next_number c) (version_started c name base))
+    (insert_entry nat_cmp runs (next_number c) made)
+keeps-start c runs name base made k can is =
+    let v = version_started c name base in
+    let n = next_number c in
+    record {
+      flows = k.flows;
+      versions = All-values-insert_entry nat_cmp n v IsSoundRun c.versions k.versions
+          (started-sound c name base k.flows can);
+      kept = ap₂ (λ (rs : List (ℕ × List Execution)) (es : List Execution). insert_entry nat_cmp rs n es) k.kept is
+          ∙ sym (insert-with_each executions_of c.versions n v);
+    }
+
+-- the next number by the runs
+pub next-by_runs : (c : Holdings) (runs : List (ℕ × List Execution)) → KeepsRuns c runs
+    → greatest (keys_of runs) + 1 ≡ next_number c
+next-by_runs c runs k =
+    ap (λ (rs : List (ℕ × List Execution)). greatest (keys_of rs) + 1) k.kept
+    ∙ ap (λ (ns : List ℕ). greatest ns + 1) (keys-with_each executions_of c.versions)
+
+-- the runs of a version that is held are its executions
+pub runs-at : (c : Holdings) (runs : List (ℕ × List Execution)) (n : ℕ) → KeepsRuns c runs
+    → rules.has_no_version c n ≡ false → lookup (is_at (nat_cmp n)) runs ≡ Some (executions_of (version_of c n))
+runs-at c runs n k held =
+    ap (λ (rs : List (ℕ × List Execution)). lookup (is_at (nat_cmp n)) rs) k.kept
+    ∙ lookup-map_values executions_of (is_at (nat_cmp n)) c.versions
+    ∙ ap (option_map executions_of) (version-found c n held)
+
+-- the flow that is found under a name
+pub flow-graph : (c : Holdings) (name : List ℕ) (g : Graph)
+    → Some g ≡ option_map (λ (w : Workflow). w.graph) (flow_named c name) → g ≡ (workflow_of c name).graph
+flow-graph c name g found = at (flow_named c name) found where
+  at : (o : Option Workflow) → Some g ≡ option_map (λ (w : Workflow). w.graph) o → g ≡ (unwrap_or o no_workflow).graph
+  at None h = cc
+  at (Some w) h = cc
+
+-- a show that no rule refuses is of a node of a held version
+pub can-show : (c : Holdings) (n node : ℕ) → judged c (order.Show n node) ≡ None
+    → (rules.has_no_version c n ≡ false) × (node < length (version_of c n).flow.nodes)
+can-show c n node none =
+    let last = (rules.has_no_node c n node, refusal.NoSuchNode) ∷ [] in
+    let held = rule-fails (rules.has_no_version c n) refusal.NoSuchVersion last none in
+    let there = rule-fails (rules.has_no_node c n node) refusal.NoSuchNode [] held.1 in
+    (held.0, below (length (version_of c n).flow.nodes) there.0) where
+      below : (m : ℕ) → nat_le m node ≡ false → node < m
+      below m h = grind (arith, nat_tests)
+
+pub some-same : {X : Type 0} (a b : X) → Some a ≡ Some b → a ≡ b
+some-same a b h = cc

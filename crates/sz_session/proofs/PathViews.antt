@@ -1,0 +1,317 @@
+-- The views of a path's steps: what is answered, traced and told by them.
+--
+-- The key idea: the view of a step is one of the execution of its node, so all that an answer along the path asks of
+-- the views, and all that it gives, is read off the executions step by step.
+use Rattle.std.proofs.Common.{◌≡◌, ℕ, suc, zero, ◌+◌, ◌<◌, ◌≤◌, List, [], ◌∷◌, ◌++◌, map, length, Bool, true}
+use Rattle.std.proofs.Common.{false, not}
+use Rattle.std.proofs.Common.{refl, sym, ap, ap₂, ◌∙◌, subst, arith, Option, Some, unwrap_or, cond, get_or}
+use Rattle.std.specs.Prelude.{◌&&◌, nat_lt, nat_le, sum_by, filter, if◌then◌else◌}
+use Rattle.std.specs.List.{AllZip, list_all, slice_get}
+use Rattle.std.specs.Option.{option_map}
+use Rattle.std.proofs.lemmas.Bool.{and_parts}
+use Rattle.std.proofs.lemmas.Bool.Decides.{nat_tests}
+use Rattle.std.proofs.lemmas.List.Sums.{sum_by-cons}
+use Rattle.sz_cells.specs.Extent.{Extent, size_of}
+use Rattle.sz_spec.specs.declared.flow.Node.{Node}
+use Rattle.sz_spec.specs.declared.op.Op.{Op}
+use Rattle.sz_spec.specs.declared.modes.Dir.{Dir}
+use Rattle.sz_spec.specs.declared.modes.Dir.TheVariants.{Back}
+use Rattle.sz_spec.specs.declared.modes.Strategy.{Strategy}
+use Rattle.sz_spec.specs.Modes.{has_mapping, supports, is_stored, way}
+use Rattle.sz_spec.specs.Values.{Grid, extent_at, extents_of}
+use Rattle.sz_spec.specs.Shapes.{Site}
+use Rattle.sz_spec.specs.Flows.{Graph}
+use Rattle.sz_spec.specs.Paths.{Step, source_of, is_there, follows, are_joined, is_joined, inputs_of}
+use Rattle.sz_region.specs.Images.{near_side, far_side}
+use Rattle.sz_flow.specs.Executions.{Execution}
+use Rattle.sz_query.specs.Views.{View, by_map, by_trace, site_of, IsReady, used_of, traced_by}
+use Rattle.sz_query.specs.Answers.{traced_of, IsStep, AreSteps}
+use Rattle.sz_query.specs.Laws.{IsFaithful, IsOfNode, AreOfPath}
+use Rattle.sz_catalogue.specs.Holdings.{Version, arrays_of}
+use Rattle.sz_catalogue.specs.Starts as starts
+use Rattle.sz_catalogue.specs.Rules.{are_distinct, is_list_for, are_lists_for, names_a_store}
+use Rattle.sz_catalogue.specs.Changes.{outputs, way_of, is_black_box, traced}
+use Rattle.sz_session.specs.Runs.{keep_no_store, IsSoundRun}
+use Rattle.sz_session.specs.Views.{is_map, view_by, IsViewOf, strategy_told, are_there}
+use Rattle.sz_session.proofs.Ways.{way-unstored, way-supported, mapping-supported, black_box-no_map, told-way}
+use Rattle.sz_session.proofs.Steps.{IsStepOf, step-of, step-input, step-out, step-starts, step-leads}
+
+-- ---- the lists of a version's nodes
+
+-- a node has a list of supported strategies, one at least
+pub lists-at : (nodes : List Node) (lists : List (List Strategy)) (n : ℕ) (x : Node)
+    → are_lists_for nodes lists ≡ true → keep_no_store lists ≡ true → slice_get nodes n ≡ Some x
+    → (list : List Strategy) × (slice_get lists n ≡ Some list) × (is_list_for x.op list ≡ true)
+    × (names_a_store list ≡ false)
+lists-at [] lists n x fit none at = cc
+lists-at (y ∷ nodes) [] n x fit none at = cc
+lists-at (y ∷ nodes) (list ∷ lists) zero x fit none at =
+    let same : y ≡ x = cc in
+    let both = and_parts (is_list_for y.op list) (are_lists_for nodes lists) fit in
+    let stores = and_parts (not (names_a_store list)) (keep_no_store lists) none in
+    (list, refl, ap (λ (z : Node). is_list_for z.op list) (sym same) ∙ both.0, no (names_a_store list) stores.0) where
+      no : (b : Bool) → not b ≡ true → b ≡ false
+      no true h = cc
+      no false h = refl
+lists-at (y ∷ nodes) (list ∷ lists) (suc n) x fit none at =
+    let both = and_parts (is_list_for y.op list) (are_lists_for nodes lists) fit in
+    let stores = and_parts (not (names_a_store list)) (keep_no_store lists) none in
+    lists-at nodes lists n x both.1 stores.1 at
+
+-- it is not empty, and its strategies are supported
+pub list-parts : (op : Op) (list : List Strategy) → is_list_for op list ≡ true
+    → (0 < length list) × (list_all (supports op) list ≡ true)
+list-parts op list fit =
+    let outer = and_parts _ (list_all (supports op) list) fit in
+    let middle = and_parts _ (are_distinct list) outer.0 in
+    let some = and_parts (nat_le 1 (length list)) (nat_le (length list) 3) middle.0 in
+    (at_least (length list) some.0, outer.1) where
+      at_least : (n : ℕ) → nat_le 1 n ≡ true → 0 < n
+      at_least n h = grind (arith, nat_tests)
+
+-- the way of a step whose node has such a list
+pub record HasWay (v : Version) (dir : Dir) (s : Step) (op : Op) : Type 0 where
+  pub unstored : is_stored (way_of v dir s) ≡ false
+  pub supported : supports op (way_of v dir s) ≡ true
+
+step-way : (v : Version) (dir : Dir) (s : Step) (e : Execution) → IsSoundRun v → IsStepOf v s e
+    → HasWay v dir s e.site.op
+step-way v dir s e sound h =
+    let known = lists-at v.flow.nodes v.lists s.node h.node sound.run.1.lists sound.no_store h.there in
+    let parts = list-parts h.node.op known.0 known.2 in
+    let here : way_of v dir s ≡ way known.0 dir =
+    ap (λ (o : Option (List Strategy)). way (unwrap_or o []) dir) known.1 in
+    let op : e.site.op ≡ h.node.op = ap (λ (x : Execution). x.site.op) h.is in
+    record {
+      unstored = ap is_stored here ∙ way-unstored known.0 dir parts.0 known.3;
+      supported = ap₂ supports op here ∙ way-supported h.node.op known.0 dir parts.0 parts.1;
+    }
+
+-- ---- one view
+
+-- what is known of the view of a step that is there
+pub record IsSoundView (v : Version) (dir : Dir) (s : Step) (w : View) : Type 0 where
+  pub execution : Execution
+  pub step : IsStepOf v s execution
+  pub way : HasWay v dir s execution.site.op
+  pub is : w ≡ view_by (way_of v dir s) execution
+
+pub sound-view : (v : Version) (dir : Dir) (s : Step) (w : View) → IsSoundRun v
+    → is_there (source_of v.flow s) ≡ true → IsViewOf v dir s w → IsSoundView v dir s w
+sound-view v dir s w sound there view =
+    let h = step-of v s view.0 sound there view.1 in
+    record { execution = view.0; step = h; way = step-way v dir s view.0 sound h; is = view.2 }
+
+-- its operator is that of the execution
+view-site : (way : Strategy) (e : Execution) → site_of (view_by way e) ≡ e.site
+view-site way e = at (is_map way) where
+  at : (b : Bool) → site_of (if b then by_map e.site else by_trace e.site e.inputs) ≡ e.site
+  at true = refl
+  at false = refl
+
+pub sound-site : (v : Version) (dir : Dir) (s : Step) (w : View) (h : IsSoundView v dir s w)
+    → site_of w ≡ h.execution.site
+sound-site v dir s w h = ap site_of h.is ∙ view-site (way_of v dir s) h.execution
+
+-- it can be used, and stands for the relation of its operator
+sound-ready : (v : Version) (dir : Dir) (s : Step) (w : View) → IsSoundView v dir s w → IsReady w
+sound-ready v dir s w h =
+    let e = h.execution in
+    let ins : extents_of e.inputs ≡ e.site.ins =
+    ap (λ (x : Execution). extents_of x.inputs) h.step.is ∙ sym (ap (λ (x : Execution). x.site.ins) h.step.is) in
+    subst IsReady (sym h.is) (at (is_map (way_of v dir s)) (mapping-supported e.site.op (way_of v dir s)
+    h.way.supported)
+    ins) where
+      at : (b : Bool) → (b ≡ true → has_mapping h.execution.site.op ≡ true)
+          → extents_of h.execution.inputs ≡ h.execution.site.ins
+          → IsReady (if b then by_map h.execution.site else by_trace h.execution.site h.execution.inputs)
+      at true mapping ins = mapping refl
+      at false mapping ins = ins
+
+sound-faithful : (v : Version) (dir : Dir) (s : Step) (w : View) → IsSoundView v dir s w
+    → IsFaithful w (inputs_of v.flow (arrays_of v.base) (outputs v) s.node)
+sound-faithful v dir s w h =
+    let e = h.execution in
+    let gs = inputs_of v.flow (arrays_of v.base) (outputs v) s.node in
+    let own : e.inputs ≡ gs = ap (λ (x : Execution). x.inputs) h.step.is in
+    subst (λ (x : View). IsFaithful x gs) (sym h.is)
+    (at gs (is_map (way_of v dir s)) (mapping-supported e.site.op (way_of v dir s) h.way.supported) own) where
+      at : (gs : List Grid) (b : Bool) → (b ≡ true → has_mapping h.execution.site.op ≡ true)
+          → h.execution.inputs ≡ gs
+          → IsFaithful (if b then by_map h.execution.site else by_trace h.execution.site h.execution.inputs) gs
+      at gs true mapping own = mapping refl
+      at gs false mapping own = own
+
+-- it is one of the step's node
+pub sound-of_node : (v : Version) (dir : Dir) (s : Step) (w : View) → IsSoundView v dir s w
+    → IsOfNode v.flow (arrays_of v.base) (outputs v) s.node w
+sound-of_node v dir s w h =
+    let e = h.execution in
+    let site = sound-site v dir s w h in
+    record {
+      op = ap (option_map (λ (x : Node). x.op)) h.step.there
+          ∙ ap (λ (o : Op). Some o) (sym (ap (λ (x : Site). x.op) site
+          ∙ ap (λ (x : Execution). x.site.op) h.step.is));
+      ins = ap (λ (x : Site). x.ins) site ∙ ap (λ (x : Execution). x.site.ins) h.step.is;
+      out = ap (λ (x : Site). x.out) site ∙ step-out v s e h.step;
+      faithful = sound-faithful v dir s w h;
+    }
+
+-- the step can be taken from the shape in which it starts
+sound-step : (v : Version) (dir : Dir) (s : Step) (w : View) (from : Extent) → IsSoundRun v → IsSoundView v dir s w
+    → from ≡ starts.step_start dir v s → IsStep dir w s.input from
+sound-step v dir s w from sound h starts_there =
+    let e = h.execution in
+    let site = sound-site v dir s w h in
+    record {
+      input = subst (λ (x : Site). s.input < length x.ins) (sym site) (step-input v s e h.step);
+      near = starts_there ∙ sym (step-starts v s e dir sound h.step)
+          ∙ ap (λ (x : Site). near_side dir x s.input) (sym site);
+      ready = sound-ready v dir s w h;
+    }
+
+-- ---- along the path
+
+-- the views of steps that are there
+abbrev pub AreSound : Version → Dir → List Step → List View → Type 0
+AreSound v dir path views = AllZip (IsSoundView v dir) path views
+
+pub sound-views : (v : Version) (dir : Dir) (path : List Step) (views : List View) → IsSoundRun v
+    → are_there v.flow path ≡ true → AllZip (IsViewOf v dir) path views → AreSound v dir path views
+sound-views v dir [] [] sound there zip = tt
+sound-views v dir [] (w ∷ views) sound there zip = zip
+sound-views v dir (s ∷ path) [] sound there zip = zip
+sound-views v dir (s ∷ path) (w ∷ views) sound there zip =
+    let both = and_parts (is_there (source_of v.flow s)) (are_there v.flow path) there in
+    (sound-view v dir s w sound both.0 zip.0, sound-views v dir path views sound both.1 zip.1)
+
+-- each is one of its step's node
+pub views-of_path : (v : Version) (dir : Dir) (path : List Step) (views : List View) → AreSound v dir path views
+    → AreOfPath v.flow (arrays_of v.base) (outputs v) path views
+views-of_path v dir [] [] zip = tt
+views-of_path v dir [] (w ∷ views) zip = zip
+views-of_path v dir (s ∷ path) [] zip = zip
+views-of_path v dir (s ∷ path) (w ∷ views) zip =
+    (sound-of_node v dir s w zip.0, views-of_path v dir path views zip.1)
+
+-- each step of a joined path is there
+pub joined-there : (dir : Dir) (flow : Graph) (path : List Step) → are_joined dir flow path ≡ true
+    → are_there flow path ≡ true
+joined-there dir flow [] joined = refl
+joined-there dir flow (s ∷ []) joined = rw joined refl
+joined-there dir flow (s ∷ t ∷ path) joined =
+    let outer =
+    and_parts (is_there (source_of flow s) && follows dir flow s t) (are_joined dir flow (t ∷ path)) joined in
+    let both = and_parts (is_there (source_of flow s)) (follows dir flow s t) outer.0 in
+    let rest = joined-there dir flow (t ∷ path) outer.1 in
+    rw (both.0, rest) refl
+
+-- along a joined path each step can be taken, from the shape in which the path starts
+pub views-steps : (v : Version) (dir : Dir) (path : List Step) (views : List View) (from : Extent) → IsSoundRun v
+    → are_joined dir v.flow path ≡ true → AreSound v dir path views → from ≡ starts.path_start dir v path
+    → AreSteps dir views (map (λ (s : Step). s.input) path) from
+views-steps v dir [] [] from sound joined zip is = tt
+views-steps v dir [] (w ∷ views) from sound joined zip is = absurd zip
+views-steps v dir (s ∷ path) [] from sound joined zip is = absurd zip
+views-steps v dir (s ∷ []) (w ∷ []) from sound joined zip is = (sound-step v dir s w from sound zip.0 is, tt)
+views-steps v dir (s ∷ []) (w ∷ x ∷ views) from sound joined zip is = absurd zip.1
+views-steps v dir (s ∷ t ∷ path) (w ∷ []) from sound joined zip is = absurd zip.1
+views-steps v dir (s ∷ t ∷ path) (w ∷ x ∷ views) from sound joined zip is =
+    let outer = and_parts (is_there (source_of v.flow s) && follows dir v.flow s t)
+    (are_joined dir v.flow (t ∷ path)) joined in
+    let both = and_parts (is_there (source_of v.flow s)) (follows dir v.flow s t) outer.0 in
+    let g = zip.0 in
+    let h = zip.1.0 in
+    let leads : far_side dir (site_of w) s.input ≡ starts.step_start dir v t =
+    ap (λ (y : Site). far_side dir y s.input) (sound-site v dir s w g)
+    ∙ step-leads v s t g.execution h.execution dir g.step h.step both.1
+    ∙ step-starts v t h.execution dir sound h.step in (
+      sound-step v dir s w from sound g is,
+      views-steps v dir (t ∷ path) (x ∷ views) (far_side dir (site_of w) s.input) sound outer.1 zip.1 leads,
+    )
+
+-- what is told of the steps is their ways
+pub views-told : (v : Version) (dir : Dir) (path : List Step) (views : List View) → AreSound v dir path views
+    → map strategy_told (map used_of views) ≡ map (way_of v dir) path
+views-told v dir [] [] zip = refl
+views-told v dir [] (w ∷ views) zip = absurd zip
+views-told v dir (s ∷ path) [] zip = absurd zip
+views-told v dir (s ∷ path) (w ∷ views) zip =
+    let h = zip.0 in
+    ap₂ (λ (x : Strategy) (xs : List Strategy). x ∷ xs)
+    (ap (λ (x : View). strategy_told (used_of x)) h.is ∙ told-way (way_of v dir s) h.execution h.way.unstored)
+    (views-told v dir path views zip.1)
+
+-- what a step traces: the output of its node where its way is black box
+step-traced : (v : Version) (dir : Dir) (s : Step) (w : View) → IsSoundRun v → IsSoundView v dir s w
+    → traced_by w ≡ (if is_black_box (way_of v dir s) then size_of (extent_at (starts.outputs_of v) s.node) else 0)
+step-traced v dir s w sound h =
+    let e = h.execution in
+    let way = way_of v dir s in
+    let shape : e.site.out ≡ extent_at (starts.outputs_of v) s.node = step-starts v s e Back sound h.step in
+    ap traced_by h.is ∙ at (is_map way) ∙ ap (λ (b : Bool). if b then size_of e.site.out else 0)
+    (sym (black_box-no_map way h.way.unstored))
+    ∙ ap (λ (x : Extent). if is_black_box way then size_of x else 0) shape where
+      at : (b : Bool) → traced_by (if b then by_map h.execution.site else by_trace h.execution.site h.execution.inputs)
+          ≡ (if not b then size_of h.execution.site.out else 0)
+      at true = refl
+      at false = refl
+
+-- and all of them
+pub views-traced : (v : Version) (dir : Dir) (path : List Step) (views : List View) → IsSoundRun v
+    → AreSound v dir path views → traced_of views ≡ traced v dir path
+views-traced v dir [] [] sound zip = refl
+views-traced v dir [] (w ∷ views) sound zip = absurd zip
+views-traced v dir (s ∷ path) [] sound zip = absurd zip
+views-traced v dir (s ∷ path) (w ∷ views) sound zip =
+    ap₂ ◌+◌ (step-traced v dir s w sound zip.0) (views-traced v dir path views sound zip.1)
+    ∙ at (is_black_box (way_of v dir s)) where
+      at : (b : Bool) → (if b then size_of (extent_at (starts.outputs_of v) s.node) else 0) + traced v dir path
+          ≡ sum_by (λ (t : Step). size_of (extent_at (starts.outputs_of v) t.node))
+          (cond b (s ∷ filter (λ t. is_black_box (way_of v dir t)) path)
+          (filter (λ t. is_black_box (way_of v dir t)) path))
+      at true = sym (sum_by-cons (λ (t : Step). size_of (extent_at (starts.outputs_of v) t.node)) s
+          (filter (λ t. is_black_box (way_of v dir t)) path))
+      at false = omega arith
+
+-- ---- what is asked of a path and its views
+
+-- a joined path has 1 to 32 steps
+pub joined-parts : (dir : Dir) (flow : Graph) (path : List Step) → is_joined dir flow path ≡ true
+    → (0 < length path) × (length path ≤ 32) × (are_joined dir flow path ≡ true)
+joined-parts dir flow path joined =
+    let outer = and_parts (nat_lt 0 (length path) && nat_le (length path) 32) (are_joined dir flow path) joined in
+    let both = and_parts (nat_lt 0 (length path)) (nat_le (length path) 32) outer.0 in
+    (some (length path) both.0, few (length path) both.1, outer.1) where
+      some : (n : ℕ) → nat_lt 0 n ≡ true → 0 < n
+      some n h = grind (arith, nat_tests)
+
+      few : (n : ℕ) → nat_le n 32 ≡ true → n ≤ 32
+      few n h = grind (arith, nat_tests)
+
+-- there are as many views as steps
+pub views-length : (R : Step → View → Type 0) (path : List Step) (views : List View) → AllZip R path views
+    → length views ≡ length path
+views-length R [] [] zip = refl
+views-length R [] (w ∷ views) zip = absurd zip
+views-length R (s ∷ path) [] zip = absurd zip
+views-length R (s ∷ path) (w ∷ views) zip = ap suc (views-length R path views zip.1)
+
+-- a path starts where its first step does
+pub path-starts : (v : Version) (dir : Dir) (path : List Step) (s : Step) → 0 < length path → s ≡ get_or path 0 s
+    → starts.path_start dir v path ≡ starts.step_start dir v s
+path-starts v dir [] s some is = absurd (omega arith)
+path-starts v dir (t ∷ path) s some is = ap (starts.step_start dir v) (sym is)
+
+-- the first step of a path whose steps are there is there
+pub first-there : (flow : Graph) (path : List Step) (s : Step) → 0 < length path → s ≡ get_or path 0 s
+    → are_there flow path ≡ true → is_there (source_of flow s) ≡ true
+first-there flow [] s some is there = absurd (omega arith)
+first-there flow (t ∷ path) s some is there =
+    ap (λ (x : Step). is_there (source_of flow x)) is
+    ∙ (and_parts (is_there (source_of flow t)) (are_there flow path) there).0
+
+-- one more view
+pub traced-more : (views : List View) (w : View) → traced_of (views ++ w ∷ []) ≡ traced_of views + traced_by w
+traced-more [] w = omega arith
+traced-more (x ∷ views) w = omega (arith, traced-more views w)

@@ -1,0 +1,101 @@
+-- The views are those of the path's nodes, so what is answered by them is the composed relation.
+use Rattle.std.proofs.Common.{◌≡◌, ℕ, ◌+◌, List, map, sym, ap, ap₂, ◌∙◌, subst, arith}
+use Rattle.std.proofs.lemmas.Result.{IfOk-weaker, on_ok_weaker}
+use Rattle.sz_cells.specs.Extent.{Extent}
+use Rattle.sz_cells.specs.Cells.{Cells, named_in}
+use Rattle.sz_spec.specs.Paths.{Step, compose}
+use Rattle.sz_query.specs.Views.{view_of}
+use Rattle.sz_query.specs.Answers.{answered, AreSteps}
+use Rattle.sz_query.proofs.Composed.{answers-composed}
+use Rattle.sz_script.specs.declared.command.Place.{Place}
+use Rattle.sz_catalogue.specs.Holdings.{arrays_of}
+use Rattle.sz_catalogue.specs.Starts.{cell_of_place, path_start}
+use Rattle.sz_catalogue.specs.Changes.{outputs}
+use Rattle.sz_session.specs.Views.{IsViewOf, strategy_told}
+use Rattle.sz_session.proofs.PathViews.{sound-views, views-of_path, joined-there, views-steps, views-told, views-traced}
+use Rattle.sz_session.proofs.PathViews.{joined-parts, views-length, path-starts}
+use Rattle.sz_session.proofs.finding.find.Goals as goal
+
+pub views_of-requires-clause-there : goal.views_of-requires-clause-there
+views_of-requires-clause-there c =
+    let parts = joined-parts c.args.dir c.args.version.now.flow c.args.path.now c.requires.joined in
+    rw c.as_slice-steps.ensures (joined-there c.args.dir c.args.version.now.flow c.args.path.now parts.2)
+
+pub answer-requires-clause-path : goal.answer-requires-clause-path
+answer-requires-clause-path c =
+    let zip = rw (c.as_slice-steps.ensures, ← c.deref_mut.ensures.value) at c.in_ok-views.ensures.views in
+    let parts = joined-parts c.args.dir c.args.version.now.flow c.args.path.now c.requires.joined in
+    let long = views-length (IsViewOf c.args.version.now c.args.dir) c.args.path.now _ zip in
+    (omega (arith, long, parts.0), omega (arith, long, parts.1))
+
+pub answer-requires-clause-steps : goal.answer-requires-clause-steps
+answer-requires-clause-steps c =
+    let v = c.args.version.now in
+    let zip = rw (c.as_slice-steps.ensures, ← c.deref_mut.ensures.value) at c.in_ok-views.ensures.views in
+    let parts = joined-parts c.args.dir v.flow c.args.path.now c.requires.joined in
+    let there = joined-there c.args.dir v.flow c.args.path.now parts.2 in
+    let views = sound-views v c.args.dir c.args.path.now _ c.requires.sound there zip in
+    let inputs = c.deref.ensures.value ∙ c.in_ok-inputs.ensures
+    ∙ ap (map (λ (s : Step). s.input)) c.as_slice-steps.ensures in
+    let first = rw c.as_slice-steps.ensures at c.index-steps-0.is in
+    let from : c.in_ok-cells.cells.extent ≡ path_start c.args.dir v c.args.path.now =
+    ap (λ (x : Cells). x.extent) c.in_ok-cells.ensures ∙ c.start_of-start.ensures
+    ∙ sym (path-starts v c.args.dir c.args.path.now c.index-steps-0.result parts.0 first) in
+    let P : List ℕ → Type 0 =
+    λ is. AreSteps c.args.dir (map view_of c.deref_mut.result.now) is c.in_ok-cells.cells.extent in
+    subst P (sym inputs) (views-steps v c.args.dir c.args.path.now _ _ c.requires.sound parts.2 views from)
+
+pub returns-clause-cells : goal.returns-clause-cells
+returns-clause-cells c =
+    let v = c.args.version.now in
+    let dir = c.args.dir in
+    let path = c.args.path.now in
+    let views = map view_of c.deref_mut.result.now in
+    let zip = rw (c.as_slice-steps.ensures, ← c.deref_mut.ensures.value) at c.in_ok-views.ensures.views in
+    let parts = joined-parts dir v.flow path c.requires.joined in
+    let sound = sound-views v dir path _ c.requires.sound (joined-there dir v.flow path parts.2) zip in
+    let inputs : c.deref.result.now ≡ map (λ (s : Step). s.input) path =
+    c.deref.ensures.value ∙ c.in_ok-inputs.ensures ∙ ap (map (λ (s : Step). s.input)) c.as_slice-steps.ensures in
+    let start = c.start_of-start.ensures ∙ sym (path-starts v dir path c.index-steps-0.result parts.0
+    (rw c.as_slice-steps.ensures at c.index-steps-0.is)) in
+    let set = c.in_ok-cells.ensures
+    ∙ ap₂ (λ (e : Extent) (ps : List Place). named_in e (map (cell_of_place e) ps)) start
+    c.as_slice.ensures in
+    IfOk-weaker c.answer.result _ _
+    (λ f p. p ∙ ap (λ (is : List ℕ). answered dir views is c.in_ok-cells.cells) inputs
+    ∙ answers-composed dir v.flow (arrays_of v.base) (outputs v) path views c.in_ok-cells.cells
+    (views-of_path v dir path views sound)
+    ∙ ap (λ (x : Cells). compose dir v.flow (arrays_of v.base) (outputs v) path x) set)
+    c.answer.ensures.cells
+
+pub returns-clause-ways : goal.returns-clause-ways
+returns-clause-ways c =
+    let v = c.args.version.now in
+    let zip = rw (c.as_slice-steps.ensures, ← c.deref_mut.ensures.value) at c.in_ok-views.ensures.views in
+    let parts = joined-parts c.args.dir v.flow c.args.path.now c.requires.joined in
+    let there = joined-there c.args.dir v.flow c.args.path.now parts.2 in
+    let sound = sound-views v c.args.dir c.args.path.now _ c.requires.sound there zip in
+    IfOk-weaker c.answer.result _ _
+    (λ f p. ap (map strategy_told) p ∙ views-told v c.args.dir c.args.path.now _ sound)
+    c.answer.ensures.used
+
+pub returns-clause-traced : goal.returns-clause-traced
+returns-clause-traced c =
+    let v = c.args.version.now in
+    let zip = rw (c.as_slice-steps.ensures, ← c.deref_mut.ensures.value) at c.in_ok-views.ensures.views in
+    let parts = joined-parts c.args.dir v.flow c.args.path.now c.requires.joined in
+    let there = joined-there c.args.dir v.flow c.args.path.now parts.2 in
+    let sound = sound-views v c.args.dir c.args.path.now _ c.requires.sound there zip in
+    IfOk-weaker c.answer.result _ _
+    (λ f p. p ∙ views-traced v c.args.dir c.args.path.now _ c.requires.sound sound) c.answer.ensures.traced
+
+pub returns-clause-ticks : goal.returns-clause-ticks
+returns-clause-ticks c =
+    let v = c.args.version.now in
+    let zip = rw (c.as_slice-steps.ensures, ← c.deref_mut.ensures.value) at c.in_ok-views.ensures.views in
+    let parts = joined-parts c.args.dir v.flow c.args.path.now c.requires.joined in
+    let there = joined-there c.args.dir v.flow c.args.path.now parts.2 in
+    let sound = sound-views v c.args.dir c.args.path.now _ c.requires.sound there zip in
+    on_ok_weaker c.answer.result
+    (λ p. p ∙ ap (λ (n : ℕ). c.args.tally.now + n)
+    (views-traced v c.args.dir c.args.path.now _ c.requires.sound sound)) c.answer.ensures.ticks

@@ -1,0 +1,39 @@
+-- What no rule refuses is what a run asks for.
+use Rattle.std.proofs.Common.{List, length, map, sym, ap, ◌∙◌}
+use Rattle.std.specs.Arc.{arc_value}
+use Rattle.std.proofs.lemmas.List.{length-map}
+use Rattle.sz_spec.specs.Values.{Grid}
+use Rattle.sz_spec.specs.Flows.{Graph}
+use Rattle.sz_catalogue.specs.Holdings.{Base}
+use Rattle.sz_catalogue.specs.Starts.{bases_of}
+use Rattle.sz_catalogue.proofs.Bases.{bases-length}
+use Rattle.sz_session.proofs.Steps.{base-shapes}
+use Rattle.sz_session.proofs.Keeps.{can-start, flow-sound, flow-graph}
+use Rattle.sz_session.proofs.starting.run_version.Goals as goal
+
+pub run_all-requires-clause-well_formed : goal.run_all-requires-clause-well_formed
+run_all-requires-clause-well_formed g c =
+    let cat = c.args.catalogue.now in
+    let can = can-start cat c.args.name.now c.args.base.now c.requires.judged in
+    let graph = c.deref.ensures ∙ flow-graph cat c.args.name.now _ (rw c.in-Some.is at c.flow.ensures) in
+    λ κs lives. rw graph (flow-sound cat c.args.name.now c.requires.sound can.flow).flow.right
+
+pub run_all-requires-clause-count : goal.run_all-requires-clause-count
+run_all-requires-clause-count g c =
+    let cat = c.args.catalogue.now in
+    let can = can-start cat c.args.name.now c.args.base.now c.requires.judged in
+    let graph = c.deref.ensures ∙ flow-graph cat c.args.name.now _ (rw c.in-Some.is at c.flow.ensures) in
+    λ κs lives. ap (λ xs. length xs) c.deref-2.ensures.value
+    ∙ sym (length-map c.in_ok-arrays.arrays.items (λ a. arc_value a))
+    ∙ ap (λ (gs : List Grid). length gs) c.in_ok-arrays.ensures
+    ∙ length-map (bases_of cat c.args.base.now) (λ (b : Base). b.array)
+    ∙ bases-length cat c.args.base.now can.arrays ∙ can.count
+    ∙ sym (ap (λ (x : Graph). x.inputs) graph)
+
+pub run_all-requires-clause-fits : goal.run_all-requires-clause-fits
+run_all-requires-clause-fits g c =
+    let cat = c.args.catalogue.now in
+    let can = can-start cat c.args.name.now c.args.base.now c.requires.judged in
+    let graph = c.deref.ensures ∙ flow-graph cat c.args.name.now _ (rw c.in-Some.is at c.flow.ensures) in
+    let arrays = ap (λ xs. map (λ a. arc_value a) xs) c.deref-2.ensures.value ∙ c.in_ok-arrays.ensures in
+    λ κs lives. (can.fits.0, rw (graph, arrays, base-shapes (bases_of cat c.args.base.now)) can.fits.1)

@@ -1,0 +1,177 @@
+//! What is found along a path of a version.
+
+ghost use Rattle.std.specs.Prelude.{◌≡◌, ◌+◌, ◌*◌, ◌^◌, ◌<◌, ◌≤◌, true, length, map, IfOk};
+ghost use Rattle.std.specs.Prelude.{OnOk, OnErr};
+ghost use Rattle.std.specs.List.{AllZip, list_all};
+ghost use Rattle.sz_cells.specs.Extent.{holds};
+ghost use Rattle.sz_cells.specs.Cells.{named_in};
+ghost use Rattle.sz_spec.specs.Paths.{is_joined, source_of, is_there};
+ghost use Rattle.sz_flow.specs.Executions.{execution_of};
+ghost use Rattle.sz_query.specs.Views.{view_of, traced_by};
+ghost use Rattle.sz_query.specs.Answers.{traced_of};
+ghost use Rattle.sz_catalogue.specs.Starts.{step_start, path_start, cell_of_place};
+ghost use Rattle.sz_catalogue.specs.Rules.{has_place};
+ghost use Rattle.sz_catalogue.specs.Changes.{cells_answered, way_of, traced};
+ghost use Rattle.sz_session.specs.Runs.{IsSoundRun, executions_of};
+ghost use Rattle.sz_session.specs.Views.{is_map, IsViewOf, strategy_told, are_there};
+
+use std::alloc::Global;
+use std::sync::Arc;
+use sz_catalogue::HeldVersion;
+use sz_cells::{Cell, CellSet, NoMemory, Shape, laws};
+use sz_flow::NodeRun;
+use sz_query::{Found, NodeRunRef, NodeView, answer};
+use sz_script::{Path, PathStep, Place, PlaceList};
+use sz_spec::{Array, ArrayList, Dir, Strategy, Tally, way};
+
+/// What is found along a path from some places: by the mapping of a step's node where that is the
+/// way of the step, and else by a trace over the node's run. The tally rises by the cells that are
+/// traced. Takes time by these and by the cells that the mapped steps touch.
+pub(crate) fn find(
+    alloc: Global,
+    version: &HeldVersion,
+    runs: &[NodeRun],
+    dir: Dir,
+    path: &Path,
+    places: &PlaceList,
+    tally: &mut Tally,
+) -> Result<Found, NoMemory>
+    requires sound { IsSoundRun version.now }
+    requires runs { map execution_of runs.now ≡ executions_of version.now }
+    requires joined { is_joined dir version.now.flow path.now ≡ true }
+    requires places { list_all (has_place (path_start dir version.now path.now)) places.now ≡ true }
+    requires room { tally.old + 32 * 1048576 < 2 ^ 63 }
+    ensures cells { IfOk result
+        (λ f. f.cells ≡ cells_answered version.now dir path.now places.now) }
+    ensures ways { IfOk result
+        (λ f. map strategy_told f.used ≡ map (way_of version.now dir) path.now) }
+    ensures traced { IfOk result (λ f. f.traced ≡ traced version.now dir path.now) }
+    ensures ticks { OnOk result (tally.new ≡ tally.old + traced version.now dir path.now) }
+    ensures kept { OnErr result (tally.new ≡ tally.old) }
+{
+    let steps = path.as_slice();
+    let start = start_of(version, runs, dir, steps[0]);
+    let cells = cells_at(alloc, start, places.as_slice())?;
+    let mut views = views_of(alloc, version, runs, dir, steps)?;
+    let inputs = inputs_of(alloc, steps)?;
+    answer(alloc, &mut views, &inputs, dir, &cells, tally)
+}
+
+/// The shape in which a step starts: backward, of its node's output; forward, of its input.
+fn start_of(_version: &HeldVersion, runs: &[NodeRun], dir: Dir, step: PathStep) -> Shape
+    requires sound { IsSoundRun _version.now }
+    requires runs { map execution_of runs.now ≡ executions_of _version.now }
+    requires there { is_there (source_of _version.now.flow step) ≡ true }
+    ensures { result ≡ step_start dir _version.now step }
+{
+    let run = &runs[step.node as usize];
+    match dir {
+        Dir::Back => run.at.out(),
+        Dir::Forward => run.at.ins()[step.input as usize],
+    }
+}
+
+/// The cells at places of a shape.
+fn cells_at(alloc: Global, shape: Shape, places: &[Place]) -> Result<CellSet, NoMemory>
+    requires { list_all (has_place shape) places.now ≡ true }
+    ensures { IfOk result (λ s. s ≡ named_in shape (map (cell_of_place shape) places.now)) }
+{
+    let mut cells: Vec<Cell> = Vec::with_capacity(alloc, places.len())?;
+    for place in places {
+        cells.push(cell_at(shape, *place))?;
+    }
+    CellSet::from_cells(alloc, shape, &cells)
+}
+
+/// The cell at a place of a shape.
+fn cell_at(shape: Shape, place: Place) -> Cell
+    requires { has_place shape place ≡ true }
+    ensures cell { result ≡ cell_of_place shape place }
+    ensures held { holds shape result ≡ true }
+{
+    laws::a_shape_is_within_limits(&shape);
+    match shape.cell_in(place.layer, place.row, place.col) {
+        Some(cell) => cell,
+        None => unreachable!(),
+    }
+}
+
+/// The number of each step's input.
+fn inputs_of(alloc: Global, path: &[PathStep]) -> Result<Vec<u32>, NoMemory>
+    ensures { IfOk result (λ v. v.items ≡ map (λ s. s.input) path.now) }
+{
+    let mut inputs = Vec::with_capacity(alloc, path.len())?;
+    for step in path {
+        inputs.push(step.input)?;
+    }
+    Ok(inputs)
+}
+
+/// The view of each step's node.
+fn views_of(
+    alloc: Global,
+    version: &HeldVersion,
+    runs: &[NodeRun],
+    dir: Dir,
+    path: &[PathStep],
+) -> Result<Vec<NodeView>, NoMemory>
+    requires sound { IsSoundRun version.now }
+    requires runs { map execution_of runs.now ≡ executions_of version.now }
+    requires there { are_there version.now.flow path.now ≡ true }
+    ensures views { IfOk result
+        (λ v. AllZip (IsViewOf version.now dir) path.now (map view_of v.items)) }
+    ensures few { IfOk result
+        (λ v. traced_of (map view_of v.items) ≤ length path.now * 1048576) }
+{
+    let mut views = Vec::with_capacity(alloc, path.len())?;
+    for step in path {
+        views.push(view_at(alloc, version, runs, dir, *step)?)?;
+    }
+    Ok(views)
+}
+
+/// The view of a step's node: by its mapping where that is the step's way, and else over its run.
+fn view_at(
+    alloc: Global,
+    version: &HeldVersion,
+    runs: &[NodeRun],
+    dir: Dir,
+    step: PathStep,
+) -> Result<NodeView, NoMemory>
+    requires sound { IsSoundRun version.now }
+    requires runs { map execution_of runs.now ≡ executions_of version.now }
+    requires there { is_there (source_of version.now.flow step) ≡ true }
+    ensures view { IfOk result (λ w. IsViewOf version.now dir step (view_of w)) }
+    ensures few { IfOk result (λ w. traced_by (view_of w) ≤ 1048576) }
+{
+    let run = &runs[step.node as usize];
+    let lists = version.lists.as_slice();
+    let list = &lists[step.node as usize];
+    let at = Arc::try_clone(&run.at)?;
+    laws::a_shape_is_within_limits(&at.out());
+    if is_map(way(list.as_slice(), dir)) {
+        return Ok(NodeView::Mapped { at });
+    }
+    let inputs = share(alloc, &run.inputs)?;
+    Ok(NodeView::Traced {
+        run: NodeRunRef { at, inputs },
+    })
+}
+
+/// Whether a way is the mapping of cells.
+fn is_map(way: Strategy) -> bool
+    ensures { result ≡ is_map way }
+{
+    matches!(way, Strategy::Map)
+}
+
+/// The same arrays, shared once more.
+fn share(alloc: Global, arrays: &ArrayList) -> Result<ArrayList, NoMemory>
+    ensures { IfOk result (λ a. a ≡ arrays.now) }
+{
+    let mut items: Vec<Arc<Array>> = Vec::new(alloc);
+    for array in arrays.as_slice() {
+        items.push(Arc::try_clone(array)?)?;
+    }
+    Ok(ArrayList::of(items))
+}

@@ -1,0 +1,339 @@
+//! A session: what is held, the runs of the versions held, and what a line does to them.
+//!
+//! Contracts see a session as its `Holdings`. Beside these it keeps, for just the versions held,
+//! the runs of their nodes (`KeepsRuns` of `specs/Runs.antt`), so that no value is computed twice.
+
+ghost use Rattle.std.specs.Prelude.{◌≡◌, ◌+◌, ◌*◌, ◌^◌, ◌<◌, ◌≤◌, true, false, None, Err, map};
+ghost use Rattle.std.specs.Prelude.{IfOk, OnOk, OnErr};
+ghost use Rattle.sz_script.specs.Right.{is_right};
+ghost use Rattle.sz_script.specs.declared.command.Command.TheVariants as order;
+ghost use Rattle.sz_catalogue.specs.Holdings.{no_holdings};
+ghost use Rattle.sz_catalogue.specs.Rules.{judged, version_of, has_no_version, is_not_joined};
+ghost use Rattle.sz_catalogue.specs.Rules.{is_out_of_range};
+ghost use Rattle.sz_catalogue.specs.Changes.{accepted, after_command, cells_answered, way_of};
+ghost use Rattle.sz_catalogue.specs.Changes.{traced};
+ghost use Rattle.sz_catalogue.specs.Seen.{response_of};
+ghost use Rattle.sz_session.specs.Commands.{Responds, traced_by, traced_for, traced_along};
+ghost use Rattle.sz_session.specs.Commands.{keeps_runs};
+ghost use Rattle.sz_session.specs.Views.{strategy_told};
+
+use crate::blank::is_blank;
+use crate::finding::find;
+use crate::runs::HeldRuns;
+use crate::starting::run_version;
+use std::alloc::Global;
+use std::marker::Model;
+use std::sync::Arc;
+use std::thread::Threads;
+use sz_catalogue::{Catalogue, Reply};
+use sz_cells::NoMemory;
+use sz_outside::{Gate, Station};
+use sz_query::{Found, Used};
+use sz_script::{
+    BaseList, Command, LineFault, Name, Path, PlaceList, StrategyList, laws, read_line,
+};
+use sz_spec::{Dir, Strategy, Tally};
+
+/// A session: what is held, and the runs of the versions held.
+#[derive(Drop)]
+pub struct Session {
+    catalogue: Catalogue,
+    runs: HeldRuns,
+    alloc: Global,
+    _workers: u32,
+    _askers: u32,
+}
+
+impl Model for Session {
+    ghost use Rattle.sz_catalogue.specs.Holdings.{Holdings};
+    ghost use Rattle.sz_session.specs.Runs.{KeepsRuns};
+
+    ghost Value = { Holdings };
+
+    ghost view = { λ s. s.catalogue };
+
+    ghost invariant = { λ s. KeepsRuns s.catalogue s.runs };
+}
+
+/// Why a command was not done.
+#[derive(Clone, Copy, Debug, Drop, PartialEq, Eq)]
+pub enum Stop {
+    /// There was no memory.
+    NoMemory,
+}
+
+impl From<NoMemory> for Stop {
+    ghost use Rattle.std.specs.Prelude.{◌≡◌};
+    ghost use Rattle.sz_session.specs.declared.session.Stop.TheVariants as stop;
+
+    ghost from_gives = { λ _ e. e ≡ stop.NoMemory };
+
+    fn from(_fault: NoMemory) -> Stop {
+        Stop::NoMemory
+    }
+}
+
+impl Session {
+    /// A session that holds nothing, with so many workers and askers. They are to come: nothing
+    /// calls on them yet.
+    pub fn fresh(alloc: Global, workers: u32, askers: u32) -> Result<Session, NoMemory>
+        requires workers { (1 ≤ workers) × (workers ≤ 64) }
+        requires askers { (1 ≤ askers) × (askers ≤ 64) }
+        ensures { IfOk result (λ s. s ≡ no_holdings) }
+    {
+        Ok(Session {
+            catalogue: Catalogue::new(alloc),
+            runs: HeldRuns::new(alloc),
+            alloc,
+            _workers: workers,
+            _askers: askers,
+        })
+    }
+
+    /// Does what a line orders, and gives its reply; a blank line has none. The gate is called once
+    /// for an ask or explain that is accepted, when its answer is found. The tally rises by the
+    /// cells that are traced for it.
+    ///
+    /// A start costs the values of its nodes, each computed once. Any other line costs what it
+    /// reads, looks up and answers.
+    pub fn command<T: Station, G: Gate, R: Threads + Sync>(
+        &mut self,
+        rt: &R,
+        line: &[u8],
+        number: u64,
+        _station: &mut T,
+        gate: &G,
+        tally: &mut Tally,
+    ) -> Result<Option<Reply>, Stop>
+        requires { tally.old + 32 * 1048576 < 2 ^ 63 }
+        ensures reply { IfOk result (λ r. Responds self.old line.now self.new r) }
+        ensures tally { OnOk result (tally.new ≡ tally.old + traced_by self.old line.now) }
+        ensures stop { OnErr result (result ≡ Err Stop.NoMemory) }
+        ensures kept { OnErr result (self.new ≡ self.old) }
+        ensures station { _station.new ≡ _station.old }
+    {
+        if is_blank(line) {
+            return Ok(None);
+        }
+        laws::commands_are_right();
+        match read_line(self.alloc, line) {
+            Ok(command) => Ok(Some(self.judge(rt, command, number, gate, tally)?)),
+            Err(LineFault::Refused(refusal)) => Ok(Some(Reply::Refused(refusal))),
+            Err(LineFault::NoMemory) => Err(Stop::NoMemory),
+        }
+    }
+
+    /// Judges a command, and takes it where no rule refuses it.
+    fn judge<G: Gate, R: Threads + Sync>(
+        &mut self,
+        rt: &R,
+        command: Command,
+        number: u64,
+        gate: &G,
+        tally: &mut Tally,
+    ) -> Result<Reply, NoMemory>
+        requires right { is_right command ≡ true }
+        requires room { tally.old + 32 * 1048576 < 2 ^ 63 }
+        ensures reply { IfOk result
+            (λ r. after_command self.old command ≡ (self.new, response_of r)) }
+        ensures tally { OnOk result (tally.new ≡ tally.old + traced_for self.old command) }
+        ensures kept { OnErr result (self.new ≡ self.old) }
+    {
+        match self.catalogue.judge(self.alloc, &command) {
+            Ok(()) => self.take(rt, command, number, gate, tally),
+            Err(LineFault::Refused(refusal)) => Ok(Reply::Refused(refusal)),
+            Err(LineFault::NoMemory) => Err(NoMemory),
+        }
+    }
+
+    /// Takes a command that no rule refuses.
+    fn take<G: Gate, R: Threads + Sync>(
+        &mut self,
+        rt: &R,
+        command: Command,
+        number: u64,
+        gate: &G,
+        tally: &mut Tally,
+    ) -> Result<Reply, NoMemory>
+        requires right { is_right command ≡ true }
+        requires judged { judged self.old command ≡ None }
+        requires room { tally.old + 32 * 1048576 < 2 ^ 63 }
+        ensures reply { IfOk result (λ r. accepted self.old command ≡ (self.new, response_of r)) }
+        ensures tally { OnOk result (tally.new ≡ tally.old + traced_along self.old command) }
+        ensures kept { OnErr result (self.new ≡ self.old) }
+    {
+        match command {
+            Command::Array { name, array } => self.accept(Command::Array { name, array }),
+            Command::Layers { name, array } => self.accept(Command::Layers { name, array }),
+            Command::Flow { name, flow } => self.accept(Command::Flow { name, flow }),
+            Command::Strategy { name, node, list } => {
+                self.accept(Command::Strategy { name, node, list })
+            }
+            Command::Start { name, base } => self.start(rt, name, base),
+            Command::Await { version } => self.accept(Command::Await { version }),
+            Command::Ask {
+                version,
+                dir,
+                path,
+                cells,
+            } => {
+                let found = self.find(version, dir, &path, &cells, tally)?;
+                gate.after_ask(number);
+                Ok(Reply::Cells { cells: found.cells })
+            }
+            Command::Explain {
+                version,
+                dir,
+                path,
+                cells,
+            } => self.explain(version, dir, &path, &cells, number, gate, tally),
+            Command::Show { version, node } => self.show(version, node),
+        }
+    }
+
+    /// Takes a command that changes what is held and starts no version: the runs stay.
+    fn accept(&mut self, command: Command) -> Result<Reply, NoMemory>
+        requires right { is_right command ≡ true }
+        requires judged { judged self.old command ≡ None }
+        requires kind { keeps_runs command ≡ true }
+        ensures reply { IfOk result (λ r. accepted self.old command ≡ (self.new, response_of r)) }
+        ensures kept { OnErr result (self.new ≡ self.old) }
+    {
+        let reply = self.catalogue.accept(command)?;
+        Ok(reply)
+    }
+
+    /// Starts a version: computes the values of its nodes, and keeps its runs under its number.
+    fn start<R: Threads + Sync>(
+        &mut self,
+        rt: &R,
+        name: Name,
+        base: BaseList,
+    ) -> Result<Reply, NoMemory>
+        requires right { is_right (order.Start name base) ≡ true }
+        requires judged { judged self.old (order.Start name base) ≡ None }
+        ensures reply { IfOk result
+            (λ r. accepted self.old (order.Start name base) ≡ (self.new, response_of r)) }
+        ensures kept { OnErr result (self.new ≡ self.old) }
+    {
+        let runs = run_version(
+            rt,
+            self.alloc,
+            &self.catalogue,
+            name.as_str(),
+            base.as_slice(),
+        )?;
+        let number = self.runs.next_number();
+        self.runs.insert(number, runs)?;
+        match self.catalogue.accept(Command::Start { name, base }) {
+            Ok(reply) => Ok(reply),
+            Err(NoMemory) => {
+                self.runs.remove(number);
+                Err(NoMemory)
+            }
+        }
+    }
+
+    /// What is found along a path of a version, for an ask or explain that no rule refuses.
+    fn find(
+        &self,
+        number: u32,
+        dir: Dir,
+        path: &Path,
+        places: &PlaceList,
+        tally: &mut Tally,
+    ) -> Result<Found, NoMemory>
+        requires version { has_no_version self.now number ≡ false }
+        requires joined { is_not_joined self.now number dir path.now ≡ false }
+        requires range { is_out_of_range self.now number dir path.now places.now ≡ false }
+        requires room { tally.old + 32 * 1048576 < 2 ^ 63 }
+        ensures cells { IfOk result
+            (λ f. f.cells ≡ cells_answered (version_of self.now number) dir path.now places.now) }
+        ensures ways { IfOk result (λ f. map strategy_told f.used
+            ≡ map (way_of (version_of self.now number) dir) path.now) }
+        ensures traced { IfOk result
+            (λ f. f.traced ≡ traced (version_of self.now number) dir path.now) }
+        ensures ticks { OnOk result
+            (tally.new ≡ tally.old + traced (version_of self.now number) dir path.now) }
+        ensures kept { OnErr result (tally.new ≡ tally.old) }
+    {
+        let Some(version) = self.catalogue.version(number) else {
+            unreachable!()
+        };
+        let Some(runs) = self.runs.get(number) else {
+            unreachable!()
+        };
+        find(
+            self.alloc,
+            version,
+            runs.as_slice(),
+            dir,
+            path,
+            places,
+            tally,
+        )
+    }
+
+    /// By which way each step of a path is answered, and how many cells are traced.
+    fn explain<G: Gate>(
+        &self,
+        number: u32,
+        dir: Dir,
+        path: &Path,
+        places: &PlaceList,
+        line: u64,
+        gate: &G,
+        tally: &mut Tally,
+    ) -> Result<Reply, NoMemory>
+        requires judged { judged self.now (order.Explain number dir path.now places.now) ≡ None }
+        requires room { tally.old + 32 * 1048576 < 2 ^ 63 }
+        ensures reply { IfOk result (λ r. accepted self.now
+            (order.Explain number dir path.now places.now) ≡ (self.now, response_of r)) }
+        ensures tally { OnOk result
+            (tally.new ≡ tally.old + traced (version_of self.now number) dir path.now) }
+    {
+        let found = self.find(number, dir, path, places, tally)?;
+        let used = strategies_told(self.alloc, found.used.as_slice())?;
+        gate.after_ask(line);
+        Ok(Reply::Explain {
+            used,
+            traced: found.traced,
+        })
+    }
+
+    /// The output of a node of a version, for a show that no rule refuses.
+    fn show(&self, number: u32, node: u32) -> Result<Reply, NoMemory>
+        requires { judged self.now (order.Show number node) ≡ None }
+        ensures { IfOk result
+            (λ r. accepted self.now (order.Show number node) ≡ (self.now, response_of r)) }
+    {
+        let Some(runs) = self.runs.get(number) else {
+            unreachable!()
+        };
+        let run = &runs.as_slice()[node as usize];
+        Ok(Reply::Values {
+            array: Arc::try_clone(&run.out)?,
+        })
+    }
+}
+
+/// The strategy that is told for each step.
+fn strategies_told(alloc: Global, used: &[Used]) -> Result<StrategyList, NoMemory>
+    ensures { IfOk result (λ l. l ≡ map strategy_told used.now) }
+{
+    let mut told = Vec::with_capacity(alloc, used.len())?;
+    for step in used {
+        told.push(strategy_told(*step))?;
+    }
+    Ok(StrategyList::of(told))
+}
+
+/// The strategy that is told for how a step went.
+fn strategy_told(used: Used) -> Strategy
+    ensures { result ≡ strategy_told used }
+{
+    match used {
+        Used::By(strategy) => strategy,
+        Used::Traced => Strategy::BlackBox,
+    }
+}

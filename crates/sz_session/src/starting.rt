@@ -1,0 +1,61 @@
+//! The runs of a version that is started.
+
+ghost use Rattle.std.specs.Prelude.{◌≡◌, All, false, map, None, IfOk};
+ghost use Rattle.std.specs.Arc.{arc_value};
+ghost use Rattle.std.specs.Map.{values_of};
+ghost use Rattle.sz_script.specs.declared.command.Command.TheVariants as order;
+ghost use Rattle.sz_catalogue.specs.Holdings.{arrays_of};
+ghost use Rattle.sz_catalogue.specs.Starts.{bases_of, version_started};
+ghost use Rattle.sz_catalogue.specs.Rules.{judged, has_no_array};
+ghost use Rattle.sz_session.specs.Runs.{IsSoundFlow, executions_of};
+
+use crate::runs::RunList;
+use std::alloc::Global;
+use std::sync::Arc;
+use std::thread::Threads;
+use sz_catalogue::Catalogue;
+use sz_cells::NoMemory;
+use sz_flow::run_all;
+use sz_script::BaseName;
+use sz_spec::Array;
+
+/// The runs of the version that a start makes, each of its values computed once.
+pub(crate) fn run_version<R: Threads + Sync>(
+    rt: &R,
+    alloc: Global,
+    catalogue: &Catalogue,
+    name: &str,
+    base: &[BaseName],
+) -> Result<RunList, NoMemory>
+    requires sound { All IsSoundFlow (values_of catalogue.now.flows) }
+    requires judged { judged catalogue.now (order.Start name.now base.now) ≡ None }
+    ensures { IfOk result
+        (λ r. r ≡ executions_of (version_started catalogue.now name.now base.now)) }
+{
+    let Some(flow) = catalogue.flow(name) else {
+        unreachable!()
+    };
+    let arrays = arrays_named(alloc, catalogue, base)?;
+    let runs = run_all(rt, alloc, flow, &arrays)?;
+    Ok(RunList::of(runs))
+}
+
+/// The base arrays of these names and versions, all of which are held.
+fn arrays_named(
+    alloc: Global,
+    catalogue: &Catalogue,
+    base: &[BaseName],
+) -> Result<Vec<Arc<Array>>, NoMemory>
+    requires { has_no_array catalogue.now base.now ≡ false }
+    ensures { IfOk result
+        (λ v. map (λ a. arc_value a) v.items ≡ arrays_of (bases_of catalogue.now base.now)) }
+{
+    let mut arrays = Vec::with_capacity(alloc, base.len())?;
+    for only in base {
+        let Some(array) = catalogue.array(only.name.as_str(), only.version) else {
+            unreachable!()
+        };
+        arrays.push(Arc::try_clone(array)?)?;
+    }
+    Ok(arrays)
+}
