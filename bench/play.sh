@@ -1,18 +1,15 @@
 #!/usr/bin/env bash
 # Times `subzero play`, as LLVM builds it, on a session that loads an array of SIDE by SIDE (1024 where no side is given),
 # negates it and asks for a cell and for every eighth one, and beside it the time of reading the array's line alone by serde_json.
-# Both times are those of whole processes, the best of five. It is no test: nothing is compared. Run it from anywhere; it works in
-# a folder of its own, and needs python3.
+# Both times are those of whole processes, the best of five. It is no test: nothing is compared. It builds the program in this checkout
+# and the reading in a folder of its own, and needs python3. Run it from anywhere.
 set -euo pipefail
 side=${1:-1024}
 root=$(cd "$(dirname "$0")/.." && pwd)
 work=$(mktemp -d)
 trap 'rm -rf "$work"' EXIT
 mkdir -p "$work/crates/reads/src"
-for name in sz_outside sz_cells sz_spec sz_session subzero; do
-    (cd "$root/crates" && tar cf - --exclude=out --exclude=must-fail "$name") | tar xf - -C "$work/crates"
-done
-{ grep -E '^(sz_outside|sz_cells|sz_spec|sz_session|subzero):' "$root/crates.txt"; echo 'reads: serde_json anyhow'; } >"$work/crates.txt"
+echo 'reads: serde_json anyhow' >"$work/crates.txt"
 cat >"$work/crates/reads/src/main.rt" <<'RT'
 #![tactic(auto)]
 
@@ -42,12 +39,12 @@ with open(work + "/session", "w") as out:
     out.write(ask % "[0,0]")
     out.write(ask % some)
 PY
-for name in reads subzero; do
-    (cd "$work/crates/$name" && rt run -- play <"$work/line" >"$work/log" 2>&1) || [ -x "$work/crates/$name/out/$name" ] || { cat "$work/log"; exit 1; }
+for crate in "$work/crates/reads" "$root/crates/subzero"; do
+    (cd "$crate" && rt run -- play <"$work/line" >"$work/log" 2>&1) || [ -x "$crate/out/$(basename "$crate")" ] || { cat "$work/log"; exit 1; }
 done
-python3 - "$work" <<'PY'
+python3 - "$work" "$root" <<'PY'
 import subprocess, sys, time
-work = sys.argv[1]
+work, root = sys.argv[1:3]
 def best(words, text):
     times = []
     for _ in range(5):
@@ -57,7 +54,7 @@ def best(words, text):
             times.append(time.time() - start)
     return min(times) * 1000
 reading = best([work + "/crates/reads/out/reads"], work + "/line")
-playing = best([work + "/crates/subzero/out/subzero", "play"], work + "/session")
+playing = best([root + "/crates/subzero/out/subzero", "play"], work + "/session")
 print("reading the line alone: %.1f ms" % reading)
 print("playing the session:    %.1f ms (%.1f times)" % (playing, playing / reading))
 PY
