@@ -4,7 +4,7 @@
 -- whatever is
 -- looked for among them, "some entry has o and passes", is the test of o, where o is one of the range's cells.
 use Rattle.std.proofs.Common.{inl, inr, true≢false, ◌≡◌, ℕ, zero, suc, ◌+◌, ◌*◌, ◌/◌, ◌<◌}
-use Rattle.std.proofs.Common.{◌≤◌, ◌==◌, Bool, true, false, not, ◌&&◌, ◌||◌, nat_le, nat_lt, List}
+use Rattle.std.proofs.Common.{◌≤◌, ◌==◌, Bool, true, false, not, ◌&&◌, nat_le, nat_lt, List}
 use Rattle.std.proofs.Common.{[], ◌∷◌, ◌++◌, length, map, refl, sym, ap, ap₂, subst, ◌∙◌, arith}
 use Rattle.std.proofs.Common.{eqb-true, eq-eqb, lt-ltb, le-leb}
 use Rattle.std.specs.Prelude.{if◌then◌else◌, unwrap_or}
@@ -42,14 +42,9 @@ use Rattle.sz_region.specs.Fits.{FitsComp, is_mode, needs}
 use Rattle.sz_region.specs.Images.{measure_of, single, region_at, entry_at, related_cells}
 use Rattle.sz_region.specs.Written.{regions_from, entries_from, more_if, cells_in_piece}
 use Rattle.sz_region.proofs.Added.{any-filter, any-range_ext}
+use Rattle.sz_region.proofs.Passing.{any-map, eq-flip}
 
 -- ---- lists
-
--- what is found among what f makes
-any-map : {X Y : Type 0} (p : Y → Bool) (f : X → Y) (xs : List X) → list_any p (map f xs) ≡ list_any (λ x. p
-    (f x)) xs
-any-map p f [] = refl
-any-map p f (x ∷ xs) = ap (λ b. p (f x) || b) (any-map p f xs)
 
 -- a range with one number more
 range-more : (a n j : ℕ) → a + n ≡ j → range_with_len a (n + 1) ≡ range_with_len a n ++ j ∷ []
@@ -90,9 +85,6 @@ at-range f n i d inside =
     ∙ get_or-map-range_with_len f 0 n i i d inside (omega arith)
 
 -- ---- one cell among those of a range
-
-eq-flip : (a b : ℕ) → (a == b) ≡ (b == a)
-eq-flip a b = grind (arith, nat_tests)
 
 -- the one of a range's cells that is the same as o
 found : (e : Extent) (q : Cell → Bool) (o : Cell) (a n : ℕ) → holds e o ≡ true

@@ -1,4 +1,8 @@
 pub mod Added
+pub mod Passing
+pub mod OneCell
+pub mod Places
+pub mod Inputs
 pub mod Fitting
 pub mod AllPieces
 pub mod Spelling

@@ -3,6 +3,7 @@ pub mod Stands
 pub mod Fits
 pub mod Images
 pub mod Walks
+pub mod Single
 pub mod Written
 pub mod Taking
 pub mod Folding

@@ -6,7 +6,8 @@ ghost use Rattle.std.specs.Arc.{arc_value};
 ghost use Rattle.sz_cells.specs.Extent.{holds, index_of, size_of};
 ghost use Rattle.sz_cells.specs.Cells.{any_cell, has, with_those};
 ghost use Rattle.sz_spec.specs.Values.{Grid, extent_at};
-ghost use Rattle.sz_spec.specs.Shapes.{Site};
+ghost use Rattle.sz_spec.specs.Shapes.{Site, IsSite};
+ghost use Rattle.sz_spec.specs.LawsShapes.{AreExtents};
 ghost use Rattle.sz_spec.specs.Lineage.{related, mapped};
 ghost use Rattle.sz_spec.specs.Evaluation.{value_of, output_of};
 ghost use Rattle.sz_spec.specs.Payloads.{payload_of, overrides};
@@ -15,8 +16,9 @@ ghost use Rattle.sz_region.specs.Images.{IsAtWork, related_cells};
 use crate::payload::Payload;
 use std::alloc::Global;
 use std::sync::Arc;
+use sz_cells::laws::a_shape_is_within_limits;
 use sz_cells::{Cell, CellBits, CellSet, NoMemory, Shape};
-use sz_spec::Value;
+use sz_spec::{OpAt, Value};
 
 /// An operator at work over its inputs. What differs from one operator to the next is here; the
 /// rest of the frame is written over it.
@@ -80,4 +82,19 @@ pub trait AtWork {
         requires right { IsAtWork (site self.now) (inputs self.now) }
         requires out { holds (site self.now).out out ≡ true }
         ensures { result ≡ overrides (site self.now).op (inputs self.now) out };
+}
+
+/// The output's shape. Its caller knows from now on that the operator has right parameters, as many
+/// inputs as it takes, and the output that its shape rule gives, and that the inputs have right
+/// shapes.
+pub fn right_shapes(at: &OpAt) -> Shape
+    ensures value { result ≡ at.now.out }
+    ensures site { IsSite at.now }
+    ensures right { AreExtents at.now.ins }
+{
+    at.op();
+    for shape in at.ins() {
+        a_shape_is_within_limits(shape);
+    }
+    at.out()
 }

@@ -6,7 +6,8 @@
 //! bytes of a cell set; `docs/FORMATS.md` describes them.
 //!
 //! The frame: what a run, a trace, the lineage of a piece and an image under a mapping do is
-//! written here once, over what differs from one operator to the next, [`AtWork`].
+//! written here once, over what differs from one operator to the next, [`AtWork`]. Where one cell
+//! or none is related to another, [`add_cell`], [`has_cell`] and [`set_of_cell`] see it as a set.
 //!
 //! ```
 //! // of an operator at work, which says the value and the related cells of one output cell
@@ -28,15 +29,17 @@ mod payload;
 mod pieces;
 mod region;
 mod set_bytes;
+mod single;
 #[cfg(test)]
 mod tests;
 mod walks;
 
 pub use folding::Folding;
-pub use frame::AtWork;
+pub use frame::{AtWork, right_shapes};
 pub use lineage::PieceLineage;
 pub use payload::{PayEntry, Payload};
 pub use pieces::piece_by;
 pub use region::{Region, SetList};
 pub use set_bytes::{Take, put_set, take_set};
+pub use single::{add_cell, has_cell, set_of_cell};
 pub use walks::{image_by, run_by, trace_by};

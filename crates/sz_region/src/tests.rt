@@ -1,12 +1,13 @@
-//! The bytes of a set as they are written, and each fault of bytes that are no set.
+//! The bytes of a set as they are written, each fault of bytes that are no set, and one cell or
+//! none as a set.
 
 ghost use Rattle.std.specs.Prelude.{◌≡◌, IfOk};
 ghost use Rattle.sz_cells.specs.Extent.{flat};
 
-use crate::{Take, put_set, take_set};
+use crate::{Take, add_cell, has_cell, put_set, set_of_cell, take_set};
 use std::alloc::Global;
 use std::test::Fail;
-use sz_cells::{Cell, CellSet, Run, Shape};
+use sz_cells::{Cell, CellBits, CellSet, Run, Shape};
 
 /// The shape of four rows and five columns.
 fn four_by_five() -> Result<Shape, Fail>
@@ -79,5 +80,26 @@ fn bytes_of_no_set_are_refused(rt: HostRuntime) -> Result<(), Fail> {
     let (none, next) = take_set(alloc, four_by_five()?, &no_run, 1)?;
     assert_eq!(rt; none.count(), 0);
     assert_eq!(rt; next, 5);
+    Ok(())
+}
+
+#[test]
+fn one_cell_or_none_is_a_set(rt: HostRuntime) -> Result<(), Fail> {
+    let alloc = rt.alloc();
+    let shape = four_by_five()?;
+    let cell = Cell { row: 2, col: 3 };
+    let mut bits = CellBits::new(alloc, shape)?;
+    add_cell(&mut bits, None);
+    assert!(rt; !has_cell(&bits, Some(cell)));
+    add_cell(&mut bits, Some(cell));
+    assert!(rt; has_cell(&bits, Some(cell)));
+    assert!(rt; !has_cell(&bits, None));
+    let set = set_of_cell(alloc, shape, Some(cell))?;
+    let run = Run {
+        first: 13,
+        last: 13,
+    };
+    assert_eq!(rt; set.runs(), [run].as_slice());
+    assert_eq!(rt; set_of_cell(alloc, shape, None)?.count(), 0);
     Ok(())
 }
