@@ -1,378 +1,364 @@
-//! Rows of operators through the one entry: what each makes of small arrays, and the cells to which
-//! one cell leads, by tracing, by the mapping and by the lineage of the pieces.
+//! Rows of every operator through the one entry. A row says what an operator makes of small arrays,
+//! by `run` and by `value_at`, and to which cells one cell leads: by tracing, by the mapping where
+//! there is one, as a whole and cell by cell, and by the region pairs of all pieces. All ways have
+//! to agree.
 
-ghost use Rattle.std.specs.Prelude.{◌≡◌, ◌∷◌, [], ◌<◌, true, length, map, IfOk};
+ghost use Rattle.std.specs.Prelude.{◌≡◌, ◌<◌, true, length, All, IfOk};
 ghost use Rattle.std.specs.Arc.{arc_value};
 ghost use Rattle.sz_cells.specs.Extent.{holds};
 ghost use Rattle.sz_spec.specs.Values.{extents_of};
-ghost use Rattle.sz_spec.specs.Modes.{has_mapping};
+ghost use Rattle.sz_spec.specs.Modes.{has_mapping, supports};
+ghost use Rattle.sz_spec.specs.Pieces.{pieces_of};
 ghost use Rattle.sz_region.specs.Images.{near_side, far_side};
+ghost use Rattle.sz_ops.specs.Aids.{aid_of};
+ghost use Rattle.sz_ops.specs.Maps.{site_of};
 
-use crate::{image_by_map, piece, prepare, run, trace, value_at};
+use crate::{Aid, OpMap, image_by_map, piece, prepare, run, trace, value_at};
 use std::alloc::Global;
 use std::sync::Arc;
 use std::test::Fail;
 use sz_cells::{Cell, CellBits, CellSet, Run, Shape};
-use sz_spec::{Array, Dir, Fold, Kernel, Op, OpAt, Strategy, Tally, Value};
+use sz_region::{PayEntry, PieceLineage, Region};
+use sz_spec::{
+    Array, ArrayList, Dir, Mapper, Mode, Op, OpAt, Strategy, Tally, Value, arity, has_mode,
+    has_right_parameters, pieces_of, supports,
+};
 
-fn array(alloc: Global, shape: Shape, cells: &[Value]) -> Result<Arc<Array>, Fail>
-    ensures { IfOk result (λ a. (arc_value a).extent ≡ shape) }
-{
-    let array = Array::make(shape, cells.to_vec(alloc)?).ok_or("each cell has a value")?;
-    Ok(Arc::new(alloc, array)?)
+mod local;
+mod moving;
+mod pieces;
+mod regions;
+mod window;
+
+/// An operator over its inputs.
+#[derive(Drop)]
+struct Example {
+    at: Arc<OpAt>,
+    inputs: ArrayList,
+    ghost shapes: { extents_of inputs ≡ (arc_value at).ins },
 }
 
-/// The array of the rows 1 2 3, 4 5 6 and 7 8 9.
-fn nine(alloc: Global, shape: Shape) -> Result<Arc<Array>, Fail>
-    ensures { IfOk result (λ a. (arc_value a).extent ≡ shape) }
-{
-    let mut cells = Vec::new(alloc);
-    for number in 1..10i64 {
-        cells.push(Some(number))?;
+impl Example {
+    /// An operator over one array.
+    fn of_one(alloc: Global, op: Op, array: Arc<Array>) -> Result<Example, Fail> {
+        let at = site(alloc, op, vec![in alloc; array.shape()]?)?;
+        let inputs = ArrayList::of(vec![in alloc; array]?);
+        Ok(Example { at, inputs })
     }
-    array(alloc, shape, &cells)
+
+    /// An operator over two arrays.
+    fn of_two(
+        alloc: Global,
+        op: Op,
+        first: Arc<Array>,
+        second: Arc<Array>,
+    ) -> Result<Example, Fail> {
+        let at = site(alloc, op, vec![in alloc; first.shape(), second.shape()]?)?;
+        let inputs = ArrayList::of(vec![in alloc; first, second]?);
+        Ok(Example { at, inputs })
+    }
+
+    /// Whether the output is this array, at once and cell by cell.
+    fn makes(&self, alloc: Global, array: &Array) -> Result<bool, Fail> {
+        let inputs = self.inputs.as_slice();
+        let output = run(alloc, &self.at, inputs)?;
+        let aid = prepare(alloc, &self.at, inputs)?;
+        let values = self.values(alloc, &aid)?;
+        Ok(
+            output.shape() == array.shape()
+                && output.cells() == array.cells()
+                && values.as_slice() == array.cells(),
+        )
+    }
+
+    /// The output's values, cell by cell.
+    fn values(&self, alloc: Global, aid: &Aid) -> Result<Vec<Value>, Fail>
+        requires { aid.now ≡ aid_of (arc_value self.now.at).op self.now.inputs }
+    {
+        let inputs = self.inputs.as_slice();
+        let shape = self.at.out();
+        let mut values = Vec::new(alloc);
+        for index in 0..shape.size() {
+            let cell = shape.cell_at(index);
+            values.push(value_at(&self.at, inputs, aid, cell))?;
+        }
+        Ok(values)
+    }
+
+    /// Whether a cell leads to just these cells, each of which is said once.
+    fn leads(
+        &self,
+        alloc: Global,
+        dir: Dir,
+        input: u32,
+        cell: Cell,
+        cells: &[Cell],
+    ) -> Result<bool, Fail> {
+        if input as usize >= self.at.ins().len() {
+            return Err("the operator has no such input".into());
+        }
+        let near = near_side(&self.at, dir, input);
+        if !near.holds(cell) {
+            return Err("the cell is out of its array".into());
+        }
+        let mut from = CellBits::new(alloc, near)?;
+        from.set(cell);
+        let image = self.image(alloc, dir, input, &from)?;
+        Ok(image.count() as usize == cells.len() && cells.iter().all(|cell| image.has(*cell)))
+    }
+
+    /// Whether the cells of a run of indexes, of the output or of the first input, lead to just the
+    /// cells of these runs.
+    fn leads_on(&self, alloc: Global, dir: Dir, from: Run, runs: &[Run]) -> Result<bool, Fail> {
+        if self.at.ins().is_empty() {
+            return Err("the operator has no input".into());
+        }
+        let near = near_side(&self.at, dir, 0);
+        if from.last < from.first || near.size() <= from.last {
+            return Err("the run is out of its array".into());
+        }
+        let mut cells = CellBits::new(alloc, near)?;
+        cells.add_run(from);
+        let image = self.image(alloc, dir, 0, &cells)?;
+        Ok(image.runs() == runs)
+    }
+
+    /// The image of a set of cells, on which all ways agree.
+    fn image(&self, alloc: Global, dir: Dir, input: u32, from: &CellBits) -> Result<CellSet, Fail>
+        requires input { input < length (arc_value self.now.at).ins }
+        requires from { from.now.extent ≡ near_side dir (arc_value self.now.at) input }
+    {
+        let image = self.traced(alloc, dir, input, from)?;
+        if self.stored(alloc, dir, input, from)?.runs() != image.runs() {
+            return Err("the pieces lead elsewhere than the trace".into());
+        }
+        if has_mode(self.at.op(), Mode::Map) {
+            if self.mapped(alloc, dir, input, from)?.runs() != image.runs() {
+                return Err("the mapping leads elsewhere than the trace".into());
+            }
+            if self.mapped_singly(alloc, dir, input, from)?.runs() != image.runs() {
+                return Err("the mapping of single cells leads elsewhere than the trace".into());
+            }
+        }
+        Ok(image)
+    }
+
+    /// The image of a set of cells by tracing, where that counts each output cell once.
+    fn traced(&self, alloc: Global, dir: Dir, input: u32, from: &CellBits) -> Result<CellSet, Fail>
+        requires input { input < length (arc_value self.now.at).ins }
+        requires from { from.now.extent ≡ near_side dir (arc_value self.now.at) input }
+    {
+        let mut to = CellBits::new(alloc, far_side(&self.at, dir, input))?;
+        let mut tally = Tally::new();
+        let cells = self.at.out().size();
+        trace(
+            alloc,
+            &self.at,
+            self.inputs.as_slice(),
+            dir,
+            input,
+            from,
+            &mut to,
+            &mut tally,
+        )?;
+        if tally.count() != u64::from(cells) {
+            return Err("a trace counts each output cell once".into());
+        }
+        Ok(to.to_set(alloc)?)
+    }
+
+    /// The image of a set of cells by the mapping.
+    fn mapped(&self, alloc: Global, dir: Dir, input: u32, from: &CellBits) -> Result<CellSet, Fail>
+        requires mapping { has_mapping (arc_value self.now.at).op ≡ true }
+        requires input { input < length (arc_value self.now.at).ins }
+        requires from { from.now.extent ≡ near_side dir (arc_value self.now.at) input }
+    {
+        let mut to = CellBits::new(alloc, far_side(&self.at, dir, input))?;
+        image_by_map(&self.at, dir, input, from, &mut to);
+        Ok(to.to_set(alloc)?)
+    }
+
+    /// The image of a set of cells by the mapping of each of them.
+    fn mapped_singly(
+        &self,
+        alloc: Global,
+        dir: Dir,
+        input: u32,
+        from: &CellBits,
+    ) -> Result<CellSet, Fail>
+        requires mapping { has_mapping (arc_value self.now.at).op ≡ true }
+        requires input { input < length (arc_value self.now.at).ins }
+        requires from { from.now.extent ≡ near_side dir (arc_value self.now.at) input }
+    {
+        let mut to = CellBits::new(alloc, far_side(&self.at, dir, input))?;
+        let map = OpMap::new(Arc::try_clone(&self.at)?);
+        let near = from.shape();
+        for index in 0..near.size() {
+            if from.has_index(index) {
+                add_mapped(&map, dir, input, near.cell_at(index), &mut to);
+            }
+        }
+        Ok(to.to_set(alloc)?)
+    }
+
+    /// The image of a set of cells by the region pairs of all pieces, where these count each output
+    /// cell once.
+    fn stored(&self, alloc: Global, dir: Dir, input: u32, from: &CellBits) -> Result<CellSet, Fail>
+        requires { input < length (arc_value self.now.at).ins }
+    {
+        let mut to = CellBits::new(alloc, far_side(&self.at, dir, input))?;
+        let mut cells = 0u64;
+        for k in 0..pieces_of(self.at.out()) {
+            let (lineage, count) = self.lineage(alloc, k, &[Strategy::FullOneB])?;
+            add_stored(lineage.regions(), dir, input, from, &mut to)?;
+            cells = cells.checked_add(count).ok_or("there are few cells")?;
+        }
+        if cells != u64::from(self.at.out().size()) {
+            return Err("the pieces count each output cell once".into());
+        }
+        Ok(to.to_set(alloc)?)
+    }
+
+    /// The payload and the composite part of the first piece.
+    fn kept(&self, alloc: Global) -> Result<PieceLineage, Fail> {
+        let op = self.at.op();
+        if !supports(op, Strategy::PayOne) || !supports(op, Strategy::CompMany) {
+            return Err("the operator has no payloads".into());
+        }
+        self.at.out().size(); // some cell, so there is a piece
+        let (lineage, _) = self.lineage(alloc, 0, &[Strategy::PayOne, Strategy::CompMany])?;
+        Ok(lineage)
+    }
+
+    /// The lineage of a piece, as the strategies of a list need it, and how many cells it counted.
+    fn lineage(&self, alloc: Global, k: u32, list: &[Strategy]) -> Result<(PieceLineage, u64), Fail>
+        requires piece { k < pieces_of (arc_value self.now.at).out }
+        requires supported { All (λ s. supports (arc_value self.now.at).op s ≡ true) list.now }
+    {
+        let inputs = self.inputs.as_slice();
+        let aid = prepare(alloc, &self.at, inputs)?;
+        let mut tally = Tally::new();
+        let lineage = piece(alloc, &self.at, inputs, &aid, k, list, &mut tally)?;
+        Ok((lineage, tally.count()))
+    }
 }
 
-/// The image of one cell by tracing.
-fn traced(
-    alloc: Global,
-    at: &OpAt,
-    inputs: &[Arc<Array>],
+/// An operator between inputs of these shapes.
+fn site(alloc: Global, op: Op, ins: Vec<Shape>) -> Result<Arc<OpAt>, Fail>
+    ensures { IfOk result (λ at. (arc_value at).ins ≡ ins.items) }
+{
+    if ins.len() != arity(&op) as usize || !has_right_parameters(&op) {
+        return Err("the operator has other inputs or parameters".into());
+    }
+    match OpAt::of(op, ins) {
+        Ok(at) => Ok(Arc::new(alloc, at)?),
+        Err(_) => Err("the inputs break the operator's shape rule".into()),
+    }
+}
+
+/// The shape from which a direction starts.
+fn near_side(at: &OpAt, dir: Dir, input: u32) -> Shape
+    requires { input < length at.now.ins }
+    ensures { result ≡ near_side dir at.now input }
+{
+    match dir {
+        Dir::Back => at.out(),
+        Dir::Forward => at.ins()[input as usize],
+    }
+}
+
+/// The shape to which a direction leads.
+fn far_side(at: &OpAt, dir: Dir, input: u32) -> Shape
+    requires { input < length at.now.ins }
+    ensures { result ≡ far_side dir at.now input }
+{
+    match dir {
+        Dir::Back => at.ins()[input as usize],
+        Dir::Forward => at.out(),
+    }
+}
+
+/// Adds the cells to which one cell is mapped.
+fn add_mapped(map: &OpMap, dir: Dir, input: u32, cell: Cell, to: &mut CellBits)
+    requires input { input < length (site_of map.now).ins }
+    requires cell { holds (near_side dir (site_of map.now) input) cell ≡ true }
+    requires to { to.old.extent ≡ far_side dir (site_of map.now) input }
+    ensures { to.new.extent ≡ to.old.extent }
+{
+    match dir {
+        Dir::Back => map.map_b_into(cell, input, to),
+        Dir::Forward => map.map_f_into(cell, input, to),
+    }
+}
+
+/// Adds the cells to which these region pairs lead from a set of cells.
+fn add_stored(
+    pairs: &[Arc<Region>],
     dir: Dir,
     input: u32,
-    sides: (Shape, Shape),
-    cell: Cell,
-) -> Result<CellSet, Fail>
-    requires inputs { extents_of (map (λ a. arc_value a) inputs.now) ≡ at.now.ins }
-    requires input { input < length at.now.ins }
-    requires near { sides.0 ≡ near_side dir at.now input }
-    requires far { sides.1 ≡ far_side dir at.now input }
-{
-    let mut from = CellBits::new(alloc, sides.0)?;
-    if sides.0.holds(cell) {
-        from.set(cell);
-    }
-    let mut to = CellBits::new(alloc, sides.1)?;
-    let mut tally = Tally::new();
-    at.out().size();
-    trace(alloc, at, inputs, dir, input, &from, &mut to, &mut tally)?;
-    Ok(to.to_set(alloc)?)
-}
-
-/// The image of one cell by the mapping.
-fn mapped(
-    alloc: Global,
-    at: &OpAt,
-    dir: Dir,
-    input: u32,
-    sides: (Shape, Shape),
-    cell: Cell,
-) -> Result<CellSet, Fail>
-    requires mapping { has_mapping at.now.op ≡ true }
-    requires input { input < length at.now.ins }
-    requires near { sides.0 ≡ near_side dir at.now input }
-    requires far { sides.1 ≡ far_side dir at.now input }
-{
-    let mut from = CellBits::new(alloc, sides.0)?;
-    if sides.0.holds(cell) {
-        from.set(cell);
-    }
-    let mut to = CellBits::new(alloc, sides.1)?;
-    image_by_map(at, dir, input, &from, &mut to);
-    Ok(to.to_set(alloc)?)
-}
-
-#[test]
-fn a_transposed_cell_leads_to_the_turned_place(rt: HostRuntime) -> Result<(), Fail> {
-    let alloc = rt.alloc();
-    let shape = Shape::make(2, 3).ok_or("a shape")?;
-    let inputs = [array(
-        alloc,
-        shape,
-        &[Some(1), Some(2), Some(3), Some(4), Some(5), Some(6)],
-    )?];
-    let at = OpAt::of(Op::Transpose, vec![in alloc; shape]?)
-        .ok()
-        .ok_or("its shape rule holds")?;
-    let output = run(alloc, &at, &inputs)?;
-    assert_eq!(rt;
-        output.cells(),
-        [Some(1), Some(4), Some(2), Some(5), Some(3), Some(6)].as_slice()
-    );
-    let cell = Cell { row: 2, col: 0 };
-    let sides = (at.out(), shape);
-    let back = traced(alloc, &at, &inputs, Dir::Back, 0, sides, cell)?;
-    assert_eq!(rt; back.runs(), [Run { first: 2, last: 2 }].as_slice());
-    let back = mapped(alloc, &at, Dir::Back, 0, sides, cell)?;
-    assert_eq!(rt; back.runs(), [Run { first: 2, last: 2 }].as_slice());
-    Ok(())
-}
-
-#[test]
-fn a_sum_under_a_plus_is_made_of_the_cells_under_it(rt: HostRuntime) -> Result<(), Fail> {
-    let alloc = rt.alloc();
-    let shape = Shape::make(3, 3).ok_or("a shape")?;
-    let inputs = [nine(alloc, shape)?];
-    let kernel = Kernel::make(3, 3, vec![in alloc; 0, 1, 0, 1, 1, 1, 0, 1, 0]?);
-    let at = OpAt::of(Op::Convolve { kernel }, vec![in alloc; shape]?)
-        .ok()
-        .ok_or("its shape rule holds")?;
-    let output = run(alloc, &at, &inputs)?;
-    assert_eq!(rt;
-        output.cells(),
-        [
-            Some(7),
-            Some(11),
-            Some(11),
-            Some(17),
-            Some(25),
-            Some(23),
-            Some(19),
-            Some(29),
-            Some(23)
-        ]
-        .as_slice()
-    );
-    let cell = Cell { row: 0, col: 0 };
-    let sides = (at.out(), shape);
-    let corner = [Run { first: 0, last: 1 }, Run { first: 3, last: 3 }];
-    let back = traced(alloc, &at, &inputs, Dir::Back, 0, sides, cell)?;
-    assert_eq!(rt; back.runs(), corner.as_slice());
-    let back = mapped(alloc, &at, Dir::Back, 0, sides, cell)?;
-    assert_eq!(rt; back.runs(), corner.as_slice());
-    Ok(())
-}
-
-#[test]
-fn a_block_folds_its_cells(rt: HostRuntime) -> Result<(), Fail> {
-    let alloc = rt.alloc();
-    let shape = Shape::make(3, 3).ok_or("a shape")?;
-    let inputs = [nine(alloc, shape)?];
-    let fold = Fold::Sum;
-    let at = OpAt::of(Op::Block { fold, h: 2, w: 2 }, vec![in alloc; shape]?)
-        .ok()
-        .ok_or("its shape rule holds")?;
-    let output = run(alloc, &at, &inputs)?;
-    assert_eq!(rt;
-        output.cells(),
-        [Some(12), Some(9), Some(15), Some(9)].as_slice()
-    );
-    let cell = Cell { row: 1, col: 1 };
-    let sides = (at.out(), shape);
-    let back = traced(alloc, &at, &inputs, Dir::Back, 0, sides, cell)?;
-    assert_eq!(rt; back.runs(), [Run { first: 8, last: 8 }].as_slice());
-    let back = mapped(alloc, &at, Dir::Back, 0, sides, cell)?;
-    assert_eq!(rt; back.runs(), [Run { first: 8, last: 8 }].as_slice());
-    Ok(())
-}
-
-#[test]
-fn a_region_is_one_in_all_its_cells(rt: HostRuntime) -> Result<(), Fail> {
-    let alloc = rt.alloc();
-    let shape = Shape::make(3, 3).ok_or("a shape")?;
-    let inputs = [array(
-        alloc,
-        shape,
-        &[
-            Some(9),
-            Some(9),
-            Some(0),
-            Some(0),
-            Some(9),
-            Some(0),
-            Some(9),
-            Some(0),
-            Some(0),
-        ],
-    )?];
-    let at = OpAt::of(Op::Regions { t: 5 }, vec![in alloc; shape]?)
-        .ok()
-        .ok_or("its shape rule holds")?;
-    let output = run(alloc, &at, &inputs)?;
-    assert_eq!(rt;
-        output.cells(),
-        [
-            Some(1),
-            Some(1),
-            Some(0),
-            Some(0),
-            Some(1),
-            Some(0),
-            Some(7),
-            Some(0),
-            Some(0)
-        ]
-        .as_slice()
-    );
-    let cell = Cell { row: 1, col: 1 };
-    let aid = prepare(alloc, &at, &inputs)?;
-    if at.out().holds(cell) {
-        assert_eq!(rt; value_at(&at, &inputs, &aid, cell), Some(1));
-    }
-    let back = traced(alloc, &at, &inputs, Dir::Back, 0, (at.out(), shape), cell)?;
-    assert_eq!(rt;
-        back.runs(),
-        [Run { first: 0, last: 1 }, Run { first: 4, last: 4 }].as_slice()
-    );
-    Ok(())
-}
-
-#[test]
-fn a_hot_cell_is_made_of_its_square(rt: HostRuntime) -> Result<(), Fail> {
-    let alloc = rt.alloc();
-    let shape = Shape::make(2, 2).ok_or("a shape")?;
-    let inputs = [array(alloc, shape, &[Some(1), Some(2), Some(300), Some(4)])?];
-    let at = OpAt::of(Op::Clean { t: 100 }, vec![in alloc; shape]?)
-        .ok()
-        .ok_or("its shape rule holds")?;
-    let output = run(alloc, &at, &inputs)?;
-    assert_eq!(rt;
-        output.cells(),
-        [Some(1), Some(2), Some(1), Some(4)].as_slice()
-    );
-    let sides = (at.out(), shape);
-    let hot = Cell { row: 1, col: 0 };
-    let back = traced(alloc, &at, &inputs, Dir::Back, 0, sides, hot)?;
-    assert_eq!(rt; back.runs(), [Run { first: 0, last: 3 }].as_slice());
-    let cold = Cell { row: 0, col: 1 };
-    let back = traced(alloc, &at, &inputs, Dir::Back, 0, sides, cold)?;
-    assert_eq!(rt; back.runs(), [Run { first: 1, last: 1 }].as_slice());
-    let first = Cell { row: 0, col: 0 };
-    let on = traced(
-        alloc,
-        &at,
-        &inputs,
-        Dir::Forward,
-        0,
-        (shape, at.out()),
-        first,
-    )?;
-    assert_eq!(rt;
-        on.runs(),
-        [Run { first: 0, last: 0 }, Run { first: 2, last: 2 }].as_slice()
-    );
-    Ok(())
-}
-
-#[test]
-fn a_number_past_the_table_leads_nowhere(rt: HostRuntime) -> Result<(), Fail> {
-    let alloc = rt.alloc();
-    let shape = Shape::make(1, 1).ok_or("a shape")?;
-    let table = Shape::make(1, 3).ok_or("a shape")?;
-    let inputs = [
-        array(alloc, shape, &[Some(7)])?,
-        array(alloc, table, &[Some(10), Some(20), Some(30)])?,
-    ];
-    let at = OpAt::of(Op::Lookup, vec![in alloc; shape, table]?)
-        .ok()
-        .ok_or("its shape rule holds")?;
-    let output = run(alloc, &at, &inputs)?;
-    assert_eq!(rt; output.cells(), [None].as_slice());
-    let cell = Cell { row: 0, col: 0 };
-    let back = traced(alloc, &at, &inputs, Dir::Back, 1, (at.out(), table), cell)?;
-    assert_eq!(rt; back.count(), 0);
-    Ok(())
-}
-
-#[test]
-fn a_column_leads_to_the_cells_that_name_it(rt: HostRuntime) -> Result<(), Fail> {
-    let alloc = rt.alloc();
-    let shape = Shape::make(1, 3).ok_or("a shape")?;
-    let table = Shape::make(1, 2).ok_or("a shape")?;
-    let inputs = [
-        array(alloc, shape, &[Some(0), Some(0), Some(1)])?,
-        array(alloc, table, &[Some(10), Some(20)])?,
-    ];
-    let at = OpAt::of(Op::Lookup, vec![in alloc; shape, table]?)
-        .ok()
-        .ok_or("its shape rule holds")?;
-    let cell = Cell { row: 0, col: 0 };
-    let on = traced(
-        alloc,
-        &at,
-        &inputs,
-        Dir::Forward,
-        1,
-        (table, at.out()),
-        cell,
-    )?;
-    assert_eq!(rt; on.runs(), [Run { first: 0, last: 1 }].as_slice());
-    Ok(())
-}
-
-#[test]
-fn a_sum_that_is_no_i64_is_empty_and_has_its_lineage(rt: HostRuntime) -> Result<(), Fail> {
-    let alloc = rt.alloc();
-    let shape = Shape::make(1, 1).ok_or("a shape")?;
-    let inputs = [
-        array(alloc, shape, &[Some(9_223_372_036_854_775_807)])?,
-        array(alloc, shape, &[Some(1)])?,
-    ];
-    let at = OpAt::of(Op::Add, vec![in alloc; shape, shape]?)
-        .ok()
-        .ok_or("its shape rule holds")?;
-    let output = run(alloc, &at, &inputs)?;
-    assert_eq!(rt; output.cells(), [None].as_slice());
-    let cell = Cell { row: 0, col: 0 };
-    let sides = (at.out(), shape);
-    let first = traced(alloc, &at, &inputs, Dir::Back, 0, sides, cell)?;
-    let second = traced(alloc, &at, &inputs, Dir::Back, 1, sides, cell)?;
-    assert_eq!(rt; first.runs(), [Run { first: 0, last: 0 }].as_slice());
-    assert_eq!(rt; second.runs(), [Run { first: 0, last: 0 }].as_slice());
-    Ok(())
-}
-
-#[test]
-fn a_slice_is_a_window(rt: HostRuntime) -> Result<(), Fail> {
-    let alloc = rt.alloc();
-    let shape = Shape::make(3, 3).ok_or("a shape")?;
-    let inputs = [nine(alloc, shape)?];
-    let (r0, c0, h, w) = (1, 1, 2, 2);
-    let at = OpAt::of(Op::Slice { r0, c0, h, w }, vec![in alloc; shape]?)
-        .ok()
-        .ok_or("its shape rule holds")?;
-    let output = run(alloc, &at, &inputs)?;
-    assert_eq!(rt;
-        output.cells(),
-        [Some(5), Some(6), Some(8), Some(9)].as_slice()
-    );
-    let cell = Cell { row: 0, col: 1 };
-    let back = traced(alloc, &at, &inputs, Dir::Back, 0, (at.out(), shape), cell)?;
-    assert_eq!(rt; back.runs(), [Run { first: 5, last: 5 }].as_slice());
-    let outside = Cell { row: 0, col: 0 };
-    let on = mapped(alloc, &at, Dir::Forward, 0, (shape, at.out()), outside)?;
-    assert_eq!(rt; on.count(), 0);
-    Ok(())
-}
-
-#[test]
-fn the_pieces_lead_where_the_trace_does(rt: HostRuntime) -> Result<(), Fail> {
-    let alloc = rt.alloc();
-    let shape = Shape::make(3, 3).ok_or("a shape")?;
-    let inputs = [nine(alloc, shape)?];
-    let fold = Fold::Max;
-    let at = OpAt::of(Op::Block { fold, h: 2, w: 2 }, vec![in alloc; shape]?)
-        .ok()
-        .ok_or("its shape rule holds")?;
-    let aid = prepare(alloc, &at, &inputs)?;
-    let mut tally = Tally::new();
-    let list = [Strategy::FullOneB];
-    let lineage = piece(alloc, &at, &inputs, &aid, 0, &list, &mut tally)?;
-    assert_eq!(rt; tally.count(), 4);
-    let regions = lineage.regions();
-    assert_eq!(rt; regions.len(), 4);
-    if regions.len() == 4 {
-        let second = &regions[1];
-        assert_eq!(rt; second.out.runs(), [Run { first: 1, last: 1 }].as_slice());
-        if let Some(set) = second.ins.as_slice().first() {
-            let cell = Cell { row: 0, col: 1 };
-            let back = traced(alloc, &at, &inputs, Dir::Back, 0, (at.out(), shape), cell)?;
-            assert_eq!(rt; set.runs(), back.runs());
-            assert_eq!(rt;
-                set.runs(),
-                [Run { first: 2, last: 2 }, Run { first: 5, last: 5 }].as_slice()
-            );
+    from: &CellBits,
+    to: &mut CellBits,
+) -> Result<(), Fail> {
+    for pair in pairs {
+        let inside = pair.ins.as_slice().get(input as usize);
+        let inside = inside.ok_or("a pair has a set for each input")?;
+        let (near, far) = match dir {
+            Dir::Back => (&pair.out, inside),
+            Dir::Forward => (inside, &pair.out),
+        };
+        if near.shape() != from.shape() || far.shape() != to.shape() {
+            return Err("a pair has sets of the operator's shapes".into());
+        }
+        if meets(near, from) {
+            to.add_set(far);
         }
     }
     Ok(())
+}
+
+/// Whether two sets have a cell in common.
+fn meets(set: &CellSet, from: &CellBits) -> bool {
+    set.runs().iter().any(|run| from
+        .next_after(run.first)
+        .is_some_and(|index| index <= run.last))
+}
+
+/// Whether the entry at a place keeps just these bytes for just this cell.
+fn keeps(entries: &[Arc<PayEntry>], place: usize, cell: Cell, bytes: &[u8]) -> bool {
+    match entries.get(place) {
+        Some(entry) => {
+            entry.out.count() == 1 && entry.out.has(cell) && entry.payload.bytes() == bytes
+        }
+        None => false,
+    }
+}
+
+fn cell(row: u32, col: u32) -> Cell {
+    Cell { row, col }
+}
+
+fn run_of(first: u32, last: u32) -> Run {
+    Run { first, last }
+}
+
+/// An array of one layer that holds these numbers, row by row.
+fn numbers(alloc: Global, rows: u32, cols: u32, numbers: &[i64]) -> Result<Arc<Array>, Fail> {
+    let mut values = Vec::new(alloc);
+    for number in numbers {
+        values.push(Some(*number))?;
+    }
+    layers(alloc, 1, rows, cols, &values)
+}
+
+/// An array of so many layers of equal sides that holds these values, row by row.
+fn layers(
+    alloc: Global,
+    layers: u32,
+    height: u32,
+    cols: u32,
+    values: &[Value],
+) -> Result<Arc<Array>, Fail> {
+    let shape = Shape::make_layers(layers, height, cols).ok_or("the sides are those of a shape")?;
+    let array = Array::make(shape, values.to_vec(alloc)?).ok_or("each cell has a value")?;
+    Ok(Arc::new(alloc, array)?)
 }

@@ -4,19 +4,20 @@
 -- next multiple. So the row in its layer and the column of a cell are of a block exactly where they lie between two
 -- multiples of the block's sides, and in the layer.
 use Rattle.std.proofs.Common.{◌≡◌, ℕ, ◌+◌, ◌-◌, ◌*◌, ◌/◌, ◌%◌, ◌<◌, ◌≤◌, min, Bool, true, false, ◌&&◌, ◌==◌}
-use Rattle.std.proofs.Common.{nat_le, nat_lt, refl, sym, ap, subst, ◌∙◌, arith, inl, inr, ltb-true, lt-ltb}
-use Rattle.std.proofs.Common.{eqb-true, eq-eqb, List, [], ◌∷◌, length}
+use Rattle.std.proofs.Common.{nat_le, nat_lt, refl, sym, ap, subst, ◌∙◌, arith, inl, inr}
+use Rattle.std.proofs.Common.{eq-eqb, List, [], ◌∷◌, length}
 use Rattle.std.specs.Prelude.{Result, Ok}
 use Rattle.std.specs.Result.{result_unwrap_or}
+use Rattle.std.proofs.Math.Bool.{and-false}
 use Rattle.std.proofs.Math.Nat.{mul-le-mul_right}
-use Rattle.std.proofs.lemmas.Bool.{cases_order, cases_lt, and_parts, and_from}
+use Rattle.std.proofs.lemmas.Bool.{cases_order, cases_lt}
 use Rattle.std.proofs.lemmas.Bool.Decides.{nat_tests}
 use Rattle.std.proofs.lemmas.Nat.{div-add-mod'}
 use Rattle.sz_cells.specs.declared.Cell.{Cell}
-use Rattle.sz_cells.specs.Extent.{Extent, height_of, layered, is_extent, holds, layer_of, row_in, is_place, cell_in}
-use Rattle.sz_cells.specs.Cells.{is_same, cells_where}
-use Rattle.sz_cells.proofs.Shapes.{sides, height-layered, cell-has_place, place-has_cell}
-use Rattle.sz_cells.proofs.Sets.{same_truth, is_same-true, is_same-from, row-held, cells_where-ext}
+use Rattle.sz_cells.specs.Extent.{Extent, height_of, layered, is_extent, holds, layer_of, row_in, is_place}
+use Rattle.sz_cells.specs.Cells.{cells_where}
+use Rattle.sz_cells.proofs.Shapes.{sides, height-layered}
+use Rattle.sz_cells.proofs.Sets.{row-held, cells_where-ext}
 use Rattle.sz_spec.specs.declared.op.Op.TheVariants.{Block}
 use Rattle.sz_spec.specs.declared.op.Fold.{Fold}
 use Rattle.sz_spec.specs.declared.shapes.ShapeFault.{ShapeFault}
@@ -27,6 +28,8 @@ use Rattle.sz_spec.specs.Lineage.{mapped, mapped_between}
 use Rattle.sz_spec.specs.Evaluation.{mapped_numbers, value_of}
 use Rattle.sz_spec.proofs.PayloadLineage.{extent-of_input}
 use Rattle.sz_spec.proofs.CodeSquare.{layer-rows}
+use Rattle.sz_region.proofs.Passing.{eq-flip}
+use Rattle.sz_region.proofs.Places.{is_at, own-place, place-from}
 use Rattle.sz_ops_local.specs.Windows.{is_between, IsBlocked}
 
 -- a number times a side, where the number is one of a block's, is below what the blocks are laid over
@@ -48,10 +51,6 @@ block-number n side k some low =
           let part = div-add-mod' k side in
           absurd (grind (arith, most, whole, part, some, low))
     ]
-
-and-false : (b : Bool) → (b && false) ≡ false
-and-false true = refl
-and-false false = refl
 
 -- numbers moved up alike keep their order
 shifted : (base from to r k : ℕ) → base + r ≡ k
@@ -98,11 +97,6 @@ layer-part height layer from to k tall inside =
           ])
     ]
 
-and-four : (a b c d : Bool) → (((a && b) && c) && d) ≡ ((a && b) && (c && d))
-and-four true true c d = refl
-and-four true false c d = refl
-and-four false b c d = refl
-
 -- the cells to which an output cell is mapped are those between the block's rows of its layer and its columns
 pub block-window : (e out : Extent) (how : Fold) (h w from to left right : ℕ) (o x : Cell) → is_extent e ≡ true
     → holds e x ≡ true → to ≤ height_of e
@@ -118,30 +112,15 @@ block-window e out how h w from to left right o x inside held low rows cols =
     (ap (λ (b : Bool). b && (nat_le left x.col && nat_lt x.col right))
     (layer-part (height_of e) (layer_of out o) from to x.row tall low))
 
--- seen from a cell, the output cell of its block is the one that is mapped to it
-pub block-target : (e out : Extent) (how : Fold) (h w : ℕ) (o x : Cell) → is_extent out ≡ true → holds out o ≡ true
-    → is_place out (layer_of e x) (row_in e x / h) (x.col / w) ≡ true
-    → mapped_between e out (Block how h w) 0 o x
-    ≡ is_same o (cell_in out (layer_of e x) (row_in e x / h) (x.col / w))
-block-target e out how h w o x right held place =
-    let own = (cell-has_place out o right held).1 in
-    let there = place-has_cell out (layer_of e x) (row_in e x / h) (x.col / w) right place in
-    let cell = cell_in out (layer_of e x) (row_in e x / h) (x.col / w) in
-    same_truth (mapped_between e out (Block how h w) 0 o x) (is_same o cell)
-    (λ t.
-    let outer = and_parts _ _ t in
-    let inner = and_parts _ _ outer.0 in
-    let layer = eqb-true _ _ inner.0 in
-    let row = eqb-true _ _ inner.1 in
-    let col = eqb-true _ _ outer.1 in
-    is_same-from o cell
-    (sym own ∙ ap (λ (n : ℕ). cell_in out n (row_in out o) o.col) (sym layer)
-    ∙ ap (λ (n : ℕ). cell_in out (layer_of e x) n o.col) (sym row)
-    ∙ ap (λ (n : ℕ). cell_in out (layer_of e x) (row_in e x / h) n) (sym col)))
-    (λ t.
-    let same = is_same-true o cell t in
-    subst (λ (y : Cell). mapped_between e out (Block how h w) 0 y x ≡ true) (sym same)
-    (and_from _ _ (and_from _ _ (eq-eqb _ _ (sym there.1)) (eq-eqb _ _ (sym there.2))) (eq-eqb _ _ (sym there.3))))
+-- seen from a cell, the output cells of its block are at one place
+pub block-at : (e out : Extent) (how : Fold) (h w : ℕ) (o x : Cell)
+    → mapped_between e out (Block how h w) 0 o x ≡ is_at out (layer_of e x) (row_in e x / h) (x.col / w) o
+block-at e out how h w o x =
+    rw (
+      eq-flip (layer_of e x) (layer_of out o),
+      eq-flip (row_in e x / h) (row_in out o),
+      eq-flip (x.col / w) o.col,
+    ) refl
 
 -- what the shape rule says of the two shapes
 pub blocked : (s : Site) (how : Fold) (h w : ℕ) → s.op ≡ Block how h w → shape_of s.op s.ins ≡ Ok s.out
@@ -164,32 +143,15 @@ block-sides e out h w right right' tall wide made = record {
   cols = sym (ap (λ (d : Extent). d.cols) made);
 }
 
--- what a place is made of
-place-parts : (e : Extent) (layer row col : ℕ) → is_place e layer row col ≡ true
-    → (layer < e.layers) × (row < height_of e) × (col < e.cols)
-place-parts e layer row col place =
-    let both = and_parts _ _ place in
-    let first = and_parts _ _ both.0 in
-    (ltb-true _ _ first.0, ltb-true _ _ first.1, ltb-true _ _ both.1)
-
-place-from : (e : Extent) (layer row col : ℕ) → layer < e.layers → row < height_of e → col < e.cols
-    → is_place e layer row col ≡ true
-place-from e layer row col a b c = and_from _ _ (and_from _ _ (lt-ltb _ _ a) (lt-ltb _ _ b)) (lt-ltb _ _ c)
-
 -- the numbers of the block of a cell are a place of the output
 pub block-place : (e out : Extent) (h w : ℕ) (x : Cell) → IsBlocked e out h w → holds e x ≡ true
     → is_place out (layer_of e x) (row_in e x / h) (x.col / w) ≡ true
 block-place e out h w x b held =
-    let own = place-parts e (layer_of e x) (row_in e x) x.col (cell-has_place e x b.right held).0 in
+    let own = own-place e x b.right held in
     let row : row_in e x / h < blocks_over (height_of e) h = block-number (height_of e) h (row_in e x) b.tall own.1 in
     let col : x.col / w < blocks_over e.cols w = block-number e.cols w x.col b.wide own.2 in
     place-from out (layer_of e x) (row_in e x / h) (x.col / w) (omega (arith, own.0, b.layers))
     (subst (λ (n : ℕ). row_in e x / h < n) (sym b.height) row) (subst (λ (n : ℕ). x.col / w < n) (sym b.cols) col)
-
--- it has the cell of this place
-pub place-held : (e : Extent) (layer row col : ℕ) → is_extent e ≡ true → is_place e layer row col ≡ true
-    → holds e (cell_in e layer row col) ≡ true
-place-held e layer row col right place = (place-has_cell e layer row col right place).0
 
 -- the numbers of a window that has the cells of a block are those of which its output cell is made
 pub block-numbers : (g : Grid) (ins : List Extent) (how : Fold) (h w : ℕ) (o : Cell) (p : Cell → Bool)

@@ -4,41 +4,35 @@
 -- others,
 -- and each output cell is related to the cell at its own place alone.
 use Rattle.std.proofs.Common.{◌≡◌, ℕ, ◌<◌, Bool, true, true≢false, ◌&&◌}
-use Rattle.std.proofs.Common.{◌==◌, List, [], ◌∷◌, length, map, get_or, Option, Some, None}
-use Rattle.std.proofs.Common.{refl, sym, ap, subst, ◌∙◌, arith, inl, inr, eq-eqb, lt-ltb}
-use Rattle.std.proofs.Common.{eqb-true}
-use Rattle.std.specs.Prelude.{ℤ, Result, Ok, unwrap_or}
+use Rattle.std.proofs.Common.{◌==◌, List, [], ◌∷◌, length, map, get_or, Option, Some}
+use Rattle.std.proofs.Common.{refl, sym, ap, ◌∙◌, arith, inl, inr, eq-eqb, lt-ltb, eqb-true}
+use Rattle.std.specs.Prelude.{Result, Ok, unwrap_or}
 use Rattle.std.specs.List.{list_any}
 use Rattle.std.proofs.Math.Bool.{or-false}
 use Rattle.std.specs.Option.{option_map}
-use Rattle.std.proofs.lemmas.List.{length-map, get_or_default}
-use Rattle.std.proofs.lemmas.List.Elements.{All-from_get_or}
+use Rattle.std.proofs.lemmas.List.{length-map}
 use Rattle.std.specs.Result.{result_unwrap_or}
 use Rattle.std.proofs.lemmas.Bool.{cases_Bool}
 use Rattle.std.proofs.lemmas.Bool.Decides.{nat_tests}
 use Rattle.std.proofs.lemmas.Option.{slice_get-map, slice_get-get_or}
 use Rattle.sz_cells.specs.declared.Cell.{Cell}
-use Rattle.sz_cells.specs.Extent.{Extent, holds, is_extent}
+use Rattle.sz_cells.specs.Extent.{Extent, holds}
 use Rattle.sz_cells.specs.Cells.{Cells, is_same, cells_where, any_cell, has, named_in}
 use Rattle.sz_cells.proofs.Sets.{has-cells_where, cells_where-ext, any_cell-ext}
 use Rattle.sz_cells.proofs.Sets.{any_cell-same_turned, is_same-flip}
 use Rattle.sz_spec.specs.declared.modes.Dir.{Dir}
 use Rattle.sz_spec.specs.declared.modes.Dir.TheVariants.{Back, Forward}
-use Rattle.sz_spec.specs.declared.op.Fold.{Fold}
 use Rattle.sz_spec.specs.declared.op.Op.{Op}
 use Rattle.sz_spec.specs.declared.op.Op.TheVariants.{Neg, Abs, AddK, MulK, Clip, Add, Sub, Mul, Min}
-use Rattle.sz_spec.specs.declared.op.Op.TheVariants.{Max, Transpose, Slice, Convolve, Block, Lookup}
-use Rattle.sz_spec.specs.declared.op.Op.TheVariants.{Regions, Clean, FoldLayers}
+use Rattle.sz_spec.specs.declared.op.Op.TheVariants.{Max, Lookup, Regions, Clean}
 use Rattle.sz_spec.specs.declared.shapes.ShapeFault.{ShapeFault}
-use Rattle.sz_spec.specs.Values.{Grid, no_grid, no_extent, extent_at, extents_of, input_at}
-use Rattle.sz_spec.specs.Values.{value_at}
+use Rattle.sz_spec.specs.Values.{Grid, no_grid, no_extent, extent_at, input_at}
 use Rattle.sz_spec.specs.Shapes.{Site, IsSite, arity, same_shape, shape_of}
-use Rattle.sz_spec.specs.LawsShapes.{AreExtents}
 use Rattle.sz_spec.specs.Lineage.{mapped, related}
-use Rattle.sz_spec.specs.Evaluation.{value_of}
+use Rattle.sz_spec.specs.Modes.{has_mapping}
 use Rattle.sz_spec.proofs.OutputShapes.{same-shape_first, same-shape_second}
-use Rattle.sz_spec.proofs.PayloadLineage.{extent-of_input}
 use Rattle.sz_region.specs.Images.{IsAtWork, near_side, far_side, image_in}
+use Rattle.sz_region.proofs.Inputs as at_work
 use Rattle.sz_ops_local.specs.Local.{is_elementwise, is_local}
 
 -- ---- shapes
@@ -73,22 +67,7 @@ same-shapes Sub ins out i h few rule = of-two ins out i few rule
 same-shapes Mul ins out i h few rule = of-two ins out i few rule
 same-shapes Min ins out i h few rule = of-two ins out i few rule
 same-shapes Max ins out i h few rule = of-two ins out i few rule
-same-shapes Transpose ins out i h few rule = absurd (true≢false (sym h))
-same-shapes (Slice r0 c0 height width) ins out i h few rule = absurd (true≢false (sym h))
-same-shapes (Convolve kernel) ins out i h few rule = absurd (true≢false (sym h))
-same-shapes (Block fold height width) ins out i h few rule = absurd (true≢false (sym h))
-same-shapes Lookup ins out i h few rule = absurd (true≢false (sym h))
-same-shapes (Regions t) ins out i h few rule = absurd (true≢false (sym h))
-same-shapes (Clean t) ins out i h few rule = absurd (true≢false (sym h))
-same-shapes (FoldLayers fold) ins out i h few rule = absurd (true≢false (sym h))
-
--- so has each input's array
-pub input-extent : (s : Site) (inputs : List Grid) (i : ℕ) → is_elementwise s.op ≡ true → IsAtWork s inputs → i <
-    length s.ins
-    → (input_at inputs i).extent ≡ s.out
-input-extent s inputs i h work few =
-    sym (extent-of_input inputs i) ∙ ap (λ (es : List Extent). extent_at es i) work.shapes
-    ∙ same-shapes s.op s.ins s.out i h (omega (arith, work.site.arity)) work.site.shape
+same-shapes _ ins out i h few rule = absurd (true≢false (sym h))
 
 -- ---- lineage
 
@@ -105,14 +84,7 @@ mapped-same Sub ins i o x h few = ap (λ b. b && is_same x o) (lt-ltb i 2 few)
 mapped-same Mul ins i o x h few = ap (λ b. b && is_same x o) (lt-ltb i 2 few)
 mapped-same Min ins i o x h few = ap (λ b. b && is_same x o) (lt-ltb i 2 few)
 mapped-same Max ins i o x h few = ap (λ b. b && is_same x o) (lt-ltb i 2 few)
-mapped-same Transpose ins i o x h few = absurd (true≢false (sym h))
-mapped-same (Slice r0 c0 height width) ins i o x h few = absurd (true≢false (sym h))
-mapped-same (Convolve kernel) ins i o x h few = absurd (true≢false (sym h))
-mapped-same (Block fold height width) ins i o x h few = absurd (true≢false (sym h))
-mapped-same Lookup ins i o x h few = absurd (true≢false (sym h))
-mapped-same (Regions t) ins i o x h few = absurd (true≢false (sym h))
-mapped-same (Clean t) ins i o x h few = absurd (true≢false (sym h))
-mapped-same (FoldLayers fold) ins i o x h few = absurd (true≢false (sym h))
+mapped-same _ ins i o x h few = absurd (true≢false (sym h))
 
 -- some cell of a set is at the place of a cell exactly where the cell is in the set
 pub any-at_place : (e : Extent) (from : Cells) (q : Cell → Bool) (o : Cell) → from ≡ cells_where e (has from)
@@ -151,51 +123,6 @@ same-sides Forward s i same few = same i few
 
 -- ---- values
 
--- where an input has nothing, the output has nothing
-pub first-empty : (op : Op) (inputs : List Grid) (o : Cell) → is_elementwise op ≡ true → value_at (input_at inputs 0)
-    o ≡ None
-    → None ≡ value_of op inputs o
-first-empty Neg inputs o h none = rw none refl
-first-empty Abs inputs o h none = rw none refl
-first-empty (AddK k) inputs o h none = rw none refl
-first-empty (MulK k) inputs o h none = rw none refl
-first-empty (Clip lo hi) inputs o h none = rw none refl
-first-empty Add inputs o h none = rw none refl
-first-empty Sub inputs o h none = rw none refl
-first-empty Mul inputs o h none = rw none refl
-first-empty Min inputs o h none = rw none refl
-first-empty Max inputs o h none = rw none refl
-first-empty Transpose inputs o h none = absurd (true≢false (sym h))
-first-empty (Slice r0 c0 height width) inputs o h none = absurd (true≢false (sym h))
-first-empty (Convolve kernel) inputs o h none = absurd (true≢false (sym h))
-first-empty (Block fold height width) inputs o h none = absurd (true≢false (sym h))
-first-empty Lookup inputs o h none = absurd (true≢false (sym h))
-first-empty (Regions t) inputs o h none = absurd (true≢false (sym h))
-first-empty (Clean t) inputs o h none = absurd (true≢false (sym h))
-first-empty (FoldLayers fold) inputs o h none = absurd (true≢false (sym h))
-
-pub second-empty : (op : Op) (inputs : List Grid) (o : Cell) (a : ℤ) → is_elementwise op ≡ true → 1 < arity op
-    → value_at (input_at inputs 0) o ≡ Some a → value_at (input_at inputs 1) o ≡ None → None ≡ value_of
-    op inputs o
-second-empty Neg inputs o a h two some none = absurd (omega (arith, two))
-second-empty Abs inputs o a h two some none = absurd (omega (arith, two))
-second-empty (AddK k) inputs o a h two some none = absurd (omega (arith, two))
-second-empty (MulK k) inputs o a h two some none = absurd (omega (arith, two))
-second-empty (Clip lo hi) inputs o a h two some none = absurd (omega (arith, two))
-second-empty Add inputs o a h two some none = rw (some, none) refl
-second-empty Sub inputs o a h two some none = rw (some, none) refl
-second-empty Mul inputs o a h two some none = rw (some, none) refl
-second-empty Min inputs o a h two some none = rw (some, none) refl
-second-empty Max inputs o a h two some none = rw (some, none) refl
-second-empty Transpose inputs o a h two some none = absurd (true≢false (sym h))
-second-empty (Slice r0 c0 height width) inputs o a h two some none = absurd (true≢false (sym h))
-second-empty (Convolve kernel) inputs o a h two some none = absurd (true≢false (sym h))
-second-empty (Block fold height width) inputs o a h two some none = absurd (true≢false (sym h))
-second-empty Lookup inputs o a h two some none = absurd (true≢false (sym h))
-second-empty (Regions t) inputs o a h two some none = absurd (true≢false (sym h))
-second-empty (Clean t) inputs o a h two some none = absurd (true≢false (sym h))
-second-empty (FoldLayers fold) inputs o a h two some none = absurd (true≢false (sym h))
-
 -- how many inputs there are
 pub inputs-count : (s : Site) (inputs : List Grid) → IsAtWork s inputs → length inputs ≡ arity s.op
 inputs-count s inputs work =
@@ -210,24 +137,6 @@ input-is view xs i x inside is =
     ap (λ (o : Option Grid). unwrap_or o no_grid)
     (slice_get-map view xs i ∙ ap (option_map view) (slice_get-get_or xs i x inside ∙ ap (λ y. Some y) (sym is)))
 
--- the shape at a place of a list of shapes
-pub shape-is : (xs : List Extent) (i : ℕ) (x : Extent) → i < length xs → x ≡ get_or xs i x → x ≡
-    extent_at xs i
-shape-is xs i x inside is =
-    sym (ap (λ (o : Option Extent). unwrap_or o no_extent) (slice_get-get_or xs i x inside ∙ ap (λ y. Some y)
-    (sym is)))
-
--- shapes that are each one right shape are right
-pub all-right : (ins : List Extent) (out : Extent) → ((i : ℕ) → i < length ins → extent_at ins i ≡ out) →
-    is_extent out ≡ true
-    → AreExtents ins
-all-right ins out same right =
-    All-from_get_or (λ e. is_extent e ≡ true) ins no_extent
-    (λ i inside.
-    let here = shape-is ins i (get_or ins i no_extent) inside (get_or_default ins i no_extent (get_or ins i
-    no_extent) inside) in
-    subst (λ (e : Extent). is_extent e ≡ true) (sym (here ∙ same i inside)) right)
-
 -- a set of one cell at a place of the shape
 pub one-cell : (op : Op) (ins : List Extent) (i : ℕ) (o : Cell) (e : Extent) → is_elementwise op ≡ true
     → i < arity op
@@ -238,51 +147,13 @@ one-cell op ins i o e h few =
 
 -- ---- all local operators
 
--- an operator of this crate that folds no blocks is elementwise
-pub elementwise-else : (op : Op) → is_local op ≡ true
-    → ((how : Fold) (h w : ℕ) → op ≡ Block how h w → ⊥) → is_elementwise op ≡ true
-elementwise-else (Block how h w) local none = absurd (none how h w refl)
-elementwise-else Neg local none = local
-elementwise-else Abs local none = local
-elementwise-else (AddK k) local none = local
-elementwise-else (MulK k) local none = local
-elementwise-else (Clip lo hi) local none = local
-elementwise-else Add local none = local
-elementwise-else Sub local none = local
-elementwise-else Mul local none = local
-elementwise-else Min local none = local
-elementwise-else Max local none = local
-elementwise-else Transpose local none = local
-elementwise-else (Slice r0 c0 height width) local none = local
-elementwise-else (Convolve kernel) local none = local
-elementwise-else Lookup local none = local
-elementwise-else (Regions t) local none = local
-elementwise-else (Clean t) local none = local
-elementwise-else (FoldLayers fold) local none = local
-
 -- the relation of a local operator is its mapping
-by-mapping : (op : Op) (inputs : List Grid) (i : ℕ) (o x : Cell) → is_local op ≡ true
-    → related op inputs i o x ≡ mapped op (extents_of inputs) i o x
-by-mapping Lookup inputs i o x h = absurd (true≢false (sym h))
-by-mapping (Regions t) inputs i o x h = absurd (true≢false (sym h))
-by-mapping (Clean t) inputs i o x h = absurd (true≢false (sym h))
-by-mapping (Block how height width) inputs i o x h = refl
-by-mapping Neg inputs i o x h = refl
-by-mapping Abs inputs i o x h = refl
-by-mapping (AddK k) inputs i o x h = refl
-by-mapping (MulK k) inputs i o x h = refl
-by-mapping (Clip lo hi) inputs i o x h = refl
-by-mapping Add inputs i o x h = refl
-by-mapping Sub inputs i o x h = refl
-by-mapping Mul inputs i o x h = refl
-by-mapping Min inputs i o x h = refl
-by-mapping Max inputs i o x h = refl
-by-mapping Transpose inputs i o x h = refl
-by-mapping (Slice r0 c0 height width) inputs i o x h = refl
-by-mapping (Convolve kernel) inputs i o x h = refl
-by-mapping (FoldLayers fold) inputs i o x h = refl
+has-map : (op : Op) → is_local op ≡ true → has_mapping op ≡ true
+has-map Lookup h = h
+has-map (Regions t) h = h
+has-map (Clean t) h = h
+has-map _ h = refl
 
 pub related-mapped : (s : Site) (inputs : List Grid) (i : ℕ) (o x : Cell) → is_local s.op ≡ true
     → IsAtWork s inputs → related s.op inputs i o x ≡ mapped s.op s.ins i o x
-related-mapped s inputs i o x h work =
-    by-mapping s.op inputs i o x h ∙ ap (λ ins. mapped s.op ins i o x) work.shapes
+related-mapped s inputs i o x h work = at_work.related-mapped s inputs i o x (has-map s.op h) work

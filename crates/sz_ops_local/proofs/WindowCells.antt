@@ -2,41 +2,28 @@
 --
 -- The key idea: a window is a test of cells, and the rows so far and one more are the window with that row.
 use Rattle.std.proofs.Common.{◌≡◌, ℕ, ◌+◌, ◌-◌, ◌*◌, ◌<◌, ◌≤◌, Bool}
-use Rattle.std.proofs.Common.{true, false, true≢false, ◌&&◌, ◌||◌, ◌==◌, nat_le, nat_lt}
-use Rattle.std.proofs.Common.{List, [], ◌∷◌, ◌++◌, refl, sym, ap, ap₂, ◌∙◌, arith, inl, inr, lt-ltb, le-leb}
+use Rattle.std.proofs.Common.{true, false, ◌&&◌, ◌||◌, ◌==◌, nat_le, nat_lt}
+use Rattle.std.proofs.Common.{List, [], ◌∷◌, ◌++◌, refl, sym, ap, ◌∙◌, arith, inl, inr, lt-ltb, le-leb}
 use Rattle.std.specs.List.{list_any, All}
-use Rattle.std.proofs.lemmas.Bool.{cases_Bool, cases_lt, and_from}
+use Rattle.std.proofs.Math.Bool.{and-false, or-true}
+use Rattle.std.proofs.lemmas.Bool.{cases_lt, and_from}
 use Rattle.std.proofs.lemmas.Bool.Decides.{nat_tests}
 use Rattle.std.proofs.lemmas.List.Elements.{All-cons, All-nil}
 use Rattle.sz_cells.specs.declared.Cell.{Cell}
-use Rattle.sz_cells.specs.Extent.{Extent, holds, cell_of}
+use Rattle.sz_cells.specs.Extent.{Extent, holds}
 use Rattle.sz_cells.specs.Cells.{Cells, is_same, any_cell, has, cells_where, with_those, union_of}
 use Rattle.sz_cells.specs.Runs.{run_cells}
-use Rattle.sz_cells.proofs.Sets.{has-cells_where, cells_where-ext, any_cell-same_any}
+use Rattle.sz_cells.proofs.Sets.{has-cells_where, cells_where-ext}
 use Rattle.sz_cells.proofs.Sets.{is_same-refl, is_same-true}
 use Rattle.sz_cells.proofs.Windows.{run-window, window-within, window-more}
 use Rattle.sz_spec.specs.Values.{Grid, numbers_at}
 use Rattle.sz_region.proofs.Added.{with-none, with-more}
 use Rattle.sz_region.proofs.FoldedCells.{numbers-join, numbers-none}
+use Rattle.sz_region.proofs.Passing.{met-none, met-or}
 use Rattle.sz_ops_local.specs.declared.window.Window.{Window}
 use Rattle.sz_ops_local.specs.Windows.{is_between, is_in, IsWindow}
 
 -- ---- tests
-
-and-false : (b : Bool) → (b && false) ≡ false
-and-false true = refl
-and-false false = refl
-
-or-turned : (a b c d : Bool) → ((a || b) || (c || d)) ≡ ((a || c) || (b || d))
-or-turned true b c d = refl
-or-turned false true true d = refl
-or-turned false false true d = refl
-or-turned false true false d = refl
-or-turned false false false d = refl
-
-or-true : (b : Bool) → (b || true) ≡ true
-or-true true = refl
-or-true false = refl
 
 and-of-or : (r a b : Bool) → ((r && a) || (r && b)) ≡ (r && (a || b))
 and-of-or true a b = refl
@@ -130,39 +117,15 @@ added-run set row left right inside some wide =
 
 -- ---- cells of a set that are met
 
-any-or : {X : Type 0} (p q r : X → Bool) → ((x : X) → (p x || q x) ≡ r x) → (xs : List X)
-    → (list_any p xs || list_any q xs) ≡ list_any r xs
-any-or p q r same [] = refl
-any-or p q r same (x ∷ xs) =
-    or-turned (p x) (list_any p xs) (q x) (list_any q xs)
-    ∙ ap₂ (λ (a b : Bool). a || b) (same x) (any-or p q r same xs)
-
-any-wider : {X : Type 0} (p q : X → Bool) → ((x : X) → p x ≡ true → q x ≡ true) → (xs : List X)
-    → list_any p xs ≡ true → list_any q xs ≡ true
-any-wider p q wider [] met = absurd (true≢false (sym met))
-any-wider p q wider (x ∷ xs) met =
-    elim (cases_Bool (p x)) [
-      | inl t ↦ rw (wider x t) refl
-      | inr f ↦ rw (any-wider p q wider xs (rw f at met)) (or-true (q x))
-    ]
-
-any-none : {X : Type 0} (p : X → Bool) → ((x : X) → p x ≡ false) → (xs : List X) → list_any p xs ≡ false
-any-none p none [] = refl
-any-none p none (x ∷ xs) = ap₂ (λ (a b : Bool). a || b) (none x) (any-none p none xs)
-
 pub met-first : (set : Cells) (top left right : ℕ) → any_cell (is_between top top left right) set ≡ false
-met-first set top left right =
-    any-none (λ k. is_between top top left right (cell_of set.extent k))
-    (λ k. no-rows top left right (cell_of set.extent k)) set.indexes
+met-first set top left right = met-none set (is_between top top left right) (no-rows top left right)
 
 pub met-next : (set : Cells) (top row left right : ℕ) → top ≤ row
     → (any_cell (is_between top row left right) set || any_cell (is_between row (row + 1) left right) set)
     ≡ any_cell (is_between top (row + 1) left right) set
 met-next set top row left right order =
-    any-or (λ k. is_between top row left right (cell_of set.extent k))
-    (λ k. is_between row (row + 1) left right (cell_of set.extent k))
-    (λ k. is_between top (row + 1) left right (cell_of set.extent k))
-    (λ k. window-more top row left right (cell_of set.extent k) order) set.indexes
+    met-or set (is_between top row left right) (is_between row (row + 1) left right)
+    (is_between top (row + 1) left right) (λ c. window-more top row left right c order)
 
 -- ---- columns of one row
 
@@ -194,32 +157,15 @@ cols-next row left col x order =
     ∙ and-of-or rows (nat_le left x.col && nat_lt x.col col) (col == x.col)
     ∙ ap (λ (b : Bool). rows && b) cols
 
--- a set has a cell exactly where some cell of it is the same
-pub met-one : (set : Cells) (c : Cell) → set ≡ cells_where set.extent (has set) → holds set.extent c ≡ true
-    → has set c ≡ any_cell (is_same c) set
-met-one set c own held =
-    sym (ap (any_cell (is_same c)) own ∙ any_cell-same_any set.extent (has set) c ∙ (rw held refl))
-
 pub met-no_cols : (set : Cells) (row left : ℕ) → any_cell (is_between row (row + 1) left left) set ≡ false
-met-no_cols set row left =
-    any-none (λ k. is_between row (row + 1) left left (cell_of set.extent k))
-    (λ k. no-cols row (row + 1) left (cell_of set.extent k)) set.indexes
+met-no_cols set row left = met-none set (is_between row (row + 1) left left) (no-cols row (row + 1) left)
 
 pub met-col : (set : Cells) (row left col : ℕ) → left ≤ col
     → (any_cell (is_between row (row + 1) left col) set || any_cell (is_same (record { row = row; col = col })) set)
     ≡ any_cell (is_between row (row + 1) left (col + 1)) set
 met-col set row left col order =
-    any-or (λ k. is_between row (row + 1) left col (cell_of set.extent k))
-    (λ k. is_same (record { row = row; col = col }) (cell_of set.extent k))
-    (λ k. is_between row (row + 1) left (col + 1) (cell_of set.extent k))
-    (λ k. cols-next row left col (cell_of set.extent k) order) set.indexes
-
--- where a part of a window is met, the window is
-pub met-wider : (set : Cells) (p q : Cell → Bool) → ((c : Cell) → p c ≡ true → q c ≡ true) → any_cell p set ≡ true
-    → any_cell q set ≡ true
-met-wider set p q wider met =
-    any-wider (λ k. p (cell_of set.extent k)) (λ k. q (cell_of set.extent k)) (λ k. wider (cell_of set.extent k))
-    set.indexes met
+    met-or set (is_between row (row + 1) left col) (is_same (record { row = row; col = col }))
+    (is_between row (row + 1) left (col + 1)) (λ c. cols-next row left col c order)
 
 -- ---- cells named in a list
 

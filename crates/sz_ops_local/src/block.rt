@@ -2,17 +2,18 @@
 //! layer may be shorter.
 
 ghost use Rattle.std.specs.Prelude.{◌≡◌, ℕ, ◌+◌, ◌*◌, ◌/◌, ◌<◌, ◌≤◌, [], ◌∷◌, true, IfOk};
-ghost use Rattle.std.specs.Prelude.{length};
+ghost use Rattle.std.specs.Prelude.{length, Some};
 ghost use Rattle.std.specs.Arc.{arc_value};
 ghost use Rattle.std.specs.Prelude.{◌==◌, ◌&&◌, nat_le, nat_lt};
 ghost use Rattle.sz_cells.specs.declared.Cell.{Cell};
 ghost use Rattle.sz_cells.specs.Extent.{holds, height_of};
-ghost use Rattle.sz_cells.specs.Cells.{is_same, any_cell, cells_where, with_those};
+ghost use Rattle.sz_cells.specs.Cells.{any_cell, cells_where, with_those};
 ghost use Rattle.sz_spec.specs.declared.op.Op.TheVariants.{Block};
 ghost use Rattle.sz_spec.specs.Values.{extent_at};
 ghost use Rattle.sz_spec.specs.Lineage.{mapped, mapped_between};
 ghost use Rattle.sz_spec.specs.Evaluation.{value_of};
 ghost use Rattle.sz_spec.specs.Operators.Folds.{blocks_over};
+ghost use Rattle.sz_region.specs.Single.{IsOnly};
 ghost use Rattle.sz_ops_local.specs.Windows.{is_in, IsWindow, IsBlocked};
 
 use crate::window;
@@ -21,6 +22,7 @@ use std::alloc::Global;
 use std::sync::Arc;
 use sz_cells::laws::a_shape_is_within_limits;
 use sz_cells::{Cell, CellBits, CellSet, NoMemory, Shape};
+use sz_region::add_cell;
 use sz_spec::{Array, Fold, OpAt, Value};
 
 /// The value of an output cell: its block folded. Each cell of the block is read once.
@@ -58,8 +60,8 @@ pub(crate) fn target(at: &OpAt, how: Fold, h: u32, w: u32, cell: Cell) -> Cell
     requires op { at.now.op ≡ Block how h w }
     requires cell { holds (extent_at at.now.ins 0) cell ≡ true }
     ensures held { holds at.now.out result ≡ true }
-    ensures only { (o : Cell) → holds at.now.out o ≡ true
-        → mapped (Block how h w) at.now.ins 0 o cell ≡ is_same o result }
+    ensures only { IsOnly at.now.out (λ o. mapped (Block how h w) at.now.ins 0 o cell)
+        (Some result) }
 {
     let (shape, made) = shapes(at, how, h, w);
     match made.cell_in(shape.layer_of(cell), shape.row_in(cell) / h, cell.col / w) {
@@ -104,7 +106,7 @@ pub(crate) fn forward_into(
     ensures { to.new ≡ with_those to.old (λ o. mapped (Block how h w) at.now.ins input o cell) }
 {
     at.ins(); // there is one input
-    to.set(target(at, how, h, w, cell));
+    add_cell(to, Some(target(at, how, h, w, cell)));
 }
 
 /// Whether a set has a cell of the block of an output cell.

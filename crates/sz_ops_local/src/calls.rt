@@ -16,11 +16,11 @@ ghost use Rattle.sz_ops_local.specs.Local.{is_local};
 
 use crate::elementwise;
 use crate::op_map::Maps;
-use crate::work::{Work, right_shapes};
+use crate::work::Work;
 use std::alloc::Global;
 use std::sync::Arc;
 use sz_cells::{Cell, CellBits, NoMemory};
-use sz_region::{AtWork, PieceLineage, image_by, piece_by, run_by, trace_by};
+use sz_region::{AtWork, PieceLineage, image_by, piece_by, right_shapes, run_by, trace_by};
 use sz_spec::{Array, Dir, Op, OpAt, Strategy, Tally, Value};
 
 /// What is prepared once for an operator at work: of these operators, nothing.

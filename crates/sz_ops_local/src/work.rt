@@ -3,8 +3,6 @@
 ghost use Rattle.std.specs.Prelude.{◌≡◌, ◌<◌, true, length, map};
 ghost use Rattle.std.specs.Arc.{arc_value};
 ghost use Rattle.sz_spec.specs.Values.{input_at, extent_at};
-ghost use Rattle.sz_spec.specs.Shapes.{IsSite};
-ghost use Rattle.sz_spec.specs.LawsShapes.{AreExtents};
 ghost use Rattle.sz_region.specs.Images.{IsAtWork};
 ghost use Rattle.sz_ops_local.specs.Local.{is_local};
 
@@ -12,7 +10,6 @@ use crate::maps::{back_into, meets, set};
 use crate::{block, elementwise};
 use std::alloc::Global;
 use std::sync::Arc;
-use sz_cells::laws::a_shape_is_within_limits;
 use sz_cells::{Cell, CellBits, CellSet, NoMemory, Shape};
 use sz_region::{AtWork, Payload};
 use sz_spec::{Array, Op, OpAt, Value};
@@ -75,19 +72,4 @@ impl<'a> Work<'a> {
     {
         &self.inputs[0]
     }
-}
-
-/// The output's shape. Its caller knows from now on that the operator has right parameters, as many
-/// inputs as it takes, and the output that its shape rule gives, and that the inputs have right
-/// shapes.
-pub(crate) fn right_shapes(at: &OpAt) -> Shape
-    ensures value { result ≡ at.now.out }
-    ensures site { IsSite at.now }
-    ensures right { AreExtents at.now.ins }
-{
-    at.op();
-    for shape in at.ins() {
-        a_shape_is_within_limits(shape);
-    }
-    at.out()
 }

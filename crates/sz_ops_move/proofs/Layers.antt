@@ -7,14 +7,14 @@ use Rattle.std.proofs.Common.{nat_lt, List, [], ◌∷◌, ◌++◌, refl, sym, 
 use Rattle.std.proofs.Common.{ap₂, subst, ◌∙◌, arith, inl, inr, ltb-true, lt-ltb}
 use Rattle.std.proofs.Common.{eqb-true, eq-eqb, ◌-◌}
 use Rattle.std.specs.List.{list_any}
-use Rattle.std.proofs.Math.Bool.{or_assoc, or-false}
+use Rattle.std.proofs.Math.Bool.{and-false, or_assoc, or-false}
 use Rattle.std.proofs.Math.Nat.{mul-le-mul_right}
 use Rattle.std.proofs.lemmas.Bool.{cases_Bool, cases_lt, and_parts, and_from}
 use Rattle.std.proofs.lemmas.Bool.Decides.{nat_tests}
 use Rattle.std.proofs.lemmas.List.Folds.{list_any-append}
 use Rattle.std.proofs.lemmas.Nat.{mod-mul-add}
 use Rattle.sz_cells.specs.declared.Cell.{Cell}
-use Rattle.sz_cells.specs.Extent.{Extent, height_of, is_extent, holds, row_in, cell_in, cell_of}
+use Rattle.sz_cells.specs.Extent.{Extent, height_of, is_extent, holds, row_in, cell_in}
 use Rattle.sz_cells.specs.Cells.{Cells, is_same, any_cell, has, cells_where, with_those}
 use Rattle.sz_cells.proofs.Shapes.{sides}
 use Rattle.sz_cells.proofs.Sets.{row-held, cell-index, cells_where-ext}
@@ -30,6 +30,7 @@ use Rattle.sz_spec.proofs.PayloadLineage.{extent-of_input}
 use Rattle.sz_region.specs.Folding.{numbers_in}
 use Rattle.sz_region.proofs.Added.{with-none, with-more, with-ext}
 use Rattle.sz_region.proofs.FoldedCells.{numbers-join, numbers-none}
+use Rattle.sz_region.proofs.Passing.{met-none, met-or}
 use Rattle.sz_ops_move.specs.Moving.{is_in_line}
 
 -- the cell is of one of the first n layers, and at the row and the column
@@ -169,36 +170,15 @@ added-all set e place n same right last =
 
 -- ---- cells of a set that are met
 
-or-turned : (a b c d : Bool) → ((a || b) || (c || d)) ≡ ((a || c) || (b || d))
-or-turned true b c d = refl
-or-turned false true true d = refl
-or-turned false false true d = refl
-or-turned false true false d = refl
-or-turned false false false d = refl
-
-any-or : {X : Type 0} (p q r : X → Bool) → ((x : X) → (p x || q x) ≡ r x) → (xs : List X)
-    → (list_any p xs || list_any q xs) ≡ list_any r xs
-any-or p q r same [] = refl
-any-or p q r same (x ∷ xs) =
-    or-turned (p x) (list_any p xs) (q x) (list_any q xs)
-    ∙ ap₂ (λ (a b : Bool). a || b) (same x) (any-or p q r same xs)
-
-none-of : {X : Type 0} (p : X → Bool) → ((x : X) → p x ≡ false) → (xs : List X) → list_any p xs ≡ false
-none-of p none [] = refl
-none-of p none (x ∷ xs) = ap₂ (λ (a b : Bool). a || b) (none x) (none-of p none xs)
-
 pub met-first : (set : Cells) (e : Extent) (place : Cell) → any_cell (is_before e place 0) set ≡ false
-met-first set e place =
-    none-of (λ k. is_before e place 0 (cell_of set.extent k)) (λ k. no-layers e place (cell_of set.extent k))
-    set.indexes
+met-first set e place = met-none set (is_before e place 0) (no-layers e place)
 
 pub met-next : (set : Cells) (e : Extent) (place : Cell) (n : ℕ) → place.row < height_of e
     → (any_cell (is_before e place n) set || any_cell (is_same (above e place n)) set)
     ≡ any_cell (is_before e place (n + 1)) set
 met-next set e place n row =
-    any-or (λ k. is_before e place n (cell_of set.extent k)) (λ k. is_same (above e place n) (cell_of set.extent k))
-    (λ k. is_before e place (n + 1) (cell_of set.extent k))
-    (λ k. layer-next e place n (cell_of set.extent k) row) set.indexes
+    met-or set (is_before e place n) (is_same (above e place n)) (is_before e place (n + 1))
+    (λ x. layer-next e place n x row)
 
 -- where a cell of one layer is met, the line is
 pub met-line : (e : Extent) (place : Cell) (n : ℕ) (x : Cell) → place.row < height_of e
@@ -210,25 +190,6 @@ met-line e place n x row t =
     let k : place.col ≡ x.col = ap (λ (c : Cell). c.col) same in
     let at : x.row % h ≡ place.row = ap (λ (m : ℕ). m % h) (sym r) ∙ mod-mul-add n h place.row row in
     and_from (row_in e x == place.row) (x.col == place.col) (eq-eqb _ _ at) (eq-eqb _ _ (sym k))
-
-or-true : (b : Bool) → (b || true) ≡ true
-or-true true = refl
-or-true false = refl
-
-any-wider : {X : Type 0} (p q : X → Bool) → ((x : X) → p x ≡ true → q x ≡ true) → (xs : List X)
-    → list_any p xs ≡ true → list_any q xs ≡ true
-any-wider p q wider [] met = absurd (true≢false (sym met))
-any-wider p q wider (x ∷ xs) met =
-    elim (cases_Bool (p x)) [
-      | inl t ↦ rw (wider x t) refl
-      | inr f ↦ rw (any-wider p q wider xs (rw f at met)) (or-true (q x))
-    ]
-
-pub met-wider : (set : Cells) (p q : Cell → Bool) → ((c : Cell) → p c ≡ true → q c ≡ true) → any_cell p set ≡ true
-    → any_cell q set ≡ true
-met-wider set p q wider met =
-    any-wider (λ k. p (cell_of set.extent k)) (λ k. q (cell_of set.extent k)) (λ k. wider (cell_of set.extent k))
-    set.indexes met
 
 pub met-all : (set : Cells) (e : Extent) (place : Cell) (n : ℕ) → set ≡ cells_where e (has set) → is_extent e ≡ true
     → n ≡ e.layers → any_cell (is_before e place n) set ≡ any_cell (is_in_line e place) set
@@ -249,10 +210,6 @@ apart e x cell held out =
           let same = is_same-true x cell t in
           absurd (true≢false (sym held ∙ ap (holds e) (sym same) ∙ out))
     ]
-
-and-false : (b : Bool) → (b && false) ≡ false
-and-false true = refl
-and-false false = refl
 
 pub named-first : (e : Extent) (place x : Cell) (was : Bool) → was ≡ (was || (holds e x && is_before e place 0 x))
 named-first e place x was =

@@ -1,4 +1,3 @@
-pub mod OneCell
 pub mod Windows
 pub mod Inputs
 pub mod Layers

@@ -1,9 +1,8 @@
--- The operators that move cells: which they are, where a relation leads to one cell or none, and
--- where it leads to one cell of each layer.
-use Rattle.std.specs.Prelude.{◌≡◌, ◌==◌, ◌&&◌, Bool, true, false, Option, Some, None}
+-- The operators that move cells: which they are, and where a relation leads to one cell of each
+-- layer.
+use Rattle.std.specs.Prelude.{◌==◌, ◌&&◌, Bool, true, false}
 use Rattle.sz_cells.specs.declared.Cell.{Cell}
-use Rattle.sz_cells.specs.Extent.{Extent, holds, row_in}
-use Rattle.sz_cells.specs.Cells.{is_same}
+use Rattle.sz_cells.specs.Extent.{Extent, row_in}
 use Rattle.sz_spec.specs.declared.op.Op.{Op}
 use Rattle.sz_spec.specs.declared.op.Op.TheVariants.{Transpose, Slice, Lookup, FoldLayers}
 
@@ -27,15 +26,6 @@ is_mapping op = is_single op
 abbrev pub is_moving : Op → Bool
 is_moving Lookup = true
 is_moving op = is_mapping op
-
--- the cell is there, and it is x
-abbrev pub is_cell : Option Cell → Cell → Bool
-is_cell None x = false
-is_cell (Some c) x = is_same c x
-
--- of the cells of a shape, exactly the one that is there passes a test
-abbrev pub IsOnly : Extent → (Cell → Bool) → Option Cell → Type 0
-IsOnly e test cell = (x : Cell) → holds e x ≡ true → test x ≡ is_cell cell x
 
 -- the cell is at a row and a column of its layer
 abbrev pub is_in_line : Extent → Cell → Cell → Bool

@@ -15,11 +15,11 @@ ghost use Rattle.sz_region.specs.Written.{cells_in_piece};
 ghost use Rattle.sz_ops_move.specs.Moving.{is_moving, is_mapping};
 
 use crate::op_map::Moves;
-use crate::work::{Work, right_shapes};
+use crate::work::Work;
 use std::alloc::Global;
 use std::sync::Arc;
 use sz_cells::{Cell, CellBits, NoMemory};
-use sz_region::{AtWork, PieceLineage, image_by, piece_by, run_by, trace_by};
+use sz_region::{AtWork, PieceLineage, image_by, piece_by, right_shapes, run_by, trace_by};
 use sz_spec::{Array, Dir, OpAt, Strategy, Tally, Value};
 
 /// What is prepared once for an operator at work: of these operators, nothing.

@@ -11,7 +11,8 @@ ghost use Rattle.sz_spec.specs.Values.{extent_at, numbers_at};
 ghost use Rattle.sz_spec.specs.Operators.Folds.{fold_of};
 ghost use Rattle.sz_spec.specs.Lineage.{mapped};
 ghost use Rattle.sz_spec.specs.Evaluation.{value_of};
-ghost use Rattle.sz_ops_move.specs.Moving.{IsOnly, is_in_line};
+ghost use Rattle.sz_region.specs.Single.{IsOnly};
+ghost use Rattle.sz_ops_move.specs.Moving.{is_in_line};
 
 use std::alloc::Global;
 use std::sync::Arc;

@@ -17,7 +17,6 @@ mod calls;
 mod fold_layers;
 mod lookup;
 mod op_map;
-mod single;
 mod slice;
 #[cfg(test)]
 mod tests;

@@ -2,17 +2,19 @@
 
 ghost use Rattle.std.specs.Prelude.{◌≡◌, ◌<◌, true, length, Option, IfSome};
 ghost use Rattle.std.specs.Arc.{arc_value};
-ghost use Rattle.sz_cells.specs.Extent.{holds};
+ghost use Rattle.sz_cells.specs.Extent.{holds, is_extent};
 ghost use Rattle.sz_cells.specs.Cells.{with_those};
 ghost use Rattle.sz_spec.specs.Values.{extent_at};
+ghost use Rattle.sz_spec.specs.Shapes.{IsSite};
 ghost use Rattle.sz_spec.specs.Lineage.{mapped};
-ghost use Rattle.sz_ops_move.specs.Moving.{is_mapping, is_single, IsOnly};
+ghost use Rattle.sz_region.specs.Single.{IsOnly};
+ghost use Rattle.sz_ops_move.specs.Moving.{is_mapping, is_single};
 
-use crate::single::add_cell;
-use crate::work::right_shapes;
 use crate::{fold_layers, slice, transpose};
 use std::sync::Arc;
-use sz_cells::{Cell, CellBits};
+use sz_cells::laws::a_shape_is_within_limits;
+use sz_cells::{Cell, CellBits, Shape};
+use sz_region::{add_cell, right_shapes};
 use sz_spec::{Mapper, Op, OpAt};
 
 /// The mapping of a moving operator between its shapes.
@@ -114,4 +116,21 @@ pub(crate) fn target(at: &OpAt, cell: Cell) -> Option<Cell>
         Op::FoldLayers { fold } => Some(fold_layers::target(at, *fold, cell)),
         _ => unreachable!(),
     }
+}
+
+/// The shapes of the input and of the output.
+pub(crate) fn sides(at: &OpAt) -> (Shape, Shape)
+    requires { is_single at.now.op ≡ true }
+    ensures input { result.0 ≡ extent_at at.now.ins 0 }
+    ensures out { result.1 ≡ at.now.out }
+    ensures site { IsSite at.now }
+    ensures right { is_extent (extent_at at.now.ins 0) ≡ true }
+    ensures made { is_extent at.now.out ≡ true }
+{
+    at.op();
+    let shape = at.ins()[0];
+    let made = at.out();
+    a_shape_is_within_limits(&shape);
+    a_shape_is_within_limits(&made);
+    (shape, made)
 }

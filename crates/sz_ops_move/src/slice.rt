@@ -6,10 +6,10 @@ ghost use Rattle.sz_spec.specs.declared.op.Op.TheVariants.{Slice};
 ghost use Rattle.sz_spec.specs.Values.{extent_at};
 ghost use Rattle.sz_spec.specs.Evaluation.{value_in};
 ghost use Rattle.sz_spec.specs.Lineage.{mapped};
-ghost use Rattle.sz_ops_move.specs.Moving.{IsOnly};
+ghost use Rattle.sz_region.specs.Single.{IsOnly};
 
+use crate::op_map::sides;
 use sz_cells::Cell;
-use sz_cells::laws::a_shape_is_within_limits;
 use sz_spec::{Array, OpAt, Value};
 
 /// The value of an output cell.
@@ -32,10 +32,7 @@ pub(crate) fn source(at: &OpAt, r0: u32, c0: u32, h: u32, w: u32, out: Cell) -> 
     ensures only { IsOnly (extent_at at.now.ins 0) (mapped (Slice r0 c0 h w) at.now.ins 0 out)
         (Some result) }
 {
-    let shape = at.ins()[0];
-    let made = at.out();
-    a_shape_is_within_limits(&shape);
-    a_shape_is_within_limits(&made);
+    let (shape, made) = sides(at);
     match shape.cell_in(made.layer_of(out), r0 + made.row_in(out), c0 + out.col) {
         Some(cell) => cell,
         None => unreachable!(),
@@ -50,9 +47,7 @@ pub(crate) fn target(at: &OpAt, r0: u32, c0: u32, h: u32, w: u32, cell: Cell) ->
     ensures held { IfSome result (λ c. holds at.now.out c ≡ true) }
     ensures only { IsOnly at.now.out (λ o. mapped (Slice r0 c0 h w) at.now.ins 0 o cell) result }
 {
-    let shape = at.ins()[0];
-    let made = at.out();
-    a_shape_is_within_limits(&made);
+    let (shape, made) = sides(at);
     let row = shape.row_in(cell).checked_sub(r0)?;
     let col = cell.col.checked_sub(c0)?;
     made.cell_in(shape.layer_of(cell), row, col)

@@ -6,10 +6,10 @@ ghost use Rattle.sz_spec.specs.declared.op.Op.TheVariants.{Transpose};
 ghost use Rattle.sz_spec.specs.Values.{extent_at};
 ghost use Rattle.sz_spec.specs.Evaluation.{value_in};
 ghost use Rattle.sz_spec.specs.Lineage.{mapped};
-ghost use Rattle.sz_ops_move.specs.Moving.{IsOnly};
+ghost use Rattle.sz_region.specs.Single.{IsOnly};
 
+use crate::op_map::sides;
 use sz_cells::Cell;
-use sz_cells::laws::a_shape_is_within_limits;
 use sz_spec::{Array, OpAt, Value};
 
 /// The value of an output cell.
@@ -32,10 +32,7 @@ pub(crate) fn source(at: &OpAt, out: Cell) -> Cell
     ensures only { IsOnly (extent_at at.now.ins 0) (mapped Transpose at.now.ins 0 out)
         (Some result) }
 {
-    let shape = at.ins()[0];
-    let made = at.out();
-    a_shape_is_within_limits(&shape);
-    a_shape_is_within_limits(&made);
+    let (shape, made) = sides(at);
     match shape.cell_in(made.layer_of(out), out.col, made.row_in(out)) {
         Some(cell) => cell,
         None => unreachable!(),
@@ -49,10 +46,7 @@ pub(crate) fn target(at: &OpAt, cell: Cell) -> Cell
     ensures held { holds at.now.out result ≡ true }
     ensures only { IsOnly at.now.out (λ o. mapped Transpose at.now.ins 0 o cell) (Some result) }
 {
-    let shape = at.ins()[0];
-    let made = at.out();
-    a_shape_is_within_limits(&shape);
-    a_shape_is_within_limits(&made);
+    let (shape, made) = sides(at);
     match made.cell_in(shape.layer_of(cell), cell.col, shape.row_in(cell)) {
         Some(cell) => cell,
         None => unreachable!(),

@@ -5,20 +5,17 @@ ghost use Rattle.std.specs.Arc.{arc_value};
 ghost use Rattle.sz_cells.specs.Extent.{holds};
 ghost use Rattle.sz_cells.specs.Cells.{any_cell, with_those};
 ghost use Rattle.sz_spec.specs.Values.{input_at, extent_at};
-ghost use Rattle.sz_spec.specs.Shapes.{IsSite};
 ghost use Rattle.sz_spec.specs.Lineage.{related};
-ghost use Rattle.sz_spec.specs.LawsShapes.{AreExtents};
 ghost use Rattle.sz_region.specs.Images.{IsAtWork, related_cells};
-ghost use Rattle.sz_ops_move.specs.Moving.{is_moving, is_one, IsOnly};
+ghost use Rattle.sz_region.specs.Single.{IsOnly};
+ghost use Rattle.sz_ops_move.specs.Moving.{is_moving, is_one};
 
 use crate::op_map::source;
-use crate::single::{add_cell, has_cell, set_of_cell};
 use crate::{fold_layers, lookup, slice, transpose};
 use std::alloc::Global;
 use std::sync::Arc;
-use sz_cells::laws::a_shape_is_within_limits;
 use sz_cells::{Cell, CellBits, CellSet, NoMemory, Shape};
-use sz_region::{AtWork, Payload};
+use sz_region::{AtWork, Payload, add_cell, has_cell, set_of_cell};
 use sz_spec::{Array, Op, OpAt, Value};
 
 /// A moving operator with its shapes, and its inputs.
@@ -159,19 +156,4 @@ impl<'a> Work<'a> {
             _ => source(self.at, out),
         }
     }
-}
-
-/// The output's shape. Its caller knows from now on that the operator has right parameters, as many
-/// inputs as it takes, and the output that its shape rule gives, and that the inputs have right
-/// shapes.
-pub(crate) fn right_shapes(at: &OpAt) -> Shape
-    ensures value { result ≡ at.now.out }
-    ensures site { IsSite at.now }
-    ensures right { AreExtents at.now.ins }
-{
-    at.op();
-    for shape in at.ins() {
-        a_shape_is_within_limits(shape);
-    }
-    at.out()
 }

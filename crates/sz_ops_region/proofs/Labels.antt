@@ -4,16 +4,17 @@ use Rattle.std.proofs.Common.{List, [], ◌∷◌, length, get_or, refl, sym, ap
 use Rattle.std.proofs.Common.{Some, None, Ok}
 use Rattle.std.specs.List.{slice_get, list_any}
 use Rattle.std.proofs.Math.Bool.{or-false}
-use Rattle.std.proofs.lemmas.Bool.{and_parts, and_from, cases_Bool, true≢false, false_from_ne_true}
+use Rattle.std.proofs.lemmas.Bool.{and_parts, and_from, cases_Bool, true≢false, false_from_ne_true, eqb-true}
 use Rattle.std.proofs.lemmas.List.FromFn.{length-map-range_with_len}
 use Rattle.sz_cells.specs.declared.Cell.{Cell}
 use Rattle.sz_cells.specs.declared.Run.{Run}
 use Rattle.sz_cells.specs.Extent.{Extent, size_of, holds, index_of, cell_of}
 use Rattle.sz_cells.specs.Cells.{Cells, is_same, has, any_cell, cells_where, with_those, named_in}
 use Rattle.sz_cells.specs.SetBytes.{set_bytes}
-use Rattle.sz_cells.specs.Runs.{before_runs, runs_of, AreRunsFrom}
+use Rattle.sz_cells.specs.Rising.{AreRising}
+use Rattle.sz_cells.specs.Runs.{before_runs, runs_of}
 use Rattle.sz_cells.proofs.Sets.{cell-index, index-below, cells_where-ext, any_cell-true, any_cell-from}
-use Rattle.sz_cells.proofs.Sets.{any_cell-same_turned}
+use Rattle.sz_cells.proofs.Sets.{any_cell-same_turned, same_truth, is_same-from, is_same-true}
 use Rattle.sz_region.proofs.Added.{with-ext}
 use Rattle.sz_region.specs.Images.{related_cells}
 use Rattle.sz_spec.specs.declared.op.Op.{Op}
@@ -27,6 +28,9 @@ use Rattle.sz_spec.specs.Operators.Regions.{is_high, is_connected, component_of,
 use Rattle.sz_spec.proofs.Components.{component-made, connected-self}
 use Rattle.sz_spec.proofs.PayloadLineage.{extent-of_input}
 use Rattle.sz_region.specs.Images.{IsAtWork}
+use Rattle.sz_ops_region.specs.declared.aid.Part.{Part}
+use Rattle.sz_ops_region.specs.declared.aid.Part.TheVariants.{Alone, Shared}
+use Rattle.sz_ops_region.specs.Parts.{IsPartAt}
 use Rattle.sz_ops_region.specs.Regions.{components_of}
 use Rattle.sz_ops_region.specs.Tracing.{first_index}
 use Rattle.sz_ops_region.proofs.Sets.{low-component, range-at}
@@ -54,13 +58,15 @@ before-some k (s ∷ runs) is =
       | inr apart ↦ let there = rw apart at is in cc there
     ]
 
-pub label-some : (xs : List ℕ) (r : Run) → slice_get (runs_of xs) 0 ≡ Some r → label_of xs ≡ pos (1 + r.first)
-label-some [] r is = cc is
-label-some (k ∷ ks) r is = ap (λ (n : ℕ). pos (1 + n)) (sym (before-first k (runs_of ks) r is))
+-- the label of cells is 1 plus the first index
+pub label-first : (xs : List ℕ) → 0 < length xs → label_of xs ≡ pos (1 + first_index xs)
+label-first [] some = absurd (omega arith)
+label-first (k ∷ ks) some = refl
 
-pub label-none : (xs : List ℕ) → slice_get (runs_of xs) 0 ≡ None → label_of xs ≡ pos 0
-label-none [] is = refl
-label-none (k ∷ ks) is = absurd (before-some k (runs_of ks) is)
+-- which is below the bound of all
+pub first-within : (n : ℕ) (xs : List ℕ) → AreRising 0 n xs → 0 < length xs → first_index xs < n
+first-within n [] rising some = absurd (omega arith)
+first-within n (k ∷ ks) rising some = rising.1
 
 pub index-some : (xs : List ℕ) (r : Run) → slice_get (runs_of xs) 0 ≡ Some r → first_index xs ≡ r.first
 index-some [] r is = cc is
@@ -69,13 +75,6 @@ index-some (k ∷ ks) r is = sym (before-first k (runs_of ks) r is)
 pub index-none : (xs : List ℕ) → slice_get (runs_of xs) 0 ≡ None → first_index xs ≡ 0
 index-none [] is = refl
 index-none (k ∷ ks) is = absurd (before-some k (runs_of ks) is)
-
--- and is below the bound of all runs
-pub first-below : (bound : ℕ) (runs : List Run) (r : Run) → AreRunsFrom 0 bound runs
-    → slice_get runs 0 ≡ Some r → r.first < bound
-first-below bound [] r are is = cc is
-first-below bound (s ∷ runs) r are is =
-    let same : s ≡ r = cc is in omega (arith, are.1, are.2, ap (λ (x : Run). x.first) same)
 
 -- ---- components of cells
 
@@ -112,6 +111,11 @@ none-low t g o held none =
     true≢false (sym there.1
     ∙ ap (λ (ks : List ℕ). list_any (λ k. k == index_of (component_of t g o).extent o) ks) none))
 
+-- a part has a cell
+pub part-full : (k : ℕ) (p : Part) (cells : Cells) → IsPartAt k p cells → 0 < length cells.indexes
+part-full k Alone cells is = omega (arith, ap (λ (xs : List ℕ). length xs) is)
+part-full k (Shared component) cells is = is.1
+
 -- ---- the operator
 
 -- its output has the shape of its input
@@ -138,6 +142,34 @@ related-high s inputs t i o x is first high = rw (is, first, high) refl
 pub related-low : (s : Site) (inputs : List Grid) (t : ℤ) (i : ℕ) (o x : Cell) → s.op ≡ Regions t → i ≡ 0
     → is_high t (input_at inputs 0) o ≡ false → related s.op inputs i o x ≡ is_same x o
 related-low s inputs t i o x is first low = rw (is, first, low) refl
+
+-- as is a high cell by itself
+related-alone : (s : Site) (inputs : List Grid) (t : ℤ) (o x : Cell) → s.op ≡ Regions t
+    → holds (input_at inputs 0).extent o ≡ true → is_high t (input_at inputs 0) o ≡ true
+    → (component_of t (input_at inputs 0) o).indexes ≡ index_of (input_at inputs 0).extent o ∷ []
+    → related s.op inputs 0 o x ≡ is_same x o
+related-alone s inputs t o x is held high only =
+    let g = input_at inputs 0 in
+    let e = g.extent in
+    let extent : (component_of t g o).extent ≡ e = ap (λ (z : Cells). z.extent) (component-made t g o) in
+    related-high s inputs t 0 o x is refl high
+    ∙ same_truth (is_connected t g o x) (is_same x o)
+    (λ joined.
+    let parts = and_parts (holds (component_of t g o).extent x)
+    (list_any (λ k. k == index_of (component_of t g o).extent x) (component_of t g o).indexes) joined in
+    let inside : holds e x ≡ true = sym (ap (λ (f : Extent). holds f x) extent) ∙ parts.0 in
+    let found : (index_of e o == index_of e x) ≡ true =
+    sym (or-false (index_of e o == index_of e x))
+    ∙ sym (ap₂ (λ (f : Extent) (ks : List ℕ). list_any (λ k. k == index_of f x) ks) extent only) ∙ parts.1 in
+    is_same-from x o
+    (sym (cell-index e x inside) ∙ ap (cell_of e) (sym (eqb-true (index_of e o) (index_of e x) found))
+    ∙ cell-index e o held))
+    (λ same. ap (is_connected t g o) (is_same-true x o same) ∙ connected-self t g o held high)
+
+-- where a cell is related to itself alone as a cell of its one input, it is so of whatever input
+itself-at : (s : Site) (inputs : List Grid) (i : ℕ) (o x : Cell) → i ≡ 0
+    → ((y : Cell) → related s.op inputs 0 o y ≡ is_same y o) → related s.op inputs i o x ≡ is_same x o
+itself-at s inputs i o x first itself = ap (λ (j : ℕ). related s.op inputs j o x) first ∙ itself x
 
 -- its value, its payload and what a composite store keeps
 pub value-is : (op : Op) (inputs : List Grid) (t : ℤ) (o : Cell) → op ≡ Regions t
@@ -172,12 +204,11 @@ adds-high s inputs t i o to is first high =
     with-ext to (is_connected t (input_at inputs 0) o) (related s.op inputs i o)
     (λ x held. sym (related-high s inputs t i o x is first high))
 
-pub adds-low : (s : Site) (inputs : List Grid) (t : ℤ) (i : ℕ) (o : Cell) (to : Cells) → s.op ≡ Regions t
-    → i ≡ 0 → is_high t (input_at inputs 0) o ≡ false
+pub adds-itself : (s : Site) (inputs : List Grid) (i : ℕ) (o : Cell) (to : Cells) → i ≡ 0
+    → ((x : Cell) → related s.op inputs 0 o x ≡ is_same x o)
     → with_those to (λ x. is_same x o) ≡ with_those to (related s.op inputs i o)
-adds-low s inputs t i o to is first low =
-    with-ext to (λ x. is_same x o) (related s.op inputs i o)
-    (λ x held. sym (related-low s inputs t i o x is first low))
+adds-itself s inputs i o to first itself =
+    with-ext to (λ x. is_same x o) (related s.op inputs i o) (λ x held. sym (itself-at s inputs i o x first itself))
 
 pub meets-high : (s : Site) (inputs : List Grid) (t : ℤ) (i : ℕ) (o : Cell) (from : Cells) → s.op ≡ Regions t
     → i ≡ 0 → is_high t (input_at inputs 0) o ≡ true
@@ -187,15 +218,15 @@ meets-high s inputs t i o from is first high =
     (λ k. related s.op inputs i o (cell_of from.extent k))
     (λ k. sym (related-high s inputs t i o (cell_of from.extent k) is first high)) from.indexes
 
-pub meets-low : (s : Site) (inputs : List Grid) (t : ℤ) (i : ℕ) (o : Cell) (from : Cells) (e : Extent)
-    → s.op ≡ Regions t → i ≡ 0 → is_high t (input_at inputs 0) o ≡ false
+pub meets-itself : (s : Site) (inputs : List Grid) (i : ℕ) (o : Cell) (from : Cells) (e : Extent)
+    → i ≡ 0 → ((x : Cell) → related s.op inputs 0 o x ≡ is_same x o)
     → from ≡ cells_where e (has from) → holds e o ≡ true
     → has from o ≡ any_cell (related s.op inputs i o) from
-meets-low s inputs t i o from e is first low own held =
+meets-itself s inputs i o from e first itself own held =
     sym (any_cell-same_turned e (has from) o held)
     ∙ ap (any_cell (λ x. is_same x o)) (sym own)
     ∙ list_any-ext (λ k. is_same (cell_of from.extent k) o) (λ k. related s.op inputs i o (cell_of from.extent k))
-    (λ k. sym (related-low s inputs t i o (cell_of from.extent k) is first low)) from.indexes
+    (λ k. sym (itself-at s inputs i o (cell_of from.extent k) first itself)) from.indexes
 
 pub set-high : (s : Site) (inputs : List Grid) (t : ℤ) (i : ℕ) (o : Cell) → s.op ≡ Regions t
     → i ≡ 0 → IsAtWork s inputs → is_high t (input_at inputs 0) o ≡ true
@@ -208,14 +239,32 @@ set-high s inputs t i o is first work high =
     ∙ ap (λ (e : Extent). cells_where e (related s.op inputs i o)) (grid-shape s inputs t is work
     ∙ sym (one-shape s t is work.site.shape) ∙ ap (extent_at s.ins) (sym first))
 
-pub set-low : (s : Site) (inputs : List Grid) (t : ℤ) (i : ℕ) (o : Cell) → s.op ≡ Regions t
-    → i ≡ 0 → IsAtWork s inputs → is_high t (input_at inputs 0) o ≡ false
+pub set-itself : (s : Site) (inputs : List Grid) (t : ℤ) (i : ℕ) (o : Cell) → s.op ≡ Regions t
+    → i ≡ 0 → IsAtWork s inputs → ((x : Cell) → related s.op inputs 0 o x ≡ is_same x o)
     → named_in s.out (o ∷ []) ≡ related_cells s inputs i o
-set-low s inputs t i o is first work low =
+set-itself s inputs t i o is first work itself =
     cells_where-ext s.out (λ x. list_any (is_same x) (o ∷ [])) (related s.op inputs i o)
-    (λ x held. or-false (is_same x o) ∙ sym (related-low s inputs t i o x is first low))
+    (λ x held. or-false (is_same x o) ∙ sym (itself-at s inputs i o x first itself))
     ∙ ap (λ (e : Extent). cells_where e (related s.op inputs i o)) (sym (one-shape s t is work.site.shape)
     ∙ ap (extent_at s.ins) (sym first))
+
+-- a cell by itself is related to itself alone, and the set of it is its component
+pub alone-itself : (s : Site) (inputs : List Grid) (t : ℤ) (o x : Cell) → s.op ≡ Regions t → IsAtWork s inputs
+    → holds s.out o ≡ true → is_high t (input_at inputs 0) o ≡ true
+    → (component_of t (input_at inputs 0) o).indexes ≡ index_of s.out o ∷ []
+    → related s.op inputs 0 o x ≡ is_same x o
+alone-itself s inputs t o x is work held high only =
+    let shape = grid-shape s inputs t is work in
+    related-alone s inputs t o x is (ap (λ (e : Extent). holds e o) shape ∙ held) high
+    (only ∙ ap (λ (e : Extent). index_of e o ∷ []) (sym shape))
+
+pub alone-set : (s : Site) (inputs : List Grid) (t : ℤ) (o : Cell) → s.op ≡ Regions t → IsAtWork s inputs
+    → holds s.out o ≡ true → is_high t (input_at inputs 0) o ≡ true
+    → (component_of t (input_at inputs 0) o).indexes ≡ index_of s.out o ∷ []
+    → named_in s.out (o ∷ []) ≡ component_of t (input_at inputs 0) o
+alone-set s inputs t o is work held high only =
+    set-itself s inputs t 0 o is refl work (λ x. alone-itself s inputs t o x is work held high only)
+    ∙ sym (set-high s inputs t 0 o is refl work high)
 
 -- some cell is in both of two sets
 pub both-one : (e : Extent) (set from : Cells) (c : Cell) → from ≡ cells_where e (has from) → holds e c ≡ true

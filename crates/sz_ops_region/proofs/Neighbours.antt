@@ -1,6 +1,14 @@
 -- A neighbour of a cell is on one of its sides, and what is on a side in its layer is a neighbour.
-use Rattle.std.proofs.Common.{◌≡◌, ◌+◌, ◌==◌, true, ◌&&◌, ◌||◌, inl, inr}
-use Rattle.std.proofs.lemmas.Bool.{and_parts, and_from, or_cases, or_left, or_right}
+--
+-- The key idea: the rows of a layer are those of which the quotient by the height is the layer.
+use Rattle.std.proofs.Common.{◌≡◌, ℕ, ◌+◌, ◌*◌, ◌/◌, ◌<◌, ◌≤◌, ◌==◌, true, ◌&&◌, ◌||◌, sym, ap, ◌∙◌, refl, ◌-◌}
+use Rattle.std.proofs.Common.{nat_lt, nat_le, arith, inl, inr}
+use Rattle.std.proofs.Math.Nat.{div-mul-le_self, lt-div-mul-add}
+use Rattle.std.proofs.lemmas.Bool.{and_parts, and_from, or_cases, or_left, or_right, eq-eqb, ne_eqb}
+use Rattle.std.proofs.lemmas.Bool.{le-ltb}
+use Rattle.std.proofs.Common.{lt-ltb}
+use Rattle.std.proofs.lemmas.Bool.Decides.{leb_tells}
+use Rattle.std.proofs.lemmas.Nat.{div-mul-add}
 use Rattle.sz_cells.specs.declared.Cell.{Cell}
 use Rattle.sz_cells.specs.Extent.{Extent, layer_of}
 use Rattle.sz_spec.specs.Operators.Regions.{are_neighbours}
@@ -61,3 +69,35 @@ pub near-layer : (e : Extent) (a b : Cell) → are_neighbours e a b ≡ true
 near-layer e a b near =
     (and_parts (layer_of e a == layer_of e b) (((a.row == b.row) && ((a.col + 1 == b.col) || (b.col + 1 == a.col)))
     || ((a.col == b.col) && ((a.row + 1 == b.row) || (b.row + 1 == a.row)))) near).0
+
+-- ---- the rows of a layer
+
+-- the quotient by the height of a row of a layer is the layer
+pub band-layer : (h layer row : ℕ) → layer * h ≤ row → row < layer * h + h → row / h ≡ layer
+band-layer h layer row from inside =
+    let rest : layer * h + (row - layer * h) ≡ row = omega arith in
+    ap (λ (n : ℕ). n / h) (sym rest) ∙ div-mul-add layer h (row - layer * h) (omega arith)
+
+-- a row is one of a layer exactly where its quotient by the height is the layer
+pub band-has : (h layer row top end : ℕ) → 0 < h → top ≡ layer * h → end ≡ layer * h + h
+    → (nat_le top row && nat_lt row end) ≡ (layer == row / h)
+band-has h layer row top end some is_top is_end =
+    let low = div-mul-le_self row h in
+    let high = lt-div-mul-add {a = row} {b = h} some in
+    elim (leb_tells top row) [
+      | inr before ↦
+          let apart : layer ≡ row / h → ⊥ =
+          λ same. omega (arith, before.1, is_top, low, ap (λ (n : ℕ). n * h) same) in
+          rw (before.0, ne_eqb layer (row / h) apart) refl
+      | inl from ↦
+          elim (leb_tells end row) [
+            | inl past ↦
+                let apart : layer ≡ row / h → ⊥ =
+                λ same. omega (arith, past.1, is_end, high, ap (λ (n : ℕ). n * h) same) in
+                rw (from.0, le-ltb row end past.1, ne_eqb layer (row / h) apart) refl
+            | inr inside ↦
+                let same : row / h ≡ layer = band-layer h layer row (omega (arith, from.1, is_top))
+                (omega (arith, inside.1, is_end)) in
+                rw (from.0, lt-ltb row end inside.1, eq-eqb layer (row / h) (sym same)) refl
+          ]
+    ]

@@ -132,13 +132,12 @@ traced-marked s inputs t from o marks to is asked high own held are there =
     ∙ traced-high s inputs t from o to is asked high
 
 -- any other: itself
-pub traced-low : (s : Site) (inputs : List Grid) (t : ℤ) (from : Cells) (o : Cell) (to : Cells)
-    → s.op ≡ Regions t → has from o ≡ true → is_high t (input_at inputs 0) o ≡ false
+pub traced-itself : (s : Site) (inputs : List Grid) (from : Cells) (o : Cell) (to : Cells)
+    → has from o ≡ true → ((x : Cell) → related s.op inputs 0 o x ≡ is_same x o)
     → with_those to (λ x. is_same x o) ≡ with_those to (traced Back (related s.op inputs 0) from o)
-traced-low s inputs t from o to is asked low =
+traced-itself s inputs from o to asked itself =
     with-ext to (λ x. is_same x o) (traced Back (related s.op inputs 0) from o)
-    (λ x held. sym (related-low s inputs t 0 o x is refl low)
-    ∙ sym (ap (λ (b : Bool). b && related s.op inputs 0 o x) asked))
+    (λ x held. sym (itself x) ∙ sym (ap (λ (b : Bool). b && related s.op inputs 0 o x) asked))
 
 -- ---- both directions
 

@@ -22,7 +22,10 @@ use sz_spec::{Array, OpAt, Strategy, Tally, Value};
 
 /// The components of the high cells of the input.
 ///
-/// Takes time and memory in the number of the input's cells, whatever the components look like.
+/// Takes time and memory in the number of the input's cells, whatever the components look like:
+/// what each cell holds is looked at once, each high cell's neighbours once, and the set of each
+/// component of several cells is made once, with room for just its runs. A component of one cell
+/// takes no memory but its mark.
 pub fn prepare(alloc: Global, at: &OpAt, inputs: &[Arc<Array>]) -> Result<Aid, NoMemory>
     requires regions { is_regions at.now.op ≡ true }
     requires inputs { extents_of (map (λ a. arc_value a) inputs.now) ≡ at.now.ins }
@@ -66,8 +69,10 @@ pub fn run(alloc: Global, at: &OpAt, inputs: &[Arc<Array>]) -> Result<Array, NoM
 }
 
 /// The lineage of piece `k` of the output: the parts that the strategies of a list need. Each cell
-/// of the piece is looked at once, and counted. The sets and the payloads of components are those
-/// that were prepared, shared.
+/// of the piece is looked at once, and counted. The set of a component of several cells is the one
+/// that was prepared, shared, and so is the payload of more than 16 cells. What is made anew, the
+/// set of one cell and the payload of no more cells than that, takes time that does not depend on
+/// the component.
 pub fn piece(
     alloc: Global,
     at: &OpAt,

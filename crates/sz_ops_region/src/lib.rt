@@ -10,13 +10,16 @@
 //! let aid = prepare(alloc, &at, &[sky])?;
 //! ```
 //!
-//! The path of the components: `fill` numbers the high cells by a flood fill, `run_lists` makes the
-//! runs of each number in one pass over the numbers, `aid` keeps a set of each, and `walk` traces.
+//! The path of the components: `marks` says of each cell what is known of it, `fill` numbers the
+//! high cells by a flood fill, `run_lists` makes the runs of each number from the stretches of one
+//! mark, `aid` keeps a set of each, and `walk` traces. A component of one cell has no number: of it
+//! the mark of its cell is all that is kept.
 #![tactic(auto)]
 
 mod aid;
 mod calls;
 mod fill;
+mod marks;
 mod run_lists;
 mod sides;
 #[cfg(test)]

@@ -1,10 +1,12 @@
-//! The runs of each component: one pass over the numbers of all cells.
+//! The runs of each component: one pass over the marks of all cells, run by run.
 
-ghost use Rattle.std.specs.Prelude.{◌≡◌, ℕ, ◌+◌, ◌<◌, ◌≤◌, [], length, IfOk, OnOk, Some};
+ghost use Rattle.std.specs.Prelude.{◌≡◌, ℕ, ◌+◌, ◌^◌, ◌<◌, ◌≤◌, [], length, IfOk, OnOk, Some};
 ghost use Rattle.sz_cells.specs.Extent.{size_of};
-ghost use Rattle.sz_ops_region.specs.Filling.{number_of};
+ghost use Rattle.sz_ops_region.specs.Marks.{number_of};
+ghost use Rattle.sz_ops_region.specs.Stretches.{AreStretches};
 ghost use Rattle.sz_ops_region.specs.Sets.{HasRuns, AreLists, cells_numbered};
 
+use crate::marks::{Mark, Marks};
 use std::alloc::Global;
 use std::marker::Model;
 use sz_cells::{CellSet, NoMemory, Run, Shape, add_run};
@@ -34,64 +36,84 @@ impl RunList {
         }
     }
 
-    /// Adds the next index, where it has the number of these runs.
-    fn add(&mut self, numbers: &[Option<u32>], number: u32, index: u32) -> Result<(), NoMemory>
-        requires runs { HasRuns numbers.now index number self.old }
-        requires number { number_of numbers.now index ≡ Some number }
-        ensures { OnOk result (HasRuns numbers.now (index + 1) number self.new) }
+    /// No run, with room for so many.
+    fn with_room(alloc: Global, room: u32) -> Result<RunList, NoMemory>
+        ensures { IfOk result (λ r. r ≡ []) }
     {
-        let next = Run {
-            first: index,
-            last: index,
-        };
-        add_run(&mut self.runs, next)?;
+        let mut runs = Vec::new(alloc);
+        runs.reserve(room as usize)?;
+        Ok(RunList { runs })
+    }
+
+    /// Adds the next run, of which each cell has the number of these runs.
+    fn add(&mut self, marks: &Marks, number: u32, run: Run) -> Result<(), NoMemory>
+        requires runs { HasRuns marks.now run.first number self.old }
+        requires order { run.first ≤ run.last }
+        requires number { (k : ℕ) → run.first ≤ k → k ≤ run.last
+            → number_of marks.now k ≡ Some number }
+        ensures { OnOk result (HasRuns marks.now (run.last + 1) number self.new) }
+    {
+        add_run(&mut self.runs, run)?;
         Ok(())
     }
 
     /// The set of the cells of a number, which these are the runs of.
-    pub(crate) fn into_set(self, shape: Shape, numbers: &[Option<u32>], number: u32) -> CellSet
-        requires { HasRuns numbers.now (size_of shape) number self }
-        ensures { result ≡ cells_numbered shape numbers.now number }
+    pub(crate) fn into_set(self, shape: Shape, marks: &Marks, number: u32) -> CellSet
+        requires { HasRuns marks.now (size_of shape) number self }
+        ensures { result ≡ cells_numbered shape marks.now number }
     {
         CellSet::from_runs(shape, self.runs)
     }
 }
 
-/// The number of the cell of an index, where it has one.
-pub(crate) fn number_at(numbers: &[Option<u32>], index: u32) -> Option<u32>
-    requires { index < length numbers.now }
-    ensures { result ≡ number_of numbers.now index }
+/// The runs of the cells of each number, each list made once with room for all of its runs.
+pub(crate) fn lists_of(alloc: Global, marks: &Marks, count: u32) -> Result<Vec<RunList>, NoMemory>
+    requires few { length marks.now ≤ 1048576 }
+    requires some { 0 < length marks.now }
+    requires below { (k j : ℕ) → number_of marks.now k ≡ Some j → j < count }
+    ensures { IfOk result (λ v. AreLists marks.now (length marks.now) count v.items) }
 {
-    numbers[index as usize]
-}
-
-/// The runs of the cells of each number.
-pub(crate) fn lists_of(
-    alloc: Global,
-    numbers: &[Option<u32>],
-    count: u32,
-) -> Result<Vec<RunList>, NoMemory>
-    requires few { length numbers.now ≤ 1048576 }
-    requires below { (k j : ℕ) → number_of numbers.now k ≡ Some j → j < count }
-    ensures { IfOk result (λ v. AreLists numbers.now (length numbers.now) count v.items) }
-{
-    let mut lists = empty_lists(alloc, numbers, count)?;
-    for index in 0..numbers.len() as u32 {
-        if let Some(number) = number_at(numbers, index) {
-            lists[number as usize].add(numbers, number, index)?;
+    let starts = marks.stretches(alloc)?;
+    let rooms = rooms_of(alloc, marks, count, &starts)?;
+    let mut lists = empty_lists(alloc, marks, &rooms)?;
+    for stretch in 0..starts.len() - 1 {
+        let first = starts[stretch];
+        if let Mark::Numbered(number) = marks.at(first) {
+            let run = Run {
+                first,
+                last: starts[stretch + 1] - 1,
+            };
+            lists[number as usize].add(marks, number, run)?;
         }
     }
     Ok(lists)
 }
 
-/// So many lists without a run.
-fn empty_lists(alloc: Global, numbers: &[Option<u32>], count: u32) -> Result<Vec<RunList>, NoMemory>
-    ensures { IfOk result (λ v. AreLists numbers.now 0 count v.items) }
+/// How many runs the cells of each number have.
+fn rooms_of(alloc: Global, marks: &Marks, count: u32, starts: &[u32]) -> Result<Vec<u32>, NoMemory>
+    requires few { length marks.now ≤ 1048576 }
+    requires below { (k j : ℕ) → number_of marks.now k ≡ Some j → j < count }
+    requires starts { AreStretches marks.now starts.now }
+    ensures { IfOk result (λ v. length v.items ≡ count) }
+{
+    let mut rooms = vec![in alloc; 0u32; count as usize]?;
+    for stretch in 0..starts.len() - 1 {
+        if let Mark::Numbered(number) = marks.at(starts[stretch]) {
+            rooms[number as usize] += 1;
+        }
+    }
+    Ok(rooms)
+}
+
+/// Lists without a run, each with room for so many as there are to be.
+fn empty_lists(alloc: Global, marks: &Marks, rooms: &[u32]) -> Result<Vec<RunList>, NoMemory>
+    requires { length rooms.now < 2 ^ 32 }
+    ensures { IfOk result (λ v. AreLists marks.now 0 (length rooms.now) v.items) }
 {
     let mut lists = Vec::new(alloc);
-    lists.reserve(count as usize)?;
-    for _number in 0..count {
-        lists.push(RunList::new(alloc))?;
+    lists.reserve(rooms.len())?;
+    for room in rooms {
+        lists.push(RunList::with_room(alloc, *room)?)?;
     }
     Ok(lists)
 }

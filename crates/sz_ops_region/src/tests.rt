@@ -51,6 +51,13 @@ fn row_of_three() -> Result<Shape, Fail>
     Ok(Shape::make(1, 3).ok_or("a row is a shape")?)
 }
 
+/// The shape of nine rows and two columns.
+fn nine_by_two() -> Result<Shape, Fail>
+    ensures { IfOk result (λ s. s ≡ flat 9 2) }
+{
+    Ok(Shape::make(9, 2).ok_or("9 by 2 is a shape")?)
+}
+
 /// Adds a cell, where the bitmap's shape has it.
 fn add(bits: &mut CellBits, row: u32, col: u32)
     ensures { bits.new.extent ≡ bits.old.extent }
@@ -147,6 +154,11 @@ fn layers_rows_and_columns_are_apart(rt: HostRuntime) -> Result<(), Fail> {
         labels(alloc, layers, &[HIGH, HIGH])?.cells(),
         [Some(1), Some(2)].as_slice()
     );
+    let pairs = Shape::make_layers(2, 2, 1).ok_or("two layers of two cells are a shape")?;
+    assert_eq!(rt;
+        labels(alloc, pairs, &[HIGH, HIGH, HIGH, LOW])?.cells(),
+        [Some(1), Some(1), Some(3), LOW].as_slice()
+    );
     let row = Shape::make(1, 5).ok_or("a row is a shape")?;
     assert_eq!(rt;
         labels(alloc, row, &[HIGH, None, HIGH, HIGH, Some(4)])?.cells(),
@@ -230,5 +242,44 @@ fn a_piece_has_the_parts_that_are_asked_for(rt: HostRuntime) -> Result<(), Fail>
         [0, 0, 0, 1, 0, 0, 0, 0, 0, 0, 0, 1].as_slice()
     );
     assert_eq!(rt; pays[2].payload.bytes().len(), 0);
+    Ok(())
+}
+
+#[test]
+fn the_payload_of_many_cells_is_their_set(rt: HostRuntime) -> Result<(), Fail> {
+    let alloc = rt.alloc();
+    let shape = nine_by_two()?;
+    let inputs = [array(alloc, shape, &[HIGH; 18])?];
+    let at = regions(alloc, shape)?;
+    let aid = prepare(alloc, &at, &inputs)?;
+    let mut tally = Tally::new();
+    let list = [Strategy::PayMany];
+    let lineage = piece(alloc, &at, &inputs, &aid, 0, &list, &mut tally)?;
+    let pays = lineage.pays();
+    assert!(rt; pays.len() == 18);
+    assert_eq!(rt;
+        pays[17].payload.bytes(),
+        [0, 0, 0, 1, 0, 0, 0, 0, 0, 0, 0, 17].as_slice()
+    );
+    Ok(())
+}
+
+#[test]
+fn a_cell_by_itself_has_the_payload_of_its_set(rt: HostRuntime) -> Result<(), Fail> {
+    let alloc = rt.alloc();
+    let shape = row_of_three()?;
+    let inputs = [array(alloc, shape, &[LOW, LOW, HIGH])?];
+    let at = regions(alloc, shape)?;
+    let aid = prepare(alloc, &at, &inputs)?;
+    let mut tally = Tally::new();
+    let list = [Strategy::PayMany];
+    let lineage = piece(alloc, &at, &inputs, &aid, 0, &list, &mut tally)?;
+    let pays = lineage.pays();
+    assert!(rt; pays.len() == 3);
+    assert_eq!(rt; pays[0].payload.bytes().len(), 0);
+    assert_eq!(rt;
+        pays[2].payload.bytes(),
+        [0, 0, 0, 1, 0, 0, 0, 2, 0, 0, 0, 2].as_slice()
+    );
     Ok(())
 }

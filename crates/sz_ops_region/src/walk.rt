@@ -104,7 +104,7 @@ fn trace_cell(work: &Work, cell: Cell, from: &CellBits, to: &mut CellBits, marks
     if !from.has(cell) {
         return;
     }
-    match work.component(cell) {
+    match work.kept(cell) {
         None => to.set(cell),
         Some(component) => {
             let first = work.at.out().cell_at(component.first());

@@ -1,18 +1,21 @@
 //! The operator at work over its input.
 
-ghost use Rattle.std.specs.Prelude.{◌≡◌, true, map, is_some, IfSome};
+ghost use Rattle.std.specs.Prelude.{◌≡◌, true, map, is_some, IfSome, IfNone};
 ghost use Rattle.std.specs.Arc.{arc_value};
-ghost use Rattle.sz_cells.specs.Extent.{holds};
-ghost use Rattle.sz_cells.specs.Cells.{any_cell, has};
+ghost use Rattle.sz_cells.specs.Extent.{holds, index_of};
+ghost use Rattle.sz_cells.specs.Cells.{any_cell, has, is_same};
+ghost use Rattle.sz_cells.specs.declared.Cell.{Cell};
 ghost use Rattle.sz_spec.specs.Values.{input_at, extent_at};
 ghost use Rattle.sz_spec.specs.Shapes.{IsSite};
 ghost use Rattle.sz_spec.specs.LawsShapes.{AreExtents};
+ghost use Rattle.sz_spec.specs.Lineage.{related};
 ghost use Rattle.sz_spec.specs.declared.op.Op.TheVariants.{Regions};
 ghost use Rattle.sz_spec.specs.Operators.Regions.{is_high, component_of};
 ghost use Rattle.sz_region.specs.Images.{IsAtWork};
 ghost use Rattle.sz_ops_region.specs.Regions.{is_regions, components_of};
+ghost use Rattle.sz_ops_region.specs.Parts.{IsPartAt};
 
-use crate::aid::{Aid, Component};
+use crate::aid::{Aid, Component, Part, payload_of};
 use std::alloc::Global;
 use std::sync::Arc;
 use sz_cells::{Cell, CellBits, CellSet, NoMemory, Shape};
@@ -43,15 +46,17 @@ impl<'a> AtWork for Work<'a> {
         self.at.ins().len() as u32
     }
 
-    fn value(&self, out: Cell, _index: u32) -> Value {
+    fn value(&self, out: Cell, index: u32) -> Value {
+        self.at.out().size(); // a shape is within the limits
         match self.component(out) {
-            Some(component) => Some(i64::from(component.label())),
+            Some(Part::Shared(component)) => Some(i64::from(component.label())),
+            Some(Part::Alone) => Some(i64::from(1 + index)),
             None => Some(0),
         }
     }
 
     fn back_into(&self, out: Cell, _input: u32, to: &mut CellBits) {
-        match self.component(out) {
+        match self.kept(out) {
             Some(component) => to.add_set(component.cells()),
             None => to.set(out),
         }
@@ -59,14 +64,14 @@ impl<'a> AtWork for Work<'a> {
 
     fn meets(&self, out: Cell, _input: u32, from: &CellBits) -> bool {
         from.shape(); // the set is that of its cells
-        match self.component(out) {
+        match self.kept(out) {
             Some(component) => have_one(component.cells(), from),
             None => from.has(out),
         }
     }
 
     fn related_set(&self, alloc: Global, out: Cell, _input: u32) -> Result<Arc<CellSet>, NoMemory> {
-        match self.component(out) {
+        match self.kept(out) {
             Some(component) => Ok(component.set()?),
             None => {
                 let set = CellSet::from_cells(alloc, self.at.out(), &[out])?;
@@ -77,7 +82,11 @@ impl<'a> AtWork for Work<'a> {
 
     fn payload(&self, alloc: Global, out: Cell) -> Result<Arc<Payload>, NoMemory> {
         match self.component(out) {
-            Some(component) => Ok(component.payload()?),
+            Some(Part::Shared(component)) => component.payload(alloc),
+            Some(Part::Alone) => {
+                let set = CellSet::from_cells(alloc, self.at.out(), &[out])?;
+                payload_of(alloc, &set)
+            }
             None => Ok(Arc::new(alloc, Payload::of(Vec::new(alloc)))?),
         }
     }
@@ -89,16 +98,36 @@ impl<'a> AtWork for Work<'a> {
 
 impl<'a> Work<'a> {
     /// The component of a cell. `None` exactly where the cell is not high.
-    pub(crate) fn component(&self, out: Cell) -> Option<&Component>
+    pub(crate) fn component(&self, out: Cell) -> Option<Part<'_>>
         requires right { IsAtWork self.now.at.now (map (λ a. arc_value a) self.now.inputs.now) }
         requires out { holds self.now.at.now.out out ≡ true }
-        ensures value { IfSome result (λ c. c.now ≡ component_of self.now.t
-            (input_at (map (λ a. arc_value a) self.now.inputs.now) 0) out) }
+        ensures value { IfSome result (λ p. IsPartAt (index_of self.now.at.now.out out) p
+            (component_of self.now.t (input_at (map (λ a. arc_value a) self.now.inputs.now) 0)
+            out)) }
         ensures high { is_some result ≡ is_high self.now.t
             (input_at (map (λ a. arc_value a) self.now.inputs.now) 0) out }
     {
         match self.aid.component(self.at.out().index(out)) {
-            Some(component) => Some(component),
+            Some(part) => Some(part),
+            None => None,
+        }
+    }
+
+    /// The component of a cell where it has several cells. Where there is none, the cell is related
+    /// to itself alone.
+    pub(crate) fn kept(&self, out: Cell) -> Option<&Component>
+        requires right { IsAtWork self.now.at.now (map (λ a. arc_value a) self.now.inputs.now) }
+        requires out { holds self.now.at.now.out out ≡ true }
+        ensures value { IfSome result (λ c. c.now ≡ component_of self.now.t
+            (input_at (map (λ a. arc_value a) self.now.inputs.now) 0) out) }
+        ensures high { IfSome result (λ c. is_high self.now.t
+            (input_at (map (λ a. arc_value a) self.now.inputs.now) 0) out ≡ true) }
+        ensures itself { IfNone result ((x : Cell) → related self.now.at.now.op
+            (map (λ a. arc_value a) self.now.inputs.now) 0 out x ≡ is_same x out) }
+    {
+        match self.component(out) {
+            Some(Part::Shared(component)) => Some(component),
+            Some(Part::Alone) => None,
             None => None,
         }
     }

@@ -7,19 +7,19 @@ use Rattle.std.specs.Result.{result_unwrap_or}
 use Rattle.sz_cells.specs.declared.Cell.{Cell}
 use Rattle.sz_cells.specs.Extent.{Extent}
 use Rattle.sz_spec.specs.declared.op.Op.{Op}
-use Rattle.sz_spec.specs.declared.op.Op.TheVariants.{Neg, Abs, AddK, MulK, Clip, Add, Sub, Mul, Min}
-use Rattle.sz_spec.specs.declared.op.Op.TheVariants.{Max, Transpose, Slice, Convolve, Block, Lookup}
-use Rattle.sz_spec.specs.declared.op.Op.TheVariants.{Regions, Clean, FoldLayers}
+use Rattle.sz_spec.specs.declared.op.Op.TheVariants.{Neg}
+use Rattle.sz_spec.specs.declared.op.Op.TheVariants.{Convolve}
+use Rattle.sz_spec.specs.declared.op.Op.TheVariants.{Clean}
 use Rattle.sz_spec.specs.declared.shapes.ShapeFault.{ShapeFault}
 use Rattle.sz_spec.specs.Values.{Grid, no_extent, extent_at, extents_of, input_at}
 use Rattle.sz_spec.specs.Shapes.{Site, IsSite, arity, shape_of}
 use Rattle.sz_spec.specs.Weights.{Weights}
 use Rattle.sz_spec.specs.Operators.Convolve.{is_convolved}
 use Rattle.sz_spec.specs.Operators.Clean.{is_hot, is_in_square}
-use Rattle.sz_spec.specs.Lineage.{related, mapped}
-use Rattle.sz_spec.proofs.PayloadLineage.{extent-of_input}
+use Rattle.sz_spec.specs.Lineage.{related}
 use Rattle.sz_region.specs.Images.{IsAtWork}
-use Rattle.sz_ops_window.specs.Windowed.{is_windowed, is_convolution}
+use Rattle.sz_region.proofs.Inputs.{input-extent}
+use Rattle.sz_ops_window.specs.Windowed.{is_windowed}
 use Rattle.sz_ops_window.specs.Taps.{one, nine}
 use Rattle.sz_ops_window.proofs.Squares.{nine-square, one-same}
 
@@ -36,22 +36,7 @@ by-op : (op : Op) (ins : List Extent) (out : Extent) → is_windowed op ≡ true
     → length ins ≡ arity op → (extent_at ins 0 ≡ out) × (length ins ≡ 1)
 by-op (Convolve kernel) ins out h rule count = (first-is ins out rule, count)
 by-op (Clean t) ins out h rule count = (first-is ins out rule, count)
-by-op Neg ins out h rule count = absurd (true≢false (sym h))
-by-op Abs ins out h rule count = absurd (true≢false (sym h))
-by-op (AddK k) ins out h rule count = absurd (true≢false (sym h))
-by-op (MulK k) ins out h rule count = absurd (true≢false (sym h))
-by-op (Clip lo hi) ins out h rule count = absurd (true≢false (sym h))
-by-op Add ins out h rule count = absurd (true≢false (sym h))
-by-op Sub ins out h rule count = absurd (true≢false (sym h))
-by-op Mul ins out h rule count = absurd (true≢false (sym h))
-by-op Min ins out h rule count = absurd (true≢false (sym h))
-by-op Max ins out h rule count = absurd (true≢false (sym h))
-by-op Transpose ins out h rule count = absurd (true≢false (sym h))
-by-op (Slice r0 c0 height width) ins out h rule count = absurd (true≢false (sym h))
-by-op (Block fold height width) ins out h rule count = absurd (true≢false (sym h))
-by-op Lookup ins out h rule count = absurd (true≢false (sym h))
-by-op (Regions t) ins out h rule count = absurd (true≢false (sym h))
-by-op (FoldLayers fold) ins out h rule count = absurd (true≢false (sym h))
+by-op _ ins out h rule count = absurd (true≢false (sym h))
 
 -- one input, and its shape is the output's
 pub one-input : (s : Site) → is_windowed s.op ≡ true → IsSite s → s.ins ≡ s.out ∷ []
@@ -66,33 +51,11 @@ pub input-side : (s : Site) (i : ℕ) → s.ins ≡ s.out ∷ [] → i < length 
 input-side s i is few =
     ap (extent_at s.ins) (no-other_input s i is few) ∙ ap (λ (es : List Extent). extent_at es 0) is
 
--- a convolution is one of the operators
-pub convolution-windowed : (op : Op) → is_convolution op ≡ true → is_windowed op ≡ true
-convolution-windowed (Convolve kernel) h = refl
-convolution-windowed (Clean t) h = refl
-convolution-windowed Neg h = absurd (true≢false (sym h))
-convolution-windowed Abs h = absurd (true≢false (sym h))
-convolution-windowed (AddK k) h = absurd (true≢false (sym h))
-convolution-windowed (MulK k) h = absurd (true≢false (sym h))
-convolution-windowed (Clip lo hi) h = absurd (true≢false (sym h))
-convolution-windowed Add h = absurd (true≢false (sym h))
-convolution-windowed Sub h = absurd (true≢false (sym h))
-convolution-windowed Mul h = absurd (true≢false (sym h))
-convolution-windowed Min h = absurd (true≢false (sym h))
-convolution-windowed Max h = absurd (true≢false (sym h))
-convolution-windowed Transpose h = absurd (true≢false (sym h))
-convolution-windowed (Slice r0 c0 height width) h = absurd (true≢false (sym h))
-convolution-windowed (Block fold height width) h = absurd (true≢false (sym h))
-convolution-windowed Lookup h = absurd (true≢false (sym h))
-convolution-windowed (Regions t) h = absurd (true≢false (sym h))
-convolution-windowed (FoldLayers fold) h = absurd (true≢false (sym h))
-
 -- the input's shape
 pub input-shape : (s : Site) (inputs : List Grid) → is_windowed s.op ≡ true → IsAtWork s inputs
     → (input_at inputs 0).extent ≡ s.out
 input-shape s inputs h work =
-    sym (extent-of_input inputs 0) ∙ ap (λ (es : List Extent). extent_at es 0) work.shapes
-    ∙ ap (λ (es : List Extent). extent_at es 0) (one-input s h work.site)
+    input-extent s inputs 0 work ∙ ap (λ (es : List Extent). extent_at es 0) (one-input s h work.site)
 
 -- a convolution relates a cell to the cells under its kernel
 pub convolve-related : (s : Site) (inputs : List Grid) (kernel : Weights) (o x : Cell) → s.op ≡ Convolve kernel
@@ -101,11 +64,6 @@ convolve-related s inputs kernel o x is h work =
     let at : extent_at (extents_of inputs) 0 ≡ s.out =
     ap (λ (es : List Extent). extent_at es 0) (work.shapes ∙ one-input s h work.site) in
     rw is (ap (λ (e : Extent). is_convolved e kernel o x) (sym at))
-
-pub convolve-mapped : (s : Site) (kernel : Weights) (o x : Cell) → s.op ≡ Convolve kernel
-    → s.ins ≡ s.out ∷ [] → is_convolved s.out kernel o x ≡ mapped s.op s.ins 0 o x
-convolve-mapped s kernel o x is ins =
-    rw is (ap (λ (es : List Extent). is_convolved (extent_at es 0) kernel o x) (sym ins))
 
 -- clean relates a hot cell to its square, and any other to itself
 pub hot-related : (s : Site) (inputs : List Grid) (t : ℤ) (o x : Cell) → s.op ≡ Clean t → is_windowed s.op ≡ true

@@ -2,7 +2,7 @@
 --
 -- The key idea: the least of a list is a fold, and a fold over the cells of a window, in the order of their indexes, is
 -- a fold over its rows of folds over its columns.
-use Rattle.std.proofs.Common.{◌≡◌, ℕ, ◌+◌, ◌-◌, ◌*◌, ◌<◌, ◌≤◌, min, max, Bool, true, false, cond}
+use Rattle.std.proofs.Common.{◌≡◌, ℕ, ◌+◌, ◌-◌, ◌*◌, ◌<◌, ◌≤◌, min, max, Bool, true, cond}
 use Rattle.std.proofs.Common.{Option, Some, None, List, [], ◌∷◌, fold, get_or}
 use Rattle.std.proofs.Common.{refl, sym, ap, ap₂, ◌∙◌, arith, inl, inr, lt-ltb, le-leb}
 use Rattle.std.specs.Prelude.{ℤ, int_le, not}
@@ -123,9 +123,6 @@ cleaned-hot t g o w tall high order wide same hot =
     (sym (cells_where-ext g.extent (is_in_window w) (is_in_square g.extent o) same))
     ∙ rows-fold t g w tall high order wide)
 
-pub cleaned-cold : (t : ℤ) (g : Grid) (o : Cell) → is_hot t g o ≡ false → value_at g o ≡ cleaned_at t g o
-cleaned-cold t g o cold = rw cold refl
-
 -- ---- one more
 
 fold-first : {B : Type 0} (f : B → ℕ → B) (a : B) (start : ℕ) → fold f a (range_with_len start (start - start)) ≡ a
@@ -141,11 +138,7 @@ fold-next f a start k low =
     ∙ fold-append f a (range_with_len start (k - start)) (range_with_len (start + (k - start)) 1)
     ∙ ap (f (fold f a (range_with_len start (k - start)))) at
 
--- no column yet, and one column more
-pub row-first : (t : ℤ) (g : Grid) (left row : ℕ) (least : Option ℤ) → least ≡ with_row t g left left row least
-row-first t g left row least =
-    sym (fold-first (λ b c. with_value t b (value_at g (record { row = row; col = c }))) least left)
-
+-- one column more
 pub row-next : (t : ℤ) (g : Grid) (left col row : ℕ) (least so_far new : Option ℤ) → left ≤ col
     → so_far ≡ with_row t g left col row least
     → new ≡ with_value t so_far (value_at g (record { row = row; col = col }))

@@ -1,5 +1,4 @@
--- The lemmas: of single cells and places, of taps, of squares, of the input, of the least number, of sums.
-pub mod Places
+-- The lemmas: of taps, of squares, of the input, of the least number, of sums.
 pub mod Taps
 pub mod Squares
 pub mod Inputs

@@ -16,13 +16,14 @@ use Rattle.std.proofs.lemmas.List.{map-append}
 use Rattle.std.proofs.lemmas.Option.{unwrap_or-slice_get}
 use Rattle.sz_cells.specs.declared.Cell.{Cell}
 use Rattle.sz_cells.specs.Extent.{Extent, holds, is_extent, layer_of, row_in, height_of, index_of, size_of}
+use Rattle.sz_cells.proofs.Shapes.{cell-has_place}
 use Rattle.sz_cells.proofs.Windows.{range-append}
 use Rattle.sz_spec.specs.Values.{Grid, value_at, fit, with_numbers}
 use Rattle.sz_spec.specs.Weights.{Weights, Tap, is_zero, tap_at, is_kernel}
 use Rattle.sz_spec.specs.Operators.Convolve.{is_in_range, term_of, sum_of_all, convolved_at, cell_under}
+use Rattle.sz_region.proofs.Places.{AreSmall, are-small, own-place}
 use Rattle.sz_ops_window.specs.declared.window.Window.{Window}
 use Rattle.sz_ops_window.specs.Sums.{times, part_of, sum_from, reach_of}
-use Rattle.sz_ops_window.proofs.Places.{AreSmall, are-small, IsHere, is-here}
 
 -- ---- sums by parts
 
@@ -174,11 +175,11 @@ pub record IsReach (w : Weights) (r : Window) : Type 0 where
 pub reach-lies : (e : Extent) (w : Weights) (o : Cell) → is_extent e ≡ true → holds e o ≡ true → is_kernel w ≡ true
     → IsReach w (reach_of e w o)
 reach-lies e w o right held kernel =
-    let here = is-here e o right held in
+    let here = own-place e o right held in
     record {
-      rows = omega (arith, here.row);
+      rows = omega (arith, here.1);
       bottom = omega arith;
-      cols = omega (arith, here.col);
+      cols = omega (arith, here.2);
       right = omega arith;
     }
 
@@ -190,9 +191,10 @@ in-size row cols col rows tall wide =
     omega (arith, whole)
 
 -- a layer is within the rows
-rows-within : (e : Extent) (o : Cell) → IsHere e o → AreSmall e → layer_of e o * height_of e + height_of e ≤ e.rows
+rows-within : (e : Extent) (o : Cell) → layer_of e o < e.layers → AreSmall e
+    → layer_of e o * height_of e + height_of e ≤ e.rows
 rows-within e o here small =
-    let below : layer_of e o + 1 ≤ e.layers = omega (arith, here.layer) in
+    let below : layer_of e o + 1 ≤ e.layers = omega (arith, here) in
     let whole : (layer_of e o + 1) * height_of e ≤ e.layers * height_of e = mul-le-mul_right (height_of e) below in
     omega (arith, whole, small.whole)
 
@@ -222,19 +224,21 @@ pub is-under : (e : Extent) (w : Weights) (o : Cell) (row col : ℕ) → is_exte
     → (reach_of e w o).top ≤ row → row < (reach_of e w o).bottom → (reach_of e w o).left ≤ col
     → col < (reach_of e w o).right → IsUnder e w o row col
 is-under e w o row col right held top bottom left end =
-    let here = is-here e o right held in
     let small = are-small e right in
+    let whole : layer_of e o * height_of e + row_in e o ≡ o.row =
+    ap (λ (x : Cell). x.row) (cell-has_place e o right held).1 in
     let tall : row < w.rows = omega (arith, bottom) in
     let wide : col < w.cols = omega (arith, end) in
     let r = tap-row w row col wide in
     let k = tap-col w row col wide in
     let moved : (o.row + row) - w.rows / 2 ≡ layer_of e o * height_of e + ((row_in e o + row) - w.rows / 2) =
-    omega (arith, here.whole, top) in
-    let layers : layer_of e o * height_of e + height_of e ≤ e.rows = rows-within e o here small in
+    omega (arith, whole, top) in
+    let layers : layer_of e o * height_of e + height_of e ≤ e.rows =
+    rows-within e o (own-place e o right held).0 small in
     let below : (o.row + row) - w.rows / 2 < e.rows = omega (arith, moved, layers, bottom, top) in
     let behind : (o.col + col) - w.cols / 2 < e.cols = omega (arith, end, left) in
     record {
-      above = omega (arith, here.whole, top);
+      above = omega (arith, whole, top);
       below = below;
       before = omega (arith, left);
       behind = behind;

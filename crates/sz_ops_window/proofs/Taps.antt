@@ -3,30 +3,32 @@
 -- The key idea: a tap leads from a row to one row or to none, and the same of columns. So it leads from a cell to the
 -- cell of one place, and all taps lead to just the cells under the kernel.
 use Rattle.std.proofs.Common.{◌≡◌, ℕ, ◌+◌, ◌-◌, ◌*◌, ◌/◌, ◌%◌, ◌<◌, ◌≤◌, Bool, true, false}
-use Rattle.std.proofs.Common.{◌&&◌, ◌||◌, ◌==◌, nat_le, Option, Some, None, List, [], ◌∷◌, ◌++◌, map}
+use Rattle.std.proofs.Common.{◌&&◌, ◌||◌, ◌==◌, nat_le, Option, Some, None, List, [], ◌++◌, map}
 use Rattle.std.proofs.Common.{refl, sym, ap, ap₂, subst, ◌∙◌, arith, inl, inr}
 use Rattle.std.specs.Prelude.{not, IfSome, All}
 use Rattle.std.specs.Option.{option_to_list}
 use Rattle.std.specs.List.{list_any, range_with_len}
-use Rattle.std.proofs.Math.Bool.{or-false}
+use Rattle.std.proofs.Math.Bool.{or-false, or-true}
 use Rattle.std.proofs.lemmas.Bool.{cases_Bool}
 use Rattle.std.proofs.lemmas.Bool.Decides.{nat_tests}
 use Rattle.std.proofs.lemmas.List.Folds.{list_any-append}
 use Rattle.std.proofs.lemmas.List.Elements.{All-nil, All-cons, All-append}
 use Rattle.sz_cells.specs.declared.Cell.{Cell}
 use Rattle.sz_cells.specs.Extent.{Extent, holds, layer_of, row_in}
-use Rattle.sz_cells.specs.Extent.{cell_of}
 use Rattle.sz_cells.specs.Cells.{Cells, is_same, cells_where, any_cell, has, named_in, with_those}
-use Rattle.sz_cells.proofs.Sets.{cells_where-ext, any_cell-ext, is_same-flip}
+use Rattle.sz_cells.proofs.Sets.{cells_where-ext, is_same-flip}
 use Rattle.sz_cells.proofs.Windows.{range-append}
 use Rattle.sz_spec.specs.declared.modes.Dir.{Dir}
 use Rattle.sz_spec.specs.declared.modes.Dir.TheVariants.{Back, Forward}
 use Rattle.sz_spec.specs.Weights.{Weights, Tap, is_zero, tap_at}
 use Rattle.sz_spec.specs.Operators.Convolve.{is_under, is_convolved}
+use Rattle.sz_region.specs.Single.{is_cell, IsOnly}
 use Rattle.sz_region.specs.Walks.{steps}
 use Rattle.sz_region.proofs.Added.{any-filter, with-none, with-ext, with-more}
-use Rattle.sz_ops_window.specs.Taps.{leads, led_before, is_covered, less, moved, is_cell, IsOnly}
-use Rattle.sz_ops_window.proofs.Places.{is_at, only-by}
+use Rattle.sz_region.proofs.OneCell.{any-only}
+use Rattle.sz_region.proofs.Passing.{any-map, eq-flip, met-ext, met-or}
+use Rattle.sz_region.proofs.Places.{is_at, only-by}
+use Rattle.sz_ops_window.specs.Taps.{leads, led_before, is_covered, less, moved}
 
 -- ---- one axis
 
@@ -42,13 +44,6 @@ less-some a b r is =
       | inr f ↦ let never : None ≡ Some r = rw f at is in absurd (cc)
     ]
 
-less-none : (a b : ℕ) → less a b ≡ None → a < b
-less-none a b is =
-    elim (cases_Bool (nat_le b a)) [
-      | inl t ↦ let never : Some (a - b) ≡ None = rw t at is in absurd (cc)
-      | inr f ↦ grind (arith, nat_tests, f)
-    ]
-
 moved-some : (dir : Dir) (start tap middle r y : ℕ) → moved dir start tap middle ≡ Some r
     → is_moved dir start tap middle y ≡ (y == r)
 moved-some Back start tap middle r y is =
@@ -56,17 +51,7 @@ moved-some Back start tap middle r y is =
 moved-some Forward start tap middle r y is =
     let w = less-some (start + middle) tap r is in grind (arith, nat_tests, w.0, w.1)
 
-moved-none : (dir : Dir) (start tap middle y : ℕ) → moved dir start tap middle ≡ None
-    → is_moved dir start tap middle y ≡ false
-moved-none Back start tap middle y is =
-    let w = less-none (start + tap) middle is in grind (arith, nat_tests, w)
-moved-none Forward start tap middle y is =
-    let w = less-none (start + middle) tap is in grind (arith, nat_tests, w)
-
 -- ---- one tap
-
-flip : (a b : ℕ) → (a == b) ≡ (b == a)
-flip a b = grind (arith, nat_tests)
 
 -- by layer, row and column
 by-axes : (dir : Dir) (e : Extent) (w : Weights) (c : Cell) (n : ℕ) (x : Cell)
@@ -76,40 +61,13 @@ by-axes : (dir : Dir) (e : Extent) (w : Weights) (c : Cell) (n : ℕ) (x : Cell)
 by-axes Back e w c n x = refl
 by-axes Forward e w c n x =
     ap (λ b. not (is_zero (tap_at w n).weight) && (b && (row_in e c + w.rows / 2 == row_in e x + n / w.cols)
-    && (c.col + w.cols / 2 == x.col + n % w.cols))) (flip (layer_of e c) (layer_of e x))
-
-and-false : (b : Bool) → (b && false) ≡ false
-and-false true = refl
-and-false false = refl
+    && (c.col + w.cols / 2 == x.col + n % w.cols))) (eq-flip (layer_of e c) (layer_of e x))
 
 -- whether a weight is used
-pub used-zero : (w : Weights) (n : ℕ) (b : Bool) → b ≡ not (is_zero (tap_at w n).weight) → b ≡ false
-    → is_zero (tap_at w n).weight ≡ true
-used-zero w n b is none =
-    elim (cases_Bool (is_zero (tap_at w n).weight)) [ inl t ↦ t | inr f ↦ let no = rw f at is in absurd (cc) ]
-
 pub used-some : (w : Weights) (n : ℕ) (b : Bool) → b ≡ not (is_zero (tap_at w n).weight) → b ≡ true
     → is_zero (tap_at w n).weight ≡ false
 used-some w n b is some =
     elim (cases_Bool (is_zero (tap_at w n).weight)) [ inr f ↦ f | inl t ↦ let no = rw t at is in absurd (cc) ]
-
--- a weight of 0 leads nowhere
-pub leads-zero : (dir : Dir) (e : Extent) (w : Weights) (c : Cell) (n : ℕ) → is_zero (tap_at w n).weight ≡ true
-    → IsOnly e (leads dir e w c n) None
-leads-zero dir e w c n none x held = by-axes dir e w c n x ∙ (rw none refl)
-
--- nor does a tap that leads to no row, or to no column
-pub leads-no_row : (dir : Dir) (e : Extent) (w : Weights) (c : Cell) (n : ℕ)
-    → moved dir (row_in e c) (n / w.cols) (w.rows / 2) ≡ None → IsOnly e (leads dir e w c n) None
-leads-no_row dir e w c n none x held =
-    by-axes dir e w c n x
-    ∙ (rw (moved-none dir (row_in e c) (n / w.cols) (w.rows / 2) (row_in e x) none) (grind arith))
-
-pub leads-no_col : (dir : Dir) (e : Extent) (w : Weights) (c : Cell) (n : ℕ)
-    → moved dir c.col (n % w.cols) (w.cols / 2) ≡ None → IsOnly e (leads dir e w c n) None
-leads-no_col dir e w c n none x held =
-    by-axes dir e w c n x
-    ∙ (rw (moved-none dir c.col (n % w.cols) (w.cols / 2) x.col none) (grind arith))
 
 -- any other leads to the cell at a place
 pub leads-at : (dir : Dir) (e : Extent) (w : Weights) (c : Cell) (n row col : ℕ) (cell : Option Cell)
@@ -128,11 +86,6 @@ leads-at dir e w c n row col cell some is_row is_col only =
     only
 
 -- ---- all taps
-
-any-map : {X Y : Type 0} (p : Y → Bool) (f : X → Y) (xs : List X)
-    → list_any p (map f xs) ≡ list_any (λ x. p (f x)) xs
-any-map p f [] = refl
-any-map p f (x ∷ xs) = ap (λ b. p (f x) || b) (any-map p f xs)
 
 convolved-covered : (e : Extent) (w : Weights) (o x : Cell)
     → is_convolved e w o x ≡ list_any (λ k. is_covered e w k o x) (range_with_len 0 (w.rows * w.cols))
@@ -191,43 +144,14 @@ led-end to new dir e w c n all is =
 
 -- ---- a set that is looked at
 
-crossed : (a b c d : Bool) → ((a || b) || (c || d)) ≡ ((a || c) || (b || d))
-crossed true b c d = refl
-crossed false true true d = refl
-crossed false true false d = refl
-crossed false false c d = refl
-
-any-or : {X : Type 0} (p q : X → Bool) (xs : List X)
-    → list_any (λ x. p x || q x) xs ≡ (list_any p xs || list_any q xs)
-any-or p q [] = refl
-any-or p q (x ∷ xs) = ap (λ b. (p x || q x) || b) (any-or p q xs) ∙ crossed (p x) (q x) (list_any p xs) (list_any q xs)
-
-any-same : {X : Type 0} (p q : X → Bool) → ((x : X) → p x ≡ q x) → (xs : List X) → list_any p xs ≡ list_any q xs
-any-same p q same [] = refl
-any-same p q same (x ∷ xs) = ap₂ (λ (a b : Bool). a || b) (same x) (any-same p q same xs)
-
-any-ext : (from : Cells) (p q : Cell → Bool) → ((x : Cell) → p x ≡ q x) → any_cell p from ≡ any_cell q from
-any-ext from p q same = any-same (λ k. p (cell_of from.extent k)) (λ k. q (cell_of from.extent k))
-    (λ k. same (cell_of from.extent k)) from.indexes
-
--- where exactly the cell that is there passes a test, a set has it where some cell of the set passes
-any-only : (from : Cells) (e : Extent) (test : Cell → Bool) (cell : Option Cell) → from ≡ cells_where e (has from)
-    → IsOnly e test cell → any_cell (is_cell cell) from ≡ any_cell test from
-any-only from e test cell own only =
-    ap (any_cell (is_cell cell)) own
-    ∙ any_cell-ext e (has from) (is_cell cell) test (λ x held passes. sym (only x held))
-    ∙ sym (ap (any_cell test) own)
-
 -- the first taps, and one more
 meets-more : (from : Cells) (e : Extent) (w : Weights) (c : Cell) (n : ℕ) (cell : Option Cell)
     → from ≡ cells_where e (has from) → IsOnly e (leads Back e w c n) cell
     → any_cell (led_before Back e w c (n + 1)) from
     ≡ (any_cell (led_before Back e w c n) from || any_cell (is_cell cell) from)
 meets-more from e w c n cell own only =
-    any-ext from (led_before Back e w c (n + 1)) (λ x. led_before Back e w c n x || leads Back e w c n x)
-    (λ x. sym (led-more Back e w c n x))
-    ∙ any-or (λ k. led_before Back e w c n (cell_of from.extent k)) (λ k. leads Back e w c n (cell_of from.extent k))
-    from.indexes
+    sym (met-or from (led_before Back e w c n) (leads Back e w c n) (led_before Back e w c (n + 1))
+    (led-more Back e w c n))
     ∙ ap (λ b. any_cell (led_before Back e w c n) from || b) (sym (any-only from e (leads Back e w c n) cell own only))
 
 -- where none was met, and this one is not
@@ -240,16 +164,12 @@ meets-step from e w c n cell own only none this = meets-more from e w c n cell o
 -- all taps
 meets-all : (from : Cells) (e : Extent) (w : Weights) (c : Cell)
     → any_cell (led_before Back e w c (w.rows * w.cols)) from ≡ any_cell (is_convolved e w c) from
-meets-all from e w c = any-ext from (led_before Back e w c (w.rows * w.cols)) (is_convolved e w c) (led-all Back e w c)
+meets-all from e w c = met-ext from (led_before Back e w c (w.rows * w.cols)) (is_convolved e w c) (led-all Back e w c)
 
 pub meets-none : (from : Cells) (e : Extent) (w : Weights) (c : Cell) (n : ℕ) → n ≡ w.rows * w.cols
     → any_cell (led_before Back e w c n) from ≡ false → false ≡ any_cell (is_convolved e w c) from
 meets-none from e w c n all none =
     sym (sym (meets-all from e w c) ∙ ap (λ (m : ℕ). any_cell (led_before Back e w c m) from) (sym all) ∙ none)
-
-or-true : (a b : Bool) → b ≡ true → (a || b) ≡ true
-or-true true b is = refl
-or-true false b is = is
 
 -- one that is met settles it
 pub meets-some : (from : Cells) (e : Extent) (w : Weights) (c : Cell) (n : ℕ) (cell : Option Cell)
@@ -260,15 +180,13 @@ meets-some from e w c n cell own only low this =
     let rest = all - (n + 1) in
     let parts : all ≡ (n + 1) + rest = omega arith in
     let here = meets-more from e w c n cell own only
-    ∙ or-true (any_cell (led_before Back e w c n) from) (any_cell (is_cell cell) from) this in
+    ∙ ap (λ b. any_cell (led_before Back e w c n) from || b) this ∙ or-true (any_cell (led_before Back e w c n) from) in
     sym
     (sym (meets-all from e w c)
     ∙ ap (λ (m : ℕ). any_cell (led_before Back e w c m) from) parts
-    ∙ any-ext from (led_before Back e w c ((n + 1) + rest)) (λ x. led_before Back e w c (n + 1) x
-    || list_any (λ k. leads Back e w c k x) (range_with_len (0 + (n + 1)) rest))
-    (λ x. led-parts Back e w c (n + 1) rest x)
-    ∙ any-or (λ k. led_before Back e w c (n + 1) (cell_of from.extent k))
-    (λ k. list_any (λ m. leads Back e w c m (cell_of from.extent k)) (range_with_len (0 + (n + 1)) rest)) from.indexes
+    ∙ sym (met-or from (led_before Back e w c (n + 1))
+    (λ x. list_any (λ k. leads Back e w c k x) (range_with_len (0 + (n + 1)) rest))
+    (led_before Back e w c ((n + 1) + rest)) (λ x. sym (led-parts Back e w c (n + 1) rest x)))
     ∙ (rw here refl))
 
 -- ---- a list of the cells

@@ -59,11 +59,6 @@ sum-next g w o start before n total a b parts first second =
 
 -- ---- the columns of a row
 
--- no column yet
-pub cols-first : (g : Grid) (w : Weights) (o : Cell) (start left : ℕ)
-    → Some (pos 0) ≡ sum_from g w o start (left - left)
-cols-first g w o start left = let none : left - left ≡ 0 = omega arith in rw none refl
-
 pub cols-next : (g : Grid) (w : Weights) (o : Cell) (row left col : ℕ) (a b : ℤ) → left ≤ col
     → Some a ≡ sum_from g w o (row * w.cols + left) (col - left) → Some b ≡ part_of g w o (row * w.cols + col)
     → Some (a +ℤ b) ≡ sum_from g w o (row * w.cols + left) ((col + 1) - left)

@@ -1,11 +1,10 @@
 -- Taps by their numbers, row by row of a kernel: to which cell one leads, and what the first of
 -- them add.
-use Rattle.std.specs.Prelude.{◌≡◌, ℕ, ◌+◌, ◌-◌, pos, ◌∷◌, [], Bool, true, false, not, ◌&&◌, nat_le}
+use Rattle.std.specs.Prelude.{ℕ, ◌+◌, ◌-◌, pos, ◌∷◌, [], Bool, not, ◌&&◌, nat_le}
 use Rattle.std.specs.Prelude.{Option, Some, None, if◌then◌else◌}
 use Rattle.std.specs.List.{list_any, range_with_len}
 use Rattle.sz_cells.specs.declared.Cell.{Cell}
-use Rattle.sz_cells.specs.Extent.{Extent, holds}
-use Rattle.sz_cells.specs.Cells.{is_same}
+use Rattle.sz_cells.specs.Extent.{Extent}
 use Rattle.sz_spec.specs.declared.modes.Dir.{Dir}
 use Rattle.sz_spec.specs.declared.modes.Dir.TheVariants.{Back, Forward}
 use Rattle.sz_spec.specs.Weights.{Weights, is_zero, tap_at}
@@ -34,15 +33,6 @@ less a b = if nat_le b a then Some (a - b) else None
 abbrev pub moved : Dir → ℕ → ℕ → ℕ → Option ℕ
 moved Back start tap middle = less (start + tap) middle
 moved Forward start tap middle = less (start + middle) tap
-
--- the cell is there, and it is x
-abbrev pub is_cell : Option Cell → Cell → Bool
-is_cell None x = false
-is_cell (Some c) x = is_same c x
-
--- of the cells of a shape, exactly the one that is there passes a test
-abbrev pub IsOnly : Extent → (Cell → Bool) → Option Cell → Type 0
-IsOnly e test cell = (x : Cell) → holds e x ≡ true → test x ≡ is_cell cell x
 
 -- the kernel under which a cell alone lies, and that of the nine cells of a square
 abbrev pub one : Weights

@@ -16,7 +16,6 @@ mod clean;
 mod convolve;
 mod mask;
 mod op_map;
-mod single;
 #[cfg(test)]
 mod tests;
 mod under;

@@ -1,19 +1,21 @@
 //! The cells under the weights of a window that are not 0, tap by tap.
 
-ghost use Rattle.std.specs.Prelude.{◌≡◌, ◌<◌, ◌*◌, ◌^◌, true, Option, IfSome, IfOk};
+ghost use Rattle.std.specs.Prelude.{◌≡◌, ◌<◌, ◌*◌, ◌^◌, ◌++◌, true, Option, IfSome, IfOk, OnOk};
 ghost use Rattle.std.specs.Arc.{arc_value};
+ghost use Rattle.std.specs.Option.{option_to_list};
 ghost use Rattle.sz_cells.specs.Extent.{holds, layer_of, row_in};
 ghost use Rattle.sz_cells.specs.Cells.{any_cell, cells_where, with_those};
 ghost use Rattle.sz_spec.specs.Operators.Convolve.{is_convolved};
 ghost use Rattle.sz_region.specs.Walks.{steps};
-ghost use Rattle.sz_ops_window.specs.Taps.{leads, moved, IsOnly};
+ghost use Rattle.sz_region.specs.Single.{IsOnly};
+ghost use Rattle.sz_ops_window.specs.Taps.{leads, moved};
 
 use crate::mask::Mask;
-use crate::single::{add_cell, has_cell, push_cell};
 use std::alloc::Global;
 use std::sync::Arc;
 use sz_cells::laws::a_shape_is_within_limits;
 use sz_cells::{Cell, CellBits, CellSet, NoMemory, Shape};
+use sz_region::{add_cell, has_cell};
 use sz_spec::Dir;
 
 /// Adds the cells to which a window's taps lead from a cell: backward those under the weights,
@@ -65,6 +67,16 @@ pub(crate) fn set_under(
     }
     let set = CellSet::from_cells(alloc, shape, &cells)?;
     Ok(Arc::new(alloc, set)?)
+}
+
+/// Puts a cell behind the others, where there is one.
+fn push_cell(cells: &mut Vec<Cell>, cell: Option<Cell>) -> Result<(), NoMemory>
+    ensures { OnOk result (cells.new.items ≡ cells.old.items ++ option_to_list cell) }
+{
+    if let Some(cell) = cell {
+        cells.push(cell)?;
+    }
+    Ok(())
 }
 
 /// A cell of a shape, with its layer and its row in it.

@@ -18,7 +18,7 @@ use crate::{clean, convolve};
 use std::alloc::Global;
 use std::sync::Arc;
 use sz_cells::{Cell, CellBits, CellSet, NoMemory, Shape};
-use sz_region::{AtWork, Payload};
+use sz_region::{AtWork, Payload, right_shapes};
 use sz_spec::{Array, Dir, Op, OpAt, Value};
 
 /// A windowed operator with its shapes, and its inputs.
@@ -121,9 +121,5 @@ pub(crate) fn same_shape(at: &OpAt) -> Shape
     ensures ins { at.now.ins ≡ at.now.out ∷ [] }
     ensures right { AreExtents at.now.ins }
 {
-    at.op();
-    at.ins();
-    let shape = at.out();
-    let _ = &shape.rows; // a shape is within the limits
-    shape
+    right_shapes(at)
 }

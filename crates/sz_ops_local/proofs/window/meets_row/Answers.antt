@@ -1,12 +1,12 @@
 -- A cell that is met is a part of the row, and one that is not is one column more without a cell of the set.
-use Rattle.std.proofs.Common.{◌≡◌, ◌+◌, true, false, refl, ap, sym, ◌∙◌, arith, lt-ltb}
-use Rattle.std.proofs.lemmas.Bool.{and_from}
+use Rattle.std.proofs.Common.{◌≡◌, ◌+◌, false, refl, ap, sym, ◌∙◌, arith}
 use Rattle.sz_cells.specs.declared.Cell.{Cell}
-use Rattle.sz_cells.specs.Extent.{holds}
 use Rattle.sz_cells.specs.Cells.{any_cell, is_same}
 use Rattle.sz_region.proofs.Added.{own-at}
 use Rattle.sz_ops_local.specs.Windows.{is_between}
-use Rattle.sz_ops_local.proofs.WindowCells.{met-one, met-no_cols, met-col, met-wider, cell-in_row}
+use Rattle.sz_region.proofs.OneCell.{has-one}
+use Rattle.sz_region.proofs.Passing.{met-wider}
+use Rattle.sz_ops_local.proofs.WindowCells.{met-no_cols, met-col, cell-in_row}
 use Rattle.sz_ops_local.proofs.window.meets_row.Goals as goal
 
 pub loop-col-init : goal.loop-col-init
@@ -17,11 +17,9 @@ returns-then-has c =
     let from = c.args.from.now in
     let row = c.args.row in
     let cell : Cell = record { row = row; col = c.loop-col.col } in
-    let held : holds from.extent cell ≡ true =
-    and_from _ _ (lt-ltb row from.extent.rows c.requires.row) (lt-ltb c.loop-col.col from.extent.cols (omega arith)) in
     sym (met-wider from (is_same cell) (is_between row (row + 1) c.args.left c.args.right)
     (cell-in_row row c.loop-col.col c.args.left c.args.right c.loop-col.auto.col c.loop-col-test.true)
-    (sym (met-one from cell (own-at from from.extent refl c.shape.ensures.rising) held)
+    (sym (has-one from cell (own-at from from.extent refl c.shape.ensures.rising))
     ∙ sym c.has.ensures ∙ c.if-has.true))
 
 pub loop-col-preserved : goal.loop-col-preserved
@@ -29,10 +27,8 @@ loop-col-preserved c =
     let from = c.args.from.now in
     let row = c.args.row in
     let cell : Cell = record { row = row; col = c.loop-col.col } in
-    let held : holds from.extent cell ≡ true =
-    and_from _ _ (lt-ltb row from.extent.rows c.requires.row) (lt-ltb c.loop-col.col from.extent.cols (omega arith)) in
     let here : any_cell (is_same cell) from ≡ false =
-    sym (met-one from cell (own-at from from.extent refl c.shape.ensures.rising) held)
+    sym (has-one from cell (own-at from from.extent refl c.shape.ensures.rising))
     ∙ sym c.has.ensures ∙ c.if-has.false in
     sym (rw (c.loop-col.invariant, here) at (met-col from row c.args.left c.loop-col.col c.loop-col.auto.col))
 

@@ -4,7 +4,7 @@ use Rattle.std.specs.Prelude.{IfSome}
 use Rattle.sz_cells.specs.Extent.{Extent, holds}
 use Rattle.sz_spec.specs.Values.{extent_at}
 use Rattle.sz_spec.specs.Lineage.{mapped}
-use Rattle.sz_ops_move.proofs.OneCell.{adds-only}
+use Rattle.sz_region.proofs.OneCell.{adds-only}
 use Rattle.sz_ops_move.proofs.Inputs.{first-input, single-mapping}
 use Rattle.sz_ops_move.proofs.op_map.back_into.Goals as goal
 

@@ -8,6 +8,6 @@ use Rattle.sz_ops_region.proofs.aid.components_of.Given as goal
 abbrev pub invariant-loop-number : goal.invariant-loop-number
 invariant-loop-number l = record {
   long : length l.lists.items ≡ l.count;
-  rest : (j : ℕ) → l.number ≤ j → j < l.count → HasRuns l.numbers (size_of l.shape) j (get_or l.lists.items j []);
-  made : l.components.items ≡ map (cells_numbered l.shape l.numbers) (range_with_len 0 l.number);
+  rest : (j : ℕ) → l.number ≤ j → j < l.count → HasRuns l.marks (size_of l.shape) j (get_or l.lists.items j []);
+  made : l.components.items ≡ map (cells_numbered l.shape l.marks) (range_with_len 0 l.number);
 }

@@ -38,7 +38,7 @@ add_set-requires c =
     let grids = map (λ a. arc_value a) w.inputs.now in
     let g = input_at grids 0 in
     let shape = grid-shape w.at.now grids w.t w.labels c.requires.right in
-    ap (λ (z : Cells). z.extent) (c.cells.ensures ∙ c.in-Some.ensures.value) ∙ component-extent w.t g c.args.cell
+    ap (λ (z : Cells). z.extent) (c.cells.ensures.value ∙ c.in-Some.ensures.value) ∙ component-extent w.t g c.args.cell
     ∙ shape ∙ sym c.requires.to
 
 pub returns-in-None-clause-marked : goal.returns-in-None-clause-marked
@@ -52,9 +52,9 @@ pub returns-then-not-has-2-clause-to : goal.returns-then-not-has-2-clause-to
 returns-then-not-has-2-clause-to c =
     let w = c.args.work.now in
     let grids = map (λ a. arc_value a) w.inputs.now in
-    c.add_set.ensures ∙ ap (union_of c.args.to.now) (c.cells.ensures ∙ c.in-Some.ensures.value)
+    c.add_set.ensures ∙ ap (union_of c.args.to.now) (c.cells.ensures.value ∙ c.in-Some.ensures.value)
     ∙ traced-high w.at.now grids w.t c.args.from.now c.args.cell c.args.to.now w.labels
-    (sym c.has.ensures ∙ c.if-not-has.false) (sym c.in-Some.ensures.high)
+    (sym c.has.ensures ∙ c.if-not-has.false) c.in-Some.ensures.high
 
 pub returns-then-not-has-2-clause-marked : goal.returns-then-not-has-2-clause-marked
 returns-then-not-has-2-clause-marked c =
@@ -71,11 +71,11 @@ returns-then-not-has-2-clause-marked c =
     let marked : c.set-then-not-has-2.new.self ≡ with_cell marks (first_of w.t g c.args.cell) =
     c.set-then-not-has-2.ensures ∙ ap (with_cell marks) first in
     let more : c.add_set.new.self ≡ with_those to (is_connected w.t g c.args.cell) =
-    c.add_set.ensures ∙ ap (union_of to) (c.cells.ensures ∙ c.in-Some.ensures.value) in
+    c.add_set.ensures ∙ ap (union_of to) (c.cells.ensures.value ∙ c.in-Some.ensures.value) in
     subst (λ (m : Cells). AreMarked w.t g m c.add_set.new.self) (sym marked)
     (subst (AreMarked w.t g (with_cell marks (first_of w.t g c.args.cell))) (sym more)
     (marked-more w.t g marks to c.args.cell c.requires.marked (c.requires.to ∙ sym shape)
-    (subst (λ (e : Extent). holds e c.args.cell ≡ true) (sym shape) c.requires.cell) (sym c.in-Some.ensures.high)))
+    (subst (λ (e : Extent). holds e c.args.cell ≡ true) (sym shape) c.requires.cell) c.in-Some.ensures.high))
 
 pub returns-else-not-has-2-clause-to : goal.returns-else-not-has-2-clause-to
 returns-else-not-has-2-clause-to c =
@@ -90,7 +90,7 @@ returns-else-not-has-2-clause-to c =
     ∙ ap₂ (λ (e : Extent) (k : ℕ). cell_of e k) (c.out.ensures.value ∙ sym shape)
     (c.first.ensures.value ∙ ap (λ (z : Cells). first_index z.indexes) c.in-Some.ensures.value) in
     traced-marked w.at.now grids w.t c.args.from.now c.args.cell marks to w.labels
-    (sym c.has.ensures ∙ c.if-not-has.false) (sym c.in-Some.ensures.high)
+    (sym c.has.ensures ∙ c.if-not-has.false) c.in-Some.ensures.high
     (own-at to to.extent refl c.shape.ensures.rising)
     (subst (λ (e : Extent). holds e c.args.cell ≡ true) (sym shape) c.requires.cell) c.requires.marked
     (ap (has marks) (sym first) ∙ sym c.has-in-Some.ensures ∙ c.if-not-has-2.false)

@@ -1,12 +1,15 @@
 -- A cell that is met settles the answer, and one that is not leaves it open.
-use Rattle.std.proofs.Common.{sym, ◌∙◌, arith}
+use Rattle.std.proofs.Common.{refl, sym, ◌∙◌, arith}
 use Rattle.sz_region.proofs.Added.{own-at}
-use Rattle.sz_ops_window.proofs.Places.{any-none}
+use Rattle.sz_region.proofs.Passing.{met-none}
+use Rattle.sz_spec.specs.declared.modes.Dir.TheVariants.{Back}
+use Rattle.sz_ops_window.specs.Taps.{led_before}
 use Rattle.sz_ops_window.proofs.Taps.{meets-some, meets-step, meets-none, tap-count}
 use Rattle.sz_ops_window.proofs.under.meets_under.Goals as goal
 
 pub loop-number-init : goal.loop-number-init
-loop-number-init c = any-none c.args.from.now.indexes
+loop-number-init c =
+    met-none c.args.from.now (led_before Back c.args.shape c.args.mask.now c.args.cell 0) (λ x. refl)
 
 pub returns-then-has_cell : goal.returns-then-has_cell
 returns-then-has_cell c =

@@ -4,8 +4,4 @@ use Rattle.sz_ops_window.proofs.work.same_shape.Goals as goal
 
 pub returns-clause-ins : goal.returns-clause-ins
 returns-clause-ins c =
-    one-input c.args.at.now c.requires (record {
-      arity = c.ins.ensures.arity;
-      parameters = c.op.ensures.parameters;
-      shape = c.out-shape.ensures.rule;
-    })
+    one-input c.args.at.now c.requires c.right_shapes.ensures.site

@@ -4,7 +4,7 @@ use Rattle.std.specs.Arc.{arc_value}
 use Rattle.sz_spec.specs.Values.{extent_at}
 use Rattle.sz_spec.specs.Lineage.{related}
 use Rattle.sz_region.proofs.Added.{own-at}
-use Rattle.sz_ops_move.proofs.OneCell.{any-only}
+use Rattle.sz_region.proofs.OneCell.{any-only}
 use Rattle.sz_ops_move.proofs.work.Work.meets_cell.Goals as goal
 
 pub returns : goal.returns

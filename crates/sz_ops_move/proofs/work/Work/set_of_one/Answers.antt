@@ -6,9 +6,9 @@ use Rattle.sz_cells.specs.Extent.{Extent}
 use Rattle.sz_cells.specs.Cells.{Cells, cells_where}
 use Rattle.sz_spec.specs.Values.{extent_at}
 use Rattle.sz_spec.specs.Lineage.{related}
-use Rattle.sz_ops_move.specs.Moving.{is_cell}
-use Rattle.sz_ops_move.proofs.OneCell.{set-only}
-use Rattle.sz_ops_move.proofs.Windows.{shape-is}
+use Rattle.sz_region.specs.Single.{is_cell}
+use Rattle.sz_region.proofs.OneCell.{set-only}
+use Rattle.sz_region.proofs.Inputs.{shape-is}
 use Rattle.sz_ops_move.proofs.work.Work.set_of_one.Goals as goal
 
 pub returns : goal.returns

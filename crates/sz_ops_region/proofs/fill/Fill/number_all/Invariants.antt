@@ -1,16 +1,13 @@
--- Each high cell before this one has a number, and the numbers so far are right.
-use Rattle.std.proofs.Common.{◌≡◌, ◌≤◌, []}
-use Rattle.sz_cells.specs.Extent.{size_of}
-use Rattle.sz_ops_region.specs.Filling.{Filling, IsFresh, AreNumbered, no_index}
+-- The cells of the layers before this one have their marks.
+use Rattle.std.proofs.Common.{◌≡◌, ◌*◌, []}
+use Rattle.sz_cells.specs.Extent.{height_of}
+use Rattle.sz_ops_region.specs.Filling.{Numbering}
 use Rattle.sz_ops_region.proofs.fill.Fill.number_all.Given as goal
 
-abbrev pub invariant-loop-index : goal.invariant-loop-index
-invariant-loop-index l = record {
-  shape : l.shape ≡ l.array.extent;
-  end : l.index-end ≡ size_of l.array.extent;
-  filling : Filling l.t l.array l.self.numbers.items l.self.count no_index;
-  fresh : IsFresh l.self.numbers.items l.self.count;
-  numbered : AreNumbered l.t l.array l.self.numbers.items l.index;
+abbrev pub invariant-loop-layer : goal.invariant-loop-layer
+invariant-loop-layer l = record {
+  end : l.layer-end ≡ l.array.extent.layers;
+  numbering : Numbering l.t l.array l.self.marks l.self.count (l.layer * height_of l.array.extent
+      * l.array.extent.cols);
   stack : l.self.stack.items ≡ [];
-  few : l.self.count ≤ l.index;
 }

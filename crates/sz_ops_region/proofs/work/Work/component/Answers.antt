@@ -1,5 +1,5 @@
 -- What is prepared is the component of each cell, and that of a high cell has the cell itself.
-use Rattle.std.proofs.Common.{◌≡◌, ◌<◌, ℕ, true, map, length, List, sym, ap, subst, ◌∙◌, arith}
+use Rattle.std.proofs.Common.{◌≡◌, ℕ, true, map, length, List, sym, ap, subst, ◌∙◌, arith}
 use Rattle.std.specs.Arc.{arc_value}
 use Rattle.sz_cells.specs.Extent.{Extent, index_of, holds, size_of}
 use Rattle.sz_cells.specs.Cells.{Cells, no_cells}
@@ -9,8 +9,9 @@ use Rattle.std.proofs.Common.{get_or}
 use Rattle.sz_cells.specs.declared.Cell.{Cell}
 use Rattle.sz_spec.specs.Values.{Grid, input_at}
 use Rattle.sz_spec.specs.Operators.Regions.{component_of}
+use Rattle.sz_ops_region.specs.Parts.{IsPartAt}
 use Rattle.sz_ops_region.specs.Regions.{components_of}
-use Rattle.sz_ops_region.proofs.Labels.{aid-length, aid-at, full-high, none-low, grid-shape}
+use Rattle.sz_ops_region.proofs.Labels.{aid-length, aid-at, full-high, none-low, grid-shape, part-full}
 use Rattle.sz_ops_region.proofs.work.Work.component.Goals as goal
 
 pub component-requires : goal.component-requires
@@ -42,21 +43,26 @@ pub returns-in-Some-clause-value : goal.returns-in-Some-clause-value
 returns-in-Some-clause-value c =
     let w = c.args.self.now in
     let grids = map (λ a. arc_value a) w.inputs.now in
+    let g = input_at grids 0 in
     let shape = grid-shape w.at.now grids w.t w.labels c.requires.right in
     let at = c.index.ensures.value ∙ ap (λ (e : Extent). index_of e c.args.out) c.out.ensures.value in
-    c.in-Some.ensures.some ∙ prepared w.t (input_at grids 0) w.aid.now w.at.now.out c.index.result c.args.out
-    c.in-Some.component.now w.found shape at c.requires.out
+    let is = prepared w.t g w.aid.now w.at.now.out c.index.result c.args.out (no_cells g.extent) w.found shape at
+    c.requires.out in
+    subst (λ (k : ℕ). IsPartAt k c.in-Some.part (component_of w.t g c.args.out)) at
+    (subst (IsPartAt c.index.result c.in-Some.part) is (c.in-Some.ensures.some (no_cells g.extent)))
 
 pub returns-in-Some-clause-high : goal.returns-in-Some-clause-high
 returns-in-Some-clause-high c =
     let w = c.args.self.now in
     let grids = map (λ a. arc_value a) w.inputs.now in
+    let g = input_at grids 0 in
     let shape = grid-shape w.at.now grids w.t w.labels c.requires.right in
     let at = c.index.ensures.value ∙ ap (λ (e : Extent). index_of e c.args.out) c.out.ensures.value in
-    let is = c.in-Some.ensures.some ∙ prepared w.t (input_at grids 0) w.aid.now w.at.now.out c.index.result c.args.out
-    c.in-Some.component.now w.found shape at c.requires.out in
-    sym (full-high w.t (input_at grids 0) c.args.out
-    (subst (λ (s : Cells). 0 < length s.indexes) is c.in-Some.ensures.full))
+    let is = prepared w.t g w.aid.now w.at.now.out c.index.result c.args.out (no_cells g.extent) w.found shape at
+    c.requires.out in
+    sym (full-high w.t g c.args.out
+    (part-full c.index.result c.in-Some.part (component_of w.t g c.args.out)
+    (subst (IsPartAt c.index.result c.in-Some.part) is (c.in-Some.ensures.some (no_cells g.extent)))))
 
 pub returns-in-None-clause-high : goal.returns-in-None-clause-high
 returns-in-None-clause-high c =

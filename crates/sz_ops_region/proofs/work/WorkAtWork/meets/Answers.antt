@@ -1,10 +1,10 @@
--- A cell that is not high meets the set where it is in it.
+-- A cell that is related to itself alone meets the set where it is in it.
 use Rattle.std.proofs.Common.{map, sym, ap, subst, ◌∙◌, ◌≡◌, true}
 use Rattle.std.specs.Arc.{arc_value}
 use Rattle.sz_cells.specs.Extent.{Extent, holds}
 use Rattle.sz_spec.specs.Values.{extent_at}
 use Rattle.sz_region.proofs.Added.{own-at}
-use Rattle.sz_ops_region.proofs.Labels.{meets-low, one-input, one-shape}
+use Rattle.sz_ops_region.proofs.Labels.{meets-itself, one-input, one-shape}
 use Rattle.sz_ops_region.proofs.work.WorkAtWork.meets.Goals as goal
 
 pub returns-in-None : goal.returns-in-None
@@ -16,6 +16,6 @@ returns-in-None c =
     let first = one-input s w.t c.args._input w.labels c.requires.right.site c.requires.input in
     let same = ap (extent_at s.ins) first ∙ one-shape s w.t w.labels c.requires.right.site.shape in
     c.has.ensures
-    ∙ meets-low s grids w.t c.args._input c.args.out c.args.from.now e w.labels first (sym c.in-None.ensures.high)
+    ∙ meets-itself s grids c.args._input c.args.out c.args.from.now e first c.in-None.ensures.itself
     (own-at c.args.from.now e c.requires.from c.shape.ensures.rising)
     (subst (λ (f : Extent). holds f c.args.out ≡ true) (sym same) c.requires.out)

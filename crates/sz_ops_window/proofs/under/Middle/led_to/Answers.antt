@@ -1,7 +1,7 @@
 -- A tap leads to the cell of a place, or to none.
 use Rattle.std.proofs.Common.{◌≡◌, rules, sym, ap, ◌∙◌, arith}
 use Rattle.sz_spec.specs.Weights.{Weights}
-use Rattle.sz_ops_window.proofs.Places.{found, found-held, are-small, is-here}
+use Rattle.sz_region.proofs.Places.{found, found-held, are-small, own-place}
 use Rattle.sz_ops_window.proofs.Taps.{leads-at, used-some}
 use Rattle.sz_ops_window.proofs.under.Middle.led_to.Goals as goal
 
@@ -10,16 +10,16 @@ moved-requires-clause-start c =
     let m = c.args.self.now in
     let right = c.a_shape_is_within_limits.ensures in
     let small = are-small m.shape right in
-    let here = is-here m.shape m.cell right m.held in
-    omega (arith, small.height, here.row, m.row_is)
+    let here = own-place m.shape m.cell right m.held in
+    omega (arith, small.height, here.1, m.row_is)
 
 pub moved-requires-2-clause-start : goal.moved-requires-2-clause-start
 moved-requires-2-clause-start c =
     let m = c.args.self.now in
     let right = c.a_shape_is_within_limits.ensures in
     let small = are-small m.shape right in
-    let here = is-here m.shape m.cell right m.held in
-    omega (arith, small.cols, here.col)
+    let here = own-place m.shape m.cell right m.held in
+    omega (arith, small.cols, here.2)
 
 pub returns-clause-held : goal.returns-clause-held
 returns-clause-held c =
