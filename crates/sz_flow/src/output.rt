@@ -1,7 +1,7 @@
 //! The output of an operator over its inputs, and how its values are computed: one after another,
 //! or side by side.
 
-ghost use Rattle.std.specs.Prelude.{◌≡◌, ◌<◌, true, length, map, IfOk};
+ghost use Rattle.std.specs.Prelude.{◌≡◌, ◌<◌, ◌^◌, true, length, map, IfOk};
 ghost use Rattle.std.specs.Arc.{arc_value};
 ghost use Rattle.sz_cells.specs.Extent.{size_of, cell_of};
 ghost use Rattle.sz_spec.specs.Values.{extents_of};
@@ -57,7 +57,8 @@ pub(crate) fn is_by_aid(op: &Op) -> bool {
     matches!(op, Op::Regions { .. })
 }
 
-/// An operator's values at all cells of its output, computed side by side.
+/// An operator's values at all cells of its output, computed side by side. Each is written at its
+/// place in one vector of that many, so that no worker allocates.
 pub(crate) fn side_by_side<R: Threads + Sync>(
     rt: &R,
     alloc: Global,
@@ -70,18 +71,22 @@ pub(crate) fn side_by_side<R: Threads + Sync>(
     ensures { IfOk result (λ v. v.items
         ≡ values_before at.now (map (λ a. arc_value a) inputs.now) (size_of at.now.out)) }
 {
-    let values = (0..at.out().size())
-        .into_par_iter()
-        .map(
-            |index: u32| -> Value
-                requires inputs { extents_of (map (λ a. arc_value a) inputs.now) ≡ at.now.ins }
-                requires aid { aid.now ≡ aid_of at.now.op (map (λ a. arc_value a) inputs.now) }
-                requires index { index < size_of at.now.out }
-                ensures { result ≡ value_of at.entry.now.op
-                    (map (λ a. arc_value a) inputs.entry.now) (cell_of at.entry.now.out index) }
-            { value_of_index(at, inputs, aid, index) },
-        )
-        .collect(rt, alloc)?;
+    let size = at.out().size();
+    let mut values: Vec<Value> = vec![in alloc; None; size as usize]?;
+    par_for_each_mut(
+        rt,
+        &mut values,
+        |index: usize, value: &mut Value|
+            requires inputs { extents_of (map (λ a. arc_value a) inputs.now) ≡ at.now.ins }
+            requires aid { aid.now ≡ aid_of at.now.op (map (λ a. arc_value a) inputs.now) }
+            requires index { index < size_of at.now.out }
+            requires fits { index < 2 ^ 32 }
+            ensures { value.new ≡ value_of at.entry.now.op
+                (map (λ a. arc_value a) inputs.entry.now) (cell_of at.entry.now.out index) }
+        {
+            *value = value_of_index(at, inputs, aid, index as u32);
+        },
+    );
     Ok(values)
 }
 
