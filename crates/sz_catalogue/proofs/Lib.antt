@@ -11,4 +11,7 @@ pub mod Counts
 pub mod Judging
 pub mod Refusals
 pub mod PathStarts
+mod RowsSaid
 mod Rows
+mod RowsLimits
+mod RowsPaths

@@ -2,71 +2,20 @@
 --
 -- The key idea: on written-out commands every definition is a computation, so each row is its own proof. Expected
 -- texts by hand.
-use Rattle.std.proofs.Common.{◌≡◌, ℕ, pos, List, [], ◌∷◌, map, Some, None, refl}
-use Rattle.std.specs.Prelude.{codes, fold}
+use Rattle.std.proofs.Common.{◌≡◌, ℕ, pos, List, [], ◌∷◌, Some, None, refl}
+use Rattle.std.specs.Prelude.{codes}
 use Rattle.std.specs.Fmt.{digits}
-use Rattle.sz_cells.specs.Extent.{Extent, flat, layered}
+use Rattle.sz_cells.specs.Extent.{flat, layered}
 use Rattle.sz_spec.specs.declared.op.Op.TheVariants as op
-use Rattle.sz_spec.specs.declared.flow.SourceRef.TheVariants.{Input}
+use Rattle.sz_spec.specs.declared.flow.SourceRef.TheVariants.{Input, Node as Output}
 use Rattle.sz_spec.specs.declared.modes.Dir.TheVariants.{Back, Forward}
+use Rattle.sz_spec.specs.declared.modes.Strategy.{Strategy}
 use Rattle.sz_spec.specs.declared.modes.Strategy.TheVariants as strategy
-use Rattle.sz_spec.specs.Values.{Grid}
 use Rattle.sz_spec.specs.Flows.{Graph}
-use Rattle.sz_spec.specs.Paths.{Step}
-use Rattle.sz_script.specs.declared.command.BaseName.{BaseName}
-use Rattle.sz_script.specs.declared.command.Place.{Place}
-use Rattle.sz_script.specs.declared.command.Command.{Command}
 use Rattle.sz_script.specs.declared.command.Command.TheVariants as order
-use Rattle.sz_catalogue.specs.Holdings.{Holdings, no_holdings}
-use Rattle.sz_catalogue.specs.Responses.{reply_text}
-use Rattle.sz_catalogue.specs.Changes.{after_command}
-
--- what is held after some commands, and what a command is answered then
-abbrev after : Holdings → List Command → Holdings
-after c orders = fold (λ c order. (after_command c order).0) c orders
-
-abbrev says : Holdings → Command → List ℕ
-says c order = reply_text (after_command c order).1
-
-abbrev grid : Extent → List ℕ → Grid
-grid e ns = record { extent = e; values = map (λ n. Some (pos n)) ns }
-
-abbrev step : ℕ → ℕ → Step
-step node input = record { node = node; input = input }
-
-abbrev place : ℕ → ℕ → ℕ → Place
-place layer row col = record { layer = layer; row = row; col = col }
-
-abbrev base : List ℕ → ℕ → BaseName
-base name version = record { name = name; version = version }
-
--- one cell of 5, a negation of one input, and the smallest session
-abbrev five : Grid
-five = grid (flat 1 1) (5 ∷ [])
-
-abbrev negation : Graph
-negation = record { inputs = 1; nodes = record { op = op.Neg; from = Input 0 ∷ [] } ∷ [] }
-
-abbrev sum : Graph
-sum = record { inputs = 2; nodes = record { op = op.Add; from = Input 0 ∷ Input 1 ∷ [] } ∷ [] }
-
-abbrev a : List ℕ
-a = codes "a"
-
-abbrev f : List ℕ
-f = codes "f"
-
-abbrev hold_five : Command
-hold_five = order.Array a five
-
-abbrev held : Holdings
-held = after no_holdings (hold_five ∷ order.Flow f negation ∷ [])
-
-abbrev begun : Holdings
-begun = after held (order.Start f (base a 1 ∷ []) ∷ [])
-
-abbrev whole : Holdings
-whole = after begun (order.Await 1 ∷ [])
+use Rattle.sz_catalogue.specs.Holdings.{Holdings, no_holdings, flow_named, version_numbered}
+use Rattle.sz_catalogue.proofs.RowsSaid.{after, says, grid, step, place, base, five, negation, a, f}
+use Rattle.sz_catalogue.proofs.RowsSaid.{hold_five, held, begun, whole, two_shapes, version}
 
 -- ---- the smallest session
 
@@ -112,6 +61,21 @@ values-one = refl
 explain-map : says whole (order.Explain 1 Back (step 0 0 ∷ []) []) ≡ codes "explain map traced 0"
 unfolding digits
 explain-map = refl
+
+-- what is held of the version, and of the flow
+started-version : version_numbered begun 1 ≡ Some version
+started-version = refl
+
+held-flow : flow_named held f ≡ Some (record { graph = negation; lists = (strategy.Map ∷ []) ∷ [] })
+held-flow = refl
+
+-- an ask and a show await nothing
+explain-asked : says
+    (after begun (order.Ask 1 Back (step 0 0 ∷ []) [] ∷ order.Show 1 0 ∷ []))
+    (order.Explain 1 Back (step 0 0 ∷ []) [])
+    ≡ codes "refused 19"
+unfolding digits
+explain-asked = refl
 
 -- ---- strategies
 
@@ -169,10 +133,6 @@ unfolding digits
 start-none = refl
 
 -- shapes that fit and that do not
-abbrev two_shapes : Holdings
-two_shapes = after no_holdings
-    (hold_five ∷ order.Array f (grid (flat 1 2) (5 ∷ 6 ∷ [])) ∷ order.Flow f sum ∷ [])
-
 start-unequal : says two_shapes (order.Start f (base a 1 ∷ base f 1 ∷ [])) ≡ codes "refused 13 0"
 unfolding digits
 start-unequal = refl
@@ -264,32 +224,152 @@ show-no_version : says whole (order.Show 0 1) ≡ codes "refused 15"
 unfolding digits
 show-no_version = refl
 
--- ---- limits
+-- ---- where a later rule holds as well
 
--- three of the largest arrays and one that is a row smaller
-abbrev large : ℕ → Command
-large rows = order.Array a (record { extent = flat rows 1024; values = [] })
-
-abbrev full : Holdings
-full = after no_holdings (large 1024 ∷ large 1024 ∷ large 1024 ∷ large 1023 ∷ order.Flow f negation ∷ [])
-
-array-last : says full (large 1) ≡ codes "array a 5"
+-- three base arrays, of which the first two do not fit
+start-three_unequal : says two_shapes (order.Start f (base a 1 ∷ base f 1 ∷ base a 1 ∷ []))
+    ≡ codes "refused 12"
 unfolding digits
-array-last = refl
+start-three_unequal = refl
 
-array-past : says full (large 2) ≡ codes "refused 7"
+-- a node that is not there, and a strategy that keeps a store
+strategy-no_node_stored : says held (order.Strategy f 1 (strategy.FullOneB ∷ [])) ≡ codes "refused 18"
 unfolding digits
-array-past = refl
+strategy-no_node_stored = refl
 
-start-last : says (after full (order.Array f (record { extent = flat 1 512; values = [] }) ∷ []))
-    (order.Start f (base f 1 ∷ [])) ≡ codes "started 1"
+-- a list of which no strategy can be chosen, and one of which one keeps a store
+strategy-comp_stored : says held (order.Strategy f 0 (strategy.CompOne ∷ strategy.FullOneF ∷ []))
+    ≡ codes "refused 18"
 unfolding digits
-start-last = refl
+strategy-comp_stored = refl
 
-start-past : says (after full (order.Array f (record { extent = flat 1 513; values = [] }) ∷ []))
-    (order.Start f (base f 1 ∷ [])) ≡ codes "refused 14"
+-- the first of two nodes whose shapes do not fit
+abbrev two_sums : Graph
+two_sums = record {
+  inputs = 2;
+  nodes =
+      record { op = op.Neg; from = Input 0 ∷ [] }
+      ∷ record { op = op.Add; from = Output 0 ∷ Input 1 ∷ [] }
+      ∷ record { op = op.Add; from = Input 1 ∷ Input 0 ∷ [] } ∷ [];
+}
+
+start-second_node : says (after two_shapes (order.Flow (codes "g") two_sums ∷ []))
+    (order.Start (codes "g") (base a 1 ∷ base f 1 ∷ []))
+    ≡ codes "refused 13 1"
 unfolding digits
-start-past = refl
+start-second_node = refl
+
+-- ---- names, and what is held under them
+
+layers-two : says held (order.Layers a five) ≡ codes "array a 2"
+unfolding digits
+layers-two = refl
+
+array-other_name : says held (order.Array f five) ≡ codes "array f 1"
+unfolding digits
+array-other_name = refl
+
+flow-longer_name : says held (order.Flow (codes "ff") negation) ≡ codes "flow ff"
+unfolding digits
+flow-longer_name = refl
+
+start-longer_name : says held (order.Start (codes "ff") (base a 1 ∷ [])) ≡ codes "refused 10"
+unfolding digits
+start-longer_name = refl
+
+start-longer_array : says held (order.Start f (base (codes "aa") 1 ∷ [])) ≡ codes "refused 11"
+unfolding digits
+start-longer_array = refl
+
+-- version 2 of a name is the second that came under it, whatever came between
+abbrev between : Holdings
+between = after held (order.Array f (grid (flat 1 1) (6 ∷ [])) ∷ order.Array a (grid (flat 1 1) (7 ∷ [])) ∷ [])
+
+show-second : says (after between (order.Start f (base a 2 ∷ []) ∷ [])) (order.Show 1 0)
+    ≡ codes "values 1 1 -7"
+unfolding digits
+show-second = refl
+
+-- of two versions the second is awaited, and the first is not; each has its own array
+abbrev both : Holdings
+both = after between (order.Start f (base a 1 ∷ []) ∷ order.Start f (base a 2 ∷ []) ∷ order.Await 2 ∷ [])
+
+show-awaited : says both (order.Show 2 0) ≡ codes "values 1 1 -7"
+unfolding digits
+show-awaited = refl
+
+show-other : says both (order.Show 1 0) ≡ codes "values 1 1 -5"
+unfolding digits
+show-other = refl
+
+explain-awaited : says both (order.Explain 2 Back (step 0 0 ∷ []) []) ≡ codes "explain map traced 0"
+unfolding digits
+explain-awaited = refl
+
+explain-other : says both (order.Explain 1 Back (step 0 0 ∷ []) []) ≡ codes "refused 19"
+unfolding digits
+explain-other = refl
+
+start-third : says between (order.Start f (base a 3 ∷ [])) ≡ codes "refused 11"
+unfolding digits
+start-third = refl
+
+-- the strategies of a flow are those of no other
+explain-other_flow : says
+    (after held (order.Flow (codes "g") negation ∷ order.Strategy (codes "g") 0 (strategy.BlackBox ∷ [])
+    ∷ order.Start f (base a 1 ∷ []) ∷ order.Await 1 ∷ []))
+    (order.Explain 1 Back (step 0 0 ∷ []) [])
+    ≡ codes "explain map traced 0"
+unfolding digits
+explain-other_flow = refl
+
+-- ---- which strategies can be chosen
+
+-- a flow of regions, and what is said of a list of its node
+abbrev chosen : List Strategy → List ℕ
+chosen list = says (after no_holdings (order.Flow f (record {
+  inputs = 1;
+  nodes = record { op = op.Regions (pos 1); from = Input 0 ∷ [] } ∷ [];
+}) ∷ [])) (order.Strategy f 0 list)
+
+choose-map : chosen (strategy.Map ∷ []) ≡ codes "refused 18"
+unfolding digits
+choose-map = refl
+
+choose-box : chosen (strategy.BlackBox ∷ []) ≡ codes "strategy f 0"
+unfolding digits
+choose-box = refl
+
+choose-pay : chosen (strategy.PayOne ∷ strategy.PayMany ∷ []) ≡ codes "refused 21"
+unfolding digits
+choose-pay = refl
+
+choose-comp : chosen (strategy.CompOne ∷ strategy.CompMany ∷ strategy.BlackBox ∷ []) ≡ codes "refused 21"
+unfolding digits
+choose-comp = refl
+
+choose-full : chosen (strategy.FullOneB ∷ strategy.FullManyF ∷ []) ≡ codes "refused 21"
+unfolding digits
+choose-full = refl
+
+-- until some are set, black box is the only one
+choose-first : says (after no_holdings (hold_five ∷ order.Flow f (record {
+  inputs = 1;
+  nodes = record { op = op.Regions (pos 1); from = Input 0 ∷ [] } ∷ [];
+}) ∷ order.Start f (base a 1 ∷ []) ∷ order.Await 1 ∷ [])) (order.Explain 1 Back (step 0 0 ∷ []) [])
+    ≡ codes "explain blackbox traced 1"
+unfolding digits
+choose-first = refl
+
+-- of an operator with a mapping
+choose-all_full : says held (order.Strategy f 0 (strategy.FullOneB ∷ strategy.FullOneF ∷ strategy.FullManyB ∷ []))
+    ≡ codes "refused 21"
+unfolding digits
+choose-all_full = refl
+
+choose-last_full : says held (order.Strategy f 0 (strategy.FullManyF ∷ [])) ≡ codes "refused 21"
+unfolding digits
+choose-last_full = refl
 
 -- ---- layers
 

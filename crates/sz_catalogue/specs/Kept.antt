@@ -1,22 +1,19 @@
 -- What is kept true of what a session holds.
-use Rattle.std.specs.Prelude.{◌≡◌, ℕ, ◌≤◌, List, [], map, length, String, Vec, true, Ok}
-use Rattle.std.specs.Prelude.{string_bytes}
+use Rattle.std.specs.Prelude.{◌≡◌, ℕ, ◌≤◌, List, [], map, length, String, Vec, true, Option, Some}
+use Rattle.std.specs.Prelude.{None, Result, Ok, Err, if◌then◌else◌, string_bytes}
 use Rattle.std.specs.Option.{option_map_or}
-use Rattle.std.specs.Prelude.{◌∷◌, Bool, not, ◌||◌, nat_lt, is_some, unwrap_or}
-use Rattle.std.specs.Result.{result_err, result_unwrap_or}
 use Rattle.std.specs.Arc.{arc_value}
 use Rattle.std.specs.declared.sync.Arc.{Arc}
 use Rattle.std.specs.BTreeMap.{BTreeMap, get_by_text}
 use Rattle.sz_cells.specs.Extent.{Extent}
-use Rattle.sz_spec.specs.Flows.{Graph, is_well_formed}
+use Rattle.sz_spec.specs.Flows.{is_well_formed}
 use Rattle.sz_script.specs.declared.refusal.Refusal.{Refusal}
 use Rattle.sz_script.specs.declared.refusal.Refusal.TheVariants as refusal
 use Rattle.sz_spec.specs.FlowShapes.{output_shapes}
 use Rattle.sz_catalogue.specs.Holdings.{Named, Workflow, Version, Holdings, things_named, shapes_of}
-use Rattle.sz_catalogue.specs.Holdings.{held_cells}
-use Rattle.sz_catalogue.specs.Holdings.{cells_of, next_number}
-use Rattle.sz_catalogue.specs.Rules.{most_arrays, most_cells, are_lists_for, has_room}
-use Rattle.sz_catalogue.specs.Rules.{greatest_number}
+use Rattle.sz_catalogue.specs.Holdings.{held_cells, cells_of}
+use Rattle.sz_catalogue.specs.Rules.{most_arrays, most_cells, are_lists_for}
+use Rattle.sz_catalogue.specs.Rules.{has_no_room_for_outputs}
 
 -- what an index has under a name
 abbrev pub versions_in : {X Y Z W : Type 0} → BTreeMap (String Y) (Vec (Arc X Z) W) → List ℕ
@@ -51,13 +48,8 @@ pub record KeepsLimits (cells : ℕ) (c : Holdings) : Type 0 where
   pub few_cells : cells ≤ most_cells
   pub few_arrays : length c.arrays ≤ most_arrays
 
--- the rules of a start that speak of shapes, of a flow over base arrays of these shapes
-abbrev pub rules_of_shapes : Holdings → Graph → List Extent → List (Bool × Refusal)
-rules_of_shapes c flow base =
-    let found = output_shapes flow base in
-    (is_some (result_err found), refusal.ShapesDoNotFit (unwrap_or (result_err found) 0))
-    ∷ (
-      not (has_room c (cells_of (result_unwrap_or found [])))
-          || nat_lt greatest_number (next_number c),
-      refusal.NoRoomForVersion,
-    ) ∷ []
+-- what refuses a start of which these shapes of outputs, or a first broken node, are found
+abbrev pub refusal_by : Holdings → Result (List Extent) ℕ → Option Refusal
+refusal_by c (Err n) = Some (refusal.ShapesDoNotFit n)
+refusal_by c (Ok outputs) =
+    if has_no_room_for_outputs c (cells_of outputs) then Some refusal.NoRoomForVersion else None

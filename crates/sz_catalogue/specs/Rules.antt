@@ -118,11 +118,15 @@ abbrev pub has_room : Holdings → ℕ → Bool
 has_room c cells =
     nat_lt (length c.versions) most_versions && nat_le (held_cells c + cells) most_cells
 
--- no further version is held: there is no room for it, or its number would be too great
+-- no further version is held whose outputs have so many cells: there is no room for it, or its
+-- number would be too great
+abbrev pub has_no_room_for_outputs : Holdings → ℕ → Bool
+has_no_room_for_outputs c cells =
+    not (has_room c cells) || nat_lt greatest_number (next_number c)
+
 abbrev pub has_no_room_for_version : Holdings → List ℕ → List BaseName → Bool
 has_no_room_for_version c name base =
-    not (has_room c (output_cells (version_started c name base)))
-    || nat_lt greatest_number (next_number c)
+    has_no_room_for_outputs c (output_cells (version_started c name base))
 
 -- ---- versions
 

@@ -1,15 +1,23 @@
-//! Sessions in short: each public call on its happy path, and the limit on how many things are
-//! held. Which rule comes first is worked out row by row in proofs/Rows.antt.
-ghost use Rattle.std.specs.Prelude.{◌≡◌};
+//! Sessions in short: each public call on its happy path, and the limits on how many things are
+//! held. Which rule comes first is worked out row by row in proofs/Rows*.antt.
+ghost use Rattle.std.specs.Prelude.{◌≡◌, [], ◌∷◌, true, length, None, IfOk, OnOk, codes};
+ghost use Rattle.std.specs.Arc.{arc_value};
+ghost use Rattle.std.specs.Result.{result_err};
+ghost use Rattle.sz_spec.specs.declared.modes.Strategy.TheVariants as strategy;
+ghost use Rattle.sz_spec.specs.FlowShapes.{output_shapes};
+ghost use Rattle.sz_catalogue.specs.Holdings.{shapes_of, output_cells};
+ghost use Rattle.sz_catalogue.specs.Rules.{are_lists_for};
 ghost use Rattle.sz_catalogue.specs.Changes.{changes_what_is_held};
 
-use crate::{Catalogue, Reply, reply_text};
+use crate::shapes::{cells_of, output_shapes};
+use crate::version::base_shapes;
+use crate::{BaseArray, BaseArrays, Catalogue, HeldVersion, Reply, StrategyLists, reply_text};
 use std::alloc::Global;
 use std::sync::Arc;
 use std::test::Fail;
 use sz_cells::{Cell, CellSet, Shape};
-use sz_script::{Command, LineFault, StrategyList, read_line};
-use sz_spec::{Array, Strategy};
+use sz_script::{Command, LineFault, Name, StrategyList, read_line};
+use sz_spec::{Array, Flow, Node, Strategy};
 
 /// Whether a command changes what is held.
 fn changes(command: &Command) -> bool
@@ -84,6 +92,161 @@ fn the_last_of_4096_arrays_is_held(rt: HostRuntime) -> Result<(), Fail> {
     }
     assert!(rt; says(alloc, &mut held, array, "7 array a 4096\n")?);
     assert!(rt; says(alloc, &mut held, array, "7 refused 7\n")?);
+    Ok(())
+}
+
+/// The line of a flow under the name of a number.
+fn flow_line(alloc: Global, number: u32) -> Result<String, Fail> {
+    let mut line = format!(in alloc; "{{\"flow\":\"f{number}\",\"inputs\":1,")?;
+    line.push_str(r#""nodes":[{"op":"neg","from":[{"i":0}]}]}"#)?;
+    Ok(line)
+}
+
+#[test]
+fn the_last_of_1024_flows_is_held(rt: HostRuntime) -> Result<(), Fail> {
+    let alloc = rt.alloc();
+    let mut held = Catalogue::new(alloc);
+    for number in 0..1_023 {
+        let line = flow_line(alloc, number)?;
+        let _reply = take(alloc, &mut held, line.as_bytes())?;
+    }
+    let again = flow_line(alloc, 7)?;
+    assert!(rt; says(alloc, &mut held, again.as_bytes(), "7 refused 9\n")?);
+    let last = flow_line(alloc, 1_023)?;
+    assert!(rt; says(alloc, &mut held, last.as_bytes(), "7 flow f1023\n")?);
+    let next = flow_line(alloc, 1_024)?;
+    assert!(rt; says(alloc, &mut held, next.as_bytes(), "7 refused 9\n")?);
+    let fault = br#"{"flow":"f7","inputs":1,"nodes":[]}"#;
+    assert!(rt; says(alloc, &mut held, fault, "7 refused 8 1\n")?);
+    Ok(())
+}
+
+/// A catalogue with an array `a` of one cell, and a flow `f` of one negation.
+fn with_flow(alloc: Global) -> Result<Catalogue, Fail> {
+    let mut held = Catalogue::new(alloc);
+    let array = br#"{"array":"a","cells":[[5]]}"#;
+    let flow = br#"{"flow":"f","inputs":1,"nodes":[{"op":"neg","from":[{"i":0}]}]}"#;
+    let _array = take(alloc, &mut held, array)?;
+    let _flow = take(alloc, &mut held, flow)?;
+    Ok(held)
+}
+
+#[test]
+fn the_last_of_4096_versions_is_held(rt: HostRuntime) -> Result<(), Fail> {
+    let alloc = rt.alloc();
+    let mut held = with_flow(alloc)?;
+    let start = br#"{"start":"f","base":[["a",1]]}"#;
+    for _ in 0..4_095 {
+        let _reply = take(alloc, &mut held, start)?;
+    }
+    assert!(rt; says(alloc, &mut held, start, "7 started 4096\n")?);
+    assert!(rt; says(alloc, &mut held, start, "7 refused 14\n")?);
+    Ok(())
+}
+
+/// The version of the flow `f` of one node on the first array of `a`, by black box and awaited.
+fn version_of(alloc: Global, flow: Arc<Flow>, array: Arc<Array>) -> Result<HeldVersion, Fail>
+    ensures name { IfOk result (λ v. v.flow_name ≡ codes "f") }
+    ensures flow { IfOk result (λ v. v.flow ≡ arc_value flow) }
+    ensures base { IfOk result
+        (λ v. v.base ≡ record { name = codes "a"; version = 1; array = arc_value array } ∷ []) }
+    ensures awaited { IfOk result (λ v. v.awaited ≡ true) }
+    ensures lists { IfOk result (λ v. v.lists ≡ (strategy.BlackBox ∷ []) ∷ []) }
+{
+    let array = BaseArray {
+        name: Name::of(String::from_str(alloc, "a")?),
+        version: 1,
+        array,
+    };
+    let list = StrategyList::of(vec![in alloc; Strategy::BlackBox]?);
+    Ok(HeldVersion {
+        flow_name: Name::of(String::from_str(alloc, "f")?),
+        flow,
+        base: BaseArrays::of(vec![in alloc; array]?),
+        lists: StrategyLists::of(vec![in alloc; list]?),
+        awaited: true,
+    })
+}
+
+/// Whether nodes are a single one: for which, as for any, black box can be chosen.
+fn is_one(nodes: &[Node]) -> bool
+    ensures { result ≡ true
+        → are_lists_for nodes.now ((strategy.BlackBox ∷ []) ∷ []) ≡ true }
+{
+    match nodes {
+        [_] => true,
+        _ => false,
+    }
+}
+
+/// How many cells the outputs of a version have, where its flow has one node and takes one base
+/// array, and the shapes fit.
+fn output_cells(alloc: Global, version: &HeldVersion) -> Result<u64, Fail>
+    requires base { length version.now.base ≡ 1 }
+    requires lists { version.now.lists ≡ (strategy.BlackBox ∷ []) ∷ [] }
+    ensures count { OnOk result (length version.now.base ≡ version.now.flow.inputs) }
+    ensures fits { OnOk result
+        (result_err (output_shapes version.now.flow (shapes_of version.now.base)) ≡ None) }
+    ensures lists { OnOk result (are_lists_for version.now.flow.nodes version.now.lists ≡ true) }
+    ensures cells { IfOk result (λ n. n ≡ output_cells version.now) }
+{
+    let flow = &version.flow;
+    if flow.check().is_err() || flow.inputs() != 1 || !is_one(flow.nodes()) {
+        return Err(Fail::from("a flow of one node and one base array"));
+    }
+    let base = base_shapes(alloc, version.base.as_slice())?;
+    match output_shapes(alloc, flow, &base)? {
+        Ok(outputs) if outputs.len() <= 32 => Ok(cells_of(&outputs)),
+        _ => Err(Fail::from("shapes that fit")),
+    }
+}
+
+/// Adds a version of `f` on the first array of `a` under a number that is not held.
+fn add(alloc: Global, held: &mut Catalogue, number: u32) -> Result<(), Fail> {
+    let flow = Arc::try_clone(held.flow("f").ok_or("the flow")?)?;
+    let array = Arc::try_clone(held.array("a", 1).ok_or("the array")?)?;
+    let version = version_of(alloc, flow, array)?;
+    let cells = output_cells(alloc, &version)?;
+    if number == 0 || held.version(number).is_some() || !held.has_room(cells) {
+        return Err(Fail::from("a new number, and room"));
+    }
+    held.add_version(number, version)?;
+    Ok(())
+}
+
+/// Whether a version is the one that is added.
+fn is_added(version: Option<&HeldVersion>) -> bool {
+    let Some(version) = version else {
+        return false;
+    };
+    match (version.base.as_slice(), version.lists.as_slice()) {
+        ([only], [list]) => {
+            version.flow_name.as_str() == "f"
+                && version.awaited
+                && only.name.as_str() == "a"
+                && only.version == 1
+                && list.as_slice() == [Strategy::BlackBox].as_slice()
+        }
+        _ => false,
+    }
+}
+
+#[test]
+fn a_version_is_added_and_the_next_number_is_behind_the_greatest(
+    rt: HostRuntime,
+) -> Result<(), Fail> {
+    let alloc = rt.alloc();
+    let mut held = with_flow(alloc)?;
+    let start = br#"{"start":"f","base":[["a",1]]}"#;
+    let explain = br#"{"explain":7,"dir":"back","path":[[0,0]],"cells":[]}"#;
+    add(alloc, &mut held, 7)?;
+    assert!(rt; is_added(held.version(7)) && held.version(1).is_none());
+    assert!(rt; held.has_room(4_194_302) && !held.has_room(4_194_303));
+    assert!(rt; says(alloc, &mut held, explain, "7 done 0\n")?);
+    assert!(rt; says(alloc, &mut held, start, "7 started 8\n")?);
+    add(alloc, &mut held, 4_294_967_294)?;
+    assert!(rt; says(alloc, &mut held, start, "7 started 4294967295\n")?);
+    assert!(rt; says(alloc, &mut held, start, "7 refused 14\n")?);
     Ok(())
 }
 

@@ -1,13 +1,13 @@
 -- Layers of cells: how many values they give, when they are bad or too many, and that a line of bad or too many cells
 -- is refused for them.
-use Rattle.std.proofs.Common.{◌≡◌, ◌<◌, ◌≤◌, ◌+◌, ◌*◌, ℕ, ℤ, suc, List, [], ◌∷◌, ◌++◌, ◌&&◌, ◌==◌, length, map}
+use Rattle.std.proofs.Common.{◌≡◌, ◌<◌, ◌≤◌, ◌+◌, ◌*◌, ℕ, ℤ, suc, List, [], ◌∷◌, ◌&&◌, ◌==◌, length, map}
 use Rattle.std.proofs.Common.{Bool, true, false, not, nat_lt, nat_le, if◌then◌else◌, Option, Some, None, option_map}
 use Rattle.std.proofs.Common.{option_and_then, ap, ◌∙◌, refl, sym, arith, length-append, eq-eqb}
 use Rattle.std.proofs.Common.{unwrap_or, mul-le-mul_right}
 use Rattle.std.specs.Prelude.{Result, Ok, Err}
 use Rattle.std.specs.List.{list_all, flat_map}
 use Rattle.std.proofs.lemmas.Option.{none-some, same_Some}
-use Rattle.std.proofs.lemmas.Bool.{eqb-true, false≢true, ltb-true, leb-true, lt-ltb, leb-false}
+use Rattle.std.proofs.lemmas.Bool.{eqb-true, false≢true, ltb-true, lt-ltb, leb-false}
 use Rattle.std.proofs.Math.Nat.{add-mul}
 use Rattle.std.proofs.lemmas.List.{length-map}
 use Rattle.serde_json.specs.Data.{Data}
@@ -16,11 +16,11 @@ use Rattle.serde_json.specs.declared.value.Value.{Value}
 use Rattle.sz_cells.specs.Extent.{Extent, is_shape, is_layered, layered, size_of}
 use Rattle.sz_spec.specs.Values.{Grid}
 use Rattle.sz_spec.specs.declared.flow.FlowFault.{FlowFault}
-use Rattle.sz_script.specs.Fields.{passes, list_in, items_in}
+use Rattle.sz_script.specs.Fields.{passes, list_in}
 use Rattle.sz_script.specs.Layers.{is_value, is_row, is_layer, value_of, values_of_row, values_of_layer, height_of}
-use Rattle.sz_script.specs.Layers.{width_of, are_counted, are_layers, are_bad_cells, are_too_many_cells, grid_of}
+use Rattle.sz_script.specs.Layers.{width_of, are_counted, are_bad_cells, are_too_many_cells, grid_of}
 use Rattle.sz_script.specs.Layers.{filled, array_in}
-use Rattle.sz_script.specs.Drafts.{Draft, has_bad_name, unless_fault, judged, judged_or_none}
+use Rattle.sz_script.specs.Drafts.{Draft, unless_fault, judged, judged_or_none}
 use Rattle.sz_script.specs.Names.{is_name}
 use Rattle.sz_script.specs.Right.{names_in, fault_in}
 use Rattle.sz_script.specs.Reading.{Reads}

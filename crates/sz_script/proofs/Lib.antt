@@ -9,6 +9,7 @@ pub mod KernelsRead
 pub mod LawsLines
 mod RowsTold
 mod RowsForms
+mod RowsFields
 mod RowsRules
 mod RowsNodes
 mod RowsLayers

@@ -5,12 +5,15 @@ use Rattle.std.proofs.Common.{refl}
 use Rattle.serde_json.proofs.OnLiterals.{serde_json_on_literals}
 use Rattle.sz_spec.specs.declared.modes.Dir.TheVariants.{Back, Forward}
 use Rattle.sz_spec.specs.declared.modes.Strategy.TheVariants as strategy
+use Rattle.sz_spec.specs.declared.op.Op.{Op}
 use Rattle.sz_spec.specs.declared.op.Op.TheVariants as op
 use Rattle.sz_spec.specs.declared.op.Fold.TheVariants as fold
-use Rattle.sz_spec.specs.declared.flow.SourceRef.TheVariants.{Input, Node}
+use Rattle.sz_spec.specs.declared.flow.Node.{Node}
+use Rattle.sz_spec.specs.declared.flow.SourceRef.TheVariants.{Input, Node as Output}
 use Rattle.sz_script.specs.declared.command.Command.TheVariants as command
 use Rattle.sz_script.specs.declared.refusal.Refusal.TheVariants as refusal
 use Rattle.sz_script.specs.Reading.{reading}
+use Rattle.sz_script.proofs.RowsTold.{joined}
 
 line-array : reading (codes "{\"array\":\"a\",\"cells\":[[5,null],[-1,0]]}")
     ≡ Ok (command.Array (codes "a") (record {
@@ -94,7 +97,7 @@ node-second : reading (one_base
       inputs = 1;
       nodes =
           record { op = op.Clip (negsuc 1) (pos 5); from = Input 0 ∷ [] }
-          ∷ record { op = op.Sub; from = Node 0 ∷ Input 0 ∷ [] } ∷ [];
+          ∷ record { op = op.Sub; from = Output 0 ∷ Input 0 ∷ [] } ∷ [];
     }))
 unfolding serde_json_on_literals is_utf8 chars
 node-second = refl
@@ -129,3 +132,69 @@ node-convolve : reading (one_base
     }))
 unfolding serde_json_on_literals is_utf8 chars
 node-convolve = refl
+
+-- the operator of each word, and the fold, of nodes one after another
+abbrev unary : List ℕ → List ℕ
+unary text = codes "{\"op\":" ++ text ++ codes ",\"from\":[{\"i\":0}]}"
+
+abbrev binary : List ℕ → List ℕ
+binary text = codes "{\"op\":" ++ text ++ codes ",\"from\":[{\"i\":0},{\"i\":0}]}"
+
+abbrev from_one : Op → Node
+from_one o = record { op = o; from = Input 0 ∷ [] }
+
+abbrev from_two : Op → Node
+from_two o = record { op = o; from = Input 0 ∷ Input 0 ∷ [] }
+
+nodes-each_word : reading (one_base ++ joined (
+    unary (codes "\"neg\"")
+    ∷ unary (codes "\"abs\"")
+    ∷ unary (codes "\"add_k\",\"k\":1")
+    ∷ unary (codes "\"mul_k\",\"k\":2")
+    ∷ binary (codes "\"add\"")
+    ∷ binary (codes "\"sub\"")
+    ∷ binary (codes "\"mul\"")
+    ∷ binary (codes "\"min\"")
+    ∷ binary (codes "\"max\"")
+    ∷ unary (codes "\"transpose\"")
+    ∷ binary (codes "\"lookup\"")
+    ∷ unary (codes "\"fold_layers\",\"fold\":\"sum\"")
+    ∷ unary (codes "\"fold_layers\",\"fold\":\"min\"")
+    ∷ unary (codes "\"fold_layers\",\"fold\":\"max\"")
+    ∷ unary (codes "\"fold_layers\",\"fold\":\"count\"")
+    ∷ unary (codes "\"regions\",\"t\":3")
+    ∷ unary (codes "\"clean\",\"t\":4") ∷ [])
+    ++ codes "]}")
+    ≡ Ok (command.Flow (codes "f") (record {
+      inputs = 1;
+      nodes =
+          from_one op.Neg
+          ∷ from_one op.Abs
+          ∷ from_one (op.AddK (pos 1))
+          ∷ from_one (op.MulK (pos 2))
+          ∷ from_two op.Add
+          ∷ from_two op.Sub
+          ∷ from_two op.Mul
+          ∷ from_two op.Min
+          ∷ from_two op.Max
+          ∷ from_one op.Transpose
+          ∷ from_two op.Lookup
+          ∷ from_one (op.FoldLayers fold.Sum)
+          ∷ from_one (op.FoldLayers fold.Min)
+          ∷ from_one (op.FoldLayers fold.Max)
+          ∷ from_one (op.FoldLayers fold.Count)
+          ∷ from_one (op.Regions (pos 3))
+          ∷ from_one (op.Clean (pos 4)) ∷ [];
+    }))
+unfolding serde_json_on_literals is_utf8 chars
+nodes-each_word = refl
+
+-- the strategy of each word
+strategies-each_word : reading (codes "{\"strategy\":\"f\",\"node\":4294967295,\"list\":["
+    ++ codes "\"map\",\"full_one_b\",\"full_one_f\",\"full_many_b\",\"full_many_f\","
+    ++ codes "\"pay_one\",\"pay_many\",\"comp_one\",\"comp_many\",\"blackbox\"]}")
+    ≡ Ok (command.Strategy (codes "f") 4294967295
+    (strategy.Map ∷ strategy.FullOneB ∷ strategy.FullOneF ∷ strategy.FullManyB ∷ strategy.FullManyF ∷ strategy.PayOne
+    ∷ strategy.PayMany ∷ strategy.CompOne ∷ strategy.CompMany ∷ strategy.BlackBox ∷ []))
+unfolding serde_json_on_literals is_utf8 chars
+strategies-each_word = refl

@@ -4,7 +4,7 @@ use Rattle.std.specs.Prelude.{◌≡◌, [], ◌∷◌, ◌++◌, codes}
 use Rattle.std.specs.Str.{is_utf8, chars}
 use Rattle.std.proofs.Common.{refl}
 use Rattle.serde_json.proofs.OnLiterals.{serde_json_on_literals}
-use Rattle.sz_script.proofs.RowsTold.{read_as, flow_read_as, layers_of, nodes_of}
+use Rattle.sz_script.proofs.RowsTold.{read_as, flow_read_as, node_read_as, layers_of, nodes_of, lists_of}
 
 -- ---- no JSON
 
@@ -32,6 +32,29 @@ json-lone_surrogate : read_as (codes "{\"await\":\"\\ud800\"}") ≡ 1 ∷ []
 unfolding serde_json_on_literals is_utf8 chars
 json-lone_surrogate = refl
 
+-- a name that is none, in a line that is cut
+json-before_bad_name : read_as (codes "{\"array\":\"A\",\"cells\":[]") ≡ 1 ∷ []
+unfolding serde_json_on_literals is_utf8 chars
+json-before_bad_name = refl
+
+-- a number that a float can hold, and one that is too great for that
+json-number_in_range : read_as (codes "{\"await\":1.7e308}") ≡ 3 ∷ []
+unfolding serde_json_on_literals is_utf8 chars
+json-number_in_range = refl
+
+json-number_past_range : read_as (codes "{\"await\":1.8e308}") ≡ 1 ∷ []
+unfolding serde_json_on_literals is_utf8 chars
+json-number_past_range = refl
+
+-- as many lists as may nest, and one more
+json-127_lists : read_as (lists_of 127) ≡ 3 ∷ []
+unfolding serde_json_on_literals is_utf8 chars
+json-127_lists = refl
+
+json-128_lists : read_as (lists_of 128) ≡ 1 ∷ []
+unfolding serde_json_on_literals is_utf8 chars
+json-128_lists = refl
+
 -- ---- no form
 
 form-blanks_round : read_as (codes " {\"await\": 1 } ") ≡ []
@@ -45,10 +68,6 @@ form-no_object = refl
 form-no_field : read_as (codes "{}") ≡ 3 ∷ []
 unfolding serde_json_on_literals is_utf8 chars
 form-no_field = refl
-
-form-further_field : read_as (codes "{\"await\":1,\"more\":1}") ≡ 3 ∷ []
-unfolding serde_json_on_literals is_utf8 chars
-form-further_field = refl
 
 form-csv : read_as (codes "{\"csv\":\"a\",\"text\":\"1\"}") ≡ 3 ∷ []
 unfolding serde_json_on_literals is_utf8 chars
@@ -82,33 +101,9 @@ number-exponent : read_as (codes "{\"await\":1e2}") ≡ 3 ∷ []
 unfolding serde_json_on_literals is_utf8 chars
 number-exponent = refl
 
-number-text : read_as (codes "{\"await\":\"1\"}") ≡ 3 ∷ []
-unfolding serde_json_on_literals is_utf8 chars
-number-text = refl
-
-twice-last_stands : read_as (codes "{\"await\":\"x\",\"await\":1}") ≡ []
-unfolding serde_json_on_literals is_utf8 chars
-twice-last_stands = refl
-
-twice-first_does_not : read_as (codes "{\"await\":1,\"await\":\"x\"}") ≡ 3 ∷ []
-unfolding serde_json_on_literals is_utf8 chars
-twice-first_does_not = refl
-
-array-cells_of_no_list : read_as (codes "{\"array\":\"a\",\"cells\":1}") ≡ 3 ∷ []
-unfolding serde_json_on_literals is_utf8 chars
-array-cells_of_no_list = refl
-
 array-cells_of_no_list_before_name : read_as (codes "{\"array\":\"A\",\"cells\":{}}") ≡ 3 ∷ []
 unfolding serde_json_on_literals is_utf8 chars
 array-cells_of_no_list_before_name = refl
-
-array-name_of_no_text : read_as (codes "{\"array\":1,\"cells\":[[1]]}") ≡ 3 ∷ []
-unfolding serde_json_on_literals is_utf8 chars
-array-name_of_no_text = refl
-
-layers-cells_of_no_list : read_as (codes "{\"layers\":\"a\",\"cells\":null}") ≡ 3 ∷ []
-unfolding serde_json_on_literals is_utf8 chars
-layers-cells_of_no_list = refl
 
 start-base_of_one : read_as (codes "{\"start\":\"f\",\"base\":[[\"a\"]]}") ≡ 3 ∷ []
 unfolding serde_json_on_literals is_utf8 chars
@@ -130,10 +125,6 @@ strategy-unknown : read_as (codes "{\"strategy\":\"f\",\"node\":0,\"list\":[\"ma
 unfolding serde_json_on_literals is_utf8 chars
 strategy-unknown = refl
 
-strategy-no_text : read_as (codes "{\"strategy\":\"f\",\"node\":0,\"list\":[1]}") ≡ 3 ∷ []
-unfolding serde_json_on_literals is_utf8 chars
-strategy-no_text = refl
-
 ask-dir : read_as (codes "{\"ask\":1,\"dir\":\"Back\",\"path\":[],\"cells\":[]}") ≡ 3 ∷ []
 unfolding serde_json_on_literals is_utf8 chars
 ask-dir = refl
@@ -142,6 +133,10 @@ ask-step_of_three : read_as (codes "{\"ask\":1,\"dir\":\"back\",\"path\":[[0,0,0
 unfolding serde_json_on_literals is_utf8 chars
 ask-step_of_three = refl
 
+ask-step_of_one : read_as (codes "{\"ask\":1,\"dir\":\"back\",\"path\":[[0]],\"cells\":[]}") ≡ 3 ∷ []
+unfolding serde_json_on_literals is_utf8 chars
+ask-step_of_one = refl
+
 ask-cell_of_one : read_as (codes "{\"ask\":1,\"dir\":\"back\",\"path\":[],\"cells\":[[0]]}") ≡ 3 ∷ []
 unfolding serde_json_on_literals is_utf8 chars
 ask-cell_of_one = refl
@@ -149,10 +144,6 @@ ask-cell_of_one = refl
 ask-cell_of_four : read_as (codes "{\"ask\":1,\"dir\":\"back\",\"path\":[],\"cells\":[[0,0,0,0]]}") ≡ 3 ∷ []
 unfolding serde_json_on_literals is_utf8 chars
 ask-cell_of_four = refl
-
-show-no_node : read_as (codes "{\"show\":1}") ≡ 3 ∷ []
-unfolding serde_json_on_literals is_utf8 chars
-show-no_node = refl
 
 -- ---- names
 
@@ -207,6 +198,36 @@ name-of_start = refl
 name-in_base : read_as (codes "{\"start\":\"f\",\"base\":[[\"a\",1],[\"A\",1]]}") ≡ 4 ∷ []
 unfolding serde_json_on_literals is_utf8 chars
 name-in_base = refl
+
+-- the bytes beside those of a name
+name-before_a : read_as (codes "{\"array\":\"`\",\"cells\":[[1]]}") ≡ 4 ∷ []
+unfolding serde_json_on_literals is_utf8 chars
+name-before_a = refl
+
+name-behind_z : read_as (codes "{\"array\":\"{\",\"cells\":[[1]]}") ≡ 4 ∷ []
+unfolding serde_json_on_literals is_utf8 chars
+name-behind_z = refl
+
+name-before_0 : read_as (codes "{\"array\":\"/\",\"cells\":[[1]]}") ≡ 4 ∷ []
+unfolding serde_json_on_literals is_utf8 chars
+name-before_0 = refl
+
+name-behind_9 : read_as (codes "{\"array\":\":\",\"cells\":[[1]]}") ≡ 4 ∷ []
+unfolding serde_json_on_literals is_utf8 chars
+name-behind_9 = refl
+
+name-no_ascii : read_as (codes "{\"array\":\"\\u00e9\",\"cells\":[[1]]}") ≡ 4 ∷ []
+unfolding serde_json_on_literals is_utf8 chars
+name-no_ascii = refl
+
+name-of_base_empty : read_as (codes "{\"start\":\"f\",\"base\":[[\"\",1]]}") ≡ 4 ∷ []
+unfolding serde_json_on_literals is_utf8 chars
+name-of_base_empty = refl
+
+name-of_base_33 : read_as (codes "{\"start\":\"f\",\"base\":[[\"abcdefghijklmnopqrstuvwxyz_012398\",1]]}")
+    ≡ 4 ∷ []
+unfolding serde_json_on_literals is_utf8 chars
+name-of_base_33 = refl
 
 -- ---- cells
 
@@ -362,38 +383,52 @@ flow-arity
 unfolding serde_json_on_literals is_utf8 chars
 flow-arity = refl
 
-flow-clip : flow_read_as (codes "\"inputs\":1,\"nodes\":[{\"op\":\"clip\",\"lo\":1,\"hi\":0,\"from\":[{\"i\":0}]}]}")
-    ≡ 8 ∷ 5 ∷ 0 ∷ []
-unfolding serde_json_on_literals is_utf8 chars
-flow-clip = refl
-
-flow-source_twofold : flow_read_as (codes "\"inputs\":1,\"nodes\":[{\"op\":\"neg\",\"from\":[{\"i\":0,\"n\":0}]}]}")
-    ≡ 3 ∷ []
-unfolding serde_json_on_literals is_utf8 chars
-flow-source_twofold = refl
-
-flow-source_of_none : flow_read_as (codes "\"inputs\":1,\"nodes\":[{\"op\":\"neg\",\"from\":[{}]}]}") ≡ 3 ∷ []
-unfolding serde_json_on_literals is_utf8 chars
-flow-source_of_none = refl
-
-flow-source_of_another : flow_read_as (codes "\"inputs\":1,\"nodes\":[{\"op\":\"neg\",\"from\":[{\"m\":0}]}]}")
-    ≡ 3 ∷ []
-unfolding serde_json_on_literals is_utf8 chars
-flow-source_of_another = refl
-
 flow-node_of_no_object : flow_read_as (codes "\"inputs\":1,\"nodes\":[1]}") ≡ 3 ∷ []
 unfolding serde_json_on_literals is_utf8 chars
 flow-node_of_no_object = refl
 
-flow-unknown : flow_read_as (codes "\"inputs\":1,\"nodes\":[{\"op\":\"negate\",\"from\":[{\"i\":0}]}]}")
-    ≡ 3 ∷ []
-unfolding serde_json_on_literals is_utf8 chars
-flow-unknown = refl
-
-flow-no_op : flow_read_as (codes "\"inputs\":1,\"nodes\":[{\"from\":[{\"i\":0}]}]}") ≡ 3 ∷ []
-unfolding serde_json_on_literals is_utf8 chars
-flow-no_op = refl
-
 flow-no_form_before_bad_name : read_as (codes "{\"flow\":\"F\",\"inputs\":1,\"nodes\":[1]}") ≡ 3 ∷ []
 unfolding serde_json_on_literals is_utf8 chars
 flow-no_form_before_bad_name = refl
+
+-- ---- which fault of a flow is told where there are several
+
+flow-no_nodes_of_33 : flow_read_as (codes "\"inputs\":33,\"nodes\":[]}") ≡ 8 ∷ 1 ∷ []
+unfolding serde_json_on_literals is_utf8 chars
+flow-no_nodes_of_33 = refl
+
+flow-inputs_before_nodes : flow_read_as (codes "\"inputs\":33,\"nodes\":[{\"op\":\"add\",\"from\":[]}]}")
+    ≡ 8 ∷ 6 ∷ []
+unfolding serde_json_on_literals is_utf8 chars
+flow-inputs_before_nodes = refl
+
+node-arity_before_source : node_read_as (codes "\"op\":\"neg\",\"from\":[{\"i\":9},{\"i\":9}]")
+    ≡ 8 ∷ 4 ∷ 0 ∷ []
+unfolding serde_json_on_literals is_utf8 chars
+node-arity_before_source = refl
+
+node-arity_before_parameter : node_read_as (codes "\"op\":\"clip\",\"lo\":1,\"hi\":0,\"from\":[]")
+    ≡ 8 ∷ 4 ∷ 0 ∷ []
+unfolding serde_json_on_literals is_utf8 chars
+node-arity_before_parameter = refl
+
+node-source_before_parameter : node_read_as (codes "\"op\":\"clip\",\"lo\":1,\"hi\":0,\"from\":[{\"i\":9}]")
+    ≡ 8 ∷ 3 ∷ 0 ∷ 0 ∷ []
+unfolding serde_json_on_literals is_utf8 chars
+node-source_before_parameter = refl
+
+node-last_source : node_read_as (codes "\"op\":\"add\",\"from\":[{\"i\":1},{\"i\":1}]") ≡ []
+unfolding serde_json_on_literals is_utf8 chars
+node-last_source = refl
+
+node-second_source : node_read_as (codes "\"op\":\"add\",\"from\":[{\"i\":1},{\"i\":2}]")
+    ≡ 8 ∷ 3 ∷ 0 ∷ 1 ∷ []
+unfolding serde_json_on_literals is_utf8 chars
+node-second_source = refl
+
+flow-first_node
+    : flow_read_as (codes "\"inputs\":1,\"nodes\":[{\"op\":\"clip\",\"lo\":1,\"hi\":0,\"from\":[{\"i\":0}]},"
+    ++ codes "{\"op\":\"add\",\"from\":[]}]}")
+    ≡ 8 ∷ 5 ∷ 0 ∷ []
+unfolding serde_json_on_literals is_utf8 chars
+flow-first_node = refl

@@ -1,8 +1,8 @@
 -- Kernels as a line gives them: rows of whole numbers. Whether one is right is a rule of flows.
 use Rattle.std.specs.Prelude.{ℕ, ◌-◌, ◌^◌, ℤ, pos, List, map, length, Bool, ◌==◌, min}
 use Rattle.std.specs.Prelude.{if◌then◌else◌, Option, Some, is_some, unwrap_or}
-use Rattle.std.specs.List.{slice_get, list_all, flat_map}
-use Rattle.serde_json.specs.Data.{Data, null}
+use Rattle.std.specs.List.{list_all, flat_map}
+use Rattle.serde_json.specs.Data.{Data}
 use Rattle.sz_spec.specs.Weights.{Weights}
 use Rattle.sz_script.specs.Fields.{only_if, passes, whole_in, list_in, items_in, first_length}
 

@@ -1,6 +1,6 @@
 -- What a reader may take for granted of reading a line: each refusal comes exactly where its rule
 -- holds and none before it, and what is read is right.
-use Rattle.std.specs.Prelude.{◌≡◌, ℕ, ◌<◌, ◌≤◌, ◌↔◌, List, length, Bool, true, false, Option, Some}
+use Rattle.std.specs.Prelude.{◌≡◌, ℕ, ◌<◌, ◌≤◌, ◌↔◌, List, length, Bool, true, false, Some}
 use Rattle.std.specs.Prelude.{None, Ok, Err}
 use Rattle.serde_json.specs.Data.{Data}
 use Rattle.sz_spec.specs.declared.flow.FlowFault.{FlowFault}

@@ -2,7 +2,7 @@
 use Rattle.std.specs.Prelude.{ℕ, ◌*◌, ℤ, List, map, length, Bool, not, ◌&&◌, ◌==◌, nat_lt}
 use Rattle.std.specs.Prelude.{if◌then◌else◌, Result, Ok, Err}
 use Rattle.std.specs.Prelude.{nat_le, Option, Some, None, is_some, unwrap_or, option_map}
-use Rattle.std.specs.List.{slice_get, list_all, flat_map}
+use Rattle.std.specs.List.{list_all, flat_map}
 use Rattle.serde_json.specs.Data.{Data, null, boolean, number, string, array, object}
 use Rattle.serde_json.specs.Find.{as_i64}
 use Rattle.sz_cells.specs.Extent.{Extent, layered}

@@ -163,13 +163,13 @@ fn other_lines_are_refused(rt: HostRuntime) {
     assert!(rt; refused(alloc, br#"{"flow":"f","inputs":1,"nodes":[]}"#) == Some(8));
 }
 
-/// A line that holds an array of this many rows of 1,024 zeros, the last cell being this text.
-fn zeros(alloc: Global, rows: u32, last: &str) -> Result<Vec<u8>, AllocError> {
+/// A line that holds an array of so many rows of so many zeros, the last cell being this text.
+fn zeros(alloc: Global, rows: u32, cols: u32, last: &str) -> Result<Vec<u8>, AllocError> {
     let mut line = Vec::new(alloc);
     line.extend_from_slice(br#"{"array":"a","cells":["#)?;
     for row in 0..rows {
         line.extend_from_slice(if row == 0 { b"[" } else { b",[" })?;
-        for _ in 0..1023 {
+        for _ in 1..cols {
             line.extend_from_slice(b"0,")?;
         }
         line.extend_from_slice(if row + 1 == rows {
@@ -186,12 +186,14 @@ fn zeros(alloc: Global, rows: u32, last: &str) -> Result<Vec<u8>, AllocError> {
 #[test]
 fn cells_are_too_many_where_none_is_bad(rt: HostRuntime) -> Result<(), AllocError> {
     let alloc = rt.alloc();
-    let most = zeros(alloc, 1024, "0")?;
+    let most = zeros(alloc, 1_024, 1_024, "0")?;
     assert!(rt; refused(alloc, &most) == None);
-    let more = zeros(alloc, 1025, "0")?;
+    let more = zeros(alloc, 1_025, 1_024, "0")?;
     assert!(rt; refused(alloc, &more) == Some(6));
-    let bad = zeros(alloc, 1025, "-0")?;
+    let bad = zeros(alloc, 1_025, 1_024, "-0")?;
     assert!(rt; refused(alloc, &bad) == Some(5));
+    let row = zeros(alloc, 1, 1_048_577, "0")?;
+    assert!(rt; refused(alloc, &row) == Some(6));
     Ok(())
 }
 
@@ -202,6 +204,9 @@ fn a_line_is_as_long_as_the_limit(rt: HostRuntime) -> Result<(), AllocError> {
     line.extend_from_slice(br#"{"await":1}"#)?;
     line.resize(crate::LINE_LIMIT, b' ')?;
     assert!(rt; refused(alloc, &line) == None);
+    line.extend_from_slice(b" ")?;
+    assert!(rt; refused(alloc, &line) == Some(2));
+    line.resize(crate::LINE_LIMIT, b' ')?;
     line.extend_from_slice(b"x")?;
     assert!(rt; refused(alloc, &line) == Some(2));
     Ok(())

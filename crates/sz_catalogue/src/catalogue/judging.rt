@@ -1,15 +1,15 @@
 //! Which commands are refused: the rules of each, in their order.
-ghost use Rattle.std.specs.Prelude.{◌≡◌, ℕ, ◌≤◌, true, not, ◌||◌, nat_lt, length, List, []};
-ghost use Rattle.std.specs.Prelude.{◌∷◌, IfOk};
+ghost use Rattle.std.specs.Prelude.{◌≡◌, ℕ, ◌≤◌, true, length, List, [], ◌∷◌, Ok, IfOk};
 ghost use Rattle.std.specs.List.{list_all};
 ghost use Rattle.sz_spec.specs.Flows.{Graph, is_well_formed};
+ghost use Rattle.sz_spec.specs.FlowShapes.{output_shapes};
 ghost use Rattle.sz_script.specs.declared.command.Command.TheVariants as order;
 ghost use Rattle.sz_script.specs.declared.refusal.Refusal.TheVariants as rule;
-ghost use Rattle.sz_catalogue.specs.Holdings.{shapes_of, cells_of, next_number};
+ghost use Rattle.sz_catalogue.specs.Holdings.{shapes_of};
 ghost use Rattle.sz_catalogue.specs.Starts.{bases_of};
 ghost use Rattle.sz_catalogue.specs.Rules.{judged, first_of, has_no_array, has_place};
-ghost use Rattle.sz_catalogue.specs.Rules.{has_room, greatest_number, is_not_awaited};
-ghost use Rattle.sz_catalogue.specs.Kept.{rules_of_shapes};
+ghost use Rattle.sz_catalogue.specs.Rules.{is_not_awaited};
+ghost use Rattle.sz_catalogue.specs.Kept.{refusal_by};
 ghost use Rattle.sz_catalogue.specs.Seen.{Judges};
 ghost use Rattle.sz_script.specs.Right.{is_right};
 
@@ -143,7 +143,7 @@ impl Catalogue {
         requires right { is_well_formed flow.now ≡ true }
         requires count { length base.now ≡ flow.now.inputs }
         ensures { IfOk result
-            (λ r. r ≡ first_of (rules_of_shapes self.now flow.now base.now)) }
+            (λ r. r ≡ refusal_by self.now (output_shapes flow.now base.now)) }
     {
         match output_shapes(alloc, flow, base)? {
             Err(node) => Ok(Some(Refusal::ShapesDoNotFit { node })),
@@ -175,11 +175,7 @@ impl Catalogue {
     /// The rule that refuses a version whose outputs have these shapes.
     fn refusal_of_outputs(&self, outputs: &[Shape]) -> Option<Refusal>
         requires { length outputs.now ≤ 1024 }
-        ensures { result ≡ first_of ((
-          not (has_room self.now (cells_of outputs.now))
-              || nat_lt greatest_number (next_number self.now),
-          rule.NoRoomForVersion,
-        ) ∷ []) }
+        ensures { result ≡ refusal_by self.now (Ok outputs.now) }
     {
         let next = self.versions.next_number();
         if !self.has_room(cells_of(outputs)) || next > GREATEST_NUMBER {

@@ -1,5 +1,5 @@
 -- An item that is no whole number ends the walk; after the last item the weights are those of all.
-use Rattle.std.proofs.Common.{◌≡◌, ◌++◌, [], ◌∷◌, ℤ, List, Option, pos, Some}
+use Rattle.std.proofs.Common.{◌≡◌, ◌++◌, [], ◌∷◌, ℤ, Option, pos, Some}
 use Rattle.std.proofs.Common.{ap, ◌∙◌, sym, arith, is_some, unwrap_or, rules}
 use Rattle.std.specs.Int.{w64}
 use Rattle.std.proofs.lemmas.Int.{to_z-of_z}

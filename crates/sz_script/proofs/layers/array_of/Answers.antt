@@ -1,7 +1,7 @@
 -- Where the layers have no shape they are too many cells, or bad ones.
-use Rattle.std.proofs.Common.{◌≡◌, length, map, ap, ◌∙◌, sym, true, false, refl}
+use Rattle.std.proofs.Common.{map, ◌∙◌, sym, refl}
 use Rattle.serde_json.specs.View.{view}
-use Rattle.sz_script.specs.Layers.{is_layer, height_of, width_of}
+use Rattle.sz_script.specs.Layers.{is_layer}
 use Rattle.sz_script.proofs.Walks.{all_seen}
 use Rattle.sz_script.proofs.LayersRead.{sides_found, many_made, bad_made}
 use Rattle.sz_script.proofs.layers.array_of.Goals as goal

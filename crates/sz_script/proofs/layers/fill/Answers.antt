@@ -1,7 +1,7 @@
 -- A layer that is none ends the walk. After the last layer there are as many values as the shape has cells.
 use Rattle.std.proofs.Common.{◌≡◌, [], length, map, ◌*◌, ap, ◌∙◌, sym, arith}
 use Rattle.serde_json.specs.View.{view}
-use Rattle.sz_cells.specs.Extent.{Extent, size_of}
+use Rattle.sz_cells.specs.Extent.{size_of}
 use Rattle.sz_script.specs.Layers.{is_layer, values_of_layer}
 use Rattle.sz_script.proofs.Walks.{walked_bad, walked_passed, walked_given, seen_long}
 use Rattle.sz_script.proofs.LayersRead.{filled_bad, layers_long, none_made}

@@ -1,5 +1,5 @@
 -- What was appended so far is what the items so far give, each of which passes.
-use Rattle.std.proofs.Common.{[], ◌∷◌}
+use Rattle.std.proofs.Common.{[]}
 use Rattle.sz_script.specs.Layers.{is_layer, values_of_layer}
 use Rattle.sz_script.proofs.Walks.{IsWalkedUpTo}
 use Rattle.sz_script.proofs.layers.fill.Given as goal

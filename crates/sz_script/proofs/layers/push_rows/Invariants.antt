@@ -1,5 +1,4 @@
 -- What was appended so far is what the items so far give, each of which passes.
-use Rattle.std.proofs.Common.{[], ◌∷◌}
 use Rattle.sz_script.specs.Layers.{is_row, values_of_row}
 use Rattle.sz_script.proofs.Walks.{IsWalkedUpTo}
 use Rattle.sz_script.proofs.layers.push_rows.Given as goal

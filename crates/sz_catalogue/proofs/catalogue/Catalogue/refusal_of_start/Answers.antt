@@ -5,10 +5,11 @@ use Rattle.std.proofs.lemmas.List.{length-map}
 use Rattle.std.proofs.lemmas.Result.{IfOk-weaker}
 use Rattle.sz_cells.specs.Extent.{Extent}
 use Rattle.sz_spec.specs.Flows.{Graph}
+use Rattle.sz_spec.specs.FlowShapes.{output_shapes}
 use Rattle.sz_catalogue.specs.Holdings.{Base, Holdings, flow_named}
 use Rattle.sz_catalogue.specs.Starts.{bases_of}
-use Rattle.sz_catalogue.specs.Rules.{first_of, has_no_array}
-use Rattle.sz_catalogue.specs.Kept.{rules_of_shapes}
+use Rattle.sz_catalogue.specs.Rules.{has_no_array}
+use Rattle.sz_catalogue.specs.Kept.{refusal_by}
 use Rattle.sz_catalogue.proofs.Bases.{bases-length}
 use Rattle.sz_catalogue.proofs.Judging.{start-shapes}
 use Rattle.sz_catalogue.proofs.catalogue.Catalogue.refusal_of_start.Goals as goal
@@ -36,7 +37,7 @@ returns c =
     let count : (length c.args.base.now == c.in-Some.held.now.graph.inputs) ≡ true = grind (arith, nat_tests) in
     IfOk-weaker c.refusal_of_shapes.result _ _
     (λ r p. p
-    ∙ ap₂ (λ (g : Graph) (es : List Extent). first_of (rules_of_shapes c.args.self.now g es))
+    ∙ ap₂ (λ (g : Graph) (es : List Extent). refusal_by c.args.self.now (output_shapes g es))
     (c.deref-2.ensures ∙ c.flow-flow.ensures.value) (c.deref-3.ensures.value ∙ c.in_ok-shapes.ensures)
     ∙ sym (start-shapes c.args.self.now c.args.name.now c.args.base.now c.in-Some.held.now some held count))
     c.refusal_of_shapes.ensures

@@ -1,5 +1,5 @@
 -- What refuses the cells refuses the line, since its name is right.
-use Rattle.std.proofs.Common.{◌≡◌, [], ◌∷◌, map, ◌&&◌, Bool, true, ap, ◌∙◌, sym}
+use Rattle.std.proofs.Common.{map, ◌&&◌, Bool, true, ap, ◌∙◌, sym}
 use Rattle.serde_json.specs.View.{view}
 use Rattle.sz_script.specs.Layers.{grid_of, array_in}
 use Rattle.sz_script.specs.Forms.Layers.{with_layers}
