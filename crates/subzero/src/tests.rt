@@ -8,6 +8,10 @@ use std::process::ExitCode;
 use sz_session::Status;
 
 mod image;
+mod layers;
+mod limits;
+mod lines;
+mod playing;
 
 fn ending(number: u8, line: &'static str) -> Ending {
     Ending { number, line }

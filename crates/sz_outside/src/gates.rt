@@ -1,7 +1,7 @@
 //! The places at which a test may hold up a worker or an asker.
 
-/// Is called where a test may want to wait or to look. The program passes one that does nothing,
-/// and nothing calls it yet: workers and askers will.
+/// Is called where a test may want to wait or to look. The program passes one that does nothing. A
+/// session calls it after asks; pieces are for the workers that are to come.
 ///
 /// It is `Send` and `Sync`, since threads share it, and `Drop`, since a thread's body must be able
 /// to let go of the gate that it holds.
@@ -9,7 +9,7 @@ pub trait Gate: Send + Sync + Drop {
     /// Before a worker takes up this piece of the node.
     fn at_piece(&self, version: u32, node: u32, piece: u32);
 
-    /// After the ask of this line was answered.
+    /// When the answer of the ask or explain of this line was found.
     fn after_ask(&self, line: u64);
 }
 

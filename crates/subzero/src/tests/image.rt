@@ -1,17 +1,15 @@
 //! A night's image: a bad pixel and a star on a plain sky, taken through four nodes.
-
+use super::playing::said;
 use std::alloc::Global;
 use std::fmt::Write;
-use std::sync::Arc;
 use std::test::Fail;
-use sz_outside::{MemStation, NoGate, SteadySource};
-use sz_session::{Status, serve};
 
 /// How many rows, and how many columns, the image has.
 const SIDE: u32 = 512;
 
 /// The lines behind that of the image: cleaned, summed, labelled and folded, and asked from a block
-/// with the star's edge and from one with the bad pixel, and from the bad pixel and a cell beside it.
+/// with the star's edge and from one with the bad pixel, and from the bad pixel and a cell beside
+/// it.
 const LINES: &str = "{\"flow\":\"f\",\"inputs\":1,\"nodes\":[\
     {\"op\":\"clean\",\"t\":1000,\"from\":[{\"i\":0}]},\
     {\"op\":\"convolve\",\"kernel\":[[0,1,0],[1,1,1],[0,1,0]],\"from\":[{\"n\":0}]},\
@@ -84,12 +82,6 @@ fn a_bad_pixel_and_a_star_are_traced(rt: HostRuntime) -> Result<(), Fail> {
     let alloc = rt.alloc();
     let mut text = image_line(alloc)?;
     text.push_str(LINES)?;
-    let words = vec![in alloc; String::from_str(alloc, "play")?]?;
-    let gate = Arc::new(alloc, NoGate)?;
-    let mut source = SteadySource::new(text.into_bytes(), 65_536);
-    let mut station = MemStation::new(alloc, Vec::new(alloc), Vec::new(alloc), Vec::new(alloc))?;
-    let status = serve(&rt, alloc, &words, &mut source, &mut station, &gate);
-    assert_eq!(rt; status, Status::Done);
-    assert_eq!(rt; station.said(), REPLIES.as_bytes());
+    assert_eq!(rt; said(&rt, alloc, &text)?.as_str(), REPLIES);
     Ok(())
 }
