@@ -2,7 +2,8 @@
 # Times each operator, as LLVM builds it, on an array of SIDE by SIDE (1024 where no side is given): a run; a trace backward of one cell
 # and of all cells; and where the operator has a mapping, the mapped image backward of one cell and of all cells. Each time is the best
 # of five, in microseconds, and behind it stands its ratio to a plain copy of the array's values in the same run. `regions` is also run
-# on a chessboard, on one block and on one winding line. It is no test: nothing is compared. It works in a folder of its own.
+# on a chessboard, on pairs of cells, on one block and on one winding line, and preparing it is timed by itself. It is no test: nothing is
+# compared. It works in a folder of its own.
 set -euo pipefail
 side=${1:-1024}
 root=$(cd "$(dirname "$0")/.." && pwd)
@@ -48,7 +49,7 @@ use std::alloc::Global;
 use std::sync::Arc;
 use std::time::Instant;
 use sz_cells::{CellBits, Run, Shape};
-use sz_ops::{image_by_map, run, trace};
+use sz_ops::{image_by_map, prepare, run, trace};
 use sz_spec::{Array, Dir, Fold, Kernel, Op, OpAt, Strategy, Tally, supports};
 
 const SIDE: u32 = SIDE_HERE;
@@ -63,6 +64,8 @@ enum Picture {
     Table,
     /// 9 at every second cell, as on a chessboard, and else 0.
     Chessboard,
+    /// 9 at two cells of three in every second row, and else 0.
+    Pairs,
     /// 9 everywhere.
     Block,
     /// One line of 9 that winds through all rows: full rows, joined at one end and then the other.
@@ -73,6 +76,7 @@ fn value_of(picture: Picture, row: u32, col: u32, drawn: u64) -> i64 {
     let nine = match picture {
         Picture::Drawn | Picture::Table => return (drawn % 1000) as i64,
         Picture::Chessboard => (row % 2) == (col % 2),
+        Picture::Pairs => row % 2 == 0 && col % 3 < 2,
         Picture::Block => true,
         Picture::Winding => {
             row % 2 == 0 || (row % 4 == 1 && col == SIDE - 1) || (row % 4 == 3 && col == 0)
@@ -135,6 +139,20 @@ fn runs(rt: &HostRuntime, at: &OpAt, inputs: &[Arc<Array>]) -> Option<u64>
         let made = run(rt.alloc(), at, inputs).ok()?;
         best = best.min(since(rt, start)?);
         drop(made);
+    }
+    Some(best)
+}
+
+/// The best of some times of preparing.
+fn prepares(rt: &HostRuntime, at: &OpAt, inputs: &[Arc<Array>]) -> Option<u64>
+    requires inputs { extents_of (map (λ a. arc_value a) inputs.now) ≡ at.now.ins }
+{
+    let mut best = u64::MAX;
+    for _ in 0..TURNS {
+        let start = Instant::now(rt).ok()?;
+        let aid = prepare(rt.alloc(), at, inputs).ok()?;
+        best = best.min(since(rt, start)?);
+        drop(aid);
     }
     Some(best)
 }
@@ -314,9 +332,19 @@ fn convolve(
     times(rt, name, &at, &inputs, copy)
 }
 
+/// The times of regions of at least `t`, and of preparing them.
+fn regions_of(rt: &HostRuntime, name: &str, t: i64, input: &Arc<Array>, copy: u64) -> Option<()> {
+    let inputs = [owner(input)?];
+    let at = placed(Op::Regions { t }, vec![in rt.alloc(); input.shape()].ok()?)?;
+    print!(rt; "{name}:").ok()?;
+    show(rt, "prepare", prepares(rt, &at, &inputs)?, copy)?;
+    println!(rt; "").ok()?;
+    times(rt, name, &at, &inputs, copy)
+}
+
 fn regions(rt: &HostRuntime, name: &str, shape: Shape, picture: Picture, copy: u64) -> Option<()> {
     let input = drawn(rt.alloc(), shape, picture)?;
-    one(rt, name, Op::Regions { t: 5 }, &input, copy)
+    regions_of(rt, name, 5, &input, copy)
 }
 
 fn all(rt: &HostRuntime) -> Option<()> {
@@ -328,8 +356,9 @@ fn all(rt: &HostRuntime) -> Option<()> {
     println!(rt; "copy of the values: {copy} us").ok()?;
     elementwise(rt, &input, copy)?;
     others(rt, &input, &table, copy)?;
-    one(rt, "regions, drawn", Op::Regions { t: 500 }, &input, copy)?;
+    regions_of(rt, "regions, drawn", 500, &input, copy)?;
     regions(rt, "regions, chessboard", shape, Picture::Chessboard, copy)?;
+    regions(rt, "regions, pairs", shape, Picture::Pairs, copy)?;
     regions(rt, "regions, one block", shape, Picture::Block, copy)?;
     regions(rt, "regions, winding line", shape, Picture::Winding, copy)
 }
