@@ -12,6 +12,7 @@ mod layers;
 mod limits;
 mod lines;
 mod playing;
+mod smallest;
 
 fn ending(number: u8, line: &'static str) -> Ending {
     Ending { number, line }
