@@ -3,7 +3,7 @@
 ghost use Rattle.std.specs.Prelude.{◌≡◌, ◌<◌, true, length, map};
 ghost use Rattle.std.specs.Arc.{arc_value};
 ghost use Rattle.sz_spec.specs.Values.{input_at, extent_at};
-ghost use Rattle.sz_region.specs.Images.{IsAtWork};
+ghost use Rattle.sz_spec.specs.Work.{IsAtWork};
 ghost use Rattle.sz_ops_local.specs.Local.{is_local};
 
 use crate::maps::{back_into, meets, set};

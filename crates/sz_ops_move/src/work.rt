@@ -6,7 +6,8 @@ ghost use Rattle.sz_cells.specs.Extent.{holds};
 ghost use Rattle.sz_cells.specs.Cells.{any_cell, with_those};
 ghost use Rattle.sz_spec.specs.Values.{input_at, extent_at};
 ghost use Rattle.sz_spec.specs.Lineage.{related};
-ghost use Rattle.sz_region.specs.Images.{IsAtWork, related_cells};
+ghost use Rattle.sz_spec.specs.Work.{IsAtWork};
+ghost use Rattle.sz_region.specs.Images.{related_cells};
 ghost use Rattle.sz_region.specs.Single.{IsOnly};
 ghost use Rattle.sz_ops_move.specs.Moving.{is_moving, is_one};
 

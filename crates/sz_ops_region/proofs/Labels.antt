@@ -27,7 +27,7 @@ use Rattle.sz_spec.specs.Payloads.{payload_of, overrides}
 use Rattle.sz_spec.specs.Operators.Regions.{is_high, is_connected, component_of, label_of, labelled_at}
 use Rattle.sz_spec.proofs.Components.{component-made, connected-self}
 use Rattle.sz_spec.proofs.PayloadLineage.{extent-of_input}
-use Rattle.sz_region.specs.Images.{IsAtWork}
+use Rattle.sz_spec.specs.Work.{IsAtWork}
 use Rattle.sz_ops_region.specs.declared.aid.Part.{Part}
 use Rattle.sz_ops_region.specs.declared.aid.Part.TheVariants.{Alone, Shared}
 use Rattle.sz_ops_region.specs.Parts.{IsPartAt}

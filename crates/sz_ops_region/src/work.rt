@@ -11,7 +11,7 @@ ghost use Rattle.sz_spec.specs.LawsShapes.{AreExtents};
 ghost use Rattle.sz_spec.specs.Lineage.{related};
 ghost use Rattle.sz_spec.specs.declared.op.Op.TheVariants.{Regions};
 ghost use Rattle.sz_spec.specs.Operators.Regions.{is_high, component_of};
-ghost use Rattle.sz_region.specs.Images.{IsAtWork};
+ghost use Rattle.sz_spec.specs.Work.{IsAtWork};
 ghost use Rattle.sz_ops_region.specs.Regions.{is_regions, components_of};
 ghost use Rattle.sz_ops_region.specs.Parts.{IsPartAt};
 

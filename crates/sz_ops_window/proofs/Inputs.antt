@@ -17,7 +17,7 @@ use Rattle.sz_spec.specs.Weights.{Weights}
 use Rattle.sz_spec.specs.Operators.Convolve.{is_convolved}
 use Rattle.sz_spec.specs.Operators.Clean.{is_hot, is_in_square}
 use Rattle.sz_spec.specs.Lineage.{related}
-use Rattle.sz_region.specs.Images.{IsAtWork}
+use Rattle.sz_spec.specs.Work.{IsAtWork}
 use Rattle.sz_region.proofs.Inputs.{input-extent}
 use Rattle.sz_ops_window.specs.Windowed.{is_windowed}
 use Rattle.sz_ops_window.specs.Taps.{one, nine}

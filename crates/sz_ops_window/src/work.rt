@@ -9,7 +9,7 @@ ghost use Rattle.sz_spec.specs.Shapes.{IsSite};
 ghost use Rattle.sz_spec.specs.LawsShapes.{AreExtents};
 ghost use Rattle.sz_spec.specs.Lineage.{related};
 ghost use Rattle.sz_spec.specs.Operators.Convolve.{is_convolved};
-ghost use Rattle.sz_region.specs.Images.{IsAtWork};
+ghost use Rattle.sz_spec.specs.Work.{IsAtWork};
 ghost use Rattle.sz_ops_window.specs.Windowed.{is_windowed};
 
 use crate::mask::Mask;

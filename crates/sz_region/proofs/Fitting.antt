@@ -30,7 +30,7 @@ use Rattle.sz_spec.specs.declared.op.Op.{Op}
 use Rattle.sz_spec.specs.Values.{Grid, no_extent, extent_at}
 use Rattle.sz_spec.specs.Shapes.{Site}
 use Rattle.sz_spec.specs.Lineage.{related, mapped}
-use Rattle.sz_spec.specs.LawsLineage.{AreInputsOf}
+use Rattle.sz_spec.specs.Work.{IsAtWork}
 use Rattle.sz_spec.specs.Modes.{has_mapping, has_mode, mode_of, supports}
 use Rattle.sz_spec.specs.Payloads.{payload_of, overrides, mapped_by_payload}
 use Rattle.sz_spec.specs.Pieces.{is_in_piece}
@@ -277,7 +277,7 @@ apart s inputs test a (suc n) =
     ]
 
 -- an entry of one cell of a piece is one of the operator's
-entry-right : (s : Site) (inputs : List Grid) (k : ℕ) → AreInputsOf s inputs → has_mapping s.op ≡ false
+entry-right : (s : Site) (inputs : List Grid) (k : ℕ) → IsAtWork s inputs → has_mapping s.op ≡ false
     → (j : ℕ) → k * 64 ≤ j → j < k * 64 + cells_in_piece s.out k
     → IsEntry (measure_of s inputs) k (entry_at s inputs (cell_of s.out j))
 entry-right s inputs k right none j low high = record {
@@ -286,7 +286,7 @@ entry-right s inputs k right none j low high = record {
 }
 
 -- the entries of all cells of a piece fit, as a payload part
-pub pay-fits : (s : Site) (inputs : List Grid) (k : ℕ) → AreInputsOf s inputs → has_mapping s.op ≡ false
+pub pay-fits : (s : Site) (inputs : List Grid) (k : ℕ) → IsAtWork s inputs → has_mapping s.op ≡ false
     → FitsPay (measure_of s inputs) k (entries_from s inputs (λ _. true) (k * 64) (cells_in_piece s.out k))
 pay-fits s inputs k right none = record {
   each = All-range (IsEntry (measure_of s inputs) k) (λ j. entry_at s inputs (cell_of s.out j)) (λ _. true) (k *
@@ -300,7 +300,7 @@ pay-fits s inputs k right none = record {
 }
 
 -- those of the cells that override the default fit, as a composite part
-pub comp-fits : (s : Site) (inputs : List Grid) (k : ℕ) → AreInputsOf s inputs → has_mapping s.op ≡ false
+pub comp-fits : (s : Site) (inputs : List Grid) (k : ℕ) → IsAtWork s inputs → has_mapping s.op ≡ false
     → FitsComp (measure_of s inputs) k (entries_from s inputs (overrides s.op inputs) (k * 64) (cells_in_piece
     s.out k))
 comp-fits s inputs k right none = record {

@@ -13,7 +13,7 @@ use Rattle.sz_spec.specs.Lineage.{mapped, related}
 use Rattle.sz_spec.specs.Modes.{has_mapping}
 use Rattle.sz_spec.proofs.PayloadLineage.{extent-of_input}
 use Rattle.sz_spec.proofs.PayloadLineage as lineage
-use Rattle.sz_region.specs.Images.{IsAtWork}
+use Rattle.sz_spec.specs.Work.{IsAtWork}
 
 -- the shape at a place of a list of shapes
 pub shape-is : (xs : List Extent) (i : ℕ) (x : Extent) → i < length xs → x ≡ get_or xs i x

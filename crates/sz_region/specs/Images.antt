@@ -1,5 +1,5 @@
--- The image of a set of cells under one operator, in each direction, and an operator at work over
--- its inputs.
+-- The image of a set of cells under one operator, in each direction, and what an operator at work
+-- gives for one output cell.
 use Rattle.std.specs.Prelude.{◌≡◌, ℕ, List, Bool, length, map}
 use Rattle.std.specs.List.{range_with_len}
 use Rattle.sz_cells.specs.declared.Cell.{Cell}
@@ -7,17 +7,12 @@ use Rattle.sz_cells.specs.Extent.{Extent}
 use Rattle.sz_cells.specs.Cells.{Cells, is_same, cells_where}
 use Rattle.sz_spec.specs.declared.modes.Dir.{Dir}
 use Rattle.sz_spec.specs.declared.modes.Dir.TheVariants.{Back, Forward}
-use Rattle.sz_spec.specs.Values.{Grid, extent_at, extents_of}
-use Rattle.sz_spec.specs.Shapes.{Site, IsSite}
+use Rattle.sz_spec.specs.Values.{Grid, extent_at}
+use Rattle.sz_spec.specs.Shapes.{Site}
 use Rattle.sz_spec.specs.Lineage.{related, mapped, back, forward}
 use Rattle.sz_spec.specs.Payloads.{mapped_by_payload, is_payload, payload_of}
 use Rattle.sz_region.specs.Parts.{Pairing, Entry}
 use Rattle.sz_region.specs.Fits.{Measure}
-
--- an operator at work: its site is right, and its inputs have the shapes of the site
-pub record IsAtWork (s : Site) (inputs : List Grid) : Type 0 where
-  pub site : IsSite s
-  pub shapes : extents_of inputs ≡ s.ins
 
 -- the shape from which a step of a query starts, and the shape to which it leads
 abbrev pub near_side : Dir → Site → ℕ → Extent

@@ -11,7 +11,8 @@ ghost use Rattle.sz_spec.specs.LawsShapes.{AreExtents};
 ghost use Rattle.sz_spec.specs.Lineage.{related, mapped};
 ghost use Rattle.sz_spec.specs.Evaluation.{value_of, output_of};
 ghost use Rattle.sz_spec.specs.Payloads.{payload_of, overrides};
-ghost use Rattle.sz_region.specs.Images.{IsAtWork, related_cells};
+ghost use Rattle.sz_spec.specs.Work.{IsAtWork};
+ghost use Rattle.sz_region.specs.Images.{related_cells};
 
 use crate::payload::Payload;
 use std::alloc::Global;

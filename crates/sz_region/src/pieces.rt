@@ -5,13 +5,13 @@ ghost use Rattle.std.specs.Prelude.{false, length, All, IfOk, OnOk};
 ghost use Rattle.std.specs.Prelude.{if◌then◌else◌};
 ghost use Rattle.std.specs.Arc.{arc_value};
 ghost use Rattle.sz_cells.specs.Extent.{holds};
-ghost use Rattle.sz_spec.specs.LawsLineage.{AreInputsOf};
+ghost use Rattle.sz_spec.specs.Work.{IsAtWork};
 ghost use Rattle.sz_spec.specs.Modes.{has_mapping, supports};
 ghost use Rattle.sz_spec.specs.Payloads.{overrides};
 ghost use Rattle.sz_spec.specs.Pieces.{pieces_of};
 ghost use Rattle.sz_region.specs.Parts.{most_entries};
 ghost use Rattle.sz_region.specs.Fits.{Fits, is_mode, needs};
-ghost use Rattle.sz_region.specs.Images.{IsAtWork, measure_of, single, region_at, entry_at};
+ghost use Rattle.sz_region.specs.Images.{measure_of, single, region_at, entry_at};
 ghost use Rattle.sz_region.specs.Written.{more_if, with_written, cells_in_piece};
 
 use crate::frame::AtWork;
@@ -36,7 +36,7 @@ pub fn piece_by<A: AtWork>(
     list: &[Strategy],
     tally: &mut Tally,
 ) -> Result<PieceLineage, NoMemory>
-    requires right { AreInputsOf (A.site at.now) (A.inputs at.now) }
+    requires right { IsAtWork (A.site at.now) (A.inputs at.now) }
     requires piece { k < pieces_of (A.site at.now).out }
     requires supported { All (λ s. supports (A.site at.now).op s ≡ true) list.now }
     requires room { tally.old + cells_in_piece (A.site at.now).out k < 2 ^ 63 }

@@ -51,7 +51,8 @@ use Rattle.sz_spec.specs.Operators.Regions.{labelled_at}
 use Rattle.sz_spec.specs.Operators.Clean.{is_at_least, is_hot, is_in_square, is_near, cleaned_at}
 use Rattle.sz_spec.specs.LawsShapes.{AreExtents}
 use Rattle.sz_spec.specs.LawsRegions.{Leads}
-use Rattle.sz_spec.specs.LawsLineage.{AreInputsOf, AgreeFor, ValuesDependOnRelatedCells}
+use Rattle.sz_spec.specs.Work.{IsAtWork}
+use Rattle.sz_spec.specs.LawsLineage.{AgreeFor, ValuesDependOnRelatedCells}
 use Rattle.sz_spec.specs.LawsLineage.{RelationsDependOnRelatedCells}
 use Rattle.sz_spec.proofs.OutputShapes.{extent-right, output-right, same-shape_first}
 use Rattle.sz_spec.proofs.OutputShapes.{same-shape_second, sliced-within}
@@ -645,7 +646,7 @@ depends-of (FoldLayers fold) ins out old new o known = (
 -- ---- the laws
 
 -- what is known of a site
-known-of : (s : Site) (old new : List Grid) (o : Cell) → AreInputsOf s old → AreInputsOf s new
+known-of : (s : Site) (old new : List Grid) (o : Cell) → IsAtWork s old → IsAtWork s new
     → holds s.out o ≡ true
     → AgreeFor s old new o → Known s.op s.ins s.out old new o
 known-of s old new o first second held same = record {
@@ -662,7 +663,7 @@ known-of s old new o first second held same = record {
 }
 
 -- the shape of the output over the inputs of a site
-out-of_site : (s : Site) (inputs : List Grid) → AreInputsOf s inputs → output_extent s.op (extents_of inputs)
+out-of_site : (s : Site) (inputs : List Grid) → IsAtWork s inputs → output_extent s.op (extents_of inputs)
     ≡ s.out
 out-of_site s inputs known =
     ap (λ (es : List Extent). output_extent s.op es) known.shapes

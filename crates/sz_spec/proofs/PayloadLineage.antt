@@ -34,7 +34,8 @@ use Rattle.sz_spec.specs.Operators.Clean.{is_hot, is_in_square}
 use Rattle.sz_spec.specs.Payloads.{column_named, is_column, is_none_or, is_payload, entry_kept}
 use Rattle.sz_spec.specs.Payloads.{mapped_by_payload, payload_of, overrides}
 use Rattle.sz_spec.specs.LawsShapes.{AreExtents}
-use Rattle.sz_spec.specs.LawsLineage.{AreInputsOf, RelatedCellsAreOfInputs, MappingsAreTheRelation}
+use Rattle.sz_spec.specs.Work.{IsAtWork}
+use Rattle.sz_spec.specs.LawsLineage.{RelatedCellsAreOfInputs, MappingsAreTheRelation}
 use Rattle.sz_spec.specs.LawsLineage.{PayloadsAreLawful}
 use Rattle.sz_spec.specs.LawsLineage.{PayloadsAreTheRelation}
 use Rattle.sz_spec.specs.LawsLineage.{DefaultsAreTheRelation}
@@ -53,7 +54,7 @@ extent-of_input (g ∷ inputs) zero = refl
 extent-of_input (g ∷ inputs) (suc i) = extent-of_input inputs i
 
 -- so at the shapes of a site it is that of the site
-pub extent-of_site : (s : Site) (inputs : List Grid) (i : ℕ) → AreInputsOf s inputs
+pub extent-of_site : (s : Site) (inputs : List Grid) (i : ℕ) → IsAtWork s inputs
     → (input_at inputs i).extent ≡ extent_at s.ins i
 extent-of_site s inputs i known =
     sym (extent-of_input inputs i) ∙ ap (λ (ins : List Extent). extent_at ins i) known.shapes

@@ -5,18 +5,12 @@ use Rattle.sz_cells.specs.declared.Cell.{Cell}
 use Rattle.sz_cells.specs.Extent.{holds}
 use Rattle.sz_spec.specs.declared.op.Op.{Op}
 use Rattle.sz_spec.specs.Values.{Grid, value_at, input_at, extent_at, extents_of}
-use Rattle.sz_spec.specs.Shapes.{Site, IsSite, arity}
+use Rattle.sz_spec.specs.Shapes.{Site, arity}
 use Rattle.sz_spec.specs.Lineage.{mapped, related}
 use Rattle.sz_spec.specs.Evaluation.{value_of}
 use Rattle.sz_spec.specs.Modes.{has_mapping}
 use Rattle.sz_spec.specs.Payloads.{is_payload, mapped_by_payload, payload_of, overrides}
-use Rattle.sz_spec.specs.LawsShapes.{AreExtents}
-
--- the arrays are inputs of an operator at its shapes, and these are within the limits
-pub record AreInputsOf (s : Site) (inputs : List Grid) : Type 0 where
-  pub site : IsSite s
-  pub shapes : extents_of inputs ≡ s.ins
-  pub right : AreExtents s.ins
+use Rattle.sz_spec.specs.Work.{IsAtWork}
 
 -- a cell is related to cells of the operator's inputs alone
 abbrev pub RelatedCellsAreOfInputs : Type 0
@@ -30,19 +24,19 @@ MappingsAreTheRelation = (op : Op) (inputs : List Grid) (i : ℕ) (o x : Cell) �
 
 -- the payload that is kept for a cell is one of the operator's
 abbrev pub PayloadsAreLawful : Type 0
-PayloadsAreLawful = (s : Site) (inputs : List Grid) (o : Cell) → AreInputsOf s inputs
+PayloadsAreLawful = (s : Site) (inputs : List Grid) (o : Cell) → IsAtWork s inputs
     → has_mapping s.op ≡ false
     → is_payload s.op s.ins (payload_of s.op inputs o) ≡ true
 
 -- it stands for exactly the cells to which the cell is related
 abbrev pub PayloadsAreTheRelation : Type 0
-PayloadsAreTheRelation = (s : Site) (inputs : List Grid) (i : ℕ) (o x : Cell) → AreInputsOf s inputs
+PayloadsAreTheRelation = (s : Site) (inputs : List Grid) (i : ℕ) (o x : Cell) → IsAtWork s inputs
     → has_mapping s.op ≡ false
     → mapped_by_payload s.op s.ins (payload_of s.op inputs o) i o x ≡ related s.op inputs i o x
 
 -- of a cell for which a composite store keeps no entry, the relation is the default
 abbrev pub DefaultsAreTheRelation : Type 0
-DefaultsAreTheRelation = (s : Site) (inputs : List Grid) (i : ℕ) (o x : Cell) → AreInputsOf s inputs
+DefaultsAreTheRelation = (s : Site) (inputs : List Grid) (i : ℕ) (o x : Cell) → IsAtWork s inputs
     → overrides s.op inputs o ≡ false → related s.op inputs i o x ≡ mapped s.op s.ins i o x
 
 -- old and new inputs hold the same value at each cell to which o is related, by the old relation or
@@ -54,13 +48,13 @@ AgreeFor s old new o = (i : ℕ) (x : Cell) → i < length s.ins → holds (exte
 
 -- then o has one value
 abbrev pub ValuesDependOnRelatedCells : Type 0
-ValuesDependOnRelatedCells = (s : Site) (old new : List Grid) (o : Cell) → AreInputsOf s old
-    → AreInputsOf s new
+ValuesDependOnRelatedCells = (s : Site) (old new : List Grid) (o : Cell) → IsAtWork s old
+    → IsAtWork s new
     → holds s.out o ≡ true → AgreeFor s old new o → value_of s.op old o ≡ value_of s.op new o
 
 -- and is related to the same cells
 abbrev pub RelationsDependOnRelatedCells : Type 0
 RelationsDependOnRelatedCells = (s : Site) (old new : List Grid) (i : ℕ) (o x : Cell)
-    → AreInputsOf s old
-    → AreInputsOf s new → holds s.out o ≡ true → AgreeFor s old new o
+    → IsAtWork s old
+    → IsAtWork s new → holds s.out o ≡ true → AgreeFor s old new o
     → related s.op old i o x ≡ related s.op new i o x

@@ -17,4 +17,5 @@ pub mod LawsImages
 pub mod LawsShapes
 pub mod LawsFlows
 pub mod LawsModes
+pub mod Work
 pub mod LawsLineage

@@ -4,7 +4,7 @@ use Rattle.std.specs.Arc.{arc_value}
 use Rattle.sz_cells.specs.Cells.{Cells, has, with_those}
 use Rattle.sz_ops_region.proofs.Labels.{one-input}
 use Rattle.sz_ops_region.proofs.Tracing.{image-turned}
-use Rattle.sz_region.specs.Images.{IsAtWork}
+use Rattle.sz_spec.specs.Work.{IsAtWork}
 use Rattle.sz_ops_region.proofs.walk.trace.Goals as goal
 
 pub returns-clause-to : goal.returns-clause-to
