@@ -10,7 +10,8 @@ ghost use Rattle.sz_spec.specs.Lineage.{related, mapped};
 ghost use Rattle.sz_spec.specs.Modes.{has_mapping, supports};
 ghost use Rattle.sz_spec.specs.Pieces.{pieces_of};
 ghost use Rattle.sz_region.specs.Fits.{Fits};
-ghost use Rattle.sz_region.specs.Images.{near_side, far_side, image_in, measure_of};
+ghost use Rattle.sz_spec.specs.Sides.{near_side, far_side, image_in};
+ghost use Rattle.sz_region.specs.Images.{measure_of};
 ghost use Rattle.sz_region.specs.Written.{cells_in_piece};
 ghost use Rattle.sz_ops.specs.Aids.{aid_of};
 

@@ -9,7 +9,7 @@ ghost use Rattle.sz_cells.specs.Extent.{holds};
 ghost use Rattle.sz_spec.specs.Values.{extents_of};
 ghost use Rattle.sz_spec.specs.Modes.{has_mapping, supports};
 ghost use Rattle.sz_spec.specs.Pieces.{pieces_of};
-ghost use Rattle.sz_region.specs.Images.{near_side, far_side};
+ghost use Rattle.sz_spec.specs.Sides.{near_side, far_side};
 ghost use Rattle.sz_ops.specs.Aids.{aid_of};
 ghost use Rattle.sz_ops.specs.Maps.{site_of};
 

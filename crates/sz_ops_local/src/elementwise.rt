@@ -10,7 +10,7 @@ ghost use Rattle.sz_spec.specs.Lineage.{mapped};
 ghost use Rattle.sz_spec.specs.Evaluation.{value_of};
 ghost use Rattle.sz_spec.specs.LawsShapes.{AreExtents};
 ghost use Rattle.sz_spec.specs.Work.{IsAtWork};
-ghost use Rattle.sz_region.specs.Images.{near_side, far_side, image_in};
+ghost use Rattle.sz_spec.specs.Sides.{near_side, far_side, image_in};
 ghost use Rattle.sz_ops_local.specs.Local.{is_elementwise};
 
 use crate::numbers::of_numbers;

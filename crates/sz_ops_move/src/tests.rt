@@ -4,7 +4,7 @@ ghost use Rattle.std.specs.Prelude.{◌≡◌, ◌∷◌, [], ◌<◌, true, len
 ghost use Rattle.std.specs.Arc.{arc_value};
 ghost use Rattle.sz_cells.specs.Extent.{layered};
 ghost use Rattle.sz_spec.specs.Values.{extents_of};
-ghost use Rattle.sz_region.specs.Images.{near_side, far_side};
+ghost use Rattle.sz_spec.specs.Sides.{near_side, far_side};
 ghost use Rattle.sz_ops_move.specs.Moving.{is_moving};
 
 use crate::{image_by_map, piece, prepare, run, trace, value_at};

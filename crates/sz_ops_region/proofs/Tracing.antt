@@ -23,7 +23,7 @@ use Rattle.sz_spec.specs.Operators.Regions.{is_high, is_connected, component_of,
 use Rattle.sz_spec.proofs.Components.{label-high, connected-back, connected-parts, connected-held, connected-symmetric}
 use Rattle.sz_spec.proofs.Components.{connected-both_high, component-made}
 use Rattle.sz_spec.specs.Work.{IsAtWork}
-use Rattle.sz_region.specs.Images.{image_in}
+use Rattle.sz_spec.specs.Sides.{image_in}
 use Rattle.sz_region.specs.Walks.{traced}
 use Rattle.sz_region.proofs.Added.{with-ext}
 use Rattle.sz_ops_region.specs.Tracing.{first_index, first_of, AreMarked}

@@ -10,7 +10,7 @@ use Rattle.sz_spec.specs.declared.modes.Dir.TheVariants.{Back, Forward}
 use Rattle.sz_spec.specs.Shapes.{Site}
 use Rattle.sz_spec.specs.Lineage.{mapped, related}
 use Rattle.sz_spec.specs.Values.{Grid, extent_at}
-use Rattle.sz_region.specs.Images.{far_side, image_in}
+use Rattle.sz_spec.specs.Sides.{far_side, image_in}
 use Rattle.sz_region.proofs.Added.{own-at}
 use Rattle.sz_query.specs.Views.{View, by_map, by_trace, site_of, relation_of, image_by}
 

@@ -21,7 +21,7 @@ use Rattle.sz_spec.specs.Flows.{Graph, array_of}
 use Rattle.sz_spec.specs.Paths.{Step, source_of, is_output_of, is_there, follows, are_joined, inputs_of}
 use Rattle.sz_spec.specs.Paths.{start_extent}
 use Rattle.sz_spec.proofs.PayloadLineage.{extent-of_input}
-use Rattle.sz_region.specs.Images.{near_side, far_side}
+use Rattle.sz_spec.specs.Sides.{near_side, far_side}
 use Rattle.sz_query.specs.Views.{View, site_of, IsReady}
 use Rattle.sz_query.specs.Answers.{IsStep, AreSteps}
 use Rattle.sz_query.specs.Laws.{IsOfNode, JoinedPathsAreSteps}

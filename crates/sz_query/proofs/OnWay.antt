@@ -7,7 +7,7 @@ use Rattle.std.proofs.Math.Seq.{drop-cons}
 use Rattle.sz_cells.specs.Extent.{Extent}
 use Rattle.sz_cells.specs.Cells.{Cells, no_cells}
 use Rattle.sz_spec.specs.declared.modes.Dir.{Dir}
-use Rattle.sz_region.specs.Images.{far_side}
+use Rattle.sz_spec.specs.Sides.{far_side}
 use Rattle.sz_query.specs.declared.views.NodeView.{NodeView}
 use Rattle.sz_query.specs.Views.{View, view_of, site_of}
 use Rattle.sz_query.specs.Answers.{answered, traced_of, AreSteps}

@@ -3,7 +3,7 @@ use Rattle.std.specs.Prelude.{◌≡◌, ℕ, ◌+◌, ◌<◌, ◌≤◌, List,
 use Rattle.sz_cells.specs.Extent.{Extent}
 use Rattle.sz_cells.specs.Cells.{Cells}
 use Rattle.sz_spec.specs.declared.modes.Dir.{Dir}
-use Rattle.sz_region.specs.Images.{near_side, far_side}
+use Rattle.sz_spec.specs.Sides.{near_side, far_side}
 use Rattle.sz_query.specs.Views.{View, site_of, IsReady, traced_by, image_by}
 
 -- the set that is left when each view, with its input's number, has taken the set to its image

@@ -2,7 +2,7 @@
 use Rattle.std.specs.Prelude.{ℕ, List, [], ◌∷◌}
 use Rattle.sz_cells.specs.Cells.{Cells, no_cells}
 use Rattle.sz_spec.specs.declared.modes.Dir.{Dir}
-use Rattle.sz_region.specs.Images.{far_side}
+use Rattle.sz_spec.specs.Sides.{far_side}
 use Rattle.sz_query.specs.Views.{View, site_of}
 
 -- for each step an empty set, of the shape to which it leads

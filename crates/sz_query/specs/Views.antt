@@ -10,7 +10,7 @@ use Rattle.sz_spec.specs.declared.modes.Strategy.TheVariants as strategy
 use Rattle.sz_spec.specs.Values.{Grid, extents_of}
 use Rattle.sz_spec.specs.Shapes.{Site}
 use Rattle.sz_spec.specs.Lineage.{mapped, related}
-use Rattle.sz_region.specs.Images.{image_in}
+use Rattle.sz_spec.specs.Sides.{image_in}
 use Rattle.sz_spec.specs.Modes.{has_mapping}
 use Rattle.sz_query.specs.declared.views.NodeView.{NodeView}
 use Rattle.sz_query.specs.declared.views.NodeView.TheVariants.{Mapped, Traced}

@@ -2,7 +2,7 @@
 
 ghost use Rattle.std.specs.Prelude.{◌≡◌, ◌+◌, ◌<◌, ◌^◌, length, OnOk};
 ghost use Rattle.sz_cells.specs.Cells.{no_cells};
-ghost use Rattle.sz_region.specs.Images.{near_side, far_side};
+ghost use Rattle.sz_spec.specs.Sides.{near_side, far_side};
 ghost use Rattle.sz_query.specs.Views.{view_of, site_of, IsReady, used_of, traced_by, image_by};
 
 use crate::used::Used;

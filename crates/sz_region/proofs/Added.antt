@@ -29,7 +29,7 @@ use Rattle.sz_spec.specs.Values.{Grid, no_extent, extent_at, extents_of}
 use Rattle.sz_spec.specs.Shapes.{Site, output_extent}
 use Rattle.sz_spec.specs.Evaluation.{value_of, output_of}
 use Rattle.sz_spec.specs.Work.{IsAtWork}
-use Rattle.sz_region.specs.Images.{near_side, far_side, image_in}
+use Rattle.sz_spec.specs.Sides.{near_side, far_side, image_in}
 use Rattle.sz_region.specs.Walks.{values_before, traced, steps, stepped, added}
 
 -- ---- sets that are added to

@@ -1,32 +1,15 @@
--- The image of a set of cells under one operator, in each direction, and what an operator at work
--- gives for one output cell.
+-- What an operator at work gives for one output cell.
 use Rattle.std.specs.Prelude.{◌≡◌, ℕ, List, Bool, length, map}
 use Rattle.std.specs.List.{range_with_len}
 use Rattle.sz_cells.specs.declared.Cell.{Cell}
 use Rattle.sz_cells.specs.Extent.{Extent}
 use Rattle.sz_cells.specs.Cells.{Cells, is_same, cells_where}
-use Rattle.sz_spec.specs.declared.modes.Dir.{Dir}
-use Rattle.sz_spec.specs.declared.modes.Dir.TheVariants.{Back, Forward}
 use Rattle.sz_spec.specs.Values.{Grid, extent_at}
 use Rattle.sz_spec.specs.Shapes.{Site}
-use Rattle.sz_spec.specs.Lineage.{related, mapped, back, forward}
+use Rattle.sz_spec.specs.Lineage.{related, mapped}
 use Rattle.sz_spec.specs.Payloads.{mapped_by_payload, is_payload, payload_of}
 use Rattle.sz_region.specs.Parts.{Pairing, Entry}
 use Rattle.sz_region.specs.Fits.{Measure}
-
--- the shape from which a step of a query starts, and the shape to which it leads
-abbrev pub near_side : Dir → Site → ℕ → Extent
-near_side Back s i = s.out
-near_side Forward s i = extent_at s.ins i
-
-abbrev pub far_side : Dir → Site → ℕ → Extent
-far_side Back s i = extent_at s.ins i
-far_side Forward s i = s.out
-
--- the image of a set under a relation of output cells and cells of input i
-abbrev pub image_in : Dir → Site → ℕ → (Cell → Cell → Bool) → Cells → Cells
-image_in Back s i relation from = back relation (extent_at s.ins i) from
-image_in Forward s i relation from = forward relation s.out from
 
 -- the cells of input i to which output cell o is related
 abbrev pub related_cells : Site → List Grid → ℕ → Cell → Cells

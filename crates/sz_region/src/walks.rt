@@ -7,7 +7,7 @@ ghost use Rattle.sz_cells.specs.Cells.{has, with_those};
 ghost use Rattle.sz_spec.specs.Evaluation.{output_of};
 ghost use Rattle.sz_spec.specs.Lineage.{related, mapped};
 ghost use Rattle.sz_spec.specs.Work.{IsAtWork};
-ghost use Rattle.sz_region.specs.Images.{near_side, far_side, image_in};
+ghost use Rattle.sz_spec.specs.Sides.{near_side, far_side, image_in};
 ghost use Rattle.sz_region.specs.Walks.{traced, steps};
 
 use crate::frame::AtWork;

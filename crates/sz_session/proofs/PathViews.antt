@@ -22,7 +22,7 @@ use Rattle.sz_spec.specs.Values.{Grid, extent_at, extents_of}
 use Rattle.sz_spec.specs.Shapes.{Site}
 use Rattle.sz_spec.specs.Flows.{Graph}
 use Rattle.sz_spec.specs.Paths.{Step, source_of, is_there, follows, are_joined, is_joined, inputs_of}
-use Rattle.sz_region.specs.Images.{near_side, far_side}
+use Rattle.sz_spec.specs.Sides.{near_side, far_side}
 use Rattle.sz_flow.specs.Executions.{Execution}
 use Rattle.sz_query.specs.Views.{View, by_map, by_trace, site_of, IsReady, used_of, traced_by}
 use Rattle.sz_query.specs.Answers.{traced_of, IsStep, AreSteps}

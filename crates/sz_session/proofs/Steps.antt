@@ -22,7 +22,7 @@ use Rattle.sz_spec.specs.Flows.{Graph, array_of}
 use Rattle.sz_spec.specs.FlowShapes.{node_inputs, output_shapes}
 use Rattle.sz_spec.specs.Paths.{Step, source_of, is_output_of, is_there, follows, inputs_of, extent_of}
 use Rattle.sz_spec.proofs.FlowShapes.{inputs-shapes, shapes-found}
-use Rattle.sz_region.specs.Images.{near_side, far_side}
+use Rattle.sz_spec.specs.Sides.{near_side, far_side}
 use Rattle.sz_flow.specs.Executions.{Execution, execution}
 use Rattle.sz_flow.proofs.Executions.{outputs-evaluations, executions-at}
 use Rattle.sz_catalogue.specs.Holdings.{Base, Version, arrays_of, shapes_of}

@@ -9,6 +9,7 @@ pub mod Payloads
 pub mod Pieces
 pub mod Flows
 pub mod FlowShapes
+pub mod Sides
 pub mod Paths
 pub mod Rectangles
 pub mod LawsRegions

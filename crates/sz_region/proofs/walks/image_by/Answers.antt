@@ -3,7 +3,7 @@ use Rattle.std.proofs.Common.{◌≡◌, ℕ, ◌<◌, refl, sym, ap, subst, ◌
 use Rattle.sz_cells.specs.Extent.{Extent, size_of, cell_of}
 use Rattle.sz_cells.specs.Cells.{with_those}
 use Rattle.sz_spec.specs.Lineage.{mapped}
-use Rattle.sz_region.specs.Images.{near_side}
+use Rattle.sz_spec.specs.Sides.{near_side}
 use Rattle.sz_region.specs.Walks.{stepped, added}
 use Rattle.sz_region.proofs.Added.{with-none, own-at, next-is, next-none, stepped-next}
 use Rattle.sz_region.proofs.Added.{stepped-skip, stepped-all}

@@ -3,7 +3,7 @@ use Rattle.std.proofs.Common.{◌≡◌, ◌-◌, ◌≤◌}
 use Rattle.sz_cells.specs.Extent.{size_of}
 use Rattle.sz_cells.specs.Cells.{with_those}
 use Rattle.sz_spec.specs.Lineage.{mapped}
-use Rattle.sz_region.specs.Images.{near_side}
+use Rattle.sz_spec.specs.Sides.{near_side}
 use Rattle.sz_region.specs.Walks.{stepped, added}
 use Rattle.sz_region.proofs.walks.image_by.Given as goal
 

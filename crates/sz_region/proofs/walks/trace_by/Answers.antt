@@ -3,7 +3,7 @@ use Rattle.std.proofs.Common.{◌≡◌, ℕ, refl, ap, ◌∙◌, arith, rules}
 use Rattle.sz_cells.specs.Extent.{size_of}
 use Rattle.sz_cells.specs.Cells.{with_those}
 use Rattle.sz_spec.specs.Lineage.{related}
-use Rattle.sz_region.specs.Images.{near_side}
+use Rattle.sz_spec.specs.Sides.{near_side}
 use Rattle.sz_region.specs.Walks.{traced, added}
 use Rattle.sz_region.proofs.Added.{with-none, own-at, cell-next, traced-next, traced-all}
 use Rattle.sz_region.proofs.walks.trace_by.Goals as goal
