@@ -32,6 +32,7 @@
 
 mod array;
 mod flow;
+mod flow_shapes;
 mod kernel;
 pub mod laws;
 mod mapper;
@@ -47,6 +48,7 @@ mod tests;
 
 pub use array::{Array, ArrayList, Value};
 pub use flow::{Flow, FlowFault, Node, SourceList, SourceRef};
+pub use flow_shapes::{input_shapes, output_shapes, source_shape};
 pub use kernel::Kernel;
 pub use mapper::Mapper;
 pub use modes::{Dir, Mode, Strategy, has_mode, supports, way};
