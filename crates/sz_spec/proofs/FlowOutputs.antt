@@ -28,14 +28,14 @@ use Rattle.sz_spec.specs.LawsFlows.{OutputsAreThoseOfTheirNodes}
 -- ---- lists
 
 -- an element of the first of two lists
-slice_get-left : {X : Type 0} (xs ys : List X) (m : ℕ) → m < length xs
+pub slice_get-left : {X : Type 0} (xs ys : List X) (m : ℕ) → m < length xs
     → slice_get (xs ++ ys) m ≡ slice_get xs m
 slice_get-left [] ys m inside = absurd (omega arith)
 slice_get-left (x ∷ xs) ys zero inside = refl
 slice_get-left (x ∷ xs) ys (suc m) inside = slice_get-left xs ys m (omega arith)
 
 -- the element behind a list
-slice_get-seam : {X : Type 0} (xs : List X) (y : X) (ys : List X) (n : ℕ) → length xs ≡ n
+pub slice_get-seam : {X : Type 0} (xs : List X) (y : X) (ys : List X) (n : ℕ) → length xs ≡ n
     → slice_get (xs ++ y ∷ ys) n ≡ Some y
 slice_get-seam [] y ys zero long = refl
 slice_get-seam [] y ys (suc n) long = absurd (omega arith)
