@@ -1,5 +1,5 @@
--- What follows of what a value depends on: on the cells to which its cell is related, by the old inputs or by
--- the new ones, and on no others.
+-- What follows of what a value depends on: on the cells to which its cell is related by the old inputs, for
+-- regions by the new ones too, and on no others.
 --
 -- The key idea: each operator reads related cells alone. Where it reads one cell, that cell is a place of the
 -- input's shape and related; where it folds many, it folds over related cells, and two lists of equal values
@@ -52,8 +52,10 @@ use Rattle.sz_spec.specs.Operators.Clean.{is_at_least, is_hot, is_in_square, is_
 use Rattle.sz_spec.specs.LawsShapes.{AreExtents}
 use Rattle.sz_spec.specs.LawsRegions.{Leads}
 use Rattle.sz_spec.specs.Work.{IsAtWork}
-use Rattle.sz_spec.specs.LawsLineage.{AgreeFor, ValuesDependOnRelatedCells}
-use Rattle.sz_spec.specs.LawsLineage.{RelationsDependOnRelatedCells}
+use Rattle.sz_spec.specs.Evaluation.{value_of}
+use Rattle.sz_spec.specs.LawsDependence.{AgreeWhere, is_regions, ValuesDependOnRelatedCells}
+use Rattle.sz_spec.specs.LawsDependence.{RelationsDependOnRelatedCells, ValuesDependOnEitherRelation}
+use Rattle.sz_spec.specs.LawsDependence.{RelationsDependOnEitherRelation}
 use Rattle.sz_spec.proofs.OutputShapes.{extent-right, output-right, same-shape_first}
 use Rattle.sz_spec.proofs.OutputShapes.{same-shape_second, sliced-within}
 use Rattle.sz_spec.proofs.OutputShapes.{looked-up_shape}
@@ -71,8 +73,8 @@ as-sheet : (g : Grid) (e : Extent) → g.extent ≡ e → g ≡ sheet e g.values
 as-sheet g e same = ap (λ (d : Extent). sheet d g.values) same
 
 -- arrays that hold the same value at each cell of their shape that passes a test
-abbrev AgreeWhere : Extent → (Cell → Bool) → Grid → Grid → Type 0
-AgreeWhere e test a b = (x : Cell) → holds e x ≡ true → test x ≡ true → value_at a x ≡ value_at b x
+abbrev AgreeOn : Extent → (Cell → Bool) → Grid → Grid → Type 0
+AgreeOn e test a b = (x : Cell) → holds e x ≡ true → test x ≡ true → value_at a x ≡ value_at b x
 
 -- ---- numbers of many cells
 
@@ -87,7 +89,7 @@ filter_map-agree f g p a (suc n) same =
       | inr left ↦ rw left rest
     ]
 
-numbers-agree : (e : Extent) (p : Cell → Bool) (a b : Grid) → AgreeWhere e p a b
+numbers-agree : (e : Extent) (p : Cell → Bool) (a b : Grid) → AgreeOn e p a b
     → numbers_at a (cells_where e p) ≡ numbers_at b (cells_where e p)
 numbers-agree e p a b same =
     filter_map-agree (λ k. value_at a (cell_of e k)) (λ k. value_at b (cell_of e k)) (λ k. p (cell_of e k)) 0
@@ -98,7 +100,7 @@ numbers-agree e p a b same =
 
 -- the cell of a place is one of the shape
 in-layer_agree : (e : Extent) (layer row col : ℕ) (a b : Grid) (test : Cell → Bool) → is_extent e ≡ true
-    → is_place e layer row col ≡ true → test (cell_in e layer row col) ≡ true → AgreeWhere e test a b
+    → is_place e layer row col ≡ true → test (cell_in e layer row col) ≡ true → AgreeOn e test a b
     → value_at a (cell_in e layer row col) ≡ value_at b (cell_in e layer row col)
 in-layer_agree e layer row col a b test right place passes same =
     same (cell_in e layer row col) (place-has_cell e layer row col right place).0 passes
@@ -124,7 +126,7 @@ under-agree : (e : Extent) (w : Weights) (o : Cell) (t : Tap) (a b : Grid) → i
     → holds e o ≡ true
     → is_in_range e w o t ≡ true
     → ((test : Tap → Bool) → test t ≡ true → list_any test (taps_of w) ≡ true)
-    → AgreeWhere e (is_convolved e w o) a b
+    → AgreeOn e (is_convolved e w o) a b
     → value_at a (cell_under e w o t) ≡ value_at b (cell_under e w o t)
 under-agree e w o t a b right held inside member same =
     let outer = and_parts _ (nat_lt (o.col + t.col) (e.cols + w.cols / 2)) inside in
@@ -150,7 +152,7 @@ under-agree e w o t a b right held inside member same =
 
 convolved-agree : (e : Extent) (w : Weights) (o : Cell) (vs ws : List (Option ℤ)) → is_extent e ≡ true
     → holds e o ≡ true
-    → AgreeWhere e (is_convolved e w o) (sheet e vs) (sheet e ws)
+    → AgreeOn e (is_convolved e w o) (sheet e vs) (sheet e ws)
     → convolved_at w (sheet e vs) o ≡ convolved_at w (sheet e ws) o
 convolved-agree e w o vs ws right held same =
     let a = sheet e vs in
@@ -193,7 +195,7 @@ cleaned-own t g o =
     ]
 
 cleaned-agree : (e : Extent) (t : ℤ) (o : Cell) (vs ws : List (Option ℤ)) → holds e o ≡ true
-    → AgreeWhere e (cleaned_round t (sheet e vs) o) (sheet e vs) (sheet e ws)
+    → AgreeOn e (cleaned_round t (sheet e vs) o) (sheet e vs) (sheet e ws)
     → (cleaned_at t (sheet e vs) o ≡ cleaned_at t (sheet e ws) o)
     × ((x : Cell) → cleaned_round t (sheet e vs) o x ≡ cleaned_round t (sheet e ws) o x)
 cleaned-agree e t o vs ws held same =
@@ -205,7 +207,7 @@ cleaned-agree e t o vs ws held same =
     λ x. ap (λ (h : Bool). if h then is_in_square e o x else is_same x o) alike in
     elim (cases_Bool (is_hot t a o)) [
       | inl hot ↦
-          let square : AgreeWhere e (is_in_square e o) a b = λ x there near. same x there (rw hot near) in
+          let square : AgreeOn e (is_in_square e o) a b = λ x there near. same x there (rw hot near) in
           let least : List ℤ → Option ℤ = λ zs. reduce int_min (filter (λ z. not (int_le t z)) zs) in
           (rw (hot, sym alike ∙ hot) (ap least (numbers-agree e (is_in_square e o) a b square)), relation)
       | inr cold ↦ (rw (cold, sym alike ∙ cold) own, relation)
@@ -226,7 +228,7 @@ connected-own t g o held =
 
 -- a list that leads on from a connected cell leads on through the values of the other array
 leads-agree : (e : Extent) (t : ℤ) (o : Cell) (vs ws : List (Option ℤ))
-    → AgreeWhere e (is_connected t (sheet e vs) o) (sheet e vs) (sheet e ws)
+    → AgreeOn e (is_connected t (sheet e vs) o) (sheet e vs) (sheet e ws)
     → (c : Cell) (cells : List Cell) (x : Cell) → is_connected t (sheet e vs) o c ≡ true
     → Leads t (sheet e vs) c cells x → Leads t (sheet e ws) c cells x
 leads-agree e t o vs ws same c [] x inside led =
@@ -244,7 +246,7 @@ leads-agree e t o vs ws same c (d ∷ cells) x inside led =
 
 -- so what was connected is connected
 connected-onward : (e : Extent) (t : ℤ) (o x : Cell) (vs ws : List (Option ℤ))
-    → AgreeWhere e (is_connected t (sheet e vs) o) (sheet e vs) (sheet e ws)
+    → AgreeOn e (is_connected t (sheet e vs) o) (sheet e vs) (sheet e ws)
     → is_connected t (sheet e vs) o x ≡ true → is_connected t (sheet e ws) o x ≡ true
 connected-onward e t o x vs ws same inside =
     let led = connected-led t (sheet e vs) o x inside in
@@ -253,8 +255,8 @@ connected-onward e t o x vs ws same inside =
     led-connected t (sheet e ws) o led.0 x (leads-agree e t o vs ws same o led.0 x own led.1)
 
 regions-agree : (e : Extent) (t : ℤ) (o : Cell) (vs ws : List (Option ℤ)) → holds e o ≡ true
-    → AgreeWhere e (connected_or_own t (sheet e vs) o) (sheet e vs) (sheet e ws)
-    → AgreeWhere e (connected_or_own t (sheet e ws) o) (sheet e vs) (sheet e ws)
+    → AgreeOn e (connected_or_own t (sheet e vs) o) (sheet e vs) (sheet e ws)
+    → AgreeOn e (connected_or_own t (sheet e ws) o) (sheet e vs) (sheet e ws)
     → (labelled_at t (sheet e vs) o ≡ labelled_at t (sheet e ws) o)
     × ((x : Cell) → connected_or_own t (sheet e vs) o x ≡ connected_or_own t (sheet e ws) o x)
 regions-agree e t o vs ws held same also =
@@ -265,8 +267,8 @@ regions-agree e t o vs ws held same also =
     elim (cases_Bool (is_high t a o)) [
       | inl high ↦
           let high_b : is_high t b o ≡ true = sym alike ∙ high in
-          let there : AgreeWhere e (is_connected t a o) a b = λ x inside joined. same x inside (rw high joined) in
-          let back : AgreeWhere e (is_connected t b o) b a =
+          let there : AgreeOn e (is_connected t a o) a b = λ x inside joined. same x inside (rw high joined) in
+          let back : AgreeOn e (is_connected t b o) b a =
           λ x inside joined. sym (also x inside (rw high_b joined)) in
           let one : (x : Cell) → is_connected t a o x ≡ is_connected t b o x =
           λ x.
@@ -296,8 +298,9 @@ record Known (op : Op) (ins : List Extent) (out : Extent) (old new : List Grid) 
   old_extent : (i : ℕ) → (input_at old i).extent ≡ extent_at ins i
   new_extent : (i : ℕ) → (input_at new i).extent ≡ extent_at ins i
   agree : (i : ℕ) (x : Cell) → i < length ins → holds (extent_at ins i) x ≡ true
-      → (related op old i o x || related op new i o x) ≡ true
-      → value_at (input_at old i) x ≡ value_at (input_at new i) x
+      → related op old i o x ≡ true → value_at (input_at old i) x ≡ value_at (input_at new i) x
+  also : is_regions op ≡ true → (i : ℕ) (x : Cell) → i < length ins → holds (extent_at ins i) x ≡ true
+      → related op new i o x ≡ true → value_at (input_at old i) x ≡ value_at (input_at new i) x
 
 -- the value is one, and so is the relation
 abbrev IsOne : Op → Extent → List Grid → List Grid → Cell → Type 0
@@ -317,19 +320,18 @@ mapping-same op ins out old new o known h i x =
 mapping-agree : (op : Op) (ins : List Extent) (out : Extent) (old new : List Grid) (o : Cell)
     → Known op ins out old new o
     → has_mapping op ≡ true → (i : ℕ) → i < length ins
-    → AgreeWhere (extent_at ins i) (mapped_between (extent_at ins 0) out op i o) (input_at old i) (input_at new i)
+    → AgreeOn (extent_at ins i) (mapped_between (extent_at ins 0) out op i o) (input_at old i) (input_at new i)
 mapping-agree op ins out old new o known h i inside x held passes =
     let given : output_extent op ins ≡ out = ap (λ r. result_unwrap_or r no_extent) known.told in
     let there : mapped op ins i o x ≡ true =
     ap (λ (e : Extent). mapped_between (extent_at ins 0) e op i o x) given ∙ passes in
     known.agree i x inside held
-    (or_left (related op old i o x) (related op new i o x)
-    (related-mapped op old i o x h ∙ ap (λ (es : List Extent). mapped op es i o x) known.shapes_old ∙ there))
+    (related-mapped op old i o x h ∙ ap (λ (es : List Extent). mapped op es i o x) known.shapes_old ∙ there)
 
 -- arrays that agree do so as arrays of a shape that is theirs
 sheets-agree : (e : Extent) (test : Cell → Bool) (a b : Grid) → a.extent ≡ e → b.extent ≡ e
-    → AgreeWhere e test a b
-    → AgreeWhere e test (sheet e a.values) (sheet e b.values)
+    → AgreeOn e test a b
+    → AgreeOn e test (sheet e a.values) (sheet e b.values)
 sheets-agree e test a b first second same x held passes =
     sym (ap (λ (g : Grid). value_at g x) (as-sheet a e first))
     ∙ same x held passes
@@ -354,7 +356,7 @@ folded-agree op ins out old new o known h inside =
     let a = input_at old 0 in
     let b = input_at new 0 in
     let given : output_extent op ins ≡ out = ap (λ r. result_unwrap_or r no_extent) known.told in
-    let same : AgreeWhere e (mapped op ins 0 o) a b =
+    let same : AgreeOn e (mapped op ins 0 o) a b =
     λ x held passes.
     mapping-agree op ins out old new o known h 0 inside x held
     (sym (ap (λ (d : Extent). mapped_between e d op 0 o x) given) ∙ passes) in
@@ -443,7 +445,7 @@ weighed-agree kernel ins out old new o known =
     let right = extent-right ins 0 known.right inside in
     let shape : e ≡ out = let told = known.told in cc in
     let held : holds e o ≡ true = ap (λ (d : Extent). holds d o) shape ∙ known.held in
-    let same : AgreeWhere e (is_convolved e kernel o) a b =
+    let same : AgreeOn e (is_convolved e kernel o) a b =
     λ x there passes. mapping-agree (Convolve kernel) ins out old new o known refl 0 inside x there passes in
     ap (λ (g : Grid). convolved_at kernel g o) (as-sheet a e (known.old_extent 0))
     ∙ convolved-agree e kernel o a.values b.values right held
@@ -469,8 +471,7 @@ found-agree ins out old new o known =
     let held : holds (extent_at ins 0) o ≡ true = ap (λ (d : Extent). holds d o) shape.1 ∙ known.held in
     let own : value_at a o ≡ value_at b o =
     known.agree 0 o (omega (arith, known.few)) held
-    (or_left (related Lookup old 0 o o) (related Lookup new 0 o o)
-    (or_left (is_same o o) false (is_same-refl o))) in
+    (or_left (is_same o o) false (is_same-refl o)) in
     let cols : table.extent.cols ≡ other.extent.cols =
     ap (λ (d : Extent). d.cols) (known.old_extent 1 ∙ sym (known.new_extent 1)) in
     let one : match_of a table o ≡ match_of b other o =
@@ -485,8 +486,7 @@ found-agree ins out old new o known =
     (lt-ltb k (extent_at ins 1).cols (omega (arith, below))) in
     let passes : is_entry (match_of a table o) (entry_at k) ≡ true =
     ap (λ (m : Option ℕ). is_entry m (entry_at k)) told ∙ eq-eqb k k refl in
-    known.agree 1 (entry_at k) (omega (arith, known.few)) inside
-    (or_left (related Lookup old 1 o (entry_at k)) (related Lookup new 1 o (entry_at k)) passes) in (
+    known.agree 1 (entry_at k) (omega (arith, known.few)) inside passes in (
       matched-agree table other (match_of a table o) entry
           ∙ ap (option_and_then (λ k. value_at other (entry_at k))) one,
       λ i x. ap (λ (m : Option ℕ). ((i == 0) && is_same x o) || ((i == 1) && is_entry m x)) one,
@@ -505,12 +505,10 @@ labelled-agree t ins out old new o known =
     let shape : e ≡ out = let told = known.told in cc in
     let held : holds e o ≡ true = ap (λ (d : Extent). holds d o) shape ∙ known.held in
     let relation : Grid → Cell → Bool = λ g x. connected_or_own t g o x in
-    let same : AgreeWhere e (relation (sheet e a.values)) a b =
-    λ x there passes. known.agree 0 x inside there
-    (or_left (relation a x) (relation b x) (ap (λ (g : Grid). relation g x) first ∙ passes)) in
-    let also : AgreeWhere e (relation (sheet e b.values)) a b =
-    λ x there passes. known.agree 0 x inside there
-    (or_right (relation a x) (relation b x) (ap (λ (g : Grid). relation g x) second ∙ passes)) in
+    let same : AgreeOn e (relation (sheet e a.values)) a b =
+    λ x there passes. known.agree 0 x inside there (ap (λ (g : Grid). relation g x) first ∙ passes) in
+    let also : AgreeOn e (relation (sheet e b.values)) a b =
+    λ x there passes. known.also refl 0 x inside there (ap (λ (g : Grid). relation g x) second ∙ passes) in
     let both = regions-agree e t o a.values b.values held
     (sheets-agree e (relation (sheet e a.values)) a b (known.old_extent 0) (known.new_extent 0) same)
     (sheets-agree e (relation (sheet e b.values)) a b (known.old_extent 0) (known.new_extent 0) also) in (
@@ -533,9 +531,8 @@ tidied-agree t ins out old new o known =
     let shape : e ≡ out = let told = known.told in cc in
     let held : holds e o ≡ true = ap (λ (d : Extent). holds d o) shape ∙ known.held in
     let relation : Grid → Cell → Bool = λ g x. cleaned_round t g o x in
-    let same : AgreeWhere e (relation (sheet e a.values)) a b =
-    λ x there passes. known.agree 0 x inside there
-    (or_left (relation a x) (relation b x) (ap (λ (g : Grid). relation g x) first ∙ passes)) in
+    let same : AgreeOn e (relation (sheet e a.values)) a b =
+    λ x there passes. known.agree 0 x inside there (ap (λ (g : Grid). relation g x) first ∙ passes) in
     let both = cleaned-agree e t o a.values b.values held
     (sheets-agree e (relation (sheet e a.values)) a b (known.old_extent 0) (known.new_extent 0) same) in (
       ap (λ (g : Grid). cleaned_at t g o) first ∙ both.0 ∙ sym (ap (λ (g : Grid). cleaned_at t g o) second),
@@ -645,10 +642,14 @@ depends-of (FoldLayers fold) ins out old new o known = (
 
 -- ---- the laws
 
+-- o reads the cells to which it is related by the old inputs, and of regions by the new ones
+abbrev reads : Op → List Grid → List Grid → Cell → ℕ → Cell → Bool
+reads op old new o i x = related op old i o x || (is_regions op && related op new i o x)
+
 -- what is known of a site
 known-of : (s : Site) (old new : List Grid) (o : Cell) → IsAtWork s old → IsAtWork s new
     → holds s.out o ≡ true
-    → AgreeFor s old new o → Known s.op s.ins s.out old new o
+    → AgreeWhere s (reads s.op old new o) old new → Known s.op s.ins s.out old new o
 known-of s old new o first second held same = record {
   few = first.site.arity;
   told = first.site.shape;
@@ -659,7 +660,13 @@ known-of s old new o first second held same = record {
   shapes_new = second.shapes;
   old_extent = λ i. extent-of_site s old i first;
   new_extent = λ i. extent-of_site s new i second;
-  agree = same;
+  agree = λ i x inside there passes.
+      same i x inside there
+      (or_left (related s.op old i o x) (is_regions s.op && related s.op new i o x) passes);
+  also = λ regions i x inside there passes.
+      same i x inside there
+      (or_right (related s.op old i o x) (is_regions s.op && related s.op new i o x)
+      (and_from (is_regions s.op) (related s.op new i o x) regions passes));
 }
 
 -- the shape of the output over the inputs of a site
@@ -669,15 +676,56 @@ out-of_site s inputs known =
     ap (λ (es : List Extent). output_extent s.op es) known.shapes
     ∙ ap (λ r. result_unwrap_or r no_extent) known.site.shape
 
--- the value of a cell depends on related cells alone
-pub value-depends : ValuesDependOnRelatedCells
-value-depends s old new o first second held same =
+-- the value of a cell depends on the cells that it reads alone
+value-reads : (s : Site) (old new : List Grid) (o : Cell) → IsAtWork s old → IsAtWork s new → holds s.out o ≡ true
+    → AgreeWhere s (reads s.op old new o) old new → value_of s.op old o ≡ value_of s.op new o
+value-reads s old new o first second held same =
     let one = depends-of s.op s.ins s.out old new o (known-of s old new o first second held same) in
     ap (λ (e : Extent). value_in e s.op old o) (out-of_site s old first)
     ∙ one.0
     ∙ sym (ap (λ (e : Extent). value_in e s.op new o) (out-of_site s new second))
 
 -- and so do the cells to which it is related
-pub relation-depends : RelationsDependOnRelatedCells
-relation-depends s old new i o x first second held same =
+relation-reads : (s : Site) (old new : List Grid) (i : ℕ) (o x : Cell) → IsAtWork s old → IsAtWork s new
+    → holds s.out o ≡ true
+    → AgreeWhere s (reads s.op old new o) old new → related s.op old i o x ≡ related s.op new i o x
+relation-reads s old new i o x first second held same =
     (depends-of s.op s.ins s.out old new o (known-of s old new o first second held same)).1 i x
+
+-- it reads no others than the old ones, but for regions
+reads-old : (s : Site) (old new : List Grid) (o : Cell) → is_regions s.op ≡ false
+    → AgreeWhere s (λ i x. related s.op old i o x) old new → AgreeWhere s (reads s.op old new o) old new
+reads-old s old new o other same i x inside there passes =
+    same i x inside there (only (related s.op old i o x) (related s.op new i o x) (rw other at passes)) where
+  only : (a b : Bool) → (a || (false && b)) ≡ true → a ≡ true
+  only true b h = refl
+  only false b h = h
+
+-- and none than the old and the new ones
+reads-either : (s : Site) (old new : List Grid) (o : Cell)
+    → AgreeWhere s (λ i x. related s.op old i o x || related s.op new i o x) old new
+    → AgreeWhere s (reads s.op old new o) old new
+reads-either s old new o same i x inside there passes =
+    same i x inside there (wider (related s.op old i o x) (is_regions s.op) (related s.op new i o x) passes) where
+  wider : (a r b : Bool) → (a || (r && b)) ≡ true → (a || b) ≡ true
+  wider true r b h = refl
+  wider false true b h = h
+  wider false false b h = (cc)
+
+-- the laws of the old relation
+pub value-depends : ValuesDependOnRelatedCells
+value-depends s old new o first second held other same =
+    value-reads s old new o first second held (reads-old s old new o other same)
+
+pub relation-depends : RelationsDependOnRelatedCells
+relation-depends s old new i o x first second held other same =
+    relation-reads s old new i o x first second held (reads-old s old new o other same)
+
+-- the laws of both relations
+pub value-depends_either : ValuesDependOnEitherRelation
+value-depends_either s old new o first second held same =
+    value-reads s old new o first second held (reads-either s old new o same)
+
+pub relation-depends_either : RelationsDependOnEitherRelation
+relation-depends_either s old new i o x first second held same =
+    relation-reads s old new i o x first second held (reads-either s old new o same)

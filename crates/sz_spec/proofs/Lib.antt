@@ -20,3 +20,5 @@ pub mod Ways
 pub mod SetWords
 pub mod PayloadLineage
 pub mod Dependence
+pub mod Chains
+pub mod FlowDependence

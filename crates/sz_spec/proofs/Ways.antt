@@ -20,7 +20,8 @@ use Rattle.sz_spec.specs.declared.modes.Strategy.{Strategy}
 use Rattle.sz_spec.specs.declared.modes.Strategy.TheVariants as strategy
 use Rattle.sz_spec.specs.Modes.{has_mapping, order_of, number_of, is_listed, way}
 use Rattle.sz_spec.specs.LawsModes.{ThreeHaveNoMapping, MappedOperatorsSupport}
-use Rattle.sz_spec.specs.LawsModes.{OtherOperatorsSupport}
+use Rattle.sz_spec.specs.LawsModes.{OtherOperatorsSupport, MappedOperatorsSupportForward}
+use Rattle.sz_spec.specs.LawsModes.{OtherOperatorsSupportForward}
 use Rattle.sz_spec.specs.LawsModes.{NumbersTellStrategiesApart, OrdersHaveEachStrategyOnce}
 use Rattle.sz_spec.specs.LawsModes.{ListedStrategiesAreInTheList}
 use Rattle.sz_spec.specs.LawsModes.{WaysAreInTheList, WaysAreTheFirst}
@@ -69,6 +70,13 @@ supports-mapped op h = rw h refl
 -- and without one
 pub supports-others : OtherOperatorsSupport
 supports-others op h = rw h refl
+
+-- and forward
+pub supports-mapped_forward : MappedOperatorsSupportForward
+supports-mapped_forward op h = rw h refl
+
+pub supports-others_forward : OtherOperatorsSupportForward
+supports-others_forward op h = rw h refl
 
 -- ---- strategies and orders
 

@@ -1,13 +1,11 @@
--- What a reader may take for granted of mappings, payloads and composite defaults, and of what a
--- value depends on. Each law is proved of the definitions.
-use Rattle.std.specs.Prelude.{◌≡◌, ℕ, ◌<◌, List, length, true, false, ◌||◌}
+-- What a reader may take for granted of mappings, payloads and composite defaults. Each law is
+-- proved of the definitions.
+use Rattle.std.specs.Prelude.{◌≡◌, ℕ, ◌<◌, List, true, false}
 use Rattle.sz_cells.specs.declared.Cell.{Cell}
-use Rattle.sz_cells.specs.Extent.{holds}
 use Rattle.sz_spec.specs.declared.op.Op.{Op}
-use Rattle.sz_spec.specs.Values.{Grid, value_at, input_at, extent_at, extents_of}
+use Rattle.sz_spec.specs.Values.{Grid, extents_of}
 use Rattle.sz_spec.specs.Shapes.{Site, arity}
 use Rattle.sz_spec.specs.Lineage.{mapped, related}
-use Rattle.sz_spec.specs.Evaluation.{value_of}
 use Rattle.sz_spec.specs.Modes.{has_mapping}
 use Rattle.sz_spec.specs.Payloads.{is_payload, mapped_by_payload, payload_of, overrides}
 use Rattle.sz_spec.specs.Work.{IsAtWork}
@@ -38,23 +36,3 @@ PayloadsAreTheRelation = (s : Site) (inputs : List Grid) (i : ℕ) (o x : Cell) 
 abbrev pub DefaultsAreTheRelation : Type 0
 DefaultsAreTheRelation = (s : Site) (inputs : List Grid) (i : ℕ) (o x : Cell) → IsAtWork s inputs
     → overrides s.op inputs o ≡ false → related s.op inputs i o x ≡ mapped s.op s.ins i o x
-
--- old and new inputs hold the same value at each cell to which o is related, by the old relation or
--- by the new one
-abbrev pub AgreeFor : Site → List Grid → List Grid → Cell → Type 0
-AgreeFor s old new o = (i : ℕ) (x : Cell) → i < length s.ins → holds (extent_at s.ins i) x ≡ true
-    → (related s.op old i o x || related s.op new i o x) ≡ true
-    → value_at (input_at old i) x ≡ value_at (input_at new i) x
-
--- then o has one value
-abbrev pub ValuesDependOnRelatedCells : Type 0
-ValuesDependOnRelatedCells = (s : Site) (old new : List Grid) (o : Cell) → IsAtWork s old
-    → IsAtWork s new
-    → holds s.out o ≡ true → AgreeFor s old new o → value_of s.op old o ≡ value_of s.op new o
-
--- and is related to the same cells
-abbrev pub RelationsDependOnRelatedCells : Type 0
-RelationsDependOnRelatedCells = (s : Site) (old new : List Grid) (i : ℕ) (o x : Cell)
-    → IsAtWork s old
-    → IsAtWork s new → holds s.out o ≡ true → AgreeFor s old new o
-    → related s.op old i o x ≡ related s.op new i o x

@@ -7,7 +7,7 @@ use Rattle.std.specs.List.{filter}
 use Rattle.sz_spec.specs.declared.op.Op.{Op}
 use Rattle.sz_spec.specs.declared.op.Op.TheVariants.{Lookup, Regions, Clean}
 use Rattle.sz_spec.specs.declared.modes.Dir.{Dir}
-use Rattle.sz_spec.specs.declared.modes.Dir.TheVariants.{Back}
+use Rattle.sz_spec.specs.declared.modes.Dir.TheVariants.{Back, Forward}
 use Rattle.sz_spec.specs.declared.modes.Strategy.{Strategy}
 use Rattle.sz_spec.specs.declared.modes.Strategy.TheVariants as strategy
 use Rattle.sz_spec.specs.Modes.{has_mapping, supports, order_of, number_of, is_listed, way}
@@ -17,19 +17,33 @@ abbrev pub ThreeHaveNoMapping : Type 0
 ThreeHaveNoMapping = (op : Op) → (has_mapping op ≡ false)
     ↔ ((op ≡ Lookup) ⊎ (((t : ℤ) × (op ≡ Regions t)) ⊎ ((t : ℤ) × (op ≡ Clean t))))
 
--- an operator with a mapping supports these strategies, and no others
+-- an operator with a mapping supports these strategies, and no others: backward and forward they
+-- are looked for in this order
 abbrev pub MappedOperatorsSupport : Type 0
 MappedOperatorsSupport = (op : Op) → has_mapping op ≡ true
     → filter (supports op) (order_of Back)
     ≡ strategy.Map ∷ strategy.FullOneB ∷ strategy.FullManyB ∷ strategy.FullOneF ∷ strategy.FullManyF
     ∷ strategy.BlackBox ∷ []
 
--- the others support these, and no others
+abbrev pub MappedOperatorsSupportForward : Type 0
+MappedOperatorsSupportForward = (op : Op) → has_mapping op ≡ true
+    → filter (supports op) (order_of Forward)
+    ≡ strategy.Map ∷ strategy.FullOneF ∷ strategy.FullManyF ∷ strategy.FullOneB ∷ strategy.FullManyB
+    ∷ strategy.BlackBox ∷ []
+
+-- the others support these, and no others, in this order
 abbrev pub OtherOperatorsSupport : Type 0
 OtherOperatorsSupport = (op : Op) → has_mapping op ≡ false
     → filter (supports op) (order_of Back)
     ≡ strategy.FullOneB ∷ strategy.FullManyB ∷ strategy.PayOne ∷ strategy.CompOne ∷ strategy.PayMany
     ∷ strategy.CompMany ∷ strategy.FullOneF ∷ strategy.FullManyF ∷ strategy.BlackBox ∷ []
+
+abbrev pub OtherOperatorsSupportForward : Type 0
+OtherOperatorsSupportForward = (op : Op) → has_mapping op ≡ false
+    → filter (supports op) (order_of Forward)
+    ≡ strategy.FullOneF ∷ strategy.FullManyF ∷ strategy.FullOneB ∷ strategy.FullManyB
+    ∷ strategy.PayOne ∷ strategy.CompOne ∷ strategy.PayMany ∷ strategy.CompMany
+    ∷ strategy.BlackBox ∷ []
 
 -- strategies of one number are one
 abbrev pub NumbersTellStrategiesApart : Type 0

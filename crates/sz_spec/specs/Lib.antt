@@ -20,3 +20,4 @@ pub mod LawsFlows
 pub mod LawsModes
 pub mod Work
 pub mod LawsLineage
+pub mod LawsDependence

@@ -20,13 +20,20 @@ ghost use Rattle.sz_spec.specs.LawsRegions.{OtherCellsAreLabelledZero};
 ghost use Rattle.sz_spec.specs.LawsRegions.{HighCellsAreLabelledByTheLeast};
 ghost use Rattle.sz_spec.specs.LawsLineage.{RelatedCellsAreOfInputs, MappingsAreTheRelation};
 ghost use Rattle.sz_spec.specs.LawsLineage.{PayloadsAreLawful, PayloadsAreTheRelation};
-ghost use Rattle.sz_spec.specs.LawsLineage.{DefaultsAreTheRelation, ValuesDependOnRelatedCells};
-ghost use Rattle.sz_spec.specs.LawsLineage.{RelationsDependOnRelatedCells};
+ghost use Rattle.sz_spec.specs.LawsLineage.{DefaultsAreTheRelation};
+ghost use Rattle.sz_spec.specs.LawsDependence.{ValuesDependOnRelatedCells};
+ghost use Rattle.sz_spec.specs.LawsDependence.{RelationsDependOnRelatedCells};
+ghost use Rattle.sz_spec.specs.LawsDependence.{ValuesDependOnEitherRelation};
+ghost use Rattle.sz_spec.specs.LawsDependence.{RelationsDependOnEitherRelation};
+ghost use Rattle.sz_spec.specs.LawsDependence.{ComposedCellsAreLedTo, ValuesDependOnReachedCells};
+ghost use Rattle.sz_spec.specs.LawsDependence.{ValuesDependOnCellsReachedInEither};
 ghost use Rattle.sz_spec.specs.LawsFlows.{WellFormedFlowsAreRight, EachNodeHasAnOutput};
 ghost use Rattle.sz_spec.specs.LawsFlows.{OutputsAreThoseOfTheirNodes};
 ghost use Rattle.sz_spec.specs.LawsFlows.{ShapesFoundAreThoseOfTheOutputs};
 ghost use Rattle.sz_spec.specs.LawsModes.{ThreeHaveNoMapping, MappedOperatorsSupport};
-ghost use Rattle.sz_spec.specs.LawsModes.{OtherOperatorsSupport, NumbersTellStrategiesApart};
+ghost use Rattle.sz_spec.specs.LawsModes.{OtherOperatorsSupport, MappedOperatorsSupportForward};
+ghost use Rattle.sz_spec.specs.LawsModes.{OtherOperatorsSupportForward};
+ghost use Rattle.sz_spec.specs.LawsModes.{NumbersTellStrategiesApart};
 ghost use Rattle.sz_spec.specs.LawsModes.{OrdersHaveEachStrategyOnce, ListedStrategiesAreInTheList};
 ghost use Rattle.sz_spec.specs.LawsModes.{WaysAreInTheList, WaysAreTheFirst};
 
@@ -125,10 +132,27 @@ pub fn payloads_are_the_relation()
 {}
 
 /// Where the cells to which a cell is related hold the same values in old and in new inputs, the
-/// cell has the same value and the same relation.
+/// cell has the same value and the same relation. For every operator but regions the old relation
+/// tells which cells these are; for regions the old one and the new one.
 pub fn values_depend_on_related_cells()
     ensures value { ValuesDependOnRelatedCells }
     ensures relation { RelationsDependOnRelatedCells }
+    ensures value_in_either { ValuesDependOnEitherRelation }
+    ensures relation_in_either { RelationsDependOnEitherRelation }
+{}
+
+/// A cell is in the composed image along a path exactly where a list of cells, one for each step,
+/// leads there.
+pub fn composed_cells_are_led_to()
+    ensures { ComposedCellsAreLedTo }
+{}
+
+/// The value of an output cell of a flow depends on no cell of the base arrays but those that are
+/// reached from it along some path: by the old evaluation, where the paths pass no regions, and
+/// else at each step by the old or by the new one.
+pub fn values_depend_on_reached_cells()
+    ensures reached { ValuesDependOnReachedCells }
+    ensures in_either { ValuesDependOnCellsReachedInEither }
 {}
 
 /// A flow is well formed exactly where its sizes and each of its nodes keep the rules.
@@ -148,12 +172,14 @@ pub fn shapes_found_are_those_of_the_outputs()
     ensures { ShapesFoundAreThoseOfTheOutputs }
 {}
 
-/// Which strategies an operator supports: it is settled by whether it has a mapping of cells, as
-/// all but three have.
+/// Which strategies an operator supports, in the order of each direction: it is settled by whether
+/// it has a mapping of cells, as all but three have.
 pub fn operators_support_by_their_mapping()
     ensures three { ThreeHaveNoMapping }
     ensures mapped { MappedOperatorsSupport }
     ensures others { OtherOperatorsSupport }
+    ensures mapped_forward { MappedOperatorsSupportForward }
+    ensures others_forward { OtherOperatorsSupportForward }
 {}
 
 /// The order of each direction has each strategy exactly once.

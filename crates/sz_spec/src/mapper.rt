@@ -6,6 +6,7 @@ ghost use Rattle.sz_cells.specs.Cells.{with_those};
 ghost use Rattle.sz_spec.specs.Values.{extent_at};
 ghost use Rattle.sz_spec.specs.Shapes.{Site};
 ghost use Rattle.sz_spec.specs.Lineage.{mapped};
+ghost use Rattle.sz_spec.specs.Modes.{has_mapping};
 ghost use Rattle.sz_spec.specs.Payloads.{is_payload, mapped_by_payload};
 
 use sz_cells::{Cell, CellBits};
@@ -34,13 +35,15 @@ pub trait Mapper {
         ensures { let s = site self.now in to.new ≡ with_those to.old
             (λ o. mapped s.op s.ins input o cell) };
 
-    /// Adds the cells of an input that a payload of an output cell stands for. Of bytes that are no
-    /// payload of the operator's nothing is said but that the set keeps its shape. Takes no memory.
+    /// Adds the cells of an input that a payload of an output cell stands for. An operator that has a
+    /// mapping has no payload, and leaves the set as it was. Of bytes that are no payload of another
+    /// operator's nothing is said but that the set keeps its shape. Takes no memory.
     fn map_p_into(&self, out: Cell, payload: &[u8], input: u32, to: &mut CellBits)
         requires out { holds (site self.now).out out ≡ true }
         requires input { input < length (site self.now).ins }
         requires to { to.old.extent ≡ extent_at (site self.now).ins input }
         ensures extent { to.new.extent ≡ to.old.extent }
+        ensures kept { has_mapping (site self.now).op ≡ true → to.new ≡ to.old }
         ensures added { is_payload (site self.now).op (site self.now).ins payload.now ≡ true
             → let s = site self.now in to.new ≡ with_those to.old
             (λ x. mapped_by_payload s.op s.ins payload.now input out x) };
