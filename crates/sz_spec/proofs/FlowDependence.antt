@@ -314,13 +314,6 @@ local-value flow old new n x s o right there both held same =
     ∙ ap (λ (p : Op). value_of p (arrays new) o) both.op
     ∙ sym (node-value flow new n x o right there held_new)
 
--- nothing is asked of a node
-abbrev Fine : Type 0
-Fine = true ≡ true
-
-fine : Fine
-fine = refl
-
 -- an operator that is not regions reads the cells to which the old evaluation leads
 local-old : (flow : Graph) (old new : List Grid) → CanRun flow old → CanRun flow new
     → extents_of old ≡ extents_of new
@@ -338,8 +331,8 @@ local-old flow old new first second same n x o there fine held agrees =
 
 -- each reads the cells to which one of the two leads
 local-either : (flow : Graph) (old new : List Grid) → CanRun flow old → CanRun flow new
-    → extents_of old ≡ extents_of new → Local (LeadsInEither flow old new) (λ x. Fine) flow old new
-local-either flow old new first second same n x o there fine held agrees =
+    → extents_of old ≡ extents_of new → Local (LeadsInEither flow old new) (λ x. x ≡ x) flow old new
+local-either flow old new first second same n x o there any held agrees =
     let s = site (extents_of old) (extents_of (evaluations flow old)) n x in
     let both = both-runs flow old new n x first second same there in
     let a : List Grid = map (array_of old (evaluations flow old)) x.from in
@@ -531,9 +524,20 @@ path-whole flow (s ∷ path) n x right there joined begins =
 
 -- ---- the laws
 
+-- a flow that can be run over base arrays can be run over others of the same shapes
+can-run : (flow : Graph) (old new : List Grid) → CanRun flow old → extents_of old ≡ extents_of new → CanRun flow new
+can-run flow old new run same = record {
+  right = run.right;
+  count = sym (length-map new (λ (g : Grid). g.extent)) ∙ ap length (sym same)
+      ∙ length-map old (λ (g : Grid). g.extent) ∙ run.count;
+  limits = subst (λ (es : List Extent). AreExtents es) same run.limits;
+  fits = ap (λ (es : List Extent). is_ok (output_shapes flow es)) (sym same) ∙ run.fits;
+}
+
 -- by the old evaluation
 pub value-reached : ValuesDependOnReachedCells
-value-reached flow old new n o first second same held clear agree =
+value-reached flow old new n o first same held clear agree =
+    let second = can-run flow old new first same in
     let node = node-held flow old n o held in
     let outputs = evaluations flow old in
     depends (StepLeads Back flow old outputs) (λ x. is_regions x.op ≡ false) flow old new first.right
@@ -546,10 +550,11 @@ value-reached flow old new n o first second same held clear agree =
 
 -- by the old one or the new one
 pub value-reached_in_either : ValuesDependOnCellsReachedInEither
-value-reached_in_either flow old new n o first second same held agree =
+value-reached_in_either flow old new n o first same held agree =
+    let second = can-run flow old new first same in
     let node = node-held flow old n o held in
-    depends (LeadsInEither flow old new) (λ x. Fine) flow old new first.right
+    depends (LeadsInEither flow old new) (λ x. x ≡ x) flow old new first.right
     (local-either flow old new first second same) (suc n) n o (omega arith) held
-    (λ path joined begins k d inside x there. fine)
+    (λ path joined begins k d inside x there. refl)
     (λ path b cells x joined begins ends led.
     agree path b cells x (path-whole flow path n node.0 first.right node.1 joined begins, begins, ends) led)

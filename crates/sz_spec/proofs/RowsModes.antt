@@ -75,6 +75,28 @@ way-comp_one = refl
 pub way-pay_many : way (strategy.CompMany ∷ strategy.PayMany ∷ []) Back ≡ strategy.PayMany
 way-pay_many = refl
 
+-- one list, in both directions: whatever is listed later, the direction's order tells
+pub way-each_direction : (let list = strategy.FullManyB ∷ strategy.FullOneB ∷ strategy.FullManyF
+    ∷ strategy.FullOneF ∷ [] in (way list Back ≡ strategy.FullOneB) × (way list Forward ≡ strategy.FullOneF))
+way-each_direction = (refl, refl)
+
+pub way-other_index : (way (strategy.FullManyB ∷ strategy.PayOne ∷ strategy.FullOneB ∷ []) Forward
+    ≡ strategy.FullOneB)
+    × (way (strategy.FullManyF ∷ strategy.BlackBox ∷ strategy.FullOneF ∷ []) Back ≡ strategy.FullOneF)
+way-other_index = (refl, refl)
+
+pub way-payload_first : (let list = strategy.CompMany ∷ strategy.PayMany ∷ strategy.CompOne ∷ strategy.PayOne ∷ [] in
+    (way list Back ≡ strategy.PayOne) × (way list Forward ≡ strategy.PayOne))
+way-payload_first = (refl, refl)
+
+pub way-composite_first : (let list = strategy.CompMany ∷ strategy.PayMany ∷ strategy.CompOne ∷ [] in
+    (way list Back ≡ strategy.CompOne) × (way list Forward ≡ strategy.CompOne))
+way-composite_first = (refl, refl)
+
+pub way-payload_of_many : (let list = strategy.BlackBox ∷ strategy.CompMany ∷ strategy.PayMany ∷ [] in
+    (way list Back ≡ strategy.PayMany) × (way list Forward ≡ strategy.PayMany))
+way-payload_of_many = (refl, refl)
+
 -- ---- modes
 
 pub mapped-by_shapes : (has_mode op.Neg mode.Map ≡ true) × (has_mode op.Neg mode.Pay ≡ false)

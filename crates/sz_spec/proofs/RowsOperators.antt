@@ -105,6 +105,32 @@ raised = refl
 pub raised-back : back_of (op.Convolve under) (six ∷ []) 0 (1 ∷ 4 ∷ []) ≡ at (flat 2 3) (4 ∷ [])
 raised-back = refl
 
+-- a kernel of three rows that is symmetric in no way is laid on as it is: its first row meets the row above
+abbrev rising : Weights
+rising = kernel 3 3 (pos 1 ∷ pos 2 ∷ pos 3 ∷ pos 4 ∷ pos 5 ∷ pos 6 ∷ pos 7 ∷ pos 8 ∷ pos 9 ∷ [])
+
+pub risen : output_of (op.Convolve rising) (nine ∷ [])
+    ≡ grid 3 3 (n 94 ∷ n 154 ∷ n 106 ∷ n 186 ∷ n 285 ∷ n 186 ∷ n 106 ∷ n 154 ∷ n 94 ∷ [])
+risen = refl
+
+-- and its weights that are not 0 tell the cells: above, on the right, and below on the left
+abbrev scattered : Weights
+scattered = kernel 3 3 (pos 0 ∷ pos 2 ∷ pos 0 ∷ pos 0 ∷ pos 0 ∷ pos 6 ∷ pos 7 ∷ pos 0 ∷ pos 0 ∷ [])
+
+pub scattered-values : output_of (op.Convolve scattered) (nine ∷ [])
+    ≡ grid 3 3 (n 12 ∷ n 46 ∷ n 35 ∷ n 32 ∷ n 89 ∷ n 62 ∷ n 56 ∷ n 64 ∷ n 12 ∷ [])
+scattered-values = refl
+
+pub scattered-back : (back_of (op.Convolve scattered) (nine ∷ []) 0 (4 ∷ []) ≡ at (flat 3 3) (1 ∷ 5 ∷ 6 ∷ []))
+    × (back_of (op.Convolve scattered) (nine ∷ []) 0 (1 ∷ []) ≡ at (flat 3 3) (2 ∷ 3 ∷ []))
+    × (back_of (op.Convolve scattered) (nine ∷ []) 0 (8 ∷ []) ≡ at (flat 3 3) (5 ∷ []))
+scattered-back = (refl, refl, refl)
+
+pub scattered-forward : (forward_of (op.Convolve scattered) (nine ∷ []) 0 (4 ∷ [])
+    ≡ at (flat 3 3) (2 ∷ 3 ∷ 7 ∷ []))
+    × (forward_of (op.Convolve scattered) (nine ∷ []) 0 (0 ∷ []) ≡ at (flat 3 3) (3 ∷ []))
+scattered-forward = (refl, refl)
+
 -- an empty cell empties those with a weight over it, and no others
 pub emptied : output_of (op.Convolve left) (grid 1 3 (none ∷ n 4 ∷ n 5 ∷ []) ∷ [])
     ≡ grid 1 3 (n 0 ∷ none ∷ n 8 ∷ [])
@@ -252,6 +278,26 @@ winding = refl
 pub no-wrap : output_of (op.Regions (pos 5)) (grid 2 2 (n 0 ∷ n 9 ∷ n 9 ∷ n 0 ∷ []) ∷ [])
     ≡ grid 2 2 (n 0 ∷ n 2 ∷ n 3 ∷ n 0 ∷ [])
 no-wrap = refl
+
+-- the pixel between two regions is raised: they are joined, and the label of the second changes, though its cell was
+-- not related to that pixel. So the old relation alone does not tell on what a label depends
+abbrev apart : Grid
+apart = grid 1 3 (n 9 ∷ n 0 ∷ n 9 ∷ [])
+
+abbrev joined : Grid
+joined = grid 1 3 (n 9 ∷ n 9 ∷ n 9 ∷ [])
+
+pub apart-labels : output_of (op.Regions (pos 5)) (apart ∷ []) ≡ grid 1 3 (n 1 ∷ n 0 ∷ n 3 ∷ [])
+apart-labels = refl
+
+pub apart-back : back_of (op.Regions (pos 5)) (apart ∷ []) 0 (2 ∷ []) ≡ at (flat 1 3) (2 ∷ [])
+apart-back = refl
+
+pub joined-labels : output_of (op.Regions (pos 5)) (joined ∷ []) ≡ grid 1 3 (n 1 ∷ n 1 ∷ n 1 ∷ [])
+joined-labels = refl
+
+pub joined-back : back_of (op.Regions (pos 5)) (joined ∷ []) 0 (2 ∷ []) ≡ at (flat 1 3) (0 ∷ 1 ∷ 2 ∷ [])
+joined-back = refl
 
 -- ---- clean
 

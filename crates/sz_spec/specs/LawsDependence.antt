@@ -135,7 +135,7 @@ PassesNoRegions flow n = (path : List Step) → is_joined Back flow path ≡ tru
 -- then o has one value
 abbrev pub ValuesDependOnReachedCells : Type 0
 ValuesDependOnReachedCells = (flow : Graph) (old new : List Grid) (n : ℕ) (o : Cell)
-    → CanRun flow old → CanRun flow new → extents_of old ≡ extents_of new
+    → CanRun flow old → extents_of old ≡ extents_of new
     → holds (extent_of (evaluations flow old) n) o ≡ true
     → PassesNoRegions flow n → AgreeWhereReached flow n o old new
     → value_at (input_at (evaluations flow old) n) o ≡ value_at (input_at (evaluations flow new) n) o
@@ -156,7 +156,7 @@ AgreeWhereReachedInEither flow n o old new =
 -- then o has one value, whatever the path passes
 abbrev pub ValuesDependOnCellsReachedInEither : Type 0
 ValuesDependOnCellsReachedInEither = (flow : Graph) (old new : List Grid) (n : ℕ) (o : Cell)
-    → CanRun flow old → CanRun flow new → extents_of old ≡ extents_of new
+    → CanRun flow old → extents_of old ≡ extents_of new
     → holds (extent_of (evaluations flow old) n) o ≡ true
     → AgreeWhereReachedInEither flow n o old new
     → value_at (input_at (evaluations flow old) n) o ≡ value_at (input_at (evaluations flow new) n) o
