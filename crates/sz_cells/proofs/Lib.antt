@@ -11,3 +11,4 @@ pub mod Bitmaps
 pub mod LawsOfSets
 pub mod Windows
 mod Rows
+pub mod SetWords

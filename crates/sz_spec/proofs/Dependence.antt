@@ -697,9 +697,9 @@ reads-old : (s : Site) (old new : List Grid) (o : Cell) → is_regions s.op ≡ 
     → AgreeWhere s (λ i x. related s.op old i o x) old new → AgreeWhere s (reads s.op old new o) old new
 reads-old s old new o other same i x inside there passes =
     same i x inside there (only (related s.op old i o x) (related s.op new i o x) (rw other at passes)) where
-  only : (a b : Bool) → (a || (false && b)) ≡ true → a ≡ true
-  only true b h = refl
-  only false b h = h
+      only : (a b : Bool) → (a || (false && b)) ≡ true → a ≡ true
+      only true b h = refl
+      only false b h = h
 
 -- and none than the old and the new ones
 reads-either : (s : Site) (old new : List Grid) (o : Cell)
@@ -707,10 +707,10 @@ reads-either : (s : Site) (old new : List Grid) (o : Cell)
     → AgreeWhere s (reads s.op old new o) old new
 reads-either s old new o same i x inside there passes =
     same i x inside there (wider (related s.op old i o x) (is_regions s.op) (related s.op new i o x) passes) where
-  wider : (a r b : Bool) → (a || (r && b)) ≡ true → (a || b) ≡ true
-  wider true r b h = refl
-  wider false true b h = h
-  wider false false b h = (cc)
+      wider : (a r b : Bool) → (a || (r && b)) ≡ true → (a || b) ≡ true
+      wider true r b h = refl
+      wider false true b h = h
+      wider false false b h = (cc)
 
 -- the laws of the old relation
 pub value-depends : ValuesDependOnRelatedCells

@@ -17,7 +17,6 @@ pub mod CellPieces
 pub mod FlowOutputs
 pub mod FlowShapes
 pub mod Ways
-pub mod SetWords
 pub mod PayloadLineage
 pub mod Dependence
 pub mod Chains

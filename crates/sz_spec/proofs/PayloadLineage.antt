@@ -41,7 +41,7 @@ use Rattle.sz_spec.specs.LawsLineage.{PayloadsAreTheRelation}
 use Rattle.sz_spec.specs.LawsLineage.{DefaultsAreTheRelation}
 use Rattle.sz_spec.proofs.OutputShapes.{extent-right}
 use Rattle.sz_spec.proofs.Components.{component-made}
-use Rattle.sz_spec.proofs.SetWords.{set-back, set-word}
+use Rattle.sz_cells.proofs.SetWords.{set-back, set-word}
 use Rattle.sz_cells.proofs.LawsOfSets.{sets-rising}
 
 -- ---- inputs
