@@ -3,10 +3,10 @@
 //!
 //! An [`Op`] makes one array of one or two. [`Flow::check`] tells whether a graph of operators is
 //! well formed, and else its first fault. [`OpAt::of`] takes an operator to the shapes of given
-//! inputs, and [`shape_of`] tells the shape of its output alone. The lineage of an operator is a
-//! relation between the cells of its output and those of its inputs. [`supports`] tells by which
-//! [`Strategy`] it can be kept, [`way`] which of several a query step goes by, and a [`Mapper`]
-//! gives the part of it that is known without values.
+//! inputs, and [`shape_of`] tells the shape of its output alone, [`output_shapes`] those of all
+//! outputs of a flow. The lineage of an operator is a relation between the cells of its output and
+//! those of its inputs. [`supports`] tells by which [`Strategy`] it can be kept, [`way`] which of
+//! several a query step goes by, and a [`Mapper`] gives the part of it that is known without values.
 //!
 //! A flow of one base array and two nodes, of which the second takes the first one's output and the
 //! base array:
@@ -27,7 +27,8 @@
 //! The definitions are tables by operator, in specs/: what it takes and the shape of its output in
 //! Shapes, what it computes in Evaluation, which cells are related in Lineage, how its lineage can
 //! be kept in Modes, and which bytes stand for it in Payloads. An operator that needs more than a
-//! line has a file of its own in Operators. Flows and Paths put operators together.
+//! line has a file of its own in Operators. Flows and Paths put operators together. What lineage
+//! promises, over one operator, along a path and over a flow, are the laws of LawsDependence.
 #![tactic(auto)]
 
 mod array;

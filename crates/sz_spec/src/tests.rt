@@ -1,9 +1,9 @@
 //! Flows and the shapes of their outputs, ways of both directions, kernels, copies, counts, a
 //! mapping and a square: each call once, with memory to spare.
 
-ghost use Rattle.std.specs.Prelude.{◌≡◌, true, IfOk};
+ghost use Rattle.std.specs.Prelude.{◌≡◌, None, IfOk};
 ghost use Rattle.sz_cells.specs.Extent.{layered};
-ghost use Rattle.sz_spec.specs.Flows.{is_well_formed};
+ghost use Rattle.sz_spec.specs.Flows.{flow_fault};
 
 use crate::{
     Array, Dir, Flow, FlowFault, Kernel, Mapper, Node, Op, OpAt, ShapeFault, SourceList, SourceRef,
@@ -22,12 +22,16 @@ fn node(alloc: Global, op: Op, from: &[SourceRef]) -> Result<Node, Fail> {
 
 /// The flow of one base array, its transpose, and the sum of both.
 fn turned_and_added(alloc: Global) -> Result<Flow, Fail>
-    ensures { IfOk result (λ f. (is_well_formed f ≡ true) × (f.inputs ≡ 1)) }
+    ensures { IfOk result (λ f. (flow_fault f ≡ None) × (f.inputs ≡ 1)) }
 {
     let mut nodes = Vec::new(alloc);
     nodes.push(node(alloc, Op::Transpose, &[SourceRef::Input(0)])?)?;
     nodes.push(node(alloc, Op::Add, &[SourceRef::Node(0), SourceRef::Input(0)])?)?;
-    Ok(Flow::make(1, nodes))
+    let flow = Flow::make(1, nodes);
+    match flow.check() {
+        Ok(()) => Ok(flow),
+        Err(_) => Err("the flow keeps the rules".into()),
+    }
 }
 
 #[test]
@@ -42,7 +46,6 @@ fn a_flow_is_judged_and_its_shapes_are_found(rt: HostRuntime) -> Result<(), Fail
         Err(FlowFault::BadSource { node: 0, input: 0 })
     );
     let flow = turned_and_added(alloc)?;
-    assert_eq!(rt; flow.check(), Ok(()));
     let square = [shape(1, 3, 3)?];
     let Ok(shapes) = output_shapes(alloc, &flow, &square)? else {
         return Err("a square and its transpose have one shape".into())
