@@ -8,6 +8,7 @@ pub mod RowsLayers
 pub mod RowsFlows
 pub mod RowsPaths
 pub mod RowsModes
+pub mod RowsDependence
 pub mod Components
 pub mod OutputValues
 pub mod Images
