@@ -1,3 +1,5 @@
 -- The lemmas of this crate, and its worked rows.
+mod Ledgers
 mod Rows
+mod Scenes
 mod StreamBytes

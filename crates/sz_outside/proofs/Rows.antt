@@ -4,8 +4,8 @@
 -- a row that does not holds two different values equal.
 use Rattle.std.proofs.Common.{◌≡◌, ℕ, zero, suc, ◌-◌, ◌^◌, true, false, List, [], ◌∷◌}
 use Rattle.std.proofs.Common.{Some, None, refl, arith}
-use Rattle.sz_outside.specs.Memory.{count_after, fails_next, Supply, bytes_given, Tape, tape_after}
-use Rattle.sz_outside.specs.Memory.{Ledger, ledger_after}
+use Rattle.sz_outside.specs.Counts.{count_after}
+use Rattle.sz_outside.specs.Memory.{fails_next, Supply, bytes_given, Tape, tape_after}
 use Rattle.sz_outside.specs.Outside.{Rose, Gives, Keeps, Says, SaysPart}
 
 -- a count goes up by one, and stands still at the end of its type
@@ -73,24 +73,6 @@ second_read = refl
 
 pub third_read : tape_after (tape 2 1 (9 ∷ [])) 8 ≡ tape 3 1 []
 third_read = refl
-
--- a ledger at which this was said, after so many says, of which some failed
-abbrev ledger : List ℕ → ℕ → ℕ → Ledger
-ledger said says faults = record {
-  said = said;
-  says = says;
-  say_fails = [];
-  say_faults = faults;
-  disk = 1 ∷ [];
-  disk_fails = 5 ∷ [];
-}
-
--- a say that fails says nothing and is counted; the disk stays
-pub said-behind : ledger_after (ledger (7 ∷ []) 3 1) (8 ∷ 9 ∷ []) true ≡ ledger (7 ∷ 8 ∷ 9 ∷ []) 4 1
-said-behind = refl
-
-pub said-nothing : ledger_after (ledger (7 ∷ []) 3 1) (8 ∷ 9 ∷ []) false ≡ ledger (7 ∷ []) 4 2
-said-nothing = refl
 
 -- two of three bytes, the next ones, and then one is left
 pub gives_two : Gives (Some (7 ∷ 8 ∷ 9 ∷ [])) (Some (9 ∷ [])) (7 ∷ 8 ∷ 0 ∷ []) 2

@@ -1,3 +1,7 @@
 -- The definitions that the contracts of sources and stations cite.
+pub mod Counts
+pub mod Disk
+pub mod History
 pub mod Memory
 pub mod Outside
+pub mod Volumes

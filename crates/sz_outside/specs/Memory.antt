@@ -1,11 +1,14 @@
 -- What the sources and the station in memory are, for contracts, and what one call makes of them.
-use Rattle.std.specs.Prelude.{ℕ, ◌+◌, ◌-◌, ◌^◌, ◌==◌, min, Bool, if◌then◌else◌}
-use Rattle.std.specs.Prelude.{List, ◌++◌, length, drop}
+use Rattle.std.specs.Prelude.{ℕ, ◌+◌, ◌^◌, ◌==◌, nat_lt, min, Bool, false, not, ◌&&◌, ◌||◌, if◌then◌else◌}
+use Rattle.std.specs.Prelude.{Option, None, Some, List, [], ◌∷◌, ◌++◌, length, drop}
 use Rattle.std.specs.List.{list_any}
-
--- The next number of a count that stands still at the end of its type.
-abbrev pub count_after : ℕ → ℕ
-count_after n = min (n + 1) (2 ^ 64 - 1)
+use Rattle.sz_outside.specs.Counts.{count_after, faults_after}
+use Rattle.sz_outside.specs.History.{Event, Scene, scene_before, scene_at, MayLeave, LeftSince}
+use Rattle.sz_outside.specs.Disk.{Passes}
+use Rattle.sz_outside.specs.declared.history.Act.{Act}
+use Rattle.sz_outside.specs.declared.history.Act.TheVariants as act
+use Rattle.sz_outside.specs.declared.stations.Torn.{Torn}
+use Rattle.sz_outside.specs.declared.stations.Torn.TheVariants as torn
 
 -- Whether the call after `made` calls is one of those that fail, which are numbered from 1.
 abbrev pub fails_next : List ℕ → ℕ → Bool
@@ -43,20 +46,106 @@ tape_after t room = if fails_next t.fails t.reads
       reads = count_after t.reads;
     }
 
--- A ledger, as which `MemStation` is seen: the bytes said, how many times it was asked to say some,
--- the numbers of the says that fail, and how many failed; the bytes of its disk, and the numbers of
--- the disk calls that fail.
-pub record Ledger : Type 0 where
-  pub said : List ℕ
-  pub says : ℕ
-  pub say_fails : List ℕ
-  pub say_faults : ℕ
-  pub disk : List ℕ
-  pub disk_fails : List ℕ
+-- What a station in memory was asked for, as which its history is seen: the disk at the start, and
+-- the calls since, the first of them first.
+pub record Past : Type 0 where
+  pub start : List ℕ
+  pub events : List Event
 
--- The ledger after it was asked to say these bytes: they stand behind the others, or the say failed
--- and was counted.
-abbrev pub ledger_after : Ledger → List ℕ → Bool → Ledger
-ledger_after s bytes is_said = if is_said
-    then record s { said = s.said ++ bytes; says = count_after s.says }
-    else record s { says = count_after s.says; say_faults = count_after s.say_faults }
+-- What there is now.
+abbrev pub now : Past → Scene
+now p = scene_at (scene_before p.start) p.events
+
+-- The past with one call more.
+abbrev pub noted : Past → Act → List ℕ → Bool → Past
+noted p act bytes is_done = record p {
+  events = p.events ++ record { act = act; bytes = bytes; is_done = is_done } ∷ [];
+}
+
+-- A ledger, as which `MemStation` is seen: its past; the numbers of the says and of the disk calls
+-- that fail, and how many disk calls pass before all fail, where it is to stop; how many says and
+-- disk calls there were, and how many of each failed; and how many calls found no memory.
+pub record Ledger : Type 0 where
+  pub past : Past
+  pub say_fails : List ℕ
+  pub disk_fails : List ℕ
+  pub passes : Option ℕ
+  pub says : ℕ
+  pub disk_calls : ℕ
+  pub say_faults : ℕ
+  pub disk_faults : ℕ
+  pub unkept : ℕ
+
+-- A ledger of a synced disk, at which nothing was said and nothing failed.
+abbrev pub ledger_before : List ℕ → List ℕ → List ℕ → Option ℕ → Ledger
+ledger_before disk disk_fails say_fails passes = record {
+  past = record { start = disk; events = [] };
+  say_fails = say_fails;
+  disk_fails = disk_fails;
+  passes = passes;
+  says = 0;
+  disk_calls = 0;
+  say_faults = 0;
+  disk_faults = 0;
+  unkept = 0;
+}
+
+-- The disk as read, and the bytes said.
+abbrev pub disk_of : Ledger → List ℕ
+disk_of s = (now s.past).disk
+
+abbrev pub said_of : Ledger → List ℕ
+said_of s = (now s.past).said
+
+-- Whether the next say fails by its number.
+abbrev pub say_fails_next : Ledger → Bool
+say_fails_next s = fails_next s.say_fails s.says
+
+-- Whether all disk calls past these have failed.
+abbrev pub is_stopped : Option ℕ → ℕ → Bool
+is_stopped None made = false
+is_stopped (Some passes) made = nat_lt passes (count_after made)
+
+-- Whether the next disk call is done, if it finds memory.
+abbrev pub is_next_done : Ledger → Bool
+is_next_done s = not (fails_next s.disk_fails s.disk_calls || is_stopped s.passes s.disk_calls)
+
+-- A write is done only where its bytes end below 2^62.
+abbrev pub is_write_done : Ledger → ℕ → ℕ → Bool
+is_write_done s at n = is_next_done s && nat_lt (at + n) (2 ^ 62)
+
+-- The past after a call that found memory for its record, or did not.
+abbrev pub past_after : Past → Act → List ℕ → Bool → Bool → Past
+past_after p act bytes is_done is_kept = if is_kept then noted p act bytes is_done else p
+
+-- The ledger after a say.
+abbrev pub after_say : Ledger → List ℕ → Bool → Ledger
+after_say s bytes is_kept = record s {
+  past = past_after s.past act.Say bytes (not (say_fails_next s)) is_kept;
+  says = count_after s.says;
+  say_faults = faults_after s.say_faults (not (say_fails_next s) && is_kept);
+  unkept = faults_after s.unkept is_kept;
+}
+
+-- The ledger after a disk call that fails or not.
+abbrev pub after_disk_call : Ledger → Act → List ℕ → Bool → Bool → Ledger
+after_disk_call s act bytes is_done is_kept = record s {
+  past = past_after s.past act bytes is_done is_kept;
+  disk_calls = count_after s.disk_calls;
+  disk_faults = faults_after s.disk_faults (is_done && is_kept);
+  unkept = faults_after s.unkept is_kept;
+}
+
+-- How time passes from one ledger to another.
+abbrev pub PassesIn : Ledger → Ledger → (List ℕ → List ℕ → Type 0) → (List ℕ → Type 0) → Type 0
+PassesIn old new step Finds = Passes (length old.past.events) (length new.past.events)
+    (LeftSince (scene_before old.past.start) old.past.events)
+    (LeftSince (scene_before new.past.start) new.past.events)
+    (MayLeave (now old.past)) (MayLeave (now new.past)) step Finds
+
+-- The three ways in which a stop may tear a disk in memory: what is not synced is as before, is as
+-- it is read, or has bytes 1.
+abbrev pub image_by : Torn → Scene → List ℕ
+image_by torn.Old s = s.synced
+image_by torn.New s = s.disk
+image_by torn.Ones s = s.ones

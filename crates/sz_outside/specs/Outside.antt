@@ -8,6 +8,10 @@ use Rattle.std.specs.Prelude.{Option, None, Some, List, [], ◌++◌, length, ta
 abbrev pub Rose : ℕ → ℕ → Type 0
 Rose before now = min (before + 1) (2 ^ 64 - 1) ≤ now
 
+-- The count stands as it did before the call.
+abbrev pub Stood : ℕ → ℕ → Type 0
+Stood before now = now ≡ before
+
 -- A read gave the next n of the bytes that were left, at the front of what `into` now holds, and no
 -- byte was lost. It gave none into a buffer with room only where none were left.
 pub record GivesNext (old : List ℕ) (new : Option (List ℕ)) (into : List ℕ) (n : ℕ) : Type 0 where

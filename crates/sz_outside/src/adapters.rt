@@ -3,20 +3,22 @@
 //! Both are written and proved for any reader and any writer, and tell the bytes that their stream
 //! tells. The real streams tell none, but the body that serves them is the same, and cannot tell
 //! them apart from any other.
-ghost use Rattle.std.specs.Prelude.{◌≡◌, ◌≤◌, length, IfOk, OnOk, OnErr, IsTrue};
+ghost use Rattle.std.specs.Prelude.{◌≡◌, ◌≤◌, ⊤, None, length, IfOk, OnOk, OnErr, IsTrue};
 ghost use Rattle.std.specs.Prelude.{is_ok, if◌then◌else◌};
-ghost use Rattle.sz_outside.specs.Outside.{Rose, Gives, Keeps, Says, SaysPart};
-ghost use Rattle.sz_outside.specs.Memory.{count_after};
+ghost use Rattle.sz_outside.specs.Outside.{Rose, Stood, Gives, Keeps, Says, SaysPart};
+ghost use Rattle.sz_outside.specs.Counts.{count_after};
 
-use crate::streams::{Outlet, read_and_count, write_and_count};
+use crate::streams::{Outlet, count_fault, read_and_count, write_and_count};
+use crate::volumes::{Volume, read_from, write_to};
 use crate::{Failed, Source, Station};
-use std::io::{Read, Stdin, Stdout};
+use std::fs::File;
+use std::io::{ErrorKind, Read, Stdin, Stdout};
 
 /// Standard input.
 pub type StdinSource = ReaderSource<Stdin>;
 
-/// Standard output, with no disk.
-pub type FileStation = WriterStation<Stdout>;
+/// Standard output, with a file or with none.
+pub type FileStation = StreamStation<File, Stdout>;
 
 /// A source over a reader, with the count of its faults.
 #[derive(Drop)]
@@ -47,6 +49,7 @@ impl<R: Read> Source for ReaderSource<R> {
         ensures bytes { IfOk result (λ n.
             Gives (R.remaining self.old.reader) (R.remaining self.new.reader) into.new n) }
         ensures failed { OnErr result (Rose self.old.faults self.new.faults) }
+        ensures quiet { OnOk result (Stood self.old.faults self.new.faults) }
         ensures kept { OnErr result
             (Keeps (R.remaining self.old.reader) (R.remaining self.new.reader)) }
         ensures faults { self.old.faults ≤ self.new.faults }
@@ -58,42 +61,105 @@ impl<R: Read> Source for ReaderSource<R> {
     }
 }
 
-/// A station over a writer, with the count of its faults in saying, and with no disk.
+/// A station over a file and a writer, with the counts of their faults.
+///
+/// It tells nothing of the bytes of its file, and so claims nothing of what a stop leaves.
 #[derive(Drop)]
-pub struct WriterStation<W> {
+pub struct StreamStation<V, W> {
+    volume: Option<V>,
+    disk_faults: u64,
     writer: W,
     say_faults: u64,
 }
 
-impl WriterStation<Stdout> {
-    /// Standard output and no file, with no faults so far.
-    pub fn closed(rt: &HostRuntime) -> FileStation
-        ensures { result.say_faults ≡ 0 }
+impl StreamStation<File, Stdout> {
+    /// Standard output and a file, with no faults so far.
+    pub fn over(rt: &HostRuntime, file: File) -> FileStation
+        ensures { (result.disk_faults ≡ 0) × (result.say_faults ≡ 0) }
     {
-        WriterStation {
+        StreamStation {
+            volume: Some(file),
+            disk_faults: 0,
+            writer: rt.stdout(),
+            say_faults: 0,
+        }
+    }
+
+    /// Standard output and no file, with no faults so far. Each disk call fails and is counted.
+    pub fn closed(rt: &HostRuntime) -> FileStation
+        ensures { (result.disk_faults ≡ 0) × (result.say_faults ≡ 0) }
+    {
+        StreamStation {
+            volume: None,
+            disk_faults: 0,
             writer: rt.stdout(),
             say_faults: 0,
         }
     }
 }
 
-impl<W: Outlet> Station for WriterStation<W> {
+impl<V: Volume, W: Outlet> Station for StreamStation<V, W> {
     ghost said = { λ s. W.contents s.writer };
 
     ghost say_faults = { λ s. s.say_faults };
 
-    fn say(&mut self, bytes: &[u8]) -> Result<(), Failed>
-        ensures said { OnOk result
-            (Says (W.contents self.old.writer) (W.contents self.new.writer) bytes.now) }
-        ensures part { OnErr result
-            (SaysPart (W.contents self.old.writer) (W.contents self.new.writer) bytes.now) }
-        ensures failed { OnErr result (Rose self.old.say_faults self.new.say_faults) }
-        ensures faults { self.old.say_faults ≤ self.new.say_faults }
+    ghost disk = { λ _. None };
 
-        ensures sent { OnOk result (IsTrue (W.holds_none self.new.writer)) }
-        ensures counted { self.new.say_faults
-            ≡ (if is_ok result then self.old.say_faults else count_after self.old.say_faults) }
-    {
+    ghost disk_faults = { λ s. s.disk_faults };
+
+    ghost may_leave = { λ _ _. ⊤ };
+
+    ghost moment = { λ _. 0 };
+
+    ghost left_since = { λ _ _ _ _. ⊤ };
+
+    ghost reads = { λ _. tt };
+
+    ghost only_now = { λ _ _ _. tt };
+
+    ghost counts_now = { λ _ _ _ _. tt };
+
+    fn size(&mut self) -> Result<u64, Failed> {
+        let size = match &mut self.volume {
+            Some(volume) => volume.length(),
+            None => Err(ErrorKind::NotFound.into()),
+        };
+        count_fault(size, &mut self.disk_faults)
+    }
+
+    fn read_at(&mut self, at: u64, into: &mut [u8]) -> Result<usize, Failed> {
+        let read = match &mut self.volume {
+            Some(volume) => read_from(volume, at, into),
+            None => Err(ErrorKind::NotFound.into()),
+        };
+        count_fault(read, &mut self.disk_faults)
+    }
+
+    fn write_at(&mut self, at: u64, bytes: &[u8]) -> Result<(), Failed> {
+        let written = match &mut self.volume {
+            Some(volume) => write_to(volume, at, bytes),
+            None => Err(ErrorKind::NotFound.into()),
+        };
+        count_fault(written, &mut self.disk_faults)
+    }
+
+    fn cut(&mut self, size: u64) -> Result<(), Failed> {
+        let cut = match &mut self.volume {
+            Some(volume) => volume.cut_to(size),
+            None => Err(ErrorKind::NotFound.into()),
+        };
+        count_fault(cut, &mut self.disk_faults)
+    }
+
+    fn sync(&mut self) -> Result<(), Failed> {
+        let synced = match &mut self.volume {
+            Some(volume) => volume.put_through(),
+            None => Err(ErrorKind::NotFound.into()),
+        };
+        count_fault(synced, &mut self.disk_faults)
+    }
+
+    fn say(&mut self, bytes: &[u8]) -> Result<(), Failed> {
         write_and_count(&mut self.writer, &mut self.say_faults, bytes)
     }
 }

@@ -24,14 +24,16 @@
 mod adapters;
 mod cursor;
 mod gates;
+mod history;
 mod sources;
 mod stations;
 mod streams;
+mod volumes;
 
 pub use adapters::{FileStation, StdinSource};
 pub use gates::{Gate, NoGate};
 pub use sources::{MemSource, Source, SteadySource};
-pub use stations::{MemStation, Station};
+pub use stations::{MemStation, Station, Torn};
 use std::alloc::{AllocError, AllocFailed};
 
 /// There was no memory for what the call had to make.

@@ -1,7 +1,7 @@
 //! Where bytes come from: what a source is, and the two in memory.
-ghost use Rattle.std.specs.Prelude.{◌≡◌, ◌≤◌, ◌++◌, ℕ, List, Option, None, Some, Ok, IfOk, OnErr};
+ghost use Rattle.std.specs.Prelude.{◌≡◌, ◌≤◌, ◌++◌, ℕ, List, Option, None, Some, Ok, IfOk, OnOk, OnErr};
 ghost use Rattle.std.specs.Prelude.{length, take, drop, is_err};
-ghost use Rattle.sz_outside.specs.Outside.{Rose, Gives, Keeps};
+ghost use Rattle.sz_outside.specs.Outside.{Rose, Stood, Gives, Keeps};
 ghost use Rattle.sz_outside.specs.Memory.{bytes_given, fails_next, tape_after, supply_after};
 
 use crate::Failed;
@@ -11,7 +11,7 @@ use std::marker::Model;
 /// Gives bytes in pieces of its own choice.
 ///
 /// Two meanings stand beside it: the bytes that are left, where it tells them, and the count of its
-/// faults.
+/// faults, which rises exactly where a read fails.
 pub trait Source {
     ghost left: { Self → Option (List ℕ) };
 
@@ -23,6 +23,7 @@ pub trait Source {
         ensures bound { IfOk result (λ n. n ≤ length into.new) }
         ensures bytes { IfOk result (λ n. Gives (left self.old) (left self.new) into.new n) }
         ensures failed { OnErr result (Rose (faults self.old) (faults self.new)) }
+        ensures quiet { OnOk result (Stood (faults self.old) (faults self.new)) }
         ensures kept { OnErr result (Keeps (left self.old) (left self.new)) }
         ensures faults { faults self.old ≤ faults self.new };
 }
@@ -80,6 +81,7 @@ impl Source for MemSource {
         ensures bytes { IfOk result (λ n.
             Gives (Some self.old.supply.left) (Some self.new.supply.left) into.new n) }
         ensures failed { OnErr result (Rose self.old.faults self.new.faults) }
+        ensures quiet { OnOk result (Stood self.old.faults self.new.faults) }
         ensures kept { OnErr result
             (Keeps (Some self.old.supply.left) (Some self.new.supply.left)) }
         ensures faults { self.old.faults ≤ self.new.faults }
@@ -136,6 +138,7 @@ impl Source for SteadySource {
         ensures bytes { IfOk result (λ n.
             Gives (Some self.old.left) (Some self.new.left) into.new n) }
         ensures failed { OnErr result (Rose 0 0) }
+        ensures quiet { OnOk result (Stood 0 0) }
         ensures kept { OnErr result (Keeps (Some self.old.left) (Some self.new.left)) }
         ensures faults { 0 ≤ 0 }
 

@@ -7,7 +7,7 @@ ghost use Rattle.std.specs.Prelude.{Ok, IsTrue, IsErr, IfOk, IfErr, OnOk, OnErr}
 ghost use Rattle.std.specs.IoError.{error_kind};
 ghost use Rattle.std.specs.Io.KnownBytes.{Keeps as KeepsKnown};
 ghost use Rattle.sz_outside.specs.Outside.{Gives, Keeps, Says, SaysPart};
-ghost use Rattle.sz_outside.specs.Memory.{count_after};
+ghost use Rattle.sz_outside.specs.Counts.{count_after};
 
 use crate::Failed;
 use std::io::{self, ErrorKind, Read, Stdout, Write};
@@ -87,7 +87,7 @@ fn retry_read<R: Read>(reader: &mut R, into: &mut [u8]) -> io::Result<usize>
 }
 
 /// The outcome of a call of a stream, whose fault is counted.
-fn count_fault<T>(outcome: io::Result<T>, faults: &mut u64) -> Result<T, Failed>
+pub(crate) fn count_fault<T>(outcome: io::Result<T>, faults: &mut u64) -> Result<T, Failed>
     ensures value { IfOk outcome (λ x. result ≡ Ok x) }
     ensures fault { OnErr outcome (IsErr result) }
     ensures counted { faults.new ≡ (if is_ok outcome then faults.old else count_after faults.old) }
