@@ -34,7 +34,12 @@ GivesAt None at room into n = ⊤
 GivesAt (Some disk) at room into n =
     (n ≡ length (bytes_at disk at room)) × (take n into ≡ bytes_at disk at room)
 
--- These bytes stand at a place of the disk, which else is as before.
+-- These bytes stand on the disk from a place on.
+abbrev pub Holds : Option (List ℕ) → ℕ → List ℕ → Type 0
+Holds None at bytes = ⊤
+Holds (Some disk) at bytes = bytes ≡ bytes_at disk at (length bytes)
+
+-- These bytes were written at a place of the disk, which else is as before.
 abbrev pub Writes : Option (List ℕ) → Option (List ℕ) → ℕ → List ℕ → Type 0
 Writes None new at bytes = ⊤
 Writes (Some disk) new at bytes = new ≡ Some (written disk at bytes)

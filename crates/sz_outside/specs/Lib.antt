@@ -4,4 +4,3 @@ pub mod Disk
 pub mod History
 pub mod Memory
 pub mod Outside
-pub mod Volumes

@@ -3,10 +3,11 @@
 //! Both are written and proved for any reader and any writer, and tell the bytes that their stream
 //! tells. The real streams tell none, but the body that serves them is the same, and cannot tell
 //! them apart from any other.
-ghost use Rattle.std.specs.Prelude.{◌≡◌, ◌≤◌, ⊤, None, length, IfOk, OnOk, OnErr, IsTrue};
-ghost use Rattle.std.specs.Prelude.{is_ok, if◌then◌else◌};
+ghost use Rattle.std.specs.Prelude.{◌≡◌, ◌≤◌, ◌<◌, ◌+◌, ◌^◌, ⊤, None, IsSomeAnd, length, is_ok};
+ghost use Rattle.std.specs.Prelude.{IfOk, OnOk, OnErr, IsTrue};
 ghost use Rattle.sz_outside.specs.Outside.{Rose, Stood, Gives, Keeps, Says, SaysPart};
-ghost use Rattle.sz_outside.specs.Counts.{count_after};
+ghost use Rattle.sz_outside.specs.Counts.{faults_after};
+ghost use Rattle.sz_outside.specs.Disk.{HasSize, GivesAt, Writes, Cuts};
 
 use crate::streams::{Outlet, count_fault, read_and_count, write_and_count};
 use crate::volumes::{Volume, read_from, write_to};
@@ -55,7 +56,7 @@ impl<R: Read> Source for ReaderSource<R> {
         ensures faults { self.old.faults ≤ self.new.faults }
 
         ensures counted { self.new.faults
-            ≡ (if is_ok result then self.old.faults else count_after self.old.faults) }
+            ≡ faults_after self.old.faults (is_ok result) }
     {
         read_and_count(&mut self.reader, &mut self.faults, into)
     }
@@ -119,7 +120,14 @@ impl<V: Volume, W: Outlet> Station for StreamStation<V, W> {
 
     ghost counts_now = { λ _ _ _ _. tt };
 
-    fn size(&mut self) -> Result<u64, Failed> {
+    fn size(&mut self) -> Result<u64, Failed>
+        ensures counted { self.new.disk_faults ≡ faults_after self.old.disk_faults (is_ok result) }
+        ensures output { (W.contents self.new.writer ≡ W.contents self.old.writer)
+            × (self.new.say_faults ≡ self.old.say_faults) }
+
+        ensures size { IfOk result (λ n.
+            IsSomeAnd self.old.volume (λ v. HasSize (V.bytes v) n)) }
+    {
         let size = match &mut self.volume {
             Some(volume) => volume.length(),
             None => Err(ErrorKind::NotFound.into()),
@@ -127,15 +135,31 @@ impl<V: Volume, W: Outlet> Station for StreamStation<V, W> {
         count_fault(size, &mut self.disk_faults)
     }
 
-    fn read_at(&mut self, at: u64, into: &mut [u8]) -> Result<usize, Failed> {
-        let read = match &mut self.volume {
+    fn read_at(&mut self, at: u64, into: &mut [u8]) -> Result<usize, Failed>
+        ensures bound { IfOk result (λ n. n ≤ length into.new) }
+        ensures counted { self.new.disk_faults ≡ faults_after self.old.disk_faults (is_ok result) }
+        ensures output { (W.contents self.new.writer ≡ W.contents self.old.writer)
+            × (self.new.say_faults ≡ self.old.say_faults) }
+
+        ensures bytes { IfOk result (λ n. IsSomeAnd self.old.volume (λ v.
+            GivesAt (V.bytes v) at (length into.old) into.new n)) }
+    {
+        let given = match &mut self.volume {
             Some(volume) => read_from(volume, at, into),
             None => Err(ErrorKind::NotFound.into()),
         };
-        count_fault(read, &mut self.disk_faults)
+        count_fault(given, &mut self.disk_faults)
     }
 
-    fn write_at(&mut self, at: u64, bytes: &[u8]) -> Result<(), Failed> {
+    fn write_at(&mut self, at: u64, bytes: &[u8]) -> Result<(), Failed>
+        ensures limit { OnOk result (at + length bytes.now < 2 ^ 62) }
+        ensures counted { self.new.disk_faults ≡ faults_after self.old.disk_faults (is_ok result) }
+        ensures output { (W.contents self.new.writer ≡ W.contents self.old.writer)
+            × (self.new.say_faults ≡ self.old.say_faults) }
+
+        ensures written { OnOk result (IsSomeAnd self.old.volume (λ v. IsSomeAnd self.new.volume
+            (λ w. Writes (V.bytes v) (V.bytes w) at bytes.now))) }
+    {
         let written = match &mut self.volume {
             Some(volume) => write_to(volume, at, bytes),
             None => Err(ErrorKind::NotFound.into()),
@@ -143,7 +167,14 @@ impl<V: Volume, W: Outlet> Station for StreamStation<V, W> {
         count_fault(written, &mut self.disk_faults)
     }
 
-    fn cut(&mut self, size: u64) -> Result<(), Failed> {
+    fn cut(&mut self, size: u64) -> Result<(), Failed>
+        ensures counted { self.new.disk_faults ≡ faults_after self.old.disk_faults (is_ok result) }
+        ensures output { (W.contents self.new.writer ≡ W.contents self.old.writer)
+            × (self.new.say_faults ≡ self.old.say_faults) }
+
+        ensures cut { OnOk result (IsSomeAnd self.old.volume (λ v. IsSomeAnd self.new.volume
+            (λ w. Cuts (V.bytes v) (V.bytes w) size))) }
+    {
         let cut = match &mut self.volume {
             Some(volume) => volume.cut_to(size),
             None => Err(ErrorKind::NotFound.into()),
@@ -151,7 +182,14 @@ impl<V: Volume, W: Outlet> Station for StreamStation<V, W> {
         count_fault(cut, &mut self.disk_faults)
     }
 
-    fn sync(&mut self) -> Result<(), Failed> {
+    fn sync(&mut self) -> Result<(), Failed>
+        ensures counted { self.new.disk_faults ≡ faults_after self.old.disk_faults (is_ok result) }
+        ensures output { (W.contents self.new.writer ≡ W.contents self.old.writer)
+            × (self.new.say_faults ≡ self.old.say_faults) }
+
+        ensures synced { OnOk result (
+            IsSomeAnd self.new.volume (λ w. IsTrue (V.is_synced w))) }
+    {
         let synced = match &mut self.volume {
             Some(volume) => volume.put_through(),
             None => Err(ErrorKind::NotFound.into()),
@@ -159,7 +197,20 @@ impl<V: Volume, W: Outlet> Station for StreamStation<V, W> {
         count_fault(synced, &mut self.disk_faults)
     }
 
-    fn say(&mut self, bytes: &[u8]) -> Result<(), Failed> {
+    fn say(&mut self, bytes: &[u8]) -> Result<(), Failed>
+        ensures said { OnOk result
+            (Says (W.contents self.old.writer) (W.contents self.new.writer) bytes.now) }
+        ensures part { OnErr result
+            (SaysPart (W.contents self.old.writer) (W.contents self.new.writer) bytes.now) }
+        ensures failed { OnErr result (Rose self.old.say_faults self.new.say_faults) }
+        ensures quiet { OnOk result (Stood self.old.say_faults self.new.say_faults) }
+        ensures faults { self.old.say_faults ≤ self.new.say_faults }
+        ensures volume { self.new.disk_faults ≡ self.old.disk_faults }
+
+        ensures sent { OnOk result (IsTrue (W.holds_none self.new.writer)) }
+        ensures counted { self.new.say_faults
+            ≡ faults_after self.old.say_faults (is_ok result) }
+    {
         write_and_count(&mut self.writer, &mut self.say_faults, bytes)
     }
 }

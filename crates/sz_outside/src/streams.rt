@@ -2,12 +2,12 @@
 //!
 //! A read or a write that a signal broke off is tried again. Any other fault of the stream is
 //! counted and answered as one; the end of the input is no fault.
-ghost use Rattle.std.specs.Prelude.{◌≡◌, ◌≢◌, ◌≤◌, Bool, true, length, is_ok, if◌then◌else◌};
+ghost use Rattle.std.specs.Prelude.{◌≡◌, ◌≢◌, ◌≤◌, Bool, true, length, is_ok};
 ghost use Rattle.std.specs.Prelude.{Ok, IsTrue, IsErr, IfOk, IfErr, OnOk, OnErr};
 ghost use Rattle.std.specs.IoError.{error_kind};
 ghost use Rattle.std.specs.Io.KnownBytes.{Keeps as KeepsKnown};
 ghost use Rattle.sz_outside.specs.Outside.{Gives, Keeps, Says, SaysPart};
-ghost use Rattle.sz_outside.specs.Counts.{count_after};
+ghost use Rattle.sz_outside.specs.Counts.{faults_after};
 
 use crate::Failed;
 use std::io::{self, ErrorKind, Read, Stdout, Write};
@@ -22,7 +22,7 @@ pub(crate) fn read_and_count<R: Read>(
     ensures bytes { IfOk result (λ n.
         Gives (R.remaining reader.old) (R.remaining reader.new) into.new n) }
     ensures kept { OnErr result (Keeps (R.remaining reader.old) (R.remaining reader.new)) }
-    ensures counted { faults.new ≡ (if is_ok result then faults.old else count_after faults.old) }
+    ensures counted { faults.new ≡ faults_after faults.old (is_ok result) }
     ensures rises { faults.old ≤ faults.new }
 {
     let given = retry_read(reader, into);
@@ -40,7 +40,7 @@ pub(crate) fn write_and_count<W: Outlet>(
     ensures part { OnErr result
         (SaysPart (W.contents writer.old) (W.contents writer.new) bytes.now) }
     ensures sent { OnOk result (IsTrue (W.holds_none writer.new)) }
-    ensures counted { faults.new ≡ (if is_ok result then faults.old else count_after faults.old) }
+    ensures counted { faults.new ≡ faults_after faults.old (is_ok result) }
     ensures rises { faults.old ≤ faults.new }
 {
     let written = write_out(writer, bytes);
@@ -90,7 +90,7 @@ fn retry_read<R: Read>(reader: &mut R, into: &mut [u8]) -> io::Result<usize>
 pub(crate) fn count_fault<T>(outcome: io::Result<T>, faults: &mut u64) -> Result<T, Failed>
     ensures value { IfOk outcome (λ x. result ≡ Ok x) }
     ensures fault { OnErr outcome (IsErr result) }
-    ensures counted { faults.new ≡ (if is_ok outcome then faults.old else count_after faults.old) }
+    ensures counted { faults.new ≡ faults_after faults.old (is_ok outcome) }
     ensures rises { faults.old ≤ faults.new }
 {
     match outcome {
