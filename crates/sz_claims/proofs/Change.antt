@@ -17,7 +17,7 @@ use Rattle.sz_claims.specs.Rule.{Table, Own, IsKept, IsTry, IsLook, times, times
 use Rattle.sz_claims.specs.Rule.{after_join}
 use Rattle.sz_claims.specs.Owners.{OneHas, WordsTell}
 use Rattle.sz_claims.specs.Changes.{OneView, IsWin, IsLoss, KnowsNothing, WinsOrLoses, IsOnlyCounted, SplitsOff}
-use Rattle.sz_claims.specs.Changes.{JoinsLists, Keeps, NoneLosesFree, NoneWinsClaimed}
+use Rattle.sz_claims.specs.Changes.{AddsBothUp, Keeps, NoneLosesFree, NoneWinsClaimed}
 use Rattle.sz_claims.proofs.Counts.{claims_with, inside_at, times-push, mark-same}
 use Rattle.sz_claims.proofs.Readings.{claimed-is-one, one-is-claimed, two-seats-are-disjoint, one-seat-has-it-once}
 use Rattle.sz_claims.proofs.Readings.{met-is-one}
@@ -108,8 +108,8 @@ splits-add-a-seat id v s me = record {
 }
 
 -- a join changes its two seats
-pub joins-add-lists : JoinsLists after_join (empty_view 1)
-joins-add-lists id spent v u s apart me them =
+pub joins-add-up : AddsBothUp after_join (empty_view 1)
+joins-add-up id spent v u s apart me them =
     let w : View = after_join v u in
     let vs : List View = set s.views id w in
     let there : get_elem? vs spent ≡ some u = set_else s.views id spent w apart ∙ them in record {

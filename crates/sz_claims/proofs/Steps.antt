@@ -26,9 +26,9 @@ two_inside : (l : List View) (i j : ℕ) (v w : View) → (i ≡ j → ⊥) → 
 two_inside l i j v w apart at there one =
     apart (omega (arith, one, (inside_at l i v at).0, (inside_at l j w there).0))
 
--- a seat that stays where it is, at its depth and with its splits, leaves who is alone
+-- a seat that stays where it is, at its depth, and that was never split unless it is split still, leaves who is alone
 alone_stays : (pieces id : ℕ) (v w : View) (s : Table) → IsKept pieces s → get_elem? s.views id ≡ some v
-    → w.depth ≡ v.depth → w.splits ≡ v.splits → (j : ℕ) (u : View)
+    → w.depth ≡ v.depth → (w.splits ≡ 0 → v.splits ≡ 0) → (j : ℕ) (u : View)
     → get_elem? (set s.views id w) j ≡ some u → u.depth ≡ 0 → u.splits ≡ 0
     → length (set s.views id w) ≡ 1
 alone_stays pieces id v w s kept me depth splits j u at first never =
@@ -36,7 +36,7 @@ alone_stays pieces id v w s kept me depth splits j u at first never =
     ∙ ⊎_elim
     (λ here. kept.alone id v me
     (sym depth ∙ ap (λ (x : View). x.depth) here.1 ∙ first)
-    (sym splits ∙ ap (λ (x : View). x.splits) here.1 ∙ never))
+    (splits (ap (λ (x : View). x.splits) here.1 ∙ never)))
     (λ there. kept.alone j u there.1 first never)
     (at_set s.views id j w u at)
 
@@ -63,7 +63,7 @@ win pieces id piece v s carried small kept me free =
         word-win s.words piece k inside free,
         bit-win s.words piece k inside (kept.bit k),
       );
-      alone = alone_stays pieces id v w s kept me refl refl;
+      alone = alone_stays pieces id v w s kept me refl (λ never. never);
     }
 
 -- a piece that a seat met is claimed, by the count
@@ -87,7 +87,7 @@ word_stays pieces id word v w s carried kept me claimed depth splits met =
       met = λ k there. dite (ℕ_discrete (times k w.met) 0)
           (λ no. kept.met k (omega (arith, no, there, meets_with k s id v w me)))
           (λ now. met k (omega (arith, now)));
-      alone = alone_stays pieces id v w s kept me depth splits;
+      alone = alone_stays pieces id v w s kept me depth (λ never. sym splits ∙ never);
     }
 
 -- a loss leaves the words and adds a claimed piece to those met
@@ -201,7 +201,7 @@ joins-keep pieces id v other w s kept me apart them =
       ));
       alone = λ j u at first never. absurd (⊎_elim
           (λ here. omega (arith, first, ap (λ (x : View). x.depth) here.1))
-          (λ else. let one = alone_stays pieces id v both s kept me refl refl j u else.1 first never in
+          (λ else. let one = alone_stays pieces id v both s kept me refl (λ sum. omega (arith, sum)) j u else.1 first never in
           not_alone (sym (length-set s.views id both) ∙ one))
           (at_set mid.views other j spent u at));
     }

@@ -86,8 +86,9 @@ pub record AddsSeat (id : ℕ) (v w new : View) (s t : Table) : Type 0 where
   pub empty : KnowsNothing (v.depth + 1) new
 
 -- Each word stays. The kept seat, numbered id, has the lists of the spent one behind its own, and
--- all else that it knows stays. The spent seat knows nothing, and each other view stays.
-pub record AddsLists (id spent : ℕ) (v u w x : View) (s t : Table) : Type 0 where
+-- its counts are the sums of theirs: no try, look or split of either is lost. The word that its
+-- last try found and its depth stay. The spent seat knows nothing, and each other view stays.
+pub record AddsUp (id spent : ℕ) (v u w x : View) (s t : Table) : Type 0 where
   pub words : t.words ≡ s.words
   pub kept_before : get_elem? s.views id ≡ some v
   pub spent_before : get_elem? s.views spent ≡ some u
@@ -98,9 +99,9 @@ pub record AddsLists (id spent : ℕ) (v u w x : View) (s t : Table) : Type 0 wh
   pub claimed : w.claimed ≡ v.claimed ++ u.claimed
   pub met : w.met ≡ v.met ++ u.met
   pub found : w.found ≡ v.found
-  pub tries : w.tries ≡ v.tries
-  pub looks : w.looks ≡ v.looks
-  pub splits : w.splits ≡ v.splits
+  pub tries : w.tries ≡ v.tries + u.tries
+  pub looks : w.looks ≡ v.looks + u.looks
+  pub splits : w.splits ≡ v.splits + u.splits
   pub depth : w.depth ≡ v.depth
   pub empty : KnowsNothing 1 x
 
@@ -138,11 +139,11 @@ SplitsOff left right = (id : ℕ) (v : View) (s : Table) → get_elem? s.views i
     record s { views = slice_set s.views id (left v) ++ right v ∷ [] }
 
 -- a join by these two views, in whatever state, puts the lists of the spent seat behind those of
--- the kept one
-abbrev pub JoinsLists : (View → View → View) → View → Type 0
-JoinsLists both empty = (id spent : ℕ) (v u : View) (s : Table) → ¬ (spent ≡ id)
+-- the kept one, and adds the counts of both
+abbrev pub AddsBothUp : (View → View → View) → View → Type 0
+AddsBothUp both empty = (id spent : ℕ) (v u : View) (s : Table) → ¬ (spent ≡ id)
     → get_elem? s.views id ≡ some v → get_elem? s.views spent ≡ some u
-    → AddsLists id spent v u (both v u) empty s
+    → AddsUp id spent v u (both v u) empty s
     record s { views = slice_set (slice_set s.views id (both v u)) spent empty }
 
 -- A step of any kind, by a seat that knew v and then knows w, which keeps the rule.

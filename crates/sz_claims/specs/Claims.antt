@@ -9,8 +9,8 @@ pub record Pieces : Type 0 where
 
 -- Who claims by a pass: the table, the pieces that it claimed and those that it met claimed, each
 -- in the order of its claims, the word that its last claim found (0 free, 1 claimed), how many
--- compare-exchanges, looks and splits it made, and how many splits lie between the first pass and
--- it
+-- compare-exchanges, looks and splits it and the passes joined into it made, and how many splits
+-- lie between the first pass and it
 pub record Claimant : Type 0 where
   pub table : TableId
   pub claimed : List ℕ

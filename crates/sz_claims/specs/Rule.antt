@@ -72,9 +72,15 @@ after_look v = record v { looks = v.looks + 1 }
 abbrev pub after_split : View → View
 after_split v = record v { splits = v.splits + 1 }
 
--- the kept view after a join, which has the lists of both
+-- the kept view after a join, which has the lists of both, and whose counts are the sums of theirs
 abbrev pub after_join : View → View → View
-after_join v spent = record v { claimed = v.claimed ++ spent.claimed; met = v.met ++ spent.met }
+after_join v spent = record v {
+  claimed = v.claimed ++ spent.claimed;
+  met = v.met ++ spent.met;
+  tries = v.tries + spent.tries;
+  looks = v.looks + spent.looks;
+  splits = v.splits + spent.splits;
+}
 
 -- A try is an exchange of 0 for 1. It found 0, and is a win: the seat had neither claimed nor met
 -- the piece. Or it found 1, and is a loss. A seat that is alone finds 0 at each piece that it has

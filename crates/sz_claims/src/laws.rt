@@ -4,7 +4,7 @@ ghost use Rattle.sz_claims.specs.declared.rule.View.{View};
 ghost use Rattle.sz_claims.specs.Rule.{Table, IsKept};
 ghost use Rattle.sz_claims.specs.Owners.{WordsTell};
 ghost use Rattle.sz_claims.specs.Changes.{KnowsNothing, IsExchangeOnly, WinsOrLoses, IsOnlyCounted};
-ghost use Rattle.sz_claims.specs.Changes.{SplitsOff, JoinsLists, NoneLosesFree, NoneWinsClaimed};
+ghost use Rattle.sz_claims.specs.Changes.{SplitsOff, AddsBothUp, NoneLosesFree, NoneWinsClaimed};
 
 use crate::rule::{Looks, OnePassEach, StartsEmpty, TakesBoth, Tries, View};
 use atomic_table::{Join, Play, Split, TableRule};
@@ -40,9 +40,10 @@ pub fn splits_add_a_seat()
     ensures { SplitsOff ⟦<StartsEmpty as Split<View>>⟧.left ⟦<StartsEmpty as Split<View>>⟧.right }
 {}
 
-/// A join puts the lists of the spent seat behind those of the kept one.
-pub fn joins_add_lists()
-    ensures { JoinsLists ⟦<TakesBoth as Join<View>>⟧.both ⟦<TakesBoth as Join<View>>⟧.spent }
+/// A join puts the lists of the spent seat behind those of the kept one, and adds the tries, looks
+/// and splits of both. So what a seat did is still told once it is joined.
+pub fn joins_add_up()
+    ensures { AddsBothUp ⟦<TakesBoth as Join<View>>⟧.both ⟦<TakesBoth as Join<View>>⟧.spent }
 {}
 
 /// Whatever kind of step is made, by whatever code: one that keeps the rule finds claimed what it

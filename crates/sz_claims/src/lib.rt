@@ -5,13 +5,15 @@
 //! A [`ClaimPass`] is the right to claim pieces of one such table, and takes no bytes. Contracts
 //! see in it which pieces it claimed and which it met claimed, each in the order of its claims.
 //! They see the word that its last claim found, how many compare-exchanges (`tries`), looks and
-//! splits it made, and its `depth`, the number of splits between the first pass and it.
+//! splits it and the passes joined into it made, and its `depth`, the number of splits between the
+//! first pass and it.
 //!
 //! - `Claims::new` makes a table and its first pass, which has no piece and made no step.
 //! - `claim` is one compare-exchange. It takes no memory and waits for nobody. True: this step took
 //!   the free piece. False: this step found the piece claimed, be it by this pass or by another.
 //! - `split` makes one more pass, for one more thread.
-//! - `join` puts a pass into another, once its thread is done. No piece was in the lists of both.
+//! - `join` puts a pass into another, once its thread is done. No piece was in the lists of both, and
+//!   the counts of both are added up.
 //!
 //! A worker claims each piece and does what it won:
 //!
@@ -50,7 +52,8 @@
 //!   each load a word for the step, which is not counted.
 //! - Of several passes nothing is said of who wins a piece, nor that any does, nor that a thread
 //!   gets on.
-//! - A pass that is dropped keeps its pieces, which nobody can claim again.
+//! - A pass that is dropped keeps its pieces, which nobody can claim again, and its counts are
+//!   told nowhere else: only a join adds them up.
 //!
 //! A loop that claims piece after piece keeps that each piece so far is claimed or met.
 //! `reach-next` in `proofs/Reach.antt` is the lemma for its step.
@@ -134,7 +137,8 @@ impl Claims {
         ClaimPass { seat }
     }
 
-    /// Puts the second pass into the first, by the load that joins them and one look.
+    /// Puts the second pass into the first, by the load that joins them and one look. The counts
+    /// of both are added up, so that no step of either is lost.
     pub fn join(&self, into: &mut ClaimPass, from: ClaimPass)
         requires into { into.old.table ≡ self.now.table }
         requires from { from.table ≡ self.now.table }
@@ -142,7 +146,9 @@ impl Claims {
         ensures both { into.new ≡ record into.old {
           claimed = into.old.claimed ++ from.claimed;
           met = into.old.met ++ from.met;
-          looks = into.old.looks + 1;
+          tries = into.old.tries + from.tries;
+          looks = into.old.looks + from.looks + 1;
+          splits = into.old.splits + from.splits;
         } }
     {
         let ClaimPass { seat } = from;
@@ -161,8 +167,8 @@ impl Model for Claims {
 
 /// The right to claim pieces of one table. It takes no bytes and moves between threads. Contracts
 /// see its table, the pieces that it claimed and those that it met claimed, the word that its last
-/// claim found (0 free, 1 claimed), and how many compare-exchanges, looks and splits it made, and
-/// how many splits lie between the first pass and it.
+/// claim found (0 free, 1 claimed), and how many compare-exchanges, looks and splits it and the
+/// passes joined into it made, and how many splits lie between the first pass and it.
 #[derive(Drop)]
 pub struct ClaimPass {
     seat: Seat<(), View>,

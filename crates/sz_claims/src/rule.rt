@@ -50,7 +50,8 @@ impl Split<View> for StartsEmpty {
     ghost right = { λ v. empty_view (v.depth + 1) };
 }
 
-// The kept seat has the lists of both, and the spent one knows nothing any more.
+// The kept seat has the lists of both and the sums of their counts, and the spent one knows nothing
+// any more.
 pub struct TakesBoth;
 
 impl Join<View> for TakesBoth {

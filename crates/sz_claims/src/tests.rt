@@ -72,7 +72,8 @@ fn claims_and_passes_move_into_threads(rt: HostRuntime) -> Result<(), Fail> {
 }
 
 #[test]
-fn a_piece_is_won_once(rt: HostRuntime) -> Result<(), Fail> {
+fn a_piece_is_won_once_by_passes_without_bytes(rt: HostRuntime) -> Result<(), Fail> {
+    assert_eq!(rt; size_of::<ClaimPass>(), 0);
     let (claims, mut first) = Claims::new(rt.alloc(), 3)?;
     let mut second = claims.split(&mut first);
     assert!(rt; claims.claim(&mut first, 0));
@@ -83,9 +84,4 @@ fn a_piece_is_won_once(rt: HostRuntime) -> Result<(), Fail> {
     assert!(rt; claims.claim(&mut first, 1));
     assert!(rt; !claims.claim(&mut first, 2));
     Ok(())
-}
-
-#[test]
-fn a_pass_takes_no_bytes(rt: HostRuntime) {
-    assert_eq!(rt; size_of::<ClaimPass>(), 0);
 }

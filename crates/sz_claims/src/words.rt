@@ -80,7 +80,7 @@ impl Words {
         self.table.shared.split_seat::<StartsEmpty>(seat)
     }
 
-    // The kept seat has the lists of both.
+    // The kept seat has the lists of both, and the sums of their counts.
     pub(crate) fn join(&self, kept: &mut Seat<(), View>, spent: Seat<(), View>)
         requires kept { kept.old.table_id ≡ self.now }
         requires spent { (spent.table_id ≡ self.now) × (spent.me.1 ≡ []) }
