@@ -7,7 +7,6 @@ use Rattle.std.proofs.Common.{◌≡◌, ℕ, suc, ◌<◌, Bool, true, false, �
 use Rattle.std.proofs.Common.{List, [], ◌∷◌, ◌++◌, length, map, refl, sym, ap, ap₂, ◌∙◌}
 use Rattle.std.proofs.Common.{arith, Option, Some, None, unwrap_or, All, nat_lt, nat_le}
 use Rattle.std.proofs.lemmas.Bool.{and_parts}
-use Rattle.std.proofs.lemmas.List.{map-append}
 use Rattle.std.proofs.lemmas.Option.{slice_get-map, slice_get_within}
 use Rattle.std.specs.List.{slice_get, list_any}
 use Rattle.std.specs.Option.{option_map, option_map_or}
@@ -16,74 +15,50 @@ use Rattle.sz_cells.specs.declared.Cell.{Cell}
 use Rattle.sz_cells.specs.Extent.{Extent, size_of, holds, cell_of}
 use Rattle.sz_cells.specs.Cells.{Cells, any_cell}
 use Rattle.sz_spec.specs.declared.flow.Node.{Node}
-use Rattle.sz_spec.specs.declared.flow.SourceRef.{SourceRef}
-use Rattle.sz_spec.specs.declared.flow.SourceRef.TheVariants as source
 use Rattle.sz_spec.specs.declared.modes.Dir.{Dir}
 use Rattle.sz_spec.specs.declared.modes.Dir.TheVariants.{Back, Forward}
-use Rattle.sz_spec.specs.Evaluation.{output_of}
-use Rattle.sz_spec.specs.Flows.{Graph, array_of, outputs_from, evaluations}
+use Rattle.sz_spec.specs.Flows.{Graph, array_of, evaluations}
 use Rattle.sz_spec.specs.Lineage.{related, back, forward}
 use Rattle.sz_spec.specs.Paths.{Step, source_of, is_there, follows, are_joined, is_joined}
 use Rattle.sz_spec.specs.Paths.{inputs_of, extent_of, image, compose}
-use Rattle.sz_spec.specs.Shapes.{output_extent}
+use Rattle.sz_spec.specs.FlowShapes.{source_shape}
+use Rattle.sz_spec.specs.Sides.{extent_before}
 use Rattle.sz_spec.specs.Values.{Grid, no_grid, extent_at, extents_of}
 use Rattle.sz_core.specs.declared.pairs.Pair.{Pair}
-use Rattle.sz_core.specs.Extents.{extent_of_source, extents_from}
-use Rattle.sz_core.specs.Extents.{input_extents}
-use Rattle.sz_core.specs.Images.{say, extent_before, image_by, image_on}
+use Rattle.sz_core.specs.Images.{say, image_by, image_on}
 use Rattle.sz_core.specs.Images.{compose_pairs}
 use Rattle.sz_core.specs.Laws.{SayTheRelations, LiesInItsShape, EndedAsksHoldTheComposedRelation}
-use Rattle.sz_core.specs.Starts.{first_shelf, first_shelves, first_ask, start, fits_step}
+use Rattle.sz_core.specs.Starts.{shapes_fit, shapes_made, shapes_taken, first_shelf, first_shelves, first_ask}
+use Rattle.sz_core.specs.Starts.{start, fits_step}
 use Rattle.sz_core.specs.States.{Shelf, shelf_at, whole_pairs}
 use Rattle.sz_core.proofs.Ending.{states_lemma, ended_lemma}
 use Rattle.sz_core.proofs.Going.{image-extent}
 use Rattle.sz_core.proofs.Starting.{source-there, step-shelf, follow-shape, first-there}
-use Rattle.sz_core.proofs.Starting.{equal-extents}
+use Rattle.sz_core.proofs.Starting.{equal-extents, fit-parts}
+use Rattle.sz_spec.proofs.FlowShapes.{inputs-shapes, shapes-found}
+use Rattle.sz_spec.proofs.PayloadLineage.{extent-of_input}
 
 -- ---- shapes of arrays
 
 -- the shape of an array of a list
 extent-got : (arrays : List Grid) (i : ℕ)
     → (unwrap_or (slice_get arrays i) no_grid).extent ≡ extent_at (extents_of arrays) i
-extent-got arrays i = at (slice_get arrays i) refl where
-  at : (o : Option Grid) → slice_get arrays i ≡ o
-      → (unwrap_or (slice_get arrays i) no_grid).extent ≡ extent_at (extents_of arrays) i
-  at None none = let mapped = slice_get-map (λ (g : Grid). g.extent) arrays i
-      ∙ ap (option_map (λ (g : Grid). g.extent)) none in rw (none, mapped) refl
-  at (Some g) some = let mapped = slice_get-map (λ (g : Grid). g.extent) arrays i
-      ∙ ap (option_map (λ (g : Grid). g.extent)) some in rw (some, mapped) refl
-
--- the shape of a source's array
-source-extent : (base outs : List Grid) (s : SourceRef)
-    → (array_of base outs s).extent ≡ extent_of_source (extents_of base) (extents_of outs) s
-source-extent base outs (source.Input i) = extent-got base i
-source-extent base outs (source.Node m) = extent-got outs m
-
-taken-extents : (base outs : List Grid) (from : List SourceRef)
-    → extents_of (map (array_of base outs) from) ≡ map (extent_of_source (extents_of base) (extents_of outs)) from
-taken-extents base outs [] = refl
-taken-extents base outs (s ∷ from) =
-    ap₂ (λ (e : Extent) (es : List Extent). e ∷ es) (source-extent base outs s) (taken-extents base outs from)
+extent-got arrays i = sym (extent-of_input arrays i)
 
 -- the shapes of the outputs are those told by the rules
-outs-extents : (base outs : List Grid) (nodes : List Node)
-    → extents_of (outputs_from base outs nodes) ≡ extents_from (extents_of base) (extents_of outs) nodes
-outs-extents base outs [] = refl
-outs-extents base outs (x ∷ nodes) =
-    let o = output_of x.op (map (array_of base outs) x.from) in
-    outs-extents base (outs ++ o ∷ []) nodes
-    ∙ ap (λ (es : List Extent). extents_from (extents_of base) es nodes)
-    (map-append (λ (g : Grid). g.extent) outs (o ∷ [])
-    ∙ ap (λ (es : List Extent). extents_of outs ++ output_extent x.op es ∷ [])
-    (taken-extents base outs x.from))
+outs-extents : (g : Graph) (base : List Grid) → shapes_fit g (extents_of base) ≡ true
+    → extents_of (evaluations g base) ≡ shapes_made g (extents_of base)
+outs-extents g base fits =
+    shapes-found g base (shapes_made g (extents_of base)) (fit-parts g (extents_of base) fits).1
 
 -- the shapes that a node takes
-ins-extents : (g : Graph) (base : List Grid) (n : ℕ) (x : Node) → slice_get g.nodes n ≡ Some x
-    → input_extents g (extents_of base) n ≡ extents_of (inputs_of g base (evaluations g base) n)
-ins-extents g base n x at =
-    let outs = outs-extents base [] g.nodes in
-    rw at (ap (λ (es : List Extent). map (extent_of_source (extents_of base) es) x.from) (sym outs)
-    ∙ sym (taken-extents base (evaluations g base) x.from))
+ins-extents : (g : Graph) (base : List Grid) (n : ℕ) (x : Node) → shapes_fit g (extents_of base) ≡ true
+    → slice_get g.nodes n ≡ Some x
+    → shapes_taken g (extents_of base) n ≡ extents_of (inputs_of g base (evaluations g base) n)
+ins-extents g base n x fits at =
+    let outs = outs-extents g base fits in
+    rw at (ap (λ (es : List Extent). map (source_shape (extents_of base) es) x.from) (sym outs)
+    ∙ sym (inputs-shapes base (evaluations g base) x.from))
 
 -- ---- images
 
@@ -117,18 +92,18 @@ forward-same r t e s lies same =
 -- the image by all pairs of a node's shelf is the image under its operator's relation
 image-related : (dir : Dir) (g : Graph) (base : List Grid) (pairs : List (List (List Pair))) (s : Step)
     (set : Cells) (x : Node)
-    → SayTheRelations g base pairs → slice_get g.nodes s.node ≡ Some x → s.input < length x.from
+    → shapes_fit g (extents_of base) ≡ true → SayTheRelations g base pairs → slice_get g.nodes s.node ≡ Some x → s.input < length x.from
     → LiesInItsShape set
     → set.extent ≡ extent_before dir (first_shelf g (extents_of base) pairs s.node).out
     (first_shelf g (extents_of base) pairs s.node).ins s.input
     → image_on dir (first_shelf g (extents_of base) pairs s.node) s.input set ≡ image dir g base
     (evaluations g base) s set
-image-related Back g base pairs s set x says at within lies shape =
+image-related Back g base pairs s set x fits says at within lies shape =
     let f = first_shelf g (extents_of base) pairs s.node in
     let ins = inputs_of g base (evaluations g base) s.node in
     let e = extent_at f.ins s.input in
     let same : e ≡ extent_of ins s.input =
-    ap (λ (es : List Extent). extent_at es s.input) (ins-extents g base s.node x at)
+    ap (λ (es : List Extent). extent_at es s.input) (ins-extents g base s.node x fits at)
     ∙ sym (extent-got ins s.input) in
     let taken : List Grid = map (array_of base (evaluations g base)) x.from in
     let named : ins ≡ taken = rw at refl in
@@ -143,12 +118,12 @@ image-related Back g base pairs s set x says at within lies shape =
     back-same (say f.out e (whole_pairs f) s.input) (related x.op ins s.input) e set lies
     (λ o c there held. says s.node s.input x o c at within (rw shape at there) held)
     ∙ ap (λ (d : Extent). back (related x.op ins s.input) d set) same ∙ sym composed
-image-related Forward g base pairs s set x says at within lies shape =
+image-related Forward g base pairs s set x fits says at within lies shape =
     let f = first_shelf g (extents_of base) pairs s.node in
     let ins = inputs_of g base (evaluations g base) s.node in
     let outs = evaluations g base in
     let same : f.out ≡ extent_of outs s.node =
-    ap (λ (es : List Extent). extent_at es s.node) (sym (outs-extents base [] g.nodes))
+    ap (λ (es : List Extent). extent_at es s.node) (sym (outs-extents g base fits))
     ∙ sym (extent-got outs s.node) in
     let taken : List Grid = map (array_of base (evaluations g base)) x.from in
     let named : ins ≡ taken = rw at refl in
@@ -177,46 +152,48 @@ image-lies pairs Forward out ins i set =
 
 -- the image under the first step
 first-image : (dir : Dir) (g : Graph) (base : List Grid) (pairs : List (List (List Pair))) (s : Step) (set : Cells)
-    → length pairs ≡ length g.nodes → SayTheRelations g base pairs → is_there (source_of g s) ≡ true
+    → shapes_fit g (extents_of base) ≡ true → length pairs ≡ length g.nodes → SayTheRelations g base pairs
+    → is_there (source_of g s) ≡ true
     → LiesInItsShape set
     → set.extent ≡ extent_before dir (shelf_at (first_shelves g (extents_of base) pairs) s.node).out
     (shelf_at (first_shelves g (extents_of base) pairs) s.node).ins s.input
     → image_on dir (shelf_at (first_shelves g (extents_of base) pairs) s.node) s.input set ≡ image dir g base
     (evaluations g base) s set
-first-image dir g base pairs s set count says there lies shape =
+first-image dir g base pairs s set fits count says there lies shape =
     let at = source-there g s there in
     let here = step-shelf g (extents_of base) pairs s count there in
     ap (λ (f : Shelf). image_on dir f s.input set) here
-    ∙ image-related dir g base pairs s set at.0 says at.2 (slice_get_within (at.0).from s.input at.1 at.3) lies
+    ∙ image-related dir g base pairs s set at.0 fits says at.2 (slice_get_within (at.0).from s.input at.1 at.3) lies
     (rw here at shape)
 
 -- a path's composition by all pairs is the composed relation of it
 composed-along : (dir : Dir) (g : Graph) (base : List Grid) (pairs : List (List (List Pair))) (s : Step)
     (path : List Step) (set : Cells)
-    → length pairs ≡ length g.nodes → SayTheRelations g base pairs → are_joined dir g (s ∷ path) ≡ true
+    → shapes_fit g (extents_of base) ≡ true → length pairs ≡ length g.nodes → SayTheRelations g base pairs
+    → are_joined dir g (s ∷ path) ≡ true
     → LiesInItsShape set
     → set.extent ≡ extent_before dir (shelf_at (first_shelves g (extents_of base) pairs) s.node).out
     (shelf_at (first_shelves g (extents_of base) pairs) s.node).ins s.input
     → compose_pairs dir (first_shelves g (extents_of base) pairs) (s ∷ path) set ≡ compose dir g base
     (evaluations g base) (s ∷ path) set
-composed-along dir g base pairs s [] set count says joined lies shape =
-    first-image dir g base pairs s set count says joined lies shape
-composed-along dir g base pairs s (t ∷ path) set count says joined lies shape =
+composed-along dir g base pairs s [] set fits count says joined lies shape =
+    first-image dir g base pairs s set fits count says joined lies shape
+composed-along dir g base pairs s (t ∷ path) set fits count says joined lies shape =
     let shelves = first_shelves g (extents_of base) pairs in
     let x = shelf_at shelves s.node in
     let outer = and_parts (is_there (source_of g s) && follows dir g s t) (are_joined dir g (t ∷ path)) joined in
     let inner = and_parts (is_there (source_of g s)) (follows dir g s t) outer.0 in
     let second = first-there dir g t path outer.1 in
     let next = image_on dir x s.input set in
-    composed-along dir g base pairs t path next count says outer.1
+    composed-along dir g base pairs t path next fits count says outer.1
     (image-lies (whole_pairs x) dir x.out x.ins s.input set)
     (image-extent (whole_pairs x) dir x.out x.ins s.input set
     ∙ follow-shape dir g (extents_of base) pairs s t count inner.0 second inner.1)
     ∙ ap (compose dir g base (evaluations g base) (t ∷ path))
-    (first-image dir g base pairs s set count says inner.0 lies shape)
+    (first-image dir g base pairs s set fits count says inner.0 lies shape)
 
 pub composed_lemma : EndedAsksHoldTheComposedRelation
-composed_lemma g base pairs queries events n q b count right says lies query last told =
+composed_lemma g base pairs queries events n q b shaped count right says lies query last told =
     let shelves = first_shelves g (extents_of base) pairs in
     let s = start g (extents_of base) pairs queries in
     let first : slice_get s.asks n ≡ Some (first_ask q) = slice_get-map first_ask queries n
@@ -236,5 +213,5 @@ composed_lemma g base pairs queries events n q b count right says lies query las
       at [] joined fits = refl
       at (s ∷ path) joined fits =
           let x = shelf_at (first_shelves g (extents_of base) pairs) s.node in
-          composed-along q.dir g base pairs s path q.cells count says joined lies
+          composed-along q.dir g base pairs s path q.cells shaped count says joined lies
           (equal-extents q.cells.extent (extent_before q.dir x.out x.ins s.input) fits)

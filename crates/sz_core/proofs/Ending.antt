@@ -32,7 +32,7 @@ use Rattle.sz_core.specs.Events.{next_step, next_state, last_state}
 use Rattle.sz_core.specs.Images.{image_by, image_on, compose_pairs}
 use Rattle.sz_core.specs.Laws.{IsSound, StatesAreSound, to_come, NoEventChangesWhatIsToCome}
 use Rattle.sz_core.specs.Laws.{EndedAsksHoldTheComposition, OrderDoesNotMatter}
-use Rattle.sz_core.specs.Ready.{AreAllPlaced}
+use Rattle.sz_core.specs.Invariants.{AreAllPlaced}
 use Rattle.sz_core.specs.Starts.{first_shelf, first_shelves}
 use Rattle.sz_core.specs.States.{State, Shelf, Ask, shelf_at, no_shelf, is_placed}
 use Rattle.sz_core.specs.States.{missing_piece}

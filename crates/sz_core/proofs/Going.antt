@@ -23,8 +23,9 @@ use Rattle.sz_core.specs.Events.{change_at, after_place, after_seal, next_step, 
 use Rattle.sz_core.specs.Events.{after_look}
 use Rattle.sz_core.specs.declared.events.Told.TheVariants.{FromStore, FromTrace, Ended}
 use Rattle.sz_core.specs.Steps.{step_of}
-use Rattle.sz_core.specs.Images.{extent_before, extent_after, image_by}
-use Rattle.sz_core.specs.Ready.{IsStepFrom, LiesAlong, IsReady, extent_beyond}
+use Rattle.sz_spec.specs.Sides.{extent_before, extent_after}
+use Rattle.sz_core.specs.Images.{image_by}
+use Rattle.sz_core.specs.Invariants.{IsStepFrom, LiesAlong, CanGoOn, extent_beyond}
 use Rattle.sz_core.specs.States.{Shelf, Ask, shelf_at, no_shelf, is_placed, missing_piece}
 use Rattle.sz_core.specs.States.{pairs_taken}
 
@@ -112,7 +113,7 @@ along-same dir shelves others e (s ∷ path) long same along =
 -- so asks that can go on still can, after a change of a shelf that keeps its shapes
 pub ready-changed : (shelves : List Shelf) (asks : List Ask) (n : ℕ) (f : Shelf → Shelf)
     → ((s : Shelf) → shapes_of (f s) ≡ shapes_of s)
-    → All (IsReady shelves) asks → All (IsReady (change_at n f shelves)) asks
+    → All (CanGoOn shelves) asks → All (CanGoOn (change_at n f shelves)) asks
 ready-changed shelves asks n f keeps ready k d within =
     let a = get_or asks k d in
     along-same a.dir shelves (change_at n f shelves) a.cells.extent (drop a.made a.path)
@@ -130,7 +131,7 @@ steps-left path n s at =
     (get_or_from_slice_get path n s s at) (sym (add-one n))
 
 -- what holds of the next step
-pub ready-step : (shelves : List Shelf) (a : Ask) (s : Step) → IsReady shelves a → next_step a ≡ Some s
+pub ready-step : (shelves : List Shelf) (a : Ask) (s : Step) → CanGoOn shelves a → next_step a ≡ Some s
     → IsStepFrom a.dir shelves a.cells.extent s
 ready-step shelves a s ready at = let h = rw (steps-left a.path a.made s at) at ready in h.0
 
@@ -141,8 +142,8 @@ image-extent pairs Back out ins i set = refl
 image-extent pairs Forward out ins i set = refl
 
 -- an ask that took a step can go on
-pub ready-after : (shelves : List Shelf) (a : Ask) (s : Step) → IsReady shelves a → next_step a ≡ Some s
-    → IsReady shelves (step_on (shelf_at shelves s.node) s.input a)
+pub ready-after : (shelves : List Shelf) (a : Ask) (s : Step) → CanGoOn shelves a → next_step a ≡ Some s
+    → CanGoOn shelves (step_on (shelf_at shelves s.node) s.input a)
 ready-after shelves a s ready at =
     let x = shelf_at shelves s.node in
     let rest = rw (steps-left a.path a.made s at) at ready in
@@ -173,9 +174,9 @@ pub look-none : (shelves : List Shelf) (a : Ask) → next_step a ≡ None → (l
 look-none shelves a at = rw at (refl, refl)
 
 -- an ask that looked can go on
-pub ready-looked : (shelves : List Shelf) (a : Ask) → IsReady shelves a → IsReady shelves (after_look shelves a)
+pub ready-looked : (shelves : List Shelf) (a : Ask) → CanGoOn shelves a → CanGoOn shelves (after_look shelves a)
 ready-looked shelves a ready = at (next_step a) refl where
-  at : (o : Option Step) → next_step a ≡ o → IsReady shelves (after_look shelves a)
+  at : (o : Option Step) → next_step a ≡ o → CanGoOn shelves (after_look shelves a)
   at None e = rw (look-none shelves a e).1 ready
   at (Some s) e = rw (look-after shelves a s e) (ready-after shelves a s ready e)
 
@@ -186,8 +187,8 @@ either-way (Ok x) p q one other = one p
 either-way (Err e) p q one other = other q
 
 -- asks of which one was changed to one that can go on
-pub ready-set : (shelves : List Shelf) (asks : List Ask) (n : ℕ) (a : Ask) → IsReady shelves a
-    → All (IsReady shelves) asks → All (IsReady shelves) (set asks n a)
+pub ready-set : (shelves : List Shelf) (asks : List Ask) (n : ℕ) (a : Ask) → CanGoOn shelves a
+    → All (CanGoOn shelves) asks → All (CanGoOn shelves) (set asks n a)
 ready-set shelves asks n a ready all k d within =
     let inside : k < length asks = rw (← length-set asks n a) within in
     elim (cases_Bool (k == n)) [

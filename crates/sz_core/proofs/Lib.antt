@@ -1,7 +1,6 @@
 pub mod Groups
 pub mod Relations
 pub mod Placing
-pub mod Flowing
 pub mod Going
 pub mod Running
 pub mod Starting

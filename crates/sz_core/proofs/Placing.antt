@@ -21,7 +21,7 @@ use Rattle.sz_spec.specs.declared.modes.Dir.TheVariants.{Back, Forward}
 use Rattle.sz_spec.specs.Lineage.{back, forward}
 use Rattle.sz_spec.specs.Values.{extent_at}
 use Rattle.sz_core.specs.Images.{image_by}
-use Rattle.sz_core.specs.Ready.{AreAllPlaced}
+use Rattle.sz_core.specs.Invariants.{AreAllPlaced}
 use Rattle.sz_core.specs.States.{Shelf, is_placed, missing_piece, piece_pairs, placed_pairs}
 use Rattle.sz_core.specs.States.{whole_pairs}
 use Rattle.sz_core.specs.States.{pairs_taken}

@@ -22,7 +22,8 @@ use Rattle.sz_spec.specs.declared.modes.Dir.{Dir}
 use Rattle.sz_spec.specs.declared.modes.Dir.TheVariants.{Back, Forward}
 use Rattle.sz_spec.specs.Values.{extent_at, no_extent}
 use Rattle.sz_core.specs.declared.pairs.Pair.{Pair}
-use Rattle.sz_core.specs.Images.{extent_before, extent_after, image_by}
+use Rattle.sz_spec.specs.Sides.{extent_before, extent_after}
+use Rattle.sz_core.specs.Images.{image_by}
 use Rattle.sz_core.specs.Links.{Links, Relation, cells_linked, pair_leads, no_links}
 use Rattle.sz_core.specs.Links.{HasPairs}
 use Rattle.sz_core.specs.Links.{AreIndexesOf}

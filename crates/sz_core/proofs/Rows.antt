@@ -15,8 +15,7 @@ use Rattle.sz_core.specs.declared.events.Told.TheVariants.{NoSuch}
 use Rattle.sz_core.specs.Events.{last_state, replies}
 use Rattle.sz_core.specs.Examples.{pair, region_flow, region_pairs, sum_flow, first_pairs}
 use Rattle.sz_core.specs.Examples.{second_pairs}
-use Rattle.sz_core.specs.Extents.{shapes_fit}
-use Rattle.sz_core.specs.Starts.{start, first_shelves, are_shelves, are_queries}
+use Rattle.sz_core.specs.Starts.{shapes_fit, start, first_shelves, are_shelves, are_queries}
 use Rattle.sz_core.specs.States.{State, Query}
 
 abbrev step : ℕ → ℕ → Step

@@ -10,34 +10,42 @@ use Rattle.std.proofs.Common.{length, zero-add, length-append, get_or, map, refl
 use Rattle.std.proofs.Common.{ap₂, ◌∙◌, arith, true≢false, eqb-true, ltb-true, lt-ltb, Option, Some}
 use Rattle.std.proofs.Common.{None, All}
 use Rattle.std.proofs.lemmas.Bool.{and_parts}
+use Rattle.std.proofs.lemmas.List.Elements.{All-cons}
 use Rattle.std.proofs.lemmas.List.{length-map}
 use Rattle.std.proofs.lemmas.List.FromFn.{get_or-map-range_with_len, length-map-range_with_len}
 use Rattle.std.proofs.lemmas.Option.{slice_get-get_or, slice_get_within}
 use Rattle.std.proofs.lemmas.Option.{slice_get-map}
 use Rattle.std.specs.List.{slice_get, list_all, enumerate_from}
 use Rattle.std.specs.Option.{option_map, option_map_or}
+use Rattle.std.specs.Prelude.{Result, Ok, Err, is_ok, is_none}
+use Rattle.std.specs.Result.{result_unwrap_or}
 use Rattle.sz_cells.specs.Extent.{Extent, size_of}
 use Rattle.sz_spec.specs.declared.flow.Node.{Node}
 use Rattle.sz_spec.specs.declared.flow.SourceRef.{SourceRef}
 use Rattle.sz_spec.specs.declared.flow.SourceRef.TheVariants as source
 use Rattle.sz_spec.specs.declared.modes.Dir.{Dir}
 use Rattle.sz_spec.specs.declared.modes.Dir.TheVariants.{Back, Forward}
-use Rattle.sz_spec.specs.Flows.{Graph, is_source, node_fault, nodes_fault, flow_fault}
+use Rattle.sz_spec.specs.declared.op.Op.{Op}
+use Rattle.sz_spec.specs.declared.op.Op.TheVariants.{Add, Sub, Mul, Min, Max, Lookup}
+use Rattle.sz_spec.specs.Flows.{Graph, is_source, flow_fault}
+use Rattle.sz_spec.specs.FlowShapes.{source_shape, node_inputs, output_shapes}
+use Rattle.sz_spec.specs.LawsFlows.{IsRightNode}
 use Rattle.sz_spec.specs.Paths.{Step, source_of, is_output_of, is_there, follows, are_joined}
 use Rattle.sz_spec.specs.Paths.{is_joined}
 use Rattle.sz_spec.specs.Pieces.{pieces_of}
 use Rattle.sz_spec.specs.Shapes.{arity, are_equal}
+use Rattle.sz_spec.specs.Sides.{extent_before, extent_after}
 use Rattle.sz_spec.specs.Values.{extent_at}
 use Rattle.sz_core.specs.declared.pairs.Pair.{Pair}
-use Rattle.sz_core.specs.Extents.{extent_of_source, extents_taken, extent_made, extents_from}
-use Rattle.sz_core.specs.Extents.{output_extents, input_extents}
-use Rattle.sz_core.specs.Images.{extent_before, extent_after}
 use Rattle.sz_core.specs.Links.{near_cell, far_cell, LiesWithin, PairsLieWithin}
-use Rattle.sz_core.specs.Ready.{IsStepFrom, LiesAlong, IsReady, extent_beyond}
-use Rattle.sz_core.specs.Starts.{first_shelf, first_shelves, first_ask, is_pair_of}
+use Rattle.sz_core.specs.Invariants.{IsStepFrom, LiesAlong, CanGoOn, extent_beyond}
+use Rattle.sz_core.specs.Starts.{shapes_fit, shapes_made, shapes_taken, first_shelf, first_shelves, first_ask}
+use Rattle.sz_core.specs.Starts.{is_pair_of}
 use Rattle.sz_core.specs.Starts.{is_shelf, are_shelves, fits_step, is_query, are_queries}
 use Rattle.sz_core.specs.States.{Shelf, Query, shelf_at, no_shelf}
-use Rattle.sz_core.proofs.Flowing.{each-from, no-fault, node-right, nodes-right}
+use Rattle.sz_core.proofs.Relations.{extent-at}
+use Rattle.sz_spec.proofs.FlowOutputs.{well-formed_parts}
+use Rattle.sz_spec.proofs.FlowShapes.{wider, outputs-length}
 
 -- ---- lists
 
@@ -46,7 +54,7 @@ pub all-each : {A : Type 0} (t : A → Bool) (xs : List A) → list_all t xs ≡
 all-each t [] passes = λ k d within. absurd (omega arith)
 all-each t (x ∷ xs) passes =
     let both = and_parts (t x) (list_all t xs) passes in
-    each-from (λ y. t y ≡ true) x xs both.0 (all-each t xs both.1)
+    All-cons (λ y. t y ≡ true) x xs both.0 (all-each t xs both.1)
 
 -- a test of all with their places is one of each with its place
 pub places-each : {A : Type 0} (t : ℕ × A → Bool) (a : ℕ) (xs : List A)
@@ -63,51 +71,66 @@ places-each t a (x ∷ xs) passes (suc k) d within =
 
 -- ---- nodes
 
--- a node of nodes without a fault has none
-fault-at : (inputs a n : ℕ) (nodes : List Node) (d : Node) → nodes_fault inputs a nodes ≡ None
-    → n < length nodes
-    → node_fault inputs (a + n) (get_or nodes n d) ≡ None
-fault-at inputs a n [] d none within = absurd (omega arith)
-fault-at inputs a zero (x ∷ nodes) d none within =
-    let here : a + 0 ≡ a = omega arith in
-    rw here (no-fault (node_fault inputs a x) (nodes_fault inputs (a + 1) nodes) none).0
-fault-at inputs a (suc n) (x ∷ nodes) d none within =
-    let next : a + suc n ≡ a + 1 + n = omega arith in
-    rw next (fault-at inputs (a + 1) n nodes d
-    (no-fault (node_fault inputs a x) (nodes_fault inputs (a + 1) nodes) none).1 (omega arith))
-
--- a source of an earlier node is one of a later node
-source-later : (inputs n m : ℕ) (s : SourceRef) → n ≤ m → is_source inputs n s ≡ true
-    → is_source inputs m s ≡ true
-source-later inputs n m (source.Input i) order right = right
-source-later inputs n m (source.Node k) order right = lt-ltb k m (omega (arith, ltb-true k n right))
-
 -- what holds of node n of a flow without a fault
 pub node-at : (g : Graph) (n m : ℕ) (x : Node) → flow_fault g ≡ None → n < length g.nodes
     → x ≡ get_or g.nodes n x → n ≤ m
     → (length x.from ≡ arity x.op) × All (λ s. is_source g.inputs m s ≡ true) x.from
 node-at g n m x none within at order =
-    let right = node-right g.inputs n x
-    (rw at (rw zero-add at (fault-at g.inputs 0 n g.nodes x (nodes-right g none) within))) in
-    (right.0, λ k d inside. source-later g.inputs n m (get_or x.from k d) order (right.2 k d inside))
+    let there : slice_get g.nodes n ≡ Some x =
+    slice_get-get_or g.nodes n x within ∙ ap (λ (y : Node). Some y) (sym at) in
+    let right : IsRightNode g.inputs n x = (well-formed_parts g (ap is_none none)).3 n x there in
+    (right.0, λ k d inside. wider g.inputs g.inputs n m (get_or x.from k d) refl order (right.1 k d inside))
+
+-- an operator takes at most two inputs
+pub arity-few : (op : Op) → arity op ≤ 2
+arity-few Add = omega arith
+arity-few Sub = omega arith
+arity-few Mul = omega arith
+arity-few Min = omega arith
+arity-few Max = omega arith
+arity-few Lookup = omega arith
+arity-few _ = omega arith
+
+-- shapes that are found are those that are made
+found-made : (r : Result (List Extent) ℕ) → is_ok r ≡ true → r ≡ Ok (result_unwrap_or r [])
+found-made (Ok shapes) found = refl
+found-made (Err n) found = absurd (true≢false (sym found))
+
+-- where shapes fit there are as many as base arrays, and each node's rule gives one
+pub fit-parts : (g : Graph) (base : List Extent) → shapes_fit g base ≡ true
+    → (length base ≡ g.inputs) × (output_shapes g base ≡ Ok (shapes_made g base))
+fit-parts g base fits =
+    let both = and_parts (length base == g.inputs) (is_ok (output_shapes g base)) fits in
+    (eqb-true (length base) g.inputs both.0, found-made (output_shapes g base) both.1)
 
 -- there is one output shape for each node
-extents-length : (base outs : List Extent) (nodes : List Node)
-    → length (extents_from base outs nodes) ≡ length outs + length nodes
-extents-length base outs [] = omega arith
-extents-length base outs (x ∷ nodes) = extents-length base (outs ++ extent_made base outs x ∷ []) nodes
-    ∙ omega (arith, length-append outs (extent_made base outs x ∷ []))
-
-pub outputs-length : (g : Graph) (base : List Extent) → length (output_extents g base) ≡ length g.nodes
-outputs-length g base = extents-length base [] g.nodes ∙ omega arith
+pub count-made : (g : Graph) (base : List Extent) → shapes_fit g base ≡ true
+    → length (shapes_made g base) ≡ length g.nodes
+count-made g base fits = outputs-length g base (shapes_made g base) (fit-parts g base fits).1
 
 -- the shapes that a node takes
 pub inputs-at : (g : Graph) (base : List Extent) (n : ℕ) (x : Node) → n < length g.nodes
     → x ≡ get_or g.nodes n x
-    → input_extents g base n ≡ extents_taken base (output_extents g base) x
+    → shapes_taken g base n ≡ node_inputs base (shapes_made g base) x
 inputs-at g base n x within at =
     let here : slice_get g.nodes n ≡ Some x = slice_get-get_or g.nodes n x within
     ∙ ap (λ (y : Node). Some y) (sym at) in rw here refl
+
+-- the shapes made of a node's sources are those that it takes
+pub taken-found : (g : Graph) (base outs ins : List Extent) (n : ℕ) (x : Node) (from : List SourceRef)
+    → n < length g.nodes → x ≡ get_or g.nodes n x → outs ≡ shapes_made g base → from ≡ x.from
+    → ins ≡ map (source_shape base outs) from → ins ≡ shapes_taken g base n
+taken-found g base outs ins n x from within at made same found =
+    found ∙ ap (map (source_shape base outs)) same
+    ∙ ap (λ (os : List Extent). node_inputs base os x) made
+    ∙ sym (inputs-at g base n x within at)
+
+-- the shape at hand is that of the node's output
+pub out-found : (g : Graph) (base outs : List Extent) (n : ℕ) (e : Extent) → shapes_fit g base ≡ true
+    → n < length g.nodes → outs ≡ shapes_made g base → e ≡ get_or outs n e → e ≡ extent_at (shapes_made g base) n
+out-found g base outs n e fits within made at =
+    let long = ap length made ∙ count-made g base fits in
+    extent-at outs n e (omega (arith, long, within)) at ∙ ap (λ (os : List Extent). extent_at os n) made
 
 -- ---- pairs
 
@@ -207,12 +230,12 @@ source-there g s there = at (slice_get g.nodes s.node) refl where
 -- the shape of an input of a step
 input-shape : (g : Graph) (base : List Extent) (s : Step) (r : SourceRef) → source_of g s ≡ Some r
     → (x : Node) → slice_get g.nodes s.node ≡ Some x → slice_get x.from s.input ≡ Some r
-    → extent_at (input_extents g base s.node) s.input ≡ extent_of_source base (output_extents g base) r
+    → extent_at (shapes_taken g base s.node) s.input ≡ source_shape base (shapes_made g base) r
 input-shape g base s r _ x node at =
-    let mapped : slice_get (extents_taken base (output_extents g base) x) s.input ≡ Some
-    (extent_of_source base (output_extents g base) r) =
-    slice_get-map (extent_of_source base (output_extents g base)) x.from s.input
-    ∙ ap (option_map (extent_of_source base (output_extents g base))) at in
+    let mapped : slice_get (node_inputs base (shapes_made g base) x) s.input ≡ Some
+    (source_shape base (shapes_made g base) r) =
+    slice_get-map (source_shape base (shapes_made g base)) x.from s.input
+    ∙ ap (option_map (source_shape base (shapes_made g base))) at in
     rw (node, mapped) refl
 
 -- the shelf of a step of the flow
@@ -234,19 +257,19 @@ step-from dir g base pairs e s count there shape =
     let at = source-there g s there in
     let within = slice_get_within g.nodes s.node at.0 at.2 in
     let inside = slice_get_within (at.0).from s.input at.1 at.3 in
-    let ins : (shelf_at (first_shelves g base pairs) s.node).ins ≡ extents_taken base (output_extents g base) at.0 =
+    let ins : (shelf_at (first_shelves g base pairs) s.node).ins ≡ node_inputs base (shapes_made g base) at.0 =
     ap (λ (x : Shelf). x.ins) (step-shelf g base pairs s count there) ∙ (rw at.2 refl) in
     record {
       node = rw (length-map-range_with_len (first_shelf g base pairs) 0 (length pairs), count) within;
-      input = rw (ins, length-map (at.0).from (extent_of_source base (output_extents g base))) inside;
+      input = rw (ins, length-map (at.0).from (source_shape base (shapes_made g base))) inside;
       shape = shape;
     }
 
 -- a source that is the output of a node has the shape of that output
 output-of : (g : Graph) (base : List Extent) (s : Step) (n : ℕ) (r : SourceRef) → is_output_of n (Some r) ≡ true
-    → extent_of_source base (output_extents g base) r ≡ extent_at (output_extents g base) n
+    → source_shape base (shapes_made g base) r ≡ extent_at (shapes_made g base) n
 output-of g base s n (source.Input i) is = absurd (true≢false (sym is))
-output-of g base s n (source.Node m) is = ap (extent_at (output_extents g base)) (eqb-true m n is)
+output-of g base s n (source.Node m) is = ap (extent_at (shapes_made g base)) (eqb-true m n is)
 
 -- the first step of a joined path is of the flow
 pub first-there : (dir : Dir) (g : Graph) (s : Step) (path : List Step) → are_joined dir g (s ∷ path) ≡ true
@@ -296,7 +319,7 @@ along-joined dir g base pairs e s (t ∷ path) count joined shape =
 -- a query's ask can go on
 pub query-ready : (g : Graph) (base : List Extent) (pairs : List (List (List Pair))) (q : Query)
     → length pairs ≡ length g.nodes
-    → is_query g (first_shelves g base pairs) q ≡ true → IsReady (first_shelves g base pairs) (first_ask q)
+    → is_query g (first_shelves g base pairs) q ≡ true → CanGoOn (first_shelves g base pairs) (first_ask q)
 query-ready g base pairs q count right =
     let shelves = first_shelves g base pairs in
     let both = and_parts (is_joined q.dir g q.path)
@@ -316,11 +339,11 @@ query-ready g base pairs q count right =
 pub queries-ready : (g : Graph) (base : List Extent) (pairs : List (List (List Pair))) (queries : List Query)
     → length pairs ≡ length g.nodes
     → are_queries g (first_shelves g base pairs) queries ≡ true
-    → All (IsReady (first_shelves g base pairs)) (map first_ask queries)
+    → All (CanGoOn (first_shelves g base pairs)) (map first_ask queries)
 queries-ready g base pairs [] count right = λ k d within. absurd (omega arith)
 queries-ready g base pairs (q ∷ queries) count right =
     let both = and_parts (is_query g (first_shelves g base pairs) q)
     (are_queries g (first_shelves g base pairs) queries) right in
-    each-from (IsReady (first_shelves g base pairs)) (first_ask q) (map first_ask queries)
+    All-cons (CanGoOn (first_shelves g base pairs)) (first_ask q) (map first_ask queries)
     (query-ready g base pairs q count both.0)
     (queries-ready g base pairs queries count both.1)

@@ -5,9 +5,8 @@ use Rattle.sz_cells.specs.declared.Cell.{Cell}
 use Rattle.sz_cells.specs.Extent.{Extent, index_of}
 use Rattle.sz_cells.specs.Cells.{Cells}
 use Rattle.sz_spec.specs.declared.modes.Dir.{Dir}
-use Rattle.sz_spec.specs.declared.modes.Dir.TheVariants.{Back, Forward}
-use Rattle.sz_spec.specs.Lineage.{back, forward}
 use Rattle.sz_spec.specs.Paths.{Step}
+use Rattle.sz_spec.specs.Sides.{image_between}
 use Rattle.sz_spec.specs.Values.{extent_at}
 use Rattle.sz_core.specs.declared.pairs.Pair.{Pair}
 use Rattle.sz_core.specs.States.{Shelf, shelf_at, whole_pairs}
@@ -19,21 +18,10 @@ say out taken pairs input o x =
     list_any (λ p. (p.out == index_of out o) &&
     ((p.input == input) && (p.cell == index_of taken x))) pairs
 
--- the shape of the cells that a step over input i takes, and that of the cells to which it leads;
--- `out` is the shape of
--- the node's output, and `ins` are those of what it takes
-abbrev pub extent_before : Dir → Extent → List Extent → ℕ → Extent
-extent_before Back out ins i = out
-extent_before Forward out ins i = extent_at ins i
-
-abbrev pub extent_after : Dir → Extent → List Extent → ℕ → Extent
-extent_after Back out ins i = extent_at ins i
-extent_after Forward out ins i = out
-
 -- the image of a set under what pairs say of input i
 abbrev pub image_by : List Pair → Dir → Extent → List Extent → ℕ → Cells → Cells
-image_by pairs Back out ins i set = back (say out (extent_at ins i) pairs i) (extent_at ins i) set
-image_by pairs Forward out ins i set = forward (say out (extent_at ins i) pairs i) out set
+image_by pairs dir out ins i set =
+    image_between dir out ins i (say out (extent_at ins i) pairs i) set
 
 -- the image of a set under all pairs of a shelf
 abbrev pub image_on : Dir → Shelf → ℕ → Cells → Cells

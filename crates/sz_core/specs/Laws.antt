@@ -17,8 +17,8 @@ use Rattle.sz_core.specs.declared.events.Told.TheVariants.{Sealed, FromStore, Fr
 use Rattle.sz_core.specs.declared.pairs.Pair.{Pair}
 use Rattle.sz_core.specs.Events.{change_at, next_step, reply, next_state, last_state, replies}
 use Rattle.sz_core.specs.Images.{say, compose_pairs}
-use Rattle.sz_core.specs.Ready.{AreAllPlaced}
-use Rattle.sz_core.specs.Starts.{first_shelf, first_shelves, start, is_query}
+use Rattle.sz_core.specs.Invariants.{AreAllPlaced}
+use Rattle.sz_core.specs.Starts.{shapes_fit, first_shelf, first_shelves, start, is_query}
 use Rattle.sz_core.specs.States.{State, Shelf, Ask, Query, shelf_at, whole_pairs}
 
 -- each sealed shelf has every piece placed
@@ -113,6 +113,7 @@ abbrev pub EndedAsksHoldTheComposedRelation : Type 0
 EndedAsksHoldTheComposedRelation =
     (flow : Graph) (base : List Grid) (pairs : List (List (List Pair))) (queries : List Query)
     (events : List Event) (n : ℕ) (q : Query) (b : Ask)
+    → shapes_fit flow (extents_of base) ≡ true
     → length pairs ≡ length flow.nodes
     → is_query flow (first_shelves flow (extents_of base) pairs) q ≡ true
     → SayTheRelations flow base pairs → LiesInItsShape q.cells → slice_get queries n ≡ Some q

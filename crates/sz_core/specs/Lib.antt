@@ -1,10 +1,9 @@
-pub mod Extents
 pub mod Steps
 pub mod States
 pub mod Images
 pub mod Events
 pub mod Starts
 pub mod Links
-pub mod Ready
+pub mod Invariants
 pub mod Laws
 pub mod Examples

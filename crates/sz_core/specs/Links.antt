@@ -6,9 +6,9 @@ use Rattle.sz_cells.specs.Extent.{Extent, size_of, index_of}
 use Rattle.sz_cells.specs.Cells.{Cells, has, cells_where}
 use Rattle.sz_spec.specs.declared.modes.Dir.{Dir}
 use Rattle.sz_spec.specs.declared.modes.Dir.TheVariants.{Back, Forward}
+use Rattle.sz_spec.specs.Sides.{extent_before, extent_after}
 use Rattle.sz_spec.specs.Values.{no_extent}
 use Rattle.sz_core.specs.declared.pairs.Pair.{Pair}
-use Rattle.sz_core.specs.Images.{extent_before, extent_after}
 
 -- for each row-major index on one side, the row-major indexes of cells of a shape on the other
 pub record Links : Type 0 where

@@ -1,25 +1,39 @@
 -- What a machine is made of: a flow, shapes of its base arrays, pairs for each piece of each node's
 -- output, and queries.
-use Rattle.std.specs.Prelude.{ℕ, ◌/◌, List, [], map, length, Bool, false, ◌&&◌, ◌==◌, nat_lt}
+use Rattle.std.specs.Prelude.{ℕ, ◌/◌, List, [], map, length, Bool, false, ◌&&◌, ◌==◌, nat_lt, is_ok}
 use Rattle.std.specs.List.{slice_get, slice_index_or, list_all, enumerate_from, range_with_len}
 use Rattle.std.specs.Option.{option_map_or}
+use Rattle.std.specs.Result.{result_unwrap_or}
 use Rattle.sz_cells.specs.Extent.{Extent, size_of}
 use Rattle.sz_spec.specs.Flows.{Graph}
+use Rattle.sz_spec.specs.FlowShapes.{node_inputs, output_shapes}
 use Rattle.sz_spec.specs.declared.modes.Dir.{Dir}
 use Rattle.sz_spec.specs.Paths.{Step, is_joined}
 use Rattle.sz_spec.specs.Pieces.{pieces_of}
 use Rattle.sz_spec.specs.Shapes.{are_equal}
+use Rattle.sz_spec.specs.Sides.{extent_before}
 use Rattle.sz_spec.specs.Values.{extent_at}
 use Rattle.sz_core.specs.declared.pairs.Pair.{Pair}
-use Rattle.sz_core.specs.Extents.{output_extents, input_extents}
-use Rattle.sz_core.specs.Images.{extent_before}
 use Rattle.sz_core.specs.States.{State, Shelf, Ask, Query, shelf_at}
+
+-- there is one shape for each base array, and the shape rule of each node holds
+abbrev pub shapes_fit : Graph → List Extent → Bool
+shapes_fit flow base = (length base == flow.inputs) && is_ok (output_shapes flow base)
+
+-- the shapes of the outputs of all nodes, where they fit
+abbrev pub shapes_made : Graph → List Extent → List Extent
+shapes_made flow base = result_unwrap_or (output_shapes flow base) []
+
+-- the shapes that node n takes
+abbrev pub shapes_taken : Graph → List Extent → ℕ → List Extent
+shapes_taken flow base n =
+    option_map_or (node_inputs base (shapes_made flow base)) (slice_get flow.nodes n) []
 
 -- the shelf of node n with these pairs, before any event
 abbrev pub shelf_of : Graph → List Extent → ℕ → List (List Pair) → Shelf
 shelf_of flow base n pieces = record {
-  out = extent_at (output_extents flow base) n;
-  ins = input_extents flow base n;
+  out = extent_at (shapes_made flow base) n;
+  ins = shapes_taken flow base n;
   pieces = pieces;
   placed = [];
   sealed = false;

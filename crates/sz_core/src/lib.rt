@@ -39,7 +39,6 @@ pub mod laws;
 mod machine;
 mod pairs;
 mod relation;
-mod shapes;
 mod shelf;
 
 pub use asks::CoreAsk;

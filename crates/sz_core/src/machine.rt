@@ -1,27 +1,25 @@
 //! The machine: its shelves, its asks, and the events that change them.
 
 ghost use Rattle.std.specs.Prelude.{◌≡◌, ℕ, ◌<◌, ◌^◌, true, Ok, None, IfOk, OnErr, OnOk, length};
-ghost use Rattle.std.specs.Prelude.{map, take};
+ghost use Rattle.std.specs.Prelude.{map, take, if◌then◌else◌};
 ghost use Rattle.std.specs.List.{slice_get};
 ghost use Rattle.std.specs.Option.{option_copied, option_map, option_map_or};
 ghost use Rattle.sz_spec.specs.Flows.{flow_fault};
-ghost use Rattle.sz_core.specs.Extents.{shapes_fit, output_extents};
 ghost use Rattle.sz_core.specs.Events.{reply, next_state, replies, last_state, change_at};
 ghost use Rattle.sz_core.specs.Events.{place_reply, after_place, seal_reply, after_seal};
 ghost use Rattle.sz_core.specs.Events.{look_reply, after_look};
-ghost use Rattle.sz_core.specs.Ready.{IsReady};
+ghost use Rattle.sz_core.specs.Invariants.{CanGoOn};
 ghost use Rattle.sz_core.specs.Starts.{start, first_ask, is_shelf, are_shelves, are_queries};
-ghost use Rattle.sz_core.specs.Starts.{first_shelves, shelf_of};
+ghost use Rattle.sz_core.specs.Starts.{first_shelves, shelf_of, shapes_fit, shapes_made};
 
 use crate::asks::{CoreAsk, MovingAsk};
 use crate::events::{Event, Told};
 use crate::pairs::ShelfPairs;
-use crate::shapes::{output_shapes, shapes_taken};
 use crate::shelf::IndexedShelf;
 use std::alloc::Global;
 use std::marker::Model;
 use sz_cells::{CellSet, NoMemory, Shape};
-use sz_spec::Flow;
+use sz_spec::{Flow, input_shapes, output_shapes};
 
 /// A shelf for each node of a flow, and asks that look in them. Contracts see its state.
 #[derive(Drop)]
@@ -32,14 +30,14 @@ pub struct Machine {
 
 impl Model for Machine {
     ghost use Rattle.std.specs.Prelude.{All};
-    ghost use Rattle.sz_core.specs.Ready.{IsReady};
+    ghost use Rattle.sz_core.specs.Invariants.{CanGoOn};
     ghost use Rattle.sz_core.specs.States.{State};
 
     ghost Value = { State };
 
     ghost view = { λ m. record { shelves = m.shelves.items; asks = m.asks.items } };
 
-    ghost invariant = { λ m. All (IsReady m.shelves.items) m.asks.items };
+    ghost invariant = { λ m. All (CanGoOn m.shelves.items) m.asks.items };
 }
 
 impl Machine {
@@ -184,7 +182,7 @@ fn look_by(
     shelves: &mut Vec<IndexedShelf>,
     ask: &mut MovingAsk,
 ) -> Result<Told, NoMemory>
-    requires { IsReady shelves.old.items ask.old }
+    requires { CanGoOn shelves.old.items ask.old }
     ensures same { shelves.new.items ≡ shelves.old.items }
     ensures ok { IfOk result (λ told. told ≡ look_reply shelves.old.items ask.old) }
     ensures after { OnOk result (ask.new ≡ after_look shelves.old.items ask.old) }
@@ -195,13 +193,20 @@ fn look_by(
     };
     let shelf = &mut shelves[node as usize];
     let cells = shelf.image(alloc, ask.dir(), input, ask.cells())?;
-    let sealed = shelf.is_sealed();
+    let told = told_by(shelf.is_sealed());
     ask.make_step(cells);
-    Ok(if sealed {
+    Ok(told)
+}
+
+/// What a look is told that takes a step, in a shelf that is sealed or not.
+fn told_by(sealed: bool) -> Told
+    ensures { result ≡ (if sealed then Told.FromStore else Told.FromTrace) }
+{
+    if sealed {
         Told::FromStore
     } else {
         Told::FromTrace
-    })
+    }
 }
 
 /// The shelves of a flow's nodes before any event.
@@ -216,13 +221,25 @@ fn made_shelves(
     requires shelves { are_shelves flow.now base.now shelves.items ≡ true }
     ensures { IfOk result (λ made. made.items ≡ first_shelves flow.now base.now shelves.items) }
 {
-    let outs = output_shapes(alloc, flow, base)?;
+    let outs = shapes_made(alloc, flow, base)?;
     let mut made = Vec::with_capacity(alloc, shelves.len())?;
     for pairs in shelves {
         let node = made.len();
         made.push(made_shelf(alloc, flow, base, &outs, node, pairs)?)?;
     }
     Ok(made)
+}
+
+/// The shapes of the outputs of a flow's nodes, which fit.
+fn shapes_made(alloc: Global, flow: &Flow, base: &[Shape]) -> Result<Vec<Shape>, NoMemory>
+    requires checked { flow_fault flow.now ≡ None }
+    requires fits { shapes_fit flow.now base.now ≡ true }
+    ensures { IfOk result (λ outs. outs.items ≡ shapes_made flow.now base.now) }
+{
+    match output_shapes(alloc, flow, base)? {
+        Ok(outs) => Ok(outs),
+        Err(_) => unreachable!(),
+    }
 }
 
 /// The shelf of a node before any event.
@@ -235,13 +252,13 @@ fn made_shelf(
     pairs: ShelfPairs,
 ) -> Result<IndexedShelf, NoMemory>
     requires checked { flow_fault flow.now ≡ None }
-    requires base { length base.now ≡ flow.now.inputs }
-    requires shapes { outs.now ≡ output_extents flow.now base.now }
+    requires fits { shapes_fit flow.now base.now ≡ true }
+    requires shapes { outs.now ≡ shapes_made flow.now base.now }
     requires node { node < length flow.now.nodes }
     requires shelf { is_shelf (shelf_of flow.now base.now node pairs) ≡ true }
     ensures { IfOk result (λ shelf. shelf ≡ shelf_of flow.now base.now node pairs) }
 {
-    let ins = shapes_taken(alloc, &flow.nodes()[node], base, outs)?;
+    let ins = input_shapes(alloc, base, outs, flow.nodes()[node].from.as_slice())?;
     IndexedShelf::new(alloc, outs[node], ins, pairs.pieces)
 }
 

@@ -4,7 +4,8 @@ ghost use Rattle.std.specs.Prelude.{◌≡◌, ℕ, ◌<◌, ◌≤◌, ◌^◌,
 ghost use Rattle.std.specs.Prelude.{map};
 ghost use Rattle.std.specs.List.{flat_map};
 ghost use Rattle.sz_cells.specs.Extent.{size_of};
-ghost use Rattle.sz_core.specs.Images.{extent_before, extent_after, image_by};
+ghost use Rattle.sz_spec.specs.Sides.{extent_before, extent_after};
+ghost use Rattle.sz_core.specs.Images.{image_by};
 ghost use Rattle.sz_core.specs.Links.{HasPairs, AreIndexesOf, PairsLieWithin, LiesWithin};
 ghost use Rattle.sz_core.specs.Links.{relation_of};
 

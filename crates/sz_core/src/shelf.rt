@@ -5,7 +5,8 @@ ghost use Rattle.std.specs.Prelude.{length, map};
 ghost use Rattle.std.specs.List.{slice_index_or};
 ghost use Rattle.sz_cells.specs.Extent.{size_of};
 ghost use Rattle.sz_core.specs.Events.{place_reply, after_place, seal_reply, after_seal};
-ghost use Rattle.sz_core.specs.Images.{extent_before, image_by};
+ghost use Rattle.sz_spec.specs.Sides.{extent_before};
+ghost use Rattle.sz_core.specs.Images.{image_by};
 ghost use Rattle.sz_core.specs.Links.{PairsLieWithin, relation_of};
 ghost use Rattle.sz_core.specs.States.{pairs_taken};
 
@@ -29,7 +30,7 @@ pub(crate) struct IndexedShelf {
 
 impl Model for IndexedShelf {
     ghost use Rattle.std.specs.Prelude.{◌≡◌, true, length};
-    ghost use Rattle.sz_core.specs.Ready.{AreMarks, AreAllPlaced};
+    ghost use Rattle.sz_core.specs.Invariants.{AreMarks, AreAllPlaced};
     ghost use Rattle.sz_core.specs.States.{Shelf};
 
     ghost Value = { Shelf };

@@ -1,10 +1,12 @@
 -- The next step is one that the ask can take, and the shelf gives its image.
-use Rattle.std.proofs.Common.{◌≡◌, ◌+◌, true, false, set, refl, sym, ap}
+use Rattle.std.proofs.Common.{◌≡◌, ◌+◌, Bool, set, sym, ap}
+use Rattle.std.specs.Prelude.{if◌then◌else◌}
 use Rattle.std.proofs.Common.{◌∙◌, arith, Some}
 use Rattle.std.proofs.lemmas.List.{set-get_or}
 use Rattle.std.proofs.lemmas.Option.{slice_get_within}
 use Rattle.sz_cells.specs.Cells.{Cells}
 use Rattle.sz_spec.specs.Paths.{Step}
+use Rattle.sz_core.specs.declared.events.Told.TheVariants.{FromStore, FromTrace}
 use Rattle.sz_core.specs.Events.{next_step}
 use Rattle.sz_core.specs.Images.{image_by}
 use Rattle.sz_core.specs.States.{Shelf, shelf_at, pairs_taken}
@@ -34,8 +36,8 @@ make_step-requires c =
     let at : next_step c.args.ask.now ≡ Some (step_of (c.in-Some.node, c.in-Some.input)) = sym c.in-Some.ensures in
     slice_get_within c.args.ask.now.path c.args.ask.now.made (step_of (c.in-Some.node, c.in-Some.input)) at
 
-pub returns-then-sealed : goal.returns-then-sealed
-returns-then-sealed c =
+pub returns : goal.returns
+returns c =
     let shelves = c.args.shelves.now.items in
     let s : Step = step_of (c.in-Some.node, c.in-Some.input) in
     let at : next_step c.args.ask.now ≡ Some s = sym c.in-Some.ensures in
@@ -43,39 +45,17 @@ returns-then-sealed c =
     let here : c.index_mut-shelf.result.now ≡ shelf_at shelves c.in-Some.node =
     shelf-there shelves c.in-Some.node c.index_mut-shelf.result.now step.node c.index_mut-shelf.ensures.value in
     let kept : c.image.new.self ≡ c.index_mut-shelf.result.now = c.in_ok-cells.ensures.same in
-    let sealed : (shelf_at shelves s.node).sealed ≡ true = sym (ap (λ (x : Shelf). x.sealed) (kept ∙ here))
-    ∙ sym c.if-sealed.ensures in
+    let sealed : c.is_sealed.result ≡ (shelf_at shelves s.node).sealed =
+    c.is_sealed.ensures ∙ ap (λ (x : Shelf). x.sealed) (kept ∙ here) in
     let led : c.in_ok-cells.cells ≡ image_by (pairs_taken (shelf_at shelves s.node)) c.args.ask.now.dir
     (shelf_at shelves s.node).out (shelf_at shelves s.node).ins s.input c.args.ask.now.cells =
     rw (← here, ← c.dir.ensures, ← c.cells.ensures) c.in_ok-cells.ensures.ok in
     record {
       same = ap (set shelves c.in-Some.node) (kept ∙ c.index_mut-shelf.ensures.value)
           ∙ set-get_or shelves c.in-Some.node c.index_mut-shelf.result.now;
-      ok = sym (look-told shelves c.args.ask.now s at ∙ (rw sealed refl));
-      after = c.make_step.ensures ∙ ap
-          (λ (x : Cells). record c.args.ask.now { made = c.args.ask.now.made + 1; cells = x }) led
-          ∙ sym (look-after shelves c.args.ask.now s at);
-      err = tt;
-    }
-
-pub returns-else-sealed : goal.returns-else-sealed
-returns-else-sealed c =
-    let shelves = c.args.shelves.now.items in
-    let s : Step = step_of (c.in-Some.node, c.in-Some.input) in
-    let at : next_step c.args.ask.now ≡ Some s = sym c.in-Some.ensures in
-    let step = ready-step shelves c.args.ask.now s c.requires at in
-    let here : c.index_mut-shelf.result.now ≡ shelf_at shelves c.in-Some.node =
-    shelf-there shelves c.in-Some.node c.index_mut-shelf.result.now step.node c.index_mut-shelf.ensures.value in
-    let kept : c.image.new.self ≡ c.index_mut-shelf.result.now = c.in_ok-cells.ensures.same in
-    let sealed : (shelf_at shelves s.node).sealed ≡ false = sym (ap (λ (x : Shelf). x.sealed) (kept ∙ here))
-    ∙ sym c.if-sealed.ensures in
-    let led : c.in_ok-cells.cells ≡ image_by (pairs_taken (shelf_at shelves s.node)) c.args.ask.now.dir
-    (shelf_at shelves s.node).out (shelf_at shelves s.node).ins s.input c.args.ask.now.cells =
-    rw (← here, ← c.dir.ensures, ← c.cells.ensures) c.in_ok-cells.ensures.ok in
-    record {
-      same = ap (set shelves c.in-Some.node) (kept ∙ c.index_mut-shelf.ensures.value)
-          ∙ set-get_or shelves c.in-Some.node c.index_mut-shelf.result.now;
-      ok = sym (look-told shelves c.args.ask.now s at ∙ (rw sealed refl));
+      ok = c.told_by-told.ensures
+          ∙ ap (λ (b : Bool). if b then FromStore else FromTrace) sealed
+          ∙ sym (look-told shelves c.args.ask.now s at);
       after = c.make_step.ensures ∙ ap
           (λ (x : Cells). record c.args.ask.now { made = c.args.ask.now.made + 1; cells = x }) led
           ∙ sym (look-after shelves c.args.ask.now s at);

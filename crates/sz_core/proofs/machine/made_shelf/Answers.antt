@@ -1,29 +1,31 @@
 -- The node's sources are there, and its pairs lie within its shapes.
-use Rattle.std.proofs.Common.{◌≡◌, length, get_or, sym, ap}
-use Rattle.std.proofs.Common.{◌∙◌, arith, List}
+use Rattle.std.proofs.Common.{◌≡◌, length, get_or, map, sym, ap}
+use Rattle.std.proofs.Common.{◌∙◌, arith}
 use Rattle.std.proofs.lemmas.List.{length-map}
-use Rattle.sz_cells.specs.Extent.{Extent}
+use Rattle.sz_spec.specs.declared.flow.Node.{Node}
 use Rattle.sz_spec.specs.Values.{extent_at}
-use Rattle.sz_core.specs.Extents.{extent_of_source, extents_taken, output_extents, input_extents}
-use Rattle.sz_core.specs.Starts.{shelf_of}
-use Rattle.sz_core.proofs.Flowing.{arity-few}
-use Rattle.sz_core.proofs.Relations.{extent-at}
-use Rattle.sz_core.proofs.Starting.{node-at, outputs-length, inputs-at, pairs-within, pieces-few}
+use Rattle.sz_spec.specs.FlowShapes.{source_shape}
+use Rattle.sz_core.specs.Starts.{shelf_of, shapes_made, shapes_taken}
+use Rattle.sz_core.proofs.Starting.{node-at, arity-few, fit-parts, count-made, taken-found, out-found}
+use Rattle.sz_core.proofs.Starting.{pairs-within, pieces-few}
 use Rattle.sz_core.proofs.machine.made_shelf.Goals as goal
 
-pub shapes_taken-requires : goal.shapes_taken-requires
-shapes_taken-requires c =
+pub input_shapes-requires : goal.input_shapes-requires
+input_shapes-requires c =
+    let flow = c.args.flow.now in
+    let base = c.args.base.now in
     let x = c.index-nodes-node.result in
-    let at : x ≡ get_or c.args.flow.now.nodes c.args.node x = rw c.nodes.ensures at c.index-nodes-node.is in
-    let long : length c.args.outs.now ≡ length c.args.flow.now.nodes = ap length c.requires.shapes
-    ∙ outputs-length c.args.flow.now c.args.base.now in
-    rw c.requires.base (node-at c.args.flow.now c.args.node (length c.args.outs.now) x c.requires.checked
+    let at : x ≡ get_or flow.nodes c.args.node x = rw c.nodes.ensures at c.index-nodes-node.is in
+    let long : length c.args.outs.now ≡ length flow.nodes =
+    ap length c.requires.shapes ∙ count-made flow base c.requires.fits in
+    rw (c.as_slice.ensures ∙ ap (λ (y : Node). y.from) (sym c.index-nodes-node.is), (fit-parts flow base c.requires.fits).0)
+    (node-at flow c.args.node (length c.args.outs.now) x c.requires.checked
     c.requires.node at (omega (arith, long, c.requires.node))).1
 
 pub bounds-outs-node : goal.bounds-outs-node
 bounds-outs-node c =
-    let long : length c.args.outs.now ≡ length c.args.flow.now.nodes = ap length c.requires.shapes
-    ∙ outputs-length c.args.flow.now c.args.base.now in
+    let long : length c.args.outs.now ≡ length c.args.flow.now.nodes =
+    ap length c.requires.shapes ∙ count-made c.args.flow.now c.args.base.now c.requires.fits in
     omega (arith, long, c.requires.node)
 
 pub new-requires : goal.new-requires
@@ -33,24 +35,21 @@ new-requires c =
     let s = shelf_of flow base c.args.node c.args.pairs in
     let x = c.index-nodes-node.result in
     let at : x ≡ get_or flow.nodes c.args.node x = rw c.nodes.ensures at c.index-nodes-node.is in
-    let long : length c.args.outs.now ≡ length flow.nodes = ap length c.requires.shapes
-    ∙ outputs-length flow base in
-    let taken : c.in_ok-ins.ins.items ≡ extents_taken base (output_extents flow base) x =
-    c.in_ok-ins.ensures ∙ ap (λ (os : List Extent). extents_taken base os x) c.requires.shapes in
-    let ins : c.in_ok-ins.ins.items ≡ input_extents flow base c.args.node = taken
-    ∙ sym (inputs-at flow base c.args.node x c.requires.node at) in
-    let out : c.index-outs-node.result ≡ extent_at (output_extents flow base) c.args.node =
-    extent-at c.args.outs.now c.args.node c.index-outs-node.result (omega (arith, long, c.requires.node))
-    c.index-outs-node.is
-    ∙ ap (λ (os : List Extent). extent_at os c.args.node) c.requires.shapes in
+    let ins : c.in_ok-ins.ins.items ≡ shapes_taken flow base c.args.node =
+    taken-found flow base c.args.outs.now c.in_ok-ins.ins.items c.args.node x c.as_slice.result.now c.requires.node at
+    c.requires.shapes (c.as_slice.ensures ∙ ap (λ (y : Node). y.from) (sym c.index-nodes-node.is)) c.in_ok-ins.ensures in
+    let out : c.index-outs-node.result ≡ extent_at (shapes_made flow base) c.args.node =
+    out-found flow base c.args.outs.now c.args.node c.index-outs-node.result c.requires.fits c.requires.node
+    c.requires.shapes c.index-outs-node.is in
     let right = node-at flow c.args.node c.args.node x c.requires.checked c.requires.node at (omega arith) in
     let pieces : length c.pairs.inside.pieces.items ≡ length c.args.pairs =
     sym (length-map c.pairs.inside.pieces.items (λ v. v.items)) ∙ ap length c.pairs.view_is in
     record {
       few = omega (
         arith,
-        ap length taken
-            ∙ length-map x.from (λ y. extent_of_source base (output_extents flow base) y),
+        ap length (c.in_ok-ins.ensures ∙ ap (map (source_shape base c.args.outs.now))
+            (c.as_slice.ensures ∙ ap (λ (y : Node). y.from) (sym c.index-nodes-node.is)))
+            ∙ length-map x.from (source_shape base c.args.outs.now),
         right.0,
         arity-few x.op,
       );
@@ -64,13 +63,10 @@ returns c =
     let base = c.args.base.now in
     let x = c.index-nodes-node.result in
     let at : x ≡ get_or flow.nodes c.args.node x = rw c.nodes.ensures at c.index-nodes-node.is in
-    let long : length c.args.outs.now ≡ length flow.nodes = ap length c.requires.shapes
-    ∙ outputs-length flow base in
-    let ins : c.in_ok-ins.ins.items ≡ input_extents flow base c.args.node =
-    c.in_ok-ins.ensures ∙ ap (λ (os : List Extent). extents_taken base os x) c.requires.shapes
-    ∙ sym (inputs-at flow base c.args.node x c.requires.node at) in
-    let out : c.index-outs-node.result ≡ extent_at (output_extents flow base) c.args.node =
-    extent-at c.args.outs.now c.args.node c.index-outs-node.result (omega (arith, long, c.requires.node))
-    c.index-outs-node.is
-    ∙ ap (λ (os : List Extent). extent_at os c.args.node) c.requires.shapes in
+    let ins : c.in_ok-ins.ins.items ≡ shapes_taken flow base c.args.node =
+    taken-found flow base c.args.outs.now c.in_ok-ins.ins.items c.args.node x c.as_slice.result.now c.requires.node at
+    c.requires.shapes (c.as_slice.ensures ∙ ap (λ (y : Node). y.from) (sym c.index-nodes-node.is)) c.in_ok-ins.ensures in
+    let out : c.index-outs-node.result ≡ extent_at (shapes_made flow base) c.args.node =
+    out-found flow base c.args.outs.now c.args.node c.index-outs-node.result c.requires.fits c.requires.node
+    c.requires.shapes c.index-outs-node.is in
     rw (out, ins, c.pairs.view_is) at c.new.ensures

@@ -1,5 +1,5 @@
 -- The pairs at hand are those of the next node, and its shelf is the next one.
-use Rattle.std.proofs.Common.{◌≡◌, ℕ, ◌++◌, ◌∷◌, [], length, length-append}
+use Rattle.std.proofs.Common.{◌≡◌, ℕ, ◌<◌, ◌++◌, ◌∷◌, [], length, length-append}
 use Rattle.std.proofs.Common.{get_or, map, sym, ap, ap₂, ◌∙◌, arith, List}
 use Rattle.std.proofs.lemmas.Iterator.Adapters.{YieldsList-from_vec}
 use Rattle.std.proofs.lemmas.Iterator.Consumers.{YieldsList-turn, YieldsList-end}
@@ -9,9 +9,18 @@ use Rattle.std.specs.List.{range_with_len}
 use Rattle.sz_core.specs.declared.pairs.Pair.{Pair}
 use Rattle.sz_core.specs.Starts.{shelf_of, first_shelf}
 use Rattle.sz_core.specs.States.{Shelf}
-use Rattle.sz_core.proofs.Flowing.{fit-parts}
 use Rattle.sz_core.proofs.Starting.{shelves-right}
 use Rattle.sz_core.proofs.machine.made_shelves.Goals as goal
+
+-- the next node is the one of as many shelves as there are, and the pairs at hand are those of its shelf
+next-node : (f : ℕ → Shelf) (all yielded : List (List (List Pair))) (made : List Shelf) (n : ℕ)
+    (pairs : List (List Pair)) → n ≡ length made → made ≡ map f (range_with_len 0 (length yielded))
+    → length yielded < length all → pairs ≡ get_or all (length yielded) pairs
+    → (n ≡ length yielded) × (pairs ≡ get_or all (length yielded) [])
+next-node f all yielded made n pairs count so_far within at = (
+  count ∙ ap length so_far ∙ length-map-range_with_len f 0 (length yielded),
+  at ∙ get_or_default all (length yielded) pairs [] within,
+)
 
 pub made_shelf-requires : goal.made_shelf-requires
 made_shelf-requires c =
@@ -23,20 +32,12 @@ made_shelf-requires c =
     let t = YieldsList-turn (YieldsList-from_vec {s = c.into_iter-pairs-iterator.result} all gives.0 (gives.1
     ∙ c.args.shelves.ok.0)) c.loop-pairs.yielded c.loop-pairs.pairs-iterator c.loop-pairs.yielded_by
     c.next.result c.next.new.self c.in-Some.pairs c.in-Some.is c.next.ensures.steps in
-    let n : c.len-node.result ≡ length c.loop-pairs.yielded =
-    omega (
-      arith,
-      c.len-node.ensures,
-      c.loop-pairs.made.ok,
-      ap length c.loop-pairs.invariant
-          ∙ length-map-range_with_len f 0 (length c.loop-pairs.yielded),
-    ) in
     let right = shelves-right flow base all c.requires.shelves in
-    let here : c.in-Some.pairs ≡ get_or all (length c.loop-pairs.yielded) [] = t.1
-    ∙ get_or_default all (length c.loop-pairs.yielded) c.in-Some.pairs [] t.0 in
+    let (n, here) = next-node f all c.loop-pairs.yielded c.loop-pairs.made.items c.len-node.result c.in-Some.pairs
+    (omega (arith, c.len-node.ensures, c.loop-pairs.made.ok)) c.loop-pairs.invariant t.0 t.1 in
     record {
       checked = c.requires.checked;
-      base = (fit-parts flow base c.requires.fits).0;
+      fits = c.requires.fits;
       shapes = c.deref.ensures.value ∙ c.in_ok-outs.ensures;
       node = omega (arith, n, t.0, right.0);
       shelf = rw (n, here) (right.1 (length c.loop-pairs.yielded) t.0);
@@ -52,16 +53,8 @@ loop-pairs-preserved c =
     let t = YieldsList-turn (YieldsList-from_vec {s = c.into_iter-pairs-iterator.result} all gives.0 (gives.1
     ∙ c.args.shelves.ok.0)) c.loop-pairs.yielded c.loop-pairs.pairs-iterator c.loop-pairs.yielded_by
     c.next.result c.next.new.self c.in-Some.pairs c.in-Some.is c.next.ensures.steps in
-    let n : c.len-node.result ≡ length c.loop-pairs.yielded =
-    omega (
-      arith,
-      c.len-node.ensures,
-      c.loop-pairs.made.ok,
-      ap length c.loop-pairs.invariant
-          ∙ length-map-range_with_len f 0 (length c.loop-pairs.yielded),
-    ) in
-    let here : c.in-Some.pairs ≡ get_or all (length c.loop-pairs.yielded) [] = t.1
-    ∙ get_or_default all (length c.loop-pairs.yielded) c.in-Some.pairs [] t.0 in
+    let (n, here) = next-node f all c.loop-pairs.yielded c.loop-pairs.made.items c.len-node.result c.in-Some.pairs
+    (omega (arith, c.len-node.ensures, c.loop-pairs.made.ok)) c.loop-pairs.invariant t.0 t.1 in
     let made : c.in_ok-made_shelf.field-0 ≡ f (length c.loop-pairs.yielded) =
     c.in_ok-made_shelf.ensures ∙ ap₂ (λ (m : ℕ) (ps : List (List Pair)). shelf_of flow base m ps) n here in
     let behind : List Shelf → Shelf → List Shelf = λ xs x. xs ++ x ∷ [] in

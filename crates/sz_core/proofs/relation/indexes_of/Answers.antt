@@ -2,7 +2,7 @@
 use Rattle.std.proofs.Common.{◌≡◌, ℕ, ◌+◌, ◌∷◌, [], map, length-append, arith, ◌∙◌}
 use Rattle.std.proofs.Common.{ap}
 use Rattle.std.specs.List.{flat_map}
-use Rattle.sz_core.specs.Images.{extent_before, extent_after}
+use Rattle.sz_spec.specs.Sides.{extent_before, extent_after}
 use Rattle.sz_core.specs.Links.{Links, HasPairs, no_links}
 use Rattle.sz_spec.specs.Values.{extent_at}
 use Rattle.sz_core.proofs.Relations.{before-at, after-at, extent-at, each-push}

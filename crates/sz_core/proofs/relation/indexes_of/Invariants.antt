@@ -1,7 +1,7 @@
 -- The inputs so far have an index.
 use Rattle.std.proofs.Common.{◌≡◌, ℕ, ◌<◌, length, map}
 use Rattle.std.specs.List.{slice_index_or, flat_map}
-use Rattle.sz_core.specs.Images.{extent_before, extent_after}
+use Rattle.sz_spec.specs.Sides.{extent_before, extent_after}
 use Rattle.sz_core.specs.Links.{HasPairs, no_links}
 use Rattle.sz_core.proofs.relation.indexes_of.Given as goal
 

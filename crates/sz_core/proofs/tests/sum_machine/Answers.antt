@@ -7,7 +7,7 @@ use Rattle.sz_spec.specs.declared.modes.Dir.TheVariants.{Back, Forward}
 use Rattle.sz_spec.specs.Flows.{Graph, flow_fault}
 use Rattle.sz_core.specs.declared.pairs.Pair.{Pair}
 use Rattle.sz_core.specs.Examples.{sum_flow, first_pairs, second_pairs}
-use Rattle.sz_core.specs.Extents.{shapes_fit}
+use Rattle.sz_core.specs.Starts.{shapes_fit}
 use Rattle.sz_core.specs.Starts.{first_shelves, are_shelves, are_queries}
 use Rattle.sz_core.specs.States.{Query}
 use Rattle.sz_core.proofs.tests.sum_machine.Goals as goal

@@ -6,7 +6,7 @@ use Rattle.std.proofs.lemmas.Option.{slice_get-get_or, slice_get_past}
 use Rattle.std.proofs.lemmas.Result.{on_ok_weaker, on_err_weaker}
 use Rattle.std.specs.List.{slice_get}
 use Rattle.sz_core.specs.Events.{after_look}
-use Rattle.sz_core.specs.Ready.{IsReady}
+use Rattle.sz_core.specs.Invariants.{CanGoOn}
 use Rattle.sz_core.specs.States.{State, Shelf, Ask}
 use Rattle.sz_core.proofs.Going.{either-way, ready-looked, ready-set}
 use Rattle.sz_core.proofs.machine.Machine.look.Goals as goal
@@ -18,7 +18,7 @@ invariant_of-self c =
     let a = c.index_mut.result.now in
     let within : c.args.ask < length asks =
     omega (arith, c.len.ensures, c.if-number-len.true, c.self.inside.asks.ok) in
-    let ready : IsReady shelves a = rw c.index_mut.ensures.value (c.self.invariant c.args.ask a within) in
+    let ready : CanGoOn shelves a = rw c.index_mut.ensures.value (c.self.invariant c.args.ask a within) in
     rw c.look_by.ensures.same
     (either-way c.look_by.result c.look_by.ensures.after c.look_by.ensures.err
     (λ looked. rw looked (ready-set shelves asks c.args.ask (after_look shelves a) (ready-looked shelves a ready)

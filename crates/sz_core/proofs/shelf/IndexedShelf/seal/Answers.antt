@@ -4,7 +4,7 @@ use Rattle.std.proofs.Common.{◌∙◌, arith, Some, None}
 use Rattle.sz_core.proofs.Placing.{missing-some, missing-none}
 use Rattle.sz_core.proofs.shelf.IndexedShelf.seal.Goals as goal
 use Rattle.sz_core.specs.contracts.shelf.IndexedShelf.{the_view}
-use Rattle.sz_core.specs.Ready.{AreMarks}
+use Rattle.sz_core.specs.Invariants.{AreMarks}
 use Rattle.sz_core.specs.States.{Shelf, missing_piece}
 
 -- what the marks tell of the least piece that is missing

@@ -5,7 +5,7 @@ use Rattle.std.specs.List.{slice_index_or, list_any}
 use Rattle.sz_cells.specs.Extent.{Extent}
 use Rattle.sz_spec.specs.declared.modes.Dir.{Dir}
 use Rattle.sz_spec.specs.Paths.{Step}
-use Rattle.sz_core.specs.Images.{extent_before, extent_after}
+use Rattle.sz_spec.specs.Sides.{extent_before, extent_after}
 use Rattle.sz_core.specs.States.{Shelf, Ask, shelf_at}
 
 -- for each of so many pieces, whether it is placed; all pieces below the least one are
@@ -40,5 +40,5 @@ LiesAlong dir shelves e (s ∷ path) =
     IsStepFrom dir shelves e s × LiesAlong dir shelves (extent_beyond dir shelves s) path
 
 -- the steps that an ask has not made can be taken from its cells
-abbrev pub IsReady : List Shelf → Ask → Type 0
-IsReady shelves a = LiesAlong a.dir shelves a.cells.extent (drop a.made a.path)
+abbrev pub CanGoOn : List Shelf → Ask → Type 0
+CanGoOn shelves a = LiesAlong a.dir shelves a.cells.extent (drop a.made a.path)
