@@ -25,7 +25,7 @@ use Rattle.sz_core.specs.declared.pairs.Pair.{Pair}
 use Rattle.sz_core.specs.Events.{change_at, after_place, after_seal, seal_reply, after_look}
 use Rattle.sz_core.specs.Events.{look_reply, next_step, reply, next_state, last_state}
 use Rattle.sz_core.specs.Images.{image_by}
-use Rattle.sz_core.specs.Laws.{is_seal_of, is_sealed_by, LooksAreFromStoresThatWereSealed}
+use Rattle.sz_core.specs.Laws.{is_sealed_told, is_seal_of, is_sealed_by, LooksAreFromStoresThatWereSealed}
 use Rattle.sz_core.specs.Laws.{PlacedPiecesAreNotReadBeforeTheSeal}
 use Rattle.sz_core.specs.States.{State, Shelf, Ask, shelf_at, no_shelf, is_placed, missing_piece}
 use Rattle.sz_core.specs.States.{pairs_taken}
@@ -76,8 +76,7 @@ placed_lemma s m n placed unsealed =
 
 -- a seal of another shelf is none of this one
 seal-other : (n m : ℕ) (t : Told) → (m == n) ≡ false → is_seal_of n (Seal m, t) ≡ false
-seal-other n m Sealed other = other
-seal-other n m _ other = refl
+seal-other n m t other = ap (λ (b : Bool). b && is_sealed_told t) other
 
 -- a place seals nothing
 place-sealed : (k : ℕ) (s : Shelf) → (after_place k s).sealed ≡ s.sealed
@@ -98,7 +97,7 @@ seal-sealed n s same = at (missing_piece s) refl where
   at : (o : Option ℕ) → missing_piece s ≡ o
       → (after_seal s).sealed ≡ (s.sealed || is_seal_of n (Seal n, seal_reply s))
   at None none = rw (none, same) (sym (or-true s.sealed))
-  at (Some k) some = rw some (sym (or-false s.sealed))
+  at (Some k) some = rw (some, same) (sym (or-false s.sealed))
 
 -- a shelf is sealed after an event where it was, or where the event sealed it
 sealed-next : (s : State) (e : Event) (n : ℕ) → n < length s.shelves

@@ -1,4 +1,5 @@
--- The two machines of the tests: regions of a small image, and two nodes with two pieces each.
+-- The two machines of the rows: regions of a small image, and two nodes with two pieces each, which
+-- is that of the test too.
 use Rattle.std.specs.Prelude.{ℕ, pos, List, [], ◌∷◌}
 use Rattle.sz_spec.specs.declared.flow.SourceRef.TheVariants as source
 use Rattle.sz_spec.specs.declared.op.Op.TheVariants.{Regions, Neg, Add}

@@ -1,6 +1,6 @@
 -- What a reader may take for granted of the machine: laws over every list of events.
 use Rattle.std.specs.Prelude.{◌≡◌, ℕ, ◌<◌, List, map, length, drop, Bool, true, false, ◌||◌, ◌==◌}
-use Rattle.std.specs.Prelude.{if◌then◌else◌, Some, All}
+use Rattle.std.specs.Prelude.{◌&&◌, if◌then◌else◌, Some, All}
 use Rattle.std.specs.List.{slice_get, list_any, zip}
 use Rattle.sz_cells.specs.declared.Cell.{Cell}
 use Rattle.sz_cells.specs.Extent.{Extent, size_of, holds}
@@ -11,9 +11,11 @@ use Rattle.sz_spec.specs.Lineage.{related}
 use Rattle.sz_spec.specs.Paths.{Step, inputs_of, compose}
 use Rattle.sz_spec.specs.Values.{Grid, extent_at, extents_of}
 use Rattle.sz_core.specs.declared.events.Event.{Event}
-use Rattle.sz_core.specs.declared.events.Event.TheVariants.{Seal, Look}
+use Rattle.sz_core.specs.declared.events.Event.TheVariants.{Place, Seal, Look}
 use Rattle.sz_core.specs.declared.events.Told.{Told}
-use Rattle.sz_core.specs.declared.events.Told.TheVariants.{Sealed, FromStore, FromTrace, Ended}
+use Rattle.sz_core.specs.declared.events.Told.TheVariants.{Placed, Already, SealedBefore, Sealed}
+use Rattle.sz_core.specs.declared.events.Told.TheVariants.{Missing, FromStore, FromTrace, Ended}
+use Rattle.sz_core.specs.declared.events.Told.TheVariants.{NoSuch}
 use Rattle.sz_core.specs.declared.pairs.Pair.{Pair}
 use Rattle.sz_core.specs.Events.{change_at, next_step, reply, next_state, last_state, replies}
 use Rattle.sz_core.specs.Images.{say, compose_pairs}
@@ -59,10 +61,23 @@ OrderDoesNotMatter = (s : State) (events others : List Event) (n : ℕ) (a b : A
     → reply (last_state s events) (Look n) ≡ Ended → reply (last_state s others) (Look n) ≡ Ended
     → a.cells ≡ b.cells
 
+-- a seal was told that the shelf is sealed
+abbrev pub is_sealed_told : Told → Bool
+is_sealed_told Placed = false
+is_sealed_told Already = false
+is_sealed_told SealedBefore = false
+is_sealed_told Sealed = true
+is_sealed_told (Missing k) = false
+is_sealed_told FromStore = false
+is_sealed_told FromTrace = false
+is_sealed_told Ended = false
+is_sealed_told NoSuch = false
+
 -- the event is a seal of shelf n that was told Sealed
 abbrev pub is_seal_of : ℕ → Event × Told → Bool
-is_seal_of n (Seal m, Sealed) = m == n
-is_seal_of n _ = false
+is_seal_of n (Place m k, told) = false
+is_seal_of n (Seal m, told) = (m == n) && is_sealed_told told
+is_seal_of n (Look m, told) = false
 
 -- some of the events is
 abbrev pub is_sealed_by : State → List Event → ℕ → Bool
