@@ -16,10 +16,6 @@ fn digest_of_text(alloc: Global, seed: u32, side: u32) -> Result<String, NoMemor
     Ok(digest)
 }
 
-fn line_count(text: &[u8]) -> usize {
-    text.iter().filter(|byte| **byte == b'\n').count()
-}
-
 /// The numbers from 0 to 250 over and over, so many in all.
 fn long_replies(alloc: Global, length: u32) -> Result<Vec<u8>, AllocFailed<u8>> {
     let mut replies = Vec::new(alloc);
@@ -36,55 +32,13 @@ fn texts_are_those_of_another_program(rt: HostRuntime) -> Result<(), Fail> {
         "fa049d419e8404d0febd9fee724d082366e3ab640341798e5e859b4667ac0ef6"
     );
     assert_eq!(rt;
-        digest_of_text(rt.alloc(), 1, 3)?.as_str(),
-        "8d0449f1d054ed5d8caa87d2166c91ba524903758e6a1a56e9a3e1528711c1df"
-    );
-    assert_eq!(rt;
         digest_of_text(rt.alloc(), 4294967295, 16)?.as_str(),
         "2df74e891dc78cf966bcea80110aabeead5c57122c78acae729f9438b4952ef7"
     );
-    Ok(())
-}
-
-#[test]
-fn the_greatest_side_has_its_whole_text(rt: HostRuntime) -> Result<(), Fail> {
-    let text = session_text(rt.alloc(), 1, 512)?;
-    assert_eq!(rt; text.len(), 1023696);
-    assert_eq!(rt; line_count(text.as_slice()), 42);
     assert_eq!(rt;
         digest_of_text(rt.alloc(), 1, 512)?.as_str(),
         "2c92ede982672bf2d13ae74e58ff50d21ea8854940d37eaa22d264953b829ef6"
     );
-    assert_eq!(rt;
-        digest_of_text(rt.alloc(), 4294967295, 512)?.as_str(),
-        "8854a80e490ffdb20851d07b2ae6e3bbb4f76102c7dce995161a930ff3f2772b"
-    );
-    Ok(())
-}
-
-#[test]
-fn begins_with_the_first_draws(rt: HostRuntime) -> Result<(), Fail> {
-    let text = session_text(rt.alloc(), 0, 2)?;
-    let first = br#"{"array":"img","cells":[[807,424],[937,236]]}"#;
-    assert!(rt; text.starts_with(first));
-    assert_eq!(rt; line_count(text.as_slice()), 42);
-    Ok(())
-}
-
-#[test]
-fn sums_up_short_replies(rt: HostRuntime) -> Result<(), Fail> {
-    let none = summary_text(rt.alloc(), 1, 256, 42, b"")?;
-    let none_expected = concat!(
-        "load seed 1 side 256 lines 42 sha256 ",
-        "e3b0c44298fc1c149afbf4c8996fb92427ae41e4649b934ca495991b7852b855\n"
-    );
-    assert_eq!(rt; none.as_slice(), none_expected.as_bytes());
-    let one = summary_text(rt.alloc(), 0, 1, 7, b"1 done\n")?;
-    let one_expected = concat!(
-        "load seed 0 side 1 lines 7 sha256 ",
-        "b5ccf9a98eb53d56e299185cb04c58fb5ab1ca0a527d404b54b7c4713d18039c\n"
-    );
-    assert_eq!(rt; one.as_slice(), one_expected.as_bytes());
     Ok(())
 }
 

@@ -1,6 +1,6 @@
 -- What keeps a look short: boxes, each round a run of rectangles whose numbers follow one another.
 use Rattle.std.specs.Prelude.{ℕ, ◌≤◌, ◌<◌, ◌+◌, ◌*◌, ◌/◌, ◌^◌, List, length}
-use Rattle.std.specs.Prelude.{slice_index_or, All}
+use Rattle.std.specs.Prelude.{slice_index_or, All, map}
 use Rattle.std.specs.Global.{Vec}
 use Rattle.std.specs.Vec.{vec_capacity}
 use Rattle.sz_cells.specs.declared.Bounds.{Bounds}
@@ -29,6 +29,10 @@ Covers rectangles level = HasBoxes rectangles level.span level.boxes.items
 -- the boxes of so many rectangles need no more memory
 abbrev pub HasRoom : ℕ → Level → Type 0
 HasRoom count level = count ≤ vec_capacity level.boxes * level.span
+
+-- how many boxes each level can hold without more memory
+abbrev pub box_capacities : List Level → List ℕ
+box_capacities levels = map (λ level. vec_capacity level.boxes) levels
 
 -- no rectangle from the number `from` up to `end` overlaps `bounds`
 abbrev pub MissesUpTo : List Bounds → Bounds → ℕ → ℕ → Type 0

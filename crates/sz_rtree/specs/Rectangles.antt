@@ -3,11 +3,12 @@ use Rattle.std.specs.Prelude.{ℕ, ◌≤◌, ◌<◌, List, length, Option, Mat
 use Rattle.std.specs.List.{AllWithin, HoldsAt}
 use Rattle.sz_cells.specs.declared.Bounds.{Bounds}
 
--- what is seen of a tree: its rectangles in the order of their numbers, and how many more it has
--- room for
+-- what is seen of a tree: its rectangles in the order of their numbers, how many more it has room
+-- for, and the capacities of the lists that it keeps, which say how much memory it holds
 pub record Rectangles : Type 0 where
   pub rectangles : List Bounds
   pub spare : ℕ
+  pub capacities : List ℕ
 
 -- the two have a row and a column in common
 abbrev pub Overlaps : Bounds → Bounds → Type 0

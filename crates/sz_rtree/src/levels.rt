@@ -10,7 +10,7 @@ ghost use Rattle.std.specs.Prelude.{IsTrue, ◌↔◌};
 ghost use Rattle.std.specs.Prelude.{vec_len, vec_capacity};
 ghost use Rattle.sz_cells.specs.declared.Bounds.{Bounds};
 ghost use Rattle.sz_rtree.specs.Rectangles.{Overlaps};
-ghost use Rattle.sz_rtree.specs.Levels.{IsInside, Covers, HasRoom, MissesUpTo};
+ghost use Rattle.sz_rtree.specs.Levels.{IsInside, Covers, HasRoom, MissesUpTo, box_capacities};
 
 use std::alloc::Global;
 use sz_cells::{Bounds, NoMemory};
@@ -72,6 +72,7 @@ pub(crate) fn add_to_all(levels: &mut [Level], number: usize, bounds: Bounds)
         → All (Covers (rectangles ++ bounds ∷ [])) levels.new }
     ensures kept { (room : ℕ)
         → All (HasRoom room) levels.old → All (HasRoom room) levels.new }
+    ensures capacities { box_capacities levels.new ≡ box_capacities levels.old }
 {
     for level in levels.iter_mut() {
         level.add(number, bounds);
@@ -102,6 +103,7 @@ impl Level {
         ensures covers { (rectangles : List Bounds) → length rectangles ≡ number
             → Covers rectangles self.old → Covers (rectangles ++ bounds ∷ []) self.new }
         ensures kept { (room : ℕ) → HasRoom room self.old → HasRoom room self.new }
+        ensures capacity { vec_capacity self.new.boxes ≡ vec_capacity self.old.boxes }
     {
         let place = number / self.span;
         if place < self.boxes.len() {

@@ -67,13 +67,18 @@ pub struct RTree {
 }
 
 impl Model for RTree {
+    ghost use Rattle.std.specs.Prelude.{◌∷◌, vec_capacity};
     ghost use Rattle.sz_rtree.specs.Rectangles.{Rectangles};
 
     ghost Value = { Rectangles };
 
-    ghost use Rattle.sz_rtree.specs.Levels.{IsReady};
+    ghost use Rattle.sz_rtree.specs.Levels.{IsReady, box_capacities};
 
-    ghost view = { λ t. record { rectangles = t.rectangles.items; spare = t.spare } };
+    ghost view = { λ t. record {
+      rectangles = t.rectangles.items;
+      spare = t.spare;
+      capacities = vec_capacity t.rectangles ∷ box_capacities t.levels.items;
+    } };
 
     ghost invariant = { λ t. IsReady t.rectangles t.spare t.levels.items };
 }
@@ -81,7 +86,8 @@ impl Model for RTree {
 impl RTree {
     /// A tree without rectangles, and without room for any. It takes room for its fifteen levels.
     pub fn new(alloc: Global) -> Result<RTree, NoMemory>
-        ensures { IfOk result (λ tree. tree ≡ record { rectangles = []; spare = 0 }) }
+        ensures rectangles { IfOk result (λ tree. tree.rectangles ≡ []) }
+        ensures spare { IfOk result (λ tree. tree.spare ≡ 0) }
     {
         Ok(RTree {
             rectangles: Vec::new(alloc),
@@ -90,15 +96,20 @@ impl RTree {
         })
     }
 
-    /// Makes room for `more` rectangles and the boxes above them, where there is none yet.
+    /// Makes room for `more` rectangles and the boxes above them, where there is none yet. After
+    /// `NoMemory` the tree is as before, but some of its lists may hold more memory.
     ///
     /// Costs a visit to each level, and a copy of the tree where a list has to grow. A list at
     /// least doubles then, so that many small calls cost no more than a few large ones.
     pub fn reserve(&mut self, more: u32) -> Result<(), NoMemory>
         requires { length self.old.rectangles + more < 2 ^ 32 }
-        ensures ok { OnOk result (self.new ≡ record self.old { spare = max self.old.spare more }) }
-        ensures err { OnErr result (self.new ≡ self.old) }
-        ensures ready { more ≤ self.old.spare → IsOk result }
+        ensures ok { OnOk result (self.new ≡ record self.old {
+          spare = max self.old.spare more;
+          capacities = self.new.capacities;
+        }) }
+        ensures err { OnErr result
+            (self.new ≡ record self.old { capacities = self.new.capacities }) }
+        ensures ready { more ≤ self.old.spare → IsOk result × (self.new ≡ self.old) }
     {
         if more <= self.spare {
             return Ok(());
@@ -110,13 +121,14 @@ impl RTree {
         Ok(())
     }
 
-    /// Adds a rectangle, whose number is the `len` before. It takes no memory.
+    /// Adds a rectangle, whose number is the `len` before. It takes no memory: the capacity of
+    /// each list that the tree keeps stays.
     ///
     /// Costs one box on each of the fifteen levels, however many rectangles there are: 262,144 unit
     /// squares in row-major order take some 20 ms.
     pub fn insert(&mut self, bounds: Bounds)
         requires { 0 < self.old.spare }
-        ensures { self.new ≡ record {
+        ensures { self.new ≡ record self.old {
           rectangles = self.old.rectangles ++ bounds ∷ [];
           spare = self.old.spare - 1;
         } }

@@ -7,6 +7,7 @@ use Rattle.clap.specs.Words.{Text}
 use Rattle.clap.proofs.OnLiterals.{clap_on_literals}
 use Rattle.sz_words.specs.Command.{faults_of, matches_in}
 use Rattle.sz_words.specs.Job.{IsInRange, job_of, mode_of}
+use Rattle.sz_words.specs.Numbers.{IsNumberIn, number_of}
 use Rattle.sz_words.specs.Place.{place_of}
 use Rattle.sz_words.specs.declared.Job.{Job}
 use Rattle.sz_words.specs.declared.JobMode.{JobMode}
@@ -113,6 +114,17 @@ no_options = refl
 pub an_option_twice : job_of (codes "--side" ∷ codes "2" ∷ load_with (codes "--side") (codes "2")) ≡ None
 unfolding clap_on_literals job_of mode_of faults_of matches_in
 an_option_twice = refl
+
+-- ---- numbers of texts
+
+-- a plus and leading noughts count for nothing, and no text at all has the number 0, which is no option's own
+pub numbers_of_texts : map number_of (Some (codes "+5") ∷ Some (codes "050") ∷ Some (codes "512") ∷ None ∷ [])
+    ≡ 5 ∷ 50 ∷ 512 ∷ 0 ∷ []
+numbers_of_texts = refl
+
+-- no text is no number of any range
+pub no_text_is_no_number : ¬ (IsNumberIn 0 4294967295 None)
+no_text_is_no_number number = number
 
 -- ---- places
 

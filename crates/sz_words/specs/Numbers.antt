@@ -3,7 +3,8 @@ use Rattle.std.specs.Prelude.{◌≤◌, ℕ, List, Option, Some, None, codes}
 use Rattle.std.specs.Str.Parse.{IsNumeral, digits_value, without_leading_plus}
 use Rattle.clap.specs.Words.{Row, Text, one_of}
 
--- the number of a text: its decimal digits, where a plus may stand before them
+-- The number of a text: its decimal digits, where a plus may stand before them. No text has the
+-- number 0, which is never read: each option of a job has a text (`HasNumbers`).
 abbrev pub number_of : Option Text → ℕ
 number_of None = 0
 number_of (Some text) = digits_value 10 (without_leading_plus text)

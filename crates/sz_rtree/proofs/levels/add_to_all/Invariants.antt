@@ -2,7 +2,7 @@
 use Rattle.std.proofs.Common.{ℕ, ◌≡◌, ◌<◌, List, [], ◌∷◌, ◌++◌, length, All}
 use Rattle.std.specs.List.{AllWithin}
 use Rattle.sz_cells.specs.declared.Bounds.{Bounds}
-use Rattle.sz_rtree.specs.Levels.{Covers, HasRoom}
+use Rattle.sz_rtree.specs.Levels.{Covers, HasRoom, box_capacities}
 use Rattle.sz_rtree.proofs.levels.add_to_all.Given as goal
 
 abbrev pub invariant-loop-level : goal.invariant-loop-level
@@ -13,4 +13,5 @@ invariant-loop-level l = record {
   ahead : (rectangles : List Bounds) → All (Covers rectangles) l.initial.levels
       → AllWithin (Covers rectangles) l.levels l.level-index (length l.levels);
   kept : (room : ℕ) → All (HasRoom room) l.initial.levels → All (HasRoom room) l.levels;
+  capacities : box_capacities l.levels ≡ box_capacities l.initial.levels;
 }
