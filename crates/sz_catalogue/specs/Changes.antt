@@ -94,12 +94,17 @@ traced v dir path =
 
 -- ---- commands
 
--- a command that changes what is held, where no rule refuses it: none of ask, explain and show
-abbrev pub changes_what_is_held : Command → Bool
-changes_what_is_held (command.Ask n dir path places) = false
-changes_what_is_held (command.Explain n dir path places) = false
-changes_what_is_held (command.Show n node) = false
-changes_what_is_held _ = true
+-- the commands that change what is held and start no version
+abbrev pub changes_without_start : Command → Bool
+changes_without_start (command.Array name array) = true
+changes_without_start (command.Layers name array) = true
+changes_without_start (command.Flow name flow) = true
+changes_without_start (command.Strategy name node list) = true
+changes_without_start (command.Start name base) = false
+changes_without_start (command.Await n) = true
+changes_without_start (command.Ask n dir path places) = false
+changes_without_start (command.Explain n dir path places) = false
+changes_without_start (command.Show n node) = false
 
 -- what a command that no rule refuses changes, and its reply
 abbrev pub accepted : Holdings → Command → Holdings × Response

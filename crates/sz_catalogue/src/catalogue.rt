@@ -20,6 +20,7 @@ ghost use Rattle.sz_catalogue.specs.Changes.{accepted, with_version};
 ghost use Rattle.sz_catalogue.specs.Seen.{response_of, Judges};
 
 use crate::arrays::HeldArrays;
+use crate::carried::Carried;
 use crate::flows::{HeldFlow, HeldFlows};
 use crate::lists::BaseArrays;
 use crate::memory::{another_flow, another_owner, own_name};
@@ -38,15 +39,15 @@ use sz_spec::{Array, Dir, Flow, Strategy};
 
 /// Everything held: arrays and flows by name, and versions by number.
 #[derive(Drop)]
-pub struct Catalogue {
+pub struct Catalogue<K: Carried> {
     arrays: HeldArrays,
     flows: HeldFlows,
-    versions: HeldVersions,
+    versions: HeldVersions<K>,
     cells: u64,
     alloc: Global,
 }
 
-impl Model for Catalogue {
+impl<K: Carried> Model for Catalogue<K> {
     ghost use Rattle.sz_catalogue.specs.Holdings.{Holdings};
     ghost use Rattle.sz_catalogue.specs.Kept.{KeepsLimits};
 
@@ -76,9 +77,9 @@ const MOST_CELLS: u64 = 4_194_304;
 /// The greatest number of a version.
 const GREATEST_NUMBER: u64 = 4_294_967_295;
 
-impl Catalogue {
+impl<K: Carried> Catalogue<K> {
     /// The catalogue that holds nothing. Takes no memory.
-    pub fn new(alloc: Global) -> Catalogue
+    pub fn new(alloc: Global) -> Catalogue<K>
         ensures { result ≡ no_holdings }
     {
         Catalogue {
@@ -110,7 +111,7 @@ impl Catalogue {
     }
 
     /// The version of a number. Logarithmic in the versions, and takes no memory.
-    pub fn version(&self, number: u32) -> Option<&HeldVersion>
+    pub fn version(&self, number: u32) -> Option<&HeldVersion<K>>
         ensures { option_copied result ≡ version_numbered self.now number }
     {
         match self.versions.get(number) {

@@ -24,6 +24,7 @@
 #![tactic(auto)]
 
 mod arrays;
+mod carried;
 mod catalogue;
 mod flows;
 pub mod laws;
@@ -36,6 +37,7 @@ mod strategies;
 mod version;
 mod versions;
 
+pub use carried::Carried;
 pub use catalogue::Catalogue;
 pub use lists::{BaseArrays, StrategyLists};
 pub use reply::{Reply, reply_text};

@@ -7,7 +7,7 @@ ghost use Rattle.sz_spec.specs.declared.modes.Strategy.TheVariants as strategy;
 ghost use Rattle.sz_spec.specs.FlowShapes.{output_shapes};
 ghost use Rattle.sz_catalogue.specs.Holdings.{shapes_of, output_cells};
 ghost use Rattle.sz_catalogue.specs.Rules.{are_lists_for};
-ghost use Rattle.sz_catalogue.specs.Changes.{changes_what_is_held};
+ghost use Rattle.sz_catalogue.specs.Changes.{changes_without_start};
 
 use crate::shapes::{cells_of, output_shapes};
 use crate::version::base_shapes;
@@ -19,19 +19,29 @@ use sz_cells::{Cell, CellSet, Shape};
 use sz_script::{Command, LineFault, Name, StrategyList, read_line};
 use sz_spec::{Array, Flow, Node, Strategy};
 
-/// Whether a command changes what is held.
+/// A catalogue that keeps nothing with its versions.
+type Held = Catalogue<()>;
+
+/// Whether a command changes what is held and starts no version.
 fn changes(command: &Command) -> bool
-    ensures { result ≡ changes_what_is_held command.now }
+    ensures { result ≡ changes_without_start command.now }
 {
-    !matches!(
-        command,
-        Command::Ask { .. } | Command::Explain { .. } | Command::Show { .. }
-    )
+    match command {
+        Command::Array { .. } => true,
+        Command::Layers { .. } => true,
+        Command::Flow { .. } => true,
+        Command::Strategy { .. } => true,
+        Command::Start { .. } => false,
+        Command::Await { .. } => true,
+        Command::Ask { .. } => false,
+        Command::Explain { .. } => false,
+        Command::Show { .. } => false,
+    }
 }
 
 /// Reads a line, judges its command and takes it. A reply to a line that changes nothing is that it
 /// is done.
-fn take(alloc: Global, held: &mut Catalogue, line: &[u8]) -> Result<Reply, Fail> {
+fn take(alloc: Global, held: &mut Held, line: &[u8]) -> Result<Reply, Fail> {
     sz_script::laws::commands_are_right();
     let command = match read_line(alloc, line) {
         Ok(command) => command,
@@ -44,55 +54,19 @@ fn take(alloc: Global, held: &mut Catalogue, line: &[u8]) -> Result<Reply, Fail>
         Err(LineFault::NoMemory) => return Err(Fail::from("no memory")),
     }
     if changes(&command) {
-        Ok(held.accept(command)?)
-    } else {
-        Ok(Reply::Done { version: 0 })
+        return Ok(held.accept(command)?);
+    }
+    match command {
+        Command::Start { name, base } => Ok(held.start(name, base.as_slice(), ())?),
+        _ => Ok(Reply::Done { version: 0 }),
     }
 }
 
 /// Whether a line is answered by this text.
-fn says(alloc: Global, held: &mut Catalogue, line: &[u8], text: &str) -> Result<bool, Fail> {
+fn says(alloc: Global, held: &mut Held, line: &[u8], text: &str) -> Result<bool, Fail> {
     let reply = take(alloc, held, line)?;
     let said = reply_text(alloc, 7, &reply)?;
     Ok(said.as_slice() == text.as_bytes())
-}
-
-#[test]
-fn a_session_is_held(rt: HostRuntime) -> Result<(), Fail> {
-    let alloc = rt.alloc();
-    let mut held = Catalogue::new(alloc);
-    let array = br#"{"array":"a","cells":[[5,6]]}"#;
-    let flow = br#"{"flow":"f","inputs":1,"nodes":[{"op":"neg","from":[{"i":0}]}]}"#;
-    let list = br#"{"strategy":"f","node":0,"list":["blackbox"]}"#;
-    let start = br#"{"start":"f","base":[["a",1]]}"#;
-    let ask = br#"{"ask":1,"dir":"back","path":[[0,0]],"cells":[[0,1]]}"#;
-    let outside = br#"{"ask":1,"dir":"back","path":[[0,0]],"cells":[[1,1]]}"#;
-    assert!(rt; says(alloc, &mut held, array, "7 array a 1\n")?);
-    assert!(rt; says(alloc, &mut held, array, "7 array a 2\n")?);
-    assert!(rt; says(alloc, &mut held, flow, "7 flow f\n")?);
-    assert!(rt; says(alloc, &mut held, list, "7 strategy f 0\n")?);
-    assert!(rt; says(alloc, &mut held, start, "7 started 1\n")?);
-    assert!(rt; says(alloc, &mut held, br#"{"await":1}"#, "7 done 1\n")?);
-    assert!(rt; says(alloc, &mut held, ask, "7 done 0\n")?);
-    assert!(rt; says(alloc, &mut held, outside, "7 refused 17\n")?);
-    assert!(rt; held.flow("f").is_some() && held.flow("a").is_none());
-    assert!(rt; held.array("a", 2).is_some() && held.array("a", 3).is_none());
-    assert!(rt; held.version(1).is_some() && held.version(2).is_none());
-    assert!(rt; held.has_room(4_194_298) && !held.has_room(4_194_299));
-    Ok(())
-}
-
-#[test]
-fn the_last_of_4096_arrays_is_held(rt: HostRuntime) -> Result<(), Fail> {
-    let alloc = rt.alloc();
-    let mut held = Catalogue::new(alloc);
-    let array = br#"{"array":"a","cells":[[5]]}"#;
-    for _ in 0..4_095 {
-        let _reply = take(alloc, &mut held, array)?;
-    }
-    assert!(rt; says(alloc, &mut held, array, "7 array a 4096\n")?);
-    assert!(rt; says(alloc, &mut held, array, "7 refused 7\n")?);
-    Ok(())
 }
 
 /// The line of a flow under the name of a number.
@@ -102,50 +76,43 @@ fn flow_line(alloc: Global, number: u32) -> Result<String, Fail> {
     Ok(line)
 }
 
-#[test]
-fn the_last_of_1024_flows_is_held(rt: HostRuntime) -> Result<(), Fail> {
-    let alloc = rt.alloc();
-    let mut held = Catalogue::new(alloc);
+/// Holds one array, one flow and one version fewer than can be held.
+fn fill(alloc: Global, held: &mut Held) -> Result<(), Fail> {
+    for _ in 0..4_095 {
+        let _array = take(alloc, held, br#"{"array":"a","cells":[[5]]}"#)?;
+    }
     for number in 0..1_023 {
         let line = flow_line(alloc, number)?;
-        let _reply = take(alloc, &mut held, line.as_bytes())?;
+        let _flow = take(alloc, held, line.as_bytes())?;
     }
+    for _ in 0..4_095 {
+        let _version = take(alloc, held, br#"{"start":"f7","base":[["a",1]]}"#)?;
+    }
+    Ok(())
+}
+
+#[test]
+fn the_last_array_flow_and_version_is_held(rt: HostRuntime) -> Result<(), Fail> {
+    let alloc = rt.alloc();
+    let mut held = Held::new(alloc);
+    fill(alloc, &mut held)?;
+    let array = br#"{"array":"a","cells":[[5]]}"#;
+    assert!(rt; says(alloc, &mut held, array, "7 array a 4096\n")?);
+    assert!(rt; says(alloc, &mut held, array, "7 refused 7\n")?);
     let again = flow_line(alloc, 7)?;
     assert!(rt; says(alloc, &mut held, again.as_bytes(), "7 refused 9\n")?);
     let last = flow_line(alloc, 1_023)?;
     assert!(rt; says(alloc, &mut held, last.as_bytes(), "7 flow f1023\n")?);
     let next = flow_line(alloc, 1_024)?;
     assert!(rt; says(alloc, &mut held, next.as_bytes(), "7 refused 9\n")?);
-    let fault = br#"{"flow":"f7","inputs":1,"nodes":[]}"#;
-    assert!(rt; says(alloc, &mut held, fault, "7 refused 8 1\n")?);
-    Ok(())
-}
-
-/// A catalogue with an array `a` of one cell, and a flow `f` of one negation.
-fn with_flow(alloc: Global) -> Result<Catalogue, Fail> {
-    let mut held = Catalogue::new(alloc);
-    let array = br#"{"array":"a","cells":[[5]]}"#;
-    let flow = br#"{"flow":"f","inputs":1,"nodes":[{"op":"neg","from":[{"i":0}]}]}"#;
-    let _array = take(alloc, &mut held, array)?;
-    let _flow = take(alloc, &mut held, flow)?;
-    Ok(held)
-}
-
-#[test]
-fn the_last_of_4096_versions_is_held(rt: HostRuntime) -> Result<(), Fail> {
-    let alloc = rt.alloc();
-    let mut held = with_flow(alloc)?;
-    let start = br#"{"start":"f","base":[["a",1]]}"#;
-    for _ in 0..4_095 {
-        let _reply = take(alloc, &mut held, start)?;
-    }
+    let start = br#"{"start":"f7","base":[["a",1]]}"#;
     assert!(rt; says(alloc, &mut held, start, "7 started 4096\n")?);
     assert!(rt; says(alloc, &mut held, start, "7 refused 14\n")?);
     Ok(())
 }
 
 /// The version of the flow `f` of one node on the first array of `a`, by black box and awaited.
-fn version_of(alloc: Global, flow: Arc<Flow>, array: Arc<Array>) -> Result<HeldVersion, Fail>
+fn version_of(alloc: Global, flow: Arc<Flow>, array: Arc<Array>) -> Result<HeldVersion<()>, Fail>
     ensures name { IfOk result (λ v. v.flow_name ≡ codes "f") }
     ensures flow { IfOk result (λ v. v.flow ≡ arc_value flow) }
     ensures base { IfOk result
@@ -165,6 +132,7 @@ fn version_of(alloc: Global, flow: Arc<Flow>, array: Arc<Array>) -> Result<HeldV
         base: BaseArrays::of(vec![in alloc; array]?),
         lists: StrategyLists::of(vec![in alloc; list]?),
         awaited: true,
+        kept: (),
     })
 }
 
@@ -181,7 +149,7 @@ fn is_one(nodes: &[Node]) -> bool
 
 /// How many cells the outputs of a version have, where its flow has one node and takes one base
 /// array, and the shapes fit.
-fn output_cells(alloc: Global, version: &HeldVersion) -> Result<u64, Fail>
+fn output_cells(alloc: Global, version: &HeldVersion<()>) -> Result<u64, Fail>
     requires base { length version.now.base ≡ 1 }
     requires lists { version.now.lists ≡ (strategy.BlackBox ∷ []) ∷ [] }
     ensures count { OnOk result (length version.now.base ≡ version.now.flow.inputs) }
@@ -202,7 +170,7 @@ fn output_cells(alloc: Global, version: &HeldVersion) -> Result<u64, Fail>
 }
 
 /// Adds a version of `f` on the first array of `a` under a number that is not held.
-fn add(alloc: Global, held: &mut Catalogue, number: u32) -> Result<(), Fail> {
+fn add(alloc: Global, held: &mut Held, number: u32) -> Result<(), Fail> {
     let flow = Arc::try_clone(held.flow("f").ok_or("the flow")?)?;
     let array = Arc::try_clone(held.array("a", 1).ok_or("the array")?)?;
     let version = version_of(alloc, flow, array)?;
@@ -215,7 +183,7 @@ fn add(alloc: Global, held: &mut Catalogue, number: u32) -> Result<(), Fail> {
 }
 
 /// Whether a version is the one that is added.
-fn is_added(version: Option<&HeldVersion>) -> bool {
+fn is_added(version: Option<&HeldVersion<()>>) -> bool {
     let Some(version) = version else {
         return false;
     };
@@ -232,16 +200,29 @@ fn is_added(version: Option<&HeldVersion>) -> bool {
 }
 
 #[test]
-fn a_version_is_added_and_the_next_number_is_behind_the_greatest(
-    rt: HostRuntime,
-) -> Result<(), Fail> {
+fn a_session_is_held(rt: HostRuntime) -> Result<(), Fail> {
     let alloc = rt.alloc();
-    let mut held = with_flow(alloc)?;
+    let mut held = Held::new(alloc);
+    let array = br#"{"array":"a","cells":[[5,6]]}"#;
+    let flow = br#"{"flow":"f","inputs":1,"nodes":[{"op":"neg","from":[{"i":0}]}]}"#;
+    let list = br#"{"strategy":"f","node":0,"list":["blackbox"]}"#;
     let start = br#"{"start":"f","base":[["a",1]]}"#;
+    let outside = br#"{"ask":1,"dir":"back","path":[[0,0]],"cells":[[1,1]]}"#;
     let explain = br#"{"explain":7,"dir":"back","path":[[0,0]],"cells":[]}"#;
+    assert!(rt; says(alloc, &mut held, array, "7 array a 1\n")?);
+    assert!(rt; says(alloc, &mut held, array, "7 array a 2\n")?);
+    assert!(rt; says(alloc, &mut held, flow, "7 flow f\n")?);
+    assert!(rt; says(alloc, &mut held, list, "7 strategy f 0\n")?);
+    assert!(rt; says(alloc, &mut held, start, "7 started 1\n")?);
+    assert!(rt; says(alloc, &mut held, br#"{"await":1}"#, "7 done 1\n")?);
+    assert!(rt; says(alloc, &mut held, outside, "7 refused 17\n")?);
+    assert!(rt; held.flow("f").is_some() && held.flow("a").is_none());
+    assert!(rt; held.array("a", 2).is_some() && held.array("a", 3).is_none());
+    assert!(rt; held.version(1).is_some() && held.version(2).is_none());
+    assert!(rt; held.has_room(4_194_298) && !held.has_room(4_194_299));
     add(alloc, &mut held, 7)?;
-    assert!(rt; is_added(held.version(7)) && held.version(1).is_none());
-    assert!(rt; held.has_room(4_194_302) && !held.has_room(4_194_303));
+    assert!(rt; is_added(held.version(7)) && held.version(2).is_none());
+    assert!(rt; held.has_room(4_194_296) && !held.has_room(4_194_297));
     assert!(rt; says(alloc, &mut held, explain, "7 done 0\n")?);
     assert!(rt; says(alloc, &mut held, start, "7 started 8\n")?);
     add(alloc, &mut held, 4_294_967_294)?;

@@ -11,6 +11,7 @@ ghost use Rattle.sz_catalogue.specs.Starts.{outputs_of, inputs_of, step_start};
 ghost use Rattle.sz_catalogue.specs.Rules.{are_lists_for};
 ghost use Rattle.sz_catalogue.specs.Kept.{IsRun};
 
+use crate::carried::Carried;
 use crate::lists::{BaseArrays, StrategyLists};
 use crate::paths::source_of;
 use crate::shapes::output_shapes;
@@ -22,17 +23,19 @@ use sz_script::{Name, PathStep};
 use sz_spec::{Array, Dir, Flow, SourceRef};
 
 /// A run of a flow: the flow and the name under which it is held, its base arrays, the strategies
-/// of its nodes as they were at the start, one list a node, and whether it was awaited.
+/// of its nodes as they were at the start, one list a node, whether it was awaited, and what is kept
+/// with it, which belongs to it.
 #[derive(Drop)]
-pub struct HeldVersion {
+pub struct HeldVersion<K: Carried> {
     pub flow_name: Name,
     pub flow: Arc<Flow>,
     pub base: BaseArrays,
     pub lists: StrategyLists,
     pub awaited: bool,
+    pub kept: K,
 }
 
-impl Model for HeldVersion {
+impl<K: Carried> Model for HeldVersion<K> {
     ghost use Rattle.std.specs.Arc.{arc_value};
     ghost use Rattle.sz_catalogue.specs.Holdings.{Version};
 
@@ -45,6 +48,23 @@ impl Model for HeldVersion {
       lists = v.lists;
       awaited = v.awaited;
     } };
+
+    ghost invariant = { λ v. K.belongs v.kept (record {
+      flow_name = v.flow_name;
+      flow = arc_value v.flow;
+      base = v.base;
+      lists = v.lists;
+      awaited = v.awaited;
+    }) };
+}
+
+impl<K: Carried> HeldVersion<K> {
+    /// Notes that the version was awaited.
+    fn note_await(&mut self)
+        ensures { self.new ≡ record self.old { awaited = true } }
+    {
+        self.awaited = true;
+    }
 }
 
 /// A base array of a version: its name, its version from 1, and the array.
@@ -78,12 +98,12 @@ pub fn base_shapes(alloc: Global, base: &[BaseArray]) -> Result<Vec<Shape>, NoMe
 /// A version with the shapes of its outputs: of a flow that is well formed, on as many base arrays
 /// as it takes, whose shapes fit, with a list of strategies for each node.
 #[derive(Drop)]
-pub struct Run {
-    version: HeldVersion,
+pub struct Run<K: Carried> {
+    version: HeldVersion<K>,
     outputs: Vec<Shape>,
 }
 
-impl Model for Run {
+impl<K: Carried> Model for Run<K> {
     ghost use Rattle.sz_catalogue.specs.Holdings.{Version};
     ghost use Rattle.sz_catalogue.specs.Kept.{IsRun};
 
@@ -94,9 +114,9 @@ impl Model for Run {
     ghost invariant = { λ r. IsRun r.version r.outputs.items };
 }
 
-impl Run {
+impl<K: Carried> Run<K> {
     /// The run that a version is. Linear in the flow's sources.
-    pub fn make(alloc: Global, version: HeldVersion) -> Result<Run, NoMemory>
+    pub fn make(alloc: Global, version: HeldVersion<K>) -> Result<Run<K>, NoMemory>
         requires right { is_well_formed version.flow ≡ true }
         requires count { length version.base ≡ version.flow.inputs }
         requires fits { result_err (output_shapes version.flow (shapes_of version.base)) ≡ None }
@@ -111,7 +131,7 @@ impl Run {
     }
 
     /// The version.
-    pub fn version(&self) -> &HeldVersion
+    pub fn version(&self) -> &HeldVersion<K>
         ensures { result.now ≡ self.now }
     {
         &self.version
@@ -174,6 +194,6 @@ impl Run {
     pub fn note_await(&mut self)
         ensures { self.new ≡ record self.old { awaited = true } }
     {
-        self.version.awaited = true;
+        self.version.note_await();
     }
 }

@@ -8,6 +8,7 @@ ghost use Rattle.std.specs.BTreeMap.{is_at, insert_entry};
 ghost use Rattle.std.specs.Option.{option_copied};
 ghost use Rattle.sz_catalogue.specs.Holdings.{greatest, no_version};
 
+use crate::carried::Carried;
 use crate::version::Run;
 use std::alloc::Global;
 use std::collections::BTreeMap;
@@ -16,11 +17,11 @@ use sz_cells::NoMemory;
 
 /// The versions held, each under its number.
 #[derive(Drop)]
-pub struct HeldVersions {
-    by_number: BTreeMap<u32, Run>,
+pub struct HeldVersions<K: Carried> {
+    by_number: BTreeMap<u32, Run<K>>,
 }
 
-impl Model for HeldVersions {
+impl<K: Carried> Model for HeldVersions<K> {
     ghost use Rattle.std.specs.Prelude.{ℕ, List};
     ghost use Rattle.sz_catalogue.specs.Holdings.{Version};
 
@@ -29,8 +30,8 @@ impl Model for HeldVersions {
     ghost view = { λ v. v.by_number.entries };
 }
 
-impl HeldVersions {
-    pub fn new(alloc: Global) -> HeldVersions
+impl<K: Carried> HeldVersions<K> {
+    pub fn new(alloc: Global) -> HeldVersions<K>
         ensures { result ≡ [] }
     {
         HeldVersions {
@@ -46,7 +47,7 @@ impl HeldVersions {
     }
 
     /// The version of a number. Logarithmic in the versions.
-    pub fn get(&self, number: u32) -> Option<&Run>
+    pub fn get(&self, number: u32) -> Option<&Run<K>>
         ensures { option_copied result ≡ lookup (is_at (nat_cmp number)) self.now }
     {
         self.by_number.get(&number)
@@ -63,7 +64,7 @@ impl HeldVersions {
     }
 
     /// Holds a version under a number. Logarithmic in the versions.
-    pub fn push(&mut self, number: u32, run: Run) -> Result<(), NoMemory>
+    pub fn push(&mut self, number: u32, run: Run<K>) -> Result<(), NoMemory>
         ensures held { OnOk result (self.new ≡ insert_entry nat_cmp self.old number run) }
         ensures err { OnErr result (self.new ≡ self.old) }
         ensures rising { OnOk result (IsStrictlySortedBy nat_cmp (keys_of self.old)) }

@@ -11,10 +11,11 @@ ghost use Rattle.sz_catalogue.specs.Holdings.{array_version, flow_named, version
 ghost use Rattle.sz_catalogue.specs.Holdings.{shapes_of, output_cells};
 ghost use Rattle.sz_catalogue.specs.Starts.{base_of, bases_of, workflow_of, version_started};
 ghost use Rattle.sz_catalogue.specs.Rules.{judged, has_room, are_lists_for};
-ghost use Rattle.sz_catalogue.specs.Changes.{accepted, changes_what_is_held, with_version};
+ghost use Rattle.sz_catalogue.specs.Changes.{accepted, changes_without_start, with_version};
 ghost use Rattle.sz_catalogue.specs.Seen.{response_of};
 
 use super::Catalogue;
+use crate::carried::Carried;
 use crate::flows::HeldFlow;
 use crate::lists::BaseArrays;
 use crate::memory::{another_flow, another_owner, own_name};
@@ -25,15 +26,15 @@ use sz_cells::NoMemory;
 use sz_script::{BaseName, Command, Name, StrategyList};
 use sz_spec::{Array, Flow};
 
-impl Catalogue {
-    /// Takes a command that changes what is held and that no rule refuses. Without memory nothing
-    /// is changed.
+impl<K: Carried> Catalogue<K> {
+    /// Takes a command that changes what is held, starts no version and is refused by no rule.
+    /// Without memory nothing is changed.
     ///
-    /// Takes time in the command, in the flow for a start, and in the logarithm of what is held.
+    /// Takes time in the command, and in the logarithm of what is held.
     pub fn accept(&mut self, command: Command) -> Result<Reply, NoMemory>
         requires right { is_right command ≡ true }
         requires judged { judged self.old command ≡ None }
-        requires changes { changes_what_is_held command ≡ true }
+        requires changes { changes_without_start command ≡ true }
         ensures ok { IfOk result (λ r. (self.new, response_of r) ≡ accepted self.old command) }
         ensures err { OnErr result (self.new ≡ self.old) }
     {
@@ -42,9 +43,11 @@ impl Catalogue {
             Command::Layers { name, array } => self.hold_array(name, array),
             Command::Flow { name, flow } => self.hold_flow(name, flow),
             Command::Strategy { name, node, list } => Ok(self.set_list(name, node, list)),
-            Command::Start { name, base } => self.start(name, base.as_slice()),
             Command::Await { version } => Ok(self.await_version(version)),
-            _ => unreachable!(),
+            Command::Start { .. } => unreachable!(),
+            Command::Ask { .. } => unreachable!(),
+            Command::Explain { .. } => unreachable!(),
+            Command::Show { .. } => unreachable!(),
         }
     }
 
@@ -86,22 +89,32 @@ impl Catalogue {
         Reply::Strategy { name, node }
     }
 
-    /// Starts a version of a flow.
-    fn start(&mut self, name: Name, base: &[BaseName]) -> Result<Reply, NoMemory>
-        requires { judged self.old (order.Start name base.now) ≡ None }
+    /// Starts a version of a flow, where no rule refuses the start, with what is kept with it.
+    /// Without memory nothing is changed.
+    ///
+    /// Takes time in the flow, in the base arrays, and in the logarithm of what is held.
+    pub fn start(&mut self, name: Name, base: &[BaseName], kept: K) -> Result<Reply, NoMemory>
+        requires judged { judged self.old (order.Start name base.now) ≡ None }
+        requires kept { K.belongs kept (version_started self.old name base.now) }
         ensures ok { IfOk result
             (λ r. (self.new, response_of r) ≡ accepted self.old (order.Start name base.now)) }
         ensures err { OnErr result (self.new ≡ self.old) }
     {
         let number = self.versions.next_number() as u32;
-        let version = self.version_started(name, base)?;
+        let version = self.version_started(name, base, kept)?;
         self.add(number, version)?;
         Ok(Reply::Started { version: number })
     }
 
     /// The version that a start makes.
-    fn version_started(&self, name: Name, base: &[BaseName]) -> Result<HeldVersion, NoMemory>
-        requires { is_some (flow_named self.now name) ≡ true }
+    fn version_started(
+        &self,
+        name: Name,
+        base: &[BaseName],
+        kept: K,
+    ) -> Result<HeldVersion<K>, NoMemory>
+        requires flow { is_some (flow_named self.now name) ≡ true }
+        requires kept { K.belongs kept (version_started self.now name base.now) }
         ensures started { IfOk result (λ v. v ≡ version_started self.now name base.now) }
         ensures right { OnOk result (is_well_formed (workflow_of self.now name).graph ≡ true) }
         ensures lists { OnOk result (are_lists_for (workflow_of self.now name).graph.nodes
@@ -119,6 +132,7 @@ impl Catalogue {
             base,
             lists,
             awaited: false,
+            kept,
         })
     }
 
@@ -167,7 +181,7 @@ impl Catalogue {
     /// nothing is changed.
     ///
     /// Takes time in the flow's sources, and in the logarithm of what is held.
-    pub fn add_version(&mut self, number: u32, version: HeldVersion) -> Result<(), NoMemory>
+    pub fn add_version(&mut self, number: u32, version: HeldVersion<K>) -> Result<(), NoMemory>
         requires some { 1 ≤ number }
         requires new { version_numbered self.old number ≡ None }
         requires awaited { version.awaited ≡ true }
@@ -189,7 +203,7 @@ impl Catalogue {
     }
 
     /// Holds a version under a number that is not held.
-    fn add(&mut self, number: u32, version: HeldVersion) -> Result<(), NoMemory>
+    fn add(&mut self, number: u32, version: HeldVersion<K>) -> Result<(), NoMemory>
         requires new { version_numbered self.old number ≡ None }
         requires right { is_well_formed version.flow ≡ true }
         requires count { length version.base ≡ version.flow.inputs }

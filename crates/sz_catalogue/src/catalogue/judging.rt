@@ -14,6 +14,7 @@ ghost use Rattle.sz_catalogue.specs.Seen.{Judges};
 ghost use Rattle.sz_script.specs.Right.{is_right};
 
 use super::{Catalogue, GREATEST_NUMBER, MOST_ARRAYS, MOST_CELLS, MOST_FLOWS};
+use crate::carried::Carried;
 use crate::paths::is_joined;
 use crate::shapes::{cells_of, output_shapes};
 use crate::strategies::{is_list_of, names_a_store};
@@ -22,7 +23,7 @@ use sz_cells::{NoMemory, Shape};
 use sz_script::{BaseName, Command, LineFault, PathStep, Place, Refusal};
 use sz_spec::{Array, Dir, Flow, Strategy};
 
-impl Catalogue {
+impl<K: Carried> Catalogue<K> {
     /// Whether a rule refuses a command, and which is the first that does. The command is one that
     /// a line can be: its names are names, and its flow is well formed.
     ///

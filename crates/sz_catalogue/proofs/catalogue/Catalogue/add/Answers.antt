@@ -6,7 +6,7 @@ use Rattle.sz_catalogue.proofs.Counts.{added-cells, room-cells}
 use Rattle.sz_catalogue.proofs.catalogue.Catalogue.add.Goals as goal
 
 pub invariant_of-self-2 : goal.invariant_of-self-2
-invariant_of-self-2 c =
+invariant_of-self-2 g c =
     let held : Holdings = record {
       arrays = c.self.inside.arrays;
       flows = c.self.inside.flows;

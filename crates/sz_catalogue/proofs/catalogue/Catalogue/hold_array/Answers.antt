@@ -8,7 +8,7 @@ use Rattle.sz_catalogue.proofs.Counts.{array-room}
 use Rattle.sz_catalogue.proofs.catalogue.Catalogue.hold_array.Goals as goal
 
 pub overflow_cast-result : goal.overflow_cast-result
-overflow_cast-result c =
+overflow_cast-result g c =
     let held : Holdings = record {
       arrays = c.self.inside.arrays;
       flows = c.self.inside.flows;

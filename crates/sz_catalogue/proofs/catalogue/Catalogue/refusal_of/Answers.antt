@@ -7,21 +7,21 @@ use Rattle.sz_catalogue.specs.Rules.{judged}
 use Rattle.sz_catalogue.proofs.catalogue.Catalogue.refusal_of.Goals as goal
 
 pub returns-in-Array : goal.returns-in-Array
-returns-in-Array c =
+returns-in-Array g c =
     c.refusal_of_array.ensures.one c.in-Array.name ∙ ap (judged c.args.self.now) (sym c.in-Array.is)
 
 pub returns-in-Layers : goal.returns-in-Layers
-returns-in-Layers c =
+returns-in-Layers g c =
     c.refusal_of_array-in-Layers.ensures.layers c.in-Layers.name ∙ ap (judged c.args.self.now) (sym c.in-Layers.is)
 
 pub returns-in-Flow : goal.returns-in-Flow
-returns-in-Flow c =
+returns-in-Flow g c =
     c.refusal_of_flow.ensures c.in-Flow.flow
     ∙ ap (λ (name : List ℕ). judged c.args.self.now (order.Flow name c.in-Flow.flow)) c.as_str.ensures
     ∙ ap (judged c.args.self.now) (sym c.in-Flow.is)
 
 pub returns-in-Start : goal.returns-in-Start
-returns-in-Start c =
+returns-in-Start g c =
     IfOk-weaker c.refusal_of_start.result _ _
     (λ r p. p
     ∙ ap₂ (λ (name : List ℕ) (base : List BaseName). judged c.args.self.now (order.Start name base))
