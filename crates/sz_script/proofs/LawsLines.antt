@@ -12,11 +12,11 @@ use Rattle.sz_spec.specs.declared.modes.Strategy.TheVariants as strategy
 use Rattle.sz_script.specs.Names.{is_name}
 use Rattle.sz_script.specs.Right.{names_in, fault_in, is_right}
 use Rattle.sz_script.specs.Words.{name_of_strategy, strategy_named}
-use Rattle.sz_script.specs.Drafts.{Draft, has_bad_name, has_bad_cells, has_too_many_cells, unless_fault, judged}
-use Rattle.sz_script.specs.Drafts.{judged_or_none}
+use Rattle.sz_script.specs.Drafts.{Draft, has_bad_name, has_bad_cells, has_too_many_cells, unless_fault, reading_of_draft}
+use Rattle.sz_script.specs.Drafts.{reading_of_form}
 use Rattle.sz_script.specs.Forms.{draft_of}
 use Rattle.sz_script.specs.Reading.{line_limit, json_of, reading_of_json, reading}
-use Rattle.sz_script.specs.Laws.{Says, IsJudged, is_of_lines}
+use Rattle.sz_script.specs.Laws.{Says, PassesUpToFlow, is_of_lines}
 use Rattle.sz_script.specs.declared.command.Command.{Command}
 use Rattle.sz_script.specs.declared.refusal.Refusal.{Refusal}
 use Rattle.sz_script.specs.declared.refusal.Refusal.TheVariants as refusal
@@ -26,49 +26,49 @@ use Rattle.sz_script.specs.declared.refusal.Refusal.TheVariants as refusal
 abbrev Read : Type 0
 Read = Result Command Refusal
 
--- a result's place among the tests
-abbrev place : Read → ℕ
-place (Ok c) = 9
-place (Err refusal.TooLong) = 2
-place (Err refusal.NoJson) = 1
-place (Err refusal.NoForm) = 3
-place (Err refusal.BadName) = 4
-place (Err refusal.BadCells) = 5
-place (Err refusal.TooManyCells) = 6
-place (Err (refusal.BadFlow fault)) = 8
-place (Err _) = 0
+-- a result's rank among the tests
+abbrev rank : Read → ℕ
+rank (Ok c) = 9
+rank (Err refusal.TooLong) = 2
+rank (Err refusal.NoJson) = 1
+rank (Err refusal.NoForm) = 3
+rank (Err refusal.BadName) = 4
+rank (Err refusal.BadCells) = 5
+rank (Err refusal.TooManyCells) = 6
+rank (Err (refusal.BadFlow fault)) = 8
+rank (Err _) = 0
 
--- results in other places are not one
-apart : {A : Type 0} (r s : Read) → (place r ≡ place s → ⊥) → r ≡ s → A
-apart r s ne e = absurd (ne (ap place e))
+-- results of other ranks are not one
+apart : {A : Type 0} (r s : Read) → (rank r ≡ rank s → ⊥) → r ≡ s → A
+apart r s ne e = absurd (ne (ap rank e))
 
 -- ---- the draft of a result that comes of one
 
-abbrev is_judged : Read → Bool
-is_judged (Err refusal.TooLong) = false
-is_judged (Err refusal.NoJson) = false
-is_judged (Err refusal.NoForm) = false
-is_judged _ = true
+abbrev is_past_form : Read → Bool
+is_past_form (Err refusal.TooLong) = false
+is_past_form (Err refusal.NoJson) = false
+is_past_form (Err refusal.NoForm) = false
+is_past_form _ = true
 
-other : {A : Type 0} (r v : Read) → is_judged r ≡ false → is_judged v ≡ true → r ≡ v → A
-other r v early later e = absurd (true≢false (sym later ∙ ap is_judged (sym e) ∙ early))
+other : {A : Type 0} (r v : Read) → is_past_form r ≡ false → is_past_form v ≡ true → r ≡ v → A
+other r v early later e = absurd (true≢false (sym later ∙ ap is_past_form (sym e) ∙ early))
 
-of_draft : (o : Option Draft) (v : Read) → is_judged v ≡ true → judged_or_none o ≡ v
-    → (x : Draft) × (o ≡ Some x) × (judged x ≡ v)
+of_draft : (o : Option Draft) (v : Read) → is_past_form v ≡ true → reading_of_form o ≡ v
+    → (x : Draft) × (o ≡ Some x) × (reading_of_draft x ≡ v)
 of_draft None v h e = other (Err refusal.NoForm) v refl h e
 of_draft (Some x) v h e = (x, refl, e)
 
 abbrev read_by : Bool → Option Data → Read
 read_by long j = if long then Err refusal.TooLong else reading_of_json j
 
-of_json : (long : Bool) (j : Option Data) (v : Read) → is_judged v ≡ true → read_by long j ≡ v
-    → (long ≡ false) × (d : Data) × (j ≡ Some d) × (x : Draft) × (draft_of d ≡ Some x) × (judged x ≡ v)
+of_json : (long : Bool) (j : Option Data) (v : Read) → is_past_form v ≡ true → read_by long j ≡ v
+    → (long ≡ false) × (d : Data) × (j ≡ Some d) × (x : Draft) × (draft_of d ≡ Some x) × (reading_of_draft x ≡ v)
 of_json true j v h e = other (Err refusal.TooLong) v refl h e
 of_json false None v h e = other (Err refusal.NoJson) v refl h e
 of_json false (Some d) v h e = let t = of_draft (draft_of d) v h e in (refl, d, refl, t.0, t.1, t.2)
 
-through : (line : List ℕ) (v : Read) → is_judged v ≡ true → reading line ≡ v
-    → (x : Draft) × Says line x × (judged x ≡ v)
+through : (line : List ℕ) (v : Read) → is_past_form v ≡ true → reading line ≡ v
+    → (x : Draft) × Says line x × (reading_of_draft x ≡ v)
 through line v h e =
     let t = of_json (nat_lt line_limit (length line)) (json_of line) v h e in (
       t.3,
@@ -76,11 +76,11 @@ through line v h e =
       t.5,
     )
 
-back : (line : List ℕ) (x : Draft) (v : Read) → Says line x → judged x ≡ v → reading line ≡ v
+back : (line : List ℕ) (x : Draft) (v : Read) → Says line x → reading_of_draft x ≡ v → reading line ≡ v
 back line x v s e =
     ap (λ (b : Bool). read_by b (json_of line)) (le-ltb line_limit (length line) s.short)
     ∙ ap (λ (j : Option Data). reading_of_json j) s.json
-    ∙ ap judged_or_none s.form ∙ e
+    ∙ ap reading_of_form s.form ∙ e
 
 -- ---- the tests of a draft, one after another
 
@@ -129,9 +129,9 @@ none-held false false true f c k e = cc
 none-held false false false None c k e = (refl, refl, refl, refl, cc)
 none-held false false false (Some h) c k e = cc
 
-judged_by : (x : Draft) (n b m : Bool) (f : Option FlowFault) → has_bad_name x ≡ n → has_bad_cells x ≡ b
-    → has_too_many_cells x ≡ m → fault_in x.command ≡ f → judged x ≡ tests n b m f x.command
-judged_by x n b m f name cells many fault =
+reading_by : (x : Draft) (n b m : Bool) (f : Option FlowFault) → has_bad_name x ≡ n → has_bad_cells x ≡ b
+    → has_too_many_cells x ≡ m → fault_in x.command ≡ f → reading_of_draft x ≡ tests n b m f x.command
+reading_by x n b m f name cells many fault =
     ap (λ (y : Bool). tests y (has_bad_cells x) (has_too_many_cells x) (fault_in x.command) x.command) name
     ∙ ap (λ (y : Bool). tests n y (has_too_many_cells x) (fault_in x.command) x.command) cells
     ∙ ap (λ (y : Bool). tests n b y (fault_in x.command) x.command) many
@@ -139,21 +139,21 @@ judged_by x n b m f name cells many fault =
 
 -- ---- results that come of no draft
 
-tests-judged : (n b m : Bool) (f : Option FlowFault) (c : Command) → is_judged (tests n b m f c) ≡ true
-tests-judged true b m f c = refl
-tests-judged false true m f c = refl
-tests-judged false false true f c = refl
-tests-judged false false false None c = refl
-tests-judged false false false (Some g) c = refl
+tests-reading_of_draft : (n b m : Bool) (f : Option FlowFault) (c : Command) → is_past_form (tests n b m f c) ≡ true
+tests-reading_of_draft true b m f c = refl
+tests-reading_of_draft false true m f c = refl
+tests-reading_of_draft false false true f c = refl
+tests-reading_of_draft false false false None c = refl
+tests-reading_of_draft false false false (Some g) c = refl
 
-judged-later : (x : Draft) → is_judged (judged x) ≡ true
-judged-later x =
-    tests-judged (has_bad_name x) (has_bad_cells x) (has_too_many_cells x) (fault_in x.command) x.command
+reading_of_draft-later : (x : Draft) → is_past_form (reading_of_draft x) ≡ true
+reading_of_draft-later x =
+    tests-reading_of_draft (has_bad_name x) (has_bad_cells x) (has_too_many_cells x) (fault_in x.command) x.command
 
-drafted : (o : Option Draft) (v : Read) → is_judged v ≡ false → judged_or_none o ≡ v
+drafted : (o : Option Draft) (v : Read) → is_past_form v ≡ false → reading_of_form o ≡ v
     → (o ≡ None) × (Err refusal.NoForm ≡ v)
 drafted None v h e = (refl, e)
-drafted (Some x) v h e = absurd (true≢false (sym (judged-later x) ∙ ap is_judged e ∙ h))
+drafted (Some x) v h e = absurd (true≢false (sym (reading_of_draft-later x) ∙ ap is_past_form e ∙ h))
 
 long-held : (long : Bool) (j : Option Data) → read_by long j ≡ Err refusal.TooLong → long ≡ true
 long-held true j e = refl
@@ -199,7 +199,7 @@ no_form line = (
   λ e. let t = form-held (nat_lt line_limit (length line)) (json_of line) e in
       (ltb-false line_limit (length line) t.0, t.1, t.2, t.3),
   λ h. ap (λ (b : Bool). read_by b (json_of line)) (le-ltb line_limit (length line) h.0)
-      ∙ ap (λ (j : Option Data). reading_of_json j) h.2 ∙ ap judged_or_none h.3,
+      ∙ ap (λ (j : Option Data). reading_of_json j) h.2 ∙ ap reading_of_form h.3,
 )
 
 pub bad_name : (line : List ℕ) → (reading line ≡ Err refusal.BadName)
@@ -211,7 +211,7 @@ bad_name line = (
     name-held (has_bad_name t.0) (has_bad_cells t.0) (has_too_many_cells t.0) (fault_in t.0.command)
         t.0.command t.2,
   ),
-  λ h. back line h.0 (Err refusal.BadName) h.1 (judged_by h.0 true _ _ _ h.2 refl refl refl),
+  λ h. back line h.0 (Err refusal.BadName) h.1 (reading_by h.0 true _ _ _ h.2 refl refl refl),
 )
 
 pub bad_cells : (line : List ℕ) → (reading line ≡ Err refusal.BadCells)
@@ -221,7 +221,7 @@ bad_cells line = (
       let h =
       cells-held (has_bad_name t.0) (has_bad_cells t.0) (has_too_many_cells t.0) (fault_in t.0.command)
       t.0.command t.2 in (t.0, t.1, h.0, h.1),
-  λ h. back line h.0 (Err refusal.BadCells) h.1 (judged_by h.0 false true _ _ h.2 h.3 refl refl),
+  λ h. back line h.0 (Err refusal.BadCells) h.1 (reading_by h.0 false true _ _ h.2 h.3 refl refl),
 )
 
 pub too_many_cells : (line : List ℕ) → (reading line ≡ Err refusal.TooManyCells)
@@ -232,29 +232,29 @@ too_many_cells line = (
       let h =
       many-held (has_bad_name t.0) (has_bad_cells t.0) (has_too_many_cells t.0) (fault_in t.0.command)
       t.0.command t.2 in (t.0, t.1, h.0, h.1, h.2),
-  λ h. back line h.0 (Err refusal.TooManyCells) h.1 (judged_by h.0 false false true _ h.2 h.3 h.4 refl),
+  λ h. back line h.0 (Err refusal.TooManyCells) h.1 (reading_by h.0 false false true _ h.2 h.3 h.4 refl),
 )
 
 pub bad_flow : (line : List ℕ) (fault : FlowFault) → (reading line ≡ Err (refusal.BadFlow fault))
-    ↔ ((x : Draft) × Says line x × IsJudged x × (fault_in x.command ≡ Some fault))
+    ↔ ((x : Draft) × Says line x × PassesUpToFlow x × (fault_in x.command ≡ Some fault))
 bad_flow line fault = (
   λ e. let t = through line (Err (refusal.BadFlow fault)) refl e in
       let h =
       flow-held (has_bad_name t.0) (has_bad_cells t.0) (has_too_many_cells t.0) (fault_in t.0.command)
       t.0.command fault t.2 in (t.0, t.1, record { names = h.0; cells = h.1; few = h.2 }, h.3),
   λ h. back line h.0 (Err (refusal.BadFlow fault)) h.1
-      (judged_by h.0 false false false (Some fault) h.2.names h.2.cells h.2.few h.3),
+      (reading_by h.0 false false false (Some fault) h.2.names h.2.cells h.2.few h.3),
 )
 
 pub read : (line : List ℕ) (c : Command) → (reading line ≡ Ok c)
-    ↔ ((x : Draft) × Says line x × IsJudged x × (fault_in x.command ≡ None) × (x.command ≡ c))
+    ↔ ((x : Draft) × Says line x × PassesUpToFlow x × (fault_in x.command ≡ None) × (x.command ≡ c))
 read line c = (
   λ e. let t = through line (Ok c) refl e in
       let h =
       none-held (has_bad_name t.0) (has_bad_cells t.0) (has_too_many_cells t.0) (fault_in t.0.command)
       t.0.command c t.2 in (t.0, t.1, record { names = h.0; cells = h.1; few = h.2 }, h.3, h.4),
   λ h. back line h.0 (Ok c) h.1
-      (judged_by h.0 false false false None h.2.names h.2.cells h.2.few h.3 ∙ ap (λ (k : Command). Ok k) h.4),
+      (reading_by h.0 false false false None h.2.names h.2.cells h.2.few h.3 ∙ ap (λ (k : Command). Ok k) h.4),
 )
 
 -- ---- what is read
@@ -271,7 +271,7 @@ tests-own false false true f c = refl
 tests-own false false false None c = refl
 tests-own false false false (Some g) c = refl
 
-drafts-own : (o : Option Draft) → is_of_reading (judged_or_none o) ≡ true
+drafts-own : (o : Option Draft) → is_of_reading (reading_of_form o) ≡ true
 drafts-own None = refl
 drafts-own (Some x) =
     tests-own (has_bad_name x) (has_bad_cells x) (has_too_many_cells x) (fault_in x.command) x.command

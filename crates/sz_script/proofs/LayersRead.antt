@@ -20,7 +20,7 @@ use Rattle.sz_script.specs.Fields.{passes, list_in}
 use Rattle.sz_script.specs.Layers.{is_value, is_row, is_layer, value_of, values_of_row, values_of_layer, height_of}
 use Rattle.sz_script.specs.Layers.{width_of, are_counted, are_bad_cells, are_too_many_cells, grid_of}
 use Rattle.sz_script.specs.Layers.{filled, array_in}
-use Rattle.sz_script.specs.Drafts.{Draft, unless_fault, judged, judged_or_none}
+use Rattle.sz_script.specs.Drafts.{Draft, unless_fault, reading_of_draft, reading_of_form}
 use Rattle.sz_script.specs.Names.{is_name}
 use Rattle.sz_script.specs.Right.{names_in, fault_in}
 use Rattle.sz_script.specs.Reading.{Reads}
@@ -203,10 +203,10 @@ reads_fault part all line_fault.NoMemory e each = tt
 -- the draft of a name and layers that were found
 pub drafted : (make : List ℕ → List Data → Draft) (name : List ℕ) (layers : List Data) (o : Option (List ℕ))
     (l : Option (List Data)) → Some name ≡ o → Some layers ≡ l
-    → judged_or_none (option_and_then (λ n. option_map (make n) l) o) ≡ judged (make name layers)
+    → reading_of_form (option_and_then (λ n. option_map (make n) l) o) ≡ reading_of_draft (make name layers)
 drafted make name layers o l named found =
-    ap (λ (p : Option (List ℕ)). judged_or_none (option_and_then (λ n. option_map (make n) l) p)) (sym named)
-    ∙ ap (λ (p : Option (List Data)). judged_or_none (option_map (make name) p)) (sym found)
+    ap (λ (p : Option (List ℕ)). reading_of_form (option_and_then (λ n. option_map (make n) l) p)) (sym named)
+    ∙ ap (λ (p : Option (List Data)). reading_of_form (option_map (make name) p)) (sym found)
 
 abbrev refusal_in : Result Grid Refusal → Refusal
 refusal_in (Ok g) = BadName
@@ -224,7 +224,7 @@ refused_by false false false f c g r named e = cc
 
 pub array_refused : (layers : List Data) (c : Command) (r : Refusal) → list_all is_name (names_in c) ≡ true
     → array_in layers ≡ Err r
-    → judged (record { command = c; layers = Some layers }) ≡ Err r
+    → reading_of_draft (record { command = c; layers = Some layers }) ≡ Err r
 array_refused layers c r named e =
     refused_by (not (list_all is_name (names_in c))) (are_bad_cells layers) (are_too_many_cells layers) (fault_in c) c
     (grid_of layers) r (ap not named) e

@@ -1,4 +1,4 @@
--- The rules that a line of a form is judged by, one after another.
+-- The rules that a line of a form is read by, one after another.
 use Rattle.std.specs.Prelude.{List, Bool, not, if◌then◌else◌, Option, Some, None, Result, Ok}
 use Rattle.std.specs.Prelude.{Err, is_some}
 use Rattle.std.specs.List.{list_all}
@@ -44,13 +44,13 @@ unless_fault None c = Ok c
 unless_fault (Some fault) c = Err (refusal.BadFlow fault)
 
 -- the command of a draft, or the first of these rules that refuses it
-abbrev pub judged : Draft → Result Command Refusal
-judged x = if has_bad_name x then Err refusal.BadName
+abbrev pub reading_of_draft : Draft → Result Command Refusal
+reading_of_draft x = if has_bad_name x then Err refusal.BadName
     else if has_bad_cells x then Err refusal.BadCells
     else if has_too_many_cells x then Err refusal.TooManyCells
     else unless_fault (fault_in x.command) x.command
 
 -- the same of a value that may be of no form
-abbrev pub judged_or_none : Option Draft → Result Command Refusal
-judged_or_none None = Err refusal.NoForm
-judged_or_none (Some x) = judged x
+abbrev pub reading_of_form : Option Draft → Result Command Refusal
+reading_of_form None = Err refusal.NoForm
+reading_of_form (Some x) = reading_of_draft x

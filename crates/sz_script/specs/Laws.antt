@@ -50,8 +50,8 @@ TooManyCellsExactly = (line : List ℕ) → (reading line ≡ Err refusal.TooMan
     ↔ ((x : Draft) × Says line x × (has_bad_name x ≡ false) × (has_bad_cells x ≡ false)
     × (has_too_many_cells x ≡ true))
 
--- no rule before that of flows holds
-pub record IsJudged (x : Draft) : Type 0 where
+-- no rule before that of flows holds of what a line says
+pub record PassesUpToFlow (x : Draft) : Type 0 where
   pub names : has_bad_name x ≡ false
   pub cells : has_bad_cells x ≡ false
   pub few : has_too_many_cells x ≡ false
@@ -59,12 +59,12 @@ pub record IsJudged (x : Draft) : Type 0 where
 abbrev pub BadFlowExactly : Type 0
 BadFlowExactly = (line : List ℕ) (fault : FlowFault)
     → (reading line ≡ Err (refusal.BadFlow fault))
-    ↔ ((x : Draft) × Says line x × IsJudged x × (fault_in x.command ≡ Some fault))
+    ↔ ((x : Draft) × Says line x × PassesUpToFlow x × (fault_in x.command ≡ Some fault))
 
 -- a line is a command exactly where no rule holds
 abbrev pub ReadExactly : Type 0
 ReadExactly = (line : List ℕ) (c : Command) → (reading line ≡ Ok c)
-    ↔ ((x : Draft) × Says line x × IsJudged x × (fault_in x.command ≡ None) × (x.command ≡ c))
+    ↔ ((x : Draft) × Says line x × PassesUpToFlow x × (fault_in x.command ≡ None) × (x.command ≡ c))
 
 -- ---- what is read
 
@@ -77,7 +77,20 @@ is_of_lines refusal.BadName = true
 is_of_lines refusal.BadCells = true
 is_of_lines refusal.TooManyCells = true
 is_of_lines (refusal.BadFlow fault) = true
-is_of_lines _ = false
+is_of_lines refusal.NoRoomForArray = false
+is_of_lines refusal.NoRoomForFlow = false
+is_of_lines refusal.NoSuchFlow = false
+is_of_lines refusal.NoSuchArray = false
+is_of_lines refusal.WrongBase = false
+is_of_lines (refusal.ShapesDoNotFit node) = false
+is_of_lines refusal.NoRoomForVersion = false
+is_of_lines refusal.NoSuchVersion = false
+is_of_lines refusal.NotJoined = false
+is_of_lines refusal.OutOfRange = false
+is_of_lines refusal.BadStrategies = false
+is_of_lines refusal.NotAwaited = false
+is_of_lines refusal.NoSuchNode = false
+is_of_lines refusal.NotBuilt = false
 
 abbrev pub NoOtherRefusal : Type 0
 NoOtherRefusal = (line : List ℕ) (r : Refusal) → reading line ≡ Err r → is_of_lines r ≡ true

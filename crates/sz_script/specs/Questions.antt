@@ -6,7 +6,7 @@ use Rattle.sz_spec.specs.declared.modes.Dir.{Dir}
 use Rattle.sz_spec.specs.Paths.{Step}
 use Rattle.sz_script.specs.Fields.{number_in, numbers_in, list_in, list_at, at}
 use Rattle.sz_script.specs.Words.{dir_in}
-use Rattle.sz_script.specs.declared.command.Place.{Place}
+use Rattle.sz_script.specs.declared.command.NamedCell.{NamedCell}
 use Rattle.sz_script.specs.declared.forms.question.Question.{Question}
 
 -- the fields behind the first, which names the form and holds the version
@@ -18,30 +18,30 @@ abbrev pub step_in : Data → Option Step
 step_in d = option_map (λ (p : ℕ × ℕ). record { node = p.0; input = p.1 }) (numbers_in d)
 
 -- a place of a layer, by its row in the layer and its column
-abbrev pub place_at : ℕ → Data → Data → Option Place
-place_at layer r c =
+abbrev pub named_cell_at : ℕ → Data → Data → Option NamedCell
+named_cell_at layer r c =
     option_and_then
     (λ row. option_map (λ col. record { layer = layer; row = row; col = col }) (number_in c))
     (number_in r)
 
 -- [U,U], a row and a column of layer 0, or [U,U,U], a layer, a row in it and a column
-abbrev pub place_among : List Data → Option Place
-place_among (r ∷ c ∷ []) = place_at 0 r c
-place_among (l ∷ r ∷ c ∷ []) = option_and_then (λ layer. place_at layer r c) (number_in l)
-place_among _ = None
+abbrev pub named_cell_among : List Data → Option NamedCell
+named_cell_among (r ∷ c ∷ []) = named_cell_at 0 r c
+named_cell_among (l ∷ r ∷ c ∷ []) = option_and_then (λ layer. named_cell_at layer r c) (number_in l)
+named_cell_among _ = None
 
-abbrev pub place_in : Data → Option Place
-place_in d = option_and_then place_among (list_in d)
+abbrev pub named_cell_in : Data → Option NamedCell
+named_cell_in d = option_and_then named_cell_among (list_in d)
 
 -- a version, a direction, a path and cells
-abbrev pub question : ℕ → Dir → List Step → List Place → Question
+abbrev pub question : ℕ → Dir → List Step → List NamedCell → Question
 question version dir path cells =
     record { version = version; dir = dir; path = path; cells = cells }
 
 abbrev pub question_in : List ℕ → Data → Option Question
 question_in word d =
     option_and_then (λ version. option_and_then (λ dir. option_and_then
-    (λ path. option_map (question version dir path) (list_at place_in (codes "cells") d))
+    (λ path. option_map (question version dir path) (list_at named_cell_in (codes "cells") d))
     (list_at step_in (codes "path") d))
     (at dir_in (codes "dir") d))
     (at number_in word d)

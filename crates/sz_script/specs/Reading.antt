@@ -4,7 +4,7 @@ use Rattle.std.specs.Prelude.{Result, Ok, Err}
 use Rattle.std.specs.Str.{is_utf8}
 use Rattle.serde_json.specs.Data.{Data}
 use Rattle.serde_json.specs.Read.{read}
-use Rattle.sz_script.specs.Drafts.{judged_or_none}
+use Rattle.sz_script.specs.Drafts.{reading_of_form}
 use Rattle.sz_script.specs.Forms.{draft_of}
 use Rattle.sz_script.specs.declared.command.Command.{Command}
 use Rattle.sz_script.specs.declared.command.LineFault.{LineFault}
@@ -22,10 +22,10 @@ json_of line = if is_utf8 line then read line else None
 
 abbrev pub reading_of_json : Option Data → Result Command Refusal
 reading_of_json None = Err refusal.NoJson
-reading_of_json (Some d) = judged_or_none (draft_of d)
+reading_of_json (Some d) = reading_of_form (draft_of d)
 
 -- a line as a command, or the first rule that refuses it: too long, then no JSON, then no form,
--- then the rules that a form's draft is judged by
+-- then the rules that a form's draft is read by
 abbrev pub reading : List ℕ → Result Command Refusal
 reading line = if nat_lt line_limit (length line) then Err refusal.TooLong
     else reading_of_json (json_of line)

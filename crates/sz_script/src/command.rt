@@ -2,7 +2,7 @@
 
 ghost use Rattle.std.specs.Prelude.{◌≡◌};
 
-use crate::lists::{BaseList, Path, PlaceList, StrategyList};
+use crate::lists::{BaseList, Path, NamedCells, StrategyList};
 use crate::name::Name;
 use crate::refusal::Refusal;
 use std::alloc::{AllocError, AllocFailed};
@@ -47,14 +47,14 @@ pub enum Command {
         version: u32,
         dir: Dir,
         path: Path,
-        cells: PlaceList,
+        cells: NamedCells,
     },
     /// Ask by which way each step of a path is answered.
     Explain {
         version: u32,
         dir: Dir,
         path: Path,
-        cells: PlaceList,
+        cells: NamedCells,
     },
     /// Show the output of a node.
     Show {
@@ -90,7 +90,7 @@ impl Model for PathStep {
 
 /// A cell as a line names it: its layer, its row in the layer, and its column, all from 0.
 #[derive(Clone, Copy, Debug, Drop, PartialEq, Eq)]
-pub struct Place {
+pub struct NamedCell {
     pub layer: u32,
     pub row: u32,
     pub col: u32,

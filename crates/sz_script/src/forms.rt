@@ -13,7 +13,7 @@ mod strategy;
 
 ghost use Rattle.std.specs.Prelude.{◌≡◌};
 ghost use Rattle.serde_json.specs.View.{view};
-ghost use Rattle.sz_script.specs.Drafts.{judged_or_none};
+ghost use Rattle.sz_script.specs.Drafts.{reading_of_form};
 ghost use Rattle.sz_script.specs.Forms.{draft_of};
 ghost use Rattle.sz_script.specs.Reading.{Reads};
 
@@ -25,7 +25,7 @@ use std::alloc::Global;
 
 /// The command that a value is, by the first form whose fields it has, or the rule that refuses it.
 pub fn command_of(alloc: Global, value: &Value) -> Result<Command, LineFault>
-    ensures { Reads (judged_or_none (draft_of (view value.now))) result }
+    ensures { Reads (reading_of_form (draft_of (view value.now))) result }
 {
     if has_fields(value, &["array", "cells"]) {
         return array::read(alloc, value);

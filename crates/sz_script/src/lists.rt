@@ -2,128 +2,46 @@
 
 ghost use Rattle.std.specs.Prelude.{◌≡◌};
 
-use crate::command::{BaseName, PathStep, Place};
+use crate::command::{BaseName, NamedCell, PathStep};
 use std::marker::Model;
 use sz_spec::Strategy;
 
 /// Strategies, in an order.
-#[derive(Debug, Drop)]
-pub struct StrategyList {
-    items: Vec<Strategy>,
-}
-
-impl Model for StrategyList {
-    ghost use Rattle.std.specs.Prelude.{List};
-    ghost use Rattle.sz_spec.specs.declared.modes.Strategy.{Strategy};
-
-    ghost Value = { List Strategy };
-
-    ghost view = { λ l. l.items.items };
-}
-
-impl StrategyList {
-    /// These strategies, in this order.
-    pub fn of(items: Vec<Strategy>) -> StrategyList
-        ensures { result ≡ items.items }
-    {
-        StrategyList { items }
-    }
-
-    /// The strategies, in their order.
-    pub fn as_slice(&self) -> &[Strategy]
-        ensures { result.now ≡ self.now }
-    {
-        &self.items
-    }
-}
+pub type StrategyList = Items<Strategy>;
 
 /// Base arrays, in the order in which a flow takes them.
-#[derive(Debug, Drop)]
-pub struct BaseList {
-    items: Vec<BaseName>,
-}
-
-impl Model for BaseList {
-    ghost use Rattle.std.specs.Prelude.{List};
-    ghost use Rattle.sz_script.specs.declared.command.BaseName.{BaseName};
-
-    ghost Value = { List BaseName };
-
-    ghost view = { λ l. l.items.items };
-}
-
-impl BaseList {
-    /// These base arrays, in this order.
-    pub fn of(items: Vec<BaseName>) -> BaseList
-        ensures { result ≡ items.items }
-    {
-        BaseList { items }
-    }
-
-    /// The base arrays, in their order.
-    pub fn as_slice(&self) -> &[BaseName]
-        ensures { result.now ≡ self.now }
-    {
-        &self.items
-    }
-}
+pub type BaseList = Items<BaseName>;
 
 /// The steps of a path, in their order.
-#[derive(Debug, Drop)]
-pub struct Path {
-    items: Vec<PathStep>,
-}
-
-impl Model for Path {
-    ghost use Rattle.std.specs.Prelude.{List};
-    ghost use Rattle.sz_spec.specs.Paths.{Step};
-
-    ghost Value = { List Step };
-
-    ghost view = { λ l. l.items.items };
-}
-
-impl Path {
-    /// These steps, in this order.
-    pub fn of(items: Vec<PathStep>) -> Path
-        ensures { result ≡ items.items }
-    {
-        Path { items }
-    }
-
-    /// The steps, in their order.
-    pub fn as_slice(&self) -> &[PathStep]
-        ensures { result.now ≡ self.now }
-    {
-        &self.items
-    }
-}
+pub type Path = Items<PathStep>;
 
 /// The cells that an ask names, in the order in which it names them.
+pub type NamedCells = Items<NamedCell>;
+
+/// Things in an order.
 #[derive(Debug, Drop)]
-pub struct PlaceList {
-    items: Vec<Place>,
+pub struct Items<T> {
+    items: Vec<T>,
 }
 
-impl Model for PlaceList {
+impl<T> Model for Items<T> {
     ghost use Rattle.std.specs.Prelude.{List};
-    ghost use Rattle.sz_script.specs.declared.command.Place.{Place};
 
-    ghost Value = { List Place };
+    ghost Value = { List T };
 
     ghost view = { λ l. l.items.items };
 }
 
-impl PlaceList {
-    /// These cells, in this order.
-    pub fn of(items: Vec<Place>) -> PlaceList
+impl<T> Items<T> {
+    /// These things, in this order.
+    pub fn of(items: Vec<T>) -> Items<T>
         ensures { result ≡ items.items }
     {
-        PlaceList { items }
+        Items { items }
     }
 
-    /// The cells, in their order.
-    pub fn as_slice(&self) -> &[Place]
+    /// The things, in their order.
+    pub fn as_slice(&self) -> &[T]
         ensures { result.now ≡ self.now }
     {
         &self.items

@@ -3,7 +3,7 @@
 ghost use Rattle.std.specs.Prelude.{◌≡◌, [], ◌∷◌, option_map};
 ghost use Rattle.sz_script.specs.Fields.{at};
 ghost use Rattle.serde_json.specs.View.{view};
-ghost use Rattle.sz_script.specs.Drafts.{judged_or_none};
+ghost use Rattle.sz_script.specs.Drafts.{reading_of_form};
 ghost use Rattle.sz_script.specs.Forms.Array.{array_form, one_layer};
 ghost use Rattle.sz_script.specs.Reading.{Reads};
 
@@ -16,7 +16,7 @@ use std::alloc::Global;
 use std::slice::from_ref;
 
 pub fn read(alloc: Global, value: &Value) -> Result<Command, LineFault>
-    ensures { Reads (judged_or_none (array_form.draft (view value.now))) result }
+    ensures { Reads (reading_of_form (array_form.draft (view value.now))) result }
 {
     let Some(name) = fields::text_at(value, "array") else {
         return Err(LineFault::Refused(Refusal::NoForm));

@@ -2,7 +2,7 @@
 
 ghost use Rattle.std.specs.Prelude.{◌≡◌};
 ghost use Rattle.serde_json.specs.View.{view};
-ghost use Rattle.sz_script.specs.Drafts.{judged_or_none};
+ghost use Rattle.sz_script.specs.Drafts.{reading_of_form};
 ghost use Rattle.sz_script.specs.Forms.Explain.{explain_form};
 ghost use Rattle.sz_script.specs.Reading.{Reads};
 
@@ -13,7 +13,7 @@ use serde_json::Value;
 use std::alloc::Global;
 
 pub fn read(alloc: Global, value: &Value) -> Result<Command, LineFault>
-    ensures { Reads (judged_or_none (explain_form.draft (view value.now))) result }
+    ensures { Reads (reading_of_form (explain_form.draft (view value.now))) result }
 {
     match question_of(alloc, value, "explain")? {
         Some(q) => Ok(Command::Explain {

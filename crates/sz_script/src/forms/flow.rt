@@ -2,7 +2,7 @@
 
 ghost use Rattle.std.specs.Prelude.{◌≡◌};
 ghost use Rattle.serde_json.specs.View.{view};
-ghost use Rattle.sz_script.specs.Drafts.{judged_or_none};
+ghost use Rattle.sz_script.specs.Drafts.{reading_of_form};
 ghost use Rattle.sz_script.specs.Forms.Flow.{flow_form};
 ghost use Rattle.sz_script.specs.Reading.{Reads};
 
@@ -15,7 +15,7 @@ use std::alloc::Global;
 use sz_spec::Flow;
 
 pub fn read(alloc: Global, value: &Value) -> Result<Command, LineFault>
-    ensures { Reads (judged_or_none (flow_form.draft (view value.now))) result }
+    ensures { Reads (reading_of_form (flow_form.draft (view value.now))) result }
 {
     let Some(name) = fields::text_at(value, "flow") else {
         return Err(LineFault::Refused(Refusal::NoForm));

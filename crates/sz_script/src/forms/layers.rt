@@ -2,7 +2,7 @@
 
 ghost use Rattle.std.specs.Prelude.{◌≡◌};
 ghost use Rattle.serde_json.specs.View.{view};
-ghost use Rattle.sz_script.specs.Drafts.{judged_or_none};
+ghost use Rattle.sz_script.specs.Drafts.{reading_of_form};
 ghost use Rattle.sz_script.specs.Forms.Layers.{layers_form};
 ghost use Rattle.sz_script.specs.Reading.{Reads};
 
@@ -14,7 +14,7 @@ use serde_json::Value;
 use std::alloc::Global;
 
 pub fn read(alloc: Global, value: &Value) -> Result<Command, LineFault>
-    ensures { Reads (judged_or_none (layers_form.draft (view value.now))) result }
+    ensures { Reads (reading_of_form (layers_form.draft (view value.now))) result }
 {
     let Some(name) = fields::text_at(value, "layers") else {
         return Err(LineFault::Refused(Refusal::NoForm));

@@ -4,10 +4,10 @@ ghost use Rattle.std.specs.Prelude.{◌≡◌, map, option_map, IfOk};
 ghost use Rattle.serde_json.specs.View.{view};
 ghost use Rattle.sz_script.specs.Fields.{each_of, at};
 ghost use Rattle.sz_script.specs.Words.{dir_in};
-ghost use Rattle.sz_script.specs.Questions.{question_in, step_in, place_in, place_at};
+ghost use Rattle.sz_script.specs.Questions.{question_in, step_in, named_cell_in, named_cell_at};
 
-use crate::command::{PathStep, Place};
-use crate::lists::{Path, PlaceList};
+use crate::command::{PathStep, NamedCell};
+use crate::lists::{Path, NamedCells};
 use crate::{fields, words};
 use serde_json::Value;
 use std::alloc::{AllocError, Global};
@@ -19,7 +19,7 @@ pub struct Question {
     pub version: u32,
     pub dir: Dir,
     pub path: Path,
-    pub cells: PlaceList,
+    pub cells: NamedCells,
 }
 
 /// The question of a value, whose first field is this and holds the version.
@@ -41,14 +41,14 @@ pub fn question_of(alloc: Global, value: &Value, word: &str) -> Result<Option<Qu
     let Some(cells) = fields::list_at(value, "cells") else {
         return Ok(None);
     };
-    let Some(cells) = places_of(alloc, cells)? else {
+    let Some(cells) = named_cells_of(alloc, cells)? else {
         return Ok(None);
     };
     Ok(Some(Question {
         version,
         dir,
         path: Path::of(path),
-        cells: PlaceList::of(cells),
+        cells: NamedCells::of(cells),
     }))
 }
 
@@ -78,13 +78,13 @@ fn steps_of(alloc: Global, list: &[Value]) -> Result<Option<Vec<PathStep>>, Allo
 }
 
 /// [CELL,..]
-fn places_of(alloc: Global, list: &[Value]) -> Result<Option<Vec<Place>>, AllocError>
+fn named_cells_of(alloc: Global, list: &[Value]) -> Result<Option<Vec<NamedCell>>, AllocError>
     ensures { IfOk result (λ o. option_map (λ v. v.items) o
-        ≡ each_of place_in (map view list.now)) }
+        ≡ each_of named_cell_in (map view list.now)) }
 {
     let mut cells = Vec::with_capacity(alloc, list.len())?;
     for item in list {
-        let Some(place) = place_of(item) else {
+        let Some(place) = named_cell_of(item) else {
             return Ok(None);
         };
         cells.push(place)?;
@@ -93,25 +93,25 @@ fn places_of(alloc: Global, list: &[Value]) -> Result<Option<Vec<Place>>, AllocE
 }
 
 /// [U,U], a row and a column of layer 0, or [U,U,U], a layer, a row in it and a column
-fn place_of(value: &Value) -> Option<Place>
-    ensures { result ≡ place_in (view value.now) }
+fn named_cell_of(value: &Value) -> Option<NamedCell>
+    ensures { result ≡ named_cell_in (view value.now) }
 {
     let list = fields::list_of(value)?;
     match list {
-        [row, col] => place_at(0, row, col),
+        [row, col] => named_cell_at(0, row, col),
         [layer, row, col] => {
             let layer = fields::number_of(layer)?;
-            place_at(layer, row, col)
+            named_cell_at(layer, row, col)
         }
         _ => None,
     }
 }
 
 /// The place of a layer in this row and column.
-fn place_at(layer: u32, row: &Value, col: &Value) -> Option<Place>
-    ensures { result ≡ place_at layer (view row.now) (view col.now) }
+fn named_cell_at(layer: u32, row: &Value, col: &Value) -> Option<NamedCell>
+    ensures { result ≡ named_cell_at layer (view row.now) (view col.now) }
 {
     let row = fields::number_of(row)?;
     let col = fields::number_of(col)?;
-    Some(Place { layer, row, col })
+    Some(NamedCell { layer, row, col })
 }

@@ -2,7 +2,7 @@
 
 ghost use Rattle.std.specs.Prelude.{◌≡◌};
 ghost use Rattle.serde_json.specs.View.{view};
-ghost use Rattle.sz_script.specs.Drafts.{judged_or_none};
+ghost use Rattle.sz_script.specs.Drafts.{reading_of_form};
 ghost use Rattle.sz_script.specs.Forms.Show.{show_form};
 ghost use Rattle.sz_script.specs.Reading.{Reads};
 
@@ -12,7 +12,7 @@ use crate::refusal::Refusal;
 use serde_json::Value;
 
 pub fn read(value: &Value) -> Result<Command, LineFault>
-    ensures { Reads (judged_or_none (show_form.draft (view value.now))) result }
+    ensures { Reads (reading_of_form (show_form.draft (view value.now))) result }
 {
     let Some(version) = fields::number_at(value, "show") else {
         return Err(LineFault::Refused(Refusal::NoForm));

@@ -5,7 +5,7 @@ ghost use Rattle.std.specs.List.{list_all};
 ghost use Rattle.serde_json.specs.View.{view};
 ghost use Rattle.sz_script.specs.Names.{is_name};
 ghost use Rattle.sz_script.specs.Fields.{each_of};
-ghost use Rattle.sz_script.specs.Drafts.{judged, judged_or_none};
+ghost use Rattle.sz_script.specs.Drafts.{reading_of_draft, reading_of_form};
 ghost use Rattle.sz_script.specs.Forms.Start.{start_form, base_in, with_base};
 ghost use Rattle.sz_script.specs.Reading.{Reads};
 
@@ -18,7 +18,7 @@ use serde_json::Value;
 use std::alloc::{AllocError, Global};
 
 pub fn read(alloc: Global, value: &Value) -> Result<Command, LineFault>
-    ensures { Reads (judged_or_none (start_form.draft (view value.now))) result }
+    ensures { Reads (reading_of_form (start_form.draft (view value.now))) result }
 {
     let Some(name) = fields::text_at(value, "start") else {
         return Err(LineFault::Refused(Refusal::NoForm));
@@ -35,7 +35,7 @@ pub fn read(alloc: Global, value: &Value) -> Result<Command, LineFault>
 /// The start of a flow on base arrays, where each of the names is one.
 #[tactic(auto, using(crate::proofs::Walks::all_names))]
 fn start_on(alloc: Global, name: &str, base: Vec<BaseName>) -> Result<Command, LineFault>
-    ensures { Reads (judged (with_base name.now base.items)) result }
+    ensures { Reads (reading_of_draft (with_base name.now base.items)) result }
 {
     if !is_name(name) {
         return Err(LineFault::Refused(Refusal::BadName));

@@ -4,7 +4,7 @@ ghost use Rattle.std.specs.Prelude.{◌≡◌, map, option_map, IfOk};
 ghost use Rattle.serde_json.specs.View.{view};
 ghost use Rattle.sz_script.specs.Fields.{each_of};
 ghost use Rattle.sz_script.specs.Words.{strategy_in};
-ghost use Rattle.sz_script.specs.Drafts.{judged_or_none};
+ghost use Rattle.sz_script.specs.Drafts.{reading_of_form};
 ghost use Rattle.sz_script.specs.Forms.Strategy.{strategy_form};
 ghost use Rattle.sz_script.specs.Reading.{Reads};
 
@@ -18,7 +18,7 @@ use std::alloc::{AllocError, Global};
 use sz_spec::Strategy;
 
 pub fn read(alloc: Global, value: &Value) -> Result<Command, LineFault>
-    ensures { Reads (judged_or_none (strategy_form.draft (view value.now))) result }
+    ensures { Reads (reading_of_form (strategy_form.draft (view value.now))) result }
 {
     let Some(name) = fields::text_at(value, "strategy") else {
         return Err(LineFault::Refused(Refusal::NoForm));
