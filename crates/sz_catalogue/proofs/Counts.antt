@@ -14,7 +14,7 @@ use Rattle.std.proofs.lemmas.Map.Entries.{sum_by-set_value, sum_by-insert_entry}
 use Rattle.std.proofs.lemmas.Bool.Decides.{nat_tests}
 use Rattle.sz_cells.specs.Extent.{size_of}
 use Rattle.sz_spec.specs.Values.{Grid}
-use Rattle.sz_script.specs.declared.command.Command.TheVariants as order
+use Rattle.sz_script.specs.declared.command.Command.TheVariants as command
 use Rattle.sz_script.specs.declared.command.BaseName.{BaseName}
 use Rattle.sz_script.specs.declared.refusal.Refusal.{Refusal}
 use Rattle.sz_script.specs.declared.refusal.Refusal.TheVariants as rule
@@ -52,7 +52,7 @@ await-from c n (Some v) found h =
     let sums = sum_by-set_value output_cells (is_at (nat_cmp n)) c.versions v now found in
     ap held_cells same ∙ omega (arith, sums)
 
-pub await-cells : (c : Holdings) (n : ℕ) → judged c (order.Await n) ≡ None
+pub await-cells : (c : Holdings) (n : ℕ) → judged c (command.Await n) ≡ None
     → held_cells (with_await c n) ≡ held_cells c
 await-cells c n h = await-from c n (version_numbered c n) refl
     (first-passed (is_none (version_numbered c n)) rule.NoSuchVersion [] h).0
@@ -74,7 +74,7 @@ room-cells c cells h =
     grind (arith, nat_tests)
 
 -- room for an array
-pub array-room : (c : Holdings) (name : List ℕ) (array : Grid) → judged c (order.Array name array) ≡ None
+pub array-room : (c : Holdings) (name : List ℕ) (array : Grid) → judged c (command.Array name array) ≡ None
     → (length c.arrays < most_arrays) × (held_cells c + size_of array.extent ≤ most_cells)
 array-room c name array h =
     let rules = neither (nat_le most_arrays (length c.arrays))
@@ -95,7 +95,7 @@ pub record IsStart (c : Holdings) (name : List ℕ) (base : List BaseName) : Typ
   pub fits : has_broken_shapes c name base ≡ false
   pub room : has_no_room_for_version c name base ≡ false
 
-pub start-known : (c : Holdings) (name : List ℕ) (base : List BaseName) → judged c (order.Start name base) ≡ None
+pub start-known : (c : Holdings) (name : List ℕ) (base : List BaseName) → judged c (command.Start name base) ≡ None
     → IsStart c name base
 start-known c name base h =
     let last : List (Bool × Refusal) = (has_no_room_for_version c name base, rule.NoRoomForVersion) ∷ [] in

@@ -8,7 +8,7 @@ use Rattle.std.specs.Result.{result_err, result_unwrap_or}
 use Rattle.sz_cells.specs.Extent.{Extent}
 use Rattle.sz_spec.specs.FlowShapes.{output_shapes}
 use Rattle.sz_script.specs.declared.command.BaseName.{BaseName}
-use Rattle.sz_script.specs.declared.command.Command.TheVariants as order
+use Rattle.sz_script.specs.declared.command.Command.TheVariants as command
 use Rattle.sz_script.specs.declared.refusal.Refusal.{Refusal}
 use Rattle.sz_script.specs.declared.refusal.Refusal.TheVariants as rule
 use Rattle.sz_catalogue.specs.Holdings.{Workflow, Holdings, flow_named, no_workflow, shapes_of, cells_of}
@@ -44,7 +44,7 @@ rules-from c base o =
 
 pub start-shapes : (c : Holdings) (name : List ℕ) (base : List BaseName) (w : Workflow) → flow_named c name ≡ Some w
     → has_no_array c base ≡ false → (length base == w.graph.inputs) ≡ true
-    → judged c (order.Start name base) ≡ refusal_by c (output_shapes w.graph (shapes_of (bases_of c base)))
+    → judged c (command.Start name base) ≡ refusal_by c (output_shapes w.graph (shapes_of (bases_of c base)))
 start-shapes c name base w some held count =
     let found = output_shapes w.graph (shapes_of (bases_of c base)) in
     ap (λ (o : Option Workflow). first_of (rules-from c base o)) some

@@ -1,6 +1,5 @@
 -- The files of lemmas and of worked rows.
 pub mod Names
-pub mod OutputShapes
 pub mod ByName
 pub mod NodeLists
 pub mod Runs

@@ -13,10 +13,10 @@ use Rattle.sz_catalogue.proofs.Numbers.{next-is_new}
 use Rattle.std.proofs.Common.{arith}
 
 pub refused-nothing : RefusedCommandsChangeNothing
-refused-nothing c order rule h = ap (after_judging c order) h
+refused-nothing c command rule h = ap (after_judging c command) h
 
 pub others-taken : OtherCommandsAreTaken
-others-taken c order h = ap (after_judging c order) h
+others-taken c command h = ap (after_judging c command) h
 
 first-from : (rules : List (Bool × Refusal)) (rule : Refusal) → first_of rules ≡ Some rule
     → (before : List (Bool × Refusal)) × (after : List (Bool × Refusal))
@@ -46,13 +46,13 @@ none-from ((true, r) ∷ rules) h = (cc)
 none-from ((false, r) ∷ rules) h = none-from rules h
 
 pub refusals-first : RefusalsAreTheFirst
-refusals-first c order rule h = first-from (rules_of c order) rule h
+refusals-first c command rule h = first-from (rules_of c command) rule h
 
 pub first-refuses : FirstRulesRefuse
-first-refuses c order rule before after is none = ap first_of is ∙ first-at before after rule none
+first-refuses c command rule before after is none = ap first_of is ∙ first-at before after rule none
 
 pub taken-break_none : TakenCommandsBreakNoRule
-taken-break_none c order = (none-to (rules_of c order), none-from (rules_of c order))
+taken-break_none c command = (none-to (rules_of c command), none-from (rules_of c command))
 
 pub next-new : NextNumbersAreNew
 next-new c = next-is_new c.versions (next_number c) (omega arith)

@@ -12,9 +12,9 @@ use Rattle.sz_spec.specs.declared.modes.Dir.TheVariants.{Back, Forward}
 use Rattle.sz_spec.specs.declared.modes.Strategy.{Strategy}
 use Rattle.sz_spec.specs.declared.modes.Strategy.TheVariants as strategy
 use Rattle.sz_spec.specs.Flows.{Graph}
-use Rattle.sz_script.specs.declared.command.Command.TheVariants as order
+use Rattle.sz_script.specs.declared.command.Command.TheVariants as command
 use Rattle.sz_catalogue.specs.Holdings.{Holdings, no_holdings, flow_named, version_numbered}
-use Rattle.sz_catalogue.proofs.RowsSaid.{after, says, grid, step, place, base, five, negation, a, f}
+use Rattle.sz_catalogue.proofs.RowsSaid.{after, says, grid, step, named, base, five, negation, a, f}
 use Rattle.sz_catalogue.proofs.RowsSaid.{hold_five, held, begun, whole, two_shapes, version}
 
 -- ---- the smallest session
@@ -27,38 +27,38 @@ array-two : says held hold_five ≡ codes "array a 2"
 unfolding digits
 array-two = refl
 
-flow-f : says no_holdings (order.Flow f negation) ≡ codes "flow f"
+flow-f : says no_holdings (command.Flow f negation) ≡ codes "flow f"
 flow-f = refl
 
-started-one : says held (order.Start f (base a 1 ∷ [])) ≡ codes "started 1"
+started-one : says held (command.Start f (base a 1 ∷ [])) ≡ codes "started 1"
 unfolding digits
 started-one = refl
 
-started-two : says whole (order.Start f (base a 1 ∷ [])) ≡ codes "started 2"
+started-two : says whole (command.Start f (base a 1 ∷ [])) ≡ codes "started 2"
 unfolding digits
 started-two = refl
 
-done-one : says begun (order.Await 1) ≡ codes "done 1"
+done-one : says begun (command.Await 1) ≡ codes "done 1"
 unfolding digits
 done-one = refl
 
-done-again : says whole (order.Await 1) ≡ codes "done 1"
+done-again : says whole (command.Await 1) ≡ codes "done 1"
 unfolding digits
 done-again = refl
 
-cells-one : says whole (order.Ask 1 Back (step 0 0 ∷ []) (place 0 0 0 ∷ [])) ≡ codes "cells 1 0,0"
+cells-one : says whole (command.Ask 1 Back (step 0 0 ∷ []) (named 0 0 0 ∷ [])) ≡ codes "cells 1 0,0"
 unfolding digits
 cells-one = refl
 
-cells-before_await : says begun (order.Ask 1 Back (step 0 0 ∷ []) (place 0 0 0 ∷ [])) ≡ codes "cells 1 0,0"
+cells-before_await : says begun (command.Ask 1 Back (step 0 0 ∷ []) (named 0 0 0 ∷ [])) ≡ codes "cells 1 0,0"
 unfolding digits
 cells-before_await = refl
 
-values-one : says whole (order.Show 1 0) ≡ codes "values 1 1 -5"
+values-one : says whole (command.Show 1 0) ≡ codes "values 1 1 -5"
 unfolding digits
 values-one = refl
 
-explain-map : says whole (order.Explain 1 Back (step 0 0 ∷ []) []) ≡ codes "explain map traced 0"
+explain-map : says whole (command.Explain 1 Back (step 0 0 ∷ []) []) ≡ codes "explain map traced 0"
 unfolding digits
 explain-map = refl
 
@@ -71,174 +71,174 @@ held-flow = refl
 
 -- an ask and a show await nothing
 explain-asked : says
-    (after begun (order.Ask 1 Back (step 0 0 ∷ []) [] ∷ order.Show 1 0 ∷ []))
-    (order.Explain 1 Back (step 0 0 ∷ []) [])
+    (after begun (command.Ask 1 Back (step 0 0 ∷ []) [] ∷ command.Show 1 0 ∷ []))
+    (command.Explain 1 Back (step 0 0 ∷ []) [])
     ≡ codes "refused 19"
 unfolding digits
 explain-asked = refl
 
 -- ---- strategies
 
-set-box : says held (order.Strategy f 0 (strategy.BlackBox ∷ [])) ≡ codes "strategy f 0"
+set-box : says held (command.Strategy f 0 (strategy.BlackBox ∷ [])) ≡ codes "strategy f 0"
 unfolding digits
 set-box = refl
 
 explain-box : says
-    (after held (order.Strategy f 0 (strategy.BlackBox ∷ []) ∷ order.Start f (base a 1 ∷ []) ∷ order.Await 1 ∷ []))
-    (order.Explain 1 Forward (step 0 0 ∷ []) (place 0 0 0 ∷ []))
+    (after held (command.Strategy f 0 (strategy.BlackBox ∷ []) ∷ command.Start f (base a 1 ∷ []) ∷ command.Await 1 ∷ []))
+    (command.Explain 1 Forward (step 0 0 ∷ []) (named 0 0 0 ∷ []))
     ≡ codes "explain blackbox traced 1"
 unfolding digits
 explain-box = refl
 
 -- a version has the strategies that stood at its start
-explain-old : says (after whole (order.Strategy f 0 (strategy.BlackBox ∷ []) ∷ []))
-    (order.Explain 1 Back (step 0 0 ∷ []) (place 0 0 0 ∷ []))
+explain-old : says (after whole (command.Strategy f 0 (strategy.BlackBox ∷ []) ∷ []))
+    (command.Explain 1 Back (step 0 0 ∷ []) (named 0 0 0 ∷ []))
     ≡ codes "explain map traced 0"
 unfolding digits
 explain-old = refl
 
 -- ---- refusals
 
-flow-again : says held (order.Flow f negation) ≡ codes "refused 9"
+flow-again : says held (command.Flow f negation) ≡ codes "refused 9"
 unfolding digits
 flow-again = refl
 
-strategy-no_flow : says held (order.Strategy a 0 []) ≡ codes "refused 10"
+strategy-no_flow : says held (command.Strategy a 0 []) ≡ codes "refused 10"
 unfolding digits
 strategy-no_flow = refl
 
-start-no_flow : says held (order.Start a (base f 1 ∷ [])) ≡ codes "refused 10"
+start-no_flow : says held (command.Start a (base f 1 ∷ [])) ≡ codes "refused 10"
 unfolding digits
 start-no_flow = refl
 
-start-no_array : says held (order.Start f (base a 2 ∷ [])) ≡ codes "refused 11"
+start-no_array : says held (command.Start f (base a 2 ∷ [])) ≡ codes "refused 11"
 unfolding digits
 start-no_array = refl
 
-start-version_0 : says held (order.Start f (base a 0 ∷ [])) ≡ codes "refused 11"
+start-version_0 : says held (command.Start f (base a 0 ∷ [])) ≡ codes "refused 11"
 unfolding digits
 start-version_0 = refl
 
 -- a wrong number of base arrays, one of them unknown
-start-no_array_first : says held (order.Start f (base a 1 ∷ base f 1 ∷ [])) ≡ codes "refused 11"
+start-no_array_first : says held (command.Start f (base a 1 ∷ base f 1 ∷ [])) ≡ codes "refused 11"
 unfolding digits
 start-no_array_first = refl
 
-start-two : says held (order.Start f (base a 1 ∷ base a 1 ∷ [])) ≡ codes "refused 12"
+start-two : says held (command.Start f (base a 1 ∷ base a 1 ∷ [])) ≡ codes "refused 12"
 unfolding digits
 start-two = refl
 
-start-none : says held (order.Start f []) ≡ codes "refused 12"
+start-none : says held (command.Start f []) ≡ codes "refused 12"
 unfolding digits
 start-none = refl
 
 -- shapes that fit and that do not
-start-unequal : says two_shapes (order.Start f (base a 1 ∷ base f 1 ∷ [])) ≡ codes "refused 13 0"
+start-unequal : says two_shapes (command.Start f (base a 1 ∷ base f 1 ∷ [])) ≡ codes "refused 13 0"
 unfolding digits
 start-unequal = refl
 
-start-equal : says two_shapes (order.Start f (base f 1 ∷ base f 1 ∷ [])) ≡ codes "started 1"
+start-equal : says two_shapes (command.Start f (base f 1 ∷ base f 1 ∷ [])) ≡ codes "started 1"
 unfolding digits
 start-equal = refl
 
-await-none : says held (order.Await 1) ≡ codes "refused 15"
+await-none : says held (command.Await 1) ≡ codes "refused 15"
 unfolding digits
 await-none = refl
 
 -- a version that is not held, asked along no path
-ask-none : says begun (order.Ask 2 Back [] []) ≡ codes "refused 15"
+ask-none : says begun (command.Ask 2 Back [] []) ≡ codes "refused 15"
 unfolding digits
 ask-none = refl
 
-ask-no_step : says begun (order.Ask 1 Back [] []) ≡ codes "refused 16"
+ask-no_step : says begun (command.Ask 1 Back [] []) ≡ codes "refused 16"
 unfolding digits
 ask-no_step = refl
 
 -- a node, and an input, that are not there, with a cell out of range
-ask-no_node : says begun (order.Ask 1 Back (step 1 0 ∷ []) (place 0 9 9 ∷ [])) ≡ codes "refused 16"
+ask-no_node : says begun (command.Ask 1 Back (step 1 0 ∷ []) (named 0 9 9 ∷ [])) ≡ codes "refused 16"
 unfolding digits
 ask-no_node = refl
 
-ask-no_input : says begun (order.Ask 1 Forward (step 0 1 ∷ []) []) ≡ codes "refused 16"
+ask-no_input : says begun (command.Ask 1 Forward (step 0 1 ∷ []) []) ≡ codes "refused 16"
 unfolding digits
 ask-no_input = refl
 
-ask-outside : says begun (order.Ask 1 Back (step 0 0 ∷ []) (place 0 0 0 ∷ place 0 0 1 ∷ [])) ≡ codes "refused 17"
+ask-outside : says begun (command.Ask 1 Back (step 0 0 ∷ []) (named 0 0 0 ∷ named 0 0 1 ∷ [])) ≡ codes "refused 17"
 unfolding digits
 ask-outside = refl
 
-ask-layer : says begun (order.Ask 1 Back (step 0 0 ∷ []) (place 1 0 0 ∷ [])) ≡ codes "refused 17"
+ask-layer : says begun (command.Ask 1 Back (step 0 0 ∷ []) (named 1 0 0 ∷ [])) ≡ codes "refused 17"
 unfolding digits
 ask-layer = refl
 
-ask-nothing : says begun (order.Ask 1 Back (step 0 0 ∷ []) []) ≡ codes "cells 0"
+ask-nothing : says begun (command.Ask 1 Back (step 0 0 ∷ []) []) ≡ codes "cells 0"
 unfolding digits
 ask-nothing = refl
 
 -- lists of strategies: of a node that is not there, empty, too long, of a repeated one, of one not supported
-strategy-no_node : says held (order.Strategy f 1 (strategy.Map ∷ [])) ≡ codes "refused 18"
+strategy-no_node : says held (command.Strategy f 1 (strategy.Map ∷ [])) ≡ codes "refused 18"
 unfolding digits
 strategy-no_node = refl
 
-strategy-empty : says held (order.Strategy f 0 []) ≡ codes "refused 18"
+strategy-empty : says held (command.Strategy f 0 []) ≡ codes "refused 18"
 unfolding digits
 strategy-empty = refl
 
-strategy-four : says held (order.Strategy f 0
+strategy-four : says held (command.Strategy f 0
     (strategy.Map ∷ strategy.BlackBox ∷ strategy.FullOneB ∷ strategy.FullOneF ∷ [])) ≡ codes "refused 18"
 unfolding digits
 strategy-four = refl
 
-strategy-twice : says held (order.Strategy f 0 (strategy.FullOneB ∷ strategy.Map ∷ strategy.FullOneB ∷ []))
+strategy-twice : says held (command.Strategy f 0 (strategy.FullOneB ∷ strategy.Map ∷ strategy.FullOneB ∷ []))
     ≡ codes "refused 18"
 unfolding digits
 strategy-twice = refl
 
-strategy-pay : says held (order.Strategy f 0 (strategy.PayOne ∷ [])) ≡ codes "refused 18"
+strategy-pay : says held (command.Strategy f 0 (strategy.PayOne ∷ [])) ≡ codes "refused 18"
 unfolding digits
 strategy-pay = refl
 
-strategy-two : says held (order.Strategy f 0 (strategy.BlackBox ∷ strategy.Map ∷ [])) ≡ codes "strategy f 0"
+strategy-two : says held (command.Strategy f 0 (strategy.BlackBox ∷ strategy.Map ∷ [])) ≡ codes "strategy f 0"
 unfolding digits
 strategy-two = refl
 
 -- a strategy that keeps a store
-strategy-stored : says held (order.Strategy f 0 (strategy.Map ∷ strategy.FullOneB ∷ strategy.FullManyF ∷ []))
+strategy-stored : says held (command.Strategy f 0 (strategy.Map ∷ strategy.FullOneB ∷ strategy.FullManyF ∷ []))
     ≡ codes "refused 21"
 unfolding digits
 strategy-stored = refl
 
-explain-early : says begun (order.Explain 1 Back (step 0 0 ∷ []) []) ≡ codes "refused 19"
+explain-early : says begun (command.Explain 1 Back (step 0 0 ∷ []) []) ≡ codes "refused 19"
 unfolding digits
 explain-early = refl
 
-explain-outside : says begun (order.Explain 1 Back (step 0 0 ∷ []) (place 0 1 0 ∷ [])) ≡ codes "refused 17"
+explain-outside : says begun (command.Explain 1 Back (step 0 0 ∷ []) (named 0 1 0 ∷ [])) ≡ codes "refused 17"
 unfolding digits
 explain-outside = refl
 
-show-none : says whole (order.Show 1 1) ≡ codes "refused 20"
+show-none : says whole (command.Show 1 1) ≡ codes "refused 20"
 unfolding digits
 show-none = refl
 
-show-no_version : says whole (order.Show 0 1) ≡ codes "refused 15"
+show-no_version : says whole (command.Show 0 1) ≡ codes "refused 15"
 unfolding digits
 show-no_version = refl
 
 -- ---- where a later rule holds as well
 
 -- three base arrays, of which the first two do not fit
-start-three_unequal : says two_shapes (order.Start f (base a 1 ∷ base f 1 ∷ base a 1 ∷ []))
+start-three_unequal : says two_shapes (command.Start f (base a 1 ∷ base f 1 ∷ base a 1 ∷ []))
     ≡ codes "refused 12"
 unfolding digits
 start-three_unequal = refl
 
 -- a node that is not there, and a strategy that keeps a store
-strategy-no_node_stored : says held (order.Strategy f 1 (strategy.FullOneB ∷ [])) ≡ codes "refused 18"
+strategy-no_node_stored : says held (command.Strategy f 1 (strategy.FullOneB ∷ [])) ≡ codes "refused 18"
 unfolding digits
 strategy-no_node_stored = refl
 
 -- a list of which no strategy can be chosen, and one of which one keeps a store
-strategy-comp_stored : says held (order.Strategy f 0 (strategy.CompOne ∷ strategy.FullOneF ∷ []))
+strategy-comp_stored : says held (command.Strategy f 0 (strategy.CompOne ∷ strategy.FullOneF ∷ []))
     ≡ codes "refused 18"
 unfolding digits
 strategy-comp_stored = refl
@@ -253,72 +253,72 @@ two_sums = record {
       ∷ record { op = op.Add; from = Input 1 ∷ Input 0 ∷ [] } ∷ [];
 }
 
-start-second_node : says (after two_shapes (order.Flow (codes "g") two_sums ∷ []))
-    (order.Start (codes "g") (base a 1 ∷ base f 1 ∷ []))
+start-second_node : says (after two_shapes (command.Flow (codes "g") two_sums ∷ []))
+    (command.Start (codes "g") (base a 1 ∷ base f 1 ∷ []))
     ≡ codes "refused 13 1"
 unfolding digits
 start-second_node = refl
 
 -- ---- names, and what is held under them
 
-layers-two : says held (order.Layers a five) ≡ codes "array a 2"
+layers-two : says held (command.Layers a five) ≡ codes "array a 2"
 unfolding digits
 layers-two = refl
 
-array-other_name : says held (order.Array f five) ≡ codes "array f 1"
+array-other_name : says held (command.Array f five) ≡ codes "array f 1"
 unfolding digits
 array-other_name = refl
 
-flow-longer_name : says held (order.Flow (codes "ff") negation) ≡ codes "flow ff"
+flow-longer_name : says held (command.Flow (codes "ff") negation) ≡ codes "flow ff"
 unfolding digits
 flow-longer_name = refl
 
-start-longer_name : says held (order.Start (codes "ff") (base a 1 ∷ [])) ≡ codes "refused 10"
+start-longer_name : says held (command.Start (codes "ff") (base a 1 ∷ [])) ≡ codes "refused 10"
 unfolding digits
 start-longer_name = refl
 
-start-longer_array : says held (order.Start f (base (codes "aa") 1 ∷ [])) ≡ codes "refused 11"
+start-longer_array : says held (command.Start f (base (codes "aa") 1 ∷ [])) ≡ codes "refused 11"
 unfolding digits
 start-longer_array = refl
 
 -- version 2 of a name is the second that came under it, whatever came between
 abbrev between : Holdings
-between = after held (order.Array f (grid (flat 1 1) (6 ∷ [])) ∷ order.Array a (grid (flat 1 1) (7 ∷ [])) ∷ [])
+between = after held (command.Array f (grid (flat 1 1) (6 ∷ [])) ∷ command.Array a (grid (flat 1 1) (7 ∷ [])) ∷ [])
 
-show-second : says (after between (order.Start f (base a 2 ∷ []) ∷ [])) (order.Show 1 0)
+show-second : says (after between (command.Start f (base a 2 ∷ []) ∷ [])) (command.Show 1 0)
     ≡ codes "values 1 1 -7"
 unfolding digits
 show-second = refl
 
 -- of two versions the second is awaited, and the first is not; each has its own array
 abbrev both : Holdings
-both = after between (order.Start f (base a 1 ∷ []) ∷ order.Start f (base a 2 ∷ []) ∷ order.Await 2 ∷ [])
+both = after between (command.Start f (base a 1 ∷ []) ∷ command.Start f (base a 2 ∷ []) ∷ command.Await 2 ∷ [])
 
-show-awaited : says both (order.Show 2 0) ≡ codes "values 1 1 -7"
+show-awaited : says both (command.Show 2 0) ≡ codes "values 1 1 -7"
 unfolding digits
 show-awaited = refl
 
-show-other : says both (order.Show 1 0) ≡ codes "values 1 1 -5"
+show-other : says both (command.Show 1 0) ≡ codes "values 1 1 -5"
 unfolding digits
 show-other = refl
 
-explain-awaited : says both (order.Explain 2 Back (step 0 0 ∷ []) []) ≡ codes "explain map traced 0"
+explain-awaited : says both (command.Explain 2 Back (step 0 0 ∷ []) []) ≡ codes "explain map traced 0"
 unfolding digits
 explain-awaited = refl
 
-explain-other : says both (order.Explain 1 Back (step 0 0 ∷ []) []) ≡ codes "refused 19"
+explain-other : says both (command.Explain 1 Back (step 0 0 ∷ []) []) ≡ codes "refused 19"
 unfolding digits
 explain-other = refl
 
-start-third : says between (order.Start f (base a 3 ∷ [])) ≡ codes "refused 11"
+start-third : says between (command.Start f (base a 3 ∷ [])) ≡ codes "refused 11"
 unfolding digits
 start-third = refl
 
 -- the strategies of a flow are those of no other
 explain-other_flow : says
-    (after held (order.Flow (codes "g") negation ∷ order.Strategy (codes "g") 0 (strategy.BlackBox ∷ [])
-    ∷ order.Start f (base a 1 ∷ []) ∷ order.Await 1 ∷ []))
-    (order.Explain 1 Back (step 0 0 ∷ []) [])
+    (after held (command.Flow (codes "g") negation ∷ command.Strategy (codes "g") 0 (strategy.BlackBox ∷ [])
+    ∷ command.Start f (base a 1 ∷ []) ∷ command.Await 1 ∷ []))
+    (command.Explain 1 Back (step 0 0 ∷ []) [])
     ≡ codes "explain map traced 0"
 unfolding digits
 explain-other_flow = refl
@@ -327,10 +327,10 @@ explain-other_flow = refl
 
 -- a flow of regions, and what is said of a list of its node
 abbrev chosen : List Strategy → List ℕ
-chosen list = says (after no_holdings (order.Flow f (record {
+chosen list = says (after no_holdings (command.Flow f (record {
   inputs = 1;
   nodes = record { op = op.Regions (pos 1); from = Input 0 ∷ [] } ∷ [];
-}) ∷ [])) (order.Strategy f 0 list)
+}) ∷ [])) (command.Strategy f 0 list)
 
 choose-map : chosen (strategy.Map ∷ []) ≡ codes "refused 18"
 unfolding digits
@@ -353,21 +353,21 @@ unfolding digits
 choose-full = refl
 
 -- until some are set, black box is the only one
-choose-first : says (after no_holdings (hold_five ∷ order.Flow f (record {
+choose-first : says (after no_holdings (hold_five ∷ command.Flow f (record {
   inputs = 1;
   nodes = record { op = op.Regions (pos 1); from = Input 0 ∷ [] } ∷ [];
-}) ∷ order.Start f (base a 1 ∷ []) ∷ order.Await 1 ∷ [])) (order.Explain 1 Back (step 0 0 ∷ []) [])
+}) ∷ command.Start f (base a 1 ∷ []) ∷ command.Await 1 ∷ [])) (command.Explain 1 Back (step 0 0 ∷ []) [])
     ≡ codes "explain blackbox traced 1"
 unfolding digits
 choose-first = refl
 
 -- of an operator with a mapping
-choose-all_full : says held (order.Strategy f 0 (strategy.FullOneB ∷ strategy.FullOneF ∷ strategy.FullManyB ∷ []))
+choose-all_full : says held (command.Strategy f 0 (strategy.FullOneB ∷ strategy.FullOneF ∷ strategy.FullManyB ∷ []))
     ≡ codes "refused 21"
 unfolding digits
 choose-all_full = refl
 
-choose-last_full : says held (order.Strategy f 0 (strategy.FullManyF ∷ [])) ≡ codes "refused 21"
+choose-last_full : says held (command.Strategy f 0 (strategy.FullManyF ∷ [])) ≡ codes "refused 21"
 unfolding digits
 choose-last_full = refl
 
@@ -375,21 +375,21 @@ choose-last_full = refl
 
 abbrev layers : Holdings
 layers = after no_holdings
-    (order.Layers a (record { extent = layered 2 1 2; values = Some (pos 1) ∷ Some (pos 2) ∷ Some (pos 3) ∷ None ∷ [] })
-    ∷ order.Flow f negation ∷ order.Start f (base a 1 ∷ []) ∷ [])
+    (command.Layers a (record { extent = layered 2 1 2; values = Some (pos 1) ∷ Some (pos 2) ∷ Some (pos 3) ∷ None ∷ [] })
+    ∷ command.Flow f negation ∷ command.Start f (base a 1 ∷ []) ∷ [])
 
-show-layers : says layers (order.Show 1 0) ≡ codes "layers 2 1 2 -1 -2 -3 -"
+show-layers : says layers (command.Show 1 0) ≡ codes "layers 2 1 2 -1 -2 -3 -"
 unfolding digits
 show-layers = refl
 
-ask-layers : says layers (order.Ask 1 Back (step 0 0 ∷ []) (place 1 0 0 ∷ [])) ≡ codes "cells 1 1,0,0"
+ask-layers : says layers (command.Ask 1 Back (step 0 0 ∷ []) (named 1 0 0 ∷ [])) ≡ codes "cells 1 1,0,0"
 unfolding digits
 ask-layers = refl
 
-ask-first_layer : says layers (order.Ask 1 Back (step 0 0 ∷ []) (place 0 0 1 ∷ [])) ≡ codes "cells 1 0,0,1"
+ask-first_layer : says layers (command.Ask 1 Back (step 0 0 ∷ []) (named 0 0 1 ∷ [])) ≡ codes "cells 1 0,0,1"
 unfolding digits
 ask-first_layer = refl
 
-ask-third_layer : says layers (order.Ask 1 Back (step 0 0 ∷ []) (place 2 0 0 ∷ [])) ≡ codes "refused 17"
+ask-third_layer : says layers (command.Ask 1 Back (step 0 0 ∷ []) (named 2 0 0 ∷ [])) ≡ codes "refused 17"
 unfolding digits
 ask-third_layer = refl

@@ -12,7 +12,7 @@ use Rattle.sz_spec.specs.declared.flow.SourceRef.TheVariants.{Input}
 use Rattle.sz_spec.specs.declared.modes.Strategy.TheVariants as strategy
 use Rattle.sz_spec.specs.Flows.{Graph}
 use Rattle.sz_script.specs.declared.command.Command.{Command}
-use Rattle.sz_script.specs.declared.command.Command.TheVariants as order
+use Rattle.sz_script.specs.declared.command.Command.TheVariants as command
 use Rattle.sz_catalogue.specs.Holdings.{Holdings, no_holdings}
 use Rattle.sz_catalogue.proofs.RowsSaid.{after, says, base, five, negation, a, f, hold_five}
 use Rattle.sz_catalogue.proofs.RowsSaid.{two_shapes, version}
@@ -33,11 +33,11 @@ array-4097 : says (arrays 4096) hold_five ≡ codes "refused 7"
 unfolding digits
 array-4097 = refl
 
-layers-4096 : says (arrays 4095) (order.Layers f five) ≡ codes "array f 4096"
+layers-4096 : says (arrays 4095) (command.Layers f five) ≡ codes "array f 4096"
 unfolding digits
 layers-4096 = refl
 
-layers-4097 : says (arrays 4096) (order.Layers a five) ≡ codes "refused 7"
+layers-4097 : says (arrays 4096) (command.Layers a five) ≡ codes "refused 7"
 unfolding digits
 layers-4097 = refl
 
@@ -48,10 +48,10 @@ flows n = record no_holdings {
       map (λ k. (k ∷ [], record { graph = negation; lists = (strategy.Map ∷ []) ∷ [] })) (range_with_len 0 n);
 }
 
-flow-1024 : says (flows 1023) (order.Flow (codes "ff") negation) ≡ codes "flow ff"
+flow-1024 : says (flows 1023) (command.Flow (codes "ff") negation) ≡ codes "flow ff"
 flow-1024 = refl
 
-flow-1025 : says (flows 1024) (order.Flow (codes "ff") negation) ≡ codes "refused 9"
+flow-1025 : says (flows 1024) (command.Flow (codes "ff") negation) ≡ codes "refused 9"
 unfolding digits
 flow-1025 = refl
 
@@ -61,16 +61,16 @@ versions n = record two_shapes {
   versions = map (λ k. (k + 1, version)) (range_with_len 0 n);
 }
 
-start-4096 : says (versions 4095) (order.Start f (base a 1 ∷ base a 1 ∷ [])) ≡ codes "started 4096"
+start-4096 : says (versions 4095) (command.Start f (base a 1 ∷ base a 1 ∷ [])) ≡ codes "started 4096"
 unfolding digits
 start-4096 = refl
 
-start-4097 : says (versions 4096) (order.Start f (base a 1 ∷ base a 1 ∷ [])) ≡ codes "refused 14"
+start-4097 : says (versions 4096) (command.Start f (base a 1 ∷ base a 1 ∷ [])) ≡ codes "refused 14"
 unfolding digits
 start-4097 = refl
 
 -- as many versions as may be, and shapes that do not fit
-start-4097_unequal : says (versions 4096) (order.Start f (base a 1 ∷ base f 1 ∷ [])) ≡ codes "refused 13 0"
+start-4097_unequal : says (versions 4096) (command.Start f (base a 1 ∷ base f 1 ∷ [])) ≡ codes "refused 13 0"
 unfolding digits
 start-4097_unequal = refl
 
@@ -80,19 +80,19 @@ start-4097_unequal = refl
 abbrev numbered : ℕ → Holdings
 numbered n = record two_shapes { versions = (n, version) ∷ [] }
 
-start-behind_7 : says (numbered 7) (order.Start f (base a 1 ∷ base a 1 ∷ [])) ≡ codes "started 8"
+start-behind_7 : says (numbered 7) (command.Start f (base a 1 ∷ base a 1 ∷ [])) ≡ codes "started 8"
 unfolding digits
 start-behind_7 = refl
 
-start-greatest : says (numbered 4294967294) (order.Start f (base a 1 ∷ base a 1 ∷ [])) ≡ codes "started 4294967295"
+start-greatest : says (numbered 4294967294) (command.Start f (base a 1 ∷ base a 1 ∷ [])) ≡ codes "started 4294967295"
 unfolding digits
 start-greatest = refl
 
-start-past_greatest : says (numbered 4294967295) (order.Start f (base a 1 ∷ base a 1 ∷ [])) ≡ codes "refused 14"
+start-past_greatest : says (numbered 4294967295) (command.Start f (base a 1 ∷ base a 1 ∷ [])) ≡ codes "refused 14"
 unfolding digits
 start-past_greatest = refl
 
-start-past_greatest_unequal : says (numbered 4294967295) (order.Start f (base a 1 ∷ base f 1 ∷ []))
+start-past_greatest_unequal : says (numbered 4294967295) (command.Start f (base a 1 ∷ base f 1 ∷ []))
     ≡ codes "refused 13 0"
 unfolding digits
 start-past_greatest_unequal = refl
@@ -101,7 +101,7 @@ start-past_greatest_unequal = refl
 
 -- three of the largest arrays and one that is a row smaller: with 1,024 cells more it is as many as may be
 abbrev shaped : List ℕ → Extent → Command
-shaped name e = order.Array name (record { extent = e; values = [] })
+shaped name e = command.Array name (record { extent = e; values = [] })
 
 -- the first so many columns of one row
 abbrev first_cols : ℕ → Graph
@@ -110,7 +110,7 @@ first_cols w = record { inputs = 1; nodes = record { op = op.Slice 0 0 1 w; from
 abbrev full : Holdings
 full = after no_holdings (
     shaped a (flat 1024 1024) ∷ shaped a (flat 1024 1024) ∷ shaped a (flat 1024 1024) ∷ shaped a (flat 1023 1024)
-    ∷ order.Flow f (first_cols 511) ∷ order.Flow (codes "g") (first_cols 512) ∷ [])
+    ∷ command.Flow f (first_cols 511) ∷ command.Flow (codes "g") (first_cols 512) ∷ [])
 
 array-last : says full (shaped f (flat 1 1024)) ≡ codes "array f 1"
 unfolding digits
@@ -120,27 +120,27 @@ array-past : says full (shaped f (flat 1 1025)) ≡ codes "refused 7"
 unfolding digits
 array-past = refl
 
-layers-last : says full (order.Layers a (record { extent = layered 16 1 64; values = [] })) ≡ codes "array a 5"
+layers-last : says full (command.Layers a (record { extent = layered 16 1 64; values = [] })) ≡ codes "array a 5"
 unfolding digits
 layers-last = refl
 
-layers-past : says full (order.Layers a (record { extent = layered 5 5 41; values = [] })) ≡ codes "refused 7"
+layers-past : says full (command.Layers a (record { extent = layered 5 5 41; values = [] })) ≡ codes "refused 7"
 unfolding digits
 layers-past = refl
 
 -- an array of 513 cells, and an output of 511 and of 512
-start-last : says (after full (shaped f (flat 1 513) ∷ [])) (order.Start f (base f 1 ∷ [])) ≡ codes "started 1"
+start-last : says (after full (shaped f (flat 1 513) ∷ [])) (command.Start f (base f 1 ∷ [])) ≡ codes "started 1"
 unfolding digits
 start-last = refl
 
-start-past : says (after full (shaped f (flat 1 513) ∷ [])) (order.Start (codes "g") (base f 1 ∷ []))
+start-past : says (after full (shaped f (flat 1 513) ∷ [])) (command.Start (codes "g") (base f 1 ∷ []))
     ≡ codes "refused 14"
 unfolding digits
 start-past = refl
 
 -- outputs are counted for an array too, and for the next version: 512 cells and 511 are held behind the others
 abbrev fuller : Holdings
-fuller = after full (shaped f (flat 1 512) ∷ order.Start f (base f 1 ∷ []) ∷ [])
+fuller = after full (shaped f (flat 1 512) ∷ command.Start f (base f 1 ∷ []) ∷ [])
 
 array-behind_outputs : says fuller (shaped a (flat 1 1)) ≡ codes "array a 5"
 unfolding digits
@@ -150,6 +150,6 @@ array-past_outputs : says fuller (shaped a (flat 1 2)) ≡ codes "refused 7"
 unfolding digits
 array-past_outputs = refl
 
-start-past_outputs : says fuller (order.Start f (base f 1 ∷ [])) ≡ codes "refused 14"
+start-past_outputs : says fuller (command.Start f (base f 1 ∷ [])) ≡ codes "refused 14"
 unfolding digits
 start-past_outputs = refl

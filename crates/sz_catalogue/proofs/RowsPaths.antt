@@ -13,9 +13,9 @@ use Rattle.sz_spec.specs.declared.modes.Dir.TheVariants.{Back, Forward}
 use Rattle.sz_spec.specs.declared.modes.Strategy.TheVariants as strategy
 use Rattle.sz_spec.specs.Flows.{Graph}
 use Rattle.sz_spec.specs.Paths.{Step}
-use Rattle.sz_script.specs.declared.command.Command.TheVariants as order
+use Rattle.sz_script.specs.declared.command.Command.TheVariants as command
 use Rattle.sz_catalogue.specs.Holdings.{Holdings, no_holdings}
-use Rattle.sz_catalogue.proofs.RowsSaid.{after, says, grid, step, place, base, a, f, version}
+use Rattle.sz_catalogue.proofs.RowsSaid.{after, says, grid, step, named, base, a, f, version}
 
 -- ---- how long a path is
 
@@ -39,46 +39,46 @@ back n = map (λ k. step (32 - k) 0) (range_with_len 0 n)
 abbrev on : ℕ → List Step
 on n = map (λ k. step k 0) (range_with_len 0 n)
 
-back-0 : says (chained 32) (order.Ask 1 Back (back 0) []) ≡ codes "refused 16"
+back-0 : says (chained 32) (command.Ask 1 Back (back 0) []) ≡ codes "refused 16"
 unfolding digits
 back-0 = refl
 
-back-1 : says (chained 32) (order.Ask 1 Back (back 1) []) ≡ codes "cells 0"
+back-1 : says (chained 32) (command.Ask 1 Back (back 1) []) ≡ codes "cells 0"
 unfolding digits
 back-1 = refl
 
-back-32 : says (chained 32) (order.Ask 1 Back (back 32) []) ≡ codes "cells 0"
+back-32 : says (chained 32) (command.Ask 1 Back (back 32) []) ≡ codes "cells 0"
 unfolding digits
 back-32 = refl
 
-back-33 : says (chained 32) (order.Ask 1 Back (back 33) []) ≡ codes "refused 16"
+back-33 : says (chained 32) (command.Ask 1 Back (back 33) []) ≡ codes "refused 16"
 unfolding digits
 back-33 = refl
 
-on-0 : says (chained 32) (order.Ask 1 Forward (on 0) []) ≡ codes "refused 16"
+on-0 : says (chained 32) (command.Ask 1 Forward (on 0) []) ≡ codes "refused 16"
 unfolding digits
 on-0 = refl
 
-on-32 : says (chained 32) (order.Ask 1 Forward (on 32) []) ≡ codes "cells 0"
+on-32 : says (chained 32) (command.Ask 1 Forward (on 32) []) ≡ codes "cells 0"
 unfolding digits
 on-32 = refl
 
-on-33 : says (chained 32) (order.Explain 1 Forward (on 33) []) ≡ codes "refused 16"
+on-33 : says (chained 32) (command.Explain 1 Forward (on 33) []) ≡ codes "refused 16"
 unfolding digits
 on-33 = refl
 
 -- a path that is not joined, with a cell out of range, of a version that is not awaited
-back-not_joined : says (chained 32) (order.Explain 1 Back (step 5 0 ∷ step 3 0 ∷ []) (place 0 9 9 ∷ []))
+back-not_joined : says (chained 32) (command.Explain 1 Back (step 5 0 ∷ step 3 0 ∷ []) (named 0 9 9 ∷ []))
     ≡ codes "refused 16"
 unfolding digits
 back-not_joined = refl
 
 -- joined in the other direction
-back-forward : says (chained 32) (order.Ask 1 Back (step 4 0 ∷ step 5 0 ∷ []) []) ≡ codes "refused 16"
+back-forward : says (chained 32) (command.Ask 1 Back (step 4 0 ∷ step 5 0 ∷ []) []) ≡ codes "refused 16"
 unfolding digits
 back-forward = refl
 
-on-back : says (chained 32) (order.Ask 1 Forward (step 5 0 ∷ step 4 0 ∷ []) []) ≡ codes "refused 16"
+on-back : says (chained 32) (command.Ask 1 Forward (step 5 0 ∷ step 4 0 ∷ []) []) ≡ codes "refused 16"
 unfolding digits
 on-back = refl
 
@@ -87,61 +87,61 @@ on-back = refl
 -- one row of two cells transposed, and one of them looked up in a table of three
 abbrev turned : Holdings
 turned = after no_holdings (
-    order.Array a (grid (flat 1 2) (5 ∷ 6 ∷ []))
-    ∷ order.Array f (grid (flat 1 3) (7 ∷ 8 ∷ 9 ∷ []))
-    ∷ order.Flow f (record {
+    command.Array a (grid (flat 1 2) (5 ∷ 6 ∷ []))
+    ∷ command.Array f (grid (flat 1 3) (7 ∷ 8 ∷ 9 ∷ []))
+    ∷ command.Flow f (record {
       inputs = 2;
       nodes =
           record { op = op.Transpose; from = Input 0 ∷ [] }
           ∷ record { op = op.Lookup; from = Output 0 ∷ Input 1 ∷ [] } ∷ [];
     })
-    ∷ order.Start f (base a 1 ∷ base f 1 ∷ []) ∷ [])
+    ∷ command.Start f (base a 1 ∷ base f 1 ∷ []) ∷ [])
 
 -- the output has two rows, the input two columns
-back-in_output : says turned (order.Ask 1 Back (step 0 0 ∷ []) (place 0 1 0 ∷ [])) ≡ codes "cells 1 0,1"
+back-in_output : says turned (command.Ask 1 Back (step 0 0 ∷ []) (named 0 1 0 ∷ [])) ≡ codes "cells 1 0,1"
 unfolding digits
 back-in_output = refl
 
-back-past_output : says turned (order.Ask 1 Back (step 0 0 ∷ []) (place 0 0 1 ∷ [])) ≡ codes "refused 17"
+back-past_output : says turned (command.Ask 1 Back (step 0 0 ∷ []) (named 0 0 1 ∷ [])) ≡ codes "refused 17"
 unfolding digits
 back-past_output = refl
 
-on-in_input : says turned (order.Ask 1 Forward (step 0 0 ∷ []) (place 0 0 1 ∷ [])) ≡ codes "cells 1 1,0"
+on-in_input : says turned (command.Ask 1 Forward (step 0 0 ∷ []) (named 0 0 1 ∷ [])) ≡ codes "cells 1 1,0"
 unfolding digits
 on-in_input = refl
 
-on-past_input : says turned (order.Ask 1 Forward (step 0 0 ∷ []) (place 0 1 0 ∷ [])) ≡ codes "refused 17"
+on-past_input : says turned (command.Ask 1 Forward (step 0 0 ∷ []) (named 0 1 0 ∷ [])) ≡ codes "refused 17"
 unfolding digits
 on-past_input = refl
 
 -- the second input is the table
-on-in_table : says turned (order.Ask 1 Forward (step 1 1 ∷ []) (place 0 0 2 ∷ [])) ≡ codes "cells 0"
+on-in_table : says turned (command.Ask 1 Forward (step 1 1 ∷ []) (named 0 0 2 ∷ [])) ≡ codes "cells 0"
 unfolding digits
 on-in_table = refl
 
-on-past_table : says turned (order.Ask 1 Forward (step 1 1 ∷ []) (place 0 0 3 ∷ [])) ≡ codes "refused 17"
+on-past_table : says turned (command.Ask 1 Forward (step 1 1 ∷ []) (named 0 0 3 ∷ [])) ≡ codes "refused 17"
 unfolding digits
 on-past_table = refl
 
-on-past_looked_up : says turned (order.Ask 1 Forward (step 1 0 ∷ []) (place 0 0 2 ∷ [])) ≡ codes "refused 17"
+on-past_looked_up : says turned (command.Ask 1 Forward (step 1 0 ∷ []) (named 0 0 2 ∷ [])) ≡ codes "refused 17"
 unfolding digits
 on-past_looked_up = refl
 
 -- two rows of one column
-show-turned : says turned (order.Show 1 0) ≡ codes "values 2 1 5 6"
+show-turned : says turned (command.Show 1 0) ≡ codes "values 2 1 5 6"
 unfolding digits
 show-turned = refl
 
 -- ---- cells that are asked
 
 -- a cell twice is asked once, and cells stand in row-major order
-back-twice : says turned (order.Ask 1 Back (step 0 0 ∷ []) (place 0 1 0 ∷ place 0 0 0 ∷ place 0 1 0 ∷ []))
+back-twice : says turned (command.Ask 1 Back (step 0 0 ∷ []) (named 0 1 0 ∷ named 0 0 0 ∷ named 0 1 0 ∷ []))
     ≡ codes "cells 2 0,0 0,1"
 unfolding digits
 back-twice = refl
 
 -- by two steps, of which the second is the transposition
-back-two : says turned (order.Ask 1 Back (step 1 0 ∷ step 0 0 ∷ []) (place 0 1 0 ∷ [])) ≡ codes "cells 1 0,1"
+back-two : says turned (command.Ask 1 Back (step 1 0 ∷ step 0 0 ∷ []) (named 0 1 0 ∷ [])) ≡ codes "cells 1 0,1"
 unfolding digits
 back-two = refl
 
@@ -150,59 +150,59 @@ back-two = refl
 -- the first three cells, of these the first two, and of these the first one; the last two nodes by black box
 abbrev narrowed : Holdings
 narrowed = after no_holdings (
-    order.Array a (grid (flat 1 4) (5 ∷ 6 ∷ 7 ∷ 8 ∷ []))
-    ∷ order.Flow f (record {
+    command.Array a (grid (flat 1 4) (5 ∷ 6 ∷ 7 ∷ 8 ∷ []))
+    ∷ command.Flow f (record {
       inputs = 1;
       nodes =
           record { op = op.Slice 0 0 1 3; from = Input 0 ∷ [] }
           ∷ record { op = op.Slice 0 0 1 2; from = Output 0 ∷ [] }
           ∷ record { op = op.Slice 0 0 1 1; from = Output 1 ∷ [] } ∷ [];
     })
-    ∷ order.Strategy f 0 (strategy.BlackBox ∷ []) ∷ order.Strategy f 1 (strategy.BlackBox ∷ strategy.Map ∷ [])
-    ∷ order.Strategy f 2 (strategy.BlackBox ∷ [])
-    ∷ order.Start f (base a 1 ∷ []) ∷ order.Start f (base a 1 ∷ []) ∷ order.Await 2 ∷ [])
+    ∷ command.Strategy f 0 (strategy.BlackBox ∷ []) ∷ command.Strategy f 1 (strategy.BlackBox ∷ strategy.Map ∷ [])
+    ∷ command.Strategy f 2 (strategy.BlackBox ∷ [])
+    ∷ command.Start f (base a 1 ∷ []) ∷ command.Start f (base a 1 ∷ []) ∷ command.Await 2 ∷ [])
 
-set-last : says narrowed (order.Strategy f 2 (strategy.Map ∷ [])) ≡ codes "strategy f 2"
+set-last : says narrowed (command.Strategy f 2 (strategy.Map ∷ [])) ≡ codes "strategy f 2"
 unfolding digits
 set-last = refl
 
 -- the sizes of the outputs that are traced are added, and a node with a mapping that may be used is not
-explain-three : says narrowed (order.Explain 2 Back (step 2 0 ∷ step 1 0 ∷ step 0 0 ∷ []) [])
+explain-three : says narrowed (command.Explain 2 Back (step 2 0 ∷ step 1 0 ∷ step 0 0 ∷ []) [])
     ≡ codes "explain blackbox map blackbox traced 4"
 unfolding digits
 explain-three = refl
 
-explain-other_version : says narrowed (order.Explain 1 Back (step 2 0 ∷ []) []) ≡ codes "refused 19"
+explain-other_version : says narrowed (command.Explain 1 Back (step 2 0 ∷ []) []) ≡ codes "refused 19"
 unfolding digits
 explain-other_version = refl
 
 -- a version that is not held, along a path that is not joined, with a cell out of range
-explain-no_version : says narrowed (order.Explain 3 Back [] (place 0 9 9 ∷ [])) ≡ codes "refused 15"
+explain-no_version : says narrowed (command.Explain 3 Back [] (named 0 9 9 ∷ [])) ≡ codes "refused 15"
 unfolding digits
 explain-no_version = refl
 
 -- a path of two steps starts where its first step does: in an output of one cell, and in an input of four
-back-in_first : says narrowed (order.Ask 1 Back (step 2 0 ∷ step 1 0 ∷ []) (place 0 0 0 ∷ [])) ≡ codes "cells 1 0,0"
+back-in_first : says narrowed (command.Ask 1 Back (step 2 0 ∷ step 1 0 ∷ []) (named 0 0 0 ∷ [])) ≡ codes "cells 1 0,0"
 unfolding digits
 back-in_first = refl
 
-back-past_first : says narrowed (order.Ask 1 Back (step 2 0 ∷ step 1 0 ∷ []) (place 0 0 1 ∷ [])) ≡ codes "refused 17"
+back-past_first : says narrowed (command.Ask 1 Back (step 2 0 ∷ step 1 0 ∷ []) (named 0 0 1 ∷ [])) ≡ codes "refused 17"
 unfolding digits
 back-past_first = refl
 
-on-in_first : says narrowed (order.Ask 1 Forward (step 0 0 ∷ step 1 0 ∷ []) (place 0 0 1 ∷ place 0 0 3 ∷ []))
+on-in_first : says narrowed (command.Ask 1 Forward (step 0 0 ∷ step 1 0 ∷ []) (named 0 0 1 ∷ named 0 0 3 ∷ []))
     ≡ codes "cells 1 0,1"
 unfolding digits
 on-in_first = refl
 
-on-past_first : says narrowed (order.Ask 1 Forward (step 0 0 ∷ step 1 0 ∷ []) (place 0 0 4 ∷ [])) ≡ codes "refused 17"
+on-past_first : says narrowed (command.Ask 1 Forward (step 0 0 ∷ step 1 0 ∷ []) (named 0 0 4 ∷ [])) ≡ codes "refused 17"
 unfolding digits
 on-past_first = refl
 
-show-last : says narrowed (order.Show 1 2) ≡ codes "values 1 1 5"
+show-last : says narrowed (command.Show 1 2) ≡ codes "values 1 1 5"
 unfolding digits
 show-last = refl
 
-show-past : says narrowed (order.Show 1 3) ≡ codes "refused 20"
+show-past : says narrowed (command.Show 1 3) ≡ codes "refused 20"
 unfolding digits
 show-past = refl

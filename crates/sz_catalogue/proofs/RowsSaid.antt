@@ -9,9 +9,9 @@ use Rattle.sz_spec.specs.Values.{Grid}
 use Rattle.sz_spec.specs.Flows.{Graph}
 use Rattle.sz_spec.specs.Paths.{Step}
 use Rattle.sz_script.specs.declared.command.BaseName.{BaseName}
-use Rattle.sz_script.specs.declared.command.Place.{Place}
+use Rattle.sz_script.specs.declared.command.NamedCell.{NamedCell}
 use Rattle.sz_script.specs.declared.command.Command.{Command}
-use Rattle.sz_script.specs.declared.command.Command.TheVariants as order
+use Rattle.sz_script.specs.declared.command.Command.TheVariants as command
 use Rattle.sz_catalogue.specs.Holdings.{Version, Holdings, no_holdings}
 use Rattle.sz_catalogue.specs.Responses.{reply_text}
 use Rattle.sz_catalogue.specs.Changes.{after_command}
@@ -29,8 +29,8 @@ grid e ns = record { extent = e; values = map (λ n. Some (pos n)) ns }
 abbrev pub step : ℕ → ℕ → Step
 step node input = record { node = node; input = input }
 
-abbrev pub place : ℕ → ℕ → ℕ → Place
-place layer row col = record { layer = layer; row = row; col = col }
+abbrev pub named : ℕ → ℕ → ℕ → NamedCell
+named layer row col = record { layer = layer; row = row; col = col }
 
 abbrev pub base : List ℕ → ℕ → BaseName
 base name version = record { name = name; version = version }
@@ -52,21 +52,21 @@ abbrev pub f : List ℕ
 f = codes "f"
 
 abbrev pub hold_five : Command
-hold_five = order.Array a five
+hold_five = command.Array a five
 
 abbrev pub held : Holdings
-held = after no_holdings (hold_five ∷ order.Flow f negation ∷ [])
+held = after no_holdings (hold_five ∷ command.Flow f negation ∷ [])
 
 abbrev pub begun : Holdings
-begun = after held (order.Start f (base a 1 ∷ []) ∷ [])
+begun = after held (command.Start f (base a 1 ∷ []) ∷ [])
 
 abbrev pub whole : Holdings
-whole = after begun (order.Await 1 ∷ [])
+whole = after begun (command.Await 1 ∷ [])
 
 -- arrays of two shapes, and a flow that takes two of one shape
 abbrev pub two_shapes : Holdings
 two_shapes = after no_holdings
-    (hold_five ∷ order.Array f (grid (flat 1 2) (5 ∷ 6 ∷ [])) ∷ order.Flow f sum ∷ [])
+    (hold_five ∷ command.Array f (grid (flat 1 2) (5 ∷ 6 ∷ [])) ∷ command.Flow f sum ∷ [])
 
 -- a version that is not awaited, of a negation of the one cell
 abbrev pub version : Version

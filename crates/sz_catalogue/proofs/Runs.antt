@@ -20,7 +20,7 @@ use Rattle.sz_spec.proofs.FlowOutputs.{well-formed_parts}
 use Rattle.sz_catalogue.specs.Holdings.{Version, shapes_of}
 use Rattle.sz_catalogue.specs.Starts.{outputs_of, inputs_of}
 use Rattle.sz_catalogue.specs.Kept.{IsRun}
-use Rattle.sz_catalogue.proofs.OutputShapes.{outputs-length}
+use Rattle.sz_spec.proofs.FlowShapes.{outputs-length, below, each-at, mapped-at, node-of, wider}
 
 -- the outputs' shapes are those that are kept
 pub outputs-kept : (v : Version) (outputs : List Extent) → IsRun v outputs → outputs_of v ≡ outputs
@@ -28,33 +28,6 @@ outputs-kept v outputs run = ap (λ (r : Result (List Extent) ℕ). result_unwra
 
 pub outputs-count : (v : Version) (outputs : List Extent) → IsRun v outputs → length outputs ≡ length v.flow.nodes
 outputs-count v outputs run = outputs-length v.flow (shapes_of v.base) outputs run.fits
-
--- a place that a list has
-below : {X : Type 0} (xs : List X) (i : ℕ) (x : X) → slice_get xs i ≡ Some x → i < length xs
-below [] i x h = (cc)
-below (y ∷ xs) zero x h = omega arith
-below (y ∷ xs) (suc i) x h = let rest : i < length xs = below xs i x h in omega (arith, rest)
-
-each-at : {X : Type 0} (P : X → Type 0) (xs : List X) (i : ℕ) (x : X) → All P xs → slice_get xs i ≡ Some x → P x
-each-at P [] i x all h = (cc)
-each-at P (y ∷ xs) zero x all h = let same : y ≡ x = (cc) in subst P same (all 0 x (omega arith))
-each-at P (y ∷ xs) (suc i) x all h = each-at P xs i x (λ k d lt. all (suc k) d (omega (arith, lt))) h
-
-mapped-at : (f : SourceRef → Extent) (xs : List SourceRef) (i : ℕ) (x : SourceRef) → slice_get xs i ≡ Some x
-    → extent_at (map f xs) i ≡ f x
-mapped-at f [] i x h = (cc)
-mapped-at f (y ∷ xs) zero x h = let same : y ≡ x = (cc) in ap f same
-mapped-at f (y ∷ xs) (suc i) x h = mapped-at f xs i x h
-
--- the node of a source
-node-of : (o : Option Node) (i : ℕ) (src : SourceRef) → option_and_then (λ (x : Node). slice_get x.from i) o ≡ Some src
-    → (x : Node) × (o ≡ Some x) × (slice_get x.from i ≡ Some src)
-node-of None i src h = (cc)
-node-of (Some x) i src h = (x, refl, h)
-
-wider : (a b m n : ℕ) (src : SourceRef) → a ≡ b → m < n → is_source a m src ≡ true → is_source b n src ≡ true
-wider a b m n (source.Input i) same less h = rw (← same) h
-wider a b m n (source.Node k) same less h = grind (arith, nat_tests)
 
 -- a source of a version's flow is there, and the step's input has its shape
 pub run-source : (v : Version) (outputs : List Extent) (s : Step) (src : SourceRef) → IsRun v outputs
@@ -70,7 +43,7 @@ run-source v outputs s src run there =
     let inputs : inputs_of v s.node ≡ node_inputs (shapes_of v.base) outputs at.0 =
     ap (λ (o : Option Node). unwrap_or (option_map (node_inputs (shapes_of v.base) (outputs_of v)) o) []) at.1
     ∙ ap (λ (es : List Extent). node_inputs (shapes_of v.base) es at.0) (outputs-kept v outputs run) in (
-      wider v.flow.inputs (length v.base) s.node (length outputs) src (sym run.count) less one,
+      wider v.flow.inputs (length v.base) s.node (length outputs) src (sym run.count) (omega (arith, less)) one,
       ap (λ (es : List Extent). extent_at es s.input) inputs
           ∙ mapped-at (source_shape (shapes_of v.base) outputs) at.0.from s.input src at.2,
     )

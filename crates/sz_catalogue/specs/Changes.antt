@@ -17,14 +17,14 @@ use Rattle.sz_spec.specs.Values.{Grid, input_at, extent_at}
 use Rattle.sz_spec.specs.Flows.{Graph, evaluations}
 use Rattle.sz_spec.specs.Paths.{Step, compose}
 use Rattle.sz_script.specs.Reading.{reading}
-use Rattle.sz_script.specs.declared.command.Place.{Place}
+use Rattle.sz_script.specs.declared.command.NamedCell.{NamedCell}
 use Rattle.sz_script.specs.declared.command.Command.{Command}
 use Rattle.sz_script.specs.declared.command.Command.TheVariants as command
 use Rattle.sz_script.specs.declared.refusal.Refusal.{Refusal}
 use Rattle.sz_catalogue.specs.Holdings.{Workflow, Version, Holdings, things_named, next_number}
 use Rattle.sz_catalogue.specs.Holdings.{arrays_of}
 use Rattle.sz_catalogue.specs.Starts.{first_lists, workflow_of, version_started, outputs_of}
-use Rattle.sz_catalogue.specs.Starts.{path_start, cell_of_place}
+use Rattle.sz_catalogue.specs.Starts.{path_start, cell_named}
 use Rattle.sz_catalogue.specs.Rules.{version_of, judged}
 use Rattle.sz_catalogue.specs.Responses.{Response, array_held, flow_held, strategy_set, started}
 use Rattle.sz_catalogue.specs.Responses.{done, cells, explained, values, refused}
@@ -71,20 +71,28 @@ with_await c n = record c {
 abbrev pub outputs : Version → List Grid
 outputs v = evaluations v.flow (arrays_of v.base)
 
--- the cells of an ask: the composed relation along the path, from the places
-abbrev pub cells_answered : Version → Dir → List Step → List Place → Cells
-cells_answered v dir path places =
+-- the cells of an ask: the composed relation along the path, from the cells that it names
+abbrev pub cells_answered : Version → Dir → List Step → List NamedCell → Cells
+cells_answered v dir path named =
     let start = path_start dir v path in
     compose dir v.flow (arrays_of v.base) (outputs v) path
-    (named_in start (map (cell_of_place start) places))
+    (named_in start (map (cell_named start) named))
 
 -- the way of a step: by the strategies of its node
 abbrev pub way_of : Version → Dir → Step → Strategy
 way_of v dir s = way (unwrap_or (slice_get v.lists s.node) []) dir
 
 abbrev pub is_black_box : Strategy → Bool
+is_black_box strategy.Map = false
+is_black_box strategy.FullOneB = false
+is_black_box strategy.FullOneF = false
+is_black_box strategy.FullManyB = false
+is_black_box strategy.FullManyF = false
+is_black_box strategy.PayOne = false
+is_black_box strategy.PayMany = false
+is_black_box strategy.CompOne = false
+is_black_box strategy.CompMany = false
 is_black_box strategy.BlackBox = true
-is_black_box _ = false
 
 -- how many cells are traced along a path: the outputs of the nodes whose way is black box
 abbrev pub traced : Version → Dir → List Step → ℕ
@@ -102,8 +110,8 @@ changes_without_start (command.Flow name flow) = true
 changes_without_start (command.Strategy name node list) = true
 changes_without_start (command.Start name base) = false
 changes_without_start (command.Await n) = true
-changes_without_start (command.Ask n dir path places) = false
-changes_without_start (command.Explain n dir path places) = false
+changes_without_start (command.Ask n dir path named) = false
+changes_without_start (command.Explain n dir path named) = false
 changes_without_start (command.Show n node) = false
 
 -- what a command that no rule refuses changes, and its reply
@@ -118,24 +126,24 @@ accepted c (command.Strategy name node list) =
 accepted c (command.Start name base) =
     (with_version c (next_number c) (version_started c name base), started (next_number c))
 accepted c (command.Await n) = (with_await c n, done n)
-accepted c (command.Ask n dir path places) =
-    (c, cells (cells_answered (version_of c n) dir path places))
-accepted c (command.Explain n dir path places) =
+accepted c (command.Ask n dir path named) =
+    (c, cells (cells_answered (version_of c n) dir path named))
+accepted c (command.Explain n dir path named) =
     (c, explained (map (way_of (version_of c n) dir) path) (traced (version_of c n) dir path))
 accepted c (command.Show n node) = (c, values (input_at (outputs (version_of c n)) node))
 
 -- a command that a rule refuses changes nothing
 abbrev pub after_judging : Holdings → Command → Option Refusal → Holdings × Response
-after_judging c order None = accepted c order
-after_judging c order (Some rule) = (c, refused rule)
+after_judging c command None = accepted c command
+after_judging c command (Some rule) = (c, refused rule)
 
 abbrev pub after_command : Holdings → Command → Holdings × Response
-after_command c order = after_judging c order (judged c order)
+after_command c command = after_judging c command (judged c command)
 
 -- and so does a line that is read as no command
 abbrev pub after_reading : Holdings → Result Command Refusal → Holdings × Response
 after_reading c (Err rule) = (c, refused rule)
-after_reading c (Ok order) = after_command c order
+after_reading c (Ok command) = after_command c command
 
 -- One line: refused where it is read as no command or a rule refuses the command, and else what the
 -- command changes and replies.

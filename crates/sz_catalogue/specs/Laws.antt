@@ -24,31 +24,31 @@ none_holds rules = not (list_any (λ (r : Bool × Refusal). r.0) rules)
 
 -- a refused command changes nothing, and its reply is the refusal
 abbrev pub RefusedCommandsChangeNothing : Type 0
-RefusedCommandsChangeNothing = (c : Holdings) (order : Command) (rule : Refusal)
-    → judged c order ≡ Some rule → after_command c order ≡ (c, refused rule)
+RefusedCommandsChangeNothing = (c : Holdings) (command : Command) (rule : Refusal)
+    → judged c command ≡ Some rule → after_command c command ≡ (c, refused rule)
 
 -- a command that no rule refuses changes and replies what it is to
 abbrev pub OtherCommandsAreTaken : Type 0
-OtherCommandsAreTaken = (c : Holdings) (order : Command)
-    → judged c order ≡ None → after_command c order ≡ accepted c order
+OtherCommandsAreTaken = (c : Holdings) (command : Command)
+    → judged c command ≡ None → after_command c command ≡ accepted c command
 
 -- a command is refused by a rule exactly where that rule holds and none before it does
 abbrev pub RefusalsAreTheFirst : Type 0
-RefusalsAreTheFirst = (c : Holdings) (order : Command) (rule : Refusal)
-    → judged c order ≡ Some rule
+RefusalsAreTheFirst = (c : Holdings) (command : Command) (rule : Refusal)
+    → judged c command ≡ Some rule
     → (before : List (Bool × Refusal)) × (after : List (Bool × Refusal))
-    × (rules_of c order ≡ before ++ (true, rule) ∷ after) × (none_holds before ≡ true)
+    × (rules_of c command ≡ before ++ (true, rule) ∷ after) × (none_holds before ≡ true)
 
 abbrev pub FirstRulesRefuse : Type 0
-FirstRulesRefuse = (c : Holdings) (order : Command) (rule : Refusal)
+FirstRulesRefuse = (c : Holdings) (command : Command) (rule : Refusal)
     (before after : List (Bool × Refusal))
-    → rules_of c order ≡ before ++ (true, rule) ∷ after
-    → none_holds before ≡ true → judged c order ≡ Some rule
+    → rules_of c command ≡ before ++ (true, rule) ∷ after
+    → none_holds before ≡ true → judged c command ≡ Some rule
 
 -- a command is taken exactly where none of its rules holds
 abbrev pub TakenCommandsBreakNoRule : Type 0
-TakenCommandsBreakNoRule = (c : Holdings) (order : Command)
-    → (judged c order ≡ None) ↔ (none_holds (rules_of c order) ≡ true)
+TakenCommandsBreakNoRule = (c : Holdings) (command : Command)
+    → (judged c command ≡ None) ↔ (none_holds (rules_of c command) ≡ true)
 
 -- the number of the version that is started next is not held
 abbrev pub NextNumbersAreNew : Type 0

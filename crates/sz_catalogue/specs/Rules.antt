@@ -16,7 +16,7 @@ use Rattle.sz_spec.specs.Values.{Grid}
 use Rattle.sz_spec.specs.FlowShapes.{output_shapes}
 use Rattle.sz_spec.specs.Paths.{Step, is_joined}
 use Rattle.sz_script.specs.declared.command.BaseName.{BaseName}
-use Rattle.sz_script.specs.declared.command.Place.{Place}
+use Rattle.sz_script.specs.declared.command.NamedCell.{NamedCell}
 use Rattle.sz_script.specs.declared.command.Command.{Command}
 use Rattle.sz_script.specs.declared.command.Command.TheVariants as command
 use Rattle.sz_script.specs.declared.refusal.Refusal.{Refusal}
@@ -142,14 +142,14 @@ version_of c n = unwrap_or (version_numbered c n) no_version
 abbrev pub is_not_joined : Holdings → ℕ → Dir → List Step → Bool
 is_not_joined c n dir path = not (is_joined dir (version_of c n).flow path)
 
--- the shape has the place
-abbrev pub has_place : Extent → Place → Bool
-has_place e p = is_place e p.layer p.row p.col
+-- the shape has the cell that is named
+abbrev pub has_named_cell : Extent → NamedCell → Bool
+has_named_cell e x = is_place e x.layer x.row x.col
 
--- a place is out of range of the array in which the path starts
-abbrev pub is_out_of_range : Holdings → ℕ → Dir → List Step → List Place → Bool
-is_out_of_range c n dir path places =
-    not (list_all (has_place (path_start dir (version_of c n) path)) places)
+-- a cell is out of range of the array in which the path starts
+abbrev pub is_out_of_range : Holdings → ℕ → Dir → List Step → List NamedCell → Bool
+is_out_of_range c n dir path named =
+    not (list_all (has_named_cell (path_start dir (version_of c n) path)) named)
 
 abbrev pub is_not_awaited : Holdings → ℕ → Bool
 is_not_awaited c n = not (version_of c n).awaited
@@ -180,14 +180,14 @@ rules_of c (command.Start name base) =
     ∷ (has_no_room_for_version c name base, refusal.NoRoomForVersion) ∷ []
 rules_of c (command.Await n) =
     (has_no_version c n, refusal.NoSuchVersion) ∷ []
-rules_of c (command.Ask n dir path places) =
+rules_of c (command.Ask n dir path named) =
     (has_no_version c n, refusal.NoSuchVersion)
     ∷ (is_not_joined c n dir path, refusal.NotJoined)
-    ∷ (is_out_of_range c n dir path places, refusal.OutOfRange) ∷ []
-rules_of c (command.Explain n dir path places) =
+    ∷ (is_out_of_range c n dir path named, refusal.OutOfRange) ∷ []
+rules_of c (command.Explain n dir path named) =
     (has_no_version c n, refusal.NoSuchVersion)
     ∷ (is_not_joined c n dir path, refusal.NotJoined)
-    ∷ (is_out_of_range c n dir path places, refusal.OutOfRange)
+    ∷ (is_out_of_range c n dir path named, refusal.OutOfRange)
     ∷ (is_not_awaited c n, refusal.NotAwaited) ∷ []
 rules_of c (command.Show n node) =
     (has_no_version c n, refusal.NoSuchVersion)
@@ -199,4 +199,4 @@ first_of rules = option_map (λ (r : Bool × Refusal). r.1) (find (λ (r : Bool 
 
 -- how a command is judged: the first rule that holds refuses it, and else nothing does
 abbrev pub judged : Holdings → Command → Option Refusal
-judged c order = first_of (rules_of c order)
+judged c command = first_of (rules_of c command)

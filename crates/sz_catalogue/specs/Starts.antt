@@ -15,7 +15,7 @@ use Rattle.sz_spec.specs.Flows.{Graph}
 use Rattle.sz_spec.specs.FlowShapes.{node_inputs}
 use Rattle.sz_spec.specs.Paths.{Step}
 use Rattle.sz_script.specs.declared.command.BaseName.{BaseName}
-use Rattle.sz_script.specs.declared.command.Place.{Place}
+use Rattle.sz_script.specs.declared.command.NamedCell.{NamedCell}
 use Rattle.sz_catalogue.specs.Holdings.{Workflow, Base, Version, Holdings, array_version}
 use Rattle.sz_catalogue.specs.Holdings.{flow_named, no_workflow, shapes_of, outputs_over}
 
@@ -73,6 +73,6 @@ abbrev pub path_start : Dir → Version → List Step → Extent
 path_start dir v [] = no_extent
 path_start dir v (s ∷ path) = step_start dir v s
 
--- the cell of a place in a shape
-abbrev pub cell_of_place : Extent → Place → Cell
-cell_of_place e p = cell_in e p.layer p.row p.col
+-- the cell that is named, in a shape
+abbrev pub cell_named : Extent → NamedCell → Cell
+cell_named e x = cell_in e x.layer x.row x.col

@@ -9,7 +9,7 @@ ghost use Rattle.std.specs.Option.{option_copied};
 ghost use Rattle.std.specs.Result.{result_err};
 ghost use Rattle.sz_spec.specs.Flows.{is_well_formed};
 ghost use Rattle.sz_spec.specs.FlowShapes.{output_shapes};
-ghost use Rattle.sz_script.specs.declared.command.Command.TheVariants as order;
+ghost use Rattle.sz_script.specs.declared.command.Command.TheVariants as command;
 ghost use Rattle.sz_script.specs.declared.refusal.Refusal.TheVariants as rule;
 ghost use Rattle.sz_script.specs.Right.{is_right};
 ghost use Rattle.sz_catalogue.specs.Holdings.{no_holdings, array_version, flow_named};
@@ -26,7 +26,7 @@ use crate::lists::BaseArrays;
 use crate::memory::{another_flow, another_owner, own_name};
 use crate::paths::is_joined;
 use crate::reply::Reply;
-use crate::shapes::{cells_of, output_shapes};
+use crate::shapes::cells_of;
 use crate::strategies::{is_list_of, names_a_store};
 use crate::version::{BaseArray, HeldVersion, Run};
 use crate::versions::HeldVersions;
@@ -34,8 +34,8 @@ use std::alloc::Global;
 use std::marker::Model;
 use std::sync::Arc;
 use sz_cells::{NoMemory, Shape};
-use sz_script::{BaseName, Command, LineFault, Name, PathStep, Place, Refusal, StrategyList};
-use sz_spec::{Array, Dir, Flow, Strategy};
+use sz_script::{BaseName, Command, LineFault, Name, PathStep, NamedCell, Refusal, StrategyList};
+use sz_spec::{Array, Dir, Flow, Strategy, output_shapes};
 
 /// Everything held: arrays and flows by name, and versions by number.
 #[derive(Drop)]

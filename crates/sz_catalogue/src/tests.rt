@@ -9,7 +9,7 @@ ghost use Rattle.sz_catalogue.specs.Holdings.{shapes_of, output_cells};
 ghost use Rattle.sz_catalogue.specs.Rules.{are_lists_for};
 ghost use Rattle.sz_catalogue.specs.Changes.{changes_without_start};
 
-use crate::shapes::{cells_of, output_shapes};
+use crate::shapes::cells_of;
 use crate::version::base_shapes;
 use crate::{BaseArray, BaseArrays, Catalogue, HeldVersion, Reply, StrategyLists, reply_text};
 use std::alloc::Global;
@@ -17,7 +17,7 @@ use std::sync::Arc;
 use std::test::Fail;
 use sz_cells::{Cell, CellSet, Shape};
 use sz_script::{Command, LineFault, Name, StrategyList, read_line};
-use sz_spec::{Array, Flow, Node, Strategy};
+use sz_spec::{Array, Flow, Node, Strategy, output_shapes};
 
 /// A catalogue that keeps nothing with its versions.
 type Held = Catalogue<()>;

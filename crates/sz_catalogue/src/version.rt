@@ -14,13 +14,12 @@ ghost use Rattle.sz_catalogue.specs.Kept.{IsRun};
 use crate::carried::Carried;
 use crate::lists::{BaseArrays, StrategyLists};
 use crate::paths::source_of;
-use crate::shapes::output_shapes;
 use std::alloc::Global;
 use std::marker::Model;
 use std::sync::Arc;
 use sz_cells::{NoMemory, Shape};
 use sz_script::{Name, PathStep};
-use sz_spec::{Array, Dir, Flow, SourceRef};
+use sz_spec::{Array, Dir, Flow, SourceRef, output_shapes};
 
 /// A run of a flow: the flow and the name under which it is held, its base arrays, the strategies
 /// of its nodes as they were at the start, one list a node, whether it was awaited, and what is kept

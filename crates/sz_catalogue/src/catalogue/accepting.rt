@@ -5,7 +5,7 @@ ghost use Rattle.std.specs.List.{cons_option};
 ghost use Rattle.std.specs.Result.{result_err};
 ghost use Rattle.sz_spec.specs.Flows.{is_well_formed};
 ghost use Rattle.sz_spec.specs.FlowShapes.{output_shapes};
-ghost use Rattle.sz_script.specs.declared.command.Command.TheVariants as order;
+ghost use Rattle.sz_script.specs.declared.command.Command.TheVariants as command;
 ghost use Rattle.sz_script.specs.Right.{is_right};
 ghost use Rattle.sz_catalogue.specs.Holdings.{array_version, flow_named, version_numbered};
 ghost use Rattle.sz_catalogue.specs.Holdings.{shapes_of, output_cells};
@@ -53,9 +53,9 @@ impl<K: Carried> Catalogue<K> {
 
     /// Holds an array as the next version of a name.
     fn hold_array(&mut self, name: Name, array: Array) -> Result<Reply, NoMemory>
-        requires { judged self.old (order.Array name array) ≡ None }
+        requires { judged self.old (command.Array name array) ≡ None }
         ensures ok { IfOk result
-            (λ r. (self.new, response_of r) ≡ accepted self.old (order.Array name array)) }
+            (λ r. (self.new, response_of r) ≡ accepted self.old (command.Array name array)) }
         ensures err { OnErr result (self.new ≡ self.old) }
     {
         let size = u64::from(array.shape().size());
@@ -71,7 +71,7 @@ impl<K: Carried> Catalogue<K> {
     fn hold_flow(&mut self, name: Name, flow: Flow) -> Result<Reply, NoMemory>
         requires { is_well_formed flow ≡ true }
         ensures ok { IfOk result
-            (λ r. (self.new, response_of r) ≡ accepted self.old (order.Flow name flow)) }
+            (λ r. (self.new, response_of r) ≡ accepted self.old (command.Flow name flow)) }
         ensures err { OnErr result (self.new ≡ self.old) }
     {
         let held = HeldFlow::make(self.alloc, flow)?;
@@ -81,9 +81,9 @@ impl<K: Carried> Catalogue<K> {
 
     /// Sets the list of a node of a flow.
     fn set_list(&mut self, name: Name, node: u32, list: StrategyList) -> Reply
-        requires { judged self.old (order.Strategy name node list) ≡ None }
+        requires { judged self.old (command.Strategy name node list) ≡ None }
         ensures { (self.new, response_of result)
-            ≡ accepted self.old (order.Strategy name node list) }
+            ≡ accepted self.old (command.Strategy name node list) }
     {
         self.flows.set_list(name.as_str(), node, list);
         Reply::Strategy { name, node }
@@ -94,10 +94,10 @@ impl<K: Carried> Catalogue<K> {
     ///
     /// Takes time in the flow, in the base arrays, and in the logarithm of what is held.
     pub fn start(&mut self, name: Name, base: &[BaseName], kept: K) -> Result<Reply, NoMemory>
-        requires judged { judged self.old (order.Start name base.now) ≡ None }
+        requires judged { judged self.old (command.Start name base.now) ≡ None }
         requires kept { K.belongs kept (version_started self.old name base.now) }
         ensures ok { IfOk result
-            (λ r. (self.new, response_of r) ≡ accepted self.old (order.Start name base.now)) }
+            (λ r. (self.new, response_of r) ≡ accepted self.old (command.Start name base.now)) }
         ensures err { OnErr result (self.new ≡ self.old) }
     {
         let number = self.versions.next_number() as u32;
@@ -168,8 +168,8 @@ impl<K: Carried> Catalogue<K> {
 
     /// Notes that a version was awaited.
     fn await_version(&mut self, number: u32) -> Reply
-        requires { judged self.old (order.Await number) ≡ None }
-        ensures { (self.new, response_of result) ≡ accepted self.old (order.Await number) }
+        requires { judged self.old (command.Await number) ≡ None }
+        ensures { (self.new, response_of result) ≡ accepted self.old (command.Await number) }
     {
         self.versions.note_await(number);
         Reply::Done { version: number }

@@ -3,11 +3,11 @@ ghost use Rattle.std.specs.Prelude.{◌≡◌, ℕ, ◌≤◌, true, length, Lis
 ghost use Rattle.std.specs.List.{list_all};
 ghost use Rattle.sz_spec.specs.Flows.{Graph, is_well_formed};
 ghost use Rattle.sz_spec.specs.FlowShapes.{output_shapes};
-ghost use Rattle.sz_script.specs.declared.command.Command.TheVariants as order;
+ghost use Rattle.sz_script.specs.declared.command.Command.TheVariants as command;
 ghost use Rattle.sz_script.specs.declared.refusal.Refusal.TheVariants as rule;
 ghost use Rattle.sz_catalogue.specs.Holdings.{shapes_of};
 ghost use Rattle.sz_catalogue.specs.Starts.{bases_of};
-ghost use Rattle.sz_catalogue.specs.Rules.{judged, first_of, has_no_array, has_place};
+ghost use Rattle.sz_catalogue.specs.Rules.{judged, first_of, has_no_array, has_named_cell};
 ghost use Rattle.sz_catalogue.specs.Rules.{is_not_awaited};
 ghost use Rattle.sz_catalogue.specs.Kept.{refusal_by};
 ghost use Rattle.sz_catalogue.specs.Seen.{Judges};
@@ -16,12 +16,12 @@ ghost use Rattle.sz_script.specs.Right.{is_right};
 use super::{Catalogue, GREATEST_NUMBER, MOST_ARRAYS, MOST_CELLS, MOST_FLOWS};
 use crate::carried::Carried;
 use crate::paths::is_joined;
-use crate::shapes::{cells_of, output_shapes};
+use crate::shapes::cells_of;
 use crate::strategies::{is_list_of, names_a_store};
 use std::alloc::Global;
 use sz_cells::{NoMemory, Shape};
-use sz_script::{BaseName, Command, LineFault, PathStep, Place, Refusal};
-use sz_spec::{Array, Dir, Flow, Strategy};
+use sz_script::{BaseName, Command, LineFault, PathStep, NamedCell, Refusal};
+use sz_spec::{Array, Dir, Flow, Strategy, output_shapes};
 
 impl<K: Carried> Catalogue<K> {
     /// Whether a rule refuses a command, and which is the first that does. The command is one that
@@ -73,8 +73,8 @@ impl<K: Carried> Catalogue<K> {
 
     /// The rule that refuses an array.
     fn refusal_of_array(&self, array: &Array) -> Option<Refusal>
-        ensures one { (name : List ℕ) → result ≡ judged self.now (order.Array name array.now) }
-        ensures layers { (name : List ℕ) → result ≡ judged self.now (order.Layers name array.now) }
+        ensures one { (name : List ℕ) → result ≡ judged self.now (command.Array name array.now) }
+        ensures layers { (name : List ℕ) → result ≡ judged self.now (command.Layers name array.now) }
     {
         let size = u64::from(array.shape().size());
         if self.arrays.len() >= MOST_ARRAYS || self.cells + size > MOST_CELLS {
@@ -86,7 +86,7 @@ impl<K: Carried> Catalogue<K> {
 
     /// The rule that refuses a flow under a name.
     fn refusal_of_flow(&self, name: &str) -> Option<Refusal>
-        ensures { (flow : Graph) → result ≡ judged self.now (order.Flow name.now flow) }
+        ensures { (flow : Graph) → result ≡ judged self.now (command.Flow name.now flow) }
     {
         if self.flows.len() >= MOST_FLOWS || self.flows.get(name).is_some() {
             Some(Refusal::NoRoomForFlow)
@@ -97,7 +97,7 @@ impl<K: Carried> Catalogue<K> {
 
     /// The rule that refuses strategies of a node.
     fn refusal_of_strategies(&self, name: &str, node: u32, list: &[Strategy]) -> Option<Refusal>
-        ensures { result ≡ judged self.now (order.Strategy name.now node list.now) }
+        ensures { result ≡ judged self.now (command.Strategy name.now node list.now) }
     {
         let Some(held) = self.flows.get(name) else {
             return Some(Refusal::NoSuchFlow);
@@ -118,7 +118,7 @@ impl<K: Carried> Catalogue<K> {
         name: &str,
         base: &[BaseName],
     ) -> Result<Option<Refusal>, NoMemory>
-        ensures { IfOk result (λ r. r ≡ judged self.now (order.Start name.now base.now)) }
+        ensures { IfOk result (λ r. r ≡ judged self.now (command.Start name.now base.now)) }
     {
         let Some(held) = self.flows.get(name) else {
             return Ok(Some(Refusal::NoSuchFlow));
@@ -188,7 +188,7 @@ impl<K: Carried> Catalogue<K> {
 
     /// The rule that refuses an await.
     fn refusal_of_await(&self, number: u32) -> Option<Refusal>
-        ensures { result ≡ judged self.now (order.Await number) }
+        ensures { result ≡ judged self.now (command.Await number) }
     {
         match self.versions.get(number) {
             Some(_) => None,
@@ -202,9 +202,9 @@ impl<K: Carried> Catalogue<K> {
         number: u32,
         dir: Dir,
         path: &[PathStep],
-        places: &[Place],
+        cells: &[NamedCell],
     ) -> Option<Refusal>
-        ensures { result ≡ judged self.now (order.Ask number dir path.now places.now) }
+        ensures { result ≡ judged self.now (command.Ask number dir path.now cells.now) }
     {
         let Some(run) = self.versions.get(number) else {
             return Some(Refusal::NoSuchVersion);
@@ -212,7 +212,7 @@ impl<K: Carried> Catalogue<K> {
         if !is_joined(dir, run.flow(), path) {
             return Some(Refusal::NotJoined);
         }
-        if !are_places(run.step_start(dir, path[0]), places) {
+        if !holds_each(run.step_start(dir, path[0]), cells) {
             return Some(Refusal::OutOfRange);
         }
         None
@@ -224,11 +224,11 @@ impl<K: Carried> Catalogue<K> {
         number: u32,
         dir: Dir,
         path: &[PathStep],
-        places: &[Place],
+        cells: &[NamedCell],
     ) -> Option<Refusal>
-        ensures { result ≡ judged self.now (order.Explain number dir path.now places.now) }
+        ensures { result ≡ judged self.now (command.Explain number dir path.now cells.now) }
     {
-        match self.refusal_of_ask(number, dir, path, places) {
+        match self.refusal_of_ask(number, dir, path, cells) {
             Some(refusal) => Some(refusal),
             None => self.refusal_of_not_awaited(number),
         }
@@ -246,7 +246,7 @@ impl<K: Carried> Catalogue<K> {
 
     /// The rule that refuses a show.
     fn refusal_of_show(&self, number: u32, node: u32) -> Option<Refusal>
-        ensures { result ≡ judged self.now (order.Show number node) }
+        ensures { result ≡ judged self.now (command.Show number node) }
     {
         let Some(run) = self.versions.get(number) else {
             return Some(Refusal::NoSuchVersion);
@@ -258,9 +258,9 @@ impl<K: Carried> Catalogue<K> {
     }
 }
 
-/// Whether a shape has each of some places.
-fn are_places(shape: Shape, places: &[Place]) -> bool
-    ensures { result ≡ list_all (has_place shape) places.now }
+/// Whether a shape has each of some cells.
+fn holds_each(shape: Shape, cells: &[NamedCell]) -> bool
+    ensures { result ≡ list_all (has_named_cell shape) cells.now }
 {
-    places.iter().all(|place| shape.cell_in(place.layer, place.row, place.col).is_some())
+    cells.iter().all(|cell| shape.cell_in(cell.layer, cell.row, cell.col).is_some())
 }

@@ -1,6 +1,6 @@
 -- The outputs of a version that is awaited stay.
 use Rattle.std.proofs.Common.{ap, sym, ◌∙◌}
-use Rattle.sz_script.specs.declared.command.Command.TheVariants as order
+use Rattle.sz_script.specs.declared.command.Command.TheVariants as command
 use Rattle.sz_catalogue.specs.Holdings.{Holdings}
 use Rattle.sz_catalogue.specs.Rules.{judged}
 use Rattle.sz_catalogue.proofs.Counts.{await-cells}
@@ -13,7 +13,7 @@ invariant_of-self g c =
       flows = c.self.inside.flows;
       versions = c.self.inside.versions;
     } in
-    let taken = ap (λ (h : Holdings). judged h (order.Await c.args.number)) c.self.view_is ∙ c.requires in
+    let taken = ap (λ (h : Holdings). judged h (command.Await c.args.number)) c.self.view_is ∙ c.requires in
     rw c.note_await.ensures (record {
       counted = c.self.invariant.counted ∙ sym (await-cells held c.args.number taken);
       few_cells = c.self.invariant.few_cells;

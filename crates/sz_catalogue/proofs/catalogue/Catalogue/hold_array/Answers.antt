@@ -1,6 +1,6 @@
 -- A name has no more versions than arrays are held, so the number fits.
 use Rattle.std.proofs.Common.{arith, ap, ◌∙◌}
-use Rattle.sz_script.specs.declared.command.Command.TheVariants as order
+use Rattle.sz_script.specs.declared.command.Command.TheVariants as command
 use Rattle.sz_catalogue.specs.Holdings.{Holdings}
 use Rattle.sz_catalogue.specs.Rules.{judged}
 use Rattle.sz_catalogue.proofs.Names.{length-things_named}
@@ -14,7 +14,7 @@ overflow_cast-result g c =
       flows = c.self.inside.flows;
       versions = c.self.inside.versions;
     } in
-    let taken = ap (λ (h : Holdings). judged h (order.Array c.args.name c.args.array)) c.self.view_is ∙ c.requires in
+    let taken = ap (λ (h : Holdings). judged h (command.Array c.args.name c.args.array)) c.self.view_is ∙ c.requires in
     omega (
       arith,
       (array-room held c.args.name c.args.array taken).0,

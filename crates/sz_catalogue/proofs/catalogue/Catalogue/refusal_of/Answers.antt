@@ -2,7 +2,7 @@
 use Rattle.std.proofs.Common.{ap, ap₂, sym, ◌∙◌, List, ℕ}
 use Rattle.std.proofs.lemmas.Result.{IfOk-weaker}
 use Rattle.sz_script.specs.declared.command.BaseName.{BaseName}
-use Rattle.sz_script.specs.declared.command.Command.TheVariants as order
+use Rattle.sz_script.specs.declared.command.Command.TheVariants as command
 use Rattle.sz_catalogue.specs.Rules.{judged}
 use Rattle.sz_catalogue.proofs.catalogue.Catalogue.refusal_of.Goals as goal
 
@@ -17,14 +17,14 @@ returns-in-Layers g c =
 pub returns-in-Flow : goal.returns-in-Flow
 returns-in-Flow g c =
     c.refusal_of_flow.ensures c.in-Flow.flow
-    ∙ ap (λ (name : List ℕ). judged c.args.self.now (order.Flow name c.in-Flow.flow)) c.as_str.ensures
+    ∙ ap (λ (name : List ℕ). judged c.args.self.now (command.Flow name c.in-Flow.flow)) c.as_str.ensures
     ∙ ap (judged c.args.self.now) (sym c.in-Flow.is)
 
 pub returns-in-Start : goal.returns-in-Start
 returns-in-Start g c =
     IfOk-weaker c.refusal_of_start.result _ _
     (λ r p. p
-    ∙ ap₂ (λ (name : List ℕ) (base : List BaseName). judged c.args.self.now (order.Start name base))
+    ∙ ap₂ (λ (name : List ℕ) (base : List BaseName). judged c.args.self.now (command.Start name base))
     c.as_str-in-Start.ensures c.as_slice-in-Start.ensures
     ∙ ap (judged c.args.self.now) (sym c.in-Start.is))
     c.refusal_of_start.ensures

@@ -4,7 +4,7 @@ use Rattle.std.specs.Prelude.{Ok}
 use Rattle.std.specs.Result.{result_map_both}
 use Rattle.sz_spec.specs.FlowShapes.{output_shapes}
 use Rattle.sz_spec.proofs.FlowOutputs.{well-formed_parts}
-use Rattle.sz_catalogue.proofs.OutputShapes.{outputs-length}
+use Rattle.sz_spec.proofs.FlowShapes.{outputs-length}
 use Rattle.sz_catalogue.proofs.catalogue.Catalogue.refusal_of_shapes.Goals as goal
 
 pub refusal_of_outputs-requires : goal.refusal_of_outputs-requires
