@@ -14,7 +14,8 @@ use Rattle.sz_spec.specs.declared.modes.Strategy.TheVariants as strategy
 use Rattle.sz_spec.specs.Flows.{Graph}
 use Rattle.sz_spec.specs.Paths.{Step}
 use Rattle.sz_script.specs.declared.command.Command.TheVariants as command
-use Rattle.sz_catalogue.specs.Holdings.{Holdings, no_holdings}
+use Rattle.sz_catalogue.specs.Holdings.{Version, Holdings, no_holdings}
+use Rattle.sz_catalogue.specs.Changes.{way_of, traced}
 use Rattle.sz_catalogue.proofs.RowsSaid.{after, says, grid, step, named, base, a, f, version}
 
 -- ---- how long a path is
@@ -206,3 +207,52 @@ show-last = refl
 show-past : says narrowed (command.Show 1 3) ≡ codes "refused 20"
 unfolding digits
 show-past = refl
+
+-- ---- ways along a path that is another from its other end
+
+-- the same three nodes, the first two by black box and the last by its mapping
+abbrev uneven : Holdings
+uneven = after no_holdings (
+    command.Array a (grid (flat 1 4) (5 ∷ 6 ∷ 7 ∷ 8 ∷ []))
+    ∷ command.Flow f (record {
+      inputs = 1;
+      nodes =
+          record { op = op.Slice 0 0 1 3; from = Input 0 ∷ [] }
+          ∷ record { op = op.Slice 0 0 1 2; from = Output 0 ∷ [] }
+          ∷ record { op = op.Slice 0 0 1 1; from = Output 1 ∷ [] } ∷ [];
+    })
+    ∷ command.Strategy f 0 (strategy.BlackBox ∷ []) ∷ command.Strategy f 1 (strategy.BlackBox ∷ [])
+    ∷ command.Start f (base a 1 ∷ []) ∷ command.Await 1 ∷ [])
+
+explain-back : says uneven (command.Explain 1 Back (step 2 0 ∷ step 1 0 ∷ step 0 0 ∷ []) [])
+    ≡ codes "explain map blackbox blackbox traced 5"
+unfolding digits
+explain-back = refl
+
+explain-on : says uneven (command.Explain 1 Forward (step 0 0 ∷ step 1 0 ∷ step 2 0 ∷ []) [])
+    ≡ codes "explain blackbox blackbox map traced 5"
+unfolding digits
+explain-on = refl
+
+-- a version with lists of strategies that keep a store, so that the two directions differ node by node
+abbrev stored : Version
+stored = record version {
+  flow = chain 3;
+  lists =
+      (strategy.FullManyB ∷ strategy.FullOneB ∷ strategy.FullManyF ∷ [])
+      ∷ (strategy.FullManyB ∷ strategy.FullOneB ∷ [])
+      ∷ (strategy.CompMany ∷ strategy.PayMany ∷ strategy.CompOne ∷ [])
+      ∷ (strategy.BlackBox ∷ strategy.CompOne ∷ strategy.PayOne ∷ []) ∷ [];
+}
+
+ways-back : map (way_of stored Back) (step 3 0 ∷ step 2 0 ∷ step 1 0 ∷ step 0 0 ∷ [])
+    ≡ strategy.PayOne ∷ strategy.CompOne ∷ strategy.FullOneB ∷ strategy.FullOneB ∷ []
+ways-back = refl
+
+ways-on : map (way_of stored Forward) (step 0 0 ∷ step 1 0 ∷ step 2 0 ∷ step 3 0 ∷ [])
+    ≡ strategy.FullManyF ∷ strategy.FullOneB ∷ strategy.CompOne ∷ strategy.PayOne ∷ []
+ways-on = refl
+
+-- no node of it is traced
+traced-stored : traced stored Back (step 3 0 ∷ step 2 0 ∷ step 1 0 ∷ step 0 0 ∷ []) ≡ 0
+traced-stored = refl

@@ -58,6 +58,13 @@ impl<K: Carried> Model for HeldVersion<K> {
 }
 
 impl<K: Carried> HeldVersion<K> {
+    /// What is kept with the version. It belongs to it.
+    pub fn kept(&self) -> &K
+        ensures { K.belongs result.now self.now }
+    {
+        &self.kept
+    }
+
     /// Notes that the version was awaited.
     fn note_await(&mut self)
         ensures { self.new ≡ record self.old { awaited = true } }

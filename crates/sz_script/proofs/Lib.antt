@@ -10,6 +10,7 @@ pub mod LawsLines
 mod RowsTold
 mod RowsForms
 mod RowsFields
+mod RowsNames
 mod RowsRules
 mod RowsNodes
 mod RowsLayers

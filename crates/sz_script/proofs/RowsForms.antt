@@ -133,6 +133,44 @@ node-convolve : reading (one_base
 unfolding serde_json_on_literals is_utf8 chars
 node-convolve = refl
 
+-- the weights stand row by row, each row from its first, in kernels that no turn leaves as they are
+node-convolve_square : reading (one_base
+    ++ codes "{\"op\":\"convolve\",\"kernel\":[[1,2,3],[4,5,6],[7,8,9]],\"from\":[{\"i\":0}]}]}")
+    ≡ Ok (command.Flow (codes "f") (record {
+      inputs = 1;
+      nodes =
+          record {
+            op = op.Convolve (record {
+              rows = 3;
+              cols = 3;
+              weights =
+                  pos 1 ∷ pos 2 ∷ pos 3 ∷ pos 4 ∷ pos 5 ∷ pos 6 ∷ pos 7 ∷ pos 8 ∷ pos 9 ∷ [];
+            });
+            from = Input 0 ∷ [];
+          } ∷ [];
+    }))
+unfolding serde_json_on_literals is_utf8 chars
+node-convolve_square = refl
+
+node-convolve_wide : reading (one_base
+    ++ codes "{\"op\":\"convolve\",\"kernel\":[[1,-2,3,4,5],[6,7,8,9,0],[-1,2,0,4,8]],\"from\":[{\"i\":0}]}]}")
+    ≡ Ok (command.Flow (codes "f") (record {
+      inputs = 1;
+      nodes =
+          record {
+            op = op.Convolve (record {
+              rows = 3;
+              cols = 5;
+              weights =
+                  pos 1 ∷ negsuc 1 ∷ pos 3 ∷ pos 4 ∷ pos 5 ∷ pos 6 ∷ pos 7 ∷ pos 8 ∷ pos 9 ∷ pos 0
+                  ∷ negsuc 0 ∷ pos 2 ∷ pos 0 ∷ pos 4 ∷ pos 8 ∷ [];
+            });
+            from = Input 0 ∷ [];
+          } ∷ [];
+    }))
+unfolding serde_json_on_literals is_utf8 chars
+node-convolve_wide = refl
+
 -- the operator of each word, and the fold, of nodes one after another
 abbrev unary : List ℕ → List ℕ
 unary text = codes "{\"op\":" ++ text ++ codes ",\"from\":[{\"i\":0}]}"

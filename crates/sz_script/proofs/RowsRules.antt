@@ -171,6 +171,14 @@ name-minus : read_as (codes "{\"array\":\"a-b\",\"cells\":[[1]]}") ≡ 4 ∷ []
 unfolding serde_json_on_literals is_utf8 chars
 name-minus = refl
 
+name-point : read_as (codes "{\"array\":\"a.b\",\"cells\":[[1]]}") ≡ 4 ∷ []
+unfolding serde_json_on_literals is_utf8 chars
+name-point = refl
+
+name-blank : read_as (codes "{\"start\":\"f\",\"base\":[[\"a \",1]]}") ≡ 4 ∷ []
+unfolding serde_json_on_literals is_utf8 chars
+name-blank = refl
+
 name-escaped : read_as (codes "{\"\\u0061rray\":\"\\u0061\",\"cells\":[[1]]}") ≡ []
 unfolding serde_json_on_literals is_utf8 chars
 name-escaped = refl
