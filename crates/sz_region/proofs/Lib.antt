@@ -5,6 +5,7 @@ pub mod Places
 pub mod Inputs
 pub mod Fitting
 pub mod AllPieces
+pub mod Kept
 pub mod Spelling
 pub mod Folded
 pub mod FoldedCells

@@ -75,8 +75,11 @@ is_mode _ _ = false
 abbrev pub needs : List Strategy → Mode → Bool
 needs list m = list_any (λ s. is_mode m (mode_of s)) list
 
--- each part that the list needs fits piece k
+-- each part that the list needs fits piece k, and one that it does not need is empty
 pub record Fits (m : Measure) (list : List Strategy) (k : ℕ) (p : Parts) : Type 0 where
   pub full : needs list mode.Full ≡ true → FitsFull m k p.regions
   pub pay : needs list mode.Pay ≡ true → FitsPay m k p.pays
   pub comp : needs list mode.Comp ≡ true → FitsComp m k p.comps
+  pub no_full : needs list mode.Full ≡ false → p.regions ≡ []
+  pub no_pay : needs list mode.Pay ≡ false → p.pays ≡ []
+  pub no_comp : needs list mode.Comp ≡ false → p.comps ≡ []

@@ -108,4 +108,10 @@ returns-clause-fits g c =
           let is = inv.7 ∙ (rw (c.needs-3.ensures ∙ need, all) refl) in
           subst (FitsComp m c.args.k) (sym is) (comp-fits s inputs c.args.k c.requires.right (comp-unmapped s.op
           c.args.list.now c.requires.supported need));
+      no_full = λ need.
+          inv.5 ∙ (rw (c.needs.ensures ∙ need) refl);
+      no_pay = λ need.
+          inv.6 ∙ (rw (c.needs-2.ensures ∙ need) refl);
+      no_comp = λ need.
+          inv.7 ∙ (rw (c.needs-3.ensures ∙ need) refl);
     }
