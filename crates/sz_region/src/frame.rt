@@ -1,11 +1,11 @@
 //! The frame of all operators: what a run, a trace, a piece and an image do is written here once,
 //! over what differs from one operator to the next.
 
-ghost use Rattle.std.specs.Prelude.{◌≡◌, ◌<◌, ◌+◌, ◌^◌, List, true, false, length, IfOk};
+ghost use Rattle.std.specs.Prelude.{◌≡◌, ◌<◌, ◌+◌, ◌^◌, List, true, false, length, map, IfOk};
 ghost use Rattle.std.specs.Arc.{arc_value};
 ghost use Rattle.sz_cells.specs.Extent.{holds, index_of, size_of};
 ghost use Rattle.sz_cells.specs.Cells.{any_cell, has, with_those};
-ghost use Rattle.sz_spec.specs.Values.{Grid, extent_at};
+ghost use Rattle.sz_spec.specs.Values.{Grid, extent_at, extents_of, input_at};
 ghost use Rattle.sz_spec.specs.Shapes.{Site, IsSite};
 ghost use Rattle.sz_spec.specs.LawsShapes.{AreExtents};
 ghost use Rattle.sz_spec.specs.Lineage.{related, mapped};
@@ -19,7 +19,7 @@ use std::alloc::Global;
 use std::sync::Arc;
 use sz_cells::laws::a_shape_is_within_limits;
 use sz_cells::{Cell, CellBits, CellSet, NoMemory, Shape};
-use sz_spec::{OpAt, Value};
+use sz_spec::{Array, OpAt, Value};
 
 /// An operator at work over its inputs. What differs from one operator to the next is here; the
 /// rest of the frame is written over it.
@@ -98,4 +98,24 @@ pub fn right_shapes(at: &OpAt) -> Shape
         a_shape_is_within_limits(shape);
     }
     at.out()
+}
+
+/// The output's shape of an operator with its inputs. Its caller knows from now on that the
+/// operator is at work over them.
+pub fn at_work(at: &OpAt, inputs: &[Arc<Array>]) -> Shape
+    requires { extents_of (map (λ a. arc_value a) inputs.now) ≡ at.now.ins }
+    ensures value { result ≡ at.now.out }
+    ensures right { IsAtWork at.now (map (λ a. arc_value a) inputs.now) }
+{
+    right_shapes(at)
+}
+
+/// An input of an operator at work.
+pub fn input_of<'a>(at: &OpAt, inputs: &'a [Arc<Array>], input: u32) -> &'a Array
+    requires right { IsAtWork at.now (map (λ a. arc_value a) inputs.now) }
+    requires input { input < length at.now.ins }
+    ensures value { result.now ≡ input_at (map (λ a. arc_value a) inputs.now) input }
+    ensures shape { result.now.extent ≡ extent_at at.now.ins input }
+{
+    &inputs[input as usize]
 }

@@ -25,6 +25,7 @@ mod folding;
 mod frame;
 pub mod laws;
 mod lineage;
+mod mapping;
 mod payload;
 mod pieces;
 mod region;
@@ -35,8 +36,9 @@ mod tests;
 mod walks;
 
 pub use folding::Folding;
-pub use frame::{AtWork, right_shapes};
+pub use frame::{AtWork, at_work, input_of, right_shapes};
 pub use lineage::PieceLineage;
+pub use mapping::{MapOf, Mapped, Mapping};
 pub use payload::{PayEntry, Payload};
 pub use pieces::piece_by;
 pub use region::{Region, SetList};
