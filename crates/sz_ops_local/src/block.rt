@@ -22,8 +22,48 @@ use std::alloc::Global;
 use std::sync::Arc;
 use sz_cells::laws::a_shape_is_within_limits;
 use sz_cells::{Cell, CellBits, CellSet, NoMemory, Shape};
-use sz_region::add_cell;
+use sz_region::{Mapping, add_cell, input_of};
 use sz_spec::{Array, Fold, OpAt, Value};
+
+/// A fold of blocks between its shapes.
+#[derive(Drop)]
+pub struct FoldBlocks<'a> {
+    pub at: &'a OpAt,
+    pub fold: Fold,
+    pub h: u32,
+    pub w: u32,
+    ghost kind: { at.now.op ≡ Block fold h w },
+}
+
+impl<'a> Mapping for FoldBlocks<'a> {
+    ghost site = { λ b. b.at.now };
+
+    fn at(&self) -> &OpAt {
+        self.at
+    }
+
+    fn value(&self, inputs: &[Arc<Array>], out: Cell, _index: u32) -> Value {
+        self.at.ins(); // there is one input
+        let input = input_of(self.at, inputs, 0);
+        value(self.at, self.fold, self.h, self.w, input, out)
+    }
+
+    fn back_into(&self, out: Cell, input: u32, to: &mut CellBits) {
+        back_into(self.at, self.fold, self.h, self.w, out, input, to);
+    }
+
+    fn forward_into(&self, cell: Cell, input: u32, to: &mut CellBits) {
+        forward_into(self.at, self.fold, self.h, self.w, cell, input, to);
+    }
+
+    fn meets(&self, out: Cell, input: u32, from: &CellBits) -> bool {
+        meets(self.at, self.fold, self.h, self.w, out, input, from)
+    }
+
+    fn mapped_set(&self, alloc: Global, out: Cell, input: u32) -> Result<Arc<CellSet>, NoMemory> {
+        set(alloc, self.at, self.fold, self.h, self.w, out, input)
+    }
+}
 
 /// The value of an output cell: its block folded. Each cell of the block is read once.
 pub(crate) fn value(at: &OpAt, how: Fold, h: u32, w: u32, input: &Array, out: Cell) -> Value

@@ -17,7 +17,57 @@ use crate::numbers::of_numbers;
 use std::alloc::Global;
 use std::sync::Arc;
 use sz_cells::{Cell, CellBits, CellSet, NoMemory, Shape};
+use sz_region::Mapping;
 use sz_spec::{Array, Dir, OpAt, Value};
+
+/// An elementwise operator between its shapes.
+#[derive(Drop)]
+pub struct Elementwise<'a> {
+    pub at: &'a OpAt,
+    ghost kind: { is_elementwise at.now.op ≡ true },
+}
+
+impl<'a> Mapping for Elementwise<'a> {
+    ghost site = { λ e. e.at.now };
+
+    fn at(&self) -> &OpAt {
+        self.at
+    }
+
+    fn value(&self, inputs: &[Arc<Array>], out: Cell, index: u32) -> Value {
+        value(self.at, inputs, out, index)
+    }
+
+    fn back_into(&self, out: Cell, input: u32, to: &mut CellBits) {
+        back_into(self.at, out, input, to);
+    }
+
+    fn forward_into(&self, cell: Cell, input: u32, to: &mut CellBits) {
+        forward_into(self.at, cell, input, to);
+    }
+
+    fn meets(&self, out: Cell, input: u32, from: &CellBits) -> bool {
+        meets(self.at, out, input, from)
+    }
+
+    fn mapped_set(&self, alloc: Global, out: Cell, input: u32) -> Result<Arc<CellSet>, NoMemory> {
+        set(alloc, self.at, out, input)
+    }
+}
+
+impl<'a> Elementwise<'a> {
+    /// Adds the image of a set of cells under the mapping: the same cells, as they are at the same
+    /// places, all at once.
+    pub fn image(&self, dir: Dir, input: u32, from: &CellBits, to: &mut CellBits)
+        requires input { input < length self.now.at.now.ins }
+        requires from { from.now.extent ≡ near_side dir self.now.at.now input }
+        requires to { to.old.extent ≡ far_side dir self.now.at.now input }
+        ensures { let s = self.now.at.now in to.new ≡ with_those to.old
+            (has (image_in dir s input (mapped s.op s.ins input) from.now)) }
+    {
+        image(self.at, dir, input, from, to);
+    }
+}
 
 /// The value of an output cell, which has this row-major index: nothing where an input has nothing
 /// at its place.

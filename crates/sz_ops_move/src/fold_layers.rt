@@ -14,12 +14,51 @@ ghost use Rattle.sz_spec.specs.Evaluation.{value_of};
 ghost use Rattle.sz_region.specs.Single.{IsOnly};
 ghost use Rattle.sz_ops_move.specs.Moving.{is_in_line};
 
+use crate::single::{add_target, sides};
 use std::alloc::Global;
 use std::sync::Arc;
 use sz_cells::laws::a_shape_is_within_limits;
 use sz_cells::{Cell, CellBits, CellSet, NoMemory, Shape};
-use sz_region::Folding;
+use sz_region::{Folding, Mapping, input_of};
 use sz_spec::{Array, Fold, OpAt, Value};
+
+/// A fold of layers between its shapes.
+#[derive(Drop)]
+pub struct LayerFold<'a> {
+    pub at: &'a OpAt,
+    pub fold: Fold,
+    ghost kind: { at.now.op ≡ FoldLayers fold },
+}
+
+impl<'a> Mapping for LayerFold<'a> {
+    ghost site = { λ l. l.at.now };
+
+    fn at(&self) -> &OpAt {
+        self.at
+    }
+
+    fn value(&self, inputs: &[Arc<Array>], out: Cell, _index: u32) -> Value {
+        self.at.ins(); // there is one input
+        value(self.at, self.fold, input_of(self.at, inputs, 0), out)
+    }
+
+    fn back_into(&self, out: Cell, input: u32, to: &mut CellBits) {
+        back_into(self.at, self.fold, out, input, to);
+    }
+
+    fn forward_into(&self, cell: Cell, input: u32, to: &mut CellBits) {
+        sides(self.at); // there is one input
+        add_target(self.at, cell, Some(target(self.at, self.fold, cell)), input, to);
+    }
+
+    fn meets(&self, out: Cell, input: u32, from: &CellBits) -> bool {
+        meets(self.at, self.fold, out, input, from)
+    }
+
+    fn mapped_set(&self, alloc: Global, out: Cell, input: u32) -> Result<Arc<CellSet>, NoMemory> {
+        set(alloc, self.at, self.fold, out, input)
+    }
+}
 
 /// The value of an output cell. Each cell at its row and column is read once.
 pub(crate) fn value(at: &OpAt, how: Fold, input: &Array, out: Cell) -> Value

@@ -1,27 +1,30 @@
-//! The operators that move cells, transpose, slice and lookup, and the one that folds layers: their
-//! values, their lineage, and their images.
+//! The operators that move cells, transpose, slice and lookup, and the one that folds layers.
 //!
-//! A call of this crate is for these operators alone. `inputs` are the operator's, in their order,
-//! each with the shape that `at` has for it.
+//! [`Transposition`], [`Slicing`], [`LayerFold`] and [`Matching`] say what differs from one to the
+//! next: the value of a cell, and the cells to which it leads, each over an operator with its
+//! shapes. What any operator at work does is the frame of `sz_region`, and `sz_ops` chooses among
+//! the operators.
 //!
 //! ```
 //! // of two layers, of the cells 1 2 and 3 and an empty one, the sums are 4 2
 //! let at = OpAt::of(Op::FoldLayers { fold: Fold::Sum }, vec![in alloc; sky.shape()]?)?;
-//! let sums = run(alloc, &at, &[sky])?;
+//! let of = LayerFold { at: &at, fold: Fold::Sum };
+//! let sums = run_by(alloc, &Mapped { of, inputs: &[sky] })?;
 //! ```
 //!
-//! A further operator is a file beside `transpose`, and an arm in `work` and in `op_map`.
+//! A further operator is a file beside `transpose`. In `single` is what those share of which each
+//! cell leads to one cell or none.
 #![tactic(auto)]
 
-mod calls;
 mod fold_layers;
 mod lookup;
-mod op_map;
+mod single;
 mod slice;
 #[cfg(test)]
 mod tests;
 mod transpose;
-mod work;
 
-pub use calls::{Aid, image_by_map, piece, prepare, run, trace, value_at};
-pub use op_map::OpMap;
+pub use fold_layers::LayerFold;
+pub use lookup::Matching;
+pub use slice::Slicing;
+pub use transpose::Transposition;

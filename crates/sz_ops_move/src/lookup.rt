@@ -1,18 +1,103 @@
 //! Lookup: a cell of the first input names a column of the second, which is a table of one row.
 
-ghost use Rattle.std.specs.Prelude.{◌≡◌, ℤ, [], ◌∷◌, true, Option, option_map, IfSome, IfOk};
+ghost use Rattle.std.specs.Prelude.{◌≡◌, ◌<◌, ℤ, [], ◌∷◌, true, length, map, Option, option_map};
+ghost use Rattle.std.specs.Prelude.{IfSome, IfOk};
 ghost use Rattle.std.specs.Arc.{arc_value};
 ghost use Rattle.std.specs.Option.{option_map_or};
 ghost use Rattle.sz_cells.specs.Extent.{holds};
 ghost use Rattle.sz_cells.specs.SetBytes.{four_bytes};
+ghost use Rattle.sz_spec.specs.declared.op.Op.TheVariants.{Lookup};
+ghost use Rattle.sz_spec.specs.Values.{input_at, extent_at};
+ghost use Rattle.sz_spec.specs.Lineage.{related};
+ghost use Rattle.sz_spec.specs.Work.{IsAtWork};
+ghost use Rattle.sz_region.specs.Single.{IsOnly};
 ghost use Rattle.sz_spec.specs.Operators.Lookup.{column_of, match_of, entry_at, looked_up};
 
 use std::alloc::Global;
 use std::sync::Arc;
 use sz_cells::laws::a_shape_is_within_limits;
-use sz_cells::{Cell, NoMemory};
-use sz_region::Payload;
-use sz_spec::{Array, Value};
+use sz_cells::{Cell, CellBits, CellSet, NoMemory, Shape};
+use sz_region::{AtWork, Payload, add_cell, has_cell, input_of, set_of_cell};
+use sz_spec::{Array, OpAt, Value};
+
+/// A lookup at work over the array of columns and the table.
+#[derive(Drop)]
+pub struct Matching<'a> {
+    pub at: &'a OpAt,
+    pub inputs: &'a [Arc<Array>],
+    ghost kind: { at.now.op ≡ Lookup },
+}
+
+impl<'a> AtWork for Matching<'a> {
+    ghost site = { λ m. m.at.now };
+
+    ghost inputs = { λ m. map (λ a. arc_value a) m.inputs.now };
+
+    fn out(&self) -> Shape {
+        self.at.out()
+    }
+
+    fn arity(&self) -> u32 {
+        self.at.ins().len() as u32
+    }
+
+    fn value(&self, out: Cell, _index: u32) -> Value {
+        value(self.input(0), self.input(1), out)
+    }
+
+    fn back_into(&self, out: Cell, input: u32, to: &mut CellBits) {
+        add_cell(to, self.cell_of(out, input));
+    }
+
+    fn meets(&self, out: Cell, input: u32, from: &CellBits) -> bool {
+        from.shape(); // the set is that of its cells
+        has_cell(from, self.cell_of(out, input))
+    }
+
+    fn related_set(&self, alloc: Global, out: Cell, input: u32) -> Result<Arc<CellSet>, NoMemory> {
+        let shape = self.at.ins()[input as usize];
+        set_of_cell(alloc, shape, self.cell_of(out, input))
+    }
+
+    fn payload(&self, alloc: Global, out: Cell) -> Result<Arc<Payload>, NoMemory> {
+        payload(alloc, self.input(0), self.input(1), out)
+    }
+
+    fn overrides(&self, out: Cell) -> bool {
+        matched(self.input(0), self.input(1), out).is_some()
+    }
+}
+
+impl<'a> Matching<'a> {
+    /// One of the two inputs.
+    fn input(&self, input: u32) -> &Array
+        requires right { IsAtWork self.now.at.now (map (λ a. arc_value a) self.now.inputs.now) }
+        requires input { input < 2 }
+        ensures value { result.now
+            ≡ input_at (map (λ a. arc_value a) self.now.inputs.now) input }
+        ensures shape { result.now.extent ≡ extent_at self.now.at.now.ins input }
+    {
+        self.at.ins(); // there are two inputs
+        input_of(self.at, self.inputs, input)
+    }
+
+    /// The cell of an input to which an output cell is related, where there is one.
+    fn cell_of(&self, out: Cell, input: u32) -> Option<Cell>
+        requires right { IsAtWork self.now.at.now (map (λ a. arc_value a) self.now.inputs.now) }
+        requires out { holds self.now.at.now.out out ≡ true }
+        requires input { input < length self.now.at.now.ins }
+        ensures held { IfSome result (λ c. holds (extent_at self.now.at.now.ins input) c ≡ true) }
+        ensures only { IsOnly (extent_at self.now.at.now.ins input)
+            (related self.now.at.now.op (map (λ a. arc_value a) self.now.inputs.now) input out)
+            result }
+    {
+        if input == 0 {
+            Some(out)
+        } else {
+            matched(self.input(0), self.input(1), out)
+        }
+    }
+}
 
 /// The value of an output cell: that of the table's cell in the column that is named.
 pub(crate) fn value(first: &Array, table: &Array, out: Cell) -> Value

@@ -8,9 +8,67 @@ ghost use Rattle.sz_spec.specs.Evaluation.{value_in};
 ghost use Rattle.sz_spec.specs.Lineage.{mapped};
 ghost use Rattle.sz_region.specs.Single.{IsOnly};
 
-use crate::op_map::sides;
-use sz_cells::Cell;
+use crate::single::{add_source, add_target, has_source, set_of_source, sides};
+use std::alloc::Global;
+use std::sync::Arc;
+use sz_cells::{Cell, CellBits, CellSet, NoMemory};
+use sz_region::{Mapping, input_of};
 use sz_spec::{Array, OpAt, Value};
+
+/// A slice between its shapes.
+#[derive(Drop)]
+pub struct Slicing<'a> {
+    pub at: &'a OpAt,
+    pub r0: u32,
+    pub c0: u32,
+    pub h: u32,
+    pub w: u32,
+    ghost kind: { at.now.op ≡ Slice r0 c0 h w },
+}
+
+impl<'a> Slicing<'a> {
+    /// The cell of the input to which an output cell is mapped.
+    fn source(&self, out: Cell) -> Cell
+        requires { holds self.now.at.now.out out ≡ true }
+        ensures held { holds (extent_at self.now.at.now.ins 0) result ≡ true }
+        ensures only { let s = self.now.at.now in
+            IsOnly (extent_at s.ins 0) (mapped s.op s.ins 0 out) (Some result) }
+    {
+        source(self.at, self.r0, self.c0, self.h, self.w, out)
+    }
+}
+
+impl<'a> Mapping for Slicing<'a> {
+    ghost site = { λ s. s.at.now };
+
+    fn at(&self) -> &OpAt {
+        self.at
+    }
+
+    fn value(&self, inputs: &[Arc<Array>], out: Cell, _index: u32) -> Value {
+        self.at.ins(); // there is one input
+        let input = input_of(self.at, inputs, 0);
+        value(self.at, self.r0, self.c0, self.h, self.w, input, out)
+    }
+
+    fn back_into(&self, out: Cell, input: u32, to: &mut CellBits) {
+        add_source(self.at, out, self.source(out), input, to);
+    }
+
+    fn forward_into(&self, cell: Cell, input: u32, to: &mut CellBits) {
+        sides(self.at); // there is one input
+        let target = target(self.at, self.r0, self.c0, self.h, self.w, cell);
+        add_target(self.at, cell, target, input, to);
+    }
+
+    fn meets(&self, out: Cell, input: u32, from: &CellBits) -> bool {
+        has_source(self.at, out, self.source(out), input, from)
+    }
+
+    fn mapped_set(&self, alloc: Global, out: Cell, input: u32) -> Result<Arc<CellSet>, NoMemory> {
+        set_of_source(alloc, self.at, out, self.source(out), input)
+    }
+}
 
 /// The value of an output cell.
 pub(crate) fn value(at: &OpAt, r0: u32, c0: u32, h: u32, w: u32, input: &Array, out: Cell) -> Value

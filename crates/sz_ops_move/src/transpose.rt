@@ -8,9 +8,49 @@ ghost use Rattle.sz_spec.specs.Evaluation.{value_in};
 ghost use Rattle.sz_spec.specs.Lineage.{mapped};
 ghost use Rattle.sz_region.specs.Single.{IsOnly};
 
-use crate::op_map::sides;
-use sz_cells::Cell;
+use crate::single::{add_source, add_target, has_source, set_of_source, sides};
+use std::alloc::Global;
+use std::sync::Arc;
+use sz_cells::{Cell, CellBits, CellSet, NoMemory};
+use sz_region::{Mapping, input_of};
 use sz_spec::{Array, OpAt, Value};
+
+/// A transposition between its shapes.
+#[derive(Drop)]
+pub struct Transposition<'a> {
+    pub at: &'a OpAt,
+    ghost kind: { at.now.op ≡ Transpose },
+}
+
+impl<'a> Mapping for Transposition<'a> {
+    ghost site = { λ t. t.at.now };
+
+    fn at(&self) -> &OpAt {
+        self.at
+    }
+
+    fn value(&self, inputs: &[Arc<Array>], out: Cell, _index: u32) -> Value {
+        self.at.ins(); // there is one input
+        value(self.at, input_of(self.at, inputs, 0), out)
+    }
+
+    fn back_into(&self, out: Cell, input: u32, to: &mut CellBits) {
+        add_source(self.at, out, source(self.at, out), input, to);
+    }
+
+    fn forward_into(&self, cell: Cell, input: u32, to: &mut CellBits) {
+        sides(self.at); // there is one input
+        add_target(self.at, cell, Some(target(self.at, cell)), input, to);
+    }
+
+    fn meets(&self, out: Cell, input: u32, from: &CellBits) -> bool {
+        has_source(self.at, out, source(self.at, out), input, from)
+    }
+
+    fn mapped_set(&self, alloc: Global, out: Cell, input: u32) -> Result<Arc<CellSet>, NoMemory> {
+        set_of_source(alloc, self.at, out, source(self.at, out), input)
+    }
+}
 
 /// The value of an output cell.
 pub(crate) fn value(at: &OpAt, input: &Array, out: Cell) -> Value

@@ -16,7 +16,7 @@ use Rattle.sz_spec.specs.Shapes.{Site, IsSite, arity, shape_of}
 use Rattle.sz_spec.specs.Weights.{Weights}
 use Rattle.sz_spec.specs.Operators.Convolve.{is_convolved}
 use Rattle.sz_spec.specs.Operators.Clean.{is_hot, is_in_square}
-use Rattle.sz_spec.specs.Lineage.{related}
+use Rattle.sz_spec.specs.Lineage.{mapped, related}
 use Rattle.sz_spec.specs.Work.{IsAtWork}
 use Rattle.sz_region.proofs.Inputs.{input-extent}
 use Rattle.sz_ops_window.specs.Windowed.{is_windowed}
@@ -57,13 +57,16 @@ pub input-shape : (s : Site) (inputs : List Grid) → is_windowed s.op ≡ true 
 input-shape s inputs h work =
     input-extent s inputs 0 work ∙ ap (λ (es : List Extent). extent_at es 0) (one-input s h work.site)
 
--- a convolution relates a cell to the cells under its kernel
-pub convolve-related : (s : Site) (inputs : List Grid) (kernel : Weights) (o x : Cell) → s.op ≡ Convolve kernel
-    → is_windowed s.op ≡ true → IsAtWork s inputs → is_convolved s.out kernel o x ≡ related s.op inputs 0 o x
-convolve-related s inputs kernel o x is h work =
-    let at : extent_at (extents_of inputs) 0 ≡ s.out =
-    ap (λ (es : List Extent). extent_at es 0) (work.shapes ∙ one-input s h work.site) in
-    rw is (ap (λ (e : Extent). is_convolved e kernel o x) (sym at))
+-- a convolution leads to the cells under its kernel
+pub convolve-mapped : (s : Site) (kernel : Weights) (i : ℕ) (o x : Cell) → s.op ≡ Convolve kernel
+    → s.ins ≡ s.out ∷ [] → i < length s.ins → is_convolved s.out kernel o x ≡ mapped s.op s.ins i o x
+convolve-mapped s kernel i o x is ins few =
+    rw (is, no-other_input s i ins few)
+    (ap (λ (e : Extent). is_convolved e kernel o x) (sym (ap (λ (es : List Extent). extent_at es 0) ins)))
+
+-- clean is one of these operators
+pub clean-windowed : (s : Site) (t : ℤ) → s.op ≡ Clean t → is_windowed s.op ≡ true
+clean-windowed s t is = rw is refl
 
 -- clean relates a hot cell to its square, and any other to itself
 pub hot-related : (s : Site) (inputs : List Grid) (t : ℤ) (o x : Cell) → s.op ≡ Clean t → is_windowed s.op ≡ true

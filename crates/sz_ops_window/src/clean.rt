@@ -1,15 +1,104 @@
 //! Clean: a hot cell becomes the least number round it that is not hot.
 
-ghost use Rattle.std.specs.Prelude.{◌≡◌, ◌≤◌, ◌<◌, true, None};
+ghost use Rattle.std.specs.Prelude.{◌≡◌, ◌≤◌, ◌<◌, ◌∷◌, [], true, map, None};
+ghost use Rattle.std.specs.Arc.{arc_value};
 ghost use Rattle.sz_cells.specs.declared.Cell.{Cell};
 ghost use Rattle.sz_cells.specs.Extent.{holds};
+ghost use Rattle.sz_spec.specs.declared.op.Op.TheVariants.{Clean};
+ghost use Rattle.sz_spec.specs.Values.{input_at};
+ghost use Rattle.sz_spec.specs.Lineage.{related};
+ghost use Rattle.sz_spec.specs.Work.{IsAtWork};
+ghost use Rattle.sz_spec.specs.Operators.Convolve.{is_convolved};
 ghost use Rattle.sz_spec.specs.Operators.Clean.{is_hot, is_in_square, cleaned_at};
 ghost use Rattle.sz_ops_window.specs.Least.{is_in_window, with_value, with_row, with_rows};
 
+use crate::mask::Mask;
+use crate::under::{add_under, meets_under, same_shape, set_under};
 use crate::window::Window;
+use std::alloc::Global;
+use std::sync::Arc;
 use sz_cells::laws::a_shape_is_within_limits;
-use sz_cells::{Cell, Shape};
-use sz_spec::{Array, Value};
+use sz_cells::{Cell, CellBits, CellSet, NoMemory, Shape};
+use sz_region::{AtWork, Payload, input_of};
+use sz_spec::{Array, Dir, OpAt, Value};
+
+/// Cleaning at work over its input.
+#[derive(Drop)]
+pub struct Cleaning<'a> {
+    pub at: &'a OpAt,
+    pub inputs: &'a [Arc<Array>],
+    pub t: i64,
+    ghost kind: { at.now.op ≡ Clean t },
+}
+
+impl<'a> AtWork for Cleaning<'a> {
+    ghost site = { λ c. c.at.now };
+
+    ghost inputs = { λ c. map (λ a. arc_value a) c.inputs.now };
+
+    fn out(&self) -> Shape {
+        self.at.out()
+    }
+
+    fn arity(&self) -> u32 {
+        self.at.ins().len() as u32
+    }
+
+    fn value(&self, out: Cell, _index: u32) -> Value {
+        value(self.t, self.input(), out)
+    }
+
+    fn back_into(&self, out: Cell, _input: u32, to: &mut CellBits) {
+        add_under(self.at.out(), &self.window(out), Dir::Back, out, to);
+    }
+
+    fn meets(&self, out: Cell, _input: u32, from: &CellBits) -> bool {
+        from.shape(); // the set is that of its cells
+        meets_under(self.at.out(), &self.window(out), out, from)
+    }
+
+    fn related_set(&self, alloc: Global, out: Cell, _input: u32) -> Result<Arc<CellSet>, NoMemory> {
+        set_under(alloc, self.at.out(), &self.window(out), out)
+    }
+
+    fn payload(&self, alloc: Global, out: Cell) -> Result<Arc<Payload>, NoMemory> {
+        let mut bytes = Vec::new(alloc);
+        bytes.push(u8::from(is_hot(self.t, self.input(), out)))?;
+        Ok(Arc::new(alloc, Payload::of(bytes))?)
+    }
+
+    fn overrides(&self, out: Cell) -> bool {
+        is_hot(self.t, self.input(), out)
+    }
+}
+
+impl<'a> Cleaning<'a> {
+    /// The input.
+    fn input(&self) -> &Array
+        requires { IsAtWork self.now.at.now (map (λ a. arc_value a) self.now.inputs.now) }
+        ensures value { result.now ≡ input_at (map (λ a. arc_value a) self.now.inputs.now) 0 }
+        ensures shape { result.now.extent ≡ self.now.at.now.out }
+    {
+        same_shape(self.at);
+        input_of(self.at, self.inputs, 0)
+    }
+
+    /// The window under which lie exactly the cells to which an output cell is related: the square
+    /// of a hot cell, and any other cell alone.
+    fn window(&self, out: Cell) -> Mask<'_>
+        requires right { IsAtWork self.now.at.now (map (λ a. arc_value a) self.now.inputs.now) }
+        requires out { holds self.now.at.now.out out ≡ true }
+        ensures { (x : Cell) → holds self.now.at.now.out x ≡ true
+            → is_convolved self.now.at.now.out result out x
+            ≡ related self.now.at.now.op (map (λ a. arc_value a) self.now.inputs.now) 0 out x }
+    {
+        if is_hot(self.t, self.input(), out) {
+            Mask::nine()
+        } else {
+            Mask::one()
+        }
+    }
+}
 
 /// The value of an output cell. Of a hot cell, each cell of the square round it that is in its
 /// layer is looked at once. Which these are is found once: no cell of the square is tested for its

@@ -2,16 +2,73 @@
 
 ghost use Rattle.std.specs.Prelude.{◌≡◌, ◌≤◌, ◌<◌, ◌+◌, ◌-◌, ◌*◌, ◌/◌, true, IfSome};
 ghost use Rattle.sz_cells.specs.Extent.{holds, is_extent};
+ghost use Rattle.sz_spec.specs.declared.op.Op.TheVariants.{Convolve};
 ghost use Rattle.sz_spec.specs.Values.{fit};
 ghost use Rattle.sz_spec.specs.Weights.{is_weight, is_kernel};
 ghost use Rattle.sz_spec.specs.Operators.Convolve.{convolved_at};
 ghost use Rattle.sz_ops_window.specs.Sums.{times, part_of, sum_from, reach_of, IsWithin};
 
 use crate::mask::{Mask, a_mask_is_a_kernel};
+use crate::under::{add_under, meets_under, same_shape, set_under};
 use crate::window::Window;
+use std::alloc::Global;
+use std::sync::Arc;
 use sz_cells::laws::a_shape_is_within_limits;
-use sz_cells::{Cell, Shape};
-use sz_spec::{Array, Value};
+use sz_cells::{Cell, CellBits, CellSet, NoMemory, Shape};
+use sz_region::{Mapping, input_of};
+use sz_spec::{Array, Dir, Kernel, OpAt, Value};
+
+/// A convolution between its shapes.
+#[derive(Drop)]
+pub struct Convolution<'a> {
+    pub at: &'a OpAt,
+    pub kernel: &'a Kernel,
+    ghost kind: { at.now.op ≡ Convolve kernel.now },
+}
+
+impl<'a> Mapping for Convolution<'a> {
+    ghost site = { λ c. c.at.now };
+
+    fn at(&self) -> &OpAt {
+        self.at
+    }
+
+    fn value(&self, inputs: &[Arc<Array>], out: Cell, _index: u32) -> Value {
+        same_shape(self.at);
+        value(&self.mask(), input_of(self.at, inputs, 0), out)
+    }
+
+    fn back_into(&self, out: Cell, _input: u32, to: &mut CellBits) {
+        let shape = same_shape(self.at);
+        add_under(shape, &self.mask(), Dir::Back, out, to);
+    }
+
+    fn forward_into(&self, cell: Cell, _input: u32, to: &mut CellBits) {
+        let shape = same_shape(self.at);
+        add_under(shape, &self.mask(), Dir::Forward, cell, to);
+    }
+
+    fn meets(&self, out: Cell, _input: u32, from: &CellBits) -> bool {
+        let shape = same_shape(self.at);
+        from.shape(); // the set is that of its cells
+        meets_under(shape, &self.mask(), out, from)
+    }
+
+    fn mapped_set(&self, alloc: Global, out: Cell, _input: u32) -> Result<Arc<CellSet>, NoMemory> {
+        let shape = same_shape(self.at);
+        set_under(alloc, shape, &self.mask(), out)
+    }
+}
+
+impl<'a> Convolution<'a> {
+    /// The weights.
+    fn mask(&self) -> Mask<'_>
+        ensures { result ≡ self.now.kernel.now }
+    {
+        self.at.op(); // so the kernel is right
+        Mask::of(self.kernel)
+    }
+}
 
 /// The value of an output cell: the sum under the kernel, fitted once. Each weight whose cell is in
 /// the layer is looked at once. Which these are is found once a cell, and where the whole kernel

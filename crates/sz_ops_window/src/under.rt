@@ -1,10 +1,13 @@
 //! The cells under the weights of a window that are not 0, tap by tap.
 
-ghost use Rattle.std.specs.Prelude.{◌≡◌, ◌<◌, ◌*◌, ◌^◌, ◌++◌, true, Option, IfSome, IfOk, OnOk};
+ghost use Rattle.std.specs.Prelude.{◌≡◌, ◌<◌, ◌*◌, ◌^◌, ◌++◌, ◌∷◌, [], true, Option, IfSome};
+ghost use Rattle.std.specs.Prelude.{IfOk, OnOk};
 ghost use Rattle.std.specs.Arc.{arc_value};
 ghost use Rattle.std.specs.Option.{option_to_list};
 ghost use Rattle.sz_cells.specs.Extent.{holds, layer_of, row_in};
 ghost use Rattle.sz_cells.specs.Cells.{any_cell, cells_where, with_those};
+ghost use Rattle.sz_spec.specs.Shapes.{IsSite};
+ghost use Rattle.sz_ops_window.specs.Windowed.{is_windowed};
 ghost use Rattle.sz_spec.specs.Operators.Convolve.{is_convolved};
 ghost use Rattle.sz_region.specs.Walks.{steps};
 ghost use Rattle.sz_region.specs.Single.{IsOnly};
@@ -15,8 +18,18 @@ use std::alloc::Global;
 use std::sync::Arc;
 use sz_cells::laws::a_shape_is_within_limits;
 use sz_cells::{Cell, CellBits, CellSet, NoMemory, Shape};
-use sz_region::{add_cell, has_cell};
-use sz_spec::Dir;
+use sz_region::{add_cell, has_cell, right_shapes};
+use sz_spec::{Dir, OpAt};
+
+/// The shape that a windowed operator's input and its output have.
+pub(crate) fn same_shape(at: &OpAt) -> Shape
+    requires { is_windowed at.now.op ≡ true }
+    ensures out { result ≡ at.now.out }
+    ensures site { IsSite at.now }
+    ensures ins { at.now.ins ≡ at.now.out ∷ [] }
+{
+    right_shapes(at)
+}
 
 /// Adds the cells to which a window's taps lead from a cell: backward those under the weights,
 /// forward those on which the middle lies. Each tap is looked at once. Takes no memory.

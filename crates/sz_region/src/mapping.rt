@@ -4,21 +4,20 @@
 ghost use Rattle.std.specs.Prelude.{◌≡◌, ◌<◌, true, length, map, IfOk};
 ghost use Rattle.std.specs.Arc.{arc_value};
 ghost use Rattle.sz_cells.specs.Extent.{holds, index_of};
-ghost use Rattle.sz_cells.specs.Cells.{any_cell, cells_where, has, with_those};
+ghost use Rattle.sz_cells.specs.Cells.{any_cell, cells_where, with_those};
 ghost use Rattle.sz_spec.specs.Values.{extent_at};
 ghost use Rattle.sz_spec.specs.Shapes.{Site};
 ghost use Rattle.sz_spec.specs.Lineage.{mapped};
 ghost use Rattle.sz_spec.specs.Modes.{has_mapping};
 ghost use Rattle.sz_spec.specs.Evaluation.{value_of};
 ghost use Rattle.sz_spec.specs.Work.{IsAtWork};
-ghost use Rattle.sz_spec.specs.Sides.{near_side, far_side, image_in};
 
 use crate::frame::AtWork;
 use crate::payload::Payload;
 use std::alloc::Global;
 use std::sync::Arc;
 use sz_cells::{Cell, CellBits, CellSet, NoMemory, Shape};
-use sz_spec::{Array, Dir, Mapper, OpAt, Value};
+use sz_spec::{Array, Mapper, OpAt, Value};
 
 /// An operator between its shapes whose lineage is a mapping of cells. What differs from one such
 /// operator to the next is here. None of its calls but `mapped_set` takes memory.
@@ -67,15 +66,6 @@ pub trait Mapping {
         requires input { input < length (site self.now).ins }
         ensures { let s = site self.now in IfOk result
             (λ c. arc_value c ≡ cells_where (extent_at s.ins input) (mapped s.op s.ins input out)) };
-
-    /// Adds the image of a set of cells under the mapping: by the cells of the set, which
-    /// `image_by` takes one by one.
-    fn image(&self, dir: Dir, input: u32, from: &CellBits, to: &mut CellBits)
-        requires input { input < length (site self.now).ins }
-        requires from { from.now.extent ≡ near_side dir (site self.now) input }
-        requires to { to.old.extent ≡ far_side dir (site self.now) input }
-        ensures { let s = site self.now in to.new ≡ with_those to.old
-            (has (image_in dir s input (mapped s.op s.ins input) from.now)) };
 }
 
 /// A mapping that is lent, by itself.

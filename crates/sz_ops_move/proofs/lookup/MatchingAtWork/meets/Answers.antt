@@ -1,0 +1,17 @@
+-- Exactly the cell that is there is related.
+use Rattle.std.proofs.Common.{map, ◌∙◌}
+use Rattle.std.specs.Arc.{arc_value}
+use Rattle.sz_spec.specs.Values.{extent_at}
+use Rattle.sz_spec.specs.Lineage.{related}
+use Rattle.sz_region.proofs.Added.{own-at}
+use Rattle.sz_region.proofs.OneCell.{any-only}
+use Rattle.sz_ops_move.proofs.lookup.MatchingAtWork.meets.Goals as goal
+
+pub returns : goal.returns
+returns c =
+    let s = c.args.self.now.at.now in
+    let grids = map (λ a. arc_value a) c.args.self.now.inputs.now in
+    let e = extent_at s.ins c.args.input in
+    c.has_cell.ensures
+    ∙ any-only c.args.from.now e (related s.op grids c.args.input c.args.out) c.cell_of.result
+    (own-at c.args.from.now e c.requires.from c.shape.ensures.rising) c.cell_of.ensures.only
