@@ -1,13 +1,17 @@
-//! The operator of connected regions: its values and its lineage.
+//! The operator of connected regions.
 //!
-//! A call of this crate is for this operator alone. `inputs` is the one array that it takes, with
-//! the shape that `at` has for it. The components of the array's high cells are found once, by
-//! [`prepare`], and each is kept once, whatever the number of its cells.
+//! [`Labelling`] is the operator at work over its input: the label of a cell, and the cells to
+//! which it is related. What any operator at work does is the frame of `sz_region`, and `sz_ops`
+//! chooses among the operators. The components of the array's high cells are found once, by
+//! [`prepare`], and each is kept once, whatever the number of its cells. [`trace`] adds each of
+//! them once.
 //!
 //! ```
 //! // the rows 9 9 0, 0 9 0 and 9 0 0, from 5 on, are numbered 1 1 0, 0 1 0 and 7 0 0
 //! let at = OpAt::of(Op::Regions { t: 5 }, vec![in alloc; sky.shape()]?)?;
-//! let aid = prepare(alloc, &at, &[sky])?;
+//! let inputs = [sky];
+//! let aid = prepare(alloc, &at, &inputs)?;
+//! let numbers = run_by(alloc, &Labelling { at: &at, inputs: &inputs, aid: &aid, t: 5 })?;
 //! ```
 //!
 //! The path of the components: `marks` says of each cell what is known of it, `fill` numbers the
@@ -17,7 +21,6 @@
 #![tactic(auto)]
 
 mod aid;
-mod calls;
 mod fill;
 mod marks;
 mod run_lists;
@@ -28,5 +31,5 @@ mod walk;
 mod work;
 
 pub use aid::Aid;
-pub use calls::{piece, prepare, run, value_at};
 pub use walk::trace;
+pub use work::{Labelling, prepare};

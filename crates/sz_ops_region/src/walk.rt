@@ -13,8 +13,7 @@ ghost use Rattle.sz_region.specs.Walks.{traced};
 ghost use Rattle.sz_ops_region.specs.Regions.{is_regions};
 ghost use Rattle.sz_ops_region.specs.Tracing.{AreMarked};
 
-use crate::calls::prepare;
-use crate::work::{Work, threshold};
+use crate::work::{Labelling, prepare, threshold};
 use std::alloc::Global;
 use std::sync::Arc;
 use sz_cells::{Cell, CellBits, NoMemory};
@@ -47,7 +46,7 @@ pub fn trace(
     let t = threshold(at);
     let aid = prepare(alloc, at, inputs)?;
     let mut marks = CellBits::new(alloc, at.out())?;
-    let work = Work {
+    let work = Labelling {
         at,
         inputs,
         aid: &aid,
@@ -60,7 +59,7 @@ pub fn trace(
 /// Adds the cells to which those of a set are related. It is the image in both directions, since
 /// the relation goes both ways.
 fn trace_cells(
-    work: &Work,
+    work: &Labelling,
     from: &CellBits,
     to: &mut CellBits,
     marks: &mut CellBits,
@@ -87,7 +86,7 @@ fn trace_cells(
 }
 
 /// Adds the cells to which a cell is related, where it is in the set and they are not there yet.
-fn trace_cell(work: &Work, cell: Cell, from: &CellBits, to: &mut CellBits, marks: &mut CellBits)
+fn trace_cell(work: &Labelling, cell: Cell, from: &CellBits, to: &mut CellBits, marks: &mut CellBits)
     requires right { IsAtWork work.now.at.now (map (λ a. arc_value a) work.now.inputs.now) }
     requires cell { holds work.now.at.now.out cell ≡ true }
     requires from { from.now.extent ≡ work.now.at.now.out }

@@ -1,18 +1,18 @@
 //! The operator at work over its input.
 
-ghost use Rattle.std.specs.Prelude.{◌≡◌, true, map, is_some, IfSome, IfNone};
+ghost use Rattle.std.specs.Prelude.{◌≡◌, true, map, is_some, IfSome, IfNone, IfOk};
 ghost use Rattle.std.specs.Arc.{arc_value};
 ghost use Rattle.sz_cells.specs.Extent.{holds, index_of};
 ghost use Rattle.sz_cells.specs.Cells.{any_cell, has, is_same};
 ghost use Rattle.sz_cells.specs.declared.Cell.{Cell};
-ghost use Rattle.sz_spec.specs.Values.{input_at, extent_at};
+ghost use Rattle.sz_spec.specs.Values.{extents_of, input_at, extent_at};
 ghost use Rattle.sz_spec.specs.Shapes.{IsSite};
 ghost use Rattle.sz_spec.specs.LawsShapes.{AreExtents};
 ghost use Rattle.sz_spec.specs.Lineage.{related};
 ghost use Rattle.sz_spec.specs.declared.op.Op.TheVariants.{Regions};
 ghost use Rattle.sz_spec.specs.Operators.Regions.{is_high, component_of};
 ghost use Rattle.sz_spec.specs.Work.{IsAtWork};
-ghost use Rattle.sz_ops_region.specs.Regions.{is_regions, components_of};
+ghost use Rattle.sz_ops_region.specs.Regions.{is_regions, components_of, aid_of};
 ghost use Rattle.sz_ops_region.specs.Parts.{IsPartAt};
 
 use crate::aid::{Aid, Component, Part, payload_of};
@@ -22,18 +22,19 @@ use sz_cells::{Cell, CellBits, CellSet, NoMemory, Shape};
 use sz_region::{AtWork, Payload};
 use sz_spec::{Array, Op, OpAt, Value};
 
-/// The operator with its shapes, its input, and the input's components.
+/// The operator at work over its input, of which the components are prepared. A set or a payload
+/// of more than a few cells is shared, whichever cell asks for it.
 #[derive(Drop)]
-pub(crate) struct Work<'a> {
-    pub(crate) at: &'a OpAt,
-    pub(crate) inputs: &'a [Arc<Array>],
-    pub(crate) aid: &'a Aid,
-    pub(crate) t: i64,
+pub struct Labelling<'a> {
+    pub at: &'a OpAt,
+    pub inputs: &'a [Arc<Array>],
+    pub aid: &'a Aid,
+    pub t: i64,
     ghost labels: { at.now.op ≡ Regions t },
     ghost found: { aid.now ≡ components_of t (input_at (map (λ a. arc_value a) inputs.now) 0) },
 }
 
-impl<'a> AtWork for Work<'a> {
+impl<'a> AtWork for Labelling<'a> {
     ghost site = { λ w. w.at.now };
 
     ghost inputs = { λ w. map (λ a. arc_value a) w.inputs.now };
@@ -96,7 +97,7 @@ impl<'a> AtWork for Work<'a> {
     }
 }
 
-impl<'a> Work<'a> {
+impl<'a> Labelling<'a> {
     /// The component of a cell. `None` exactly where the cell is not high.
     pub(crate) fn component(&self, out: Cell) -> Option<Part<'_>>
         requires right { IsAtWork self.now.at.now (map (λ a. arc_value a) self.now.inputs.now) }
@@ -167,4 +168,20 @@ pub(crate) fn threshold(at: &OpAt) -> i64
         Op::Regions { t } => *t,
         _ => unreachable!(),
     }
+}
+
+/// The components of the high cells of the input.
+///
+/// Takes time and memory in the number of the input's cells, whatever the components look like:
+/// what each cell holds is looked at once, each high cell's neighbours once, and the set of each
+/// component of several cells is made once, with room for just its runs. A component of one cell
+/// takes no memory but its mark.
+pub fn prepare(alloc: Global, at: &OpAt, inputs: &[Arc<Array>]) -> Result<Aid, NoMemory>
+    requires regions { is_regions at.now.op ≡ true }
+    requires inputs { extents_of (map (λ a. arc_value a) inputs.now) ≡ at.now.ins }
+    ensures { IfOk result (λ a. a ≡ aid_of at.now.op (map (λ a. arc_value a) inputs.now)) }
+{
+    let t = threshold(at);
+    at.ins();
+    Aid::of(alloc, &inputs[0], t)
 }

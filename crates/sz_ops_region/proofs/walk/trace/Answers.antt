@@ -12,7 +12,11 @@ returns-clause-to c =
     let s = c.args.at.now in
     let grids = map (λ a. arc_value a) c.args.inputs.now in
     let t = c.threshold-t.result in
-    let work : IsAtWork s grids = record { site = c.threshold-t.ensures.site; shapes = c.requires.inputs } in
+    let work : IsAtWork s grids = record {
+      site = c.threshold-t.ensures.site;
+      shapes = c.requires.inputs;
+      right = c.threshold-t.ensures.right;
+    } in
     let first = one-input s t c.args.input c.threshold-t.ensures.value c.threshold-t.ensures.site c.requires.input in
     c.trace_cells.ensures.to
     ∙ ap (λ (z : Cells). with_those c.args.to.now (has z))

@@ -5,7 +5,7 @@ use Rattle.sz_cells.specs.Extent.{index_of}
 use Rattle.sz_spec.specs.Values.{input_at}
 use Rattle.sz_spec.specs.Operators.Regions.{component_of}
 use Rattle.sz_ops_region.proofs.Labels.{alone-itself}
-use Rattle.sz_ops_region.proofs.work.Work.kept.Goals as goal
+use Rattle.sz_ops_region.proofs.work.Labelling.kept.Goals as goal
 
 pub returns-in-Some-Alone-clause-itself : goal.returns-in-Some-Alone-clause-itself
 returns-in-Some-Alone-clause-itself c x =

@@ -5,7 +5,7 @@ use Rattle.sz_cells.specs.Extent.{Extent, holds}
 use Rattle.sz_spec.specs.Values.{extent_at}
 use Rattle.sz_region.proofs.Added.{own-at}
 use Rattle.sz_ops_region.proofs.Labels.{meets-itself, one-input, one-shape}
-use Rattle.sz_ops_region.proofs.work.WorkAtWork.meets.Goals as goal
+use Rattle.sz_ops_region.proofs.work.LabellingAtWork.meets.Goals as goal
 
 pub returns-in-None : goal.returns-in-None
 returns-in-None c =

@@ -4,7 +4,7 @@ use Rattle.std.specs.Arc.{arc_value}
 use Rattle.sz_spec.specs.Values.{input_at}
 use Rattle.sz_spec.proofs.Components.{label-low}
 use Rattle.sz_ops_region.proofs.Labels.{value-is}
-use Rattle.sz_ops_region.proofs.work.WorkAtWork.value.Goals as goal
+use Rattle.sz_ops_region.proofs.work.LabellingAtWork.value.Goals as goal
 
 pub returns-in-None : goal.returns-in-None
 returns-in-None c =

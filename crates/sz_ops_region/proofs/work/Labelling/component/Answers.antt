@@ -12,7 +12,7 @@ use Rattle.sz_spec.specs.Operators.Regions.{component_of}
 use Rattle.sz_ops_region.specs.Parts.{IsPartAt}
 use Rattle.sz_ops_region.specs.Regions.{components_of}
 use Rattle.sz_ops_region.proofs.Labels.{aid-length, aid-at, full-high, none-low, grid-shape, part-full}
-use Rattle.sz_ops_region.proofs.work.Work.component.Goals as goal
+use Rattle.sz_ops_region.proofs.work.Labelling.component.Goals as goal
 
 pub component-requires : goal.component-requires
 component-requires c =

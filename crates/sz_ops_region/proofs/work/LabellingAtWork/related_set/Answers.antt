@@ -4,7 +4,7 @@ use Rattle.std.specs.Arc.{arc_value}
 use Rattle.sz_cells.specs.Extent.{Extent}
 use Rattle.sz_cells.specs.Cells.{named_in}
 use Rattle.sz_ops_region.proofs.Labels.{set-high, set-itself, one-input}
-use Rattle.sz_ops_region.proofs.work.WorkAtWork.related_set.Goals as goal
+use Rattle.sz_ops_region.proofs.work.LabellingAtWork.related_set.Goals as goal
 
 pub returns-in_ok-set-in-Some : goal.returns-in_ok-set-in-Some
 returns-in_ok-set-in-Some c =

@@ -9,7 +9,7 @@ use Rattle.sz_spec.specs.Values.{input_at}
 use Rattle.sz_spec.specs.Operators.Regions.{component_of}
 use Rattle.sz_spec.specs.Payloads.{payload_of}
 use Rattle.sz_ops_region.proofs.Labels.{alone-set, payload-high}
-use Rattle.sz_ops_region.proofs.work.WorkAtWork.payload.Goals as goal
+use Rattle.sz_ops_region.proofs.work.LabellingAtWork.payload.Goals as goal
 
 pub returns-in_ok-set-in-Some-Alone : goal.returns-in_ok-set-in-Some-Alone
 returns-in_ok-set-in-Some-Alone c =
