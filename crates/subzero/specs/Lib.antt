@@ -1,2 +1,3 @@
 -- The definitions that the program's contracts cite.
 pub mod Endings
+pub mod Words

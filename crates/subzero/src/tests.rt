@@ -1,49 +1,33 @@
-//! How the program ends for each status, and for words that cannot be read.
-use super::{Ending, end, ending_of, status_of};
+//! Which exit number the words and the session give, and what is printed for each status.
+use crate::ending::{Ending, end, ending_of};
+use crate::running::run;
+use crate::words::status_of_fault;
 use std::alloc::Global;
 use std::cell::Cell;
 use std::fmt::Display;
 use std::io::{Eprint, Error, ErrorKind, Result};
 use std::process::ExitCode;
+use std::sync::Wait;
+use std::test::Fail;
+use std::thread::Threads;
+use sz_outside::{MemSource, MemStation};
 use sz_session::Status;
 
-mod image;
-mod layers;
-mod limits;
-mod lines;
-mod playing;
-mod smallest;
-
-fn ending(number: u8, line: &'static str) -> Ending {
-    Ending { number, line }
+/// Whether a status has this number and this line.
+fn has_ending(status: Status, number: u8, line: &'static str) -> bool {
+    ending_of(status) == Ending { number, line }
 }
 
 #[test]
 fn each_status_has_its_number_and_its_line(rt: HostRuntime) {
-    assert_eq!(rt; ending_of(Status::Done), ending(0, ""));
-    assert_eq!(rt;
-        ending_of(Status::Usage),
-        ending(
-            1,
-            "usage: subzero MODE [PLACE] [--workers N] [--askers N] [--seed N] [--side N]"
-        )
-    );
-    assert_eq!(rt;
-        ending_of(Status::ReadFault),
-        ending(2, "subzero: reading the session failed")
-    );
-    assert_eq!(rt;
-        ending_of(Status::SayFault),
-        ending(3, "subzero: writing a reply failed")
-    );
-    assert_eq!(rt;
-        ending_of(Status::NoMemory),
-        ending(8, "subzero: out of memory")
-    );
-    assert_eq!(rt;
-        ending_of(Status::InputLimit),
-        ending(9, "subzero: the session is too long")
-    );
+    assert!(rt; has_ending(Status::Done, 0, ""));
+    assert!(rt; has_ending(Status::Usage, 1, "usage: subzero play"));
+    assert!(rt; has_ending(Status::ReadFault, 2, "subzero: reading the session failed"));
+    assert!(rt; has_ending(Status::SayFault, 3, "subzero: writing a reply failed"));
+    assert!(rt; has_ending(Status::NoMemory, 8, "subzero: out of memory"));
+    assert!(rt; has_ending(Status::InputLimit, 9, "subzero: the session is too long"));
+    assert_eq!(rt; status_of_fault(&Error::from(ErrorKind::InvalidData)), Status::Usage);
+    assert_eq!(rt; status_of_fault(&Error::from(ErrorKind::OutOfMemory)), Status::NoMemory);
 }
 
 /// Keeps what is printed on it.
@@ -66,23 +50,12 @@ impl Eprint for Paper {
     }
 }
 
-fn new_paper(alloc: Global) -> Paper {
-    Paper {
-        alloc,
-        text: Cell::new(String::new(alloc)),
-    }
-}
-
 #[test]
-fn an_end_without_a_line_prints_nothing(rt: HostRuntime) {
-    let paper = new_paper(rt.alloc());
+fn an_end_prints_its_line_where_it_has_one(rt: HostRuntime) {
+    let alloc = rt.alloc();
+    let text = Cell::new(String::new(alloc));
+    let paper = Paper { alloc, text };
     assert!(rt; end(&paper, Status::Done) == ExitCode::from(0));
-    assert_eq!(rt; paper.text.into_inner().as_str(), "");
-}
-
-#[test]
-fn an_end_with_a_line_prints_it(rt: HostRuntime) {
-    let paper = new_paper(rt.alloc());
     assert!(rt; end(&paper, Status::ReadFault) == ExitCode::from(2));
     assert_eq!(rt;
         paper.text.into_inner().as_str(),
@@ -90,18 +63,34 @@ fn an_end_with_a_line_prints_it(rt: HostRuntime) {
     );
 }
 
-#[test]
-fn words_that_are_no_text_are_usage(rt: HostRuntime) {
-    assert_eq!(rt;
-        status_of(&Error::from(ErrorKind::InvalidData)),
-        Status::Usage
-    );
+/// The exit number for the program's name and this word behind it, where one is given, over a line
+/// that is no JSON. The reads and the says of these numbers fail.
+fn ends<R: Eprint + Threads + Wait + Clone + Send + Sync + 'static>(
+    rt: &R,
+    alloc: Global,
+    words: &[&str],
+    read_fails: &[u64],
+    say_fails: &[u64],
+) -> std::result::Result<ExitCode, Fail> {
+    let mut args = vec![in alloc; String::from_str(alloc, "subzero")?]?;
+    for word in words {
+        args.push(String::from_str(alloc, word)?)?;
+    }
+    let mut source = MemSource::new(b"{\n".to_vec(alloc)?, 2, read_fails.to_vec(alloc)?);
+    let says = say_fails.to_vec(alloc)?;
+    let mut station = MemStation::new(alloc, Vec::new(alloc), Vec::new(alloc), says)?;
+    let args = Ok(args.into_iter());
+    Ok(run(rt, alloc, args, &mut source, &mut station))
 }
 
 #[test]
-fn words_without_memory_are_want_of_memory(rt: HostRuntime) {
-    assert_eq!(rt;
-        status_of(&Error::from(ErrorKind::OutOfMemory)),
-        Status::NoMemory
-    );
+fn words_and_sessions_give_their_exit_numbers(rt: HostRuntime) -> std::result::Result<(), Fail> {
+    let alloc = rt.alloc();
+    assert!(rt; ends(&rt, alloc, &["play"], &[], &[])? == ExitCode::from(0));
+    assert!(rt; ends(&rt, alloc, &["play"], &[1], &[])? == ExitCode::from(2));
+    assert!(rt; ends(&rt, alloc, &["play"], &[], &[1])? == ExitCode::from(3));
+    assert!(rt; ends(&rt, alloc, &[], &[], &[])? == ExitCode::from(1));
+    assert!(rt; ends(&rt, alloc, &["play", "x"], &[], &[])? == ExitCode::from(1));
+    assert!(rt; ends(&rt, alloc, &["x", "play"], &[], &[])? == ExitCode::from(1));
+    Ok(())
 }

@@ -18,7 +18,8 @@ pub struct NodeRun {
     pub at: Arc<OpAt>,
     /// The arrays that it took, in the order of the node's sources.
     pub inputs: ArrayList,
-    /// What was prepared for the operator and these arrays.
+    /// What was prepared for the operator and these arrays, shared with whoever makes pieces of its
+    /// lineage. Nothing else reads it: while no pieces are made, it takes its memory for nothing.
     pub aid: Arc<Aid>,
     /// Its output.
     pub out: Arc<Array>,

@@ -1,4 +1,4 @@
-//! Flows of two nodes, a node that takes one array twice, cells moved, and the values of a large
+//! Flows of two nodes, of which the second takes the output of the first, and the values of a large
 //! array computed side by side.
 
 ghost use Rattle.std.specs.Prelude.{◌≡◌, [], ◌∷◌, IfOk};
@@ -88,42 +88,6 @@ fn a_node_takes_the_output_of_another(rt: HostRuntime) -> Result<(), Fail> {
     assert_eq!(rt; inputs.len(), 2);
     assert_eq!(rt; inputs[0].cells(), [Some(-5)].as_slice());
     assert_eq!(rt; inputs[1].cells(), [Some(5)].as_slice());
-    Ok(())
-}
-
-#[test]
-fn a_node_takes_one_array_twice(rt: HostRuntime) -> Result<(), Fail> {
-    let alloc = rt.alloc();
-    let square = node_of_two(alloc, Op::Mul, SourceRef::Input(0), SourceRef::Input(0))?;
-    let negated = node_of_one(alloc, Op::Neg, SourceRef::Node(0))?;
-    let flow = flow_of_two(alloc, square, negated)?;
-    let base = [array(alloc, 1, 2, &[Some(3), None])?];
-    let runs = run_all(&rt, alloc, &flow, &base)?;
-    assert_eq!(rt; runs.len(), 2);
-    assert_eq!(rt; runs[0].out.cells(), [Some(9), None].as_slice());
-    assert_eq!(rt; runs[1].out.cells(), [Some(-9), None].as_slice());
-    Ok(())
-}
-
-#[test]
-fn cells_are_moved_by_one_node_after_another(rt: HostRuntime) -> Result<(), Fail> {
-    let alloc = rt.alloc();
-    let turned = node_of_one(alloc, Op::Transpose, SourceRef::Input(0))?;
-    let part = Op::Slice {
-        r0: 0,
-        c0: 1,
-        h: 2,
-        w: 2,
-    };
-    let sliced = node_of_one(alloc, part, SourceRef::Node(0))?;
-    let flow = flow_of_two(alloc, turned, sliced)?;
-    let base = [counted(alloc, 3, 3)?];
-    let runs = run_all(&rt, alloc, &flow, &base)?;
-    assert_eq!(rt; runs.len(), 2);
-    let cells = [Some(3), Some(6), Some(4), Some(7)];
-    assert_eq!(rt; runs[1].out.cells(), cells.as_slice());
-    assert_eq!(rt; runs[1].at.ins().len(), 1);
-    assert_eq!(rt; runs[1].at.out().size(), 4);
     Ok(())
 }
 

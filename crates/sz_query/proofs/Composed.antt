@@ -16,7 +16,7 @@ use Rattle.sz_spec.specs.Flows.{Graph, array_of}
 use Rattle.sz_spec.specs.Lineage.{mapped, related, back, forward}
 use Rattle.sz_spec.specs.Paths.{Step, inputs_of, extent_of, image}
 use Rattle.sz_spec.proofs.PayloadLineage.{extent-of_input, related-mapped}
-use Rattle.sz_query.specs.Views.{View, by_map, by_trace, site_of, relation_of, image_by}
+use Rattle.sz_query.specs.Views.{View, by_map, by_trace, view_site, relation_of, image_by}
 use Rattle.sz_query.specs.Answers.{answered}
 use Rattle.sz_query.specs.Laws.{AnswersGoByParts, IsFaithful, IsOfNode, AnswersAreTheComposedRelation}
 
@@ -33,8 +33,8 @@ same-relation : (r q : Cell → Cell → Bool) → ((o x : Cell) → r o x ≡ q
 same-relation r q h = λ k. λ o x. h o x k
 
 -- what a faithful view tells is the relation
-faithful : (v : View) (inputs : List Grid) (i : ℕ) → (site_of v).ins ≡ extents_of inputs → IsFaithful v inputs
-    → relation_of v i ≡ related (site_of v).op inputs i
+faithful : (v : View) (inputs : List Grid) (i : ℕ) → (view_site v).ins ≡ extents_of inputs → IsFaithful v inputs
+    → relation_of v i ≡ related (view_site v).op inputs i
 faithful (by_map s) inputs i ins told =
     same-relation (mapped s.op s.ins i) (related s.op inputs i)
     (λ o x. ap (λ (shapes : List Extent). mapped s.op shapes i o x) ins ∙ sym (related-mapped s.op inputs i o x told))
@@ -80,7 +80,7 @@ node-there (Some x) op h = (x, refl, cc)
 
 -- the image by a view is that under its relation, between its shapes
 by-parts : (dir : Dir) (v : View) (i : ℕ) (relation : Cell → Cell → Bool) (ins out : Extent) (set : Cells)
-    → relation_of v i ≡ relation → extent_at (site_of v).ins i ≡ ins → (site_of v).out ≡ out
+    → relation_of v i ≡ relation → extent_at (view_site v).ins i ≡ ins → (view_site v).out ≡ out
     → image_by dir v i set ≡ step_image dir relation ins out set
 by-parts Back v i relation ins out set told shape leads =
     ap₂ (λ (r : Cell → Cell → Bool) (e : Extent). back r e set) told shape
@@ -92,7 +92,7 @@ step-composed : (dir : Dir) (flow : Graph) (base outputs : List Grid) (s : Step)
     → IsOfNode flow base outputs s.node v → image_by dir v s.input set ≡ image dir flow base outputs s set
 step-composed dir flow base outputs s v set seen =
     let inputs = inputs_of flow base outputs s.node in
-    let there = node-there (slice_get flow.nodes s.node) (site_of v).op seen.op in
+    let there = node-there (slice_get flow.nodes s.node) (view_site v).op seen.op in
     let shape = ap (λ (shapes : List Extent). extent_at shapes s.input) seen.ins ∙ extent-of_input inputs s.input in
     let told = faithful v inputs s.input seen.ins seen.faithful
     ∙ ap (λ (op : Op). related op inputs s.input) (sym there.2) in

@@ -8,11 +8,10 @@ use Rattle.sz_cells.specs.Rising.{AreRising}
 use Rattle.sz_spec.specs.declared.modes.Dir.{Dir}
 use Rattle.sz_spec.specs.declared.modes.Dir.TheVariants.{Back, Forward}
 use Rattle.sz_spec.specs.Shapes.{Site}
-use Rattle.sz_spec.specs.Lineage.{mapped, related}
-use Rattle.sz_spec.specs.Values.{Grid, extent_at}
+use Rattle.sz_spec.specs.Values.{extent_at}
 use Rattle.sz_spec.specs.Sides.{far_side, image_in}
 use Rattle.sz_region.proofs.Added.{own-at}
-use Rattle.sz_query.specs.Views.{View, by_map, by_trace, site_of, relation_of, image_by}
+use Rattle.sz_query.specs.Views.{View, view_site, relation_of, image_by}
 
 -- the cells that pass a test, added to none
 onto-none : (e : Extent) (test : Cell → Bool) → with_those (no_cells e) (has (cells_where e test)) ≡ cells_where e test
@@ -28,32 +27,17 @@ image-onto_none : (dir : Dir) (s : Site) (i : ℕ) (relation : Cell → Cell →
 image-onto_none Back s i relation from = onto-none (extent_at s.ins i) (λ x. any_cell (λ o. relation o x) from)
 image-onto_none Forward s i relation from = onto-none s.out (λ o. any_cell (λ x. relation o x) from)
 
--- what is written by a relation that a view tells is the view's image
-pub written : (dir : Dir) (v : View) (i : ℕ) (relation : Cell → Cell → Bool) (from old new : Cells)
-    → relation ≡ relation_of v i → old ≡ no_cells (far_side dir (site_of v) i)
-    → new ≡ with_those old (has (image_in dir (site_of v) i relation from)) → new ≡ image_by dir v i from
-written dir v i relation from old new same none is =
-    is ∙ ap (λ (s : Cells). with_those s (has (image_in dir (site_of v) i relation from))) none
-    ∙ image-onto_none dir (site_of v) i relation from
-    ∙ ap (λ (r : Cell → Cell → Bool). image_in dir (site_of v) i r from) same
-
--- by a mapping
-pub written-mapped : (dir : Dir) (v : View) (s : Site) (i : ℕ) (from old new : Cells) → v ≡ by_map s
-    → old ≡ no_cells (far_side dir (site_of v) i)
-    → new ≡ with_those old (has (image_in dir s i (mapped s.op s.ins i) from)) → new ≡ image_by dir v i from
-written-mapped dir v s i from old new e =
-    subst (λ (w : View). old ≡ no_cells (far_side dir (site_of w) i)
-    → new ≡ with_those old (has (image_in dir s i (mapped s.op s.ins i) from)) → new ≡ image_by dir w i from)
-    (sym e) (written dir (by_map s) i (mapped s.op s.ins i) from old new refl)
-
--- by a trace
-pub written-traced : (dir : Dir) (v : View) (s : Site) (inputs : List Grid) (i : ℕ) (from old new : Cells)
-    → v ≡ by_trace s inputs → old ≡ no_cells (far_side dir (site_of v) i)
-    → new ≡ with_those old (has (image_in dir s i (related s.op inputs i) from)) → new ≡ image_by dir v i from
-written-traced dir v s inputs i from old new e =
-    subst (λ (w : View). old ≡ no_cells (far_side dir (site_of w) i)
-    → new ≡ with_those old (has (image_in dir s i (related s.op inputs i) from)) → new ≡ image_by dir w i from)
-    (sym e) (written dir (by_trace s inputs) i (related s.op inputs i) from old new refl)
+-- what is written by a view of any kind is its image
+pub written : (dir : Dir) (v w : View) (i : ℕ) (from old new : Cells) → v ≡ w
+    → old ≡ no_cells (far_side dir (view_site v) i)
+    → new ≡ with_those old (has (image_in dir (view_site w) i (relation_of w i) from)) → new ≡ image_by dir v i from
+written dir v w i from old new same none is =
+    let P : View → Type 0 = λ u. new ≡ image_by dir u i from in
+    let empty : old ≡ no_cells (far_side dir (view_site w) i) =
+    none ∙ ap (λ (u : View). no_cells (far_side dir (view_site u) i)) same in
+    subst P (sym same) (is
+    ∙ ap (λ (s : Cells). with_those s (has (image_in dir (view_site w) i (relation_of w i) from))) empty
+    ∙ image-onto_none dir (view_site w) i (relation_of w i) from)
 
 -- a set added to none is the set
 pub copied : (e : Extent) (set new : Cells) → set.extent ≡ e → AreRising 0 (size_of set.extent) set.indexes

@@ -22,7 +22,7 @@ use Rattle.sz_spec.specs.Paths.{Step, source_of, is_output_of, is_there, follows
 use Rattle.sz_spec.specs.Paths.{start_extent}
 use Rattle.sz_spec.proofs.PayloadLineage.{extent-of_input}
 use Rattle.sz_spec.specs.Sides.{near_side, far_side}
-use Rattle.sz_query.specs.Views.{View, site_of, IsReady}
+use Rattle.sz_query.specs.Views.{View, view_site, IsUsable}
 use Rattle.sz_query.specs.Answers.{IsStep, AreSteps}
 use Rattle.sz_query.specs.Laws.{IsOfNode, JoinedPathsAreSteps}
 use Rattle.sz_query.proofs.Composed.{node-there, inputs-at}
@@ -59,7 +59,7 @@ input-named flow base outputs s x n there named =
 -- the shape in which a path starts is that from which its first step does
 near-at : (dir : Dir) (flow : Graph) (base outputs : List Grid) (s : Step) (v : View)
     → IsOfNode flow base outputs s.node v
-    → start_extent dir flow base outputs s ≡ near_side dir (site_of v) s.input
+    → start_extent dir flow base outputs s ≡ near_side dir (view_site v) s.input
 near-at Back flow base outputs s v seen = sym seen.out
 near-at Forward flow base outputs s v seen =
     sym (ap (λ (shapes : List Extent). extent_at shapes s.input) seen.ins
@@ -68,22 +68,22 @@ near-at Forward flow base outputs s v seen =
 -- the step that follows another starts from the shape to which that leads
 next-starts : (dir : Dir) (flow : Graph) (base outputs : List Grid) (s t : Step) (v w : View)
     → follows dir flow s t ≡ true → IsOfNode flow base outputs s.node v → IsOfNode flow base outputs t.node w
-    → start_extent dir flow base outputs t ≡ far_side dir (site_of v) s.input
+    → start_extent dir flow base outputs t ≡ far_side dir (view_site v) s.input
 next-starts Back flow base outputs s t v w after seen next =
-    let x = node-there (slice_get flow.nodes s.node) (site_of v).op seen.op in
+    let x = node-there (slice_get flow.nodes s.node) (view_site v).op seen.op in
     sym (ap (λ (shapes : List Extent). extent_at shapes s.input) seen.ins
     ∙ extent-of_input (inputs_of flow base outputs s.node) s.input
     ∙ ap (λ (g : Grid). g.extent) (input-named flow base outputs s x.0 t.node x.1 after))
 next-starts Forward flow base outputs s t v w after seen next =
-    let x = node-there (slice_get flow.nodes t.node) (site_of w).op next.op in
+    let x = node-there (slice_get flow.nodes t.node) (view_site w).op next.op in
     ap (λ (g : Grid). g.extent) (input-named flow base outputs t x.0 s.node x.1 after) ∙ sym seen.out
 
 -- a step of a flow, by a view of its node, can be taken from the shape in which a path of it starts
 step-taken : (dir : Dir) (flow : Graph) (base outputs : List Grid) (s : Step) (v : View)
-    → is_there (source_of flow s) ≡ true → IsOfNode flow base outputs s.node v → IsReady v
+    → is_there (source_of flow s) ≡ true → IsOfNode flow base outputs s.node v → IsUsable v
     → IsStep dir v s.input (start_extent dir flow base outputs s)
 step-taken dir flow base outputs s v there seen ready =
-    let x = node-there (slice_get flow.nodes s.node) (site_of v).op seen.op in
+    let x = node-there (slice_get flow.nodes s.node) (view_site v).op seen.op in
     let source = source-at flow s x.0 x.1 in
     let within = there-within x.0.from s.input (slice_get x.0.from s.input) refl
     (ap is_there (sym source) ∙ there) in
@@ -101,7 +101,7 @@ step-taken dir flow base outputs s v there seen ready =
 pub joined-steps : JoinedPathsAreSteps
 joined-steps dir flow base outputs s path [] joined seen ready = absurd seen
 joined-steps dir flow base outputs s [] (v ∷ []) joined seen ready =
-    (step-taken dir flow base outputs s v joined seen.0 (All-head IsReady v [] ready), tt)
+    (step-taken dir flow base outputs s v joined seen.0 (All-head IsUsable v [] ready), tt)
 joined-steps dir flow base outputs s [] (v ∷ w ∷ views) joined seen ready = absurd seen.1
 joined-steps dir flow base outputs s (t ∷ path) (v ∷ []) joined seen ready = absurd seen.1
 joined-steps dir flow base outputs s (t ∷ path) (v ∷ w ∷ views) joined seen ready =
@@ -109,8 +109,8 @@ joined-steps dir flow base outputs s (t ∷ path) (v ∷ w ∷ views) joined see
     let both = and_parts here (are_joined dir flow (t ∷ path)) joined in
     let first = and_parts (is_there (source_of flow s)) (follows dir flow s t) both.0 in
     let rest = joined-steps dir flow base outputs t path (w ∷ views) both.1 seen.1
-    (All-tail IsReady v (w ∷ views) ready) in (
-      step-taken dir flow base outputs s v first.0 seen.0 (All-head IsReady v (w ∷ views) ready),
+    (All-tail IsUsable v (w ∷ views) ready) in (
+      step-taken dir flow base outputs s v first.0 seen.0 (All-head IsUsable v (w ∷ views) ready),
       subst (λ (e : Extent). AreSteps dir (w ∷ views) (map (λ (u : Step). u.input) (t ∷ path)) e)
           (next-starts dir flow base outputs s t v w first.1 seen.0 seen.1.0) rest,
     )

@@ -9,7 +9,7 @@ use Rattle.sz_cells.specs.Cells.{Cells, no_cells}
 use Rattle.sz_spec.specs.declared.modes.Dir.{Dir}
 use Rattle.sz_spec.specs.Sides.{far_side}
 use Rattle.sz_query.specs.declared.views.NodeView.{NodeView}
-use Rattle.sz_query.specs.Views.{View, view_of, site_of}
+use Rattle.sz_query.specs.Views.{View, view_of, view_site}
 use Rattle.sz_query.specs.Answers.{answered, traced_of, AreSteps}
 use Rattle.sz_query.specs.Sides.{empty_sides}
 
@@ -43,7 +43,7 @@ steps-inputs dir [] [] e steps = refl
 steps-inputs dir [] (i ∷ inputs) e steps = absurd steps
 steps-inputs dir (v ∷ views) [] e steps = absurd steps
 steps-inputs dir (v ∷ views) (i ∷ inputs) e steps =
-    ap suc (steps-inputs dir views inputs (far_side dir (site_of v) i) steps.1)
+    ap suc (steps-inputs dir views inputs (far_side dir (view_site v) i) steps.1)
 
 pub sides-length : (dir : Dir) (views : List View) (inputs : List ℕ) → length inputs ≡ length views
     → length (empty_sides dir views inputs) ≡ length views
@@ -55,19 +55,19 @@ sides-length dir (v ∷ views) (i ∷ inputs) same =
 -- the input of the step at a number is one of its operator
 pub step-input : (dir : Dir) (views : List NodeView) (inputs : List ℕ) (e : Extent) (k : ℕ) (v : NodeView)
     → AreSteps dir (map view_of views) inputs e → k < length views → v ≡ get_or views k v
-    → get_or inputs k 0 < length (site_of (view_of v)).ins
+    → get_or inputs k 0 < length (view_site (view_of v)).ins
 step-input dir [] inputs e k v steps lt is = absurd (omega (arith, lt))
 step-input dir (w ∷ views) [] e k v steps lt is = absurd steps
 step-input dir (w ∷ views) (i ∷ inputs) e zero v steps lt is =
-    subst (λ (u : NodeView). i < length (site_of (view_of u)).ins) (sym is) steps.0.input
+    subst (λ (u : NodeView). i < length (view_site (view_of u)).ins) (sym is) steps.0.input
 step-input dir (w ∷ views) (i ∷ inputs) e (suc k) v steps lt is =
-    step-input dir views inputs (far_side dir (site_of (view_of w)) i) k v steps.1 (omega (arith, lt)) is
+    step-input dir views inputs (far_side dir (view_site (view_of w)) i) k v steps.1 (omega (arith, lt)) is
 
 -- the bitmap of the step at a number
 pub side-here : (dir : Dir) (views : List NodeView) (inputs : List ℕ) (k : ℕ) (v : NodeView) → k < length views
     → k < length inputs → v ≡ get_or views k v
     → empty_sides dir (views_from views k) (drop k inputs)
-    ≡ no_cells (far_side dir (site_of (view_of v)) (get_or inputs k 0))
+    ≡ no_cells (far_side dir (view_site (view_of v)) (get_or inputs k 0))
     ∷ empty_sides dir (views_from views (k + 1)) (drop (k + 1) inputs)
 side-here dir views inputs k v lt few is =
     ap₂ (empty_sides dir) (views-here views k v lt is) (drop-here_number inputs k few)
@@ -75,7 +75,7 @@ side-here dir views inputs k v lt few is =
 -- one bitmap more is made
 pub one-more : (dir : Dir) (views : List NodeView) (inputs : List ℕ) (k : ℕ) (v : NodeView) (made new all : List Cells)
     (side : Cells) → k < length views → k < length inputs → v ≡ get_or views k v
-    → side ≡ no_cells (far_side dir (site_of (view_of v)) (get_or inputs k 0)) → new ≡ made ++ side ∷ []
+    → side ≡ no_cells (far_side dir (view_site (view_of v)) (get_or inputs k 0)) → new ≡ made ++ side ∷ []
     → made ++ empty_sides dir (views_from views k) (drop k inputs) ≡ all
     → new ++ empty_sides dir (views_from views (k + 1)) (drop (k + 1) inputs) ≡ all
 one-more dir views inputs k v made new all side lt few is empty more before =

@@ -12,7 +12,7 @@ use Rattle.sz_spec.specs.declared.modes.Dir.TheVariants.{Back, Forward}
 use Rattle.sz_spec.specs.declared.modes.Strategy.TheVariants as strategy
 use Rattle.sz_spec.specs.Values.{Grid}
 use Rattle.sz_query.specs.declared.used.Used.TheVariants as used
-use Rattle.sz_query.specs.Views.{View, by_map, by_trace, used_of, IsReady}
+use Rattle.sz_query.specs.Views.{View, by_map, by_trace, used_of, IsUsable}
 use Rattle.sz_query.specs.Answers.{answered, traced_of, AreSteps}
 
 abbrev at : Extent → List ℕ → Cells
@@ -127,8 +127,8 @@ other-input steps = absurd (omega (arith, steps.0.input))
 pub one-input-more : AreSteps Back (turned ∷ []) (0 ∷ 0 ∷ []) (flat 3 2) → ⊥
 one-input-more steps = steps.1
 
-pub no-mapping : IsReady (by_map (record { op = Lookup; ins = flat 1 3 ∷ flat 1 2 ∷ []; out = flat 1 3 })) → ⊥
+pub no-mapping : IsUsable (by_map (record { op = Lookup; ins = flat 1 3 ∷ flat 1 2 ∷ []; out = flat 1 3 })) → ⊥
 no-mapping ready = true≢false (sym ready)
 
-pub other-arrays : IsReady (by_trace (record { op = Neg; ins = one ∷ []; out = one }) []) → ⊥
+pub other-arrays : IsUsable (by_trace (record { op = Neg; ins = one ∷ []; out = one }) []) → ⊥
 other-arrays ready = cc

@@ -4,7 +4,7 @@ use Rattle.sz_cells.specs.Extent.{Extent}
 use Rattle.sz_cells.specs.Cells.{Cells}
 use Rattle.sz_spec.specs.declared.modes.Dir.{Dir}
 use Rattle.sz_spec.specs.Sides.{near_side, far_side}
-use Rattle.sz_query.specs.Views.{View, site_of, IsReady, traced_by, image_by}
+use Rattle.sz_query.specs.Views.{View, view_site, IsUsable, traced_by, image_by}
 
 -- the set that is left when each view, with its input's number, has taken the set to its image
 abbrev pub answered : Dir → List View → List ℕ → Cells → Cells
@@ -21,9 +21,9 @@ traced_of (v ∷ views) = traced_by v + traced_of views
 -- a step can be taken from a set of this shape: the input is one of the operator's, the shape is
 -- that from which the step starts, and the view can be used
 pub record IsStep (dir : Dir) (v : View) (i : ℕ) (e : Extent) : Type 0 where
-  pub input : i < length (site_of v).ins
-  pub near : e ≡ near_side dir (site_of v) i
-  pub ready : IsReady v
+  pub input : i < length (view_site v).ins
+  pub near : e ≡ near_side dir (view_site v) i
+  pub ready : IsUsable v
 
 -- from a set of this shape each step can be taken, one after the other, from the shape to which the
 -- one before it leads; and there is one input number for each view
@@ -32,7 +32,7 @@ AreSteps dir [] [] e = Unit {0}
 AreSteps dir [] (i ∷ inputs) e = ⊥
 AreSteps dir (v ∷ views) [] e = ⊥
 AreSteps dir (v ∷ views) (i ∷ inputs) e =
-    IsStep dir v i e × AreSteps dir views inputs (far_side dir (site_of v) i)
+    IsStep dir v i e × AreSteps dir views inputs (far_side dir (view_site v) i)
 
 -- a path has 1 to 32 steps
 abbrev pub IsPath : List View → Type 0

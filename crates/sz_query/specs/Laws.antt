@@ -8,7 +8,7 @@ use Rattle.sz_spec.specs.Values.{Grid, extents_of}
 use Rattle.sz_spec.specs.Flows.{Graph}
 use Rattle.sz_spec.specs.Modes.{has_mapping}
 use Rattle.sz_spec.specs.Paths.{Step, are_joined, inputs_of, extent_of, start_extent, compose}
-use Rattle.sz_query.specs.Views.{View, by_map, by_trace, site_of, IsReady}
+use Rattle.sz_query.specs.Views.{View, by_map, by_trace, view_site, IsUsable}
 use Rattle.sz_query.specs.Answers.{answered, AreSteps}
 
 -- views taken in two parts: the set is taken along the first, and what that gives along the second
@@ -26,9 +26,9 @@ IsFaithful (by_trace s own) inputs = own ≡ inputs
 
 -- a view is one of a node of a flow, of which the base arrays and the outputs are given
 pub record IsOfNode (flow : Graph) (base outputs : List Grid) (n : ℕ) (v : View) : Type 0 where
-  pub op : option_map (λ (x : Node). x.op) (slice_get flow.nodes n) ≡ Some (site_of v).op
-  pub ins : (site_of v).ins ≡ extents_of (inputs_of flow base outputs n)
-  pub out : (site_of v).out ≡ extent_of outputs n
+  pub op : option_map (λ (x : Node). x.op) (slice_get flow.nodes n) ≡ Some (view_site v).op
+  pub ins : (view_site v).ins ≡ extents_of (inputs_of flow base outputs n)
+  pub out : (view_site v).out ≡ extent_of outputs n
   pub faithful : IsFaithful v (inputs_of flow base outputs n)
 
 -- each view is one of the node of the step at its place
@@ -50,6 +50,6 @@ abbrev pub JoinedPathsAreSteps : Type 0
 JoinedPathsAreSteps = (dir : Dir) (flow : Graph) (base outputs : List Grid) (s : Step)
     (path : List Step) (views : List View)
     → are_joined dir flow (s ∷ path) ≡ true
-    → AreOfPath flow base outputs (s ∷ path) views → All IsReady views
+    → AreOfPath flow base outputs (s ∷ path) views → All IsUsable views
     → AreSteps dir views (map (λ (t : Step). t.input) (s ∷ path))
     (start_extent dir flow base outputs s)

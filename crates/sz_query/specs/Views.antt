@@ -28,14 +28,14 @@ view_of (Mapped at) = by_map (arc_value at)
 view_of (Traced run) = by_trace (arc_value run.at) run.inputs
 
 -- the operator, at its shapes
-abbrev pub site_of : View → Site
-site_of (by_map s) = s
-site_of (by_trace s inputs) = s
+abbrev pub view_site : View → Site
+view_site (by_map s) = s
+view_site (by_trace s inputs) = s
 
 -- what a view needs so that it can be used: an operator with a mapping, or arrays of its shapes
-abbrev pub IsReady : View → Type 0
-IsReady (by_map s) = has_mapping s.op ≡ true
-IsReady (by_trace s inputs) = extents_of inputs ≡ s.ins
+abbrev pub IsUsable : View → Type 0
+IsUsable (by_map s) = has_mapping s.op ≡ true
+IsUsable (by_trace s inputs) = extents_of inputs ≡ s.ins
 
 -- output cell o is related to cell x of input i, as the view tells it
 abbrev pub relation_of : View → ℕ → Cell → Cell → Bool
@@ -47,11 +47,11 @@ abbrev pub used_of : View → Used
 used_of (by_map s) = used.By strategy.Map
 used_of (by_trace s inputs) = used.Traced
 
--- how many output cells are looked at: all of a step that is traced
+-- how many output cells are told as traced: all of a step by a trace
 abbrev pub traced_by : View → ℕ
 traced_by (by_map s) = 0
 traced_by (by_trace s inputs) = size_of s.out
 
 -- the image of a set under one step: by a view and one of its inputs
 abbrev pub image_by : Dir → View → ℕ → Cells → Cells
-image_by dir v i set = image_in dir (site_of v) i (relation_of v i) set
+image_by dir v i set = image_in dir (view_site v) i (relation_of v i) set

@@ -18,7 +18,7 @@ pub struct Found {
     pub cells: CellSet,
     /// How each step was taken, in the path's order.
     pub used: UsedList,
-    /// How many output cells the steps that were traced looked at: all of each.
+    /// The output sizes of the steps that are told as traced, summed.
     pub traced: u64,
 }
 
@@ -27,7 +27,8 @@ pub struct Found {
 ///
 /// Takes a bitmap for each step at the start and memory for the result at the end; in between, none
 /// but what tracing takes. A step by a mapping costs by the cells that it touches, one that is
-/// traced by the cells of its output, and the tally rises by these. At `NoMemory` the tally is as
+/// traced by the cells of its output. The tally rises by the output sizes of the steps that are
+/// told as traced, which says nothing of how a step was worked out. At `NoMemory` the tally is as
 /// before.
 pub fn answer(
     alloc: Global,

@@ -5,7 +5,7 @@ ghost use Rattle.std.specs.Prelude.{◌≡◌, ◌∷◌, [], true, map, IfOk};
 ghost use Rattle.std.specs.Arc.{arc_value};
 ghost use Rattle.sz_cells.specs.Extent.{flat, layered};
 ghost use Rattle.sz_spec.specs.Values.{extents_of};
-ghost use Rattle.sz_query.specs.Views.{view_of, by_map, site_of, IsReady};
+ghost use Rattle.sz_query.specs.Views.{view_of, by_map, view_site, IsUsable};
 
 use crate::{NodeRunRef, NodeView, Used, answer};
 use std::alloc::Global;
@@ -87,33 +87,6 @@ fn single(alloc: Global, rows: u32, cols: u32, cell: Cell) -> Result<CellSet, Fa
 }
 
 #[test]
-fn a_path_goes_back_by_mappings(rt: HostRuntime) -> Result<(), Fail> {
-    let alloc = rt.alloc();
-    let cells = single(alloc, 1, 1, Cell { row: 0, col: 0 })?;
-    let first = NodeView::Mapped { at: sum(alloc)? };
-    let second = NodeView::Mapped {
-        at: negation(alloc)?,
-    };
-    let mut tally = Tally::new();
-    let found = answer(
-        alloc,
-        &mut [first, second],
-        &[0, 0],
-        Dir::Back,
-        &cells,
-        &mut tally,
-    )?;
-    assert_eq!(rt; found.cells.runs(), [Run { first: 0, last: 0 }].as_slice());
-    assert_eq!(rt;
-        found.used.as_slice(),
-        [Used::By(Strategy::Map), Used::By(Strategy::Map)].as_slice()
-    );
-    assert_eq!(rt; found.traced, 0);
-    assert_eq!(rt; tally.count(), 0);
-    Ok(())
-}
-
-#[test]
 fn a_path_goes_forward_by_traces(rt: HostRuntime) -> Result<(), Fail> {
     let alloc = rt.alloc();
     let cells = single(alloc, 1, 1, Cell { row: 0, col: 0 })?;
@@ -162,25 +135,6 @@ fn a_transposed_cell_comes_from_its_place(rt: HostRuntime) -> Result<(), Fail> {
     assert_eq!(rt; found.cells.runs(), [Run { first: 2, last: 2 }].as_slice());
     assert_eq!(rt; found.traced, 0);
     assert_eq!(rt; tally.count(), 0);
-    Ok(())
-}
-
-#[test]
-fn a_traced_transpose_looks_at_each_cell(rt: HostRuntime) -> Result<(), Fail> {
-    let alloc = rt.alloc();
-    let cells = single(alloc, 3, 2, Cell { row: 2, col: 0 })?;
-    let six = [Some(1), Some(2), Some(3), Some(4), Some(5), Some(6)];
-    let traced = NodeView::Traced {
-        run: NodeRunRef {
-            at: transpose(alloc)?,
-            inputs: ArrayList::of(vec![in alloc; array(alloc, shape(2, 3)?, &six)?]?),
-        },
-    };
-    let mut tally = Tally::new();
-    let found = answer(alloc, &mut [traced], &[0], Dir::Back, &cells, &mut tally)?;
-    assert_eq!(rt; found.cells.runs(), [Run { first: 2, last: 2 }].as_slice());
-    assert_eq!(rt; found.traced, 6);
-    assert_eq!(rt; tally.count(), 6);
     Ok(())
 }
 

@@ -1,9 +1,12 @@
 //! Views of nodes: how the lineage of each is looked at.
+//!
+//! Each call is a table with a line for each kind of view, as are the definitions in `specs/Views`:
+//! a further kind is a further line in each.
 
 ghost use Rattle.std.specs.Prelude.{◌≡◌, ◌+◌, ◌<◌, ◌^◌, length, OnOk};
 ghost use Rattle.sz_cells.specs.Cells.{no_cells};
 ghost use Rattle.sz_spec.specs.Sides.{near_side, far_side};
-ghost use Rattle.sz_query.specs.Views.{view_of, site_of, IsReady, used_of, traced_by, image_by};
+ghost use Rattle.sz_query.specs.Views.{view_of, view_site, IsUsable, used_of, traced_by, image_by};
 
 use crate::used::Used;
 use std::alloc::Global;
@@ -31,7 +34,7 @@ pub struct NodeRunRef {
 impl NodeView {
     /// The operator, at its shapes.
     fn at(&self) -> &OpAt
-        ensures { result.now ≡ site_of (view_of self.now) }
+        ensures { result.now ≡ view_site (view_of self.now) }
     {
         match self {
             NodeView::Mapped { at } => at,
@@ -51,8 +54,8 @@ impl NodeView {
 
     /// The shape to which a step leads.
     pub(crate) fn far_shape(&self, dir: Dir, input: u32) -> Shape
-        requires { input < length (site_of (view_of self.now)).ins }
-        ensures { result ≡ far_side dir (site_of (view_of self.now)) input }
+        requires { input < length (view_site (view_of self.now)).ins }
+        ensures { result ≡ far_side dir (view_site (view_of self.now)) input }
     {
         match dir {
             Dir::Back => self.at().ins()[input as usize],
@@ -72,10 +75,10 @@ impl NodeView {
         to: &mut CellBits,
         tally: &mut Tally,
     ) -> Result<(), NoMemory>
-        requires ready { IsReady (view_of self.now) }
-        requires input { input < length (site_of (view_of self.now)).ins }
-        requires from { from.now.extent ≡ near_side dir (site_of (view_of self.now)) input }
-        requires to { to.old ≡ no_cells (far_side dir (site_of (view_of self.now)) input) }
+        requires ready { IsUsable (view_of self.now) }
+        requires input { input < length (view_site (view_of self.now)).ins }
+        requires from { from.now.extent ≡ near_side dir (view_site (view_of self.now)) input }
+        requires to { to.old ≡ no_cells (far_side dir (view_site (view_of self.now)) input) }
         requires room { tally.old + traced_by (view_of self.now) < 2 ^ 63 }
         ensures to { OnOk result (to.new ≡ image_by dir (view_of self.now) input from.now) }
         ensures ticks { OnOk result (tally.new ≡ tally.old + traced_by (view_of self.now)) }

@@ -15,7 +15,7 @@ use Rattle.sz_session.specs.Transcript.{transcript, whole_replies}
 use Rattle.sz_session.specs.Moments.{Moment, moment_before, cut_after, told_in, moment_after, told_at_end, AreAlike}
 use Rattle.sz_session.specs.Serving.{Advances, SaysFirst, HasAnswered, Answered, AreAll, Done, SaidOfRead, SaidToLimit}
 use Rattle.sz_session.specs.Serving.{SaidInPart, SaidInLines, IsPastLimit, IsWithinLimit}
-use Rattle.sz_session.specs.Statuses.{halt_status, end_status, Ends, HasFault}
+use Rattle.sz_session.specs.Statuses.{halt_status, end_status, Ends, AreCounted}
 use Rattle.sz_session.specs.declared.feed.Halt.{Halt}
 use Rattle.sz_session.specs.declared.feed.Halt.TheVariants as halt
 use Rattle.sz_session.specs.declared.serving.Status.{Status}
@@ -194,7 +194,7 @@ turn-in_part (Some bytes) left next a b c m total count buffer so_far gives part
 -- memory was refused in a turn
 turn-in_lines : (all left next a b c : Option (List ℕ)) (m : Moment) (total count : ℕ) (buffer : List ℕ)
     → Answered all left a b m total → Gives left next buffer count
-    → SaysFirst b c m.catalogue m.number (cut_after m (take count buffer)).whole → SaidInLines all a c
+    → SaysFirst b c m.held m.number (cut_after m (take count buffer)).whole → SaidInLines all a c
 turn-in_lines None left next a b c m total count buffer so_far gives first = tt
 turn-in_lines (Some bytes) left next a b c m total count buffer so_far gives first =
     let given = given-next bytes left next total count buffer so_far.is_left gives in
@@ -236,7 +236,7 @@ pub turn-ends : (s : Halt) (limit : ℕ) (all left next a b c : Option (List ℕ
     (buffer : List ℕ)
     → Answered all left a b m total → Gives left next buffer count
     → (s ≡ halt.SayFault → SaysPart b c (told_in m (take count buffer)))
-    → (s ≡ halt.NoMemory → SaysFirst b c m.catalogue m.number (cut_after m (take count buffer)).whole)
+    → (s ≡ halt.NoMemory → SaysFirst b c m.held m.number (cut_after m (take count buffer)).whole)
     → Ends (halt_status s) limit all next a c
 turn-ends halt.SayFault limit all left next a b c m total count buffer so_far gives part first =
     turn-in_part all left next a b c m total count buffer so_far gives (part refl)
@@ -257,37 +257,28 @@ end-ends (Err halt.SayFault) limit all left a b c m total le so_far is_all whole
 end-ends (Err halt.NoMemory) limit all left a b c m total le so_far is_all whole part nothing =
     end-in_lines all left a b c m total so_far (nothing refl)
 
--- the fault of a turn that stopped
-pub turn-fault : (s : Halt) (reads reads' says says' : ℕ) → (s ≡ halt.SayFault → Rose says says')
-    → HasFault (halt_status s) reads reads' says says'
-turn-fault halt.SayFault reads reads' says says' rose = rose refl
-turn-fault halt.NoMemory reads reads' says says' rose = tt
+-- what the counts tell of a turn that stopped
+pub turn-counted : (s : Halt) (reads reads' says says' : ℕ) → (s ≡ halt.SayFault → Rose says says')
+    → AreCounted (halt_status s) reads reads' says says'
+turn-counted halt.SayFault reads reads' says says' rose = rose refl
+turn-counted halt.NoMemory reads reads' says says' rose = tt
 
--- the fault of an end
-pub end-fault : (r : Result (Unit {0}) Halt) (reads reads' says says' : ℕ)
-    → (r ≡ Err halt.SayFault → Rose says says') → HasFault (end_status r) reads reads' says says'
-end-fault (Ok u) reads reads' says says' rose = tt
-end-fault (Err halt.SayFault) reads reads' says says' rose = rose refl
-end-fault (Err halt.NoMemory) reads reads' says says' rose = tt
-
--- a fault that is counted after a time in which no count fell
-pub fault-later : (s : Status) (r r' r'' t t' t'' : ℕ) → r ≤ r' → t ≤ t' → HasFault s r' r'' t' t''
-    → HasFault s r r'' t t''
-fault-later status.Done r r' r'' t t' t'' le le' h = tt
-fault-later status.Usage r r' r'' t t' t'' le le' h = tt
-fault-later status.ReadFault r r' r'' t t' t'' le le' h = omega (arith, h)
-fault-later status.SayFault r r' r'' t t' t'' le le' h = omega (arith, h)
-fault-later status.NoMemory r r' r'' t t' t'' le le' h = tt
-fault-later status.InputLimit r r' r'' t t' t'' le le' h = tt
+-- and of an end
+pub end-counted : (r : Result (Unit {0}) Halt) (reads reads' says says' : ℕ) → reads' ≡ reads
+    → OnOk r (says' ≡ says) → (r ≡ Err halt.SayFault → Rose says says')
+    → AreCounted (end_status r) reads reads' says says'
+end-counted (Ok u) reads reads' says says' same quiet rose = (same, quiet)
+end-counted (Err halt.SayFault) reads reads' says says' same quiet rose = rose refl
+end-counted (Err halt.NoMemory) reads reads' says says' same quiet rose = tt
 
 -- what a status tells, where the session ended with it
 pub ends-with : (s t : Status) (limit : ℕ) (all left a b : Option (List ℕ)) → Ends s limit all left a b
     → s ≡ t → Ends t limit all left a b
 ends-with s t limit all left a b h is = let P : Status → Type 0 = λ s. Ends s limit all left a b in subst P is h
 
--- and the fault that it names
-pub fault-of : (s t : Status) (r r' q q' : ℕ) → HasFault s r r' q q' → s ≡ t → HasFault t r r' q q'
-fault-of s t r r' q q' h is = let P : Status → Type 0 = λ s. HasFault s r r' q q' in subst P is h
+-- and what the counts tell of it
+pub counted-with : (s t : Status) (r r' q q' : ℕ) → AreCounted s r r' q q' → s ≡ t → AreCounted t r r' q q'
+counted-with s t r r' q q' h is = let P : Status → Type 0 = λ s. AreCounted s r r' q q' in subst P is h
 
 -- past the limit there were more bytes than it has
 pub limit-passed : (limit : ℕ) (all left a b : Option (List ℕ)) → SaidToLimit limit all left a b
@@ -297,7 +288,7 @@ limit-passed limit (Some bytes) left a b h = h.0
 
 -- a session within the limit, with no fault counted, is done unless memory was refused
 pub completes : (s : Status) (limit : ℕ) (all left a b : Option (List ℕ)) (r r' q q' : ℕ)
-    → Ends s limit all left a b → HasFault s r r' q q'
+    → Ends s limit all left a b → AreCounted s r r' q q'
     → IsWithinLimit limit all → (Rose r r' → ⊥) → (Rose q q' → ⊥)
     → (s ≡ status.Done) ⊎ (s ≡ status.NoMemory)
 completes status.Done limit all left a b r r' q q' ends fault within no_read no_say = inl refl

@@ -1,7 +1,7 @@
 -- What a command leaves true of a session.
 --
 -- The key idea: a command puts at most one flow or one version in, or changes one. What is put in is sound since no
--- rule refused the command; and an awaited version has the runs that it had.
+-- rule refused the command.
 use Rattle.std.proofs.Common.{◌≡◌, ℕ, suc, zero, ◌+◌, ◌<◌, List, [], ◌∷◌, map, length, Bool, true, false, not, refl}
 use Rattle.std.proofs.Common.{sym, ap, ap₂, ◌∙◌, subst, arith, Option, Some, None, unwrap_or, Ok, Err, eqb-true}
 use Rattle.std.specs.Prelude.{All, Result, ◌^◌, ◌&&◌, ◌||◌, nat_lt, nat_le, is_none, is_some, slice_set}
@@ -38,12 +38,10 @@ use Rattle.sz_catalogue.specs.Starts.{first_list, first_lists, workflow_of, base
 use Rattle.sz_catalogue.specs.Rules as rules
 use Rattle.sz_catalogue.specs.Rules.{judged, first_of, version_of, names_a_store}
 use Rattle.sz_catalogue.specs.Changes.{accepted, with_flow, with_list, with_strategies, with_version}
-use Rattle.sz_catalogue.specs.Changes.{with_await}
+use Rattle.sz_catalogue.specs.Changes.{with_await, changes_without_start}
 use Rattle.sz_catalogue.proofs.NodeLists.{firsts-right, set-right}
 use Rattle.sz_catalogue.proofs.Bases.{bases-length}
-use Rattle.sz_session.specs.Commands.{keeps_runs}
-use Rattle.sz_session.specs.Runs.{executions_of, keep_no_store, IsSoundFlow, IsSoundRun, KeepsRuns}
-use Rattle.sz_session.proofs.Entries.{insert-with_each, set-with_each, keys-with_each}
+use Rattle.sz_session.specs.Runs.{keep_no_store, IsSoundFlow, IsSoundVersion, AreSound}
 
 -- ---- rules
 
@@ -100,9 +98,9 @@ right-flow : (name : List ℕ) (flow : Graph) → is_right (order.Flow name flow
 right-flow name flow right = (and_parts (list_all is_name (names_in (order.Flow name flow)))
     (is_none (fault_in (order.Flow name flow))) right).1
 
-keeps-flow : (c : Holdings) (runs : List (ℕ × List Execution)) (name : List ℕ) (flow : Graph) → KeepsRuns c runs
-    → is_well_formed flow ≡ true → KeepsRuns (with_flow c name flow) runs
-keeps-flow c runs name flow k right =
+keeps-flow : (c : Holdings) (name : List ℕ) (flow : Graph) → AreSound c
+    → is_well_formed flow ≡ true → AreSound (with_flow c name flow)
+keeps-flow c name flow k right =
     let new : Workflow = record { graph = flow; lists = first_lists flow } in
     let sound : IsSoundFlow new = record {
       flow = record { right = right; lists = firsts-right flow.nodes };
@@ -111,7 +109,6 @@ keeps-flow c runs name flow k right =
     record {
       flows = All-values-insert_entry (slice_cmp nat_cmp) name new IsSoundFlow c.flows k.flows sound;
       versions = k.versions;
-      kept = k.kept;
     }
 
 -- a flow with another list for one of its nodes
@@ -126,10 +123,10 @@ list-sound w node list sound fits none = record {
   no_store = set-unstored w.lists node list sound.no_store none;
 }
 
-keeps-strategies : (c : Holdings) (runs : List (ℕ × List Execution)) (name : List ℕ) (node : ℕ) (list : List Strategy)
-    → KeepsRuns c runs → judged c (order.Strategy name node list) ≡ None
-    → KeepsRuns (with_strategies c name node list) runs
-keeps-strategies c runs name node list k none =
+keeps-strategies : (c : Holdings) (name : List ℕ) (node : ℕ) (list : List Strategy)
+    → AreSound c → judged c (order.Strategy name node list) ≡ None
+    → AreSound (with_strategies c name node list)
+keeps-strategies c name node list k none =
     let built = (names_a_store list, refusal.NotBuilt) ∷ [] in
     let listed = (rules.has_bad_strategies c name node list, refusal.BadStrategies) ∷ built in
     let held = rule-fails (rules.has_no_flow c name) refusal.NoSuchFlow listed none in
@@ -141,7 +138,6 @@ keeps-strategies c runs name node list k none =
       flows = All-values-set_value (is_at (slice_cmp nat_cmp name)) IsSoundFlow c.flows
           (with_list (workflow_of c name) node list) k.flows new;
       versions = k.versions;
-      kept = k.kept;
     }
 
 -- ---- versions
@@ -153,20 +149,20 @@ version-found c n held =
     let found = there-is (version_numbered c n) held in
     found.1 ∙ ap (λ (v : Version). Some v) (sym (ap (λ (o : Option Version). unwrap_or o no_version) found.1))
 
-pub version-sound : (c : Holdings) (n : ℕ) → All IsSoundRun (values_of c.versions)
-    → rules.has_no_version c n ≡ false → IsSoundRun (version_of c n)
+pub version-sound : (c : Holdings) (n : ℕ) → All IsSoundVersion (values_of c.versions)
+    → rules.has_no_version c n ≡ false → IsSoundVersion (version_of c n)
 version-sound c n all held =
-    let P : Option Version → Type 0 = λ o. IfSome o IsSoundRun in
-    subst P (version-found c n held) (IfSome-lookup_from_All IsSoundRun (is_at (nat_cmp n)) c.versions all)
+    let P : Option Version → Type 0 = λ o. IfSome o IsSoundVersion in
+    subst P (version-found c n held) (IfSome-lookup_from_All IsSoundVersion (is_at (nat_cmp n)) c.versions all)
 
-keeps-await : (c : Holdings) (runs : List (ℕ × List Execution)) (n : ℕ) → KeepsRuns c runs
-    → judged c (order.Await n) ≡ None → KeepsRuns (with_await c n) runs
-keeps-await c runs n k none =
+keeps-await : (c : Holdings) (n : ℕ) → AreSound c
+    → judged c (order.Await n) ≡ None → AreSound (with_await c n)
+keeps-await c n k none =
     let held = rule-fails (rules.has_no_version c n) refusal.NoSuchVersion [] none in
     let v = version_of c n in
     let w : Version = record v { awaited = true } in
     let old = version-sound c n k.versions held.0 in
-    let new : IsSoundRun w = record {
+    let new : IsSoundVersion w = record {
       run = (
         old.run.0,
         record {
@@ -180,34 +176,30 @@ keeps-await c runs n k none =
     } in
     record {
       flows = k.flows;
-      versions = All-values-set_value (is_at (nat_cmp n)) IsSoundRun c.versions w k.versions new;
-      kept = k.kept ∙ sym (set-with_each executions_of (is_at (nat_cmp n)) c.versions v w
-          (version-found c n held.0) refl);
+      versions = All-values-set_value (is_at (nat_cmp n)) IsSoundVersion c.versions w k.versions new;
     }
 
--- the runs stay where no version is started
-pub keeps-accepted : (c : Holdings) (runs : List (ℕ × List Execution)) (command : Command) → KeepsRuns c runs
-    → is_right command ≡ true → judged c command ≡ None → keeps_runs command ≡ true
-    → KeepsRuns (accepted c command).0 runs
-keeps-accepted c runs (order.Array name array) k right none kind = record {
+-- what is held stays sound where no version is started
+pub keeps-accepted : (c : Holdings) (command : Command) → AreSound c
+    → is_right command ≡ true → judged c command ≡ None → changes_without_start command ≡ true
+    → AreSound (accepted c command).0
+keeps-accepted c (order.Array name array) k right none kind = record {
   flows = k.flows;
   versions = k.versions;
-  kept = k.kept;
 }
-keeps-accepted c runs (order.Layers name array) k right none kind = record {
+keeps-accepted c (order.Layers name array) k right none kind = record {
   flows = k.flows;
   versions = k.versions;
-  kept = k.kept;
 }
-keeps-accepted c runs (order.Flow name flow) k right none kind =
-    keeps-flow c runs name flow k (right-flow name flow right)
-keeps-accepted c runs (order.Strategy name node list) k right none kind =
-    keeps-strategies c runs name node list k none
-keeps-accepted c runs (order.Start name base) k right none kind = cc
-keeps-accepted c runs (order.Await n) k right none kind = keeps-await c runs n k none
-keeps-accepted c runs (order.Ask n dir path places) k right none kind = cc
-keeps-accepted c runs (order.Explain n dir path places) k right none kind = cc
-keeps-accepted c runs (order.Show n node) k right none kind = cc
+keeps-accepted c (order.Flow name flow) k right none kind =
+    keeps-flow c name flow k (right-flow name flow right)
+keeps-accepted c (order.Strategy name node list) k right none kind =
+    keeps-strategies c name node list k none
+keeps-accepted c (order.Start name base) k right none kind = cc
+keeps-accepted c (order.Await n) k right none kind = keeps-await c n k none
+keeps-accepted c (order.Ask n dir path places) k right none kind = cc
+keeps-accepted c (order.Explain n dir path places) k right none kind = cc
+keeps-accepted c (order.Show n node) k right none kind = cc
 
 -- ---- a start
 
@@ -253,7 +245,7 @@ can-start c name base none =
 
 -- the version that it makes is sound
 pub started-sound : (c : Holdings) (name : List ℕ) (base : List BaseName) → All IsSoundFlow (values_of c.flows)
-    → CanStart c name base → IsSoundRun (version_started c name base)
+    → CanStart c name base → IsSoundVersion (version_started c name base)
 started-sound c name base all can =
     let w = flow-sound c name all can.flow in
     record {
@@ -269,37 +261,14 @@ started-sound c name base all can =
       no_store = w.no_store;
     }
 
--- with its runs under the next number
-pub keeps-start : (c : Holdings) (runs : List (ℕ × List Execution)) (name : List ℕ) (base : List BaseName)
-    (made : List Execution) → KeepsRuns c runs → CanStart c name base
-    → made ≡ executions_of (version_started c name base)
-    → KeepsRuns (with_version c (next_number c) (version_started c name base))
-    (insert_entry nat_cmp runs (next_number c) made)
-keeps-start c runs name base made k can is =
-    let v = version_started c name base in
-    let n = next_number c in
-    record {
-      flows = k.flows;
-      versions = All-values-insert_entry nat_cmp n v IsSoundRun c.versions k.versions
-          (started-sound c name base k.flows can);
-      kept = ap₂ (λ (rs : List (ℕ × List Execution)) (es : List Execution). insert_entry nat_cmp rs n es) k.kept is
-          ∙ sym (insert-with_each executions_of c.versions n v);
-    }
-
--- the next number by the runs
-pub next-by_runs : (c : Holdings) (runs : List (ℕ × List Execution)) → KeepsRuns c runs
-    → greatest (keys_of runs) + 1 ≡ next_number c
-next-by_runs c runs k =
-    ap (λ (rs : List (ℕ × List Execution)). greatest (keys_of rs) + 1) k.kept
-    ∙ ap (λ (ns : List ℕ). greatest ns + 1) (keys-with_each executions_of c.versions)
-
--- the runs of a version that is held are its executions
-pub runs-at : (c : Holdings) (runs : List (ℕ × List Execution)) (n : ℕ) → KeepsRuns c runs
-    → rules.has_no_version c n ≡ false → lookup (is_at (nat_cmp n)) runs ≡ Some (executions_of (version_of c n))
-runs-at c runs n k held =
-    ap (λ (rs : List (ℕ × List Execution)). lookup (is_at (nat_cmp n)) rs) k.kept
-    ∙ lookup-map_values executions_of (is_at (nat_cmp n)) c.versions
-    ∙ ap (option_map executions_of) (version-found c n held)
+-- and is held beside the others
+pub keeps-start : (c : Holdings) (name : List ℕ) (base : List BaseName) → AreSound c → CanStart c name base
+    → AreSound (with_version c (next_number c) (version_started c name base))
+keeps-start c name base k can = record {
+  flows = k.flows;
+  versions = All-values-insert_entry nat_cmp (next_number c) (version_started c name base) IsSoundVersion c.versions
+      k.versions (started-sound c name base k.flows can);
+}
 
 -- the flow that is found under a name
 pub flow-graph : (c : Holdings) (name : List ℕ) (g : Graph)

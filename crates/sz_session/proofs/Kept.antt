@@ -16,16 +16,14 @@ use Rattle.sz_flow.specs.declared.node_run.NodeRun.{NodeRun}
 use Rattle.sz_spec.proofs.FlowOutputs.{evaluations-length}
 use Rattle.sz_flow.specs.Executions.{Execution, execution_of}
 use Rattle.sz_flow.proofs.Executions.{outputs-evaluations}
-use Rattle.sz_query.specs.Views.{by_map, by_trace}
 use Rattle.sz_catalogue.specs.Holdings.{Version, arrays_of}
 use Rattle.sz_catalogue.specs.Changes.{outputs, way_of}
-use Rattle.sz_session.specs.Runs.{executions_of, IsSoundRun}
-use Rattle.sz_session.specs.Views.{is_map, view_by}
+use Rattle.sz_session.specs.Runs.{executions_of, IsSoundVersion}
 use Rattle.sz_session.proofs.Steps.{step-there, step-of}
 use Rattle.sz_session.proofs.PathViews.{lists-at, list-parts}
 
 -- the run of a step's node is there
-pub run-there : (v : Version) (s : Step) (runs : List NodeRun) → IsSoundRun v → is_there (source_of v.flow s) ≡ true
+pub run-there : (v : Version) (s : Step) (runs : List NodeRun) → IsSoundVersion v → is_there (source_of v.flow s) ≡ true
     → map execution_of runs ≡ executions_of v → s.node < length runs
 run-there v s runs sound there same =
     let found = step-there v s sound there in
@@ -45,7 +43,7 @@ extent-read es i e lt is =
     sym (ap (λ (o : Option Extent). unwrap_or o no_extent) (slice_get_read es (length es) i e refl lt is))
 
 -- a node that is there has a list, and that one is not empty
-pub list-there : (v : Version) (s : Step) → IsSoundRun v → is_there (source_of v.flow s) ≡ true
+pub list-there : (v : Version) (s : Step) → IsSoundVersion v → is_there (source_of v.flow s) ≡ true
     → s.node < length v.lists
 list-there v s sound there =
     let e = step-there v s sound there in
@@ -53,7 +51,7 @@ list-there v s sound there =
     let known = lists-at v.flow.nodes v.lists s.node h.node sound.run.1.lists sound.no_store h.there in
     slice_get_within v.lists s.node known.0 known.1
 
-pub list-filled : (v : Version) (s : Step) (list : List Strategy) → IsSoundRun v → is_there (source_of v.flow s) ≡ true
+pub list-filled : (v : Version) (s : Step) (list : List Strategy) → IsSoundVersion v → is_there (source_of v.flow s) ≡ true
     → slice_get v.lists s.node ≡ Some list → 0 < length list
 list-filled v s list sound there at =
     let e = step-there v s sound there in
@@ -68,13 +66,6 @@ list-filled v s list sound there at =
 pub way-at : (v : Version) (dir : Dir) (s : Step) (list : List Strategy) → slice_get v.lists s.node ≡ Some list
     → way_of v dir s ≡ way list dir
 way-at v dir s list at = ap (λ (o : Option (List Strategy)). way (unwrap_or o []) dir) at
-
--- the view for a way that is the mapping, and for another
-pub view-mapped : (way : Strategy) (e : Execution) → is_map way ≡ true → view_by way e ≡ by_map e.site
-view-mapped way e is = rw is refl
-
-pub view-traced : (way : Strategy) (e : Execution) → is_map way ≡ false → view_by way e ≡ by_trace e.site e.inputs
-view-traced way e is = rw is refl
 
 -- there is an execution for each node
 pub executions-length : (v : Version) → length (executions_of v) ≡ length v.flow.nodes

@@ -1,5 +1,4 @@
 -- The files of lemmas and of worked rows.
-pub mod Entries
 pub mod Ways
 pub mod Steps
 pub mod PathViews

@@ -35,8 +35,8 @@ cut_after-parts m xs ys =
 -- of bytes in two parts is told what the first part tells, and then what the second does after it
 pub told_in-parts : TellingGoesByParts
 told_in-parts m first rest =
-    ap (λ (c : Cut). replies_to m.catalogue m.number c.whole) (cut_after-parts m first rest)
-    ∙ replies-go_on m.catalogue m.number (cut_after m first).whole (cut_after (moment_after m first) rest).whole
+    ap (λ (c : Cut). replies_to m.held m.number c.whole) (cut_after-parts m first rest)
+    ∙ replies-go_on m.held m.number (cut_after m first).whole (cut_after (moment_after m first) rest).whole
 
 -- the moment after two parts is that after the second, from that after the first
 pub moment_after-parts : MomentsGoByParts
@@ -44,8 +44,8 @@ moment_after-parts m first rest =
     let before = cut_after m first in
     let further = cut_after (moment_after m first) rest in
     ap (moment_of m) (cut_after-parts m first rest)
-    ∙ ap₂ (λ (c : Holdings) (n : ℕ). record { catalogue = c; pending = further.last; number = n })
-    (after_lines-append m.catalogue before.whole further.whole)
+    ∙ ap₂ (λ (c : Holdings) (n : ℕ). record { held = c; pending = further.last; number = n })
+    (after_lines-append m.held before.whole further.whole)
     (numbers before.whole further.whole) where
       numbers : (xs ys : List (List ℕ)) → m.number + length (xs ++ ys) ≡ m.number + length xs + length ys
       numbers xs ys = omega (arith, length-append xs ys)
@@ -134,24 +134,24 @@ pending-first a b (x ∷ xs) last h = inl refl
 -- moments that are alike tell the same of all bytes
 pub told_in-alike : AlikeTellTheSame
 told_in-alike m n bytes h =
-    told-first m.catalogue m.number m.pending n.pending (cut bytes).whole (cut bytes).last h.pending
-    ∙ ap₂ (λ (c : Holdings) (k : ℕ). replies_to c k (cut_after n bytes).whole) h.catalogue h.number
+    told-first m.held m.number m.pending n.pending (cut bytes).whole (cut bytes).last h.pending
+    ∙ ap₂ (λ (c : Holdings) (k : ℕ). replies_to c k (cut_after n bytes).whole) h.held h.number
 
 -- also of the first so many lines
 pub some_told-alike : (k : ℕ) (m n : Moment) (bytes : List ℕ) → AreAlike m n
-    → replies_to m.catalogue m.number (take k (cut_after m bytes).whole)
-    ≡ replies_to n.catalogue n.number (take k (cut_after n bytes).whole)
+    → replies_to m.held m.number (take k (cut_after m bytes).whole)
+    ≡ replies_to n.held n.number (take k (cut_after n bytes).whole)
 some_told-alike k m n bytes h =
-    some-first k m.catalogue m.number m.pending n.pending (cut bytes).whole (cut bytes).last h.pending
-    ∙ ap₂ (λ (c : Holdings) (i : ℕ). replies_to c i (take k (cut_after n bytes).whole)) h.catalogue h.number
+    some-first k m.held m.number m.pending n.pending (cut bytes).whole (cut bytes).last h.pending
+    ∙ ap₂ (λ (c : Holdings) (i : ℕ). replies_to c i (take k (cut_after n bytes).whole)) h.held h.number
 
 -- and are alike after them
 pub moment_after-alike : AlikeStayAlike
 moment_after-alike m n bytes h =
     let rest = cut bytes in
     record {
-      catalogue = left-first m.catalogue m.pending n.pending rest.whole rest.last h.pending
-          ∙ ap (λ (c : Holdings). after_lines c (cut_after n bytes).whole) h.catalogue;
+      held = left-first m.held m.pending n.pending rest.whole rest.last h.pending
+          ∙ ap (λ (c : Holdings). after_lines c (cut_after n bytes).whole) h.held;
       number = ap₂ ◌+◌ h.number (count-first m.pending n.pending rest.whole rest.last);
       pending = pending-first m.pending n.pending rest.whole rest.last h.pending;
     }
@@ -171,13 +171,13 @@ end-alike c n a b (inr long) = end-long c n a b long.0 long.1 long.2
 -- and tell the same at the end
 pub told_at_end-alike : AlikeEndTheSame
 told_at_end-alike m n h =
-    end-alike m.catalogue m.number m.pending n.pending h.pending
-    ∙ ap₂ (λ (c : Holdings) (k : ℕ). replies_to c k (last_line n.pending)) h.catalogue h.number
+    end-alike m.held m.number m.pending n.pending h.pending
+    ∙ ap₂ (λ (c : Holdings) (k : ℕ). replies_to c k (last_line n.pending)) h.held h.number
 
 -- the first moment is like the third where both are like the second
 pub are_alike-trans : (l m n : Moment) → AreAlike l m → AreAlike m n → AreAlike l n
 are_alike-trans l m n p q = record {
-  catalogue = p.catalogue ∙ q.catalogue;
+  held = p.held ∙ q.held;
   number = p.number ∙ q.number;
   pending = alike-trans l.pending m.pending n.pending p.pending q.pending;
 }
@@ -186,4 +186,4 @@ are_alike-trans l m n p q = record {
 pub are_alike-same : (m n : Moment) → m ≡ n → AreAlike m n
 are_alike-same m n same =
     let P : Moment → Type 0 = λ k. AreAlike m k in
-    subst P same (record { catalogue = refl; number = refl; pending = inl refl })
+    subst P same (record { held = refl; number = refl; pending = inl refl })

@@ -24,16 +24,17 @@ use Rattle.sz_spec.specs.Flows.{Graph}
 use Rattle.sz_spec.specs.Paths.{Step, source_of, is_there, follows, are_joined, is_joined, inputs_of}
 use Rattle.sz_spec.specs.Sides.{near_side, far_side}
 use Rattle.sz_flow.specs.Executions.{Execution}
-use Rattle.sz_query.specs.Views.{View, by_map, by_trace, site_of, IsReady, used_of, traced_by}
+use Rattle.sz_query.specs.Views.{View, by_map, by_trace, view_site, IsUsable, used_of, traced_by}
 use Rattle.sz_query.specs.Answers.{traced_of, IsStep, AreSteps}
 use Rattle.sz_query.specs.Laws.{IsFaithful, IsOfNode, AreOfPath}
 use Rattle.sz_catalogue.specs.Holdings.{Version, arrays_of}
 use Rattle.sz_catalogue.specs.Starts as starts
 use Rattle.sz_catalogue.specs.Rules.{are_distinct, is_list_for, are_lists_for, names_a_store}
 use Rattle.sz_catalogue.specs.Changes.{outputs, way_of, is_black_box, traced}
-use Rattle.sz_session.specs.Runs.{keep_no_store, IsSoundRun}
-use Rattle.sz_session.specs.Views.{is_map, view_by, IsViewOf, strategy_told, are_there}
-use Rattle.sz_session.proofs.Ways.{way-unstored, way-supported, mapping-supported, black_box-no_map, told-way}
+use Rattle.sz_session.specs.Runs.{keep_no_store, IsSoundVersion}
+use Rattle.sz_session.specs.Views.{view_by, IsViewOf, strategy_told, are_there}
+use Rattle.sz_session.proofs.Ways.{way-unstored, way-supported, view_by-site, view_by-usable, view_by-faithful}
+use Rattle.sz_session.proofs.Ways.{view_by-traced, view_by-told}
 use Rattle.sz_session.proofs.Steps.{IsStepOf, step-of, step-input, step-out, step-starts, step-leads}
 
 -- ---- the lists of a version's nodes
@@ -74,7 +75,7 @@ pub record HasWay (v : Version) (dir : Dir) (s : Step) (op : Op) : Type 0 where
   pub unstored : is_stored (way_of v dir s) ≡ false
   pub supported : supports op (way_of v dir s) ≡ true
 
-step-way : (v : Version) (dir : Dir) (s : Step) (e : Execution) → IsSoundRun v → IsStepOf v s e
+step-way : (v : Version) (dir : Dir) (s : Step) (e : Execution) → IsSoundVersion v → IsStepOf v s e
     → HasWay v dir s e.site.op
 step-way v dir s e sound h =
     let known = lists-at v.flow.nodes v.lists s.node h.node sound.run.1.lists sound.no_store h.there in
@@ -96,37 +97,24 @@ pub record IsSoundView (v : Version) (dir : Dir) (s : Step) (w : View) : Type 0 
   pub way : HasWay v dir s execution.site.op
   pub is : w ≡ view_by (way_of v dir s) execution
 
-pub sound-view : (v : Version) (dir : Dir) (s : Step) (w : View) → IsSoundRun v
+pub sound-view : (v : Version) (dir : Dir) (s : Step) (w : View) → IsSoundVersion v
     → is_there (source_of v.flow s) ≡ true → IsViewOf v dir s w → IsSoundView v dir s w
 sound-view v dir s w sound there view =
     let h = step-of v s view.0 sound there view.1 in
     record { execution = view.0; step = h; way = step-way v dir s view.0 sound h; is = view.2 }
 
 -- its operator is that of the execution
-view-site : (way : Strategy) (e : Execution) → site_of (view_by way e) ≡ e.site
-view-site way e = at (is_map way) where
-  at : (b : Bool) → site_of (if b then by_map e.site else by_trace e.site e.inputs) ≡ e.site
-  at true = refl
-  at false = refl
-
 pub sound-site : (v : Version) (dir : Dir) (s : Step) (w : View) (h : IsSoundView v dir s w)
-    → site_of w ≡ h.execution.site
-sound-site v dir s w h = ap site_of h.is ∙ view-site (way_of v dir s) h.execution
+    → view_site w ≡ h.execution.site
+sound-site v dir s w h = ap view_site h.is ∙ view_by-site (way_of v dir s) h.execution
 
 -- it can be used, and stands for the relation of its operator
-sound-ready : (v : Version) (dir : Dir) (s : Step) (w : View) → IsSoundView v dir s w → IsReady w
+sound-ready : (v : Version) (dir : Dir) (s : Step) (w : View) → IsSoundView v dir s w → IsUsable w
 sound-ready v dir s w h =
     let e = h.execution in
     let ins : extents_of e.inputs ≡ e.site.ins =
     ap (λ (x : Execution). extents_of x.inputs) h.step.is ∙ sym (ap (λ (x : Execution). x.site.ins) h.step.is) in
-    subst IsReady (sym h.is) (at (is_map (way_of v dir s)) (mapping-supported e.site.op (way_of v dir s)
-    h.way.supported)
-    ins) where
-      at : (b : Bool) → (b ≡ true → has_mapping h.execution.site.op ≡ true)
-          → extents_of h.execution.inputs ≡ h.execution.site.ins
-          → IsReady (if b then by_map h.execution.site else by_trace h.execution.site h.execution.inputs)
-      at true mapping ins = mapping refl
-      at false mapping ins = ins
+    subst IsUsable (sym h.is) (view_by-usable (way_of v dir s) e h.way.supported ins)
 
 sound-faithful : (v : Version) (dir : Dir) (s : Step) (w : View) → IsSoundView v dir s w
     → IsFaithful w (inputs_of v.flow (arrays_of v.base) (outputs v) s.node)
@@ -135,12 +123,7 @@ sound-faithful v dir s w h =
     let gs = inputs_of v.flow (arrays_of v.base) (outputs v) s.node in
     let own : e.inputs ≡ gs = ap (λ (x : Execution). x.inputs) h.step.is in
     subst (λ (x : View). IsFaithful x gs) (sym h.is)
-    (at gs (is_map (way_of v dir s)) (mapping-supported e.site.op (way_of v dir s) h.way.supported) own) where
-      at : (gs : List Grid) (b : Bool) → (b ≡ true → has_mapping h.execution.site.op ≡ true)
-          → h.execution.inputs ≡ gs
-          → IsFaithful (if b then by_map h.execution.site else by_trace h.execution.site h.execution.inputs) gs
-      at gs true mapping own = mapping refl
-      at gs false mapping own = own
+    (view_by-faithful (way_of v dir s) e gs h.way.supported own)
 
 -- it is one of the step's node
 pub sound-of_node : (v : Version) (dir : Dir) (s : Step) (w : View) → IsSoundView v dir s w
@@ -158,7 +141,7 @@ sound-of_node v dir s w h =
     }
 
 -- the step can be taken from the shape in which it starts
-sound-step : (v : Version) (dir : Dir) (s : Step) (w : View) (from : Extent) → IsSoundRun v → IsSoundView v dir s w
+sound-step : (v : Version) (dir : Dir) (s : Step) (w : View) (from : Extent) → IsSoundVersion v → IsSoundView v dir s w
     → from ≡ starts.step_start dir v s → IsStep dir w s.input from
 sound-step v dir s w from sound h starts_there =
     let e = h.execution in
@@ -176,7 +159,7 @@ sound-step v dir s w from sound h starts_there =
 abbrev pub AreSound : Version → Dir → List Step → List View → Type 0
 AreSound v dir path views = AllZip (IsSoundView v dir) path views
 
-pub sound-views : (v : Version) (dir : Dir) (path : List Step) (views : List View) → IsSoundRun v
+pub sound-views : (v : Version) (dir : Dir) (path : List Step) (views : List View) → IsSoundVersion v
     → are_there v.flow path ≡ true → AllZip (IsViewOf v dir) path views → AreSound v dir path views
 sound-views v dir [] [] sound there zip = tt
 sound-views v dir [] (w ∷ views) sound there zip = zip
@@ -207,7 +190,7 @@ joined-there dir flow (s ∷ t ∷ path) joined =
     rw (both.0, rest) refl
 
 -- along a joined path each step can be taken, from the shape in which the path starts
-pub views-steps : (v : Version) (dir : Dir) (path : List Step) (views : List View) (from : Extent) → IsSoundRun v
+pub views-steps : (v : Version) (dir : Dir) (path : List Step) (views : List View) (from : Extent) → IsSoundVersion v
     → are_joined dir v.flow path ≡ true → AreSound v dir path views → from ≡ starts.path_start dir v path
     → AreSteps dir views (map (λ (s : Step). s.input) path) from
 views-steps v dir [] [] from sound joined zip is = tt
@@ -222,12 +205,12 @@ views-steps v dir (s ∷ t ∷ path) (w ∷ x ∷ views) from sound joined zip i
     let both = and_parts (is_there (source_of v.flow s)) (follows dir v.flow s t) outer.0 in
     let g = zip.0 in
     let h = zip.1.0 in
-    let leads : far_side dir (site_of w) s.input ≡ starts.step_start dir v t =
+    let leads : far_side dir (view_site w) s.input ≡ starts.step_start dir v t =
     ap (λ (y : Site). far_side dir y s.input) (sound-site v dir s w g)
     ∙ step-leads v s t g.execution h.execution dir g.step h.step both.1
     ∙ step-starts v t h.execution dir sound h.step in (
       sound-step v dir s w from sound g is,
-      views-steps v dir (t ∷ path) (x ∷ views) (far_side dir (site_of w) s.input) sound outer.1 zip.1 leads,
+      views-steps v dir (t ∷ path) (x ∷ views) (far_side dir (view_site w) s.input) sound outer.1 zip.1 leads,
     )
 
 -- what is told of the steps is their ways
@@ -239,26 +222,21 @@ views-told v dir (s ∷ path) [] zip = absurd zip
 views-told v dir (s ∷ path) (w ∷ views) zip =
     let h = zip.0 in
     ap₂ (λ (x : Strategy) (xs : List Strategy). x ∷ xs)
-    (ap (λ (x : View). strategy_told (used_of x)) h.is ∙ told-way (way_of v dir s) h.execution h.way.unstored)
+    (ap (λ (x : View). strategy_told (used_of x)) h.is ∙ view_by-told (way_of v dir s) h.execution h.way.unstored)
     (views-told v dir path views zip.1)
 
 -- what a step traces: the output of its node where its way is black box
-step-traced : (v : Version) (dir : Dir) (s : Step) (w : View) → IsSoundRun v → IsSoundView v dir s w
+step-traced : (v : Version) (dir : Dir) (s : Step) (w : View) → IsSoundVersion v → IsSoundView v dir s w
     → traced_by w ≡ (if is_black_box (way_of v dir s) then size_of (extent_at (starts.outputs_of v) s.node) else 0)
 step-traced v dir s w sound h =
     let e = h.execution in
     let way = way_of v dir s in
     let shape : e.site.out ≡ extent_at (starts.outputs_of v) s.node = step-starts v s e Back sound h.step in
-    ap traced_by h.is ∙ at (is_map way) ∙ ap (λ (b : Bool). if b then size_of e.site.out else 0)
-    (sym (black_box-no_map way h.way.unstored))
-    ∙ ap (λ (x : Extent). if is_black_box way then size_of x else 0) shape where
-      at : (b : Bool) → traced_by (if b then by_map h.execution.site else by_trace h.execution.site h.execution.inputs)
-          ≡ (if not b then size_of h.execution.site.out else 0)
-      at true = refl
-      at false = refl
+    ap traced_by h.is ∙ view_by-traced way e h.way.unstored
+    ∙ ap (λ (x : Extent). if is_black_box way then size_of x else 0) shape
 
 -- and all of them
-pub views-traced : (v : Version) (dir : Dir) (path : List Step) (views : List View) → IsSoundRun v
+pub views-traced : (v : Version) (dir : Dir) (path : List Step) (views : List View) → IsSoundVersion v
     → AreSound v dir path views → traced_of views ≡ traced v dir path
 views-traced v dir [] [] sound zip = refl
 views-traced v dir [] (w ∷ views) sound zip = absurd zip

@@ -24,7 +24,7 @@ cut-all = refl
 -- ---- in the third line, of which one byte was read
 
 abbrev middle : Moment
-middle = record { catalogue = no_holdings; pending = codes "{"; number = 3 }
+middle = record { held = no_holdings; pending = codes "{"; number = 3 }
 
 told-none : told_in middle (codes "{") ≡ []
 told-none = refl
@@ -35,7 +35,7 @@ unfolding serde_json_on_literals is_utf8 chars digits
 told-two = refl
 
 after-two : moment_after middle (codes "x" ++ 10 ∷ codes "{" ++ 10 ∷ codes "y")
-    ≡ record { catalogue = no_holdings; pending = codes "y"; number = 5 }
+    ≡ record { held = no_holdings; pending = codes "y"; number = 5 }
 unfolding serde_json_on_literals is_utf8 chars
 after-two = refl
 

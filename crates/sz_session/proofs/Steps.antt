@@ -28,7 +28,7 @@ use Rattle.sz_flow.proofs.Executions.{outputs-evaluations, executions-at}
 use Rattle.sz_catalogue.specs.Holdings.{Base, Version, arrays_of, shapes_of}
 use Rattle.sz_catalogue.specs.Starts as starts
 use Rattle.sz_catalogue.specs.Changes.{outputs}
-use Rattle.sz_session.specs.Runs.{executions_of, IsSoundRun}
+use Rattle.sz_session.specs.Runs.{executions_of, IsSoundVersion}
 
 -- ---- shapes
 
@@ -52,7 +52,7 @@ base-shapes [] = refl
 base-shapes (b ∷ base) = ap (λ (es : List Extent). b.array.extent ∷ es) (base-shapes base)
 
 -- the shapes of a version's outputs are those that were found
-pub outputs-shapes : (v : Version) → IsSoundRun v → extents_of (outputs v) ≡ starts.outputs_of v
+pub outputs-shapes : (v : Version) → IsSoundVersion v → extents_of (outputs v) ≡ starts.outputs_of v
 outputs-shapes v sound =
     let fits = sound.run.1.fits in
     shapes-found v.flow (arrays_of v.base) sound.run.0
@@ -87,7 +87,7 @@ there-node flow s there = at (slice_get flow.nodes s.node) refl there where
   at (Some x) is h = let r = some (slice_get x.from s.input) h in (x, is, r.0, r.1)
 
 -- its execution
-pub step-of : (v : Version) (s : Step) (e : Execution) → IsSoundRun v → is_there (source_of v.flow s) ≡ true
+pub step-of : (v : Version) (s : Step) (e : Execution) → IsSoundVersion v → is_there (source_of v.flow s) ≡ true
     → slice_get (executions_of v) s.node ≡ Some e → IsStepOf v s e
 step-of v s e sound there at =
     let found = there-node v.flow s there in
@@ -109,7 +109,7 @@ step-of v s e sound there at =
       some-same a b h = cc
 
 -- every step that is there has an execution
-pub step-there : (v : Version) (s : Step) → IsSoundRun v → is_there (source_of v.flow s) ≡ true
+pub step-there : (v : Version) (s : Step) → IsSoundVersion v → is_there (source_of v.flow s) ≡ true
     → (e : Execution) × (slice_get (executions_of v) s.node ≡ Some e)
 step-there v s sound there =
     let found = there-node v.flow s there in
@@ -141,7 +141,7 @@ step-in v s e h =
     ∙ extent-source (arrays_of v.base) (outputs v) h.node.from s.input h.from h.has
 
 -- the shape from which it starts is the one that was found when the version was started
-pub step-starts : (v : Version) (s : Step) (e : Execution) (dir : Dir) → IsSoundRun v → IsStepOf v s e
+pub step-starts : (v : Version) (s : Step) (e : Execution) (dir : Dir) → IsSoundVersion v → IsStepOf v s e
     → near_side dir e.site s.input ≡ starts.step_start dir v s
 step-starts v s e Back sound h =
     step-out v s e h ∙ sym (extent-at (outputs v) s.node)

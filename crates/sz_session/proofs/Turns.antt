@@ -129,19 +129,19 @@ part-more a b l xs ys p =
 
 -- one turn, and then one that stopped between two replies
 pub advances-first : (a b c : Option (List ℕ)) (l m : Moment) (xs ys : List ℕ) → Advances a b l m xs
-    → SaysFirst b c m.catalogue m.number (cut_after m ys).whole
-    → SaysFirst a c l.catalogue l.number (cut_after l (xs ++ ys)).whole
+    → SaysFirst b c m.held m.number (cut_after m ys).whole
+    → SaysFirst a c l.held l.number (cut_after l (xs ++ ys)).whole
 advances-first a b c l m xs ys p q =
     let first = (cut_after l xs).whole in
     let after = moment_after l xs in
     let further = (cut_after after ys).whole in
     let P : List ℕ → Type 0 = λ zs. Says a c zs in
-    let same : told_in l xs ++ replies_to m.catalogue m.number (take q.many (cut_after m ys).whole)
-    ≡ replies_to l.catalogue l.number (take (length first + q.many) (cut_after l (xs ++ ys)).whole) =
+    let same : told_in l xs ++ replies_to m.held m.number (take q.many (cut_after m ys).whole)
+    ≡ replies_to l.held l.number (take (length first + q.many) (cut_after l (xs ++ ys)).whole) =
     ap (λ (zs : List ℕ). told_in l xs ++ zs) (some_told-alike q.many m after ys p.alike)
-    ∙ sym (replies-go_on l.catalogue l.number first (take q.many further))
-    ∙ ap (replies_to l.catalogue l.number) (sym (take-append-add first further q.many))
-    ∙ ap (λ (ls : List (List ℕ)). replies_to l.catalogue l.number (take (length first + q.many) ls))
+    ∙ sym (replies-go_on l.held l.number first (take q.many further))
+    ∙ ap (replies_to l.held l.number) (sym (take-append-add first further q.many))
+    ∙ ap (λ (ls : List (List ℕ)). replies_to l.held l.number (take (length first + q.many) ls))
     (sym (ap (λ (c : Cut). c.whole) (cut_after-parts l xs ys))) in
     record {
       many = length first + q.many;
@@ -155,17 +155,17 @@ advances-first a b c l m xs ys p q =
       );
       says = subst P same
           (says-then a b c (told_in l xs)
-          (replies_to m.catalogue m.number (take q.many (cut_after m ys).whole)) p.says q.says);
+          (replies_to m.held m.number (take q.many (cut_after m ys).whole)) p.says q.says);
     }
 
 -- all lines that end in some bytes are the first so many of those that end in more
 pub first-whole : (a b : Option (List ℕ)) (l : Moment) (xs ys : List ℕ) → Says a b (told_in l xs)
-    → SaysFirst a b l.catalogue l.number (cut_after l (xs ++ ys)).whole
+    → SaysFirst a b l.held l.number (cut_after l (xs ++ ys)).whole
 first-whole a b l xs ys p =
     let first = (cut_after l xs).whole in
     let further = (cut_after (moment_after l xs) ys).whole in
-    let P : List (List ℕ) → Type 0 = λ ls. SaysFirst a b l.catalogue l.number ls in
-    let Q : List (List ℕ) → Type 0 = λ ls. Says a b (replies_to l.catalogue l.number ls) in
+    let P : List (List ℕ) → Type 0 = λ ls. SaysFirst a b l.held l.number ls in
+    let Q : List (List ℕ) → Type 0 = λ ls. Says a b (replies_to l.held l.number ls) in
     subst P (sym (ap (λ (c : Cut). c.whole) (cut_after-parts l xs ys))) (record {
       many = length first;
       within = omega (arith, length-append first further);
@@ -174,9 +174,9 @@ first-whole a b l xs ys p =
 
 -- the lines that end in the front of some bytes are the first of those that end in them
 pub first-front : (a b : Option (List ℕ)) (l : Moment) (xs : List ℕ) (n : ℕ) → Says a b (told_in l (take n xs))
-    → SaysFirst a b l.catalogue l.number (cut_after l xs).whole
+    → SaysFirst a b l.held l.number (cut_after l xs).whole
 first-front a b l xs n p =
-    let P : List ℕ → Type 0 = λ ys. SaysFirst a b l.catalogue l.number (cut_after l ys).whole in
+    let P : List ℕ → Type 0 = λ ys. SaysFirst a b l.held l.number (cut_after l ys).whole in
     subst P (take-append-drop n xs) (first-whole a b l (take n xs) (drop n xs) p)
 
 -- ---- the parts of a turn
@@ -200,9 +200,9 @@ advances-kept said m bytes kept within stands =
     let same : record m { pending = m.pending ++ bytes; number = m.number + 0 } ≡ moment_after m bytes =
     ap (λ (c : Cut). moment_of m (before_cut m.pending c)) (sym all) in
     record {
-      says = subst P (ap (λ (c : Cut). replies_to m.catalogue m.number (before_cut m.pending c).whole) (sym all))
+      says = subst P (ap (λ (c : Cut). replies_to m.held m.number (before_cut m.pending c).whole) (sym all))
           (says-nothing said);
-      alike = subst Q same (record { catalogue = refl; number = omega arith; pending = stands });
+      alike = subst Q same (record { held = refl; number = omega arith; pending = stands });
     }
 
 -- the reply of a line
@@ -222,24 +222,24 @@ line-only : (m : Moment) → cut_after m (10 ∷ []) ≡ record { whole = m.pend
 line-only m = ap (λ (line : List ℕ). record { whole = line ∷ []; last = [] }) (append-nil m.pending)
 
 -- the end of a line tells its reply, where it has one
-pub told-line : (m : Moment) (c : Holdings) (r : Option Reply) → Responds m.catalogue m.pending c r
+pub told-line : (m : Moment) (c : Holdings) (r : Option Reply) → Responds m.held m.pending c r
     → told_in m (10 ∷ []) ≡ line_to_say m.number r
 told-line m c r replies =
-    ap (λ (x : Cut). replies_to m.catalogue m.number x.whole) (line-only m)
-    ∙ replies-line m.catalogue c m.number m.pending r replies
+    ap (λ (x : Cut). replies_to m.held m.number x.whole) (line-only m)
+    ∙ replies-line m.held c m.number m.pending r replies
 
 -- and leaves the catalogue that the line leaves
-moment-line : (m : Moment) (c : Holdings) (r : Option Reply) → Responds m.catalogue m.pending c r
-    → moment_after m (10 ∷ []) ≡ record { catalogue = c; pending = []; number = m.number + 1 }
+moment-line : (m : Moment) (c : Holdings) (r : Option Reply) → Responds m.held m.pending c r
+    → moment_after m (10 ∷ []) ≡ record { held = c; pending = []; number = m.number + 1 }
 moment-line m c r replies =
     ap (moment_of m) (line-only m)
-    ∙ ap (λ (x : Holdings). record { catalogue = x; pending = []; number = m.number + 1 })
-    (left-line m.catalogue c m.pending r replies)
+    ∙ ap (λ (x : Holdings). record { held = x; pending = []; number = m.number + 1 })
+    (left-line m.held c m.pending r replies)
 
 -- the end of a line
 pub advances-line : (a b : Option (List ℕ)) (m : Moment) (c : Holdings) (r : Option Reply)
-    → Responds m.catalogue m.pending c r → Says a b (line_to_say m.number r)
-    → Advances a b m (record { catalogue = c; pending = []; number = m.number + 1 }) (10 ∷ [])
+    → Responds m.held m.pending c r → Says a b (line_to_say m.number r)
+    → Advances a b m (record { held = c; pending = []; number = m.number + 1 }) (10 ∷ [])
 advances-line a b m c r replies says =
     let P : List ℕ → Type 0 = λ ys. Says a b ys in
     record {
@@ -250,8 +250,8 @@ advances-line a b m c r replies says =
 -- a line that has not ended and has bytes tells at the end what it tells where it ends
 pub told_at_end-line : (m : Moment) → 0 < length m.pending → told_in m (10 ∷ []) ≡ told_at_end m
 told_at_end-line m some =
-    ap (λ (x : Cut). replies_to m.catalogue m.number x.whole) (line-only m)
-    ∙ ap (replies_to m.catalogue m.number) (one_line m.pending some) where
+    ap (λ (x : Cut). replies_to m.held m.number x.whole) (line-only m)
+    ∙ ap (replies_to m.held m.number) (one_line m.pending some) where
       one_line : (xs : List ℕ) → 0 < length xs → xs ∷ [] ≡ last_line xs
       one_line [] some = absurd (omega arith)
       one_line (x ∷ xs) some = refl

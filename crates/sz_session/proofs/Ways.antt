@@ -2,20 +2,24 @@
 --
 -- The key idea: a way by a list is in the list, so what the list's strategies are, it is.
 use Rattle.std.proofs.Common.{◌≡◌, ◌<◌, List, [], ◌∷◌, length, Bool, true, false, not, refl, sym, ap, ◌∙◌, subst}
-use Rattle.std.proofs.Common.{eqb-true, inl, inr}
-use Rattle.std.specs.Prelude.{◌==◌, ◌||◌}
+use Rattle.std.proofs.Common.{◌≤◌, eqb-true, inl, inr, arith}
+use Rattle.std.specs.Prelude.{◌==◌, ◌||◌, if◌then◌else◌}
 use Rattle.std.specs.List.{list_all, list_any}
 use Rattle.std.proofs.lemmas.Bool.{and_parts, cases_Bool}
 use Rattle.sz_spec.specs.declared.op.Op.{Op}
 use Rattle.sz_spec.specs.declared.modes.Dir.{Dir}
 use Rattle.sz_spec.specs.declared.modes.Strategy.{Strategy}
 use Rattle.sz_spec.specs.declared.modes.Strategy.TheVariants as strategy
-use Rattle.sz_spec.specs.Modes.{has_mapping, supports, is_stored, number_of, is_listed, way}
+use Rattle.sz_cells.specs.Extent.{size_of}
+use Rattle.sz_spec.specs.Modes.{supports, is_stored, number_of, is_listed, way}
+use Rattle.sz_spec.specs.Shapes.{Site}
+use Rattle.sz_spec.specs.Values.{Grid, extents_of}
 use Rattle.sz_spec.proofs.Ways.{number-apart, listed-is_in, way-listed}
 use Rattle.sz_flow.specs.Executions.{Execution}
-use Rattle.sz_query.specs.Views.{used_of}
+use Rattle.sz_query.specs.Views.{view_site, IsUsable, traced_by, used_of}
+use Rattle.sz_query.specs.Laws.{IsFaithful}
 use Rattle.sz_catalogue.specs.Changes.{is_black_box}
-use Rattle.sz_session.specs.Views.{is_map, view_by, strategy_told}
+use Rattle.sz_session.specs.Views.{view_by, strategy_told}
 
 -- the strategy at the front of a list is the one that is looked for, or that is further on
 listed-cases : (t : Strategy) (list : List Strategy) (w : Strategy) → is_listed (t ∷ list) w ≡ true
@@ -58,41 +62,85 @@ pub way-supported : (op : Op) (list : List Strategy) (dir : Dir) → 0 < length 
     → list_all (supports op) list ≡ true → supports op (way list dir) ≡ true
 way-supported op list dir some all = listed-passes (supports op) list (way list dir) all (way-is_listed list dir some)
 
--- a supported way by the mapping is of an operator that has one
-pub mapping-supported : (op : Op) (s : Strategy) → supports op s ≡ true → is_map s ≡ true → has_mapping op ≡ true
-mapping-supported op strategy.Map supported is = supported
-mapping-supported op strategy.FullOneB supported is = cc
-mapping-supported op strategy.FullOneF supported is = cc
-mapping-supported op strategy.FullManyB supported is = cc
-mapping-supported op strategy.FullManyF supported is = cc
-mapping-supported op strategy.PayOne supported is = cc
-mapping-supported op strategy.PayMany supported is = cc
-mapping-supported op strategy.CompOne supported is = cc
-mapping-supported op strategy.CompMany supported is = cc
-mapping-supported op strategy.BlackBox supported is = cc
+-- ---- the view for each way, of which each table has a line
 
--- a way that keeps no store is black box exactly where it is not the mapping
-pub black_box-no_map : (s : Strategy) → is_stored s ≡ false → is_black_box s ≡ not (is_map s)
-black_box-no_map strategy.Map none = refl
-black_box-no_map strategy.FullOneB none = cc
-black_box-no_map strategy.FullOneF none = cc
-black_box-no_map strategy.FullManyB none = cc
-black_box-no_map strategy.FullManyF none = cc
-black_box-no_map strategy.PayOne none = cc
-black_box-no_map strategy.PayMany none = cc
-black_box-no_map strategy.CompOne none = cc
-black_box-no_map strategy.CompMany none = cc
-black_box-no_map strategy.BlackBox none = refl
+-- its operator is that of the execution
+pub view_by-site : (s : Strategy) (e : Execution) → view_site (view_by s e) ≡ e.site
+view_by-site strategy.Map e = refl
+view_by-site strategy.FullOneB e = refl
+view_by-site strategy.FullOneF e = refl
+view_by-site strategy.FullManyB e = refl
+view_by-site strategy.FullManyF e = refl
+view_by-site strategy.PayOne e = refl
+view_by-site strategy.PayMany e = refl
+view_by-site strategy.CompOne e = refl
+view_by-site strategy.CompMany e = refl
+view_by-site strategy.BlackBox e = refl
 
--- what is told of a step by the view for such a way is the way
-pub told-way : (s : Strategy) (e : Execution) → is_stored s ≡ false → strategy_told (used_of (view_by s e)) ≡ s
-told-way strategy.Map e none = refl
-told-way strategy.FullOneB e none = cc
-told-way strategy.FullOneF e none = cc
-told-way strategy.FullManyB e none = cc
-told-way strategy.FullManyF e none = cc
-told-way strategy.PayOne e none = cc
-told-way strategy.PayMany e none = cc
-told-way strategy.CompOne e none = cc
-told-way strategy.CompMany e none = cc
-told-way strategy.BlackBox e none = refl
+-- it can be used where the way is supported
+pub view_by-usable : (s : Strategy) (e : Execution) → supports e.site.op s ≡ true → extents_of e.inputs ≡ e.site.ins
+    → IsUsable (view_by s e)
+view_by-usable strategy.Map e supported ins = supported
+view_by-usable strategy.FullOneB e supported ins = ins
+view_by-usable strategy.FullOneF e supported ins = ins
+view_by-usable strategy.FullManyB e supported ins = ins
+view_by-usable strategy.FullManyF e supported ins = ins
+view_by-usable strategy.PayOne e supported ins = ins
+view_by-usable strategy.PayMany e supported ins = ins
+view_by-usable strategy.CompOne e supported ins = ins
+view_by-usable strategy.CompMany e supported ins = ins
+view_by-usable strategy.BlackBox e supported ins = ins
+
+-- and then it stands for the relation of its operator
+pub view_by-faithful : (s : Strategy) (e : Execution) (gs : List Grid) → supports e.site.op s ≡ true
+    → e.inputs ≡ gs → IsFaithful (view_by s e) gs
+view_by-faithful strategy.Map e gs supported own = supported
+view_by-faithful strategy.FullOneB e gs supported own = own
+view_by-faithful strategy.FullOneF e gs supported own = own
+view_by-faithful strategy.FullManyB e gs supported own = own
+view_by-faithful strategy.FullManyF e gs supported own = own
+view_by-faithful strategy.PayOne e gs supported own = own
+view_by-faithful strategy.PayMany e gs supported own = own
+view_by-faithful strategy.CompOne e gs supported own = own
+view_by-faithful strategy.CompMany e gs supported own = own
+view_by-faithful strategy.BlackBox e gs supported own = own
+
+-- it is told as traced by no more than its output, and where it keeps no store by all of that exactly where the way is
+-- black box
+pub view_by-few : (s : Strategy) (e : Execution) → traced_by (view_by s e) ≤ size_of e.site.out
+view_by-few strategy.Map e = omega arith
+view_by-few strategy.FullOneB e = omega arith
+view_by-few strategy.FullOneF e = omega arith
+view_by-few strategy.FullManyB e = omega arith
+view_by-few strategy.FullManyF e = omega arith
+view_by-few strategy.PayOne e = omega arith
+view_by-few strategy.PayMany e = omega arith
+view_by-few strategy.CompOne e = omega arith
+view_by-few strategy.CompMany e = omega arith
+view_by-few strategy.BlackBox e = omega arith
+
+pub view_by-traced : (s : Strategy) (e : Execution) → is_stored s ≡ false
+    → traced_by (view_by s e) ≡ (if is_black_box s then size_of e.site.out else 0)
+view_by-traced strategy.Map e none = refl
+view_by-traced strategy.FullOneB e none = cc
+view_by-traced strategy.FullOneF e none = cc
+view_by-traced strategy.FullManyB e none = cc
+view_by-traced strategy.FullManyF e none = cc
+view_by-traced strategy.PayOne e none = cc
+view_by-traced strategy.PayMany e none = cc
+view_by-traced strategy.CompOne e none = cc
+view_by-traced strategy.CompMany e none = cc
+view_by-traced strategy.BlackBox e none = refl
+
+-- what is told of a step by it is the way
+pub view_by-told : (s : Strategy) (e : Execution) → is_stored s ≡ false → strategy_told (used_of (view_by s e)) ≡ s
+view_by-told strategy.Map e none = refl
+view_by-told strategy.FullOneB e none = cc
+view_by-told strategy.FullOneF e none = cc
+view_by-told strategy.FullManyB e none = cc
+view_by-told strategy.FullManyF e none = cc
+view_by-told strategy.PayOne e none = cc
+view_by-told strategy.PayMany e none = cc
+view_by-told strategy.CompOne e none = cc
+view_by-told strategy.CompMany e none = cc
+view_by-told strategy.BlackBox e none = refl

@@ -1,5 +1,5 @@
 -- What a line does to a session: its reply, and how many cells are traced for it.
-use Rattle.std.specs.Prelude.{◌≡◌, ℕ, List, Bool, true, false, if◌then◌else◌, Option, Some, None}
+use Rattle.std.specs.Prelude.{◌≡◌, ℕ, List, true, false, if◌then◌else◌, Option, Some, None}
 use Rattle.std.specs.Prelude.{Result, Ok, Err}
 use Rattle.sz_script.specs.declared.command.Command.{Command}
 use Rattle.sz_script.specs.declared.command.Command.TheVariants as command
@@ -18,34 +18,31 @@ Responds old line new None = (is_blank line ≡ true) × (new ≡ old)
 Responds old line new (Some r) =
     (is_blank line ≡ false) × (after_line old line ≡ (new, response_of r))
 
--- how many cells a command traces: an ask or an explain those of the nodes of its path whose way is
--- black box, and any other none
+-- how many cells are told as traced for a command: for an ask or an explain the outputs of the
+-- nodes of its path whose way is black box, and for any other none
 abbrev pub traced_along : Holdings → Command → ℕ
 traced_along c (command.Ask n dir path places) = traced (version_of c n) dir path
 traced_along c (command.Explain n dir path places) = traced (version_of c n) dir path
-traced_along c _ = 0
+traced_along c (command.Array name array) = 0
+traced_along c (command.Layers name array) = 0
+traced_along c (command.Flow name flow) = 0
+traced_along c (command.Strategy name node list) = 0
+traced_along c (command.Start name base) = 0
+traced_along c (command.Await n) = 0
+traced_along c (command.Show n node) = 0
 
--- a command that a rule refuses traces none
+-- none for a command that a rule refuses
 abbrev pub traced_if : Option Refusal → ℕ → ℕ
 traced_if None cells = cells
 traced_if (Some rule) cells = 0
 
 abbrev pub traced_for : Holdings → Command → ℕ
-traced_for c order = traced_if (judged c order) (traced_along c order)
+traced_for c given = traced_if (judged c given) (traced_along c given)
 
 -- and so does a line that is read as no command, and a blank one
-abbrev pub traced_by_reading : Holdings → Result Command Refusal → ℕ
-traced_by_reading c (Err rule) = 0
-traced_by_reading c (Ok order) = traced_for c order
+abbrev pub traced_for_reading : Holdings → Result Command Refusal → ℕ
+traced_for_reading c (Err rule) = 0
+traced_for_reading c (Ok given) = traced_for c given
 
-abbrev pub traced_by : Holdings → List ℕ → ℕ
-traced_by c line = if is_blank line then 0 else traced_by_reading c (reading line)
-
--- the commands that change what is held and leave the runs that are kept: all of these but a start
-abbrev pub keeps_runs : Command → Bool
-keeps_runs (command.Array name array) = true
-keeps_runs (command.Layers name array) = true
-keeps_runs (command.Flow name flow) = true
-keeps_runs (command.Strategy name node list) = true
-keeps_runs (command.Await n) = true
-keeps_runs _ = false
+abbrev pub traced_for_line : Holdings → List ℕ → ℕ
+traced_for_line c line = if is_blank line then 0 else traced_for_reading c (reading line)

@@ -5,15 +5,15 @@ use Rattle.sz_session.specs.Lines.{Cut, before_cut, cut, last_line, is_blank}
 use Rattle.sz_catalogue.specs.Holdings.{Holdings}
 use Rattle.sz_session.specs.Transcript.{replies_to, after_lines}
 
--- the catalogue, the bytes of the line that has not ended, and that line's number
+-- what is held, the bytes of the line that has not ended, and that line's number
 pub record Moment : Type 0 where
-  pub catalogue : Holdings
+  pub held : Holdings
   pub pending : List ℕ
   pub number : ℕ
 
--- before the first byte, from a catalogue
+-- before the first byte, from what is held
 abbrev pub moment_before : Holdings → Moment
-moment_before c = record { catalogue = c; pending = []; number = 1 }
+moment_before c = record { held = c; pending = []; number = 1 }
 
 -- these bytes, cut behind the line that has not ended
 abbrev pub cut_after : Moment → List ℕ → Cut
@@ -21,12 +21,12 @@ cut_after m bytes = before_cut m.pending (cut bytes)
 
 -- what is told of these bytes: the replies of just the lines that end in them
 abbrev pub told_in : Moment → List ℕ → List ℕ
-told_in m bytes = replies_to m.catalogue m.number (cut_after m bytes).whole
+told_in m bytes = replies_to m.held m.number (cut_after m bytes).whole
 
 -- the moment that a cut leaves: the lines that ended are taken, and counted
 abbrev pub moment_of : Moment → Cut → Moment
 moment_of m c = record {
-  catalogue = after_lines m.catalogue c.whole;
+  held = after_lines m.held c.whole;
   pending = c.last;
   number = m.number + length c.whole;
 }
@@ -38,7 +38,7 @@ moment_after m bytes = moment_of m (cut_after m bytes)
 -- what is told where no more bytes come: the reply of the line that has not ended, where it has
 -- bytes
 abbrev pub told_at_end : Moment → List ℕ
-told_at_end m = replies_to m.catalogue m.number (last_line m.pending)
+told_at_end m = replies_to m.held m.number (last_line m.pending)
 
 -- ---- lines that need not be kept whole
 
@@ -50,6 +50,6 @@ Alike a b = (a ≡ b)
 
 -- Two moments are alike: they differ in lines that have not ended, which are alike, alone.
 pub record AreAlike (m n : Moment) : Type 0 where
-  pub catalogue : m.catalogue ≡ n.catalogue
+  pub held : m.held ≡ n.held
   pub number : m.number ≡ n.number
   pub pending : Alike m.pending n.pending

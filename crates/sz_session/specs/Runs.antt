@@ -1,5 +1,6 @@
--- What a session keeps beside what it holds: the runs of its versions.
-use Rattle.std.specs.Prelude.{◌≡◌, ℕ, List, map, Bool, true, not, All}
+-- What a session keeps with its versions: the runs of their nodes. And what stays true of the flows
+-- and versions that it holds.
+use Rattle.std.specs.Prelude.{◌≡◌, List, Bool, true, not, All}
 use Rattle.std.specs.List.{list_all}
 use Rattle.std.specs.Map.{values_of}
 use Rattle.sz_cells.specs.Extent.{Extent}
@@ -13,10 +14,6 @@ use Rattle.sz_catalogue.specs.Kept.{IsWorkflow, IsRun}
 abbrev pub executions_of : Version → List Execution
 executions_of v = executions v.flow (arrays_of v.base)
 
--- the runs of versions, each under its version's number
-abbrev pub runs_of : List (ℕ × Version) → List (ℕ × List Execution)
-runs_of versions = map (λ (e : ℕ × Version). (e.0, executions_of e.1)) versions
-
 -- none of these lists has a strategy that keeps a store
 abbrev pub keep_no_store : List (List Strategy) → Bool
 keep_no_store lists = list_all (λ list. not (names_a_store list)) lists
@@ -29,13 +26,11 @@ pub record IsSoundFlow (w : Workflow) : Type 0 where
 
 -- a version that is held: its flow is well formed, on as many base arrays as it takes, no node's
 -- shape rule is broken, and each node has a list of strategies for it, none of which keeps a store
-pub record IsSoundRun (v : Version) : Type 0 where
+pub record IsSoundVersion (v : Version) : Type 0 where
   pub run : (outputs : List Extent) × IsRun v outputs
   pub no_store : keep_no_store v.lists ≡ true
 
--- What is kept true of a session: the flows and the versions that are held are sound, and the runs
--- that are kept are those of just the versions held, each the executions of its version's nodes.
-pub record KeepsRuns (c : Holdings) (runs : List (ℕ × List Execution)) : Type 0 where
+-- What is kept true of a session: the flows and the versions that are held are sound.
+pub record AreSound (c : Holdings) : Type 0 where
   pub flows : All IsSoundFlow (values_of c.flows)
-  pub versions : All IsSoundRun (values_of c.versions)
-  pub kept : runs ≡ runs_of c.versions
+  pub versions : All IsSoundVersion (values_of c.versions)

@@ -1,6 +1,6 @@
 -- The status that a session ends with, and what it tells.
 use Rattle.std.specs.Prelude.{ℕ, List, Option, Result, Ok, Err, ⊤}
-use Rattle.sz_outside.specs.Outside.{Rose}
+use Rattle.sz_outside.specs.Outside.{Rose, Stood}
 use Rattle.sz_session.specs.Serving.{Done, SaidOfRead, SaidInPart, SaidInLines, SaidToLimit}
 use Rattle.sz_session.specs.declared.feed.Halt.{Halt}
 use Rattle.sz_session.specs.declared.feed.Halt.TheVariants as halt
@@ -26,8 +26,13 @@ Ends status.NoMemory limit before left said_before said = SaidInLines before sai
 Ends status.InputLimit limit before left said_before said =
     SaidToLimit limit before left said_before said
 
--- The count of its object rose, for each status that is a fault's.
-abbrev pub HasFault : Status → ℕ → ℕ → ℕ → ℕ → Type 0
-HasFault status.ReadFault reads_before reads says_before says = Rose reads_before reads
-HasFault status.SayFault reads_before reads says_before says = Rose says_before says
-HasFault _ reads_before reads says_before says = ⊤
+-- What the counts of faults tell of a status: where the session is done none of them rose, and a
+-- status that is a fault's comes only where that count rose.
+abbrev pub AreCounted : Status → ℕ → ℕ → ℕ → ℕ → Type 0
+AreCounted status.Done reads_before reads says_before says =
+    Stood reads_before reads × Stood says_before says
+AreCounted status.Usage reads_before reads says_before says = ⊥
+AreCounted status.ReadFault reads_before reads says_before says = Rose reads_before reads
+AreCounted status.SayFault reads_before reads says_before says = Rose says_before says
+AreCounted status.NoMemory reads_before reads says_before says = ⊤
+AreCounted status.InputLimit reads_before reads says_before says = ⊤

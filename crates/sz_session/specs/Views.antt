@@ -1,5 +1,5 @@
 -- How the steps of a path are answered: the view of each step's node.
-use Rattle.std.specs.Prelude.{◌≡◌, List, Bool, true, false, Some, if◌then◌else◌}
+use Rattle.std.specs.Prelude.{◌≡◌, List, Bool, Some}
 use Rattle.std.specs.List.{list_all, slice_get}
 use Rattle.sz_spec.specs.declared.modes.Dir.{Dir}
 use Rattle.sz_spec.specs.declared.modes.Strategy.{Strategy}
@@ -14,14 +14,19 @@ use Rattle.sz_catalogue.specs.Holdings.{Version}
 use Rattle.sz_catalogue.specs.Changes.{way_of}
 use Rattle.sz_session.specs.Runs.{executions_of}
 
--- the way is the mapping of cells
-abbrev pub is_map : Strategy → Bool
-is_map strategy.Map = true
-is_map _ = false
-
--- the view of an execution for a way: by the mapping where that is the way, and else by a trace
+-- The view of an execution for each way that a step can go. Stores are not kept yet, and no list
+-- has a strategy that keeps one: until then it would be a trace.
 abbrev pub view_by : Strategy → Execution → View
-view_by way e = if is_map way then by_map e.site else by_trace e.site e.inputs
+view_by strategy.Map e = by_map e.site
+view_by strategy.FullOneB e = by_trace e.site e.inputs
+view_by strategy.FullOneF e = by_trace e.site e.inputs
+view_by strategy.FullManyB e = by_trace e.site e.inputs
+view_by strategy.FullManyF e = by_trace e.site e.inputs
+view_by strategy.PayOne e = by_trace e.site e.inputs
+view_by strategy.PayMany e = by_trace e.site e.inputs
+view_by strategy.CompOne e = by_trace e.site e.inputs
+view_by strategy.CompMany e = by_trace e.site e.inputs
+view_by strategy.BlackBox e = by_trace e.site e.inputs
 
 -- the view by which a step is answered: that of the execution of its node, for the way of the step
 abbrev pub IsViewOf : Version → Dir → Step → View → Type 0

@@ -8,7 +8,7 @@
 ghost use Rattle.std.specs.Prelude.{◌≡◌, ℕ, List, Option, ◌<◌, ◌≤◌, ◌+◌, ◌-◌, ◌^◌};
 ghost use Rattle.std.specs.Prelude.{◌++◌, [], ◌∷◌, Err, IfOk, OnOk, OnErr, MatchOption, length};
 ghost use Rattle.std.specs.Prelude.{drop, take, slice_index, true, false};
-ghost use Rattle.sz_outside.specs.Outside.{Rose, Says, SaysPart};
+ghost use Rattle.sz_outside.specs.Outside.{Rose, Stood, Says, SaysPart};
 ghost use Rattle.sz_session.specs.Lines.{is_blank, is_within_line};
 ghost use Rattle.sz_catalogue.specs.Holdings.{no_holdings};
 ghost use Rattle.sz_session.specs.Moments.{moment_before, cut_after, told_in, told_at_end, Alike};
@@ -21,7 +21,7 @@ use std::marker::Model;
 use std::thread::Threads;
 use sz_catalogue::{Reply, reply_text};
 use sz_cells::NoMemory;
-use sz_outside::{Gate, Station};
+use sz_outside::{Failed, Gate, Station};
 use sz_script::LINE_LIMIT;
 use sz_spec::Tally;
 
@@ -45,17 +45,29 @@ impl Model for Feed {
     ghost Value = { Moment };
 
     ghost view = { λ f. record {
-      catalogue = f.session;
+      held = f.session;
       pending = f.pending.items;
       number = f.number;
     } };
 }
 
-/// Why a session stopped within a piece.
+/// Why a session stopped within a chunk.
 #[derive(Clone, Copy, Debug, Drop, PartialEq, Eq)]
 pub enum Halt {
     SayFault,
     NoMemory,
+}
+
+/// A say that failed.
+impl From<Failed> for Halt {
+    ghost use Rattle.std.specs.Prelude.{◌≡◌};
+    ghost use Rattle.sz_session.specs.declared.feed.Halt.TheVariants as halt;
+
+    ghost from_gives = { λ _ e. e ≡ halt.SayFault };
+
+    fn from(_fault: Failed) -> Halt {
+        Halt::SayFault
+    }
 }
 
 impl From<AllocError> for Halt {
@@ -105,35 +117,35 @@ impl Feed {
         })
     }
 
-    /// Takes in a piece of what the source gave, and says the replies of the lines that end in it.
-    /// Beside what its lines take, it takes time in the length of the piece.
-    pub fn take_piece<T: Station, G: Gate, R: Threads + Sync>(
+    /// Takes in a chunk of what the source gave, and says the replies of the lines that end in it.
+    /// Beside what its lines take, it takes time in the length of the chunk.
+    pub fn take_chunk<T: Station, G: Gate, R: Threads + Sync>(
         &mut self,
         rt: &R,
-        piece: &[u8],
+        chunk: &[u8],
         station: &mut T,
         gate: &G,
     ) -> Result<(), Halt>
-        requires { self.old.number + length piece.now < 2 ^ 64 }
-        ensures piece { OnOk result (
-            Advances (T.said station.old) (T.said station.new) self.old self.new piece.now) }
+        requires { self.old.number + length chunk.now < 2 ^ 64 }
+        ensures chunk { OnOk result (
+            Advances (T.said station.old) (T.said station.new) self.old self.new chunk.now) }
         ensures part { result ≡ Err Halt.SayFault
-            → SaysPart (T.said station.old) (T.said station.new) (told_in self.old piece.now) }
+            → SaysPart (T.said station.old) (T.said station.new) (told_in self.old chunk.now) }
         ensures first { result ≡ Err Halt.NoMemory
             → SaysFirst (T.said station.old) (T.said station.new)
-            self.old.catalogue self.old.number (cut_after self.old piece.now).whole }
-        ensures number { OnOk result (self.new.number ≤ self.old.number + length piece.now) }
+            self.old.held self.old.number (cut_after self.old chunk.now).whole }
+        ensures number { OnOk result (self.new.number ≤ self.old.number + length chunk.now) }
         ensures fault { result ≡ Err Halt.SayFault
             → Rose (T.say_faults station.old) (T.say_faults station.new) }
-        ensures counts { T.say_faults station.old ≤ T.say_faults station.new }
+        ensures quiet { OnOk result (Stood (T.say_faults station.old) (T.say_faults station.new)) }
     {
         let mut start = 0;
-        while let Some(at) = newline_from(piece, start) {
-            self.extend(&piece[start..at])?;
+        while let Some(at) = newline_from(chunk, start) {
+            self.extend(&chunk[start..at])?;
             self.end_line(rt, station, gate)?;
             start = at + 1;
         }
-        self.extend(&piece[start..])
+        self.extend(&chunk[start..])
     }
 
     /// Ends the input: the line that has not ended is answered where it has bytes.
@@ -152,7 +164,7 @@ impl Feed {
             → Says (T.said station.old) (T.said station.new) [] }
         ensures fault { result ≡ Err Halt.SayFault
             → Rose (T.say_faults station.old) (T.say_faults station.new) }
-        ensures counts { T.say_faults station.old ≤ T.say_faults station.new }
+        ensures quiet { OnOk result (Stood (T.say_faults station.old) (T.say_faults station.new)) }
     {
         if self.pending.as_slice().is_empty() {
             Ok(())
@@ -192,7 +204,7 @@ impl Feed {
         ensures next { OnOk result (self.new.number ≡ self.old.number + 1) }
         ensures fault { result ≡ Err Halt.SayFault
             → Rose (T.say_faults station.old) (T.say_faults station.new) }
-        ensures counts { T.say_faults station.old ≤ T.say_faults station.new }
+        ensures quiet { OnOk result (Stood (T.say_faults station.old) (T.say_faults station.new)) }
     {
         let mut tally = Tally::new();
         let reply = self
@@ -221,27 +233,25 @@ fn say<T: Station>(
         → Says (T.said station.old) (T.said station.new) [] }
     ensures fault { result ≡ Err Halt.SayFault
         → Rose (T.say_faults station.old) (T.say_faults station.new) }
-    ensures counts { T.say_faults station.old ≤ T.say_faults station.new }
+    ensures quiet { OnOk result (Stood (T.say_faults station.old) (T.say_faults station.new)) }
 {
     let Some(reply) = reply else {
         return Ok(());
     };
     let line = reply_text(alloc, number, &reply)?;
-    match station.say(&line) {
-        Ok(()) => Ok(()),
-        Err(_) => Err(Halt::SayFault),
-    }
+    station.say(&line)?;
+    Ok(())
 }
 
 /// The place of the first byte 10 from a place on.
-fn newline_from(piece: &[u8], start: usize) -> Option<usize>
-    requires { start ≤ length piece.now }
-    ensures { MatchOption result (is_within_line (drop start piece.now) ≡ true)
-        (λ at. (start ≤ at) × (at < length piece.now) × (slice_index piece.now at ≡ 10)
-        × (is_within_line (take (at - start) (drop start piece.now)) ≡ true)) }
+fn newline_from(chunk: &[u8], start: usize) -> Option<usize>
+    requires { start ≤ length chunk.now }
+    ensures { MatchOption result (is_within_line (drop start chunk.now) ≡ true)
+        (λ at. (start ≤ at) × (at < length chunk.now) × (slice_index chunk.now at ≡ 10)
+        × (is_within_line (take (at - start) (drop start chunk.now)) ≡ true)) }
 {
-    for at in start..piece.len() {
-        if piece[at] == b'\n' {
+    for at in start..chunk.len() {
+        if chunk[at] == b'\n' {
             return Some(at);
         }
     }

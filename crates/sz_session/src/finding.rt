@@ -7,14 +7,15 @@ ghost use Rattle.sz_cells.specs.Extent.{holds};
 ghost use Rattle.sz_cells.specs.Cells.{named_in};
 ghost use Rattle.sz_spec.specs.Paths.{is_joined, source_of, is_there};
 ghost use Rattle.sz_flow.specs.Executions.{execution_of};
-ghost use Rattle.sz_query.specs.Views.{view_of, traced_by};
+ghost use Rattle.sz_query.specs.Views.{view_of, by_map, by_trace, traced_by};
 ghost use Rattle.sz_query.specs.Answers.{traced_of};
 ghost use Rattle.sz_catalogue.specs.Starts.{step_start, path_start, cell_of_place};
 ghost use Rattle.sz_catalogue.specs.Rules.{has_place};
 ghost use Rattle.sz_catalogue.specs.Changes.{cells_answered, way_of, traced};
-ghost use Rattle.sz_session.specs.Runs.{IsSoundRun, executions_of};
-ghost use Rattle.sz_session.specs.Views.{is_map, IsViewOf, strategy_told, are_there};
+ghost use Rattle.sz_session.specs.Runs.{IsSoundVersion, executions_of};
+ghost use Rattle.sz_session.specs.Views.{view_by, IsViewOf, strategy_told, are_there};
 
+use crate::runs::RunList;
 use std::alloc::Global;
 use std::sync::Arc;
 use sz_catalogue::HeldVersion;
@@ -29,14 +30,14 @@ use sz_spec::{Array, ArrayList, Dir, Strategy, Tally, way};
 /// traced. Takes time by these and by the cells that the mapped steps touch.
 pub(crate) fn find(
     alloc: Global,
-    version: &HeldVersion,
+    version: &HeldVersion<RunList>,
     runs: &[NodeRun],
     dir: Dir,
     path: &Path,
     places: &PlaceList,
     tally: &mut Tally,
 ) -> Result<Found, NoMemory>
-    requires sound { IsSoundRun version.now }
+    requires sound { IsSoundVersion version.now }
     requires runs { map execution_of runs.now ≡ executions_of version.now }
     requires joined { is_joined dir version.now.flow path.now ≡ true }
     requires places { list_all (has_place (path_start dir version.now path.now)) places.now ≡ true }
@@ -58,8 +59,8 @@ pub(crate) fn find(
 }
 
 /// The shape in which a step starts: backward, of its node's output; forward, of its input.
-fn start_of(_version: &HeldVersion, runs: &[NodeRun], dir: Dir, step: PathStep) -> Shape
-    requires sound { IsSoundRun _version.now }
+fn start_of(_version: &HeldVersion<RunList>, runs: &[NodeRun], dir: Dir, step: PathStep) -> Shape
+    requires sound { IsSoundVersion _version.now }
     requires runs { map execution_of runs.now ≡ executions_of _version.now }
     requires there { is_there (source_of _version.now.flow step) ≡ true }
     ensures { result ≡ step_start dir _version.now step }
@@ -110,12 +111,12 @@ fn inputs_of(alloc: Global, path: &[PathStep]) -> Result<Vec<u32>, NoMemory>
 /// The view of each step's node.
 fn views_of(
     alloc: Global,
-    version: &HeldVersion,
+    version: &HeldVersion<RunList>,
     runs: &[NodeRun],
     dir: Dir,
     path: &[PathStep],
 ) -> Result<Vec<NodeView>, NoMemory>
-    requires sound { IsSoundRun version.now }
+    requires sound { IsSoundVersion version.now }
     requires runs { map execution_of runs.now ≡ executions_of version.now }
     requires there { are_there version.now.flow path.now ≡ true }
     ensures views { IfOk result
@@ -130,39 +131,63 @@ fn views_of(
     Ok(views)
 }
 
-/// The view of a step's node: by its mapping where that is the step's way, and else over its run.
+/// The view of a step's node, for the way of the step.
 fn view_at(
     alloc: Global,
-    version: &HeldVersion,
+    version: &HeldVersion<RunList>,
     runs: &[NodeRun],
     dir: Dir,
     step: PathStep,
 ) -> Result<NodeView, NoMemory>
-    requires sound { IsSoundRun version.now }
+    requires sound { IsSoundVersion version.now }
     requires runs { map execution_of runs.now ≡ executions_of version.now }
     requires there { is_there (source_of version.now.flow step) ≡ true }
     ensures view { IfOk result (λ w. IsViewOf version.now dir step (view_of w)) }
     ensures few { IfOk result (λ w. traced_by (view_of w) ≤ 1048576) }
 {
     let run = &runs[step.node as usize];
+    laws::a_shape_is_within_limits(&run.at.out());
     let lists = version.lists.as_slice();
     let list = &lists[step.node as usize];
-    let at = Arc::try_clone(&run.at)?;
-    laws::a_shape_is_within_limits(&at.out());
-    if is_map(way(list.as_slice(), dir)) {
-        return Ok(NodeView::Mapped { at });
+    view_by(alloc, way(list.as_slice(), dir), run)
+}
+
+/// The view of a node's run for a way: what a strategy keeps is looked at by a view of its kind.
+fn view_by(alloc: Global, way: Strategy, run: &NodeRun) -> Result<NodeView, NoMemory>
+    ensures { IfOk result (λ w. view_of w ≡ view_by way (execution_of run.now)) }
+{
+    match way {
+        Strategy::Map => map_view(run),
+        Strategy::FullOneB
+        | Strategy::FullOneF
+        | Strategy::FullManyB
+        | Strategy::FullManyF
+        | Strategy::PayOne
+        | Strategy::PayMany
+        | Strategy::CompOne
+        | Strategy::CompMany
+        | Strategy::BlackBox => trace_view(alloc, run),
     }
+}
+
+/// The view by the mapping of cells.
+fn map_view(run: &NodeRun) -> Result<NodeView, NoMemory>
+    ensures { IfOk result (λ w. view_of w ≡ by_map (execution_of run.now).site) }
+{
+    let at = Arc::try_clone(&run.at)?;
+    Ok(NodeView::Mapped { at })
+}
+
+/// The view by a trace over the arrays that the node took.
+fn trace_view(alloc: Global, run: &NodeRun) -> Result<NodeView, NoMemory>
+    ensures { IfOk result (λ w. view_of w
+        ≡ by_trace (execution_of run.now).site (execution_of run.now).inputs) }
+{
+    let at = Arc::try_clone(&run.at)?;
     let inputs = share(alloc, &run.inputs)?;
     Ok(NodeView::Traced {
         run: NodeRunRef { at, inputs },
     })
-}
-
-/// Whether a way is the mapping of cells.
-fn is_map(way: Strategy) -> bool
-    ensures { result ≡ is_map way }
-{
-    matches!(way, Strategy::Map)
 }
 
 /// The same arrays, shared once more.

@@ -17,10 +17,10 @@
 //! {"show":1,"node":0}                                                 6 values 1 1 -5
 //! ```
 //!
-//! The path of a line: `serving` reads pieces, `feed` cuts them into lines, and
+//! The path of a line: `serving` reads chunks, `feed` cuts them into lines, and
 //! [`Session::command`] gives the reply of each: it has the line read and judged, and then taken by
-//! the catalogue (`accept`), started (`starting` computes the values of all nodes, and `runs` keeps
-//! them by the version's number), answered along its path (`finding`), or shown. `docs/FORMATS.md`
+//! the catalogue (`accept`), started (`starting` computes the values of all nodes, and the version
+//! that is held carries them), answered along its path (`finding`), or shown. `docs/FORMATS.md`
 //! describes lines and replies, `docs/DEFINITIONS.md` reads the definitions aloud.
 //!
 //! To whoever changes this crate: what bytes tell as they come, and the moment that they leave, are
@@ -28,9 +28,9 @@
 //! moment (`AreAlike`), since it keeps less of a line past the limit; `serving` carries from turn
 //! to turn that every whole line so far has its reply said (`Answered` of `specs/Serving.antt`),
 //! and the one function that reads asks for it. All that these rest on of a line's meaning is that
-//! one which is too long is refused for that. A session keeps the runs of just the versions held
-//! (`KeepsRuns` of `specs/Runs.antt`), and that no list has a strategy that keeps a store: a view
-//! is then the mapping or a trace, and the way that is told is the one that was gone. What is
+//! one which is too long is refused for that. How a way is looked at is the one table `view_by` of
+//! `finding` and of `specs/Views.antt`. No list that is held has a strategy that keeps a store
+//! (`AreSound` of `specs/Runs.antt`), so the way that is told is the one that was gone. What is
 //! answered by views of a path's nodes is the composed relation, by `sz_query`'s law; that these
 //! views are those of the nodes is read off the executions, in `proofs/Steps` and
 //! `proofs/PathViews`.

@@ -5,10 +5,10 @@
 //! session, and gives the same with the bytes read: so no read is made while a reply is still to be
 //! said.
 ghost use Rattle.std.specs.Prelude.{◌≡◌, ◌⊎◌, ℕ, ◌<◌, ◌≤◌, ◌+◌, ◌-◌, ◌^◌};
-ghost use Rattle.std.specs.Prelude.{◌↔◌, true, false, Ok, Err, IfOk, IfErr, OnErr, length, map};
+ghost use Rattle.std.specs.Prelude.{◌↔◌, true, false, Ok, Err, IfOk, IfErr, OnOk, OnErr, length, map};
 ghost use Rattle.std.specs.Prelude.{string_bytes};
-ghost use Rattle.sz_outside.specs.Outside.{Rose, Gives, Keeps};
-ghost use Rattle.sz_session.specs.Statuses.{halt_status, end_status, Ends, HasFault};
+ghost use Rattle.sz_outside.specs.Outside.{Rose, Stood, Gives, Keeps};
+ghost use Rattle.sz_session.specs.Statuses.{end_status, Ends, AreCounted};
 ghost use Rattle.sz_session.specs.Serving.{are_play, Done, SaidOfRead, SaidToLimit, SaidInPart};
 ghost use Rattle.sz_session.specs.Serving.{SaidInLines, IsPastLimit, IsWithinLimit, Opening};
 ghost use Rattle.sz_session.specs.Serving.{Answered, AreAll};
@@ -36,14 +36,41 @@ pub enum Status {
     InputLimit = 9,
 }
 
+/// A read that failed. What fails of a say comes as a [`Halt`].
+impl From<Failed> for Status {
+    ghost use Rattle.std.specs.Prelude.{◌≡◌};
+    ghost use Rattle.sz_session.specs.declared.serving.Status.TheVariants as status;
+
+    ghost from_gives = { λ _ s. s ≡ status.ReadFault };
+
+    fn from(_fault: Failed) -> Status {
+        Status::ReadFault
+    }
+}
+
+/// A session that stopped.
+impl From<Halt> for Status {
+    ghost use Rattle.std.specs.Prelude.{◌≡◌};
+    ghost use Rattle.sz_session.specs.Statuses.{halt_status};
+
+    ghost from_gives = { λ halt s. s ≡ halt_status halt };
+
+    fn from(halt: Halt) -> Status {
+        match halt {
+            Halt::SayFault => Status::SayFault,
+            Halt::NoMemory => Status::NoMemory,
+        }
+    }
+}
+
 /// The most bytes that one read asks for.
-const PIECE: usize = 65_536;
+const CHUNK: usize = 65_536;
 
 /// The most bytes of a session.
 const LIMIT: u64 = 1 << 62;
 
 /// Runs the program: `words` are those of the command line without the program's name. It reads
-/// pieces of at most 65,536 bytes, and before each read every whole line read so far has its reply
+/// chunks of at most 65,536 bytes, and before each read every whole line read so far has its reply
 /// said.
 ///
 /// The gate is called after each accepted ask and explain, when its answer is found. Nothing waits
@@ -58,6 +85,9 @@ pub fn serve<
         → Done (2 ^ 62) (S.left source.old) (S.left source.new)
         (T.said station.old) (T.said station.new) }
     ensures usage { (result ≡ Status.Usage) ↔ (are_play (map string_bytes words.now) ≡ false) }
+    ensures quiet { result ≡ Status.Done
+        → Stood (S.faults source.old) (S.faults source.new)
+        × Stood (T.say_faults station.old) (T.say_faults station.new) }
     ensures untouched { result ≡ Status.Usage
         → (source.new ≡ source.old) × (station.new ≡ station.old) }
     ensures read_fault { result ≡ Status.ReadFault
@@ -110,10 +140,10 @@ fn play<S: Source, T: Station, G: Gate, R: Threads + Sync>(
     requires { limit ≤ LIMIT }
     ensures ends { Ends result limit (S.left source.old) (S.left source.new)
         (T.said station.old) (T.said station.new) }
-    ensures fault { HasFault result (S.faults source.old) (S.faults source.new)
+    ensures fault { AreCounted result (S.faults source.old) (S.faults source.new)
         (T.say_faults station.old) (T.say_faults station.new) }
 {
-    let Ok(mut buffer) = vec![in alloc; 0u8; PIECE] else {
+    let Ok(mut buffer) = vec![in alloc; 0u8; CHUNK] else {
         return Status::NoMemory;
     };
     let Ok(mut feed) = Feed::new(alloc) else {
@@ -134,18 +164,18 @@ fn read_all<S: Source, T: Station, G: Gate, R: Threads + Sync>(
     limit: u64,
 ) -> Status
     ghost opening: { Opening }
-    requires room { length buffer.old ≡ PIECE }
+    requires room { length buffer.old ≡ CHUNK }
     requires limit { limit ≤ LIMIT }
     requires number { feed.old.number ≡ 1 }
     requires answered { Answered opening.left (S.left source.old)
         opening.said (T.said station.old) feed.old 0 }
     ensures ends { Ends result limit opening.left (S.left source.new)
         opening.said (T.said station.new) }
-    ensures fault { HasFault result (S.faults source.old) (S.faults source.new)
+    ensures fault { AreCounted result (S.faults source.old) (S.faults source.new)
         (T.say_faults station.old) (T.say_faults station.new) }
 {
     let mut total = 0u64;
-    'pieces: loop {
+    'chunks: loop {
         match take_turn(rt, source, station, gate, buffer, feed, total, limit) {
             Ok(0) => return status_of_end(feed.end_input(rt, station, gate)),
             Ok(count) => total += count as u64,
@@ -154,7 +184,7 @@ fn read_all<S: Source, T: Station, G: Gate, R: Threads + Sync>(
     }
 }
 
-/// One turn: reads at most a piece, and says the replies of the lines that end in it. Gives how
+/// One turn: reads at most a chunk, and says the replies of the lines that end in it. Gives how
 /// many bytes were read, or the status that the session ends with.
 fn take_turn<S: Source, T: Station, G: Gate, R: Threads + Sync>(
     rt: &R,
@@ -167,7 +197,7 @@ fn take_turn<S: Source, T: Station, G: Gate, R: Threads + Sync>(
     limit: u64,
 ) -> Result<usize, Status>
     ghost opening: { Opening }
-    requires room { length buffer.old ≡ PIECE }
+    requires room { length buffer.old ≡ CHUNK }
     requires limit { limit ≤ LIMIT }
     requires within { total ≤ limit }
     requires number { feed.old.number ≤ total + 1 }
@@ -180,27 +210,23 @@ fn take_turn<S: Source, T: Station, G: Gate, R: Threads + Sync>(
     ensures all { result ≡ Ok 0 → AreAll opening.left total }
     ensures ends { IfErr result (λ status. Ends status limit opening.left (S.left source.new)
         opening.said (T.said station.new)) }
-    ensures fault { IfErr result (λ status. HasFault status
+    ensures fault { IfErr result (λ status. AreCounted status
         (S.faults source.old) (S.faults source.new)
         (T.say_faults station.old) (T.say_faults station.new)) }
-    ensures reads { S.faults source.old ≤ S.faults source.new }
-    ensures says { T.say_faults station.old ≤ T.say_faults station.new }
+    ensures quiet { OnOk result (Stood (S.faults source.old) (S.faults source.new)
+        × Stood (T.say_faults station.old) (T.say_faults station.new)) }
 {
-    let Ok(count) = read_piece(source, buffer, feed, station, total, limit) else {
-        return Err(Status::ReadFault);
-    };
+    let count = read_chunk(source, buffer, feed, station, total, limit)?;
     if total == limit && count > 0 {
         return Err(Status::InputLimit);
     }
-    match feed.take_piece(rt, &buffer[..count], station, gate) {
-        Ok(()) => Ok(count),
-        Err(halt) => Err(status_of(halt)),
-    }
+    feed.take_chunk(rt, &buffer[..count], station, gate)?;
+    Ok(count)
 }
 
 /// The one read of a turn, into the front of the buffer. Feed and station are lent for the contract
 /// alone: a read may be made only where every whole line read so far has its reply said.
-fn read_piece<S: Source, T: Station>(
+fn read_chunk<S: Source, T: Station>(
     source: &mut S,
     buffer: &mut [u8],
     _feed: &Feed,
@@ -209,7 +235,7 @@ fn read_piece<S: Source, T: Station>(
     limit: u64,
 ) -> Result<usize, Failed>
     ghost opening: { Opening }
-    requires room { length buffer.old ≡ PIECE }
+    requires room { length buffer.old ≡ CHUNK }
     requires within { total ≤ limit }
     requires answered { Answered opening.left (S.left source.old)
         opening.said (T.said _station.now) _feed.now total }
@@ -221,7 +247,7 @@ fn read_piece<S: Source, T: Station>(
         Gives (S.left source.old) (S.left source.new) buffer.new count) }
     ensures fault { OnErr result (Rose (S.faults source.old) (S.faults source.new)) }
     ensures kept { OnErr result (Keeps (S.left source.old) (S.left source.new)) }
-    ensures counts { S.faults source.old ≤ S.faults source.new }
+    ensures quiet { OnOk result (Stood (S.faults source.old) (S.faults source.new)) }
 {
     let room = room_after(total, limit);
     source.read(&mut buffer[..room])
@@ -238,17 +264,7 @@ fn room_after(total: u64, limit: u64) -> usize
     if total == limit {
         1
     } else {
-        (limit - total).min(PIECE as u64) as usize
-    }
-}
-
-/// The status of a session that stopped.
-fn status_of(halt: Halt) -> Status
-    ensures { result ≡ halt_status halt }
-{
-    match halt {
-        Halt::SayFault => Status::SayFault,
-        Halt::NoMemory => Status::NoMemory,
+        (limit - total).min(CHUNK as u64) as usize
     }
 }
 
@@ -258,7 +274,7 @@ fn status_of_end(end: Result<(), Halt>) -> Status
 {
     match end {
         Ok(()) => Status::Done,
-        Err(halt) => status_of(halt),
+        Err(halt) => Status::from(halt),
     }
 }
 

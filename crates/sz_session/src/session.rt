@@ -1,7 +1,7 @@
-//! A session: what is held, the runs of the versions held, and what a line does to them.
+//! A session: what is held, and what a line does to it.
 //!
-//! Contracts see a session as its `Holdings`. Beside these it keeps, for just the versions held,
-//! the runs of their nodes (`KeepsRuns` of `specs/Runs.antt`), so that no value is computed twice.
+//! Contracts see a session as its `Holdings`. Each version that is held carries the runs of its
+//! nodes (`RunList`), so that no value is computed twice.
 
 ghost use Rattle.std.specs.Prelude.{◌≡◌, ◌+◌, ◌*◌, ◌^◌, ◌<◌, ◌≤◌, true, false, None, Err, map};
 ghost use Rattle.std.specs.Prelude.{IfOk, OnOk, OnErr};
@@ -11,15 +11,14 @@ ghost use Rattle.sz_catalogue.specs.Holdings.{no_holdings};
 ghost use Rattle.sz_catalogue.specs.Rules.{judged, version_of, has_no_version, is_not_joined};
 ghost use Rattle.sz_catalogue.specs.Rules.{is_out_of_range};
 ghost use Rattle.sz_catalogue.specs.Changes.{accepted, after_command, cells_answered, way_of};
-ghost use Rattle.sz_catalogue.specs.Changes.{traced};
+ghost use Rattle.sz_catalogue.specs.Changes.{traced, changes_without_start};
 ghost use Rattle.sz_catalogue.specs.Seen.{response_of};
-ghost use Rattle.sz_session.specs.Commands.{Responds, traced_by, traced_for, traced_along};
-ghost use Rattle.sz_session.specs.Commands.{keeps_runs};
+ghost use Rattle.sz_session.specs.Commands.{Responds, traced_for_line, traced_for, traced_along};
 ghost use Rattle.sz_session.specs.Views.{strategy_told};
 
 use crate::blank::is_blank;
 use crate::finding::find;
-use crate::runs::HeldRuns;
+use crate::runs::RunList;
 use crate::starting::run_version;
 use std::alloc::Global;
 use std::marker::Model;
@@ -34,11 +33,10 @@ use sz_script::{
 };
 use sz_spec::{Dir, Strategy, Tally};
 
-/// A session: what is held, and the runs of the versions held.
+/// A session: what is held, each version with the runs of its nodes.
 #[derive(Drop)]
 pub struct Session {
-    catalogue: Catalogue,
-    runs: HeldRuns,
+    catalogue: Catalogue<RunList>,
     alloc: Global,
     _workers: u32,
     _askers: u32,
@@ -46,13 +44,13 @@ pub struct Session {
 
 impl Model for Session {
     ghost use Rattle.sz_catalogue.specs.Holdings.{Holdings};
-    ghost use Rattle.sz_session.specs.Runs.{KeepsRuns};
+    ghost use Rattle.sz_session.specs.Runs.{AreSound};
 
     ghost Value = { Holdings };
 
     ghost view = { λ s. s.catalogue };
 
-    ghost invariant = { λ s. KeepsRuns s.catalogue s.runs };
+    ghost invariant = { λ s. AreSound s.catalogue };
 }
 
 /// Why a command was not done.
@@ -83,7 +81,6 @@ impl Session {
     {
         Ok(Session {
             catalogue: Catalogue::new(alloc),
-            runs: HeldRuns::new(alloc),
             alloc,
             _workers: workers,
             _askers: askers,
@@ -92,7 +89,8 @@ impl Session {
 
     /// Does what a line orders, and gives its reply; a blank line has none. The gate is called once
     /// for an ask or explain that is accepted, when its answer is found. The tally rises by the
-    /// cells that are traced for it.
+    /// output sizes of the steps that are told as traced, which says nothing of how a step was
+    /// worked out.
     ///
     /// A start costs the values of its nodes, each computed once. Any other line costs what it
     /// reads, looks up and answers.
@@ -107,7 +105,7 @@ impl Session {
     ) -> Result<Option<Reply>, Stop>
         requires { tally.old + 32 * 1048576 < 2 ^ 63 }
         ensures reply { IfOk result (λ r. Responds self.old line.now self.new r) }
-        ensures tally { OnOk result (tally.new ≡ tally.old + traced_by self.old line.now) }
+        ensures tally { OnOk result (tally.new ≡ tally.old + traced_for_line self.old line.now) }
         ensures stop { OnErr result (result ≡ Err Stop.NoMemory) }
         ensures kept { OnErr result (self.new ≡ self.old) }
         ensures station { _station.new ≡ _station.old }
@@ -191,11 +189,11 @@ impl Session {
         }
     }
 
-    /// Takes a command that changes what is held and starts no version: the runs stay.
+    /// Takes a command that changes what is held and starts no version.
     fn accept(&mut self, command: Command) -> Result<Reply, NoMemory>
         requires right { is_right command ≡ true }
         requires judged { judged self.old command ≡ None }
-        requires kind { keeps_runs command ≡ true }
+        requires kind { changes_without_start command ≡ true }
         ensures reply { IfOk result (λ r. accepted self.old command ≡ (self.new, response_of r)) }
         ensures kept { OnErr result (self.new ≡ self.old) }
     {
@@ -203,7 +201,7 @@ impl Session {
         Ok(reply)
     }
 
-    /// Starts a version: computes the values of its nodes, and keeps its runs under its number.
+    /// Starts a version: computes the values of its nodes, and holds it with its runs.
     fn start<R: Threads + Sync>(
         &mut self,
         rt: &R,
@@ -223,61 +221,44 @@ impl Session {
             name.as_str(),
             base.as_slice(),
         )?;
-        let number = self.runs.next_number();
-        self.runs.insert(number, runs)?;
-        match self.catalogue.accept(Command::Start { name, base }) {
-            Ok(reply) => Ok(reply),
-            Err(NoMemory) => {
-                self.runs.remove(number);
-                Err(NoMemory)
-            }
-        }
+        let reply = self.catalogue.start(name, base.as_slice(), runs)?;
+        Ok(reply)
     }
 
     /// What is found along a path of a version, for an ask or explain that no rule refuses.
     fn find(
         &self,
-        number: u32,
+        version: u32,
         dir: Dir,
         path: &Path,
         places: &PlaceList,
         tally: &mut Tally,
     ) -> Result<Found, NoMemory>
-        requires version { has_no_version self.now number ≡ false }
-        requires joined { is_not_joined self.now number dir path.now ≡ false }
-        requires range { is_out_of_range self.now number dir path.now places.now ≡ false }
+        requires version { has_no_version self.now version ≡ false }
+        requires joined { is_not_joined self.now version dir path.now ≡ false }
+        requires range { is_out_of_range self.now version dir path.now places.now ≡ false }
         requires room { tally.old + 32 * 1048576 < 2 ^ 63 }
         ensures cells { IfOk result
-            (λ f. f.cells ≡ cells_answered (version_of self.now number) dir path.now places.now) }
+            (λ f. f.cells ≡ cells_answered (version_of self.now version) dir path.now places.now) }
         ensures ways { IfOk result (λ f. map strategy_told f.used
-            ≡ map (way_of (version_of self.now number) dir) path.now) }
+            ≡ map (way_of (version_of self.now version) dir) path.now) }
         ensures traced { IfOk result
-            (λ f. f.traced ≡ traced (version_of self.now number) dir path.now) }
+            (λ f. f.traced ≡ traced (version_of self.now version) dir path.now) }
         ensures ticks { OnOk result
-            (tally.new ≡ tally.old + traced (version_of self.now number) dir path.now) }
+            (tally.new ≡ tally.old + traced (version_of self.now version) dir path.now) }
         ensures kept { OnErr result (tally.new ≡ tally.old) }
     {
-        let Some(version) = self.catalogue.version(number) else {
+        let Some(held) = self.catalogue.version(version) else {
             unreachable!()
         };
-        let Some(runs) = self.runs.get(number) else {
-            unreachable!()
-        };
-        find(
-            self.alloc,
-            version,
-            runs.as_slice(),
-            dir,
-            path,
-            places,
-            tally,
-        )
+        let runs = held.kept.as_slice();
+        find(self.alloc, held, runs, dir, path, places, tally)
     }
 
     /// By which way each step of a path is answered, and how many cells are traced.
     fn explain<G: Gate>(
         &self,
-        number: u32,
+        version: u32,
         dir: Dir,
         path: &Path,
         places: &PlaceList,
@@ -285,14 +266,14 @@ impl Session {
         gate: &G,
         tally: &mut Tally,
     ) -> Result<Reply, NoMemory>
-        requires judged { judged self.now (order.Explain number dir path.now places.now) ≡ None }
+        requires judged { judged self.now (order.Explain version dir path.now places.now) ≡ None }
         requires room { tally.old + 32 * 1048576 < 2 ^ 63 }
         ensures reply { IfOk result (λ r. accepted self.now
-            (order.Explain number dir path.now places.now) ≡ (self.now, response_of r)) }
+            (order.Explain version dir path.now places.now) ≡ (self.now, response_of r)) }
         ensures tally { OnOk result
-            (tally.new ≡ tally.old + traced (version_of self.now number) dir path.now) }
+            (tally.new ≡ tally.old + traced (version_of self.now version) dir path.now) }
     {
-        let found = self.find(number, dir, path, places, tally)?;
+        let found = self.find(version, dir, path, places, tally)?;
         let used = strategies_told(self.alloc, found.used.as_slice())?;
         gate.after_ask(line);
         Ok(Reply::Explain {
@@ -302,15 +283,15 @@ impl Session {
     }
 
     /// The output of a node of a version, for a show that no rule refuses.
-    fn show(&self, number: u32, node: u32) -> Result<Reply, NoMemory>
-        requires { judged self.now (order.Show number node) ≡ None }
+    fn show(&self, version: u32, node: u32) -> Result<Reply, NoMemory>
+        requires { judged self.now (order.Show version node) ≡ None }
         ensures { IfOk result
-            (λ r. accepted self.now (order.Show number node) ≡ (self.now, response_of r)) }
+            (λ r. accepted self.now (order.Show version node) ≡ (self.now, response_of r)) }
     {
-        let Some(runs) = self.runs.get(number) else {
+        let Some(held) = self.catalogue.version(version) else {
             unreachable!()
         };
-        let run = &runs.as_slice()[node as usize];
+        let run = &held.kept.as_slice()[node as usize];
         Ok(Reply::Values {
             array: Arc::try_clone(&run.out)?,
         })

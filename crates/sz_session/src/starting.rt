@@ -23,7 +23,7 @@ use sz_spec::Array;
 pub(crate) fn run_version<R: Threads + Sync>(
     rt: &R,
     alloc: Global,
-    catalogue: &Catalogue,
+    catalogue: &Catalogue<RunList>,
     name: &str,
     base: &[BaseName],
 ) -> Result<RunList, NoMemory>
@@ -43,7 +43,7 @@ pub(crate) fn run_version<R: Threads + Sync>(
 /// The base arrays of these names and versions, all of which are held.
 fn arrays_named(
     alloc: Global,
-    catalogue: &Catalogue,
+    catalogue: &Catalogue<RunList>,
     base: &[BaseName],
 ) -> Result<Vec<Arc<Array>>, NoMemory>
     requires { has_no_array catalogue.now base.now ≡ false }

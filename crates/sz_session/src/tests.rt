@@ -65,11 +65,11 @@ fn session<R: Threads + Wait + Clone + Send + Sync + 'static>(
 }
 
 #[test]
-fn pieces_of_any_size_say_the_same(rt: HostRuntime) -> Result<(), Fail> {
+fn chunks_of_any_size_say_the_same(rt: HostRuntime) -> Result<(), Fail> {
     let alloc = rt.alloc();
     for chunk in [1u32, 2, 3, 16, 65_536] {
         let played = session(&rt, alloc, TEXT.to_vec(alloc)?, chunk.max(1), &[], &[])?;
-        assert!(rt; played.is_done(REPLIES), "pieces of {chunk}");
+        assert!(rt; played.is_done(REPLIES), "chunks of {chunk}");
     }
     Ok(())
 }
@@ -88,6 +88,19 @@ fn a_read_that_fails_leaves_the_replies_of_whole_lines(rt: HostRuntime) -> Resul
     Ok(())
 }
 
+/// Three lines that are no JSON and are 50,002 bytes long. The eighth read of 16,384 bytes, past
+/// 100,000, fails once, and would give the rest if it were tried again.
+#[test]
+fn a_late_read_that_fails_is_not_tried_again(rt: HostRuntime) -> Result<(), Fail> {
+    let alloc = rt.alloc();
+    let blanks = " ".repeat(alloc, 50_000)?;
+    let text = format!(in alloc; "{{{blanks}\n{{{blanks}\n{{{blanks}\n")?;
+    let played = session(&rt, alloc, text.into_bytes(), 16_384, &[8], &[])?;
+    assert_eq!(rt; played.status, Status::ReadFault);
+    assert_eq!(rt; played.said.as_slice(), b"1 refused 1\n2 refused 1\n".as_slice());
+    Ok(())
+}
+
 /// Of each say in turn; a session has no sixth.
 #[test]
 fn a_say_that_fails_leaves_the_replies_before_it(rt: HostRuntime) -> Result<(), Fail> {
@@ -100,69 +113,6 @@ fn a_say_that_fails_leaves_the_replies_before_it(rt: HostRuntime) -> Result<(), 
     }
     let played = session(&rt, alloc, TEXT.to_vec(alloc)?, 16, &[14], &[6])?;
     assert!(rt; played.is_done(REPLIES));
-    Ok(())
-}
-
-/// A cell named twice is there once, there may be none, and cells come in row-major order.
-#[test]
-fn asked_cells_come_once_and_in_order(rt: HostRuntime) -> Result<(), Fail> {
-    let alloc = rt.alloc();
-    let text = b"{\"array\":\"b\",\"cells\":[[1,null,3],[4,5,6]]}
-{\"flow\":\"f\",\"inputs\":1,\"nodes\":[{\"op\":\"neg\",\"from\":[{\"i\":0}]}]}
-{\"start\":\"f\",\"base\":[[\"b\",1]]}
-{\"ask\":1,\"dir\":\"back\",\"path\":[[0,0]],\"cells\":[[0,0],[0,0]]}
-{\"ask\":1,\"dir\":\"back\",\"path\":[[0,0]],\"cells\":[]}
-{\"ask\":1,\"dir\":\"back\",\"path\":[[0,0]],\"cells\":[[1,2],[0,1],[1,0]]}
-{\"ask\":1,\"dir\":\"back\",\"path\":[[0,0]],\"cells\":[[2,0]]}
-{\"show\":1,\"node\":0}
-";
-    let replies = b"1 array b 1
-2 flow f
-3 started 1
-4 cells 1 0,0
-5 cells 0
-6 cells 3 0,1 1,0 1,2
-7 refused 17
-8 values 2 3 -1 - -3 -4 -5 -6
-";
-    let played = session(&rt, alloc, text.to_vec(alloc)?, 100, &[], &[])?;
-    assert!(rt; played.is_done(replies));
-    Ok(())
-}
-
-/// No JSON, blank lines, lines that end in a byte 13, and a line without a newline; and no line at
-/// all.
-#[test]
-fn lines_are_numbered_from_the_first(rt: HostRuntime) -> Result<(), Fail> {
-    let alloc = rt.alloc();
-    let text = b"{\"array\":\n   \n\t \r\n{\"await\":1}\r\n\n{";
-    let played = session(&rt, alloc, text.to_vec(alloc)?, 2, &[], &[])?;
-    assert!(rt; played.is_done(b"1 refused 1\n4 refused 15\n6 refused 1\n"));
-    let played = session(&rt, alloc, Vec::new(alloc), 2, &[], &[])?;
-    assert!(rt; played.is_done(b""));
-    Ok(())
-}
-
-/// A name of 32 bytes, and one of 33. A path in which a step does not follow is not joined.
-#[test]
-fn names_and_paths_are_as_long_as_they_may_be(rt: HostRuntime) -> Result<(), Fail> {
-    let alloc = rt.alloc();
-    let text = b"{\"array\":\"abcdefghijklmnopqrstuvwxyz_01234\",\"cells\":[[1]]}
-{\"array\":\"abcdefghijklmnopqrstuvwxyz_012345\",\"cells\":[[1]]}
-{\"flow\":\"f\",\"inputs\":1,\"nodes\":[{\"op\":\"neg\",\"from\":[{\"i\":0}]}]}
-{\"start\":\"f\",\"base\":[[\"abcdefghijklmnopqrstuvwxyz_01234\",1]]}
-{\"ask\":1,\"dir\":\"back\",\"path\":[[0,0]],\"cells\":[]}
-{\"ask\":1,\"dir\":\"back\",\"path\":[[0,0],[0,0]],\"cells\":[]}
-";
-    let replies = b"1 array abcdefghijklmnopqrstuvwxyz_01234 1
-2 refused 4
-3 flow f
-4 started 1
-5 cells 0
-6 refused 16
-";
-    let played = session(&rt, alloc, text.to_vec(alloc)?, 65_536, &[], &[])?;
-    assert!(rt; played.is_done(replies));
     Ok(())
 }
 

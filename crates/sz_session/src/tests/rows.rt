@@ -1,4 +1,4 @@
-//! Whole sessions, one operator each, then flows of several nodes, refusals and layers.
+//! Whole sessions: each row is a text and the replies that are said of it.
 
 use super::session;
 use std::alloc::Global;
@@ -18,13 +18,25 @@ fn says<R: Threads + Wait + Clone + Send + Sync + 'static>(
 }
 
 #[test]
-fn cells_move_with_a_transposed_and_a_cut_array(rt: HostRuntime) -> Result<(), Fail> {
+fn sessions_say_their_replies(rt: HostRuntime) -> Result<(), Fail> {
     let alloc = rt.alloc();
-    assert!(rt;
-        says(
-            &rt,
-            alloc,
-            b"{\"array\":\"a\",\"cells\":[[1,2,3],[4,5,6]]}
+    assert!(rt; says(&rt, alloc, MOVED, MOVED_REPLIES)?, "the row MOVED");
+    assert!(rt; says(&rt, alloc, FOLDED, FOLDED_REPLIES)?, "the row FOLDED");
+    assert!(rt; says(&rt, alloc, NEIGHBOURS, NEIGHBOURS_REPLIES)?, "the row NEIGHBOURS");
+    assert!(rt; says(&rt, alloc, TWO_INPUTS, TWO_INPUTS_REPLIES)?, "the row TWO_INPUTS");
+    assert!(rt; says(&rt, alloc, REFUSED, REFUSED_REPLIES)?, "the row REFUSED");
+    assert!(rt; says(&rt, alloc, LAYERS, LAYERS_REPLIES)?, "the row LAYERS");
+    assert!(rt; says(&rt, alloc, ASKED, ASKED_REPLIES)?, "the row ASKED");
+    assert!(rt; says(&rt, alloc, NAMED, NAMED_REPLIES)?, "the row NAMED");
+    assert!(rt; says(&rt, alloc, TURNED, TURNED_REPLIES)?, "the row TURNED");
+    assert!(rt; says(&rt, alloc, APART, APART_REPLIES)?, "the row APART");
+    assert!(rt; says(&rt, alloc, UNEVEN, UNEVEN_REPLIES)?, "the row UNEVEN");
+    assert!(rt; says(&rt, alloc, b"", b"")?);
+    Ok(())
+}
+
+/// Cells of a transposed array, and of a cut one.
+const MOVED: &[u8] = b"{\"array\":\"a\",\"cells\":[[1,2,3],[4,5,6]]}
 {\"flow\":\"f\",\"inputs\":1,\"nodes\":[{\"op\":\"transpose\",\"from\":[{\"i\":0}]}]}
 {\"start\":\"f\",\"base\":[[\"a\",1]]}
 {\"await\":1}
@@ -36,8 +48,9 @@ fn cells_move_with_a_transposed_and_a_cut_array(rt: HostRuntime) -> Result<(), F
 {\"show\":2,\"node\":0}
 {\"ask\":2,\"dir\":\"back\",\"path\":[[0,0]],\"cells\":[[0,1]]}
 {\"ask\":2,\"dir\":\"forward\",\"path\":[[0,0]],\"cells\":[[0,0]]}
-",
-            b"1 array a 1
+";
+
+const MOVED_REPLIES: &[u8] = b"1 array a 1
 2 flow f
 3 started 1
 4 done 1
@@ -48,20 +61,10 @@ fn cells_move_with_a_transposed_and_a_cut_array(rt: HostRuntime) -> Result<(), F
 9 values 2 2 5 6 8 9
 10 cells 1 1,2
 11 cells 0
-"
-        )?
-    );
-    Ok(())
-}
+";
 
-#[test]
-fn weights_and_blocks_reach_their_cells(rt: HostRuntime) -> Result<(), Fail> {
-    let alloc = rt.alloc();
-    assert!(rt;
-        says(
-            &rt,
-            alloc,
-            b"{\"array\":\"a\",\"cells\":[[1,2,3],[4,5,6],[7,8,9]]}
+/// Weights and blocks, and asks that are refused.
+const FOLDED: &[u8] = b"{\"array\":\"a\",\"cells\":[[1,2,3],[4,5,6],[7,8,9]]}
 {\"flow\":\"f\",\"inputs\":1,\"nodes\":[{\"op\":\"convolve\",\"kernel\":[[0,1,0],[1,1,1],[0,1,0]\
     ],\"from\":[{\"i\":0}]}]}
 {\"strategy\":\"f\",\"node\":0,\"list\":[\"blackbox\"]}
@@ -80,8 +83,9 @@ fn weights_and_blocks_reach_their_cells(rt: HostRuntime) -> Result<(), Fail> {
 {\"start\":\"g\",\"base\":[[\"a\",1]]}
 {\"show\":2,\"node\":0}
 {\"ask\":2,\"dir\":\"back\",\"path\":[[0,0]],\"cells\":[[1,1]]}
-",
-            b"1 array a 1
+";
+
+const FOLDED_REPLIES: &[u8] = b"1 array a 1
 2 flow f
 3 strategy f 0
 4 started 1
@@ -98,20 +102,10 @@ fn weights_and_blocks_reach_their_cells(rt: HostRuntime) -> Result<(), Fail> {
 15 started 2
 16 values 2 2 12 9 15 9
 17 cells 1 2,2
-"
-        )?
-    );
-    Ok(())
-}
+";
 
-#[test]
-fn high_and_hot_cells_depend_on_their_neighbours(rt: HostRuntime) -> Result<(), Fail> {
-    let alloc = rt.alloc();
-    assert!(rt;
-        says(
-            &rt,
-            alloc,
-            b"{\"array\":\"a\",\"cells\":[[9,9,0],[0,9,0],[9,0,0]]}
+/// Regions and cleaned cells depend on their neighbours.
+const NEIGHBOURS: &[u8] = b"{\"array\":\"a\",\"cells\":[[9,9,0],[0,9,0],[9,0,0]]}
 {\"flow\":\"f\",\"inputs\":1,\"nodes\":[{\"op\":\"regions\",\"t\":5,\"from\":[{\"i\":0}]}]}
 {\"start\":\"f\",\"base\":[[\"a\",1]]}
 {\"show\":1,\"node\":0}
@@ -123,8 +117,9 @@ fn high_and_hot_cells_depend_on_their_neighbours(rt: HostRuntime) -> Result<(), 
 {\"ask\":2,\"dir\":\"back\",\"path\":[[0,0]],\"cells\":[[1,0]]}
 {\"ask\":2,\"dir\":\"back\",\"path\":[[0,0]],\"cells\":[[0,1]]}
 {\"ask\":2,\"dir\":\"forward\",\"path\":[[0,0]],\"cells\":[[0,0]]}
-",
-            b"1 array a 1
+";
+
+const NEIGHBOURS_REPLIES: &[u8] = b"1 array a 1
 2 flow f
 3 started 1
 4 values 3 3 1 1 0 0 1 0 7 0 0
@@ -136,20 +131,10 @@ fn high_and_hot_cells_depend_on_their_neighbours(rt: HostRuntime) -> Result<(), 
 10 cells 4 0,0 0,1 1,0 1,1
 11 cells 1 0,1
 12 cells 2 0,0 1,0
-"
-        )?
-    );
-    Ok(())
-}
+";
 
-#[test]
-fn lookups_and_sums_have_two_inputs(rt: HostRuntime) -> Result<(), Fail> {
-    let alloc = rt.alloc();
-    assert!(rt;
-        says(
-            &rt,
-            alloc,
-            b"{\"array\":\"a\",\"cells\":[[7]]}
+/// Lookups and sums have two inputs.
+const TWO_INPUTS: &[u8] = b"{\"array\":\"a\",\"cells\":[[7]]}
 {\"array\":\"t\",\"cells\":[[10,20,30]]}
 {\"array\":\"a\",\"cells\":[[0,0,1]]}
 {\"array\":\"t\",\"cells\":[[10,20]]}
@@ -167,8 +152,9 @@ fn lookups_and_sums_have_two_inputs(rt: HostRuntime) -> Result<(), Fail> {
 {\"ask\":3,\"dir\":\"back\",\"path\":[[0,0]],\"cells\":[[0,0]]}
 {\"ask\":3,\"dir\":\"back\",\"path\":[[0,1]],\"cells\":[[0,0]]}
 {\"start\":\"s\",\"base\":[[\"o\",1],[\"a\",2]]}
-",
-            b"1 array a 1
+";
+
+const TWO_INPUTS_REPLIES: &[u8] = b"1 array a 1
 2 array t 1
 3 array a 2
 4 array t 2
@@ -186,20 +172,10 @@ fn lookups_and_sums_have_two_inputs(rt: HostRuntime) -> Result<(), Fail> {
 16 cells 1 0,0
 17 cells 1 0,0
 18 refused 13 0
-"
-        )?
-    );
-    Ok(())
-}
+";
 
-#[test]
-fn paths_go_through_several_nodes_and_lines_are_refused(rt: HostRuntime) -> Result<(), Fail> {
-    let alloc = rt.alloc();
-    assert!(rt;
-        says(
-            &rt,
-            alloc,
-            b"{\"array\":\"a\",\"cells\":[[5]]}
+/// Paths of several nodes, and lines that are refused.
+const REFUSED: &[u8] = b"{\"array\":\"a\",\"cells\":[[5]]}
 {\"flow\":\"f\",\"inputs\":1,\"nodes\":[{\"op\":\"neg\",\"from\":[{\"i\":0}]},{\"op\":\"add\",\
     \"from\":[{\"n\":0},{\"i\":0}]}]}
 {\"start\":\"f\",\"base\":[[\"a\",1]]}
@@ -217,8 +193,9 @@ fn paths_go_through_several_nodes_and_lines_are_refused(rt: HostRuntime) -> Resu
 {\"flow\":\"r\",\"inputs\":1,\"nodes\":[{\"op\":\"regions\",\"t\":5,\"from\":[{\"i\":0}]}]}
 {\"strategy\":\"r\",\"node\":0,\"list\":[\"map\"]}
 {\"strategy\":\"r\",\"node\":0,\"list\":[\"full_one_b\"]}
-",
-            b"1 array a 1
+";
+
+const REFUSED_REPLIES: &[u8] = b"1 array a 1
 2 flow f
 3 started 1
 4 cells 1 0,0
@@ -235,20 +212,10 @@ fn paths_go_through_several_nodes_and_lines_are_refused(rt: HostRuntime) -> Resu
 15 flow r
 16 refused 18
 17 refused 21
-"
-        )?
-    );
-    Ok(())
-}
+";
 
-#[test]
-fn layers_are_named_by_three_numbers(rt: HostRuntime) -> Result<(), Fail> {
-    let alloc = rt.alloc();
-    assert!(rt;
-        says(
-            &rt,
-            alloc,
-            b"{\"layers\":\"a\",\"cells\":[[[1,2]],[[3,null]]]}
+/// A cell of layers is named by three numbers.
+const LAYERS: &[u8] = b"{\"layers\":\"a\",\"cells\":[[[1,2]],[[3,null]]]}
 {\"flow\":\"f\",\"inputs\":1,\"nodes\":[{\"op\":\"neg\",\"from\":[{\"i\":0}]},\
     {\"op\":\"fold_layers\",\"fold\":\"sum\",\"from\":[{\"i\":0}]}]}
 {\"start\":\"f\",\"base\":[[\"a\",1]]}
@@ -260,8 +227,9 @@ fn layers_are_named_by_three_numbers(rt: HostRuntime) -> Result<(), Fail> {
 {\"ask\":1,\"dir\":\"back\",\"path\":[[1,0]],\"cells\":[[0,1]]}
 {\"ask\":1,\"dir\":\"forward\",\"path\":[[1,0]],\"cells\":[[1,0,0]]}
 {\"layers\":\"b\",\"cells\":[[[1]],[[1,2]]]}
-",
-            b"1 array a 1
+";
+
+const LAYERS_REPLIES: &[u8] = b"1 array a 1
 2 flow f
 3 started 1
 4 layers 2 1 2 -1 -2 -3 -
@@ -272,8 +240,110 @@ fn layers_are_named_by_three_numbers(rt: HostRuntime) -> Result<(), Fail> {
 9 cells 2 0,0,1 1,0,1
 10 cells 1 0,0
 11 refused 5
-"
-        )?
-    );
-    Ok(())
-}
+";
+
+/// A cell named twice is there once, there may be none, and cells come in row-major order.
+const ASKED: &[u8] = b"{\"array\":\"b\",\"cells\":[[1,null,3],[4,5,6]]}
+{\"flow\":\"f\",\"inputs\":1,\"nodes\":[{\"op\":\"neg\",\"from\":[{\"i\":0}]}]}
+{\"start\":\"f\",\"base\":[[\"b\",1]]}
+{\"ask\":1,\"dir\":\"back\",\"path\":[[0,0]],\"cells\":[[0,0],[0,0]]}
+{\"ask\":1,\"dir\":\"back\",\"path\":[[0,0]],\"cells\":[]}
+{\"ask\":1,\"dir\":\"back\",\"path\":[[0,0]],\"cells\":[[1,2],[0,1],[1,0]]}
+{\"ask\":1,\"dir\":\"back\",\"path\":[[0,0]],\"cells\":[[2,0]]}
+{\"show\":1,\"node\":0}
+";
+
+const ASKED_REPLIES: &[u8] = b"1 array b 1
+2 flow f
+3 started 1
+4 cells 1 0,0
+5 cells 0
+6 cells 3 0,1 1,0 1,2
+7 refused 17
+8 values 2 3 -1 - -3 -4 -5 -6
+";
+
+/// A name of 32 bytes, and one of 33. A path in which a step does not follow is not joined.
+const NAMED: &[u8] = b"{\"array\":\"abcdefghijklmnopqrstuvwxyz_01234\",\"cells\":[[1]]}
+{\"array\":\"abcdefghijklmnopqrstuvwxyz_012345\",\"cells\":[[1]]}
+{\"flow\":\"f\",\"inputs\":1,\"nodes\":[{\"op\":\"neg\",\"from\":[{\"i\":0}]}]}
+{\"start\":\"f\",\"base\":[[\"abcdefghijklmnopqrstuvwxyz_01234\",1]]}
+{\"ask\":1,\"dir\":\"back\",\"path\":[[0,0]],\"cells\":[]}
+{\"ask\":1,\"dir\":\"back\",\"path\":[[0,0],[0,0]],\"cells\":[]}
+";
+
+const NAMED_REPLIES: &[u8] = b"1 array abcdefghijklmnopqrstuvwxyz_01234 1
+2 refused 4
+3 flow f
+4 started 1
+5 cells 0
+6 refused 16
+";
+
+/// Weights that are symmetric in no way, laid on as they are: weight (i, j) meets the cell i - 1
+/// below and j - 1 right of the one that is made. Weights of 0 are related to no cell.
+const TURNED: &[u8] = b"{\"array\":\"a\",\"cells\":[[0,0,0],[0,1,0],[0,0,0]]}
+{\"flow\":\"f\",\"inputs\":1,\"nodes\":[{\"op\":\"convolve\",\"kernel\":[[1,2,3],[4,5,6],[7,8,9]],\
+    \"from\":[{\"i\":0}]}]}
+{\"start\":\"f\",\"base\":[[\"a\",1]]}
+{\"show\":1,\"node\":0}
+{\"flow\":\"g\",\"inputs\":1,\"nodes\":[{\"op\":\"convolve\",\"kernel\":[[0,0,1],[0,2,0],[0,3,0]],\
+    \"from\":[{\"i\":0}]}]}
+{\"start\":\"g\",\"base\":[[\"a\",1]]}
+{\"show\":2,\"node\":0}
+{\"ask\":2,\"dir\":\"back\",\"path\":[[0,0]],\"cells\":[[1,1]]}
+{\"ask\":2,\"dir\":\"forward\",\"path\":[[0,0]],\"cells\":[[0,2]]}
+";
+
+const TURNED_REPLIES: &[u8] = b"1 array a 1
+2 flow f
+3 started 1
+4 values 3 3 9 8 7 6 5 4 3 2 1
+5 flow g
+6 started 2
+7 values 3 3 0 3 0 0 2 0 1 0 0
+8 cells 3 0,2 1,1 2,1
+9 cells 2 0,2 1,1
+";
+
+/// High cells one above the other in two layers are two regions, and weights reach no other layer.
+const APART: &[u8] = b"{\"layers\":\"a\",\"cells\":[[[9]],[[9]]]}
+{\"flow\":\"f\",\"inputs\":1,\"nodes\":[{\"op\":\"regions\",\"t\":5,\"from\":[{\"i\":0}]}]}
+{\"start\":\"f\",\"base\":[[\"a\",1]]}
+{\"show\":1,\"node\":0}
+{\"ask\":1,\"dir\":\"back\",\"path\":[[0,0]],\"cells\":[[1,0,0]]}
+{\"layers\":\"b\",\"cells\":[[[1],[2]],[[3],[4]]]}
+{\"flow\":\"g\",\"inputs\":1,\"nodes\":[{\"op\":\"convolve\",\
+    \"kernel\":[[0,1,0],[1,1,1],[0,1,0]],\"from\":[{\"i\":0}]}]}
+{\"start\":\"g\",\"base\":[[\"b\",1]]}
+{\"show\":2,\"node\":0}
+{\"layers\":\"c\",\"cells\":[[[1]],[[1]],[[1]],[[1]],[[1]],[[1]],[[1]],[[1]],\
+    [[1]],[[1]],[[1]],[[1]],[[1]],[[1]],[[1]],[[1]]]}
+{\"layers\":\"c\",\"cells\":[[[1]],[[1]],[[1]],[[1]],[[1]],[[1]],[[1]],[[1]],[[1]],\
+    [[1]],[[1]],[[1]],[[1]],[[1]],[[1]],[[1]],[[1]]]}
+";
+
+const APART_REPLIES: &[u8] = b"1 array a 1
+2 flow f
+3 started 1
+4 layers 2 1 1 1 2
+5 cells 1 1,0,0
+6 array b 1
+7 flow g
+8 started 2
+9 layers 2 2 1 3 3 7 7
+10 array c 1
+11 refused 5
+";
+
+/// No JSON, blank lines, lines that end in a byte 13, a line of a byte 12 alone, which is not blank,
+/// and a line without a newline.
+const UNEVEN: &[u8] = b"{\"array\":
+   
+\t \r
+{\"await\":1}\r
+
+\x0c
+{";
+
+const UNEVEN_REPLIES: &[u8] = b"1 refused 1\n4 refused 15\n6 refused 1\n7 refused 1\n";

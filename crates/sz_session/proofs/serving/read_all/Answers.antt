@@ -18,9 +18,9 @@ returns-in-Ok-eq0-clause-ends g c =
     λ n. Answered g.opening.left (g.S.Source.left c.take_turn.new.source) g.opening.said
     (g.T.Station.said c.take_turn.new.station) c.take_turn.new.feed n in
     let none : c.in-Ok-eq0.field-0 ≡ 0 = c.in-Ok-eq0.field-0-test in
-    let same : c.pieces.total + c.in-Ok-eq0.field-0 ≡ c.pieces.total = omega (arith, none) in
+    let same : c.chunks.total + c.in-Ok-eq0.field-0 ≡ c.chunks.total = omega (arith, none) in
     subst P (sym c.status_of_end.ensures)
-    (end-ends c.end_input.result c.args.limit _ _ _ _ _ c.take_turn.new.feed c.pieces.total c.pieces.invariant.within
+    (end-ends c.end_input.result c.args.limit _ _ _ _ _ c.take_turn.new.feed c.chunks.total c.chunks.invariant.within
     (subst Q same c.in-Ok-eq0.ensures.answered) (c.in-Ok-eq0.ensures.all (ap (λ (n : ℕ). Ok n) none))
     c.end_input.ensures.whole c.end_input.ensures.part c.end_input.ensures.nothing)
 
@@ -43,10 +43,10 @@ take_turn-requires g c =
                 (
                   bounds.1.1.0,
                   (
-                    c.pieces.auto.buffer ∙ bounds.1.1.1.0,
+                    c.chunks.auto.buffer ∙ bounds.1.1.1.0,
                     (
                       bounds.1.1.1.1.0,
-                      (c.pieces.invariant.within, (c.pieces.invariant.number, c.pieces.invariant.answered)),
+                      (c.chunks.invariant.within, (c.chunks.invariant.number, c.chunks.invariant.answered)),
                     ),
                   ),
                 ),

@@ -9,7 +9,7 @@ returns-clause-line g c =
     let said = rw c.command.ensures.station at c.in_ok-say.ensures.said in
     rw (← c.self.view_is, c.clear.ensures.items)
     (advances-line _ _ (record {
-      catalogue = c.self.inside.session;
+      held = c.self.inside.session;
       pending = c.self.inside.pending.items;
       number =
           c.self.inside.number;
@@ -25,7 +25,7 @@ returns-in_err-say-clause-part g c =
       p.2,
       ← c.self.view_is,
       told-line (record {
-        catalogue = c.self.inside.session;
+        held = c.self.inside.session;
         pending = c.self.inside.pending.items;
         number =
             c.self.inside.number;

@@ -7,7 +7,7 @@ returns-clause-takes c =
     let alike = rw c.deref.ensures.value at c.bytes_to_keep-kept.ensures.alike in
     λ said. rw (← c.self.view_is, c.in_ok-extend_from_slice.ensures.items)
     (advances-kept said (record {
-      catalogue = c.self.inside.session;
+      held = c.self.inside.session;
       pending = c.self.inside.pending.items;
       number =
           c.self.inside.number;

@@ -1,0 +1,27 @@
+-- What is told of the status is told of its number.
+use Rattle.subzero.proofs.Numbers.{status-of}
+use Rattle.subzero.proofs.running.run.Goals as goal
+
+pub returns-clause-done : goal.returns-clause-done
+returns-clause-done g c = λ e. c.session-status.ensures.done (status-of _ _ 0 c.end.ensures e)
+
+pub returns-clause-quiet : goal.returns-clause-quiet
+returns-clause-quiet g c = λ e. c.session-status.ensures.quiet (status-of _ _ 0 c.end.ensures e)
+
+pub returns-clause-play : goal.returns-clause-play
+returns-clause-play g c = λ e. c.session-status.ensures.play (status-of _ _ 0 c.end.ensures e)
+
+pub returns-clause-usage : goal.returns-clause-usage
+returns-clause-usage g c = λ e. c.session-status.ensures.usage (status-of _ _ 1 c.end.ensures e)
+
+pub returns-clause-untouched : goal.returns-clause-untouched
+returns-clause-untouched g c = λ e. c.session-status.ensures.untouched (status-of _ _ 1 c.end.ensures e)
+
+pub returns-clause-read_fault : goal.returns-clause-read_fault
+returns-clause-read_fault g c = λ e. c.session-status.ensures.read_fault (status-of _ _ 2 c.end.ensures e)
+
+pub returns-clause-say_fault : goal.returns-clause-say_fault
+returns-clause-say_fault g c = λ e. c.session-status.ensures.say_fault (status-of _ _ 3 c.end.ensures e)
+
+pub returns-clause-input_limit : goal.returns-clause-input_limit
+returns-clause-input_limit g c = λ e. c.session-status.ensures.input_limit (status-of _ _ 9 c.end.ensures e)

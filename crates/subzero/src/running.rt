@@ -1,0 +1,81 @@
+//! The session that the words ask for, from the words to the exit number.
+
+ghost use Rattle.std.specs.Prelude.{◌≡◌, ◌^◌};
+ghost use Rattle.std.specs.Process.{exit_status};
+ghost use Rattle.sz_outside.specs.Outside.{Rose, Stood};
+ghost use Rattle.sz_session.specs.Serving.{Done, IsPastLimit};
+ghost use Rattle.subzero.specs.Words.{ArePlay, AreOther};
+
+use crate::ending::end;
+use crate::words::{status_of_fault, words_of};
+use std::alloc::Global;
+use std::env::Args;
+use std::io::{self, Eprint};
+use std::process::ExitCode;
+use std::sync::{Arc, Wait};
+use std::thread::Threads;
+use sz_outside::{NoGate, Source, Station};
+use sz_session::{Status, serve};
+
+/// Runs the program over any source and any station, and gives the exit number; the line of the
+/// status is printed on standard error. 0 comes only where the session was read to its end, all of
+/// its transcript was said, and no fault was counted.
+pub(crate) fn run<
+    S: Source,
+    T: Station,
+    R: Eprint + Threads + Wait + Clone + Send + Sync + 'static,
+>(rt: &R, alloc: Global, args: io::Result<Args>, source: &mut S, station: &mut T) -> ExitCode
+    ensures done { exit_status result ≡ 0 → Done (2 ^ 62) (S.left source.old) (S.left source.new)
+        (T.said station.old) (T.said station.new) }
+    ensures quiet { exit_status result ≡ 0
+        → Stood (S.faults source.old) (S.faults source.new)
+        × Stood (T.say_faults station.old) (T.say_faults station.new) }
+    ensures play { exit_status result ≡ 0 → ArePlay args }
+    ensures usage { exit_status result ≡ 1 → AreOther args }
+    ensures untouched { exit_status result ≡ 1
+        → (source.new ≡ source.old) × (station.new ≡ station.old) }
+    ensures read_fault { exit_status result ≡ 2
+        → Rose (S.faults source.old) (S.faults source.new) }
+    ensures say_fault { exit_status result ≡ 3
+        → Rose (T.say_faults station.old) (T.say_faults station.new) }
+    ensures input_limit { exit_status result ≡ 9 → IsPastLimit (2 ^ 62) (S.left source.old) }
+{
+    let status = session(rt, alloc, args, source, station);
+    end(rt, status)
+}
+
+/// The status of the session that the words ask for.
+fn session<S: Source, T: Station, R: Threads + Wait + Clone + Send + Sync + 'static>(
+    rt: &R,
+    alloc: Global,
+    args: io::Result<Args>,
+    source: &mut S,
+    station: &mut T,
+) -> Status
+    ensures done { result ≡ Status.Done → Done (2 ^ 62) (S.left source.old) (S.left source.new)
+        (T.said station.old) (T.said station.new) }
+    ensures quiet { result ≡ Status.Done
+        → Stood (S.faults source.old) (S.faults source.new)
+        × Stood (T.say_faults station.old) (T.say_faults station.new) }
+    ensures play { result ≡ Status.Done → ArePlay args }
+    ensures usage { result ≡ Status.Usage → AreOther args }
+    ensures untouched { result ≡ Status.Usage
+        → (source.new ≡ source.old) × (station.new ≡ station.old) }
+    ensures read_fault { result ≡ Status.ReadFault
+        → Rose (S.faults source.old) (S.faults source.new) }
+    ensures say_fault { result ≡ Status.SayFault
+        → Rose (T.say_faults station.old) (T.say_faults station.new) }
+    ensures input_limit { result ≡ Status.InputLimit → IsPastLimit (2 ^ 62) (S.left source.old) }
+{
+    let args = match args {
+        Ok(args) => args,
+        Err(fault) => return status_of_fault(&fault),
+    };
+    let Ok(words) = words_of(alloc, args) else {
+        return Status::NoMemory;
+    };
+    let Ok(gate) = Arc::new(alloc, NoGate) else {
+        return Status::NoMemory;
+    };
+    serve(rt, alloc, &words, source, station, &gate)
+}

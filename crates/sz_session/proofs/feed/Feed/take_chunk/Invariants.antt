@@ -1,0 +1,17 @@
+-- The bytes up to where the next line begins were taken in.
+use Rattle.std.proofs.Common.{◌≤◌, ◌+◌, ◌-◌, length, take}
+use Rattle.sz_outside.specs.Outside.{Stood}
+use Rattle.sz_session.specs.Serving.{Advances}
+use Rattle.sz_session.proofs.feed.Feed.take_chunk.Given as goal
+
+abbrev pub invariant-loop-at : goal.invariant-loop-at
+invariant-loop-at g l = record {
+  within : l.start ≤ length l.chunk;
+  advances : Advances (g.T.Station.said l.initial.station) (g.T.Station.said l.station) l.initial.self l.self
+      (take l.start l.chunk);
+  number : l.self.number ≤ l.initial.self.number + l.start;
+  quiet : Stood (g.T.Station.say_faults l.initial.station) (g.T.Station.say_faults l.station);
+}
+
+abbrev pub decreases-loop-at : goal.decreases-loop-at
+decreases-loop-at g l = length l.chunk - l.start
