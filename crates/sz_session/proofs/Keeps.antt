@@ -197,8 +197,8 @@ keeps-accepted c (order.Strategy name node list) k right none kind =
     keeps-strategies c name node list k none
 keeps-accepted c (order.Start name base) k right none kind = cc
 keeps-accepted c (order.Await n) k right none kind = keeps-await c n k none
-keeps-accepted c (order.Ask n dir path places) k right none kind = cc
-keeps-accepted c (order.Explain n dir path places) k right none kind = cc
+keeps-accepted c (order.Ask n dir path named) k right none kind = cc
+keeps-accepted c (order.Explain n dir path named) k right none kind = cc
 keeps-accepted c (order.Show n node) k right none kind = cc
 
 -- ---- a start

@@ -51,8 +51,8 @@ list-there v s sound there =
     let known = lists-at v.flow.nodes v.lists s.node h.node sound.run.1.lists sound.no_store h.there in
     slice_get_within v.lists s.node known.0 known.1
 
-pub list-filled : (v : Version) (s : Step) (list : List Strategy) → IsSoundVersion v → is_there (source_of v.flow s) ≡ true
-    → slice_get v.lists s.node ≡ Some list → 0 < length list
+pub list-filled : (v : Version) (s : Step) (list : List Strategy) → IsSoundVersion v
+    → is_there (source_of v.flow s) ≡ true → slice_get v.lists s.node ≡ Some list → 0 < length list
 list-filled v s list sound there at =
     let e = step-there v s sound there in
     let h = step-of v s e.0 sound there e.1 in

@@ -1,5 +1,6 @@
 -- Worked rows of lines, and of a whole session: each is found by computing.
-use Rattle.std.specs.Prelude.{◌≡◌, true, false, [], ◌∷◌, ◌++◌, codes}
+use Rattle.std.specs.Prelude.{◌≡◌, true, false, [], ◌∷◌, ◌++◌, codes, filter}
+use Rattle.std.specs.List.{range_with_len}
 use Rattle.std.specs.Fmt.{digits}
 use Rattle.std.specs.Str.{is_utf8, chars}
 use Rattle.std.proofs.Common.{refl}
@@ -30,6 +31,10 @@ blank-line = refl
 
 blank-other : is_blank (32 ∷ 11 ∷ []) ≡ false
 blank-other = refl
+
+-- of all bytes, the three alone
+blank-each : filter (λ b. is_blank (b ∷ [])) (range_with_len 0 256) ≡ 9 ∷ 13 ∷ 32 ∷ []
+blank-each = refl
 
 blank-output : transcript no_holdings (32 ∷ 10 ∷ 13 ∷ 10 ∷ []) ≡ []
 blank-output = refl

@@ -21,8 +21,8 @@ Responds old line new (Some r) =
 -- how many cells are told as traced for a command: for an ask or an explain the outputs of the
 -- nodes of its path whose way is black box, and for any other none
 abbrev pub traced_along : Holdings → Command → ℕ
-traced_along c (command.Ask n dir path places) = traced (version_of c n) dir path
-traced_along c (command.Explain n dir path places) = traced (version_of c n) dir path
+traced_along c (command.Ask n dir path named) = traced (version_of c n) dir path
+traced_along c (command.Explain n dir path named) = traced (version_of c n) dir path
 traced_along c (command.Array name array) = 0
 traced_along c (command.Layers name array) = 0
 traced_along c (command.Flow name flow) = 0

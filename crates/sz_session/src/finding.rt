@@ -9,8 +9,8 @@ ghost use Rattle.sz_spec.specs.Paths.{is_joined, source_of, is_there};
 ghost use Rattle.sz_flow.specs.Executions.{execution_of};
 ghost use Rattle.sz_query.specs.Views.{view_of, by_map, by_trace, traced_by};
 ghost use Rattle.sz_query.specs.Answers.{traced_of};
-ghost use Rattle.sz_catalogue.specs.Starts.{step_start, path_start, cell_of_place};
-ghost use Rattle.sz_catalogue.specs.Rules.{has_place};
+ghost use Rattle.sz_catalogue.specs.Starts.{step_start, path_start, cell_named};
+ghost use Rattle.sz_catalogue.specs.Rules.{has_named_cell};
 ghost use Rattle.sz_catalogue.specs.Changes.{cells_answered, way_of, traced};
 ghost use Rattle.sz_session.specs.Runs.{IsSoundVersion, executions_of};
 ghost use Rattle.sz_session.specs.Views.{view_by, IsViewOf, strategy_told, are_there};
@@ -22,28 +22,29 @@ use sz_catalogue::HeldVersion;
 use sz_cells::{Cell, CellSet, NoMemory, Shape, laws};
 use sz_flow::NodeRun;
 use sz_query::{Found, NodeRunRef, NodeView, answer};
-use sz_script::{Path, PathStep, Place, PlaceList};
+use sz_script::{Path, PathStep, NamedCell, NamedCells};
 use sz_spec::{Array, ArrayList, Dir, Strategy, Tally, way};
 
-/// What is found along a path from some places: by the mapping of a step's node where that is the
-/// way of the step, and else by a trace over the node's run. The tally rises by the cells that are
-/// traced. Takes time by these and by the cells that the mapped steps touch.
+/// What is found along a path from some named cells, each step by the view of its node for the way
+/// of the step. The tally rises by the output sizes of the steps that are told as traced. Takes
+/// time by these and by the cells that the other steps touch.
 pub(crate) fn find(
     alloc: Global,
     version: &HeldVersion<RunList>,
     runs: &[NodeRun],
     dir: Dir,
     path: &Path,
-    places: &PlaceList,
+    named: &NamedCells,
     tally: &mut Tally,
 ) -> Result<Found, NoMemory>
     requires sound { IsSoundVersion version.now }
     requires runs { map execution_of runs.now ≡ executions_of version.now }
     requires joined { is_joined dir version.now.flow path.now ≡ true }
-    requires places { list_all (has_place (path_start dir version.now path.now)) places.now ≡ true }
+    requires named { list_all (has_named_cell (path_start dir version.now path.now)) named.now
+        ≡ true }
     requires room { tally.old + 32 * 1048576 < 2 ^ 63 }
     ensures cells { IfOk result
-        (λ f. f.cells ≡ cells_answered version.now dir path.now places.now) }
+        (λ f. f.cells ≡ cells_answered version.now dir path.now named.now) }
     ensures ways { IfOk result
         (λ f. map strategy_told f.used ≡ map (way_of version.now dir) path.now) }
     ensures traced { IfOk result (λ f. f.traced ≡ traced version.now dir path.now) }
@@ -52,7 +53,7 @@ pub(crate) fn find(
 {
     let steps = path.as_slice();
     let start = start_of(version, runs, dir, steps[0]);
-    let cells = cells_at(alloc, start, places.as_slice())?;
+    let cells = cells_at(alloc, start, named.as_slice())?;
     let mut views = views_of(alloc, version, runs, dir, steps)?;
     let inputs = inputs_of(alloc, steps)?;
     answer(alloc, &mut views, &inputs, dir, &cells, tally)
@@ -72,26 +73,26 @@ fn start_of(_version: &HeldVersion<RunList>, runs: &[NodeRun], dir: Dir, step: P
     }
 }
 
-/// The cells at places of a shape.
-fn cells_at(alloc: Global, shape: Shape, places: &[Place]) -> Result<CellSet, NoMemory>
-    requires { list_all (has_place shape) places.now ≡ true }
-    ensures { IfOk result (λ s. s ≡ named_in shape (map (cell_of_place shape) places.now)) }
+/// The cells of a shape that are named.
+fn cells_at(alloc: Global, shape: Shape, named: &[NamedCell]) -> Result<CellSet, NoMemory>
+    requires { list_all (has_named_cell shape) named.now ≡ true }
+    ensures { IfOk result (λ s. s ≡ named_in shape (map (cell_named shape) named.now)) }
 {
-    let mut cells: Vec<Cell> = Vec::with_capacity(alloc, places.len())?;
-    for place in places {
-        cells.push(cell_at(shape, *place))?;
+    let mut cells: Vec<Cell> = Vec::with_capacity(alloc, named.len())?;
+    for one in named {
+        cells.push(cell_at(shape, *one))?;
     }
     CellSet::from_cells(alloc, shape, &cells)
 }
 
-/// The cell at a place of a shape.
-fn cell_at(shape: Shape, place: Place) -> Cell
-    requires { has_place shape place ≡ true }
-    ensures cell { result ≡ cell_of_place shape place }
+/// The cell of a shape that is named.
+fn cell_at(shape: Shape, named: NamedCell) -> Cell
+    requires { has_named_cell shape named ≡ true }
+    ensures cell { result ≡ cell_named shape named }
     ensures held { holds shape result ≡ true }
 {
     laws::a_shape_is_within_limits(&shape);
-    match shape.cell_in(place.layer, place.row, place.col) {
+    match shape.cell_in(named.layer, named.row, named.col) {
         Some(cell) => cell,
         None => unreachable!(),
     }

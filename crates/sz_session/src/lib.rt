@@ -5,8 +5,9 @@
 //! their bytes, its clauses say what was said by each of its endings: all of the session's
 //! transcript (`done`), the replies of the whole lines that were read (`after_read_fault`,
 //! `after_input_limit`), a first part of the transcript (`after_say_fault`), or the first so many
-//! of its lines (`after_no_memory`); and `completes` says that there is no other ending without a
-//! fault. Nothing depends on how many bytes a read gives.
+//! of its lines (`after_no_memory`). `quiet` says that a session is done only where no fault was
+//! counted, and `completes` that there is no other ending without one. Nothing depends on how many
+//! bytes a read gives.
 //!
 //! ```text
 //! {"array":"a","cells":[[5]]}                                         1 array a 1

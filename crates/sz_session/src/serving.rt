@@ -5,8 +5,8 @@
 //! session, and gives the same with the bytes read: so no read is made while a reply is still to be
 //! said.
 ghost use Rattle.std.specs.Prelude.{◌≡◌, ◌⊎◌, ℕ, ◌<◌, ◌≤◌, ◌+◌, ◌-◌, ◌^◌};
-ghost use Rattle.std.specs.Prelude.{◌↔◌, true, false, Ok, Err, IfOk, IfErr, OnOk, OnErr, length, map};
-ghost use Rattle.std.specs.Prelude.{string_bytes};
+ghost use Rattle.std.specs.Prelude.{◌↔◌, true, false, Ok, Err, IfOk, IfErr, OnOk, OnErr, length};
+ghost use Rattle.std.specs.Prelude.{map, string_bytes};
 ghost use Rattle.sz_outside.specs.Outside.{Rose, Stood, Gives, Keeps};
 ghost use Rattle.sz_session.specs.Statuses.{end_status, Ends, AreCounted};
 ghost use Rattle.sz_session.specs.Serving.{are_play, Done, SaidOfRead, SaidToLimit, SaidInPart};

@@ -29,7 +29,7 @@ use sz_cells::NoMemory;
 use sz_outside::{Gate, Station};
 use sz_query::{Found, Used};
 use sz_script::{
-    BaseList, Command, LineFault, Name, Path, PlaceList, StrategyList, laws, read_line,
+    BaseList, Command, LineFault, Name, Path, NamedCells, StrategyList, laws, read_line,
 };
 use sz_spec::{Dir, Strategy, Tally};
 
@@ -231,15 +231,15 @@ impl Session {
         version: u32,
         dir: Dir,
         path: &Path,
-        places: &PlaceList,
+        named: &NamedCells,
         tally: &mut Tally,
     ) -> Result<Found, NoMemory>
         requires version { has_no_version self.now version ≡ false }
         requires joined { is_not_joined self.now version dir path.now ≡ false }
-        requires range { is_out_of_range self.now version dir path.now places.now ≡ false }
+        requires range { is_out_of_range self.now version dir path.now named.now ≡ false }
         requires room { tally.old + 32 * 1048576 < 2 ^ 63 }
         ensures cells { IfOk result
-            (λ f. f.cells ≡ cells_answered (version_of self.now version) dir path.now places.now) }
+            (λ f. f.cells ≡ cells_answered (version_of self.now version) dir path.now named.now) }
         ensures ways { IfOk result (λ f. map strategy_told f.used
             ≡ map (way_of (version_of self.now version) dir) path.now) }
         ensures traced { IfOk result
@@ -252,7 +252,7 @@ impl Session {
             unreachable!()
         };
         let runs = held.kept.as_slice();
-        find(self.alloc, held, runs, dir, path, places, tally)
+        find(self.alloc, held, runs, dir, path, named, tally)
     }
 
     /// By which way each step of a path is answered, and how many cells are traced.
@@ -261,19 +261,19 @@ impl Session {
         version: u32,
         dir: Dir,
         path: &Path,
-        places: &PlaceList,
+        named: &NamedCells,
         line: u64,
         gate: &G,
         tally: &mut Tally,
     ) -> Result<Reply, NoMemory>
-        requires judged { judged self.now (order.Explain version dir path.now places.now) ≡ None }
+        requires judged { judged self.now (order.Explain version dir path.now named.now) ≡ None }
         requires room { tally.old + 32 * 1048576 < 2 ^ 63 }
         ensures reply { IfOk result (λ r. accepted self.now
-            (order.Explain version dir path.now places.now) ≡ (self.now, response_of r)) }
+            (order.Explain version dir path.now named.now) ≡ (self.now, response_of r)) }
         ensures tally { OnOk result
             (tally.new ≡ tally.old + traced (version_of self.now version) dir path.now) }
     {
-        let found = self.find(version, dir, path, places, tally)?;
+        let found = self.find(version, dir, path, named, tally)?;
         let used = strategies_told(self.alloc, found.used.as_slice())?;
         gate.after_ask(line);
         Ok(Reply::Explain {

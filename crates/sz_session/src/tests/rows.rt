@@ -336,8 +336,8 @@ const APART_REPLIES: &[u8] = b"1 array a 1
 11 refused 5
 ";
 
-/// No JSON, blank lines, lines that end in a byte 13, a line of a byte 12 alone, which is not blank,
-/// and a line without a newline.
+/// No JSON, blank lines, lines that end in a byte 13, a line of the byte 12 alone, which is not
+/// blank, and a line without a newline.
 const UNEVEN: &[u8] = b"{\"array\":
    
 \t \r

@@ -1,4 +1,4 @@
--- A place of a shape has a cell, and the shape holds it.
+-- A named cell is one of the shape, and the shape holds it.
 use Rattle.std.proofs.Common.{◌≡◌, Some, sym, ap, ◌∙◌}
 use Rattle.std.specs.Prelude.{Bool, if◌then◌else◌, None}
 use Rattle.sz_cells.specs.declared.Cell.{Cell}
@@ -8,7 +8,7 @@ use Rattle.sz_session.proofs.finding.cell_at.Goals as goal
 
 pub returns-clause-held : goal.returns-clause-held
 returns-clause-held c =
-    let p = c.args.place in
+    let p = c.args.named in
     let cell = cell_in c.args.shape p.layer p.row p.col in
     let found : Some cell ≡ Some c.in-Some.cell =
     sym (c.cell_in.ensures ∙ ap (λ (b : Bool). if b then Some cell else None) c.requires) ∙ c.in-Some.is in

@@ -7,9 +7,9 @@ use Rattle.sz_spec.specs.Paths.{Step, compose}
 use Rattle.sz_query.specs.Views.{view_of}
 use Rattle.sz_query.specs.Answers.{answered, AreSteps}
 use Rattle.sz_query.proofs.Composed.{answers-composed}
-use Rattle.sz_script.specs.declared.command.Place.{Place}
+use Rattle.sz_script.specs.declared.command.NamedCell.{NamedCell}
 use Rattle.sz_catalogue.specs.Holdings.{arrays_of}
-use Rattle.sz_catalogue.specs.Starts.{cell_of_place, path_start}
+use Rattle.sz_catalogue.specs.Starts.{cell_named, path_start}
 use Rattle.sz_catalogue.specs.Changes.{outputs}
 use Rattle.sz_session.specs.Views.{IsViewOf, strategy_told}
 use Rattle.sz_session.proofs.PathViews.{sound-views, views-of_path, joined-there, views-steps, views-told, views-traced}
@@ -59,7 +59,7 @@ returns-clause-cells c =
     let start = c.start_of-start.ensures ∙ sym (path-starts v dir path c.index-steps-0.result parts.0
     (rw c.as_slice-steps.ensures at c.index-steps-0.is)) in
     let set = c.in_ok-cells.ensures
-    ∙ ap₂ (λ (e : Extent) (ps : List Place). named_in e (map (cell_of_place e) ps)) start
+    ∙ ap₂ (λ (e : Extent) (ps : List NamedCell). named_in e (map (cell_named e) ps)) start
     c.as_slice.ensures in
     IfOk-weaker c.answer.result _ _
     (λ f p. p ∙ ap (λ (is : List ℕ). answered dir views is c.in_ok-cells.cells) inputs

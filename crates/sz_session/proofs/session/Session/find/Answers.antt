@@ -41,5 +41,5 @@ returns-clause-cells c =
     let version = some-same _ _ (found ∙ version-found cat c.args.version held)
     ∙ ap (λ (h : Holdings). version_of h c.args.version) c.self.view_is in
     IfOk-weaker c.find.result _ _
-    (λ f p. p ∙ ap (λ (v : Version). cells_answered v c.args.dir c.args.path.now c.args.places.now) version)
+    (λ f p. p ∙ ap (λ (v : Version). cells_answered v c.args.dir c.args.path.now c.args.named.now) version)
     c.find.ensures.cells
