@@ -22,6 +22,7 @@ def grid_of(array: Any) -> Grid:
     """A numpy array of 2 or 3 axes, masked or not, as a grid."""
     values = np.ma.getdata(array).astype(object)
     empty = np.ma.getmaskarray(array)
+    values = np.where(empty, 0, values)
     return (values[None], empty[None].copy()) if values.ndim == 2 else (values, empty.copy())
 
 

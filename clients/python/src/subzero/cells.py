@@ -71,16 +71,15 @@ def _check_shape(shape: Shape) -> None:
 
 
 def _plain(values: np.ndarray) -> np.ndarray:
-    """The same values in an array of numbers, where they came as Python objects."""
+    """The same values, of one axis, in an array of numbers, where they came as Python objects."""
+    listed = values.tolist()
+    if any(type(value) is int and not LEAST <= value <= GREATEST for value in listed):
+        raise BadInput("a value is no whole number of 64 bits with a sign")
     try:
-        plain = np.array(values.tolist())
-    except (ValueError, OverflowError):
+        plain = np.array(listed)
+    except ValueError:
         plain = values
-    if plain.ndim == 1 and plain.dtype.kind == "f" and all(type(value) is int for value in values):
-        plain = values  # whole numbers beyond 64 bits, which numpy would take for floats
     if plain.ndim != 1 or plain.dtype.kind not in "biuf":
-        if all(type(value) is int for value in values):
-            raise BadInput(f"{max(values, key=abs)} is no whole number of 64 bits")
         raise BadInput("the values are of several kinds, or no numbers")
     return plain
 
@@ -109,7 +108,7 @@ def _whole(values: np.ndarray, scale: float | None) -> np.ndarray:
         if scaled.min() < -(2.0**63) or scaled.max() >= 2.0**63:
             raise BadInput(f"{scaled.max():g} or {scaled.min():g}, a value times {scale}, is no whole number of 64 bits")
         return scaled.astype(np.int64)
-    if kind == "u" and values.max() > GREATEST:
+    if kind == "u" and int(values.max()) > GREATEST:  # as Python's numbers: numpy would compare the two as floats
         raise BadInput(f"{values.max()} is above {GREATEST}, the greatest whole number of 64 bits with a sign")
     return values.astype(np.int64)
 

@@ -1,0 +1,126 @@
+"""Each operator's values, and its lineage in both directions, against numpy and scipy.ndimage."""
+
+import unittest
+
+import numpy as np
+
+import reference
+import subzero
+
+CROSS = [[0, 1, 0], [1, 1, 1], [0, 1, 0]]
+LOPSIDED = [[0, 2, 0], [0, 0, -1], [3, 0, 0]]
+WIDE = [[1, 0, 0, -2, 5]]
+
+# operator, parameters
+UNARY = [
+    ("neg", {}),
+    ("abs", {}),
+    ("add_k", {"k": -7}),
+    ("mul_k", {"k": 3}),
+    ("clip", {"lo": -5, "hi": 40}),
+    ("transpose", {}),
+    ("slice", {"r0": 1, "c0": 2, "h": 4, "w": 3}),
+    ("slice", {"r0": 0, "c0": 0, "h": 7, "w": 9}),
+    ("convolve", {"kernel": CROSS}),
+    ("convolve", {"kernel": LOPSIDED}),
+    ("convolve", {"kernel": WIDE}),
+    ("convolve", {"kernel": [[0]]}),
+    ("block", {"fold": "sum", "h": 2, "w": 2}),
+    ("block", {"fold": "min", "h": 3, "w": 4}),
+    ("block", {"fold": "max", "h": 1, "w": 20}),
+    ("block", {"fold": "count", "h": 2, "w": 5}),
+    ("fold_layers", {"fold": "sum"}),
+    ("fold_layers", {"fold": "min"}),
+    ("fold_layers", {"fold": "max"}),
+    ("fold_layers", {"fold": "count"}),
+    ("regions", {"t": 20}),
+    ("regions", {"t": -1000}),
+    ("regions", {"t": 1000}),
+    ("clean", {"t": 40}),
+    ("clean", {"t": -60}),
+]
+BINARY = ["add", "sub", "mul", "min", "max"]
+
+
+def some(draw: np.random.RandomState, shape: tuple[int, ...]) -> np.ma.MaskedArray:
+    """Whole numbers from -50 to 99, a tenth of them empty."""
+    return np.ma.MaskedArray(draw.randint(-50, 100, shape), draw.rand(*shape) < 0.1)
+
+
+class Operators(unittest.TestCase):
+    def check(self, shape: tuple[int, ...]) -> None:
+        """Run every operator on arrays of this shape."""
+        draw = np.random.RandomState(len(shape))
+        first, second = some(draw, shape), some(draw, shape)
+        small, table = np.ma.MaskedArray(draw.randint(-2, 9, shape), draw.rand(*shape) < 0.1), some(draw, (1, 6))
+        with subzero.Session() as session:
+            held = [session.array(name, given) for name, given in zip("abct", (first, second, small, table))]
+            flow = session.flow("all", inputs=4)
+            a, b, c, t = flow.inputs
+            cases = [(getattr(flow, op)(a, **parameters), [first]) for op, parameters in UNARY]
+            cases += [(getattr(flow, op)(a, b), [first, second]) for op in BINARY]
+            cases += [(flow.lookup(c, t), [small, table])]
+            run = session.start(flow.define(), held)
+            run.wait()
+            for node, given in cases:
+                with self.subTest(op=node.op, parameters=node.parameters, shape=shape):
+                    self.check_node(run, node, [reference.grid_of(one) for one in given], draw)
+
+    def check_node(self, run: subzero.Run, node: subzero.Node, grids: list[reference.Grid], draw: np.random.RandomState) -> None:
+        values, empty = reference.evaluate(node.op, node.parameters, grids)
+        shape = run.shape(node)
+        found = run.values(node)
+        self.assertEqual(found.shape, shape)
+        self.assertEqual(np.ma.getmaskarray(found).tolist(), empty.reshape(shape).tolist())
+        self.assertEqual(found.filled(0).tolist(), values.reshape(shape).tolist())
+        for number, source in enumerate(node.sources):
+            within = run.shape(source)
+            for chance in (0, 0.05, 0.3, 1):
+                asked = draw.rand(*shape) < chance
+                behind = reference.back(node.op, node.parameters, grids, number, asked.reshape(values.shape))
+                got = run.back(node, asked, to=source)
+                self.assertEqual((got.dtype, got.shape), (bool, within))
+                self.assertTrue(np.array_equal(got, behind.reshape(within)))
+                asked = draw.rand(*within) < chance
+                touched = reference.forward(node.op, node.parameters, grids, number, asked.reshape(grids[number][0].shape))
+                got = run.forward(source, asked, to=node)
+                self.assertEqual((got.dtype, got.shape), (bool, shape))
+                self.assertTrue(np.array_equal(got, touched.reshape(shape)))
+
+    def test_images(self) -> None:
+        self.check((7, 9))
+
+    def test_layers(self) -> None:
+        self.check((3, 7, 9))
+
+    def test_one_layer_of_three_axes(self) -> None:
+        self.check((1, 7, 9))
+
+    def test_what_is_no_i64_is_empty(self) -> None:
+        greatest, least = 2**63 - 1, -(2**63)
+        given = np.ma.MaskedArray([[greatest, least, 0, 5]], [[False, False, False, True]])
+        with subzero.Session() as session:
+            held = session.array("a", given)
+            flow = session.flow("f")
+            a = flow.input(0)
+            nodes = {
+                flow.neg(a): [[-greatest, None, 0, None]],
+                flow.abs(a): [[greatest, None, 0, None]],
+                flow.add_k(a, 1): [[None, least + 1, 1, None]],
+                flow.mul_k(a, least): [[None, None, 0, None]],
+                flow.sub(a, a): [[0, 0, 0, None]],
+                flow.clip(a, least, greatest): [[greatest, least, 0, None]],
+                flow.block(a, "sum", 1, 4): [[-1]],
+                flow.convolve(a, [[1, 1, 1]]): [[-1, -1, None, None]],
+                flow.convolve(a, [[0, 2, 0]]): [[None, None, 0, None]],
+                flow.clean(a, greatest): [[None, least, 0, None]],
+            }
+            run = session.start(flow, [held])
+            for node, expected in nodes.items():
+                with self.subTest(node=str(node)):
+                    expected = [[least, *expected[0][1:]]] if node.op == "clean" else expected
+                    self.assertEqual(run.values(node).tolist(), expected)
+
+
+if __name__ == "__main__":
+    unittest.main()

@@ -1,0 +1,370 @@
+"""Refusals, ends of the program, long lines, records, progress."""
+
+import io
+import os
+import signal
+import subprocess
+import sys
+import tempfile
+import threading
+import unittest
+from pathlib import Path
+from unittest import mock
+
+import numpy as np
+
+import subzero
+from subzero import progress
+from subzero.program import find
+
+
+class Refusals(unittest.TestCase):
+    def setUp(self) -> None:
+        self.session = subzero.Session()
+        self.addCleanup(self.session.close)
+
+    def refused(self, call, *arguments, **named) -> subzero.Refused:
+        with self.assertRaises(subzero.Refused) as caught:
+            call(*arguments, **named)
+        return caught.exception
+
+    def test_a_refusal_says_its_rule_its_line_and_its_node(self) -> None:
+        base = self.session.array("a", [[1, 2, 3]])
+        flow = self.session.flow("shapes")
+        flow.add(flow.transpose(flow.input(0)), flow.input(0))
+        fault = self.refused(self.session.start, flow.define(), [base])
+        self.assertEqual((fault.number, fault.node, fault.line), (13, 1, 3))
+        self.assertEqual(fault.text, '{"start":"shapes","base":[["a",1]]}')
+        self.assertEqual(
+            str(fault), 'refused 13: the shapes do not fit, at node 1; line 3: {"start":"shapes","base":[["a",1]]}'
+        )
+        self.assertEqual(self.session.array("a", [[4]]).version, 2)
+
+    def test_faults_of_a_flow(self) -> None:
+        empty = self.refused(self.session.flow("f").define)
+        self.assertEqual((empty.number, empty.fault, empty.node), (8, 1, None))
+        self.assertIn("it has no node", str(empty))
+        flow = self.session.flow("f")
+        flow.convolve(flow.neg(flow.input(0)), [[1, 1]])
+        fault = self.refused(flow.define)
+        self.assertEqual((fault.number, fault.fault, fault.node), (8, 5, 1))
+        flow = self.session.flow("f")
+        for _ in range(33):
+            flow.neg(flow.input(0))
+        self.assertEqual(self.refused(flow.define).fault, 2)
+        flow = self.session.flow("f", inputs=33)
+        flow.neg(flow.input(0))
+        self.assertEqual(self.refused(flow.define).fault, 6)
+        for number in range(2):
+            flow = self.session.flow("f")
+            flow.neg(flow.input(0))
+            if number:
+                self.assertEqual(self.refused(flow.define).number, 9)
+            else:
+                self.assertIs(flow.define(), flow)
+
+    def test_what_is_not_held(self) -> None:
+        base = self.session.array("a", [[1]])
+        flow = self.session.flow("f")
+        node = flow.neg(flow.input(0))
+        self.assertEqual(self.refused(self.session.start, flow, [base, base]).number, 12)
+        self.assertEqual(self.refused(self.session.start, flow, [self.session.held_array("a", 2, (1, 1))]).number, 11)
+        run = self.session.start(flow, [base])
+        self.assertEqual(self.refused(run.explain, node, (0, 0), to=base).number, 19)
+        run.wait()
+        self.assertEqual(run.explain(node, (0, 0), to=base)[0].traced, 0)
+        other = self.session.held_run(run.number + 1, flow, [base])
+        self.assertEqual(self.refused(other.back, node, (0, 0), to=base).number, 15)
+        self.assertEqual(self.refused(other.wait).number, 15)
+        absent = self.session.flow("absent").held()
+        self.assertEqual(self.refused(self.session.start, absent, [base]).number, 10)
+
+    def test_too_many_cells(self) -> None:
+        for _ in range(4):
+            self.session.array("big", np.zeros((1024, 1024), dtype=int))
+        fault = self.refused(self.session.array, "big", [[1]])
+        self.assertEqual(fault.number, 7)
+
+    def test_strategies(self) -> None:
+        base = self.session.array("a", [[1, 9, 9]])
+        flow = self.session.flow("f")
+        labels = flow.regions(flow.input(0), t=5)
+        self.assertEqual(self.refused(flow.define().keep, labels, ["map"]).number, 18)
+        flow.keep(labels, ["blackbox"])
+        run = self.session.start(flow, [base])
+        run.wait()
+        self.assertEqual(run.explain(labels, (0, 1), to=base)[0].steps, ((labels, "blackbox"),))
+        flow = self.session.flow("kept")
+        labels = flow.regions(flow.input(0), t=5, keep=["pay_many"])
+        try:
+            flow.define()
+            expected = "pay_many"
+        except subzero.Refused as fault:  # stored strategies are to come
+            self.assertEqual(fault.number, 21)
+            expected = "blackbox"
+        run = self.session.start(flow, [base])
+        run.wait()
+        self.assertEqual(run.explain(labels, (0, 1), to=base)[0].steps, ((labels, expected),))
+        self.assertEqual(np.argwhere(run.back(labels, (0, 1), to=base)).tolist(), [[0, 1], [0, 2]])
+
+    def test_what_is_refused_before_it_is_sent(self) -> None:
+        base = self.session.array("a", [[1, 2]])
+        flow, other = self.session.flow("f"), self.session.flow("g")
+        x = flow.input(0)
+        node = flow.neg(x)
+        for call, why in (
+            (lambda: flow.add_k(x, 1.5), "must be a whole number"),
+            (lambda: flow.add_k(x, True), "must be a whole number"),
+            (lambda: flow.mul_k(x, 2**63), "must lie from"),
+            (lambda: flow.clip(x, None, 3), "lo is None"),
+            (lambda: flow.slice(x, -1, 0, 1, 1), "r0 is -1"),
+            (lambda: flow.block(x, "mean", 2, 2), "no fold"),
+            (lambda: flow.convolve(x, [[0.5]]), "kernel"),
+            (lambda: flow.convolve(x, [1, 2, 3]), "kernel"),
+            (lambda: flow.neg(other.input(0)), "no array of the flow f"),
+            (lambda: flow.neg(base), "no array of the flow f"),
+            (lambda: flow.neg(x, keep="map"), "a list of names"),
+            (lambda: flow.neg(x, keep=["full"]), "no strategy"),
+            (lambda: flow.input(1), "the number of an input"),
+            (lambda: flow.keep(x, ["map"]), "no node of the flow f"),
+            (lambda: self.session.flow("F"), "no name"),
+            (lambda: self.session.start(flow, [np.ones((2, 2))]), "hand it in"),
+        ):
+            with self.assertRaisesRegex(subzero.BadInput, why):
+                call()
+        self.assertEqual(flow.nodes, [node])
+        run = self.session.start(flow, [base])
+        with self.assertRaisesRegex(subzero.BadInput, "takes no further node"):
+            flow.neg(x)
+        for call, why in (
+            (lambda: run.back(node, (0, 2), to=base), "out of range"),
+            (lambda: run.values(other.input(0)), "of another flow"),
+            (lambda: run.values(self.session.array("a", [[1]])), "no array that the run was started on"),
+            (lambda: run.explain(node, (0, 0), to=base, direction="up"), "no direction"),
+        ):
+            with self.assertRaisesRegex(subzero.BadInput, why):
+                call()
+
+
+class Ends(unittest.TestCase):
+    def test_a_killed_program(self) -> None:
+        session = subzero.Session()
+        session.array("a", [[1]])
+        os.kill(session.pid, signal.SIGKILL)
+        for _ in range(2):
+            with self.assertRaises(subzero.ProgramEnded) as caught:
+                session.array("a", [[1]])
+            self.assertEqual(caught.exception.status, -signal.SIGKILL)
+            self.assertIn("signal 9 ended it", str(caught.exception))
+        with self.assertRaises(subzero.ProgramEnded):
+            session.close()
+        with self.assertRaisesRegex(subzero.SubZeroError, "closed"):
+            session.array("a", [[1]])
+
+    def test_a_program_killed_while_a_reply_is_awaited(self) -> None:
+        with tempfile.TemporaryDirectory() as folder:
+            silent = Path(folder) / "silent"
+            silent.write_text("#!/bin/sh\nexec sleep 60\n")
+            silent.chmod(0o755)
+            session = subzero.Session(program=silent)
+            timer = threading.Timer(0.3, os.kill, (session.pid, signal.SIGTERM))
+            timer.start()
+            with self.assertRaises(subzero.ProgramEnded) as caught:
+                session.array("a", np.zeros((1024, 1024), dtype=int))
+            self.assertEqual(caught.exception.status, -signal.SIGTERM)
+            timer.join()
+            with self.assertRaises(subzero.ProgramEnded):
+                session.close()
+
+    def test_a_program_that_is_another_one(self) -> None:
+        with self.assertRaises(subzero.OutOfStep), subzero.Session(program="cat") as session:
+            session.array("a", [[1]])
+
+    def test_a_session_closed_twice(self) -> None:
+        session = subzero.Session()
+        session.close()
+        session.close()
+
+    def test_a_log_is_kept_or_the_words_are_not_known(self) -> None:
+        with tempfile.TemporaryDirectory() as folder:
+            log = Path(folder) / "survey.log"
+            try:
+                with subzero.Session(log=log) as session:
+                    sky = session.array("sky", [[1, 2]])
+                    flow = session.flow("f")
+                    node = flow.neg(flow.input(0))
+                    run = session.start(flow, [sky])
+                    run.wait()
+            except subzero.ProgramEnded as fault:  # modes with a log are to come
+                self.assertEqual(fault.status, 1)
+                self.assertTrue(fault.text.startswith("usage: subzero MODE"), fault.text)
+                return
+            with subzero.Session(log=log) as session:
+                sky = session.held_array("sky", 1, (1, 2))
+                flow = session.flow("f")
+                node = flow.neg(flow.input(0))
+                run = session.held_run(1, flow.held(), [sky])
+                self.assertEqual(run.values(node).tolist(), [[-1, -2]])
+                self.assertEqual(session.array("sky", [[3]]).version, 2)
+
+    def test_a_file_that_is_no_log(self) -> None:
+        with tempfile.TemporaryDirectory() as folder:
+            log = Path(folder) / "notes.txt"
+            log.write_text("this is no log at all\n")
+            with self.assertRaises(subzero.ProgramEnded) as caught:
+                subzero.Session(log=log)
+            self.assertIn(caught.exception.status, (1, 5))
+
+    def test_options(self) -> None:
+        for options in ({"workers": 2}, {"askers": 4}):
+            try:
+                with subzero.Session(**options) as session:
+                    self.assertEqual(session.array("a", [[1]]).version, 1)
+            except subzero.ProgramEnded as fault:  # options are to come
+                self.assertEqual(fault.status, 1)
+        with self.assertRaises(subzero.BadInput):
+            subzero.Session(workers="2")
+
+    def test_where_the_program_is_looked_for(self) -> None:
+        self.assertEqual(find("cat"), find(find("cat")))
+        with mock.patch.dict(os.environ, {"SUBZERO": "/nowhere/subzero"}):
+            with self.assertRaisesRegex(subzero.ProgramMissing, "/nowhere/subzero"):
+                find()
+            self.assertTrue(find("cat").endswith("/cat"))
+        with tempfile.TemporaryDirectory() as folder, mock.patch.dict(os.environ, {"PATH": folder}):
+            os.environ.pop("SUBZERO", None)
+            own = Path(folder) / "subzero"
+            own.write_text("")
+            own.chmod(0o755)
+            self.assertEqual(find(), str(own))
+            module = Path(folder) / "clone" / "clients" / "python" / "src" / "subzero" / "program.py"
+            built = Path(folder) / "clone" / "crates" / "subzero" / "out" / "subzero"
+            own.unlink()
+            with mock.patch("subzero.program.__file__", str(module)):
+                with self.assertRaisesRegex(subzero.ProgramMissing, "not found"):
+                    find()
+                built.parent.mkdir(parents=True)
+                built.write_text("")
+                built.chmod(0o755)
+                self.assertEqual(find(), str(built))
+
+
+class LongLines(unittest.TestCase):
+    def test_long_lines_both_ways_do_not_lock(self) -> None:
+        """Many lines of a megabyte are sent ahead, each with a reply of a megabyte, before the first is taken."""
+        done = threading.Event()
+
+        def play() -> None:
+            with subzero.Session() as session:
+                base = session.array("a", np.arange(100_000).reshape(250, 400))
+                flow = session.flow("f")
+                node = flow.neg(flow.input(0))
+                run = session.start(flow, [base])
+                mask = np.ones((250, 400), dtype=bool)
+                with session.pipeline() as ahead:
+                    answers = [ahead.back(run, node, mask, to=base) for _ in range(20)]
+                    values = [ahead.values(run, node) for _ in range(20)]
+                self.assertTrue(all(answer.result().all() for answer in answers))
+                self.assertTrue(all(value.result()[-1, -1] == -99_999 for value in values))
+            done.set()
+
+        thread = threading.Thread(target=play, daemon=True)
+        thread.start()
+        self.assertTrue(done.wait(60), "the session is locked")
+
+    def test_each_line_is_one_write(self) -> None:
+        with subzero.Session() as session:
+            stream = session._program._process.stdin
+            with mock.patch.object(session._program._process, "stdin", wraps=stream) as seen:
+                seen.closed = False
+                session.array("a", np.zeros((300, 300), dtype=int))
+                session.array("a", [[1]])
+            self.assertEqual(seen.write.call_count, 2)
+
+    def test_an_interrupted_wait_leaves_the_session_in_step(self) -> None:
+        with subzero.Session() as session:
+            with mock.patch("subzero.program.Reply.come_by", side_effect=KeyboardInterrupt):
+                with self.assertRaises(KeyboardInterrupt):
+                    session.array("a", [[1]])
+            self.assertEqual(session.array("a", [[2]]).version, 2)
+
+    def test_threads_share_a_session(self) -> None:
+        with subzero.Session() as session:
+            base = session.array("a", np.arange(64).reshape(8, 8))
+            flow = session.flow("f")
+            node = flow.transpose(flow.input(0))
+            run = session.start(flow, [base])
+            found: dict[int, list[list[int]]] = {}
+
+            def ask(row: int) -> None:
+                for _ in range(20):
+                    found[row] = np.argwhere(run.back(node, (row, 2), to=base)).tolist()
+
+            threads = [threading.Thread(target=ask, args=(row,)) for row in range(8)]
+            for thread in threads:
+                thread.start()
+            for thread in threads:
+                thread.join()
+            self.assertEqual(found, {row: [[2, row]] for row in range(8)})
+
+
+class Records(unittest.TestCase):
+    def test_a_record_is_a_session_that_the_program_plays(self) -> None:
+        with tempfile.TemporaryDirectory() as folder, subzero.Session() as session:
+            path = Path(folder) / "x.session"
+            base = session.array("a", [[1, 2], [3, None]])
+            session.record(path)
+            flow = session.flow("f")
+            node = flow.neg(flow.input(0))
+            run = session.start(flow, [base])
+            run.back(node, (0, 1), to=base)
+            self.assertEqual(path.read_bytes().count(b"\n"), 4)
+            with self.assertRaises(subzero.Refused):
+                flow.held().__class__(session, "f", 1).define()
+            played = subprocess.run([find(), "play"], stdin=path.open(), capture_output=True, check=True)
+            self.assertEqual(
+                played.stdout.decode().splitlines(),
+                ["1 array a 1", "2 flow f", "3 started 1", "4 cells 1 0,1", "5 refused 8 1"],
+            )
+
+
+class Terminal(io.StringIO):
+    def isatty(self) -> bool:
+        return True
+
+
+class Progress(unittest.TestCase):
+    def show(self, stream: io.StringIO) -> str:
+        with mock.patch.object(sys, "stderr", stream):
+            with progress.shown("asking back") as step:
+                step.show()
+                step.show()
+        return stream.getvalue()
+
+    def test_a_terminal_is_told_and_cleared(self) -> None:
+        told = self.show(Terminal())
+        self.assertRegex(told, r"^\rsubzero: asking back, 0\.0 s")
+        self.assertRegex(told, r"\r +\r$")
+
+    def test_no_terminal_is_told_nothing(self) -> None:
+        self.assertEqual(self.show(io.StringIO()), "")
+
+    def test_a_short_wait_is_not_shown(self) -> None:
+        stream = Terminal()
+        with mock.patch.object(sys, "stderr", stream), subzero.Session() as session:
+            session.array("a", [[1]])
+        self.assertEqual(stream.getvalue(), "")
+
+    def test_a_long_wait_is_shown(self) -> None:
+        stream = Terminal()
+        with tempfile.TemporaryDirectory() as folder:
+            slow = Path(folder) / "slow"
+            slow.write_text(f'#!/bin/sh\nsleep 1\nexec "{find()}" play\n')
+            slow.chmod(0o755)
+            with mock.patch.object(sys, "stderr", stream), subzero.Session(program=slow) as session:
+                session.array("sky", [[1]])
+        self.assertRegex(stream.getvalue(), r"subzero: handing in sky, 0\.\d s")
+
+
+if __name__ == "__main__":
+    unittest.main()
