@@ -177,8 +177,12 @@ class Ends(unittest.TestCase):
                 session.close()
 
     def test_a_program_that_is_another_one(self) -> None:
-        with self.assertRaises(subzero.OutOfStep), subzero.Session(program="cat") as session:
-            session.array("a", [[1]])
+        with tempfile.TemporaryDirectory() as folder:
+            echo = Path(folder) / "echo"
+            echo.write_text("#!/bin/sh\nexec cat\n")
+            echo.chmod(0o755)
+            with self.assertRaises(subzero.OutOfStep), subzero.Session(program=echo) as session:
+                session.array("a", [[1]])
 
     def test_a_session_closed_twice(self) -> None:
         session = subzero.Session()
@@ -320,8 +324,9 @@ class Records(unittest.TestCase):
             run.back(node, (0, 1), to=base)
             self.assertEqual(path.read_bytes().count(b"\n"), 4)
             with self.assertRaises(subzero.Refused):
-                flow.held().__class__(session, "f", 1).define()
-            played = subprocess.run([find(), "play"], stdin=path.open(), capture_output=True, check=True)
+                session.flow("f").define()
+            with path.open() as lines:
+                played = subprocess.run([find(), "play"], stdin=lines, capture_output=True, check=True)
             self.assertEqual(
                 played.stdout.decode().splitlines(),
                 ["1 array a 1", "2 flow f", "3 started 1", "4 cells 1 0,1", "5 refused 8 1"],

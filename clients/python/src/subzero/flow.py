@@ -26,7 +26,7 @@ _KEPT = frozenset(
 class Input:
     """A base array of a flow, by its number from 0."""
 
-    flow: Flow
+    flow: Flow = field(repr=False)
     number: int
 
     def __str__(self) -> str:
@@ -37,7 +37,7 @@ class Input:
 class Node:
     """A node of a flow, and its output: its number from 0, its operator, its parameters and what it takes."""
 
-    flow: Flow
+    flow: Flow = field(repr=False)
     number: int
     op: str
     parameters: dict[str, Any]
@@ -223,10 +223,11 @@ class Flow:
         for place in sources:
             if not isinstance(place, (Input, Node)) or place.flow is not self:
                 raise BadInput(f"{place!r} is no array of the flow {self.name}: take flow.input(0), or a node of it")
+        strategies = None if keep is None else _strategies(keep)
         node = Node(self, len(self.nodes), op, parameters, sources, shape_from)
         self.nodes.append(node)
-        if keep is not None:
-            self._kept.append((node, _strategies(keep)))
+        if strategies is not None:
+            self._kept.append((node, strategies))
         return node
 
 

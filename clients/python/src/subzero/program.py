@@ -100,6 +100,7 @@ class Program:
         self._lines = 0
         self._sent = tempfile.SpooledTemporaryFile(_KEPT_IN_MEMORY)
         self._records: list[BinaryIO] = []
+        self._wrote = ""
         _widen(self._process.stdin)
         _widen(self._process.stdout)
         self._reader = threading.Thread(target=self._read, name="subzero replies", daemon=True)
@@ -147,18 +148,18 @@ class Program:
         """The exception that says how the program ended, once it has."""
         self._reader.join()
         status = self._process.wait()
-        self._errors.seek(0)
-        return ProgramEnded(status, self._errors.read().decode(errors="replace").strip())
+        if not self._errors.closed:
+            self._errors.seek(0)
+            self._wrote = self._errors.read().decode(errors="replace").strip()
+        return ProgramEnded(status, self._wrote)
 
     def close(self) -> ProgramEnded | None:
         """End the session: the program reads to its end and stops. Gives how it ended, where that is not status 0."""
         with self._turn:
-            if not self._process.stdin.closed:
-                self._process.stdin.close()
+            self._process.stdin.close()
             fault = self.ended()
-            for out in self._records:
-                out.close()
-            self._records.clear()
+            for stream in (self._process.stdout, self._errors, self._sent, *self._records):
+                stream.close()
             return fault if fault.status != 0 else None
 
     def kill(self) -> None:

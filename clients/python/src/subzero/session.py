@@ -69,7 +69,9 @@ class Session:
     def __enter__(self) -> Session:
         return self
 
-    def __exit__(self, kind: object, *_: object) -> None:
+    def __exit__(self, kind: type[BaseException] | None, *_: object) -> None:
+        if kind is not None and issubclass(kind, KeyboardInterrupt):
+            self._program.kill()  # who interrupts does not want to wait for what was begun
         fault = self._program.close()
         if fault is not None and kind is None:
             raise fault
