@@ -1,7 +1,7 @@
 """What the operators do, told a second time by numpy and scipy.ndimage.
 
-Arrays here have 3 axes (layer, row, column), and are a pair: values, Python's whole numbers in an array of objects, and which of
-them are empty. Lineage is told by boolean arrays.
+Arrays here have 3 axes (layer, row, column), and are a pair: values, Python's whole numbers in an array of objects, and
+which of them are empty. Lineage is told by boolean arrays.
 """
 
 from __future__ import annotations
@@ -38,7 +38,9 @@ def high(grid: Grid, t: int) -> np.ndarray:
 
 
 def moved(array: np.ndarray, rows: int, cols: int, outside: Any) -> np.ndarray:
-    """The array with each cell holding what stands so many rows down and columns right of it, `outside` beyond the edge."""
+    """The array with each cell holding what stands so many rows down and columns right of it, `outside` beyond the
+    edge.
+    """
     out = np.full_like(array, outside)
     height, width = array.shape[1:]
     if abs(rows) < height and abs(cols) < width:
@@ -100,7 +102,9 @@ def evaluate(op: str, p: dict[str, Any], grids: list[Grid]) -> Grid:
         pad = ((0, 0), (0, tall * h - height), (0, wide * w - width))
         shape = (layers, tall, h, wide, w)
         blocks = np.pad(values, pad).reshape(shape).swapaxes(2, 3).reshape(layers, tall, wide, h * w)
-        holes = np.pad(empty, pad, constant_values=True).reshape(shape).swapaxes(2, 3).reshape(layers, tall, wide, h * w)
+        holes = (
+            np.pad(empty, pad, constant_values=True).reshape(shape).swapaxes(2, 3).reshape(layers, tall, wide, h * w)
+        )
         return fitted(*folded(blocks, holes, p["fold"]))
     if op == "fold_layers":
         out, holes = folded(np.moveaxis(values, 0, -1), np.moveaxis(empty, 0, -1), p["fold"])

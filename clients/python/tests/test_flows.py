@@ -135,7 +135,12 @@ class RandomFlows(unittest.TestCase):
             elif op == "convolve":
                 node = flow.convolve(x, draw.randint(-1, 2, (draw.choice([1, 3, 5]), draw.choice([1, 3]))))
             elif op == "block":
-                node = flow.block(x, str(draw.choice(["sum", "min", "max", "count"])), int(draw.randint(1, 4)), int(draw.randint(1, 4)))
+                node = flow.block(
+                    x,
+                    str(draw.choice(["sum", "min", "max", "count"])),
+                    int(draw.randint(1, 4)),
+                    int(draw.randint(1, 4)),
+                )
             elif op == "fold_layers":
                 node = flow.fold_layers(x, str(draw.choice(["sum", "min", "max", "count"])))
             elif op == "lookup":
@@ -159,7 +164,9 @@ class RandomFlows(unittest.TestCase):
             self.draw_flow(flow, [shape, (1, 20)], draw)
             run = session.start(flow, held)
             run.wait()
-            grids: dict[Any, reference.Grid] = {place: reference.grid_of(given) for place, given in zip(flow.inputs, (image, table))}
+            grids: dict[Any, reference.Grid] = {
+                place: reference.grid_of(given) for place, given in zip(flow.inputs, (image, table))
+            }
             for node in flow.nodes:
                 taken = [grids[source] for source in node.sources]
                 grids[node] = reference.evaluate(node.op, node.parameters, taken)
@@ -170,7 +177,12 @@ class RandomFlows(unittest.TestCase):
                     self.check_pair(run, grids, node, place, draw)
 
     def check_pair(
-        self, run: subzero.Run, grids: dict[Any, reference.Grid], node: subzero.Node, place: subzero.Input, draw: np.random.RandomState
+        self,
+        run: subzero.Run,
+        grids: dict[Any, reference.Grid],
+        node: subzero.Node,
+        place: subzero.Input,
+        draw: np.random.RandomState,
     ) -> None:
         try:
             paths = run.paths(node, to=place, limit=1000)

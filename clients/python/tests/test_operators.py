@@ -66,7 +66,9 @@ class Operators(unittest.TestCase):
                 with self.subTest(op=node.op, parameters=node.parameters, shape=shape):
                     self.check_node(run, node, [reference.grid_of(one) for one in given], draw)
 
-    def check_node(self, run: subzero.Run, node: subzero.Node, grids: list[reference.Grid], draw: np.random.RandomState) -> None:
+    def check_node(
+        self, run: subzero.Run, node: subzero.Node, grids: list[reference.Grid], draw: np.random.RandomState
+    ) -> None:
         values, empty = reference.evaluate(node.op, node.parameters, grids)
         shape = run.shape(node)
         found = run.values(node)
@@ -82,7 +84,9 @@ class Operators(unittest.TestCase):
                 self.assertEqual((got.dtype, got.shape), (bool, within))
                 self.assertTrue(np.array_equal(got, behind.reshape(within)))
                 asked = draw.rand(*within) < chance
-                touched = reference.forward(node.op, node.parameters, grids, number, asked.reshape(grids[number][0].shape))
+                touched = reference.forward(
+                    node.op, node.parameters, grids, number, asked.reshape(grids[number][0].shape)
+                )
                 got = run.forward(source, asked, to=node)
                 self.assertEqual((got.dtype, got.shape), (bool, shape))
                 self.assertTrue(np.array_equal(got, touched.reshape(shape)))

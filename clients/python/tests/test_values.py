@@ -16,7 +16,22 @@ GREATEST, LEAST = 2**63 - 1, -(2**63)
 
 class Numerals(unittest.TestCase):
     def test_edges_of_digits(self) -> None:
-        numbers = [0, 1, 9, 10, 999, 9999, 10000, 10001, 99999999, 10**8, 10**8 + 1, 10**12, 10**16 + 5, GREATEST]
+        numbers = [
+            0,
+            1,
+            9,
+            10,
+            999,
+            9999,
+            10000,
+            10001,
+            99999999,
+            10**8,
+            10**8 + 1,
+            10**12,
+            10**16 + 5,
+            GREATEST,
+        ]
         numbers += [-number for number in numbers] + [LEAST]
         for number in numbers:
             row = [[number, 0, -1], [7, number, 20000]]
@@ -131,7 +146,9 @@ class Arrays(unittest.TestCase):
         with subzero.Session() as session:
             given = np.ma.MaskedArray([[1, 2]], [[False, True]])
             first, second = session.array("sky", given), session.array("sky", [[[5]], [[6]]])
-            self.assertEqual((str(first), first.shape, str(second), second.shape), ("array sky 1", (1, 2), "array sky 2", (2, 1, 1)))
+            self.assertEqual(
+                (str(first), first.shape, str(second), second.shape), ("array sky 1", (1, 2), "array sky 2", (2, 1, 1))
+            )
             given[0, 0] = 9
             self.assertEqual(first.values.tolist(), [[1, None]])
             with self.assertRaises(ValueError):

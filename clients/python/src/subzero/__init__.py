@@ -11,8 +11,8 @@
         run.wait()
         behind = run.back(labels, [(3, 3)], to=sky)
 
-`Session` starts the program; `Flow` builds a flow; `Run` gives values and answers lineage. `subzero.plot` draws (with matplotlib),
-`python -m subzero.demo` makes the tutorial's pictures.
+`Session` starts the program; `Flow` builds a flow; `Run` gives values and answers lineage. `subzero.plot` draws (with
+matplotlib), `python -m subzero.demo` makes the tutorial's pictures.
 """
 
 from .faults import BadInput, OutOfStep, ProgramEnded, ProgramMissing, Refused, SubZeroError, TooManyPaths

@@ -15,8 +15,8 @@ Shape: TypeAlias = tuple[int, ...]
 """The shape of an array: (height, width), or (layers, height, width)."""
 
 Cells: TypeAlias = "np.ndarray | Sequence[Sequence[int]] | Sequence[int]"
-"""A boolean mask of the array's shape, or cells: (row, column) or (layer, row, column), one or a list of them, or a whole
-array of shape (N, 2) or (N, 3)."""
+"""A boolean mask of the array's shape, or cells: (row, column) or (layer, row, column), one or a list of them, or a
+whole array of shape (N, 2) or (N, 3)."""
 
 LEAST, GREATEST = -(2**63), 2**63 - 1
 MOST_LAYERS, MOST_CELLS, MOST_BYTES = 16, 1_048_576, 33_554_432
@@ -41,14 +41,19 @@ def number_of(value: Any, what: str, least: int = LEAST, greatest: int = GREATES
 def values_of(values: ArrayLike, scale: float | None = None) -> tuple[np.ndarray, np.ndarray]:
     """The values as int64, and which of them are empty: two new arrays of the shape of `values`, of 2 or 3 axes.
 
-    Empty are the masked cells of a masked array and each None. Floats are multiplied by `scale` and rounded to the nearest whole
-    number; without a `scale` they are refused. Raises BadInput, saying why, for what the program could not hold as it is.
+    Empty are the masked cells of a masked array and each None. Floats are multiplied by `scale` and rounded to the
+    nearest whole number; without a `scale` they are refused. Raises BadInput, saying why, for what the program could
+    not hold as it is.
     """
     try:
         given = np.asarray(np.ma.getdata(values) if isinstance(values, np.ma.MaskedArray) else values)
     except ValueError as fault:
         raise BadInput(f"the values make no array: {fault}") from None
-    empty = np.ma.getmaskarray(values).copy() if isinstance(values, np.ma.MaskedArray) else np.zeros(given.shape, dtype=bool)
+    empty = (
+        np.ma.getmaskarray(values).copy()
+        if isinstance(values, np.ma.MaskedArray)
+        else np.zeros(given.shape, dtype=bool)
+    )
     _check_shape(given.shape)
     if given.dtype == object:
         empty |= np.equal(given, None).astype(bool)
@@ -96,9 +101,13 @@ def _whole(values: np.ndarray, scale: float | None) -> np.ndarray:
     if kind == "f":
         bad = int(np.count_nonzero(~np.isfinite(values)))
         if bad:
-            raise BadInput(f"{bad} values are NaN or infinite: make them empty by numpy.ma.masked_invalid, or give them numbers")
+            raise BadInput(
+                f"{bad} values are NaN or infinite: make them empty by numpy.ma.masked_invalid, or give them numbers"
+            )
         if scale is None:
-            raise BadInput("the values are floats: say by scale=.. with what they are multiplied before they are rounded")
+            raise BadInput(
+                "the values are floats: say by scale=.. with what they are multiplied before they are rounded"
+            )
     if scale is not None:
         if not isinstance(scale, (int, float, np.integer, np.floating)) or not np.isfinite(scale) or scale == 0:
             raise BadInput(f"scale is {scale!r}, and must be a number that is not 0")
@@ -106,7 +115,9 @@ def _whole(values: np.ndarray, scale: float | None) -> np.ndarray:
             raise BadInput("scale is for floats, and the values are whole numbers: multiply them in numpy")
         scaled = np.rint(values.astype(np.float64) * scale)
         if scaled.min() < -(2.0**63) or scaled.max() >= 2.0**63:
-            raise BadInput(f"{scaled.max():g} or {scaled.min():g}, a value times {scale}, is no whole number of 64 bits")
+            raise BadInput(
+                f"{scaled.max():g} or {scaled.min():g}, a value times {scale}, is no whole number of 64 bits"
+            )
         return scaled.astype(np.int64)
     if kind == "u" and int(values.max()) > GREATEST:  # as Python's numbers: numpy would compare the two as floats
         raise BadInput(f"{values.max()} is above {GREATEST}, the greatest whole number of 64 bits with a sign")
@@ -129,7 +140,9 @@ def cells_of(cells: Cells, shape: Shape) -> np.ndarray:
         raise BadInput("cells are a boolean mask, or whole numbers: (row, column) or (layer, row, column)")
     listed = np.atleast_2d(given)
     if listed.ndim != 2 or listed.shape[1] not in (2, len(shape)):
-        raise BadInput(f"cells of an array of {len(shape)} axes have {len(shape)} numbers each, and these have the shape {given.shape}")
+        raise BadInput(
+            f"cells of an array of {len(shape)} axes have {len(shape)} numbers each, and these are of shape {given.shape}"
+        )
     if listed.shape[1] < len(shape):
         listed = np.hstack([np.zeros((len(listed), 1), dtype=listed.dtype), listed])
     outside = ((listed < 0) | (listed >= np.array(shape, dtype=np.int64))).any(axis=1)

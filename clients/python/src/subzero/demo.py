@@ -1,4 +1,6 @@
-"""The tutorial's star field and pictures: `python -m subzero.demo [FOLDER]` writes them, into `pictures` where none is named."""
+"""The tutorial's star field and pictures: `python -m subzero.demo [FOLDER]` writes them, into `pictures` where none is
+named.
+"""
 
 from __future__ import annotations
 
@@ -22,8 +24,9 @@ BRIGHT = 16 * 45
 class Field:
     """A synthetic image of stars, and what is wrong with it.
 
-    `image` is a masked array of whole numbers, of shape (64, 64), with the dead column masked. `hot` is True in the two hot
-    pixels, `tracks` in the pixels of the tracks of two cosmic rays, both of the same shape; `dead` is the dead column's number.
+    `image` is a masked array of whole numbers, of shape (64, 64), with the dead column masked. `hot` is True in the two
+    hot pixels, `tracks` in the pixels of the tracks of two cosmic rays, both of the same shape; `dead` is the dead
+    column's number.
     """
 
     image: np.ma.MaskedArray
@@ -42,7 +45,20 @@ def field() -> Field:
     draw = np.random.RandomState(7)  # whose numbers never change
     rows, cols = np.mgrid[:SIDE, :SIDE]
     light = draw.normal(20, 2, (SIDE, SIDE))
-    stars = [(8, 9), (10, 40), (17, 24), (20, 56), (30, 10), (31, 37), (38, 52), (44, 22), (50, 41), (55, 8), (56, 57), (59, 28)]
+    stars = [
+        (8, 9),
+        (10, 40),
+        (17, 24),
+        (20, 56),
+        (30, 10),
+        (31, 37),
+        (38, 52),
+        (44, 22),
+        (50, 41),
+        (55, 8),
+        (56, 57),
+        (59, 28),
+    ]
     for row, col in stars:
         height, width = draw.uniform(250, 900), draw.uniform(1.1, 1.8)
         light += height * np.exp(-((rows - row) ** 2 + (cols - col) ** 2) / (2 * width**2))
@@ -88,7 +104,7 @@ def main() -> None:
         run = session.start(flow, [sky])
         run.wait()
         for name, figure in drawings.all_of(seen, run, sky, clean, smooth, labels, bins):
-            figure.savefig(folder / name, dpi=80)
+            figure.savefig(folder / name, dpi=90)
             print(folder / name)
 
 

@@ -18,15 +18,17 @@ from .session import BaseArray
 _TRUSTED, _DOUBTED, _BAD = "#3fa34d", "#ff8c1a", "#e63946"
 
 
-def all_of(seen: Field, run: Run, sky: BaseArray, clean: Node, smooth: Node, labels: Node, bins: Node) -> Iterator[tuple[str, Figure]]:
+def all_of(
+    seen: Field, run: Run, sky: BaseArray, clean: Node, smooth: Node, labels: Node, bins: Node
+) -> Iterator[tuple[str, Figure]]:
     """Each picture's file name and figure."""
     yield "field.png", field(seen)
     yield "steps.png", steps(run, sky, clean, smooth, labels, bins)
     yield "suspects.png", suspects(seen, run, sky, labels)
-    asked = {"zoom": True, "title": "Which raw pixels stand behind one cell of the binned image?"}
-    yield "back.png", plot.lineage(run, bins, (4, 6), to=sky, **asked)
-    asked = {"direction": "forward", "zoom": True, "title": "What did one hot pixel touch?"}
-    yield "touched.png", plot.lineage(run, sky, np.argwhere(seen.hot)[:1], to=bins, **asked)
+    title = "Which raw pixels stand behind one cell of the binned image?"
+    yield "back.png", plot.lineage(run, bins, (4, 6), to=sky, zoom=True, title=title)
+    hot, title = np.argwhere(seen.hot)[:1], "What did one hot pixel touch?"
+    yield "touched.png", plot.lineage(run, sky, hot, to=bins, direction="forward", zoom=True, title=title)
 
 
 def field(seen: Field) -> Figure:
@@ -43,7 +45,13 @@ def field(seen: Field) -> Figure:
         ("a star", (9, 8), (14, 8)),
     ):
         axes.annotate(
-            text, at, where, color="white", fontsize=10, va="center", arrowprops={"arrowstyle": "->", "color": "white", "lw": 1.2}
+            text,
+            at,
+            where,
+            color="white",
+            fontsize=10,
+            va="center",
+            arrowprops={"arrowstyle": "->", "color": "white", "lw": 1.2},
         )
     axes.set_xlabel("column")
     axes.set_ylabel("row")
@@ -54,7 +62,13 @@ def steps(run: Run, sky: BaseArray, clean: Node, smooth: Node, labels: Node, bin
     """The values of each array of the flow."""
     figure, panels = plt.subplots(1, 5, figsize=(13.2, 3.2))
     figure.subplots_adjust(left=0.025, right=0.99, top=0.9, bottom=0.14, wspace=0.15)
-    told = ("1. sky: as it was taken", "2. clean: hot cells replaced", "3. convolve: smoothed", "4. regions: one colour a star", "5. block: binned 4 by 4")
+    told = (
+        "1. sky: as it was taken",
+        "2. clean: hot cells replaced",
+        "3. convolve: smoothed",
+        "4. regions: one colour a star",
+        "5. block: binned 4 by 4",
+    )
     for axes, array, title in zip(panels, (sky, clean, smooth, labels, bins), told):
         plot.image(axes, run.values(array), title=title, labels=array in (labels, bins))
     figure.legend(handles=[Patch(color=plot.EMPTY, label="empty cells")], loc="lower center", fontsize=9, frameon=False)
@@ -72,8 +86,19 @@ def suspects(seen: Field, run: Run, sky: BaseArray, labels: Node) -> Figure:
     plot.mark(axes, (found > 0) & ~doubted, _TRUSTED)
     plot.mark(axes, doubted, _DOUBTED)
     plot.mark(axes, seen.bad, _BAD, filled=False)
-    keys = ((_TRUSTED, "stars to be trusted"), (_DOUBTED, "stars that rest on a bad pixel"), (_BAD, "bad pixels"), (plot.EMPTY, "empty"))
-    figure.legend(handles=[Patch(color=colour, label=text) for colour, text in keys], loc="lower center", ncol=2, fontsize=10, frameon=False)
+    keys = (
+        (_TRUSTED, "stars to be trusted"),
+        (_DOUBTED, "stars that rest on a bad pixel"),
+        (_BAD, "bad pixels"),
+        (plot.EMPTY, "empty"),
+    )
+    figure.legend(
+        handles=[Patch(color=colour, label=text) for colour, text in keys],
+        loc="lower center",
+        ncol=2,
+        fontsize=10,
+        frameon=False,
+    )
     axes.set_xlabel("column")
     axes.set_ylabel("row")
     return figure

@@ -20,7 +20,7 @@ _RULES = {
     15: "there is no such version",
     16: "the path is empty, longer than 32 steps, or not joined",
     17: "a cell is out of range",
-    18: "there is no such node, or its list of strategies is empty, too long, repeats one or has one that cannot be chosen",
+    18: "there is no such node, or its list of strategies is empty, too long, or has one twice or unfit",
     19: "the version is not awaited",
     20: "there is no such node to show",
     21: "the strategy is not built yet",
@@ -99,9 +99,9 @@ class ProgramEnded(SubZeroError):
 class Refused(SubZeroError):
     """The program refused a line, which changed nothing; the session goes on.
 
-    `number` is the refusal's number and `rule` what it says in words. `line` is the line's number in the session, from 1,
-    and `text` the line that was sent. Where they are printed, `fault` is the number of the flow's fault, `node` the node,
-    `input` the number of its input and `source` the number that is no source; else each of them is None.
+    `number` is the refusal's number and `rule` what it says in words. `line` is the line's number in the session, from
+    1, and `text` the line that was sent. Where they are printed, `fault` is the number of the flow's fault, `node` the
+    node, `input` the number of its input and `source` the number that is no source; else each of them is None.
     """
 
     def __init__(self, printed: list[int], line: int, text: bytes) -> None:

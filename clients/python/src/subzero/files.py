@@ -11,7 +11,8 @@ from .faults import BadInput
 
 
 def read(path: str | os.PathLike[str]) -> np.ndarray:
-    """The array of a `.npy` file, or of a FITS file's first image (`.fits`, `.fit`, `.fts`, also `.gz`; this needs astropy).
+    """The array of a `.npy` file, or of a FITS file's first image (`.fits`, `.fit`, `.fts`, also `.gz`; this needs
+    astropy).
 
     Values are as the file has them: floats stay floats, and NaN stays NaN. Raises BadInput for another kind of file.
     """

@@ -59,9 +59,10 @@ Place: TypeAlias = Input | Node
 class Flow:
     """A flow that is being built. Each operator's method gives the new node.
 
-    `x`, `a`, `b` are arrays of this flow: `flow.input(0)`, or an earlier node. `keep` is how the node's lineage is kept: one to
-    three names of strategies, as in docs/FORMATS.md, or None for the program's own choice. Every method raises BadInput for what
-    could not be sent; rules on values (a kernel of even sides, a limit above the other) are the program's, and `define` tells them.
+    `x`, `a`, `b` are arrays of this flow: `flow.input(0)`, or an earlier node. `keep` is how the node's lineage is
+    kept: one to three names of strategies, as in docs/FORMATS.md, or None for the program's own choice. Every method
+    raises BadInput for what could not be sent; rules on values (a kernel of even sides, a limit above the other) are
+    the program's, and `define` tells them.
     """
 
     def __init__(self, session: Session, name: str, inputs: int) -> None:
@@ -154,7 +155,9 @@ class Flow:
         return self._node("fold_layers", (x,), keep, shape_from=lambda shape: shape[-2:], fold=_fold(fold))
 
     def lookup(self, a: Place, table: Place, *, keep: Sequence[str] | None = None) -> Node:
-        """For each value of `a` that is a column of `table`, an array of one row, the table's value there; else empty."""
+        """For each value of `a` that is a column of `table`, an array of one row, the table's value there; else
+        empty.
+        """
         return self._node("lookup", (a, table), keep)
 
     def regions(self, x: Place, t: int, *, keep: Sequence[str] | None = None) -> Node:
@@ -165,11 +168,15 @@ class Flow:
         return self._node("regions", (x,), keep, t=number_of(t, "t"))
 
     def clean(self, x: Place, t: int, *, keep: Sequence[str] | None = None) -> Node:
-        """Each cell of `t` and more replaced by the least of its up to eight neighbours below `t`; other cells as they are."""
+        """Each cell of `t` and more replaced by the least of its up to eight neighbours below `t`; other cells as they
+        are.
+        """
         return self._node("clean", (x,), keep, t=number_of(t, "t"))
 
     def keep(self, node: Node, strategies: Sequence[str]) -> None:
-        """Set how a node's lineage is kept, for runs started later. Raises Refused where the flow is defined already."""
+        """Set how a node's lineage is kept, for runs started later. Raises Refused where the flow is defined
+        already.
+        """
         if not isinstance(node, Node) or node.flow is not self:
             raise BadInput(f"{node} is no node of the flow {self.name}")
         self._kept.append((node, _strategies(strategies)))
@@ -179,11 +186,14 @@ class Flow:
     def define(self) -> Flow:
         """Send the flow, and how its nodes are kept; gives itself. A second call sends what is not yet accepted.
 
-        Raises Refused: with number 8 and the fault and the node of a flow against the rules; with number 9 for a name that is
-        taken; with 18 for a strategy that a node cannot have, and 21 for one that the program cannot keep yet.
+        Raises Refused: with number 8 and the fault and the node of a flow against the rules; with number 9 for a name
+        that is taken; with 18 for a strategy that a node cannot have, and 21 for one that the program cannot keep yet.
         """
         if not self._defined:
-            nodes = [{"op": node.op, **node.parameters, "from": [_source(place) for place in node.sources]} for node in self.nodes]
+            nodes = [
+                {"op": node.op, **node.parameters, "from": [_source(place) for place in node.sources]}
+                for node in self.nodes
+            ]
             line = {"flow": self.name, "inputs": len(self.inputs), "nodes": nodes}
             self.session.say(_line(line)).wait("defining a flow")
             self._defined = True

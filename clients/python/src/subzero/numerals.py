@@ -1,8 +1,9 @@
 """Numbers as text, and text as numbers, a whole array at a time.
 
-The program reads JSON and answers in decimal numbers. Both ways go through numpy, so that an array of a million cells is
-written or read without a Python loop over its cells. What is written is laid out in words of four bytes, one row of words for
-each number or cell: digits come from a table four at a time, and bytes that are not used are 0 and are dropped at the end.
+The program reads JSON and answers in decimal numbers. Both ways go through numpy, so that an array of a million cells
+is written or read without a Python loop over its cells. What is written is laid out in words of four bytes, one row of
+words for each number or cell: digits come from a table four at a time, and bytes that are not used are 0 and are
+dropped at the end.
 """
 
 from __future__ import annotations
@@ -20,7 +21,8 @@ def _word(text: bytes) -> np.uint32:
 
 
 def _table(last: bool) -> np.ndarray:
-    """The words of the numbers below 10,000: first with all four digits, as behind further digits; then without leading zeros.
+    """The words of the numbers below 10,000: first with all four digits, as behind further digits; then without leading
+    zeros.
 
     The number 0 without digits before it is no byte where it is not the `last` group of its number.
     """
@@ -40,7 +42,9 @@ def _groups(greatest: int) -> int:
 
 
 def _put_digits(words: np.ndarray, sizes: np.ndarray, groups: int) -> None:
-    """Write each of `sizes`, whole numbers of shape (N,) and none below 0, into its row of `words`, uint32 of shape (N, groups)."""
+    """Write each of `sizes`, whole numbers of shape (N,) and none below 0, into its row of `words`, uint32 of shape (N,
+    groups).
+    """
     left = sizes.astype(np.uint32) if groups <= 2 else sizes
     table = _LAST
     for group in reversed(range(groups)):

@@ -35,7 +35,9 @@ def paths_between(output: Place, targets: Collection[Place], limit: int) -> list
 
 
 def _counts(output: Place, targets: Collection[Place]) -> dict[Place, int]:
-    """For each array of the flow how many paths lead from it to a target; a target itself counts one, the output its steps alone."""
+    """For each array of the flow how many paths lead from it to a target; a target itself counts one, the output its
+    steps alone.
+    """
     counts: dict[Place, int] = {place: int(place in targets) for place in output.flow.inputs}
     for node in output.flow.nodes:
         counts[node] = int(node in targets and node is not output) + sum(counts[source] for source in node.sources)

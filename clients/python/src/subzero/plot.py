@@ -17,7 +17,7 @@ from .cells import Cells, cells_of, mask_of
 from .flow import Input, Node, Place
 
 if TYPE_CHECKING:
-    from .run import Array, Run
+    from .run import Array, Direction, Run
 
 ASKED, FOUND, EMPTY, NEAR = "#00b4d8", "#ff8c1a", "#c9b8e8", "#d4b106"
 _LABELS = plt.get_cmap("tab20").colors
@@ -35,15 +35,18 @@ def image(
 ) -> None:
     """Draw an array's values, of 2 axes or the first layer of 3: grey from low to high, empty cells violet.
 
-    Where `labels`, each value above 0 has a colour of its own, or a grey of its own where something is marked. `marked`, boolean of
-    the same shape, is drawn over it in `colour`.
+    Where `labels`, each value above 0 has a colour of its own, or a grey of its own where something is marked.
+    `marked`, boolean of the same shape, is drawn over it in `colour`.
     """
     flat = np.ma.asarray(values if values.ndim == 2 else values[0])
     if labels:
         _, order = np.unique(flat.filled(0), return_inverse=True)
         shown = np.ma.MaskedArray(order.reshape(flat.shape), np.ma.getmaskarray(flat))
         greys = [(0.42 + 0.05 * (number * 3 % 7),) * 3 for number in range(20)]
-        colours = [_GROUND, *((_LABELS if marked is None else greys)[number % 20] for number in range(int(order.max())))]
+        colours = [
+            _GROUND,
+            *((_LABELS if marked is None else greys)[number % 20] for number in range(int(order.max()))),
+        ]
         table, low, high = ListedColormap(colours), -0.5, len(colours) - 0.5
     else:
         shown, table = flat, plt.get_cmap("gray").copy()
@@ -75,16 +78,16 @@ def lineage(
     cells: Cells,
     *,
     to: Array | None = None,
-    direction: str = "back",
+    direction: Direction = "back",
     zoom: bool = False,
     title: str | None = None,
 ) -> Figure:
     """The chain of arrays from these cells of `array` to `to`, each with the cells that the lineage has in it.
 
-    `direction` is "back", towards what the cells were made of (to all base arrays where no `to` is given), or "forward", to
-    what they touched (to the last node). The arrays stand in columns, each right of what it takes, with an arrow for each step; the
-    asked cells are blue, those that the lineage finds orange. With `zoom`, the cells' surroundings
-    are shown once more below each array.
+    `direction` is "back", towards what the cells were made of (to all base arrays where no `to` is given), or
+    "forward", to what they touched (to the last node). The arrays stand in columns, each right of what it takes, with
+    an arrow for each step; the asked cells are blue, those that the lineage finds orange. With `zoom`, the cells'
+    surroundings are shown once more below each array.
     """
     if to is None:
         ends: list[Any] = list(run.flow.inputs) if direction == "back" else [run.flow.nodes[-1]]
@@ -97,9 +100,14 @@ def lineage(
     ask = run.back if direction == "back" else run.forward
     masks = {place: asked if place in starts else ask(array, asked, to=place) for place in chain}
 
+    near_by = {place: _surroundings(mask) if zoom else None for place, mask in masks.items()}
+    zoom = any(near_by.values())
     column: dict[Place, int] = {}
     for place in chain:
         column[place] = 1 + max((column[source] for source in _sources(place) if source in column), default=-1)
+    for place in chain:  # a base array stands beside the first node that takes it
+        if isinstance(place, Input):
+            column[place] = min((column[node] for node in chain if place in _sources(node)), default=1) - 1
     stacks = [[place for place in chain if column[place] == number] for number in range(max(column.values()) + 1)]
     tall = max(map(len, stacks))
     height = (5.0 if zoom else 2.75) * tall + 0.95
@@ -115,21 +123,35 @@ def lineage(
             panels[place] = figure.add_subplot(parts[0])
             told = f"{_name(run, place)}\n{mask.sum():,} of {mask.size:,} cells"
             image(panels[place], values, title=told, labels=labels, marked=mask, colour=colour)
-            if zoom and mask.any():
+            if (spans := near_by[place]) is not None:
                 near = figure.add_subplot(parts[1])
                 image(near, values, labels=labels, marked=mask, colour=colour)
-                _zoom(near, panels[place], mask)
+                _zoom(near, panels[place], spans)
     for place, axes in panels.items():
         for source in set(_sources(place)) & set(panels):
             figure.add_artist(
                 ConnectionPatch(
-                    (1.03, 0.5), (-0.14, 0.5), "axes fraction", "axes fraction", panels[source], axes, arrowstyle="-|>", lw=1.5
+                    (1.03, 0.5),
+                    (-0.14, 0.5),
+                    "axes fraction",
+                    "axes fraction",
+                    panels[source],
+                    axes,
+                    arrowstyle="-|>",
+                    lw=1.5,
+                    zorder=-1,
                 )
             )
     told = "what the blue cells were made of" if direction == "back" else "what the blue cells touched"
     figure.suptitle(title or f"Lineage: {told}", fontsize=12)
     keys = ((ASKED, "asked cells"), (FOUND, "found by the lineage"), (EMPTY, "empty cells"))
-    figure.legend(handles=[Patch(color=colour, label=text) for colour, text in keys], loc="lower center", ncol=3, fontsize=9, frameon=False)
+    figure.legend(
+        handles=[Patch(color=colour, label=text) for colour, text in keys],
+        loc="lower center",
+        ncol=3,
+        fontsize=9,
+        frameon=False,
+    )
     return figure
 
 
@@ -165,15 +187,24 @@ def _name(run: Run, place: Place) -> str:
     return str(place).partition(", ")[2]
 
 
-def _zoom(near: Axes, whole: Axes, mask: np.ndarray) -> None:
-    """Show in `near` the surroundings of the mask's cells alone, and in `whole` where they lie."""
+def _surroundings(mask: np.ndarray) -> list[tuple[float, float]] | None:
+    """From where to where the surroundings of a mask's cells reach, in rows and in columns; None for no cell, and for
+    the whole.
+    """
     flat = mask if mask.ndim == 2 else mask.any(axis=0)
+    if not flat.any():
+        return None
     spans = []
     for axis, size in ((1, flat.shape[0]), (0, flat.shape[1])):
         found = np.flatnonzero(flat.any(axis=axis))
         wide = min(size, max(found[-1] - found[0] + 1, 9) + 4)
         first = min(max(0, (found[0] + found[-1] + 1 - wide) // 2), size - wide)
         spans.append((first - 0.5, first + wide - 0.5))
+    return None if spans == [(-0.5, size - 0.5) for size in flat.shape] else spans
+
+
+def _zoom(near: Axes, whole: Axes, spans: list[tuple[float, float]]) -> None:
+    """Show these rows and columns alone in `near`, and in `whole` where they lie."""
     (top, bottom), (left, right) = spans
     near.set_xlim(left, right)
     near.set_ylim(bottom, top)

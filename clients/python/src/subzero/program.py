@@ -1,7 +1,7 @@
 """The program as a process: lines go in, each in one write, and replies come back in their order.
 
-A thread of its own reads the replies, so that the program never waits for somebody to take one while this side waits for it to
-take a line: neither long lines nor many lines sent ahead can lock the two together.
+A thread of its own reads the replies, so that the program never waits for somebody to take one while this side waits
+for it to take a line: neither long lines nor many lines sent ahead can lock the two together.
 """
 
 from __future__ import annotations
@@ -39,8 +39,8 @@ def find(program: str | os.PathLike[str] | None = None) -> str:
         if os.access(built, os.X_OK) and built.is_file():
             return str(built)
     raise ProgramMissing(
-        "the program was not found: name it by Session(program=..) or by the variable SUBZERO, put it on the search path as "
-        "subzero, or build it in this checkout, which leaves it in crates/subzero/out"
+        "the program was not found: name it by Session(program=..) or by the variable SUBZERO, put it on the search path "
+        "as subzero, or build it in this checkout, which leaves it in crates/subzero/out"
     )
 
 

@@ -28,8 +28,8 @@ MOST_PATHS = 64
 
 @dataclass(frozen=True)
 class Explanation:
-    """How one path of an ask is answered: for each step, in the order of the ask, its node and the strategy; and how many cells
-    are traced in all, the sum of the output sizes of the steps that are gone through again (`blackbox`)."""
+    """How one path of an ask is answered: for each step, in the order of the ask, its node and the strategy; and how
+    many cells are traced in all, the sum of the output sizes of the steps that are gone through again (`blackbox`)."""
 
     path: Path
     steps: tuple[tuple[Node, str], ...]
@@ -43,7 +43,8 @@ class Explanation:
 class Run:
     """A version of a flow. `number` is the program's, `base` the arrays on which it was started.
 
-    In its calls `array` and `to` are arrays of the run: a `BaseArray` that it was started on, `flow.input(n)`, or a node.
+    In its calls `array` and `to` are arrays of the run: a `BaseArray` that it was started on, `flow.input(n)`, or a
+    node.
     """
 
     def __init__(self, session: Session, number: int, flow: Flow, base: tuple[BaseArray, ...]) -> None:
@@ -76,17 +77,30 @@ class Run:
         return found
 
     def back(
-        self, array: Array, cells: Cells, *, to: Array, path: Sequence[Sequence[int | Node]] | None = None, limit: int = MOST_PATHS
+        self,
+        array: Array,
+        cells: Cells,
+        *,
+        to: Array,
+        path: Sequence[Sequence[int | Node]] | None = None,
+        limit: int = MOST_PATHS,
     ) -> np.ndarray:
         """Which cells of `to` stand behind these cells of `array`: a boolean array of the shape of `to`.
 
-        It is the union over all paths between the two, at most `limit`, or follows the one `path`, steps from `array` back, each a
-        node and the number of its input. Raises BadInput for cells out of range and where no path leads there; TooManyPaths.
+        It is the union over all paths between the two, at most `limit`, or follows the one `path`, steps from `array`
+        back, each a node and the number of its input. Raises BadInput for cells out of range and where no path leads
+        there; TooManyPaths.
         """
         return self.asked_later("back", array, cells, to=to, path=path, limit=limit).result()
 
     def forward(
-        self, array: Array, cells: Cells, *, to: Array, path: Sequence[Sequence[int | Node]] | None = None, limit: int = MOST_PATHS
+        self,
+        array: Array,
+        cells: Cells,
+        *,
+        to: Array,
+        path: Sequence[Sequence[int | Node]] | None = None,
+        limit: int = MOST_PATHS,
     ) -> np.ndarray:
         """Which cells of `to` these cells of `array` touched: a boolean array of the shape of `to`.
 
@@ -118,7 +132,9 @@ class Run:
         if isinstance(place, Input):
             held = self.base[place.number].values
             if held is None:
-                raise BadInput(f"{self.base[place.number]} came from the log, and the program does not show base arrays")
+                raise BadInput(
+                    f"{self.base[place.number]} came from the log, and the program does not show base arrays"
+                )
             return Later([], "", lambda texts: held)
         shape = self.shape(place)
         reply = self.session.say(b'{"show":%d,"node":%d}\n' % (self.number, place.number))
@@ -200,13 +216,17 @@ class Run:
         for one in paths:
             steps = one if direction == "back" else reversed(one)
             text = ",".join(f"[{node},{number}]" for node, number in steps).encode()
-            lines.append(b'{"%s":%d,"dir":"%s","path":[%s],"cells":%s}\n' % (form, self.number, direction.encode(), text, told))
+            lines.append(
+                b'{"%s":%d,"dir":"%s","path":[%s],"cells":%s}\n' % (form, self.number, direction.encode(), text, told)
+            )
         return paths, lines
 
     def _one(self, steps: Sequence[Sequence[int | Node]], output: Array, base: Array) -> Path:
         path, reached = path_of(self.flow, steps)
         if self.flow.nodes[path[0][0]] not in self._places(output) or reached not in self._places(base):
-            raise BadInput(f"the path leads from {self.flow.nodes[path[0][0]]} to {reached}, not from {output} to {base}")
+            raise BadInput(
+                f"the path leads from {self.flow.nodes[path[0][0]]} to {reached}, not from {output} to {base}"
+            )
         return path
 
     def _explanation(self, path: Path, direction: Direction, text: bytes) -> Explanation:
@@ -236,5 +256,3 @@ def _mask(text: bytes, shape: Shape) -> np.ndarray:
     layered = len(shape) == 3 and shape[0] > 1
     cells = numerals.read_cells(rest[0] if rest else b"", int(count), 3 if layered else 2)
     return mask_of(cells, shape[-cells.shape[1] :]).reshape(shape)
-
-

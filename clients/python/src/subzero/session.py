@@ -38,9 +38,9 @@ class BaseArray:
 class Session:
     """The program, started and talked to over its standard streams.
 
-    `log` is the file in which arrays, flows and awaited versions are kept; where it is not there it is made. `workers` and `askers`
-    are the program's options, `program` its path (see `subzero.program.find`). Raises ProgramMissing, and ProgramEnded where the
-    program does not know such words or cannot read the log.
+    `log` is the file in which arrays, flows and awaited versions are kept; where it is not there it is made. `workers`
+    and `askers` are the program's options, `program` its path (see `subzero.program.find`). Raises ProgramMissing, and
+    ProgramEnded where the program does not know such words or cannot read the log.
 
     A session is used in a `with`, or ended by `close`. Its lines are sent in the order of the calls, from any thread.
     """
@@ -88,15 +88,15 @@ class Session:
     def array(self, name: str, values: ArrayLike, *, scale: float | None = None) -> BaseArray:
         """Hand in an array, the next version of this name.
 
-        `values` has 2 axes (row, column) or 3 (layer, row, column), and holds whole numbers that are an i64; masked cells and
-        None are empty. Floats are multiplied by `scale` and rounded; without it they are refused. Raises BadInput for what
-        cannot be sent, and Refused: 7 where too much is held.
+        `values` has 2 axes (row, column) or 3 (layer, row, column), and holds whole numbers that are an i64; masked
+        cells and None are empty. Floats are multiplied by `scale` and rounded; without it they are refused. Raises
+        BadInput for what cannot be sent, and Refused: 7 where too much is held.
         """
         name_of(name)
         numbers, empty = values_of(values, scale)
         layers = numbers if numbers.ndim == 3 else numbers[None]
-        holes = empty.reshape(layers.shape) if empty.any() else [None] * len(layers)
-        texts = [numerals.rows_text(layer, hole) for layer, hole in zip(layers, holes)]
+        holes = empty.reshape(layers.shape) if empty.any() else None
+        texts = [numerals.rows_text(layer, None if holes is None else holes[at]) for at, layer in enumerate(layers)]
         if numbers.ndim == 3:
             line = b'{"layers":"%s","cells":[%s]}\n' % (name.encode(), b",".join(texts))
         else:
@@ -121,8 +121,8 @@ class Session:
     def start(self, flow: Flow, base: Sequence[BaseArray]) -> Run:
         """Start a version of a flow on base arrays. It defines the flow where that was not done yet.
 
-        Raises Refused: 12 for another number of arrays than the flow's, 13 with the node where shapes do not fit, 14 where too
-        much is held.
+        Raises Refused: 12 for another number of arrays than the flow's, 13 with the node where shapes do not fit, 14
+        where too much is held.
         """
         for array in base:
             if not isinstance(array, BaseArray):
@@ -134,7 +134,9 @@ class Session:
         return Run(self, int(reply.split()[-1]), flow, tuple(base))
 
     def held_run(self, number: int, flow: Flow, base: Sequence[BaseArray]) -> Run:
-        """A version that the session's log holds already; nothing is sent. Its flow and arrays are the caller's word."""
+        """A version that the session's log holds already; nothing is sent. Its flow and arrays are the caller's
+        word.
+        """
         return Run(self, number_of(number, "a version", 1), flow, tuple(base))
 
     def pipeline(self) -> Pipeline:
