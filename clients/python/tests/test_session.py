@@ -278,8 +278,7 @@ class LongLines(unittest.TestCase):
 
     def test_each_line_is_one_write(self) -> None:
         with subzero.Session() as session:
-            stream = session._program._process.stdin
-            with mock.patch.object(session._program._process, "stdin", wraps=stream) as seen:
+            with mock.patch.object(session._program, "_to", wraps=session._program._to) as seen:
                 seen.closed = False
                 session.array("a", np.zeros((300, 300), dtype=int))
                 session.array("a", [[1]])

@@ -141,7 +141,7 @@ def cells_of(cells: Cells, shape: Shape) -> np.ndarray:
     listed = np.atleast_2d(given)
     if listed.ndim != 2 or listed.shape[1] not in (2, len(shape)):
         raise BadInput(
-            f"cells of an array of {len(shape)} axes have {len(shape)} numbers each, and these are of shape {given.shape}"
+            f"cells of an array of {len(shape)} axes have {len(shape)} numbers each, and these have shape {given.shape}"
         )
     if listed.shape[1] < len(shape):
         listed = np.hstack([np.zeros((len(listed), 1), dtype=listed.dtype), listed])

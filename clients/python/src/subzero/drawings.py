@@ -12,7 +12,7 @@ from matplotlib.patches import Patch
 from . import plot
 from .demo import Field
 from .flow import Node
-from .run import Run
+from .run import Array, Run
 from .session import BaseArray
 
 _TRUSTED, _DOUBTED, _BAD = "#3fa34d", "#ff8c1a", "#e63946"
@@ -69,7 +69,8 @@ def steps(run: Run, sky: BaseArray, clean: Node, smooth: Node, labels: Node, bin
         "4. regions: one colour a star",
         "5. block: binned 4 by 4",
     )
-    for axes, array, title in zip(panels, (sky, clean, smooth, labels, bins), told):
+    arrays: list[Array] = [sky, clean, smooth, labels, bins]
+    for axes, array, title in zip(panels, arrays, told):
         plot.image(axes, run.values(array), title=title, labels=array in (labels, bins))
     figure.legend(handles=[Patch(color=plot.EMPTY, label="empty cells")], loc="lower center", fontsize=9, frameon=False)
     return figure

@@ -39,8 +39,8 @@ def find(program: str | os.PathLike[str] | None = None) -> str:
         if os.access(built, os.X_OK) and built.is_file():
             return str(built)
     raise ProgramMissing(
-        "the program was not found: name it by Session(program=..) or by the variable SUBZERO, put it on the search path "
-        "as subzero, or build it in this checkout, which leaves it in crates/subzero/out"
+        "the program was not found: name it by Session(program=..) or by the variable SUBZERO, put it on the search "
+        "path as subzero, or build it in this checkout, which leaves it in crates/subzero/out"
     )
 
 
@@ -95,14 +95,16 @@ class Program:
             bufsize=0,
             start_new_session=True,  # an interrupt from the terminal stops the waiting, not the program
         )
+        assert self._process.stdin is not None and self._process.stdout is not None
+        self._to, self._from = self._process.stdin, self._process.stdout
         self._awaited: deque[Reply] = deque()
         self._turn = threading.Lock()
         self._lines = 0
         self._sent = tempfile.SpooledTemporaryFile(_KEPT_IN_MEMORY)
         self._records: list[BinaryIO] = []
         self._wrote = ""
-        _widen(self._process.stdin)
-        _widen(self._process.stdout)
+        _widen(self._to.fileno())
+        _widen(self._from.fileno())
         self._reader = threading.Thread(target=self._read, name="subzero replies", daemon=True)
         self._reader.start()
 
@@ -114,7 +116,7 @@ class Program:
     def send(self, line: bytes) -> Reply:
         """Send one line, which ends in its one newline; gives its reply, which may come later. Raises ProgramEnded."""
         with self._turn:
-            if self._process.stdin.closed:
+            if self._to.closed:
                 raise SubZeroError("the session is closed")
             if not self.reads():
                 raise self.ended()
@@ -156,9 +158,9 @@ class Program:
     def close(self) -> ProgramEnded | None:
         """End the session: the program reads to its end and stops. Gives how it ended, where that is not status 0."""
         with self._turn:
-            self._process.stdin.close()
+            self._to.close()
             fault = self.ended()
-            for stream in (self._process.stdout, self._errors, self._sent, *self._records):
+            for stream in (self._from, self._errors, self._sent, *self._records):
                 stream.close()
             return fault if fault.status != 0 else None
 
@@ -175,10 +177,10 @@ class Program:
     def _write(self, line: bytes) -> None:
         view = memoryview(line)
         while len(view):  # one write, but for a signal in the middle of it
-            view = view[self._process.stdin.write(view) :]
+            view = view[self._to.write(view) :]
 
     def _read(self) -> None:
-        stream = self._process.stdout.fileno()
+        stream = self._from.fileno()
         pieces: list[bytes] = []
         while piece := os.read(stream, _PIECE):
             *whole, rest = piece.split(b"\n")
@@ -194,7 +196,7 @@ class Program:
             self._awaited.popleft().come(None)
 
 
-def _widen(stream: object) -> None:
+def _widen(stream: int) -> None:
     """Ask for a pipe that holds more, where the system has such a call: long lines then take fewer turns."""
     try:
         import fcntl
