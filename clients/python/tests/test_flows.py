@@ -29,6 +29,10 @@ class Paths(unittest.TestCase):
         one = [(both, 1), (right, 0)]
         self.assertEqual(np.argwhere(run.back(both, (2, 3), to=self.base, path=one)).tolist(), [[2, 4]])
         self.assertEqual(np.argwhere(run.forward(self.base, (2, 3), to=both, path=one)).tolist(), [[2, 2]])
+        self.assertEqual(
+            [str(node) for node in flow.nodes],
+            ["node 0, convolve (1 by 3)", "node 1, convolve (1 by 3)", "node 2, add"],
+        )
         told = run.explain(both, (2, 3), to=self.base)
         self.assertEqual([str(one) for one in told], ["add by map, convolve by map: 0 cells traced"] * 2)
         self.assertEqual([run.told(one.path) for one in told], ["add < convolve < input 0"] * 2)

@@ -90,17 +90,17 @@ class Pictures(unittest.TestCase):
                     [
                         "sky\n8 of 48 cells",
                         "limit\n4 of 48 cells",
-                        "convolve (kernel 1 by 3)\n4 of 48 cells",
-                        "convolve (kernel 1 by 3)\n4 of 48 cells",
+                        "convolve (1 by 3)\n4 of 48 cells",
+                        "convolve (1 by 3)\n4 of 48 cells",
                         "add\n4 of 48 cells",
                         "min\n4 of 48 cells",
-                        "block (fold sum, h 2, w 2)\n1 of 12 cells",
+                        "block (sum of 2 by 2)\n1 of 12 cells",
                     ]
                 ),
             )
             figure = plot.lineage(run, sky, [(0, 1), (5, 7)], to=left, direction="forward")
             titles = sorted(axes.get_title() for axes in figure.axes)
-            self.assertEqual(titles, ["convolve (kernel 1 by 3)\n1 of 48 cells", "sky\n2 of 48 cells"])
+            self.assertEqual(titles, ["convolve (1 by 3)\n1 of 48 cells", "sky\n2 of 48 cells"])
 
     def test_layers_and_empty_cells_are_drawn(self) -> None:
         with subzero.Session() as session:

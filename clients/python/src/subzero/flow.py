@@ -21,6 +21,17 @@ _KEPT = frozenset(
     "map blackbox full_one_b full_one_f full_many_b full_many_f pay_one pay_many comp_one comp_many".split()
 )
 
+_LABELS = {
+    "add_k": "plus {k}",
+    "mul_k": "times {k}",
+    "clip": "{lo} to {hi}",
+    "slice": "{h} by {w} from {r0},{c0}",
+    "block": "{fold} of {h} by {w}",
+    "fold_layers": "{fold}",
+    "regions": "{t} and more",
+    "clean": "{t} and more",
+}
+
 
 @dataclass(frozen=True, eq=False)
 class Input:
@@ -45,11 +56,15 @@ class Node:
     shape_from: Callable[[Shape], Shape] = field(repr=False)
 
     def __str__(self) -> str:
-        told = ", ".join(
-            f"{name} {len(value)} by {len(value[0]) if value else 0}" if isinstance(value, list) else f"{name} {value}"
-            for name, value in self.parameters.items()
-        )
-        return f"node {self.number}, {self.op}" + (f" ({told})" if told else "")
+        return f"node {self.number}, {self.label}"
+
+    @property
+    def label(self) -> str:
+        """The operator and its parameters in few words, as a picture shows them."""
+        told = _LABELS[self.op].format(**self.parameters) if self.op in _LABELS else ""
+        if self.op == "convolve":
+            told = f"{len(self.parameters['kernel'])} by {len(self.parameters['kernel'][0])}"
+        return f"{self.op} ({told})" if told else self.op
 
 
 Place: TypeAlias = Input | Node
@@ -133,7 +148,7 @@ class Flow:
         The kernel is laid on the image as it is, not turned round: as `scipy.ndimage.correlate` does.
         """
         weights = np.asarray(kernel)
-        if weights.ndim != 2 or weights.dtype.kind not in "iu":
+        if weights.ndim != 2 or weights.size == 0 or weights.dtype.kind not in "iu":
             raise BadInput("a kernel is an array of whole numbers with 2 axes")
         return self._node("convolve", (x,), keep, kernel=weights.tolist())
 

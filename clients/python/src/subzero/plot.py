@@ -134,9 +134,8 @@ def lineage(
                     (1.03, 0.5),
                     (-0.14, 0.5),
                     "axes fraction",
-                    "axes fraction",
-                    panels[source],
-                    axes,
+                    axesA=panels[source],
+                    axesB=axes,
                     arrowstyle="-|>",
                     lw=1.5,
                     zorder=-1,
@@ -144,14 +143,11 @@ def lineage(
             )
     told = "what the blue cells were made of" if direction == "back" else "what the blue cells touched"
     figure.suptitle(title or f"Lineage: {told}", fontsize=12)
-    keys = ((ASKED, "asked cells"), (FOUND, "found by the lineage"), (EMPTY, "empty cells"))
-    figure.legend(
-        handles=[Patch(color=colour, label=text) for colour, text in keys],
-        loc="lower center",
-        ncol=3,
-        fontsize=9,
-        frameon=False,
-    )
+    keys = [(ASKED, "asked cells"), (FOUND, "found by the lineage"), (EMPTY, "empty cells")]
+    if any(isinstance(place, Node) and _is_labelled(place) for place in chain):
+        keys.append(("#909090", "regions, a grey each"))
+    patches = [Patch(color=colour, label=text) for colour, text in keys]
+    figure.legend(handles=patches, loc="lower center", ncol=len(keys), fontsize=9, frameon=False)
     return figure
 
 
@@ -184,7 +180,7 @@ def _is_labelled(node: Node) -> bool:
 def _name(run: Run, place: Place) -> str:
     if isinstance(place, Input):
         return run.base[place.number].name
-    return str(place).partition(", ")[2]
+    return place.label
 
 
 def _surroundings(mask: np.ndarray) -> list[tuple[float, float]] | None:
@@ -211,7 +207,8 @@ def _zoom(near: Axes, whole: Axes, spans: list[tuple[float, float]]) -> None:
     near.locator_params(integer=True, nbins=6)
     whole.add_patch(Rectangle((left, top), right - left, bottom - top, fill=False, edgecolor=NEAR, linewidth=1.2))
     for corner, end in (((left, bottom), (0, 1)), ((right, bottom), (1, 1))):
-        whole.figure.add_artist(ConnectionPatch(corner, end, "data", "axes fraction", whole, near, color=NEAR, lw=0.8))
+        line = ConnectionPatch(corner, end, "data", "axes fraction", axesA=whole, axesB=near, color=NEAR, lw=0.8)
+        whole.figure.add_artist(line)
     for spine in near.spines.values():
         spine.set_edgecolor(NEAR)
 
