@@ -2,8 +2,9 @@
 
     PYTHONPATH=clients/python/src python3 clients/python/speed.py
 
-Each line gives the best of five runs through the client, from the start of the program to the answer as an array; the best of five
-of the program alone, fed the very lines that the client sent; and how many times the one is the other. It is no test.
+Each line gives the best of seven runs through the client, from the start of the program to the answer as an array; the
+best of seven of the program alone, fed the very lines that the client sent, run in turns; and how many times the one is
+the other. It is no test.
 """
 
 import subprocess
@@ -17,7 +18,7 @@ import numpy as np
 import subzero
 from subzero.program import find
 
-SIDE, RUNS = 1024, 5
+SIDE, RUNS = 1024, 7
 
 
 def through_client(image: np.ndarray, answer: str, record: Path | None = None) -> None:
@@ -42,14 +43,11 @@ def alone(record: Path) -> None:
         subprocess.run([find(), "play"], stdin=lines, stdout=subprocess.DEVNULL, check=True)
 
 
-def best(call: Callable[[], None]) -> float:
-    """The milliseconds of the best of some runs."""
-    times = []
-    for _ in range(RUNS):
-        begun = time.perf_counter()
-        call()
-        times.append(time.perf_counter() - begun)
-    return min(times) * 1000
+def timed(call: Callable[[], None]) -> float:
+    """The milliseconds of one run."""
+    begun = time.perf_counter()
+    call()
+    return (time.perf_counter() - begun) * 1000
 
 
 def main() -> None:
@@ -61,8 +59,10 @@ def main() -> None:
             image = draw.randint(-bound, bound, (SIDE, SIDE), dtype=np.int64)
             for answer in ("values", "cells"):
                 through_client(image, answer, record)
-                client = best(lambda: through_client(image, answer))
-                program = best(lambda: alone(record))
+                runs = [
+                    (timed(lambda: through_client(image, answer)), timed(lambda: alone(record))) for _ in range(RUNS)
+                ]
+                client, program = (min(times) for times in zip(*runs))
                 told = f"numbers below {bound:,}, {answer} back"
                 print(f"{told}: client {client:.0f} ms, program {program:.0f} ms, {client / program:.2f} times")
 

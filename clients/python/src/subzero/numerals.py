@@ -45,13 +45,14 @@ def _put_digits(words: np.ndarray, sizes: np.ndarray, groups: int) -> None:
     """Write each of `sizes`, whole numbers of shape (N,) and none below 0, into its row of `words`, uint32 of shape (N,
     groups).
     """
-    left = sizes.astype(np.uint32) if groups <= 2 else sizes
+    left = sizes.astype(np.uint32 if groups <= 2 else np.uint64)
+    ten_thousand = left.dtype.type(_GROUP)
     table = _LAST
-    for group in reversed(range(groups)):
-        rest = left // left.dtype.type(_GROUP)
-        low = left - rest * left.dtype.type(_GROUP)
-        words[:, group] = table[low + left.dtype.type(_GROUP) * (rest == 0)]
+    for group in range(groups - 1, 0, -1):
+        rest = left // ten_thousand
+        words[:, group] = table[left - rest * ten_thousand + ten_thousand * (rest == 0)]
         left, table = rest, _UPPER
+    words[:, 0] = table[left + ten_thousand]  # nothing stands before it
 
 
 def rows_text(cells: np.ndarray, empty: np.ndarray | None) -> bytes:

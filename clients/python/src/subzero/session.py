@@ -58,7 +58,7 @@ class Session:
         for option, number in (("--workers", workers), ("--askers", askers)):
             if number is not None:
                 words += [option, str(number_of(number, option))]
-        if log is not None and not os.path.exists(log):
+        if log is not None and (not os.path.exists(log) or os.path.getsize(log) == 0):
             made = subprocess.run([path, "init", os.fspath(log)], stdin=subprocess.DEVNULL, capture_output=True)
             if made.returncode != 0:
                 raise ProgramEnded(made.returncode, made.stderr.decode(errors="replace").strip())
