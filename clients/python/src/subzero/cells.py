@@ -56,7 +56,7 @@ def values_of(values: ArrayLike, scale: float | None = None) -> tuple[np.ndarray
     )
     _check_shape(given.shape)
     if given.dtype == object:
-        empty |= np.equal(given, None).astype(bool)
+        empty |= np.asarray(given == None, dtype=bool)  # noqa: E711, cell by cell
     filled = given[~empty]
     whole = _whole(_plain(filled) if filled.dtype == object else filled, scale)
     numbers = np.zeros(given.shape, dtype=np.int64)

@@ -70,7 +70,7 @@ def field() -> Field:
     light[hot] = 5000
     light[tracks] = draw.uniform(2000, 4000, tracks.sum())
     dead = 31
-    image = np.ma.MaskedArray(light.astype(np.int64))
+    image: np.ma.MaskedArray = np.ma.MaskedArray(light.astype(np.int64))
     image[:, dead] = np.ma.masked
     return Field(image, hot, tracks, dead)
 

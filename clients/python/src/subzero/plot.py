@@ -41,7 +41,7 @@ def image(
     flat = np.ma.asarray(values if values.ndim == 2 else values[0])
     if labels:
         _, order = np.unique(flat.filled(0), return_inverse=True)
-        shown = np.ma.MaskedArray(order.reshape(flat.shape), np.ma.getmaskarray(flat))
+        shown: np.ma.MaskedArray = np.ma.MaskedArray(order.reshape(flat.shape), np.ma.getmaskarray(flat))
         greys = [(0.42 + 0.05 * (number * 3 % 7),) * 3 for number in range(20)]
         colours = [
             _GROUND,
@@ -93,8 +93,8 @@ def lineage(
         ends: list[Any] = list(run.flow.inputs) if direction == "back" else [run.flow.nodes[-1]]
     else:
         ends = [to]
-    starts = run._places(array)
-    goals = [place for end in ends for place in run._places(end)]
+    starts = run.places(array)
+    goals = [place for end in ends for place in run.places(end)]
     chain = _between(run, starts, goals) if direction == "back" else _between(run, goals, starts)
     asked = mask_of(cells_of(cells, run.shape(array)), run.shape(array))
     ask = run.back if direction == "back" else run.forward

@@ -60,7 +60,7 @@ class Run:
 
     def shape(self, array: Array) -> Shape:
         """The shape of an array of the run: (height, width), or (layers, height, width)."""
-        place = self._places(array)[0]
+        place = self.places(array)[0]
         return self.base[place.number].shape if isinstance(place, Input) else self._shapes[place.number]
 
     def values(self, array: Array) -> np.ma.MaskedArray:
@@ -70,8 +70,8 @@ class Run:
     def paths(self, array: Array, *, to: Array, limit: int = MOST_PATHS) -> list[Path]:
         """All paths from `array` back to `to`. Raises BadInput where there is none, TooManyPaths above `limit`."""
         found: list[Path] = []
-        for place in self._places(array):
-            found += paths_between(place, self._places(to), limit)
+        for place in self.places(array):
+            found += paths_between(place, self.places(to), limit)
         if not found:
             raise BadInput(f"no path leads from {array} back to {to}")
         return found
@@ -128,14 +128,15 @@ class Run:
 
     def values_later(self, array: Array) -> Later[np.ma.MaskedArray]:
         """`values`, sent ahead."""
-        place = self._places(array)[0]
+        place = self.places(array)[0]
         if isinstance(place, Input):
             held = self.base[place.number].values
             if held is None:
                 raise BadInput(
                     f"{self.base[place.number]} came from the log, and the program does not show base arrays"
                 )
-            return Later([], "", lambda texts: held)
+            values: np.ma.MaskedArray = held
+            return Later([], "", lambda texts: values)
         shape = self.shape(place)
         reply = self.session.say(b'{"show":%d,"node":%d}\n' % (self.number, place.number))
         return Later([reply], f"taking the values of {place.op}", lambda texts: _values(texts[0], shape))
@@ -185,7 +186,7 @@ class Run:
         """A path in words."""
         return told(self.flow, path)
 
-    def _places(self, array: Array) -> list[Place]:
+    def places(self, array: Array) -> list[Place]:
         """The places of an array in the flow: a base array may be taken as several inputs."""
         if isinstance(array, (Input, Node)):
             if array.flow is not self.flow:
@@ -223,7 +224,7 @@ class Run:
 
     def _one(self, steps: Sequence[Sequence[int | Node]], output: Array, base: Array) -> Path:
         path, reached = path_of(self.flow, steps)
-        if self.flow.nodes[path[0][0]] not in self._places(output) or reached not in self._places(base):
+        if self.flow.nodes[path[0][0]] not in self.places(output) or reached not in self.places(base):
             raise BadInput(
                 f"the path leads from {self.flow.nodes[path[0][0]]} to {reached}, not from {output} to {base}"
             )

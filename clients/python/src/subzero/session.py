@@ -102,7 +102,7 @@ class Session:
         else:
             line = b'{"array":"%s","cells":%s}\n' % (name.encode(), texts[0])
         reply = self.say(line).wait(f"handing in {name}")
-        held = np.ma.MaskedArray(numbers, empty)
+        held: np.ma.MaskedArray = np.ma.MaskedArray(numbers, empty)
         held.flags.writeable = False
         return BaseArray(name, int(reply.split()[-1]), numbers.shape, held)
 
