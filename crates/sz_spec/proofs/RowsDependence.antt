@@ -3,12 +3,12 @@
 --
 -- The key idea: on written-out flows and paths every definition is a computation. Of a flow of one node there is one
 -- path, and what is reached along it is one cell.
-use Rattle.std.proofs.Common.{◌≡◌, ℕ, zero, suc, Bool, true, false, List, [], ◌∷◌, Option, Some, None, refl, sym, ap, ◌∙◌}
+use Rattle.std.proofs.Common.{◌≡◌, ℕ, pos, zero, suc, Bool, true, false, List, [], ◌∷◌, Option, Some, None, refl, sym, ap, ◌∙◌}
 use Rattle.std.proofs.Common.{◌&&◌, ◌||◌, ◌==◌, unwrap_or, eqb-true, arith, inl, inr, subst}
 use Rattle.std.specs.Prelude.{option_and_then}
 use Rattle.std.specs.List.{slice_get, list_any}
 use Rattle.std.proofs.lemmas.Bool.{and_parts, or_cases}
-use Rattle.std.proofs.lemmas.List.Elements.{All-cons, All-nil}
+use Rattle.std.proofs.lemmas.List.Elements.{All-cons, All-head, All-nil}
 use Rattle.sz_cells.specs.declared.Cell.{Cell}
 use Rattle.sz_cells.specs.Extent.{flat, holds, index_of, is_extent}
 use Rattle.sz_cells.specs.Cells.{Cells, has, named_in}
@@ -21,6 +21,8 @@ use Rattle.sz_spec.specs.Values.{Grid, value_at, input_at}
 use Rattle.sz_spec.specs.Flows.{Graph, evaluations}
 use Rattle.sz_spec.specs.Paths.{Step, source_of, is_there, is_output_of, follows, are_joined, is_joined, compose, extent_of}
 use Rattle.sz_spec.specs.LawsDependence.{GoesBack, CanRun, StepLeads, LeadsAlong, AgreeWhereReached}
+use Rattle.sz_spec.specs.LawsDependence.{PassesNoRegions, is_regions}
+use Rattle.sz_spec.proofs.FlowDependence.{value-reached}
 use Rattle.sz_spec.proofs.RowsArrays.{node, flow, n, none, grid, at}
 
 abbrev step : ℕ → ℕ → Step
@@ -93,7 +95,15 @@ source-here : (s : Step) → s.node ≡ 0 → source_of picking s ≡ slice_get 
 source-here s begins =
     ap (λ (k : ℕ). option_and_then (λ (x : Node). slice_get x.from s.input) (slice_get picking.nodes k)) begins
 
--- so one path goes back from it, to the one base array
+-- so no step follows on one of it
+no-second : (s t : Step) (path : List Step) → s.node ≡ 0 → are_joined Back picking (s ∷ t ∷ path) ≡ true → ⊥
+no-second s t path begins joined =
+    let follow = (and_parts (is_there (source_of picking s)) (follows Back picking s t)
+    (and_parts (is_there (source_of picking s) && follows Back picking s t) (are_joined Back picking (t ∷ path))
+    joined).0).1 in
+    no-node s.input t.node (sym (ap (is_output_of t.node) (source-here s begins)) ∙ follow)
+
+-- and one path goes back from it, to the one base array
 only-path : (path : List Step) (b : ℕ) → GoesBack picking 0 path b → (path ≡ step 0 0 ∷ []) × (b ≡ 0)
 only-path [] b h = absurd h.1
 only-path (s ∷ []) b h =
@@ -101,11 +111,7 @@ only-path (s ∷ []) b h =
     let make : ℕ → ℕ → List Step = λ k i. step k i ∷ [] in
     (ap (λ (k : ℕ). make k s.input) h.1 ∙ ap (make 0) one.0, one.1)
 only-path (s ∷ t ∷ path) b h =
-    let joined = (and_parts _ (are_joined Back picking (s ∷ t ∷ path)) h.0).1 in
-    let follow = (and_parts (is_there (source_of picking s)) (follows Back picking s t)
-    (and_parts (is_there (source_of picking s) && follows Back picking s t) (are_joined Back picking (t ∷ path))
-    joined).0).1 in
-    absurd (no-node s.input t.node (sym (ap (is_output_of t.node) (source-here s h.1)) ∙ follow))
+    absurd (no-second s t path h.1 (and_parts _ (are_joined Back picking (s ∷ t ∷ path)) h.0).1)
 
 -- along it the middle cell is reached alone
 middle : (x : Cell) → has (at (flat 1 3) (1 ∷ [])) x ≡ true → index_of (flat 1 3) x ≡ 1
@@ -126,9 +132,36 @@ picked-agrees path b x goes inside =
     ap (λ (p : List Step). has (compose Back picking before outputs p start) x) (sym only.0) ∙ inside in
     let index = middle x along in
     at_base b only.1 index where
-  at_base : (b : ℕ) → b ≡ 0 → index_of (flat 1 3) x ≡ 1
-      → value_at (input_at before b) x ≡ value_at (input_at after b) x
-  at_base zero same index =
-      ap (λ (k : ℕ). unwrap_or (slice_get (n 1 ∷ n 2 ∷ n 3 ∷ []) k) None) index
-      ∙ sym (ap (λ (k : ℕ). unwrap_or (slice_get (n 7 ∷ n 2 ∷ none ∷ []) k) None) index)
-  at_base (suc b) same index = absurd (omega (arith, same))
+      at_base : (b : ℕ) → b ≡ 0 → index_of (flat 1 3) x ≡ 1
+          → value_at (input_at before b) x ≡ value_at (input_at after b) x
+      at_base zero same index =
+          ap (λ (k : ℕ). unwrap_or (slice_get (n 1 ∷ n 2 ∷ n 3 ∷ []) k) None) index
+          ∙ sym (ap (λ (k : ℕ). unwrap_or (slice_get (n 7 ∷ n 2 ∷ none ∷ []) k) None) index)
+      at_base (suc b) same index = absurd (omega (arith, same))
+
+-- no path from it passes regions, and one from a node of regions does
+pub picked-passes : PassesNoRegions picking 0
+picked-passes [] joined begins = absurd begins
+picked-passes (s ∷ []) joined begins =
+    let P : Step → Type 0 = λ t. (x : Node) → slice_get picking.nodes t.node ≡ Some x → is_regions x.op ≡ false in
+    All-cons P s []
+    (λ x there.
+    let here : slice_get picking.nodes 0 ≡ Some x = sym (ap (slice_get picking.nodes) begins) ∙ there in
+    let same : node (op.Slice 0 1 1 1) (Input 0 ∷ []) ≡ x = (cc) in
+    sym (ap (λ (z : Node). is_regions z.op) same))
+    (All-nil P)
+picked-passes (s ∷ t ∷ path) joined begins =
+    absurd (no-second s t path begins (and_parts _ (are_joined Back picking (s ∷ t ∷ path)) joined).1)
+
+pub regions-passed : PassesNoRegions (flow 1 (node (op.Regions (pos 5)) (Input 0 ∷ []) ∷ [])) 0 → ⊥
+regions-passed clear =
+    let high : Node = node (op.Regions (pos 5)) (Input 0 ∷ []) in
+    let told = All-head
+    (λ t. (x : Node) → slice_get (high ∷ []) t.node ≡ Some x → is_regions x.op ≡ false) (step 0 0) []
+    (clear (step 0 0 ∷ []) refl refl) high refl in
+    (cc)
+
+-- so the law tells that the node's cell has one value over both
+pub picked-same : value_at (input_at (evaluations picking before) 0) (cell 0 0)
+    ≡ value_at (input_at (evaluations picking after) 0) (cell 0 0)
+picked-same = value-reached picking before after 0 (cell 0 0) can-run refl refl picked-passes picked-agrees
