@@ -1,3 +1,2 @@
 -- Each file of definitions.
 pub mod Aids
-pub mod Maps

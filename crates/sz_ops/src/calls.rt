@@ -16,12 +16,13 @@ ghost use Rattle.sz_region.specs.Written.{cells_in_piece};
 ghost use Rattle.sz_ops.specs.Aids.{aid_of};
 
 use crate::aid::Aid;
-use crate::family::{Family, family_of};
+use crate::table::{at_work, choose, mapping};
 use std::alloc::Global;
 use std::sync::Arc;
 use sz_cells::{Cell, CellBits, NoMemory};
-use sz_region::PieceLineage;
-use sz_spec::{Array, Dir, OpAt, Strategy, Tally, Value};
+use sz_ops_region::Labelling;
+use sz_region::{AtWork, MapOf, PieceLineage, image_by, piece_by, run_by, trace_by};
+use sz_spec::{Array, Dir, Op, OpAt, Strategy, Tally, Value};
 
 /// What is prepared for an operator and these inputs. For connected regions it takes time and
 /// memory in the number of cells, for the others none.
@@ -29,9 +30,9 @@ pub fn prepare(alloc: Global, at: &OpAt, inputs: &[Arc<Array>]) -> Result<Aid, N
     requires inputs { extents_of (map (λ a. arc_value a) inputs.now) ≡ at.now.ins }
     ensures { IfOk result (λ a. a ≡ aid_of at.now.op (map (λ a. arc_value a) inputs.now)) }
 {
-    match family_of(at.op()) {
-        Family::Regions => Ok(Aid::Components(sz_ops_region::prepare(alloc, at, inputs)?)),
-        Family::Local | Family::Moving | Family::Window => Ok(Aid::Nothing),
+    match at.op() {
+        Op::Regions { .. } => Ok(Aid::Components(sz_ops_region::prepare(alloc, at, inputs)?)),
+        _ => Ok(Aid::Nothing),
     }
 }
 
@@ -42,12 +43,16 @@ pub fn value_at(at: &OpAt, inputs: &[Arc<Array>], aid: &Aid, cell: Cell) -> Valu
     requires cell { holds at.now.out cell ≡ true }
     ensures { result ≡ value_of at.now.op (map (λ a. arc_value a) inputs.now) cell }
 {
-    match family_of(at.op()) {
-        Family::Local => sz_ops_local::value_at(at, inputs, &sz_ops_local::Aid, cell),
-        Family::Moving => sz_ops_move::value_at(at, inputs, &sz_ops_move::Aid, cell),
-        Family::Window => sz_ops_window::value_at(at, inputs, &sz_ops_window::Aid, cell),
-        Family::Regions => sz_ops_region::value_at(at, inputs, aid.components(at, inputs), cell),
-    }
+    let shape = sz_region::at_work(at, inputs);
+    let index = shape.index(cell);
+    at_work!(
+        at, inputs;
+        work => work.value(cell, index);
+        regions t => {
+            let aid = aid.components(at, inputs);
+            Labelling { at, inputs, aid, t }.value(cell, index)
+        }
+    )
 }
 
 /// The operator's output. One pass over its cells.
@@ -55,12 +60,15 @@ pub fn run(alloc: Global, at: &OpAt, inputs: &[Arc<Array>]) -> Result<Array, NoM
     requires inputs { extents_of (map (λ a. arc_value a) inputs.now) ≡ at.now.ins }
     ensures { IfOk result (λ a. a ≡ output_of at.now.op (map (λ a. arc_value a) inputs.now)) }
 {
-    match family_of(at.op()) {
-        Family::Local => sz_ops_local::run(alloc, at, inputs),
-        Family::Moving => sz_ops_move::run(alloc, at, inputs),
-        Family::Window => sz_ops_window::run(alloc, at, inputs),
-        Family::Regions => sz_ops_region::run(alloc, at, inputs),
-    }
+    sz_region::at_work(at, inputs);
+    at_work!(
+        at, inputs;
+        work => run_by(alloc, &work);
+        regions t => {
+            let aid = &sz_ops_region::prepare(alloc, at, inputs)?;
+            run_by(alloc, &Labelling { at, inputs, aid, t })
+        }
+    )
 }
 
 /// The lineage of piece `k` of the output: the parts that the strategies of a list need. Each cell
@@ -84,28 +92,15 @@ pub fn piece(
         (λ p. Fits (measure_of at.now (map (λ a. arc_value a) inputs.now)) list.now k p) }
     ensures ticks { OnOk result (tally.new ≡ tally.old + cells_in_piece at.now.out k) }
 {
-    match family_of(at.op()) {
-        Family::Local => {
-            sz_ops_local::piece(alloc, at, inputs, &sz_ops_local::Aid, k, list, tally)
+    sz_region::at_work(at, inputs);
+    at_work!(
+        at, inputs;
+        work => piece_by(alloc, &work, k, list, tally);
+        regions t => {
+            let aid = aid.components(at, inputs);
+            piece_by(alloc, &Labelling { at, inputs, aid, t }, k, list, tally)
         }
-        Family::Moving => {
-            sz_ops_move::piece(alloc, at, inputs, &sz_ops_move::Aid, k, list, tally)
-        }
-        Family::Window => {
-            sz_ops_window::piece(alloc, at, inputs, &sz_ops_window::Aid, k, list, tally)
-        }
-        Family::Regions => {
-            sz_ops_region::piece(
-                alloc,
-                at,
-                inputs,
-                aid.components(at, inputs),
-                k,
-                list,
-                tally,
-            )
-        }
-    }
+    )
 }
 
 /// Adds the image of a set of cells by tracing: each output cell is looked at once, and counted.
@@ -129,12 +124,15 @@ pub fn trace(
         (related at.now.op (map (λ a. arc_value a) inputs.now) input) from.now))) }
     ensures ticks { OnOk result (tally.new ≡ tally.old + size_of at.now.out) }
 {
-    match family_of(at.op()) {
-        Family::Local => sz_ops_local::trace(at, inputs, dir, input, from, to, tally),
-        Family::Moving => sz_ops_move::trace(at, inputs, dir, input, from, to, tally),
-        Family::Window => sz_ops_window::trace(at, inputs, dir, input, from, to, tally),
-        Family::Regions => sz_ops_region::trace(alloc, at, inputs, dir, input, from, to, tally),
-    }
+    sz_region::at_work(at, inputs);
+    at_work!(
+        at, inputs;
+        work => {
+            trace_by(&work, dir, input, from, to, tally);
+            Ok(())
+        };
+        regions _t => sz_ops_region::trace(alloc, at, inputs, dir, input, from, to, tally)
+    )
 }
 
 /// Adds the image of a set of cells by the mapping of an operator that has one. It goes by the
@@ -147,10 +145,9 @@ pub fn image_by_map(at: &OpAt, dir: Dir, input: u32, from: &CellBits, to: &mut C
     ensures { to.new ≡ with_those to.old
         (has (image_in dir at.now input (mapped at.now.op at.now.ins input) from.now)) }
 {
-    match family_of(at.op()) {
-        Family::Local => sz_ops_local::image_by_map(at, dir, input, from, to),
-        Family::Moving => sz_ops_move::image_by_map(at, dir, input, from, to),
-        Family::Window => sz_ops_window::image_by_map(at, dir, input, from, to),
-        Family::Regions => unreachable!(),
-    }
+    mapping!(
+        at;
+        elementwise map => map.image(dir, input, from, to);
+        mapped map => image_by(&MapOf { of: &map }, dir, input, from, to)
+    )
 }

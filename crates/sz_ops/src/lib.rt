@@ -14,14 +14,15 @@
 //! image_by_map(&at, Dir::Back, 0, &from, &mut to);
 //! ```
 //!
-//! Each call is that of the crate to which the operator belongs; `family` says which. A further
-//! operator is one arm there, and nothing else here.
+//! Each call is the frame's of `sz_region`, over the operator's own type. `table` says which that
+//! is, of which crate; it is looked into once a call. A further operator is one arm there, and
+//! nothing else here.
 #![tactic(auto)]
 
 mod aid;
 mod calls;
-mod family;
 mod op_map;
+mod table;
 #[cfg(test)]
 mod tests;
 
