@@ -19,10 +19,10 @@
 # In the total, cpu is about what a whole gate takes that has nothing kept, without what it takes to build and run
 # tests and programs. Its wall is less than the sum, as it works on several crates at a time.
 #
-# A check begins with what checks of the same text in other copies of the repository on this machine kept, and else with
-# what its own folder out/incremental has. So the crates are measured in a copy, in which the root file of each ends with
-# a comment that no other copy has, and that folder is emptied before each measure. The copy is removed at the end. A
-# library below that is not measured stays as it is, and is built over whatever there is.
+# A check begins with what checks of the same text in other copies of the repository on this machine kept, and else
+# with what its own folder out/incremental has. So the crates are measured in a copy, in which the root file of each
+# ends with a comment that no other copy has, and that folder is emptied before each measure. The copy is removed at the
+# end. A library below that is not measured stays as it is, and is built over whatever there is.
 set -euo pipefail
 root=$(cd "$(dirname "$0")/.." && pwd)
 work=$(mktemp -d)

@@ -201,7 +201,8 @@ joins-keep pieces id v other w s kept me apart them =
       ));
       alone = λ j u at first never. absurd (⊎_elim
           (λ here. omega (arith, first, ap (λ (x : View). x.depth) here.1))
-          (λ else. let one = alone_stays pieces id v both s kept me refl (λ sum. omega (arith, sum)) j u else.1 first never in
+          (λ else. let one = alone_stays pieces id v both s kept me refl (λ sum. omega (arith, sum)) j u else.1 first
+          never in
           not_alone (sym (length-set s.views id both) ∙ one))
           (at_set mid.views other j spent u at));
     }

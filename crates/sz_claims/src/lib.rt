@@ -12,8 +12,8 @@
 //! - `claim` is one compare-exchange. It takes no memory and waits for nobody. True: this step took
 //!   the free piece. False: this step found the piece claimed, be it by this pass or by another.
 //! - `split` makes one more pass, for one more thread.
-//! - `join` puts a pass into another, once its thread is done. No piece was in the lists of both, and
-//!   the counts of both are added up.
+//! - `join` puts a pass into another, once its thread is done. No piece was in the lists of both,
+//!   and the counts of both are added up.
 //!
 //! A worker claims each piece and does what it won:
 //!

@@ -92,7 +92,8 @@ forward-same r t e s lies same =
 -- the image by all pairs of a node's shelf is the image under its operator's relation
 image-related : (dir : Dir) (g : Graph) (base : List Grid) (pairs : List (List (List Pair))) (s : Step)
     (set : Cells) (x : Node)
-    → shapes_fit g (extents_of base) ≡ true → SayTheRelations g base pairs → slice_get g.nodes s.node ≡ Some x → s.input < length x.from
+    → shapes_fit g (extents_of base) ≡ true → SayTheRelations g base pairs → slice_get g.nodes s.node ≡ Some x
+    → s.input < length x.from
     → LiesInItsShape set
     → set.extent ≡ extent_before dir (first_shelf g (extents_of base) pairs s.node).out
     (first_shelf g (extents_of base) pairs s.node).ins s.input

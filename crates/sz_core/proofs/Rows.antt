@@ -5,7 +5,9 @@ use Rattle.sz_cells.specs.Extent.{Extent, flat}
 use Rattle.sz_cells.specs.Cells.{named_in}
 use Rattle.sz_spec.specs.declared.modes.Dir.{Dir}
 use Rattle.sz_spec.specs.declared.modes.Dir.TheVariants.{Back, Forward}
-use Rattle.sz_spec.specs.Flows.{flow_fault}
+use Rattle.sz_spec.specs.declared.flow.SourceRef.TheVariants as source
+use Rattle.sz_spec.specs.declared.op.Op.TheVariants.{Add}
+use Rattle.sz_spec.specs.Flows.{Graph, flow_fault}
 use Rattle.sz_spec.specs.Paths.{Step}
 use Rattle.sz_core.specs.declared.events.Event.{Event}
 use Rattle.sz_core.specs.declared.events.Event.TheVariants.{Place, Seal, Look}
@@ -124,6 +126,21 @@ not-joined = refl
 other-shape : are_queries sum_flow (first_shelves sum_flow (row ∷ []) (first_pairs ∷ second_pairs ∷ []))
     (query_from Back (step 1 0 ∷ []) (flat 70 1) 0 0 ∷ []) ≡ false
 other-shape = refl
+
+-- shapes fit where there is one for each base array, no fewer and no more, and where each node's rule holds
+counts-that-fit : map (shapes_fit region_flow) ([] ∷ (square ∷ []) ∷ (square ∷ square ∷ []) ∷ [])
+    ≡ false ∷ true ∷ false ∷ []
+counts-that-fit = refl
+
+abbrev added : Graph
+added = record {
+  inputs = 2;
+  nodes = record { op = Add; from = source.Input 0 ∷ source.Input 1 ∷ [] } ∷ [];
+}
+
+unequal-shapes : map (shapes_fit added) ((flat 2 3 ∷ flat 2 3 ∷ []) ∷ (flat 2 3 ∷ flat 3 2 ∷ []) ∷ []) ≡
+    true ∷ false ∷ []
+unequal-shapes = refl
 
 -- a piece is placed once, none after the seal, and one that is not there neither before nor after it
 abbrev placed_on : State → List (List ℕ)

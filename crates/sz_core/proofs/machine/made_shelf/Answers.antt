@@ -18,7 +18,10 @@ input_shapes-requires c =
     let at : x ≡ get_or flow.nodes c.args.node x = rw c.nodes.ensures at c.index-nodes-node.is in
     let long : length c.args.outs.now ≡ length flow.nodes =
     ap length c.requires.shapes ∙ count-made flow base c.requires.fits in
-    rw (c.as_slice.ensures ∙ ap (λ (y : Node). y.from) (sym c.index-nodes-node.is), (fit-parts flow base c.requires.fits).0)
+    rw (
+      c.as_slice.ensures ∙ ap (λ (y : Node). y.from) (sym c.index-nodes-node.is),
+      (fit-parts flow base c.requires.fits).0,
+    )
     (node-at flow c.args.node (length c.args.outs.now) x c.requires.checked
     c.requires.node at (omega (arith, long, c.requires.node))).1
 
@@ -37,7 +40,8 @@ new-requires c =
     let at : x ≡ get_or flow.nodes c.args.node x = rw c.nodes.ensures at c.index-nodes-node.is in
     let ins : c.in_ok-ins.ins.items ≡ shapes_taken flow base c.args.node =
     taken-found flow base c.args.outs.now c.in_ok-ins.ins.items c.args.node x c.as_slice.result.now c.requires.node at
-    c.requires.shapes (c.as_slice.ensures ∙ ap (λ (y : Node). y.from) (sym c.index-nodes-node.is)) c.in_ok-ins.ensures in
+    c.requires.shapes (c.as_slice.ensures ∙ ap (λ (y : Node). y.from) (sym c.index-nodes-node.is))
+    c.in_ok-ins.ensures in
     let out : c.index-outs-node.result ≡ extent_at (shapes_made flow base) c.args.node =
     out-found flow base c.args.outs.now c.args.node c.index-outs-node.result c.requires.fits c.requires.node
     c.requires.shapes c.index-outs-node.is in
@@ -65,7 +69,8 @@ returns c =
     let at : x ≡ get_or flow.nodes c.args.node x = rw c.nodes.ensures at c.index-nodes-node.is in
     let ins : c.in_ok-ins.ins.items ≡ shapes_taken flow base c.args.node =
     taken-found flow base c.args.outs.now c.in_ok-ins.ins.items c.args.node x c.as_slice.result.now c.requires.node at
-    c.requires.shapes (c.as_slice.ensures ∙ ap (λ (y : Node). y.from) (sym c.index-nodes-node.is)) c.in_ok-ins.ensures in
+    c.requires.shapes (c.as_slice.ensures ∙ ap (λ (y : Node). y.from) (sym c.index-nodes-node.is))
+    c.in_ok-ins.ensures in
     let out : c.index-outs-node.result ≡ extent_at (shapes_made flow base) c.args.node =
     out-found flow base c.args.outs.now c.args.node c.index-outs-node.result c.requires.fits c.requires.node
     c.requires.shapes c.index-outs-node.is in
