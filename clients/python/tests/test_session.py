@@ -15,7 +15,7 @@ import numpy as np
 
 import subzero
 from subzero import progress
-from subzero.program import find
+from subzero.program import Reply, find
 
 
 class Refusals(unittest.TestCase):
@@ -290,6 +290,33 @@ class LongLines(unittest.TestCase):
                 with self.assertRaises(KeyboardInterrupt):
                     session.array("a", [[1]])
             self.assertEqual(session.array("a", [[2]]).version, 2)
+
+    def test_long_lines_of_several_threads_are_not_mixed(self) -> None:
+        with subzero.Session() as session:
+            images = [np.full((300, 1000), 10**15 + number) for number in range(4)]
+            held: list[subzero.BaseArray] = []
+
+            def hand_in(number: int) -> None:
+                for _ in range(2):
+                    held.append(session.array(f"a{number}", images[number]))
+
+            threads = [threading.Thread(target=hand_in, args=(number,)) for number in range(4)]
+            for thread in threads:
+                thread.start()
+            for thread in threads:
+                thread.join()
+            self.assertEqual(sorted(map(str, held)), sorted(f"array a{n} {v}" for n in range(4) for v in (1, 2)))
+
+    def test_a_reply_that_cannot_come_is_not_waited_for(self) -> None:
+        session = subzero.Session()
+        session.close()
+        reply = Reply(session._program, 1, b"")
+        thread = threading.Thread(target=reply.come_by, args=("waiting",), daemon=True)
+        thread.start()
+        thread.join(30)
+        self.assertFalse(thread.is_alive())
+        with self.assertRaises(subzero.ProgramEnded):
+            reply.wait("waiting")
 
     def test_threads_share_a_session(self) -> None:
         with subzero.Session() as session:

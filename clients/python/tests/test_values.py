@@ -86,6 +86,7 @@ class Values(unittest.TestCase):
                 self.assertEqual(np.ma.MaskedArray(values, empty).tolist(), expected)
 
     def test_floats_are_scaled_where_the_caller_says_by_what(self) -> None:
+        self.assertEqual(values_of([[-(2.0**63)]], scale=1)[0].tolist(), [[LEAST]])
         values, empty = values_of(np.ma.masked_invalid([[0.1, -2.55, np.nan]]), scale=100)
         self.assertEqual(np.ma.MaskedArray(values, empty).tolist(), [[10, -255, None]])
         for given, scale, why in (
@@ -93,6 +94,8 @@ class Values(unittest.TestCase):
             ([[np.nan]], 10, "NaN"),
             ([[np.inf]], 10, "infinite"),
             ([[1e19]], 1, "no whole number of 64 bits"),
+            ([[2.0**63]], 1, "no whole number of 64 bits"),
+            ([[-(2.0**63) - 2048]], 1, "no whole number of 64 bits"),
             ([[-1e10]], 1e10, "no whole number of 64 bits"),
             ([[1.5]], 0, "not 0"),
             ([[1.5]], float("nan"), "not 0"),
