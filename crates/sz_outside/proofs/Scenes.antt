@@ -39,9 +39,13 @@ length_written : (disk : List ℕ) (at : ℕ) (bytes : List ℕ)
     → length (written disk at bytes) ≡ min at (length disk) + (length bytes + (length disk - (at + length bytes)))
 length_written disk at bytes =
     let all : length (written disk at bytes) ≡ length (take at disk ++ bytes) + length (drop (at + length bytes) disk) =
-        length-append (take at disk ++ bytes) (drop (at + length bytes) disk) in
+    length-append (take at disk ++ bytes) (drop (at + length bytes) disk) in
     omega (
-      arith, all, length-append (take at disk) bytes, length-drop (at + length bytes) disk, length-take at disk,
+      arith,
+      all,
+      length-append (take at disk) bytes,
+      length-drop (at + length bytes) disk,
+      length-take at disk,
     )
 
 torn_self : (at n : ℕ) (image : List ℕ) → Torn at n image image
@@ -203,7 +207,7 @@ from_noted p a bytes d fits =
       earlier = λ t image said. left_earlier s (p.events ++ e ∷ []) t (length p.events) image said;
       within = λ image said left. ⊎_elim
           (λ inside. let found = in_finds (now p) a bytes d image said inside in
-            (still (now p) a bytes d image found.0, found.1))
+          (still (now p) a bytes d image found.0, found.1))
           (λ after. (steps (now p) a bytes d fits image after.0, found_after (now p) a bytes d said after.1))
           (left_within s p.events e image said left);
       images = λ image left. steps (now p) a bytes d fits image
@@ -295,7 +299,9 @@ even_written ones disk at marks bytes even same =
 
 even_marked : (ones : List ℕ) (at n : ℕ) → length (with_ones ones at n) ≡ length ones
 even_marked ones at n = omega (
-    arith, length-take (length ones) (written ones at (replicate n 1)), length_written ones at (replicate n 1),
+  arith,
+  length-take (length ones) (written ones at (replicate n 1)),
+  length_written ones at (replicate n 1),
 )
 
 even_cut : (ones disk : List ℕ) (size : ℕ) → length ones ≡ length disk

@@ -15,12 +15,8 @@ use std::marker::Model;
 pub(crate) enum Act {
     /// The size of the disk, or a read.
     Look,
-    Write {
-        at: u64,
-    },
-    Cut {
-        size: u64,
-    },
+    Write { at: u64 },
+    Cut { size: u64 },
     Sync,
     Say,
 }
@@ -62,7 +58,7 @@ impl Model for History {
     ghost view = { λ h. record { start = h.start.items; events = h.calls.items } };
 
     ghost invariant = { λ h. Shows h.disk.items h.said.items h.synced.items h.ones.items
-      (scene_at (scene_before h.start.items) h.calls.items) };
+        (scene_at (scene_before h.start.items) h.calls.items) };
 }
 
 impl History {

@@ -322,15 +322,15 @@ impl Station for MemStation {
     ghost moment = { λ s. length s.past.events };
 
     ghost left_since = { λ s t image found.
-      LeftSince (scene_before s.past.start) s.past.events t image found };
+        LeftSince (scene_before s.past.start) s.past.events t image found };
 
     ghost reads = { λ s. inl refl };
 
     ghost only_now = { λ s image found left.
-      left_now (scene_before s.past.start) s.past.events image found left };
+        left_now (scene_before s.past.start) s.past.events image found left };
 
     ghost counts_now = { λ s t image found le may_leave is_said.
-      now_counts (scene_before s.past.start) s.past.events t image found le (may_leave, is_said) };
+        now_counts (scene_before s.past.start) s.past.events t image found le (may_leave, is_said) };
 
     fn size(&mut self) -> Result<u64, Failed>
         ensures size { IfOk result (λ n. n ≡ length (disk_of self.old)) }
@@ -383,7 +383,7 @@ impl Station for MemStation {
 
         ensures after { (is_kept : Bool)
             × (self.new ≡ after_disk_call self.old (act.Write at) bytes.now
-                (is_write_done self.old at (length bytes.now)) is_kept)
+            (is_write_done self.old at (length bytes.now)) is_kept)
             × (is_ok result ≡ (is_write_done self.old at (length bytes.now) && is_kept)) }
     {
         let is_done = self.next_write(at, bytes.len());

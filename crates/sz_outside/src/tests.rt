@@ -5,6 +5,7 @@ ghost use Rattle.std.specs.Prelude.{◌≤◌, length, IfOk, not};
 use crate::streams::{Outlet, read_and_count, write_and_count};
 use crate::*;
 use std::alloc::Global;
+use std::fs::{self, File};
 use std::io;
 use std::io::{ErrorKind, Read, Write};
 use std::test::Fail;
@@ -85,17 +86,95 @@ fn a_station_keeps_what_is_said(rt: HostRuntime) -> Result<(), Fail> {
     Ok(())
 }
 
+/// A call that a test makes on a disk.
+#[derive(Clone, Copy)]
+enum Call<'a> {
+    Write(u64, &'a [u8]),
+    Cut(u64),
+    Sync,
+}
+
+/// Makes a call on a disk, where its place is one.
+fn call_disk(station: &mut MemStation, call: Call<'_>) -> Result<(), Failed> {
+    let size = station.size()?;
+    match call {
+        Call::Write(at, bytes) => {
+            if at <= size {
+                return station.write_at(at, bytes);
+            }
+        }
+        Call::Cut(to) => {
+            if to <= size {
+                return station.cut(to);
+            }
+        }
+        Call::Sync => return station.sync(),
+    }
+    Err(Failed)
+}
+
+/// Whether a stop leaves these images, and the disk reads as the second of them.
+fn leaves(station: &mut MemStation, alloc: Global, images: [&[u8]; 3]) -> Result<bool, Fail> {
+    let mut into = [0; 16];
+    let read = station.read_at(0, &mut into)?;
+    let past = station.read_at(17, &mut [0; 4])?;
+    Ok(
+        past == 0
+            && &into[..read] == images[1]
+            && station.image(alloc, Torn::Old)?.as_slice() == images[0]
+            && station.image(alloc, Torn::New)?.as_slice() == images[1]
+            && station.image(alloc, Torn::Ones)?.as_slice() == images[2],
+    )
+}
+
 #[test]
-fn a_station_says_a_megabyte(rt: HostRuntime) -> Result<(), Fail> {
+fn a_disk_is_torn_until_it_is_synced(rt: HostRuntime) -> Result<(), Fail> {
     let alloc = rt.alloc();
-    let mut station = MemStation::new(alloc, Vec::new(alloc), Vec::new(alloc), Vec::new(alloc))?;
-    let bytes = vec![in alloc; b'x'; 1_048_576]?;
-    say_to(&mut station, b"<")?;
-    say_to(&mut station, &bytes)?;
-    say_to(&mut station, b">")?;
-    assert_eq!(rt; station.said().len(), 1_048_578);
-    assert_eq!(rt; station.said().first(), Some(&b'<'));
-    assert_eq!(rt; station.said().last(), Some(&b'>'));
+    let disk = [5, 6, 7, 8].to_vec(alloc)?;
+    let mut station = MemStation::new(alloc, disk, Vec::new(alloc), Vec::new(alloc))?;
+    let images: [&[u8]; 3] = [&[5, 6, 7, 8], &[5, 6, 7, 8], &[5, 6, 7, 8]];
+    assert!(rt; leaves(&mut station, alloc, images)?);
+    call_disk(&mut station, Call::Write(3, &[20, 21]))?;
+    let images: [&[u8]; 3] = [&[5, 6, 7, 8], &[5, 6, 7, 20, 21], &[5, 6, 7, 1, 1]];
+    assert!(rt; leaves(&mut station, alloc, images)?);
+    call_disk(&mut station, Call::Cut(4))?;
+    call_disk(&mut station, Call::Write(0, &[30]))?;
+    let images: [&[u8]; 3] = [&[5, 6, 7, 8], &[30, 6, 7, 20], &[1, 6, 7, 1]];
+    assert!(rt; leaves(&mut station, alloc, images)?);
+    call_disk(&mut station, Call::Sync)?;
+    let images: [&[u8]; 3] = [&[30, 6, 7, 20], &[30, 6, 7, 20], &[30, 6, 7, 20]];
+    assert!(rt; leaves(&mut station, alloc, images)?);
+    Ok(())
+}
+
+#[test]
+fn a_disk_call_that_fails_may_tear_the_disk(rt: HostRuntime) -> Result<(), Fail> {
+    let alloc = rt.alloc();
+    let disk = [5, 6].to_vec(alloc)?;
+    let fails = [1, 2].to_vec(alloc)?;
+    let mut station = MemStation::new(alloc, disk, fails, Vec::new(alloc))?;
+    assert_eq!(rt; station.size(), Err(Failed));
+    assert_eq!(rt; station.read_at(0, &mut [0; 2]), Err(Failed));
+    let disk = [5, 6].to_vec(alloc)?;
+    let mut stopped = MemStation::stopped(alloc, disk, 1)?;
+    assert_eq!(rt;
+        call_disk(&mut stopped, Call::Write(1, &[9, 9])),
+        Err(Failed)
+    );
+    assert_eq!(rt;
+        stopped.image(alloc, Torn::New)?.as_slice(),
+        [5, 6].as_slice()
+    );
+    assert_eq!(rt;
+        stopped.image(alloc, Torn::Ones)?.as_slice(),
+        [5, 1].as_slice()
+    );
+    assert_eq!(rt; stopped.cut(0), Err(Failed));
+    assert_eq!(rt; stopped.sync(), Err(Failed));
+    assert_eq!(rt;
+        stopped.image(alloc, Torn::Ones)?.as_slice(),
+        [5, 1].as_slice()
+    );
     Ok(())
 }
 
@@ -112,19 +191,50 @@ fn want_of_memory_is_passed_on_by_a_question_mark(rt: HostRuntime) -> Result<(),
 }
 
 #[test]
-fn the_real_output_is_said_to(rt: HostRuntime) -> Result<(), Fail> {
+fn the_real_output_is_said_to_with_no_file(rt: HostRuntime) {
     let mut station = FileStation::closed(&rt);
     need_send(&station);
-    say_to(&mut station, b"said\n")?;
+    assert_eq!(rt; say_to(&mut station, b"said\n"), Ok(()));
+    assert_eq!(rt; station.size(), Err(Failed));
+    assert_eq!(rt; station.read_at(0, &mut [0; 1]), Err(Failed));
+    assert_eq!(rt; station.write_at(0, b"x"), Err(Failed));
+    assert_eq!(rt; station.cut(0), Err(Failed));
+    assert_eq!(rt; station.sync(), Err(Failed));
+}
+
+#[test]
+fn a_real_file_is_a_disk(rt: HostRuntime) -> Result<(), Fail> {
+    let path = "sz_outside_test_disk";
+    let file = File::options()
+        .read(true)
+        .write(true)
+        .create(true)
+        .truncate(true)
+        .open(&rt, path)?;
+    let mut station = FileStation::over(&rt, file);
+    let mut into = [0; 8];
+    assert_eq!(rt; station.write_at(0, b"lineage"), Ok(()));
+    assert_eq!(rt; station.write_at(3, b"ked"), Ok(()));
+    assert_eq!(rt; station.size(), Ok(7));
+    assert_eq!(rt; station.read_at(2, &mut into), Ok(5));
+    assert_eq!(rt; into, *b"nkede\0\0\0");
+    assert_eq!(rt; station.cut(4), Ok(()));
+    assert_eq!(rt; station.sync(), Ok(()));
+    assert_eq!(rt; station.read_at(0, &mut into[..2]), Ok(2));
+    assert_eq!(rt; station.read_at(9, &mut into), Ok(0));
+    assert_eq!(rt; station.write_at(1 << 62, b"x"), Err(Failed));
+    assert_eq!(rt; fs::read(&rt, path)?.as_slice(), b"link".as_slice());
+    fs::remove_file(&rt, path)?;
     Ok(())
 }
 
 #[test]
-fn the_real_input_is_read(rt: HostRuntime) -> Result<(), Fail> {
+fn the_real_input_is_read(rt: HostRuntime) {
     let mut source = StdinSource::new(&rt);
     need_send(&source);
-    assert_eq!(rt; read_from(&mut source, &mut []), Ok(0));
-    Ok(())
+    let mut into = [7; 4];
+    assert_eq!(rt; read_from(&mut source, &mut into[..0]), Ok(0));
+    assert_eq!(rt; into, [7; 4]);
 }
 
 #[test]
@@ -132,12 +242,12 @@ fn no_gate_holds_nobody() {
     call_gate(&NoGate);
 }
 
-/// A reader of endless bytes, two at a time, whose next reads a signal breaks off, and the others
-/// of which work until it is torn.
+/// A reader of endless bytes, two at a time, whose next reads a signal breaks off, and the reads
+/// behind them a broken pipe.
 #[derive(Drop)]
 struct Pipe {
     signals: u8,
-    is_torn: bool,
+    breaks: u8,
 }
 
 impl Read for Pipe {
@@ -146,7 +256,8 @@ impl Read for Pipe {
             self.signals -= 1;
             return Err(io::Error::from(ErrorKind::Interrupted));
         }
-        if self.is_torn {
+        if self.breaks > 0 {
+            self.breaks -= 1;
             return Err(io::Error::from(ErrorKind::BrokenPipe));
         }
         Ok(into.len().min(2))
@@ -154,10 +265,11 @@ impl Read for Pipe {
 }
 
 /// A writer that takes two bytes at a time until it has no room, whose next writes a signal breaks
-/// off. It holds what it takes until it is flushed.
+/// off, and the writes behind them a broken pipe. It holds what it takes until it is flushed.
 #[derive(Drop)]
 struct Sink {
     signals: u8,
+    breaks: u8,
     room: usize,
     is_stuck: bool,
     holds_some: bool,
@@ -168,6 +280,10 @@ impl Write for Sink {
         if self.signals > 0 {
             self.signals -= 1;
             return Err(io::Error::from(ErrorKind::Interrupted));
+        }
+        if self.breaks > 0 {
+            self.breaks -= 1;
+            return Err(io::Error::from(ErrorKind::BrokenPipe));
         }
         let count = bytes.len().min(2);
         if count > self.room {
@@ -199,6 +315,7 @@ impl Outlet for Sink {
 fn sink_with(room: usize) -> Sink {
     Sink {
         signals: 0,
+        breaks: 0,
         room,
         is_stuck: false,
         holds_some: false,
@@ -209,7 +326,7 @@ fn sink_with(room: usize) -> Sink {
 fn a_read_that_a_signal_broke_off_is_tried_again(rt: HostRuntime) {
     let mut pipe = Pipe {
         signals: 2,
-        is_torn: false,
+        breaks: 0,
     };
     let mut faults = 0;
     assert_eq!(rt; read_and_count(&mut pipe, &mut faults, &mut [0; 4]), Ok(2));
@@ -218,22 +335,36 @@ fn a_read_that_a_signal_broke_off_is_tried_again(rt: HostRuntime) {
 }
 
 #[test]
-fn a_stream_read_that_fails_is_counted(rt: HostRuntime) {
+fn the_first_fault_of_a_reader_is_answered_and_counted(rt: HostRuntime) {
     let mut pipe = Pipe {
         signals: 1,
-        is_torn: true,
+        breaks: 1,
     };
     let mut faults = u64::MAX - 1;
     assert_eq!(rt;
         read_and_count(&mut pipe, &mut faults, &mut [0; 4]),
         Err(Failed)
     );
+    assert_eq!(rt; pipe.breaks, 0);
     assert_eq!(rt; faults, u64::MAX);
+    assert_eq!(rt; read_and_count(&mut pipe, &mut faults, &mut [0; 4]), Ok(2));
+    assert_eq!(rt; faults, u64::MAX);
+}
+
+#[test]
+fn the_first_fault_of_a_writer_is_answered_and_counted(rt: HostRuntime) {
+    let mut sink = sink_with(4);
+    sink.breaks = 1;
+    let mut faults = 0;
     assert_eq!(rt;
-        read_and_count(&mut pipe, &mut faults, &mut [0; 4]),
+        write_and_count(&mut sink, &mut faults, b"1234"),
         Err(Failed)
     );
-    assert_eq!(rt; faults, u64::MAX);
+    assert_eq!(rt; faults, 1);
+    assert_eq!(rt; sink.room, 4);
+    assert_eq!(rt; write_and_count(&mut sink, &mut faults, b"1234"), Ok(()));
+    assert_eq!(rt; faults, 1);
+    assert_eq!(rt; sink.room, 0);
 }
 
 #[test]

@@ -18,4 +18,3 @@ invariant_of-self-else-is_done c =
     shows_call c.push_call-else-is_done.result (scene_before c.self.inside.start.items) c.self.inside.calls.items _
     (record { act = act.Look; bytes = []; is_done = false }) c.push_call-else-is_done.ensures.ok c.push_call-else-is_done.ensures.err c.self.invariant
     (c.self.invariant)
-

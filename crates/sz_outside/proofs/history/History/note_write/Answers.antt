@@ -18,11 +18,11 @@ pub invariant_of-self-then-not-is_done : goal.invariant_of-self-then-not-is_done
 invariant_of-self-then-not-is_done c =
     let ones = (scene_at (scene_before c.self.inside.start.items) c.self.inside.calls.items).ones in
     let marked = c.in_ok-ones.ensures
-        ∙ ap (λ (l : List ℕ). written l c.args.at c.deref-2.result.now) (c.deref.ensures.value ∙ c.self.invariant.ones)
-        ∙ ap (λ (l : List ℕ). written ones c.args.at l) (c.deref-2.ensures.value ∙ c.in_ok-marks.ensures) in
+    ∙ ap (λ (l : List ℕ). written l c.args.at c.deref-2.result.now) (c.deref.ensures.value ∙ c.self.invariant.ones)
+    ∙ ap (λ (l : List ℕ). written ones c.args.at l) (c.deref-2.ensures.value ∙ c.in_ok-marks.ensures) in
     let short = c.truncate.ensures.items
-        ∙ ap (λ (n : ℕ). take n c.in_ok-ones.ones.items) (ap length (c.as_slice.ensures.value ∙ c.self.invariant.ones))
-        ∙ ap (λ (l : List ℕ). take (length ones) l) marked in
+    ∙ ap (λ (n : ℕ). take n c.in_ok-ones.ones.items) (ap length (c.as_slice.ensures.value ∙ c.self.invariant.ones))
+    ∙ ap (λ (l : List ℕ). take (length ones) l) marked in
     shows_next (scene_before c.self.inside.start.items) c.self.inside.calls.items _
     (record { act = act.Write c.args.at; bytes = c.args.bytes.now; is_done = false }) c.in_ok-push_call.ensures.ok
     (record { disk = c.self.invariant.disk; said = c.self.invariant.said; synced = c.self.invariant.synced; ones = short })
@@ -31,10 +31,10 @@ pub invariant_of-self-2 : goal.invariant_of-self-2
 invariant_of-self-2 c =
     let ones = (scene_at (scene_before c.self.inside.start.items) c.self.inside.calls.items).ones in
     let marked = c.in_ok-ones.ensures
-        ∙ ap (λ (l : List ℕ). written l c.args.at c.deref-2.result.now) (c.deref.ensures.value ∙ c.self.invariant.ones)
-        ∙ ap (λ (l : List ℕ). written ones c.args.at l) (c.deref-2.ensures.value ∙ c.in_ok-marks.ensures) in
+    ∙ ap (λ (l : List ℕ). written l c.args.at c.deref-2.result.now) (c.deref.ensures.value ∙ c.self.invariant.ones)
+    ∙ ap (λ (l : List ℕ). written ones c.args.at l) (c.deref-2.ensures.value ∙ c.in_ok-marks.ensures) in
     let over = c.in_ok-disk.ensures
-        ∙ ap (λ (l : List ℕ). written l c.args.at c.args.bytes.now) (c.deref-3.ensures.value ∙ c.self.invariant.disk) in
+    ∙ ap (λ (l : List ℕ). written l c.args.at c.args.bytes.now) (c.deref-3.ensures.value ∙ c.self.invariant.disk) in
     shows_next (scene_before c.self.inside.start.items) c.self.inside.calls.items _
     (record { act = act.Write c.args.at; bytes = c.args.bytes.now; is_done = true }) c.in_ok-push_call-2.ensures.ok
     (record { disk = over; said = c.self.invariant.said; synced = c.self.invariant.synced; ones = marked })

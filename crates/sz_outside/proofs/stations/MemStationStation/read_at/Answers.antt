@@ -15,10 +15,12 @@ returns-in_err-end_disk_call-clause-disk c =
     c.note_look-kept.ensures.ok c.note_look-kept.ensures.err tt
 
 pub returns-in_err-end_disk_call-clause-output : goal.returns-in_err-end_disk_call-clause-output
-returns-in_err-end_disk_call-clause-output c =
-    (said c.note_look-kept.result c.args.self.now c.end_disk_call.new.self c.self.inside.history c.note_look-kept.new.self (act.Look) [] c.next_disk_call-is_done.result
-    (ap (λ (s : Ledger). s.past) (c.self.view_is ∙ c.next_disk_call-is_done.ensures.counted)) (ap (λ (s : Ledger). s.past) c.end_disk_call.ensures.counted)
-    c.note_look-kept.ensures.ok c.note_look-kept.ensures.err tt, ap (λ (s : Ledger). s.say_faults) (c.end_disk_call.ensures.counted) ∙ ap (λ (s : Ledger). s.say_faults) (c.self.view_is ∙ c.next_disk_call-is_done.ensures.counted))
+returns-in_err-end_disk_call-clause-output c = (
+  said c.note_look-kept.result c.args.self.now c.end_disk_call.new.self c.self.inside.history c.note_look-kept.new.self (act.Look) [] c.next_disk_call-is_done.result
+      (ap (λ (s : Ledger). s.past) (c.self.view_is ∙ c.next_disk_call-is_done.ensures.counted)) (ap (λ (s : Ledger). s.past) c.end_disk_call.ensures.counted)
+      c.note_look-kept.ensures.ok c.note_look-kept.ensures.err tt,
+  ap (λ (s : Ledger). s.say_faults) (c.end_disk_call.ensures.counted) ∙ ap (λ (s : Ledger). s.say_faults) (c.self.view_is ∙ c.next_disk_call-is_done.ensures.counted),
+)
 
 pub returns-in_err-end_disk_call-clause-stops : goal.returns-in_err-end_disk_call-clause-stops
 returns-in_err-end_disk_call-clause-stops c =
@@ -33,10 +35,12 @@ returns-clause-disk c =
     c.note_look-kept.ensures.ok c.note_look-kept.ensures.err tt
 
 pub returns-clause-output : goal.returns-clause-output
-returns-clause-output c =
-    (said c.note_look-kept.result c.args.self.now c.end_disk_call.new.self c.self.inside.history c.note_look-kept.new.self (act.Look) [] c.next_disk_call-is_done.result
-    (ap (λ (s : Ledger). s.past) (c.self.view_is ∙ c.next_disk_call-is_done.ensures.counted)) (ap (λ (s : Ledger). s.past) c.end_disk_call.ensures.counted)
-    c.note_look-kept.ensures.ok c.note_look-kept.ensures.err tt, ap (λ (s : Ledger). s.say_faults) (c.end_disk_call.ensures.counted) ∙ ap (λ (s : Ledger). s.say_faults) (c.self.view_is ∙ c.next_disk_call-is_done.ensures.counted))
+returns-clause-output c = (
+  said c.note_look-kept.result c.args.self.now c.end_disk_call.new.self c.self.inside.history c.note_look-kept.new.self (act.Look) [] c.next_disk_call-is_done.result
+      (ap (λ (s : Ledger). s.past) (c.self.view_is ∙ c.next_disk_call-is_done.ensures.counted)) (ap (λ (s : Ledger). s.past) c.end_disk_call.ensures.counted)
+      c.note_look-kept.ensures.ok c.note_look-kept.ensures.err tt,
+  ap (λ (s : Ledger). s.say_faults) (c.end_disk_call.ensures.counted) ∙ ap (λ (s : Ledger). s.say_faults) (c.self.view_is ∙ c.next_disk_call-is_done.ensures.counted),
+)
 
 pub returns-clause-stops : goal.returns-clause-stops
 returns-clause-stops c =

@@ -9,10 +9,12 @@ use Rattle.sz_outside.proofs.Ledgers.{stops, said, reads, disk, done, undone}
 use Rattle.sz_outside.proofs.stations.MemStationStation.say.Goals as goal
 
 pub returns-clause-disk : goal.returns-clause-disk
-returns-clause-disk c =
-    (disk c.note_say-kept.result c.args.self.now c.end_say.new.self c.self.inside.history c.note_say-kept.new.self (act.Say) c.args.bytes.now c.next_say-is_done.result
-    (ap (λ (s : Ledger). s.past) (c.self.view_is ∙ c.next_say-is_done.ensures.counted)) (ap (λ (s : Ledger). s.past) c.end_say.ensures.counted)
-    c.note_say-kept.ensures.ok c.note_say-kept.ensures.err tt, ap (λ (s : Ledger). s.disk_faults) c.end_say.ensures.counted ∙ ap (λ (s : Ledger). s.disk_faults) (c.self.view_is ∙ c.next_say-is_done.ensures.counted))
+returns-clause-disk c = (
+  disk c.note_say-kept.result c.args.self.now c.end_say.new.self c.self.inside.history c.note_say-kept.new.self (act.Say) c.args.bytes.now c.next_say-is_done.result
+      (ap (λ (s : Ledger). s.past) (c.self.view_is ∙ c.next_say-is_done.ensures.counted)) (ap (λ (s : Ledger). s.past) c.end_say.ensures.counted)
+      c.note_say-kept.ensures.ok c.note_say-kept.ensures.err tt,
+  ap (λ (s : Ledger). s.disk_faults) c.end_say.ensures.counted ∙ ap (λ (s : Ledger). s.disk_faults) (c.self.view_is ∙ c.next_say-is_done.ensures.counted),
+)
 
 pub returns-clause-stops : goal.returns-clause-stops
 returns-clause-stops c =
@@ -37,4 +39,3 @@ returns-clause-part c =
 pub returns-clause-faults : goal.returns-clause-faults
 returns-clause-faults c =
     subst (λ (n : ℕ). n ≤ c.end_say.new.self.say_faults) (ap (λ (s : Ledger). s.say_faults) (c.self.view_is ∙ c.next_say-is_done.ensures.counted)) c.end_say.ensures.rises
-

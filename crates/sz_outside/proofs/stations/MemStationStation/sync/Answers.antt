@@ -15,10 +15,12 @@ returns-clause-disk c =
     c.note_sync-kept.ensures.ok c.note_sync-kept.ensures.err tt
 
 pub returns-clause-output : goal.returns-clause-output
-returns-clause-output c =
-    (said c.note_sync-kept.result c.args.self.now c.end_disk_call.new.self c.self.inside.history c.note_sync-kept.new.self (act.Sync) [] c.next_disk_call-is_done.result
-    (ap (λ (s : Ledger). s.past) (c.self.view_is ∙ c.next_disk_call-is_done.ensures.counted)) (ap (λ (s : Ledger). s.past) c.end_disk_call.ensures.counted)
-    c.note_sync-kept.ensures.ok c.note_sync-kept.ensures.err tt, ap (λ (s : Ledger). s.say_faults) c.end_disk_call.ensures.counted ∙ ap (λ (s : Ledger). s.say_faults) (c.self.view_is ∙ c.next_disk_call-is_done.ensures.counted))
+returns-clause-output c = (
+  said c.note_sync-kept.result c.args.self.now c.end_disk_call.new.self c.self.inside.history c.note_sync-kept.new.self (act.Sync) [] c.next_disk_call-is_done.result
+      (ap (λ (s : Ledger). s.past) (c.self.view_is ∙ c.next_disk_call-is_done.ensures.counted)) (ap (λ (s : Ledger). s.past) c.end_disk_call.ensures.counted)
+      c.note_sync-kept.ensures.ok c.note_sync-kept.ensures.err tt,
+  ap (λ (s : Ledger). s.say_faults) c.end_disk_call.ensures.counted ∙ ap (λ (s : Ledger). s.say_faults) (c.self.view_is ∙ c.next_disk_call-is_done.ensures.counted),
+)
 
 pub returns-clause-stops : goal.returns-clause-stops
 returns-clause-stops c =
@@ -32,4 +34,3 @@ returns-clause-synced c =
     (ap (λ (s : Ledger). s.past) (c.self.view_is ∙ c.next_disk_call-is_done.ensures.counted)) (ap (λ (s : Ledger). s.past) c.end_disk_call.ensures.counted)
     c.note_sync-kept.ensures.ok c.note_sync-kept.ensures.err c.end_disk_call.result c.end_disk_call.ensures.answer
     (λ then image left. ⊎_elim (λ read. read) (λ read. read) (subst (λ (s : Scene). MayLeave s image) then left))
-

@@ -9,10 +9,12 @@ use Rattle.sz_outside.proofs.Ledgers.{stops, said, reads, disk, done, undone}
 use Rattle.sz_outside.proofs.stations.MemStationStation.write_at.Goals as goal
 
 pub returns-clause-output : goal.returns-clause-output
-returns-clause-output c =
-    (said c.note_write-kept.result c.args.self.now c.end_disk_call.new.self c.self.inside.history c.note_write-kept.new.self ((act.Write c.args.at)) c.args.bytes.now c.next_write-is_done.result
-    (ap (λ (s : Ledger). s.past) (c.self.view_is ∙ c.next_write-is_done.ensures.counted)) (ap (λ (s : Ledger). s.past) c.end_disk_call.ensures.counted)
-    c.note_write-kept.ensures.ok c.note_write-kept.ensures.err tt, ap (λ (s : Ledger). s.say_faults) c.end_disk_call.ensures.counted ∙ ap (λ (s : Ledger). s.say_faults) (c.self.view_is ∙ c.next_write-is_done.ensures.counted))
+returns-clause-output c = (
+  said c.note_write-kept.result c.args.self.now c.end_disk_call.new.self c.self.inside.history c.note_write-kept.new.self ((act.Write c.args.at)) c.args.bytes.now c.next_write-is_done.result
+      (ap (λ (s : Ledger). s.past) (c.self.view_is ∙ c.next_write-is_done.ensures.counted)) (ap (λ (s : Ledger). s.past) c.end_disk_call.ensures.counted)
+      c.note_write-kept.ensures.ok c.note_write-kept.ensures.err tt,
+  ap (λ (s : Ledger). s.say_faults) c.end_disk_call.ensures.counted ∙ ap (λ (s : Ledger). s.say_faults) (c.self.view_is ∙ c.next_write-is_done.ensures.counted),
+)
 
 pub returns-clause-stops : goal.returns-clause-stops
 returns-clause-stops c =
@@ -26,4 +28,3 @@ returns-clause-written c =
     (ap (λ (s : Ledger). s.past) (c.self.view_is ∙ c.next_write-is_done.ensures.counted)) (ap (λ (s : Ledger). s.past) c.end_disk_call.ensures.counted)
     c.note_write-kept.ensures.ok c.note_write-kept.ensures.err c.end_disk_call.result c.end_disk_call.ensures.answer
     (λ then. ap (λ (s : Scene). Some s.disk) then)
-
