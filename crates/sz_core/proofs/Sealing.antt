@@ -18,7 +18,6 @@ use Rattle.sz_spec.specs.Paths.{Step}
 use Rattle.sz_core.specs.declared.events.Event.{Event}
 use Rattle.sz_core.specs.declared.events.Event.TheVariants.{Place, Seal, Look}
 use Rattle.sz_core.specs.declared.events.Told.{Told}
-use Rattle.sz_core.specs.declared.events.Told.TheVariants.{Sealed}
 use Rattle.sz_core.specs.declared.events.Told.TheVariants.{FromStore, FromTrace}
 use Rattle.sz_core.specs.declared.events.Told.TheVariants.{NoSuch}
 use Rattle.sz_core.specs.declared.pairs.Pair.{Pair}

@@ -5,9 +5,9 @@
 -- A path is joined where each step's cells are those to which the step before it leads, and joined arrays have one
 -- shape.
 use Rattle.std.proofs.Common.{◌≡◌, ℕ, zero, suc, ◌+◌, ◌/◌, ◌<◌, ◌≤◌, Bool, true}
-use Rattle.std.proofs.Common.{false, ◌&&◌, ◌==◌, nat_lt, nat_le, List, [], ◌∷◌, ◌++◌}
-use Rattle.std.proofs.Common.{length, zero-add, length-append, get_or, map, refl, sym, ap}
-use Rattle.std.proofs.Common.{ap₂, ◌∙◌, arith, true≢false, eqb-true, ltb-true, lt-ltb, Option, Some}
+use Rattle.std.proofs.Common.{false, ◌&&◌, ◌==◌, nat_lt, nat_le, List, [], ◌∷◌}
+use Rattle.std.proofs.Common.{length, get_or, map, refl, sym, ap}
+use Rattle.std.proofs.Common.{ap₂, ◌∙◌, arith, true≢false, eqb-true, ltb-true, Option, Some}
 use Rattle.std.proofs.Common.{None, All}
 use Rattle.std.proofs.lemmas.Bool.{and_parts}
 use Rattle.std.proofs.lemmas.List.Elements.{All-cons}
