@@ -26,8 +26,14 @@ fn each_status_has_its_number_and_its_line(rt: HostRuntime) {
     assert!(rt; has_ending(Status::SayFault, 3, "subzero: writing a reply failed"));
     assert!(rt; has_ending(Status::NoMemory, 8, "subzero: out of memory"));
     assert!(rt; has_ending(Status::InputLimit, 9, "subzero: the session is too long"));
-    assert_eq!(rt; status_of_fault(&Error::from(ErrorKind::InvalidData)), Status::Usage);
-    assert_eq!(rt; status_of_fault(&Error::from(ErrorKind::OutOfMemory)), Status::NoMemory);
+    assert_eq!(rt;
+        status_of_fault(&Error::from(ErrorKind::InvalidData)),
+        Status::Usage
+    );
+    assert_eq!(rt;
+        status_of_fault(&Error::from(ErrorKind::OutOfMemory)),
+        Status::NoMemory
+    );
 }
 
 /// Keeps what is printed on it.

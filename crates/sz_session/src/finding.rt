@@ -22,7 +22,7 @@ use sz_catalogue::HeldVersion;
 use sz_cells::{Cell, CellSet, NoMemory, Shape, laws};
 use sz_flow::NodeRun;
 use sz_query::{Found, NodeRunRef, NodeView, answer};
-use sz_script::{Path, PathStep, NamedCell, NamedCells};
+use sz_script::{NamedCell, NamedCells, Path, PathStep};
 use sz_spec::{Array, ArrayList, Dir, Strategy, Tally, way};
 
 /// What is found along a path from some named cells, each step by the view of its node for the way

@@ -29,7 +29,7 @@ use sz_cells::NoMemory;
 use sz_outside::{Gate, Station};
 use sz_query::{Found, Used};
 use sz_script::{
-    BaseList, Command, LineFault, Name, Path, NamedCells, StrategyList, laws, read_line,
+    BaseList, Command, LineFault, Name, NamedCells, Path, StrategyList, laws, read_line,
 };
 use sz_spec::{Dir, Strategy, Tally};
 

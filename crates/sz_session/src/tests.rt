@@ -97,7 +97,10 @@ fn a_late_read_that_fails_is_not_tried_again(rt: HostRuntime) -> Result<(), Fail
     let text = format!(in alloc; "{{{blanks}\n{{{blanks}\n{{{blanks}\n")?;
     let played = session(&rt, alloc, text.into_bytes(), 16_384, &[8], &[])?;
     assert_eq!(rt; played.status, Status::ReadFault);
-    assert_eq!(rt; played.said.as_slice(), b"1 refused 1\n2 refused 1\n".as_slice());
+    assert_eq!(rt;
+        played.said.as_slice(),
+        b"1 refused 1\n2 refused 1\n".as_slice()
+    );
     Ok(())
 }
 

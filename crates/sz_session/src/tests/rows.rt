@@ -22,9 +22,18 @@ fn sessions_say_their_replies(rt: HostRuntime) -> Result<(), Fail> {
     let alloc = rt.alloc();
     assert!(rt; says(&rt, alloc, MOVED, MOVED_REPLIES)?, "the row MOVED");
     assert!(rt; says(&rt, alloc, FOLDED, FOLDED_REPLIES)?, "the row FOLDED");
-    assert!(rt; says(&rt, alloc, NEIGHBOURS, NEIGHBOURS_REPLIES)?, "the row NEIGHBOURS");
-    assert!(rt; says(&rt, alloc, TWO_INPUTS, TWO_INPUTS_REPLIES)?, "the row TWO_INPUTS");
-    assert!(rt; says(&rt, alloc, REFUSED, REFUSED_REPLIES)?, "the row REFUSED");
+    assert!(rt;
+        says(&rt, alloc, NEIGHBOURS, NEIGHBOURS_REPLIES)?,
+        "the row NEIGHBOURS"
+    );
+    assert!(rt;
+        says(&rt, alloc, TWO_INPUTS, TWO_INPUTS_REPLIES)?,
+        "the row TWO_INPUTS"
+    );
+    assert!(rt;
+        says(&rt, alloc, REFUSED, REFUSED_REPLIES)?,
+        "the row REFUSED"
+    );
     assert!(rt; says(&rt, alloc, LAYERS, LAYERS_REPLIES)?, "the row LAYERS");
     assert!(rt; says(&rt, alloc, ASKED, ASKED_REPLIES)?, "the row ASKED");
     assert!(rt; says(&rt, alloc, NAMED, NAMED_REPLIES)?, "the row NAMED");
