@@ -4,7 +4,7 @@
 -- The key idea: on written-out flows and paths every definition is a computation. Of a flow of one node there is one
 -- path, and what is reached along it is one cell.
 use Rattle.std.proofs.Common.{◌≡◌, ℕ, pos, zero, suc, Bool, true, false, List, [], ◌∷◌, Option, Some, None, refl, sym, ap, ◌∙◌}
-use Rattle.std.proofs.Common.{◌&&◌, ◌||◌, ◌==◌, unwrap_or, eqb-true, arith, inl, inr, subst}
+use Rattle.std.proofs.Common.{nat_lt, ltb-true, ◌&&◌, ◌||◌, ◌==◌, unwrap_or, eqb-true, arith, inl, inr, subst}
 use Rattle.std.specs.Prelude.{option_and_then}
 use Rattle.std.specs.List.{slice_get, list_any}
 use Rattle.std.proofs.lemmas.Bool.{and_parts, or_cases}
@@ -21,7 +21,8 @@ use Rattle.sz_spec.specs.Values.{Grid, value_at, input_at}
 use Rattle.sz_spec.specs.Flows.{Graph, evaluations}
 use Rattle.sz_spec.specs.Paths.{Step, source_of, is_there, is_output_of, follows, are_joined, is_joined, compose, extent_of}
 use Rattle.sz_spec.specs.LawsDependence.{GoesBack, CanRun, StepLeads, LeadsAlong, AgreeWhereReached}
-use Rattle.sz_spec.specs.LawsDependence.{PassesNoRegions, is_regions}
+use Rattle.sz_spec.specs.LawsDependence.{PassesNoRegions, is_regions, LeadsInEither, AgreeWhereReachedInEither}
+use Rattle.sz_spec.specs.Lineage.{related}
 use Rattle.sz_spec.proofs.FlowDependence.{value-reached}
 use Rattle.sz_spec.proofs.RowsArrays.{node, flow, n, none, grid, at}
 
@@ -122,7 +123,14 @@ middle x inside =
       | inr other ↦ (cc)
     ]
 
--- where the node's cell reaches, both base arrays hold one value, though they differ in the other two cells
+-- there both base arrays hold one value, though they differ in the other two cells
+middle-stays : (b : ℕ) (x : Cell) → b ≡ 0 → index_of (flat 1 3) x ≡ 1
+    → value_at (input_at before b) x ≡ value_at (input_at after b) x
+middle-stays zero x same index =
+    ap (λ (k : ℕ). unwrap_or (slice_get (n 1 ∷ n 2 ∷ n 3 ∷ []) k) None) index
+    ∙ sym (ap (λ (k : ℕ). unwrap_or (slice_get (n 7 ∷ n 2 ∷ none ∷ []) k) None) index)
+middle-stays (suc b) x same index = absurd (omega (arith, same))
+
 pub picked-agrees : AgreeWhereReached picking 0 (cell 0 0) before after
 picked-agrees path b x goes inside =
     let only = only-path path b goes in
@@ -130,14 +138,36 @@ picked-agrees path b x goes inside =
     let start = named_in (extent_of outputs 0) (cell 0 0 ∷ []) in
     let along : has (compose Back picking before outputs (step 0 0 ∷ []) start) x ≡ true =
     ap (λ (p : List Step). has (compose Back picking before outputs p start) x) (sym only.0) ∙ inside in
-    let index = middle x along in
-    at_base b only.1 index where
-      at_base : (b : ℕ) → b ≡ 0 → index_of (flat 1 3) x ≡ 1
-          → value_at (input_at before b) x ≡ value_at (input_at after b) x
-      at_base zero same index =
-          ap (λ (k : ℕ). unwrap_or (slice_get (n 1 ∷ n 2 ∷ n 3 ∷ []) k) None) index
-          ∙ sym (ap (λ (k : ℕ). unwrap_or (slice_get (n 7 ∷ n 2 ∷ none ∷ []) k) None) index)
-      at_base (suc b) same index = absurd (omega (arith, same))
+    middle-stays b x only.1 (middle x along)
+
+-- so it is with lists of cells that lead there in the old evaluation or in the new one
+picked-middle : (d : Cell) → holds (flat 1 3) d ≡ true
+    → related (op.Slice 0 1 1 1) before 0 (cell 0 0) d ≡ true → index_of (flat 1 3) d ≡ 1
+picked-middle d held passes =
+    let row = ltb-true d.row 1 (and_parts (nat_lt d.row 1) (nat_lt d.col 3) held).0 in
+    let col = eqb-true d.col 1 (and_parts _ (d.col == 1) passes).1 in
+    omega (arith, row, col)
+
+led-middle : (d : Cell) → LeadsInEither picking before after (step 0 0) (cell 0 0) d → index_of (flat 1 3) d ≡ 1
+led-middle d (inl led) =
+    let same : led.0 ≡ node (op.Slice 0 1 1 1) (Input 0 ∷ []) = let one = led.1 in (cc) in
+    picked-middle d led.2 (ap (λ (x : Node). related x.op before 0 (cell 0 0) d) (sym same) ∙ led.3)
+led-middle d (inr led) =
+    let same : led.0 ≡ node (op.Slice 0 1 1 1) (Input 0 ∷ []) = let one = led.1 in (cc) in
+    picked-middle d led.2 (ap (λ (x : Node). related x.op after 0 (cell 0 0) d) (sym same) ∙ led.3)
+
+chain-middle : (cells : List Cell) (x : Cell)
+    → LeadsAlong (LeadsInEither picking before after) (step 0 0 ∷ []) (cell 0 0) cells x → index_of (flat 1 3) x ≡ 1
+chain-middle [] x led = absurd led
+chain-middle (d ∷ []) x led = sym (ap (index_of (flat 1 3)) led.1) ∙ led-middle d led.0
+chain-middle (d ∷ e ∷ cells) x led = absurd led.1
+
+pub picked-agrees_in_either : AgreeWhereReachedInEither picking 0 (cell 0 0) before after
+picked-agrees_in_either path b cells x goes led =
+    let only = only-path path b goes in
+    let along = subst (λ (p : List Step). LeadsAlong (LeadsInEither picking before after) p (cell 0 0) cells x) only.0
+    led in
+    middle-stays b x only.1 (chain-middle cells x along)
 
 -- no path from it passes regions, and one from a node of regions does
 pub picked-passes : PassesNoRegions picking 0
