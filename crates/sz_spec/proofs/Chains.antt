@@ -2,7 +2,7 @@
 --
 -- The key idea: the image of a set under a step is itself a set made by a test, which a cell passes exactly where
 -- the step leads to it from a cell of the set. So a list of cells grows by one at each step.
-use Rattle.std.proofs.Common.{◌≡◌, ℕ, Bool, true, false, List, [], ◌∷◌, Option, Some, None, refl, sym, ap, ◌∙◌}
+use Rattle.std.proofs.Common.{◌≡◌, ℕ, Bool, true, List, [], ◌∷◌, Option, Some, None, refl, sym, ap, ◌∙◌}
 use Rattle.std.proofs.Common.{map, ◌&&◌, ◌↔◌}
 use Rattle.std.specs.List.{slice_get}
 use Rattle.std.specs.Prelude.{option_and_then}
@@ -12,7 +12,6 @@ use Rattle.sz_cells.specs.Extent.{Extent, holds}
 use Rattle.sz_cells.specs.Cells.{Cells, cells_where, any_cell, has}
 use Rattle.sz_cells.proofs.Sets.{has-cells_where_any, any_cell-true, any_cell-from}
 use Rattle.sz_spec.specs.declared.flow.Node.{Node}
-use Rattle.sz_spec.specs.declared.flow.SourceRef.{SourceRef}
 use Rattle.sz_spec.specs.declared.modes.Dir.{Dir}
 use Rattle.sz_spec.specs.declared.modes.Dir.TheVariants.{Back, Forward}
 use Rattle.sz_spec.specs.Values.{Grid}

@@ -5,7 +5,7 @@
 -- the paths go on.
 use Rattle.std.proofs.Common.{◌≡◌, ℕ, zero, suc, ◌+◌, ◌<◌, ◌≤◌, Bool, true, false, List, [], ◌∷◌, ◌++◌, map, length}
 use Rattle.std.proofs.Common.{All, Option, Some, None, Ok, Err, Result, refl, sym, ap, ap₂, subst, ◌∙◌, arith, inl, inr}
-use Rattle.std.proofs.Common.{◌⊎◌, ◌&&◌, ◌||◌, ◌==◌, nat_le, nat_lt, unwrap_or, fold, length-append, ltb-true, lt-ltb}
+use Rattle.std.proofs.Common.{◌⊎◌, ◌&&◌, ◌||◌, nat_le, nat_lt, unwrap_or, fold, length-append, ltb-true, lt-ltb}
 use Rattle.std.proofs.Common.{eq-eqb, eqb-true, le-leb}
 use Rattle.std.specs.Prelude.{is_ok, option_and_then}
 use Rattle.std.specs.Result.{result_unwrap_or}
@@ -26,7 +26,7 @@ use Rattle.sz_spec.specs.declared.flow.SourceRef.{SourceRef}
 use Rattle.sz_spec.specs.declared.flow.SourceRef.TheVariants as source
 use Rattle.sz_spec.specs.declared.modes.Dir.TheVariants.{Back}
 use Rattle.sz_spec.specs.Values.{Grid, no_grid, no_extent, value_at, input_at, extent_at, extents_of}
-use Rattle.sz_spec.specs.Shapes.{Site, IsSite, arity, shape_of}
+use Rattle.sz_spec.specs.Shapes.{Site, arity, shape_of}
 use Rattle.sz_spec.specs.Lineage.{related}
 use Rattle.sz_spec.specs.Evaluation.{output_of, value_of}
 use Rattle.sz_spec.specs.Flows.{Graph, is_source, is_well_formed, array_of, evaluations}
@@ -39,10 +39,10 @@ use Rattle.sz_spec.specs.LawsDependence.{AgreeWhere, is_regions, StepLeads, Lead
 use Rattle.sz_spec.specs.LawsDependence.{LeadsInEither, ValuesDependOnReachedCells}
 use Rattle.sz_spec.specs.LawsDependence.{ValuesDependOnCellsReachedInEither}
 use Rattle.sz_spec.specs.Work.{IsAtWork}
-use Rattle.sz_spec.proofs.Chains.{composed-led, inputs-at, first-there, rest-joined}
+use Rattle.sz_spec.proofs.Chains.{composed-led, inputs-at, rest-joined}
 use Rattle.sz_spec.proofs.Dependence.{value-depends, value-depends_either}
 use Rattle.sz_spec.proofs.FlowOutputs.{well-formed_parts, evaluations-at, evaluations-length}
-use Rattle.sz_spec.proofs.FlowShapes.{inputs-shapes, shapes-found, node-made, shape-at, below, each-at, mapped-at}
+use Rattle.sz_spec.proofs.FlowShapes.{inputs-shapes, shapes-found, node-made, shape-at, below, each-at}
 use Rattle.sz_spec.proofs.FlowShapes.{node-of, outputs-length}
 use Rattle.sz_spec.proofs.OutputShapes.{extent-right, output-right}
 use Rattle.sz_spec.proofs.OutputValues.{output-value}

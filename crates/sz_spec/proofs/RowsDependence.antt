@@ -3,18 +3,17 @@
 --
 -- The key idea: on written-out flows and paths every definition is a computation. Of a flow of one node there is one
 -- path, and what is reached along it is one cell.
-use Rattle.std.proofs.Common.{◌≡◌, ℕ, pos, zero, suc, Bool, true, false, List, [], ◌∷◌, Option, Some, None, refl, sym, ap, ◌∙◌}
+use Rattle.std.proofs.Common.{◌≡◌, ℕ, pos, zero, suc, true, false, List, [], ◌∷◌, Some, None, refl, sym, ap, ◌∙◌}
 use Rattle.std.proofs.Common.{nat_lt, ltb-true, ◌&&◌, ◌||◌, ◌==◌, unwrap_or, eqb-true, arith, inl, inr, subst}
 use Rattle.std.specs.Prelude.{option_and_then}
-use Rattle.std.specs.List.{slice_get, list_any}
+use Rattle.std.specs.List.{slice_get}
 use Rattle.std.proofs.lemmas.Bool.{and_parts, or_cases}
 use Rattle.std.proofs.lemmas.List.Elements.{All-cons, All-head, All-nil}
 use Rattle.sz_cells.specs.declared.Cell.{Cell}
 use Rattle.sz_cells.specs.Extent.{flat, holds, index_of, is_extent}
-use Rattle.sz_cells.specs.Cells.{Cells, has, named_in}
+use Rattle.sz_cells.specs.Cells.{has, named_in}
 use Rattle.sz_spec.specs.declared.op.Op.TheVariants as op
 use Rattle.sz_spec.specs.declared.flow.Node.{Node}
-use Rattle.sz_spec.specs.declared.flow.SourceRef.{SourceRef}
 use Rattle.sz_spec.specs.declared.flow.SourceRef.TheVariants.{Input, Node as Output}
 use Rattle.sz_spec.specs.declared.modes.Dir.TheVariants.{Back, Forward}
 use Rattle.sz_spec.specs.Values.{Grid, value_at, input_at}
