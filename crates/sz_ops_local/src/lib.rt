@@ -17,8 +17,6 @@
 mod block;
 mod elementwise;
 mod numbers;
-#[cfg(test)]
-mod tests;
 mod window;
 
 pub use block::FoldBlocks;

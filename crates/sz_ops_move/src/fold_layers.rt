@@ -48,7 +48,13 @@ impl<'a> Mapping for LayerFold<'a> {
 
     fn forward_into(&self, cell: Cell, input: u32, to: &mut CellBits) {
         sides(self.at); // there is one input
-        add_target(self.at, cell, Some(target(self.at, self.fold, cell)), input, to);
+        add_target(
+            self.at,
+            cell,
+            Some(target(self.at, self.fold, cell)),
+            input,
+            to,
+        );
     }
 
     fn meets(&self, out: Cell, input: u32, from: &CellBits) -> bool {

@@ -20,8 +20,6 @@ mod fold_layers;
 mod lookup;
 mod single;
 mod slice;
-#[cfg(test)]
-mod tests;
 mod transpose;
 
 pub use fold_layers::LayerFold;

@@ -66,13 +66,7 @@ pub(crate) fn set_of_source(
 }
 
 /// Adds the output cell that is mapped to a cell of the input, where there is one.
-pub(crate) fn add_target(
-    at: &OpAt,
-    cell: Cell,
-    target: Option<Cell>,
-    input: u32,
-    to: &mut CellBits,
-)
+pub(crate) fn add_target(at: &OpAt, cell: Cell, target: Option<Cell>, input: u32, to: &mut CellBits)
     requires mapping { is_mapping at.now.op ≡ true }
     requires input { input < length at.now.ins }
     requires to { to.old.extent ≡ at.now.out }

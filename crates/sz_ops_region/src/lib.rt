@@ -25,8 +25,6 @@ mod fill;
 mod marks;
 mod run_lists;
 mod sides;
-#[cfg(test)]
-mod tests;
 mod walk;
 mod work;
 

@@ -86,7 +86,13 @@ fn trace_cells(
 }
 
 /// Adds the cells to which a cell is related, where it is in the set and they are not there yet.
-fn trace_cell(work: &Labelling, cell: Cell, from: &CellBits, to: &mut CellBits, marks: &mut CellBits)
+fn trace_cell(
+    work: &Labelling,
+    cell: Cell,
+    from: &CellBits,
+    to: &mut CellBits,
+    marks: &mut CellBits,
+)
     requires right { IsAtWork work.now.at.now (map (λ a. arc_value a) work.now.inputs.now) }
     requires cell { holds work.now.at.now.out cell ≡ true }
     requires from { from.now.extent ≡ work.now.at.now.out }

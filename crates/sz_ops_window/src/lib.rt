@@ -15,8 +15,6 @@
 mod clean;
 mod convolve;
 mod mask;
-#[cfg(test)]
-mod tests;
 mod under;
 mod window;
 

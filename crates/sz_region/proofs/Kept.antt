@@ -38,15 +38,15 @@ regions-right m k regions fits = λ n d there.
     let r : Pairing = get_or regions n d in
     let is = fits.each n d there in
     let shape : (i : ℕ) → (set_of r i).extent ≡ extent_at m.ins i = λ i.
-        set-shape r.ins i ∙ ap (λ (es : List Extent). extent_at es i) is.ins in
+    set-shape r.ins i ∙ ap (λ (es : List Extent). extent_at es i) is.ins in
     record {
       shape = is.out.shape;
       number = sym (length-map r.ins (λ (s : Cells). s.extent)) ∙ ap length is.ins;
       shapes = λ i few. shape i;
       related = λ i o x few had there_too.
           let held : holds (extent_at m.ins i) x ≡ true =
-              ap (λ (e : Extent). holds e x) (sym (shape i))
-              ∙ (and_parts (holds (set_of r i).extent x) _ there_too).0 in
+          ap (λ (e : Extent). holds e x) (sym (shape i))
+          ∙ (and_parts (holds (set_of r i).extent x) _ there_too).0 in
           sym (fits.stands i o x few (is.out.inside o had) held)
           ∙ list_any_at (λ (q : Pairing). has q.out o && has (set_of q i) x) regions n d there
           (and_from (has r.out o) (has (set_of r i) x) had there_too);
@@ -70,7 +70,7 @@ alone : (kept : List ℕ → ℕ → Cell → Cell → Bool) (entries : List Ent
 alone kept [] i o x n d apart there had = absurd (omega arith)
 alone kept (e ∷ entries) i o x zero d apart there had =
     rw (had, none-stands kept entries i o x (apart.0 o had)) (
-      elim (cases_Bool (kept e.payload i o x)) [ inl t ↦ rw t refl | inr f ↦ rw f refl ]
+    elim (cases_Bool (kept e.payload i o x)) [ inl t ↦ rw t refl | inr f ↦ rw f refl ]
     )
 alone kept (e ∷ entries) i o x (suc n) d apart there had =
     let later : n < length entries = omega arith in
@@ -116,14 +116,14 @@ part-right P false part some none = rw (none refl) (All-nil P)
 
 pub kept-right : WhatIsKeptIsRight
 kept-right m list k p fits = (
-    part-right (IsOfTheRelation m) (needs list mode.Full) p.regions
-    (λ need. regions-right m k p.regions (fits.full need)) fits.no_full,
-    All-append (IsWholeEntry m) p.pays p.comps
-    (part-right (IsWholeEntry m) (needs list mode.Pay) p.pays
-    (λ need. pays-right m k p.pays (fits.pay need)) fits.no_pay)
-    (part-right (IsWholeEntry m) (needs list mode.Comp) p.comps
-    (λ need. comps-right m k p.comps (fits.comp need)) fits.no_comp),
-  )
+  part-right (IsOfTheRelation m) (needs list mode.Full) p.regions
+      (λ need. regions-right m k p.regions (fits.full need)) fits.no_full,
+  All-append (IsWholeEntry m) p.pays p.comps
+      (part-right (IsWholeEntry m) (needs list mode.Pay) p.pays
+      (λ need. pays-right m k p.pays (fits.pay need)) fits.no_pay)
+      (part-right (IsWholeEntry m) (needs list mode.Comp) p.comps
+      (λ need. comps-right m k p.comps (fits.comp need)) fits.no_comp),
+)
 
 -- ---- how many entries have a cell
 
@@ -149,6 +149,6 @@ none-many false entries o some none = rw (none refl) (omega arith)
 
 pub one-payload : EachCellHasOnePayload
 one-payload m list k p o fits inside = (
-    λ need. many-had p.pays o (fits.pay need).apart ∙ ap (λ b. cond b 1 0) ((fits.pay need).every o inside),
-    none-many (needs list mode.Comp) p.comps o (λ need. (fits.comp need).apart) fits.no_comp,
-  )
+  λ need. many-had p.pays o (fits.pay need).apart ∙ ap (λ b. cond b 1 0) ((fits.pay need).every o inside),
+  none-many (needs list mode.Comp) p.comps o (λ need. (fits.comp need).apart) fits.no_comp,
+)

@@ -25,7 +25,7 @@ pub value_of_input-requires-then-inputs-gt1-clause-cell : goal.value_of_input-re
 value_of_input-requires-then-inputs-gt1-clause-cell c =
     let grids = map (λ a. arc_value a) c.args.inputs.now in
     let two : 1 < length grids =
-        omega (arith, c.if-inputs-gt1.true, length-map c.args.inputs.now (λ a. arc_value a)) in
+    omega (arith, c.if-inputs-gt1.true, length-map c.args.inputs.now (λ a. arc_value a)) in
     subst (λ (e : Extent). holds e c.args.out ≡ true)
     (sym (second c.args.at.now grids c.requires.op c.requires.right two)) c.requires.out
 
@@ -33,7 +33,7 @@ pub value_of_input-requires-then-inputs-gt1-clause-index : goal.value_of_input-r
 value_of_input-requires-then-inputs-gt1-clause-index c =
     let grids = map (λ a. arc_value a) c.args.inputs.now in
     let two : 1 < length grids =
-        omega (arith, c.if-inputs-gt1.true, length-map c.args.inputs.now (λ a. arc_value a)) in
+    omega (arith, c.if-inputs-gt1.true, length-map c.args.inputs.now (λ a. arc_value a)) in
     c.requires.index
     ∙ ap (λ (e : Extent). index_of e c.args.out)
     (sym (second c.args.at.now grids c.requires.op c.requires.right two))

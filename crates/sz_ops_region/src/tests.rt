@@ -1,1 +1,0 @@
-//! The operator at work, with memory to spare.

@@ -1,1 +1,0 @@
-//! The operators at work, with memory to spare.
