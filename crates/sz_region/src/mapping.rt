@@ -64,8 +64,8 @@ pub trait Mapping {
     fn mapped_set(&self, alloc: Global, out: Cell, input: u32) -> Result<Arc<CellSet>, NoMemory>
         requires out { holds (site self.now).out out ≡ true }
         requires input { input < length (site self.now).ins }
-        ensures { let s = site self.now in IfOk result
-            (λ c. arc_value c ≡ cells_where (extent_at s.ins input) (mapped s.op s.ins input out)) };
+        ensures { let s = site self.now in IfOk result (λ c. arc_value c
+            ≡ cells_where (extent_at s.ins input) (mapped s.op s.ins input out)) };
 }
 
 /// A mapping that is lent, by itself.
