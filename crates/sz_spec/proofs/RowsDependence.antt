@@ -18,7 +18,8 @@ use Rattle.sz_spec.specs.declared.flow.SourceRef.TheVariants.{Input, Node as Out
 use Rattle.sz_spec.specs.declared.modes.Dir.TheVariants.{Back, Forward}
 use Rattle.sz_spec.specs.Values.{Grid, value_at, input_at}
 use Rattle.sz_spec.specs.Flows.{Graph, evaluations}
-use Rattle.sz_spec.specs.Paths.{Step, source_of, is_there, is_output_of, follows, are_joined, is_joined, compose, extent_of}
+use Rattle.sz_spec.specs.Paths.{Step, source_of, is_there, is_output_of, follows, are_joined, is_joined}
+use Rattle.sz_spec.specs.Paths.{compose, extent_of}
 use Rattle.sz_spec.specs.LawsDependence.{GoesBack, CanRun, StepLeads, LeadsAlong, AgreeWhereReached}
 use Rattle.sz_spec.specs.LawsDependence.{PassesNoRegions, is_regions, LeadsInEither, AgreeWhereReachedInEither}
 use Rattle.sz_spec.specs.Lineage.{related}

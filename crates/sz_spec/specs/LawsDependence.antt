@@ -138,7 +138,8 @@ ValuesDependOnReachedCells = (flow : Graph) (old new : List Grid) (n : ℕ) (o :
     → CanRun flow old → extents_of old ≡ extents_of new
     → holds (extent_of (evaluations flow old) n) o ≡ true
     → PassesNoRegions flow n → AgreeWhereReached flow n o old new
-    → value_at (input_at (evaluations flow old) n) o ≡ value_at (input_at (evaluations flow new) n) o
+    → value_at (input_at (evaluations flow old) n) o
+    ≡ value_at (input_at (evaluations flow new) n) o
 
 -- a step leads back in the old evaluation or in the new one
 abbrev pub LeadsInEither : Graph → List Grid → List Grid → Step → Cell → Cell → Type 0
@@ -159,4 +160,5 @@ ValuesDependOnCellsReachedInEither = (flow : Graph) (old new : List Grid) (n : �
     → CanRun flow old → extents_of old ≡ extents_of new
     → holds (extent_of (evaluations flow old) n) o ≡ true
     → AgreeWhereReachedInEither flow n o old new
-    → value_at (input_at (evaluations flow old) n) o ≡ value_at (input_at (evaluations flow new) n) o
+    → value_at (input_at (evaluations flow old) n) o
+    ≡ value_at (input_at (evaluations flow new) n) o

@@ -6,7 +6,8 @@
 //! inputs, and [`shape_of`] tells the shape of its output alone, [`output_shapes`] those of all
 //! outputs of a flow. The lineage of an operator is a relation between the cells of its output and
 //! those of its inputs. [`supports`] tells by which [`Strategy`] it can be kept, [`way`] which of
-//! several a query step goes by, and a [`Mapper`] gives the part of it that is known without values.
+//! several a query step goes by, and a [`Mapper`] gives the part of it that is known without
+//! values.
 //!
 //! A flow of one base array and two nodes, of which the second takes the first one's output and the
 //! base array:

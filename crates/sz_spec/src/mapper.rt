@@ -35,9 +35,9 @@ pub trait Mapper {
         ensures { let s = site self.now in to.new ≡ with_those to.old
             (λ o. mapped s.op s.ins input o cell) };
 
-    /// Adds the cells of an input that a payload of an output cell stands for. An operator that has a
-    /// mapping has no payload, and leaves the set as it was. Of bytes that are no payload of another
-    /// operator's nothing is said but that the set keeps its shape. Takes no memory.
+    /// Adds the cells of an input that a payload of an output cell stands for. An operator that has
+    /// a mapping has no payload, and leaves the set as it was. Of bytes that are no payload of
+    /// another operator's nothing is said but that the set keeps its shape. Takes no memory.
     fn map_p_into(&self, out: Cell, payload: &[u8], input: u32, to: &mut CellBits)
         requires out { holds (site self.now).out out ≡ true }
         requires input { input < length (site self.now).ins }
