@@ -34,7 +34,7 @@ use std::alloc::Global;
 use std::marker::Model;
 use std::sync::Arc;
 use sz_cells::{NoMemory, Shape};
-use sz_script::{BaseName, Command, LineFault, Name, PathStep, NamedCell, Refusal, StrategyList};
+use sz_script::{BaseName, Command, LineFault, Name, NamedCell, PathStep, Refusal, StrategyList};
 use sz_spec::{Array, Dir, Flow, Strategy, output_shapes};
 
 /// Everything held: arrays and flows by name, and versions by number.

@@ -6,8 +6,8 @@ ghost use Rattle.std.specs.Result.{result_err};
 ghost use Rattle.sz_spec.specs.declared.modes.Strategy.TheVariants as strategy;
 ghost use Rattle.sz_spec.specs.FlowShapes.{output_shapes};
 ghost use Rattle.sz_catalogue.specs.Holdings.{shapes_of, output_cells};
-ghost use Rattle.sz_catalogue.specs.Rules.{are_lists_for};
-ghost use Rattle.sz_catalogue.specs.Changes.{changes_without_start};
+ghost use Rattle.sz_script.specs.Right.{is_right};
+ghost use Rattle.sz_catalogue.specs.Rules.{are_lists_for, judged};
 
 use crate::shapes::cells_of;
 use crate::version::base_shapes;
@@ -15,29 +15,12 @@ use crate::{BaseArray, BaseArrays, Catalogue, HeldVersion, Reply, StrategyLists,
 use std::alloc::Global;
 use std::sync::Arc;
 use std::test::Fail;
-use sz_cells::{Cell, CellSet, Shape};
+use sz_cells::{Cell, CellSet, NoMemory, Shape};
 use sz_script::{Command, LineFault, Name, StrategyList, read_line};
 use sz_spec::{Array, Flow, Node, Strategy, output_shapes};
 
 /// A catalogue that keeps nothing with its versions.
 type Held = Catalogue<()>;
-
-/// Whether a command changes what is held and starts no version.
-fn changes(command: &Command) -> bool
-    ensures { result ≡ changes_without_start command.now }
-{
-    match command {
-        Command::Array { .. } => true,
-        Command::Layers { .. } => true,
-        Command::Flow { .. } => true,
-        Command::Strategy { .. } => true,
-        Command::Start { .. } => false,
-        Command::Await { .. } => true,
-        Command::Ask { .. } => false,
-        Command::Explain { .. } => false,
-        Command::Show { .. } => false,
-    }
-}
 
 /// Reads a line, judges its command and takes it. A reply to a line that changes nothing is that it
 /// is done.
@@ -53,12 +36,26 @@ fn take(alloc: Global, held: &mut Held, line: &[u8]) -> Result<Reply, Fail> {
         Err(LineFault::Refused(rule)) => return Ok(Reply::Refused(rule)),
         Err(LineFault::NoMemory) => return Err(Fail::from("no memory")),
     }
-    if changes(&command) {
-        return Ok(held.accept(command)?);
-    }
+    Ok(accept(held, command)?)
+}
+
+/// Takes a command that no rule refuses.
+fn accept(held: &mut Held, command: Command) -> Result<Reply, NoMemory>
+    requires right { is_right command ≡ true }
+    requires judged { judged held.old command ≡ None }
+{
     match command {
-        Command::Start { name, base } => Ok(held.start(name, base.as_slice(), ())?),
-        _ => Ok(Reply::Done { version: 0 }),
+        Command::Array { name, array } => held.accept(Command::Array { name, array }),
+        Command::Layers { name, array } => held.accept(Command::Layers { name, array }),
+        Command::Flow { name, flow } => held.accept(Command::Flow { name, flow }),
+        Command::Strategy { name, node, list } => {
+            held.accept(Command::Strategy { name, node, list })
+        }
+        Command::Start { name, base } => held.start(name, base.as_slice(), ()),
+        Command::Await { version } => held.accept(Command::Await { version }),
+        Command::Ask { .. } => Ok(Reply::Done { version: 0 }),
+        Command::Explain { .. } => Ok(Reply::Done { version: 0 }),
+        Command::Show { .. } => Ok(Reply::Done { version: 0 }),
     }
 }
 
@@ -91,24 +88,43 @@ fn fill(alloc: Global, held: &mut Held) -> Result<(), Fail> {
     Ok(())
 }
 
+/// Whether the last array and the last version that can be held are, and no further one.
+fn holds_the_last(alloc: Global, held: &mut Held) -> Result<bool, Fail> {
+    let array = br#"{"array":"a","cells":[[5]]}"#;
+    let start = br#"{"start":"f7","base":[["a",1]]}"#;
+    let last_array = says(alloc, held, array, "7 array a 4096\n")?;
+    let no_array = says(alloc, held, array, "7 refused 7\n")?;
+    let last_version = says(alloc, held, start, "7 started 4096\n")?;
+    let no_version = says(alloc, held, start, "7 refused 14\n")?;
+    Ok(last_array && no_array && last_version && no_version)
+}
+
+/// Whether the last flow that can be held is, and no further one.
+fn holds_the_last_flow(alloc: Global, held: &mut Held) -> Result<bool, Fail> {
+    let line = flow_line(alloc, 1_023)?;
+    let last = says(alloc, held, line.as_bytes(), "7 flow f1023\n")?;
+    let line = flow_line(alloc, 1_024)?;
+    let next = says(alloc, held, line.as_bytes(), "7 refused 9\n")?;
+    Ok(last && next)
+}
+
 #[test]
 fn the_last_array_flow_and_version_is_held(rt: HostRuntime) -> Result<(), Fail> {
     let alloc = rt.alloc();
     let mut held = Held::new(alloc);
     fill(alloc, &mut held)?;
-    let array = br#"{"array":"a","cells":[[5]]}"#;
-    assert!(rt; says(alloc, &mut held, array, "7 array a 4096\n")?);
-    assert!(rt; says(alloc, &mut held, array, "7 refused 7\n")?);
-    let again = flow_line(alloc, 7)?;
-    assert!(rt; says(alloc, &mut held, again.as_bytes(), "7 refused 9\n")?);
-    let last = flow_line(alloc, 1_023)?;
-    assert!(rt; says(alloc, &mut held, last.as_bytes(), "7 flow f1023\n")?);
-    let next = flow_line(alloc, 1_024)?;
-    assert!(rt; says(alloc, &mut held, next.as_bytes(), "7 refused 9\n")?);
-    let start = br#"{"start":"f7","base":[["a",1]]}"#;
-    assert!(rt; says(alloc, &mut held, start, "7 started 4096\n")?);
-    assert!(rt; says(alloc, &mut held, start, "7 refused 14\n")?);
+    assert!(rt; holds_the_last(alloc, &mut held)?);
+    assert!(rt; holds_the_last_flow(alloc, &mut held)?);
     Ok(())
+}
+
+/// A catalogue with an array `a` of one cell, and a flow `f` of one negation.
+fn with_flow(alloc: Global) -> Result<Held, Fail> {
+    let mut held = Held::new(alloc);
+    let flow = br#"{"flow":"f","inputs":1,"nodes":[{"op":"neg","from":[{"i":0}]}]}"#;
+    let _array = take(alloc, &mut held, br#"{"array":"a","cells":[[5]]}"#)?;
+    let _flow = take(alloc, &mut held, flow)?;
+    Ok(held)
 }
 
 /// The version of the flow `f` of one node on the first array of `a`, by black box and awaited.
@@ -199,35 +215,49 @@ fn is_added(version: Option<&HeldVersion<()>>) -> bool {
     }
 }
 
-#[test]
-fn a_session_is_held(rt: HostRuntime) -> Result<(), Fail> {
-    let alloc = rt.alloc();
-    let mut held = Held::new(alloc);
-    let array = br#"{"array":"a","cells":[[5,6]]}"#;
-    let flow = br#"{"flow":"f","inputs":1,"nodes":[{"op":"neg","from":[{"i":0}]}]}"#;
+/// Whether strategies are set, a version is started and awaited, and a cell outside is refused.
+fn runs(alloc: Global, held: &mut Held) -> Result<bool, Fail> {
     let list = br#"{"strategy":"f","node":0,"list":["blackbox"]}"#;
     let start = br#"{"start":"f","base":[["a",1]]}"#;
     let outside = br#"{"ask":1,"dir":"back","path":[[0,0]],"cells":[[1,1]]}"#;
-    let explain = br#"{"explain":7,"dir":"back","path":[[0,0]],"cells":[]}"#;
-    assert!(rt; says(alloc, &mut held, array, "7 array a 1\n")?);
-    assert!(rt; says(alloc, &mut held, array, "7 array a 2\n")?);
-    assert!(rt; says(alloc, &mut held, flow, "7 flow f\n")?);
-    assert!(rt; says(alloc, &mut held, list, "7 strategy f 0\n")?);
-    assert!(rt; says(alloc, &mut held, start, "7 started 1\n")?);
-    assert!(rt; says(alloc, &mut held, br#"{"await":1}"#, "7 done 1\n")?);
-    assert!(rt; says(alloc, &mut held, outside, "7 refused 17\n")?);
-    assert!(rt; held.flow("f").is_some() && held.flow("a").is_none());
-    assert!(rt; held.array("a", 2).is_some() && held.array("a", 3).is_none());
-    assert!(rt; held.version(1).is_some() && held.version(2).is_none());
-    assert!(rt; held.has_room(4_194_298) && !held.has_room(4_194_299));
-    add(alloc, &mut held, 7)?;
-    assert!(rt; is_added(held.version(7)) && held.version(2).is_none());
-    assert!(rt; held.has_room(4_194_296) && !held.has_room(4_194_297));
-    assert!(rt; says(alloc, &mut held, explain, "7 done 0\n")?);
-    assert!(rt; says(alloc, &mut held, start, "7 started 8\n")?);
-    add(alloc, &mut held, 4_294_967_294)?;
-    assert!(rt; says(alloc, &mut held, start, "7 started 4294967295\n")?);
-    assert!(rt; says(alloc, &mut held, start, "7 refused 14\n")?);
+    let set = says(alloc, held, list, "7 strategy f 0\n")?;
+    let started = says(alloc, held, start, "7 started 1\n")?;
+    let awaited = says(alloc, held, br#"{"await":1}"#, "7 done 1\n")?;
+    let refused = says(alloc, held, outside, "7 refused 17\n")?;
+    Ok(set && started && awaited && refused)
+}
+
+/// Whether what is held is found, and nothing else.
+fn finds(held: &Held) -> bool {
+    held.flow("f").is_some()
+        && held.flow("a").is_none()
+        && held.array("a", 1).is_some()
+        && held.array("a", 2).is_none()
+        && held.version(1).is_some()
+        && held.version(2).is_none()
+        && held.has_room(4_194_302)
+        && !held.has_room(4_194_303)
+}
+
+/// Whether the next number is behind the greatest.
+fn counts_on(alloc: Global, held: &mut Held) -> Result<bool, Fail> {
+    let start = br#"{"start":"f","base":[["a",1]]}"#;
+    add(alloc, held, 7)?;
+    let is_held = is_added(held.version(7));
+    let next = says(alloc, held, start, "7 started 8\n")?;
+    add(alloc, held, 4_294_967_294)?;
+    let last = says(alloc, held, start, "7 started 4294967295\n")?;
+    let none = says(alloc, held, start, "7 refused 14\n")?;
+    Ok(is_held && next && last && none)
+}
+
+#[test]
+fn a_session_is_held(rt: HostRuntime) -> Result<(), Fail> {
+    let alloc = rt.alloc();
+    let mut held = with_flow(alloc)?;
+    assert!(rt; runs(alloc, &mut held)?);
+    assert!(rt; finds(&held));
+    assert!(rt; counts_on(alloc, &mut held)?);
     Ok(())
 }
 

@@ -20,7 +20,7 @@ use crate::shapes::cells_of;
 use crate::strategies::{is_list_of, names_a_store};
 use std::alloc::Global;
 use sz_cells::{NoMemory, Shape};
-use sz_script::{BaseName, Command, LineFault, PathStep, NamedCell, Refusal};
+use sz_script::{BaseName, Command, LineFault, NamedCell, PathStep, Refusal};
 use sz_spec::{Array, Dir, Flow, Strategy, output_shapes};
 
 impl<K: Carried> Catalogue<K> {
