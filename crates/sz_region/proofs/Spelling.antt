@@ -18,7 +18,7 @@ use Rattle.sz_cells.specs.SetBytes.{run_bytes, four_bytes, set_bytes, BeginsSet}
 use Rattle.sz_cells.specs.SetWords.{runs_spelled}
 use Rattle.sz_cells.proofs.Runs.{runs_of-longest, runs-length, runs_of-spelled, runs-rising}
 use Rattle.sz_cells.proofs.LawsOfSets.{split-same, begins-one}
-use Rattle.sz_spec.proofs.SetWords.{runs-back}
+use Rattle.sz_cells.proofs.SetWords.{runs-back}
 use Rattle.sz_region.specs.Taking.{number_at, run_at, runs_bytes, HasBody, HasNoRuns, NoneBegins}
 use Rattle.sz_region.specs.Laws.{WrittenSetsAreRead}
 
