@@ -21,11 +21,11 @@ bytes-alone : filter (λ b. is_name (b ∷ [])) bytes ≡ name_bytes
 bytes-alone = refl
 
 -- none of these stands first, between or last in a name: a full stop, a minus, a blank, a tab, a form feed, a slash
-bytes-refused : list_all (λ b. not (is_name (b ∷ codes "ab")) ) (46 ∷ 45 ∷ 32 ∷ 9 ∷ 12 ∷ 47 ∷ []) ≡ true
+bytes-refused : list_all (λ b. not (is_name (b ∷ codes "ab"))) (46 ∷ 45 ∷ 32 ∷ 9 ∷ 12 ∷ 47 ∷ []) ≡ true
 bytes-refused = refl
 
-bytes-refused_between : list_all (λ b. not (is_name (97 ∷ b ∷ codes "b")) ) (46 ∷ 45 ∷ 32 ∷ 9 ∷ 12 ∷ 47 ∷ []) ≡ true
+bytes-refused_between : list_all (λ b. not (is_name (97 ∷ b ∷ codes "b"))) (46 ∷ 45 ∷ 32 ∷ 9 ∷ 12 ∷ 47 ∷ []) ≡ true
 bytes-refused_between = refl
 
-bytes-refused_last : list_all (λ b. not (is_name (codes "ab" ++ b ∷ [])) ) (46 ∷ 45 ∷ 32 ∷ 9 ∷ 12 ∷ 47 ∷ []) ≡ true
+bytes-refused_last : list_all (λ b. not (is_name (codes "ab" ++ b ∷ []))) (46 ∷ 45 ∷ 32 ∷ 9 ∷ 12 ∷ 47 ∷ []) ≡ true
 bytes-refused_last = refl

@@ -2,7 +2,7 @@
 
 ghost use Rattle.std.specs.Prelude.{◌≡◌};
 
-use crate::lists::{BaseList, Path, NamedCells, StrategyList};
+use crate::lists::{BaseList, NamedCells, Path, StrategyList};
 use crate::name::Name;
 use crate::refusal::Refusal;
 use std::alloc::{AllocError, AllocFailed};

@@ -31,8 +31,8 @@ mod refusal;
 mod tests;
 mod words;
 
-pub use command::{BaseName, Command, LineFault, PathStep, NamedCell};
-pub use lists::{BaseList, Path, NamedCells, StrategyList};
+pub use command::{BaseName, Command, LineFault, NamedCell, PathStep};
+pub use lists::{BaseList, NamedCells, Path, StrategyList};
 pub use name::Name;
 pub use reading::{LINE_LIMIT, read_line};
 pub use refusal::{Printed, Refusal};

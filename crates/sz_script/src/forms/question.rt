@@ -6,8 +6,8 @@ ghost use Rattle.sz_script.specs.Fields.{each_of, at};
 ghost use Rattle.sz_script.specs.Words.{dir_in};
 ghost use Rattle.sz_script.specs.Questions.{question_in, step_in, named_cell_in, named_cell_at};
 
-use crate::command::{PathStep, NamedCell};
-use crate::lists::{Path, NamedCells};
+use crate::command::{NamedCell, PathStep};
+use crate::lists::{NamedCells, Path};
 use crate::{fields, words};
 use serde_json::Value;
 use std::alloc::{AllocError, Global};
