@@ -84,7 +84,8 @@ unfolding digits
 set-box = refl
 
 explain-box : says
-    (after held (command.Strategy f 0 (strategy.BlackBox ∷ []) ∷ command.Start f (base a 1 ∷ []) ∷ command.Await 1 ∷ []))
+    (after held (command.Strategy f 0 (strategy.BlackBox ∷ []) ∷ command.Start f (base a 1 ∷ [])
+    ∷ command.Await 1 ∷ []))
     (command.Explain 1 Forward (step 0 0 ∷ []) (named 0 0 0 ∷ []))
     ≡ codes "explain blackbox traced 1"
 unfolding digits
@@ -375,7 +376,10 @@ choose-last_full = refl
 
 abbrev layers : Holdings
 layers = after no_holdings
-    (command.Layers a (record { extent = layered 2 1 2; values = Some (pos 1) ∷ Some (pos 2) ∷ Some (pos 3) ∷ None ∷ [] })
+    (command.Layers a (record {
+      extent = layered 2 1 2;
+      values = Some (pos 1) ∷ Some (pos 2) ∷ Some (pos 3) ∷ None ∷ [];
+    })
     ∷ command.Flow f negation ∷ command.Start f (base a 1 ∷ []) ∷ [])
 
 show-layers : says layers (command.Show 1 0) ≡ codes "layers 2 1 2 -1 -2 -3 -"

@@ -2,17 +2,15 @@
 --
 -- The key idea: a node of a well-formed flow takes base arrays, of which there are as many as the flow takes, and the
 -- outputs of earlier nodes, of which there is one for each node.
-use Rattle.std.proofs.Common.{◌≡◌, ℕ, ◌<◌, true, List, [], ◌∷◌, length, map, Option, Some, None, refl, sym, ap, ◌∙◌}
-use Rattle.std.proofs.Common.{subst, arith, unwrap_or, option_and_then, option_map, zero, suc, All}
+use Rattle.std.proofs.Common.{◌≡◌, ℕ, ◌<◌, true, List, [], length, Option, Some, sym, ap, ◌∙◌}
+use Rattle.std.proofs.Common.{arith, unwrap_or, option_map}
 use Rattle.std.specs.List.{slice_get}
 use Rattle.std.specs.Result.{result_unwrap_or}
 use Rattle.std.specs.Prelude.{Result}
-use Rattle.std.proofs.lemmas.Bool.Decides.{nat_tests}
 use Rattle.sz_cells.specs.Extent.{Extent}
 use Rattle.sz_spec.specs.Values.{extent_at}
 use Rattle.sz_spec.specs.declared.flow.Node.{Node}
 use Rattle.sz_spec.specs.declared.flow.SourceRef.{SourceRef}
-use Rattle.sz_spec.specs.declared.flow.SourceRef.TheVariants as source
 use Rattle.sz_spec.specs.Flows.{is_source}
 use Rattle.sz_spec.specs.FlowShapes.{node_inputs, source_shape}
 use Rattle.sz_spec.specs.Paths.{Step, source_of}

@@ -12,8 +12,8 @@ use Rattle.sz_spec.specs.declared.modes.Strategy.TheVariants as strategy
 use Rattle.sz_script.specs.Names.{is_name}
 use Rattle.sz_script.specs.Right.{names_in, fault_in, is_right}
 use Rattle.sz_script.specs.Words.{name_of_strategy, strategy_named}
-use Rattle.sz_script.specs.Drafts.{Draft, has_bad_name, has_bad_cells, has_too_many_cells, unless_fault, reading_of_draft}
-use Rattle.sz_script.specs.Drafts.{reading_of_form}
+use Rattle.sz_script.specs.Drafts.{Draft, has_bad_name, has_bad_cells, has_too_many_cells, unless_fault}
+use Rattle.sz_script.specs.Drafts.{reading_of_draft, reading_of_form}
 use Rattle.sz_script.specs.Forms.{draft_of}
 use Rattle.sz_script.specs.Reading.{line_limit, json_of, reading_of_json, reading}
 use Rattle.sz_script.specs.Laws.{Says, PassesUpToFlow, is_of_lines}

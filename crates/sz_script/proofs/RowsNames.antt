@@ -1,8 +1,7 @@
 -- Rows of the bytes of names: of all 256, those that may stand in one, and those that are a name alone. Both lists are
 -- written out by hand.
-use Rattle.std.specs.Prelude.{◌≡◌, ℕ, List, [], ◌∷◌, ◌++◌, filter, map, codes, true}
+use Rattle.std.specs.Prelude.{◌≡◌, ℕ, List, [], ◌∷◌, ◌++◌, filter, codes, true, not}
 use Rattle.std.specs.List.{range_with_len, list_all}
-use Rattle.std.specs.Prelude.{not}
 use Rattle.std.proofs.Common.{refl}
 use Rattle.sz_script.specs.Names.{is_name_byte, is_name}
 
