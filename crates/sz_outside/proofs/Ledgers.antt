@@ -1,17 +1,13 @@
 -- What each call of a station in memory tells. The key idea: whether it found memory or not, its history is the one
 -- before, with the call or without, and that is all that its disk, what was said and its stops depend on.
-use Rattle.std.proofs.Common.{◌≡◌, ◌⊎◌, inl, inr, ⊎_elim, ℕ, ◌+◌, ◌-◌, ◌^◌, ◌≤◌, min, List, [], ◌++◌, length, take, drop}
-use Rattle.std.proofs.Common.{Result, Ok, Err, OnOk, OnErr, Bool, true, false, is_ok, not, ◌&&◌, Some}
-use Rattle.std.proofs.Common.{refl, sym, ap, ◌∙◌, subst, arith}
-use Rattle.sz_outside.specs.Disk.{Passes, Said, SaidPart, Same, Torn, Cut, Only, written}
-use Rattle.sz_outside.specs.Outside.{Says, SaysPart}
-use Rattle.sz_outside.specs.Counts.{count_after, faults_after}
-use Rattle.sz_outside.specs.History.{step_of, scene_after, MayLeave}
+use Rattle.std.proofs.Common.{◌≡◌, ◌⊎◌, inl, inr, ℕ, List}
+use Rattle.std.proofs.Common.{Result, Ok, Err, OnOk, OnErr, Bool, true, false, is_ok, ◌&&◌, Some}
+use Rattle.std.proofs.Common.{refl, sym, ap, ◌∙◌, subst}
+use Rattle.sz_outside.specs.History.{step_of, scene_after}
 use Rattle.sz_outside.specs.Memory.{Past, Ledger, now, noted, disk_of, said_of, PassesIn}
 use Rattle.sz_outside.specs.declared.history.Act.{Act}
-use Rattle.sz_outside.specs.declared.history.Act.TheVariants as act
 use Rattle.sz_outside.proofs.Scenes.{event, Fits, Found, From, same_disk, same_said, from_call, said_stays}
-use Rattle.sz_outside.proofs.Scenes.{disk_stays, now_noted, said_after, disk_after}
+use Rattle.sz_outside.proofs.Scenes.{disk_stays, now_noted}
 
 was_done : {T E V W N P : Type 0} (r : Result T E) (res : Result V W) (d : Bool) → is_ok res ≡ (d && is_ok r)
     → (d ≡ true → N → P) → OnOk r N → OnOk res P
@@ -53,12 +49,15 @@ module _ {T E : Type 0} (r : Result T E) (old new : Ledger) (h q : Past) (a : Ac
   pub done : {V W P : Type 0} (res : Result V W) → is_ok res ≡ (d && is_ok r)
       → (now new.past ≡ scene_after (now old.past) (event a bytes true) → P) → OnOk res P
   done res answer then = was_done r res d answer
-      (λ d_is added. then (ap now is ∙ now_noted old.past q a bytes true (added ∙ ap (λ (b : Bool). noted old.past a bytes b) d_is)))
+      (λ d_is added. then (ap now is ∙ now_noted old.past q a bytes true
+      (added ∙ ap (λ (b : Bool). noted old.past a bytes b) d_is)))
       noted_old
 
   pub undone : {V W P : Type 0} (res : Result V W) → is_ok res ≡ (d && is_ok r)
-      → (now new.past ≡ scene_after (now old.past) (event a bytes false) ⊎ now new.past ≡ now old.past → P) → OnErr res P
+      → (now new.past ≡ scene_after (now old.past) (event a bytes false) ⊎ now new.past ≡ now old.past → P)
+      → OnErr res P
   undone res answer then = was_not_done r res d answer
-      (λ d_is added. then (inl (ap now is ∙ now_noted old.past q a bytes false (added ∙ ap (λ (b : Bool). noted old.past a bytes b) d_is))))
+      (λ d_is added. then (inl (ap now is ∙ now_noted old.past q a bytes false
+      (added ∙ ap (λ (b : Bool). noted old.past a bytes b) d_is))))
       (λ kept. then (inr (ap now is ∙ ap now kept)))
       noted_old kept_old

@@ -1,6 +1,6 @@
 -- One call more. The key idea: what there is after some calls and one more is what that call makes of what there is
 -- after them, so each fact on a call is one on a scene and its next.
-use Rattle.std.proofs.Common.{◌≡◌, ◌⊎◌, inl, inr, ⊎_elim, ℕ, zero, suc, ◌+◌, ◌-◌, ◌≤◌, min, max}
+use Rattle.std.proofs.Common.{◌≡◌, ◌⊎◌, inl, inr, ⊎_elim, ℕ, zero, suc, ◌+◌, ◌-◌, ◌≤◌, min}
 use Rattle.std.proofs.Common.{List, [], ◌∷◌, ◌++◌, Result, Ok, Err, OnOk, OnErr, is_err, Bool, true, false}
 use Rattle.std.proofs.Common.{refl, sym, ap, ◌∙◌, subst, length, take, drop, replicate, arith}
 use Rattle.std.proofs.Common.{length-append, length-drop}
@@ -89,8 +89,12 @@ pub steps : (s : Scene) (a : Act) (bytes : List ℕ) (d : Bool) → Fits a s →
     → MayLeave (scene_after s (event a bytes d)) image → Follows (step_of (event a bytes d) a) (MayLeave s) image
 steps s act.Look bytes true fits image left = (image, left, refl)
 steps s act.Look bytes false fits image left = (image, left, refl)
-steps s (act.Write at) bytes true fits image (inl read) =
-    (s.disk, inl refl, subst (λ (l : List ℕ). Torn at (length bytes) s.disk l) (sym read) (torn_written s.disk at bytes fits))
+steps s (act.Write at) bytes true fits image (inl read) = (
+  s.disk,
+  inl refl,
+  subst (λ (l : List ℕ). Torn at (length bytes) s.disk l) (sym read)
+      (torn_written s.disk at bytes fits),
+)
 steps s (act.Write at) bytes true fits image (inr (old, was, torn)) = (old, inr was, torn)
 steps s (act.Write at) bytes false fits image (inl read) = (image, inl read, torn_self at (length bytes) image)
 steps s (act.Write at) bytes false fits image (inr (old, was, torn)) = (old, inr was, torn)
@@ -275,7 +279,8 @@ disk_after s (act.Cut size) bytes d same = absurd same
 pub said_stays : {T E : Type 0} (r : Result T E) (p q : Past) (a : Act) (bytes : List ℕ) (d : Bool) → same_said a
     → OnOk r (q ≡ noted p a bytes d) → OnErr r (q ≡ p) → (now q).said ≡ (now p).said
 said_stays (Ok x) p q a bytes d not_say ok err =
-    ap (λ (t : Past). (now t).said) ok ∙ ap (λ (t : Scene). t.said) (scene_last (scene_before p.start) p.events (event a bytes d))
+    ap (λ (t : Past). (now t).said) ok ∙ ap (λ (t : Scene). t.said)
+    (scene_last (scene_before p.start) p.events (event a bytes d))
     ∙ said_after (now p) a bytes d not_say
 said_stays (Err x) p q a bytes d not_say ok err = ap (λ (t : Past). (now t).said) err
 
@@ -283,7 +288,8 @@ said_stays (Err x) p q a bytes d not_say ok err = ap (λ (t : Past). (now t).sai
 pub disk_stays : {T E : Type 0} (r : Result T E) (p q : Past) (a : Act) (bytes : List ℕ) (d : Bool) → same_disk a
     → OnOk r (q ≡ noted p a bytes d) → OnErr r (q ≡ p) → (now q).disk ≡ (now p).disk
 disk_stays (Ok x) p q a bytes d same ok err =
-    ap (λ (t : Past). (now t).disk) ok ∙ ap (λ (t : Scene). t.disk) (scene_last (scene_before p.start) p.events (event a bytes d))
+    ap (λ (t : Past). (now t).disk) ok ∙ ap (λ (t : Scene). t.disk)
+    (scene_last (scene_before p.start) p.events (event a bytes d))
     ∙ disk_after (now p) a bytes d same
 disk_stays (Err x) p q a bytes d same ok err = ap (λ (t : Past). (now t).disk) err
 
@@ -313,7 +319,8 @@ even_after : (s : Scene) (a : Act) (bytes : List ℕ) (d : Bool) → length s.on
     → length (scene_after s (event a bytes d)).ones ≡ length (scene_after s (event a bytes d)).disk
 even_after s act.Look bytes true even = even
 even_after s act.Look bytes false even = even
-even_after s (act.Write at) bytes true even = even_written s.ones s.disk at (replicate (length bytes) 1) bytes even (length-replicate (length bytes) 1)
+even_after s (act.Write at) bytes true even = even_written s.ones s.disk at (replicate (length bytes) 1) bytes even
+    (length-replicate (length bytes) 1)
 even_after s (act.Write at) bytes false even = even_marked s.ones at (length bytes) ∙ even
 even_after s (act.Cut size) bytes true even = even_cut s.ones s.disk size even
 even_after s (act.Cut size) bytes false even = even

@@ -1,7 +1,7 @@
 -- What a station in memory was asked for, and what its disk and its output were after each call.
-use Rattle.std.specs.Prelude.{◌≡◌, ◌⊎◌, ℕ, zero, suc, ◌+◌, ◌≤◌, Bool, true, false}
+use Rattle.std.specs.Prelude.{◌≡◌, ◌⊎◌, ℕ, zero, suc, ◌≤◌, Bool}
 use Rattle.std.specs.Prelude.{if◌then◌else◌, List, [], ◌∷◌, ◌++◌, length, take, replicate}
-use mathlib.Core.Logic.{inl, inr}
+use mathlib.Core.Logic.{inr}
 use Rattle.std.proofs.Common.{arith}
 use Rattle.sz_outside.specs.Disk.{written, Torn, Cut, Same, Follows}
 use Rattle.sz_outside.specs.declared.history.Act.{Act}

@@ -1,5 +1,6 @@
 //! What a station in memory was asked for, and what its disk and its output are.
-ghost use Rattle.std.specs.Prelude.{◌≡◌, ◌≤◌, ◌++◌, ◌∷◌, ℕ, [], List, Bool, true, length, replicate};
+ghost use Rattle.std.specs.Prelude.{◌≡◌, ◌≤◌, ◌++◌, ◌∷◌, ℕ, [], List, Bool, true, length};
+ghost use Rattle.std.specs.Prelude.{replicate};
 ghost use Rattle.std.specs.Prelude.{IfOk, OnOk, OnErr};
 ghost use Rattle.sz_outside.specs.Disk.{written};
 ghost use Rattle.sz_outside.specs.History.{Event, scene_at, scene_before};

@@ -1,5 +1,6 @@
 //! Where bytes come from: what a source is, and the two in memory.
-ghost use Rattle.std.specs.Prelude.{◌≡◌, ◌≤◌, ◌++◌, ℕ, List, Option, None, Some, Ok, IfOk, OnOk, OnErr};
+ghost use Rattle.std.specs.Prelude.{◌≡◌, ◌≤◌, ◌++◌, ℕ, List, Option, None, Some, Ok, IfOk, OnOk};
+ghost use Rattle.std.specs.Prelude.{OnErr};
 ghost use Rattle.std.specs.Prelude.{length, take, drop, is_err};
 ghost use Rattle.sz_outside.specs.Outside.{Rose, Stood, Gives, Keeps};
 ghost use Rattle.sz_outside.specs.Memory.{bytes_given, fails_next, tape_after, supply_after};

@@ -42,7 +42,8 @@ pub trait Station {
     /// How many bytes the disk has.
     fn size(&mut self) -> Result<u64, Failed>
         ensures size { IfOk result (λ n. HasSize (disk self.old) n) }
-        ensures counted { disk_faults self.new ≡ faults_after (disk_faults self.old) (is_ok result) }
+        ensures counted { disk_faults self.new
+            ≡ faults_after (disk_faults self.old) (is_ok result) }
         ensures disk { disk self.new ≡ disk self.old }
         ensures output { (said self.new ≡ said self.old)
             × (say_faults self.new ≡ say_faults self.old) }
@@ -56,7 +57,8 @@ pub trait Station {
         ensures bound { IfOk result (λ n. n ≤ length into.new) }
         ensures bytes { IfOk result (λ n.
             GivesAt (disk self.old) at (length into.old) into.new n) }
-        ensures counted { disk_faults self.new ≡ faults_after (disk_faults self.old) (is_ok result) }
+        ensures counted { disk_faults self.new
+            ≡ faults_after (disk_faults self.old) (is_ok result) }
         ensures disk { disk self.new ≡ disk self.old }
         ensures output { (said self.new ≡ said self.old)
             × (say_faults self.new ≡ say_faults self.old) }
@@ -71,19 +73,22 @@ pub trait Station {
         requires place { HasPlace (disk self.old) at }
         ensures written { OnOk result (Writes (disk self.old) (disk self.new) at bytes.now) }
         ensures limit { OnOk result (at + length bytes.now < 2 ^ 62) }
-        ensures counted { disk_faults self.new ≡ faults_after (disk_faults self.old) (is_ok result) }
+        ensures counted { disk_faults self.new
+            ≡ faults_after (disk_faults self.old) (is_ok result) }
         ensures output { (said self.new ≡ said self.old)
             × (say_faults self.new ≡ say_faults self.old) }
         ensures stops { Told (disk self.old) (
             Passes (moment self.old) (moment self.new) (left_since self.old) (left_since self.new)
-            (may_leave self.old) (may_leave self.new) (TornBy at (length bytes.now)) (Said (said self.old))) };
+            (may_leave self.old) (may_leave self.new) (TornBy at (length bytes.now))
+            (Said (said self.old))) };
 
     /// Cuts the disk to a size. Until a sync, a stop may leave the old size or the new one, also
     /// where the cut failed.
     fn cut(&mut self, size: u64) -> Result<(), Failed>
         requires place { HasPlace (disk self.old) size }
         ensures cut { OnOk result (Cuts (disk self.old) (disk self.new) size) }
-        ensures counted { disk_faults self.new ≡ faults_after (disk_faults self.old) (is_ok result) }
+        ensures counted { disk_faults self.new
+            ≡ faults_after (disk_faults self.old) (is_ok result) }
         ensures output { (said self.new ≡ said self.old)
             × (say_faults self.new ≡ say_faults self.old) }
         ensures stops { Told (disk self.old) (
@@ -93,7 +98,8 @@ pub trait Station {
     /// Puts the disk where a stop leaves what a read gives.
     fn sync(&mut self) -> Result<(), Failed>
         ensures synced { OnOk result (Only (disk self.old) (may_leave self.new)) }
-        ensures counted { disk_faults self.new ≡ faults_after (disk_faults self.old) (is_ok result) }
+        ensures counted { disk_faults self.new
+            ≡ faults_after (disk_faults self.old) (is_ok result) }
         ensures disk { disk self.new ≡ disk self.old }
         ensures output { (said self.new ≡ said self.old)
             × (say_faults self.new ≡ say_faults self.old) }
@@ -330,7 +336,8 @@ impl Station for MemStation {
         left_now (scene_before s.past.start) s.past.events image found left };
 
     ghost counts_now = { λ s t image found le may_leave is_said.
-        now_counts (scene_before s.past.start) s.past.events t image found le (may_leave, is_said) };
+        now_counts (scene_before s.past.start) s.past.events t image found le
+        (may_leave, is_said) };
 
     fn size(&mut self) -> Result<u64, Failed>
         ensures size { IfOk result (λ n. n ≡ length (disk_of self.old)) }
@@ -401,7 +408,8 @@ impl Station for MemStation {
         ensures stops { PassesIn self.old self.new (Cut size) (Said (Some (said_of self.old))) }
 
         ensures after { (is_kept : Bool)
-            × (self.new ≡ after_disk_call self.old (act.Cut size) [] (is_next_done self.old) is_kept)
+            × (self.new ≡ after_disk_call self.old (act.Cut size) []
+            (is_next_done self.old) is_kept)
             × (is_ok result ≡ (is_next_done self.old && is_kept)) }
     {
         let is_done = self.next_disk_call();

@@ -1,17 +1,22 @@
 -- What is said stands behind the rest.
-use Rattle.std.proofs.Common.{[], ◌∷◌, ◌++◌, List, ℕ, true, false, sym, ap, ◌∙◌, take, length, replicate, arith, rules}
-use Rattle.sz_outside.specs.Disk.{written}
-use Rattle.sz_outside.specs.Memory.{Past, now}
-use Rattle.sz_outside.specs.History.{scene_before, scene_at}
+use Rattle.std.proofs.Common.{◌++◌, List, ℕ, true, false, sym, ap, ◌∙◌}
+use Rattle.sz_outside.specs.History.{scene_before}
 use Rattle.sz_outside.specs.declared.history.Act.TheVariants as act
-use Rattle.sz_outside.proofs.Scenes.{shows_call, shows_next, of_done, even_now}
+use Rattle.sz_outside.proofs.Scenes.{shows_call, shows_next, of_done}
 use Rattle.sz_outside.proofs.history.History.note_say.Goals as goal
 
 pub invariant_of-self : goal.invariant_of-self
 invariant_of-self c =
     shows_call c.push_call.result (scene_before c.self.inside.start.items) c.self.inside.calls.items _
-    (record { act = act.Say; bytes = c.args.bytes.now; is_done = false }) c.push_call.ensures.ok c.push_call.ensures.err c.self.invariant
-    (record { disk = c.self.invariant.disk; said = c.self.invariant.said; synced = c.self.invariant.synced; ones = c.self.invariant.ones })
+    (record { act = act.Say; bytes = c.args.bytes.now; is_done = false }) c.push_call.ensures.ok c.push_call.ensures.err
+    c.self.invariant
+    (record {
+      disk = c.self.invariant.disk;
+      said = c.self.invariant.said;
+      synced = c.self.invariant.synced;
+      ones =
+          c.self.invariant.ones;
+    })
 
 pub invariant_of-self-else-is_err : goal.invariant_of-self-else-is_err
 invariant_of-self-else-is_err c =

@@ -1,10 +1,10 @@
 -- A write stands in the disk, where it is done, and in its marks.
-use Rattle.std.proofs.Common.{[], ◌∷◌, ◌++◌, List, ℕ, true, false, sym, ap, ◌∙◌, take, length, replicate, arith, rules}
+use Rattle.std.proofs.Common.{List, ℕ, true, false, ap, ◌∙◌, take, length, arith}
 use Rattle.sz_outside.specs.Disk.{written}
 use Rattle.sz_outside.specs.Memory.{Past, now}
 use Rattle.sz_outside.specs.History.{scene_before, scene_at}
 use Rattle.sz_outside.specs.declared.history.Act.TheVariants as act
-use Rattle.sz_outside.proofs.Scenes.{shows_call, shows_next, of_done, even_now}
+use Rattle.sz_outside.proofs.Scenes.{shows_next, even_now}
 use Rattle.sz_outside.proofs.history.History.note_write.Goals as goal
 
 -- the marked disk is as long as the disk
@@ -25,7 +25,12 @@ invariant_of-self-then-not-is_done c =
     ∙ ap (λ (l : List ℕ). take (length ones) l) marked in
     shows_next (scene_before c.self.inside.start.items) c.self.inside.calls.items _
     (record { act = act.Write c.args.at; bytes = c.args.bytes.now; is_done = false }) c.in_ok-push_call.ensures.ok
-    (record { disk = c.self.invariant.disk; said = c.self.invariant.said; synced = c.self.invariant.synced; ones = short })
+    (record {
+      disk = c.self.invariant.disk;
+      said = c.self.invariant.said;
+      synced = c.self.invariant.synced;
+      ones = short;
+    })
 
 pub invariant_of-self-2 : goal.invariant_of-self-2
 invariant_of-self-2 c =

@@ -1,41 +1,57 @@
 -- What is said stands behind the rest, and a say that failed said nothing.
-use Rattle.std.proofs.Common.{◌≡◌, ℕ, ◌≤◌, ◌++◌, List, [], ◌∷◌, Some, true, false, ⊎_elim, refl, sym, ap, ◌∙◌, subst, length, take, arith}
+use Rattle.std.proofs.Common.{ℕ, ◌≤◌, List, Some, ⊎_elim, sym, ap, ◌∙◌, subst}
+use Rattle.std.proofs.Common.{arith}
 use Rattle.std.proofs.lemmas.List.{append-nil}
-use Rattle.sz_outside.specs.Disk.{GivesAt}
-use Rattle.sz_outside.specs.History.{Scene, MayLeave}
-use Rattle.sz_outside.specs.Memory.{Past, Ledger, now, said_of, disk_of}
+use Rattle.sz_outside.specs.History.{Scene}
+use Rattle.sz_outside.specs.Memory.{Ledger, said_of}
 use Rattle.sz_outside.specs.declared.history.Act.TheVariants as act
-use Rattle.sz_outside.proofs.Ledgers.{stops, said, reads, disk, done, undone}
+use Rattle.sz_outside.proofs.Ledgers.{stops, disk, done, undone}
 use Rattle.sz_outside.proofs.stations.MemStationStation.say.Goals as goal
 
 pub returns-clause-disk : goal.returns-clause-disk
 returns-clause-disk c = (
-  disk c.note_say-kept.result c.args.self.now c.end_say.new.self c.self.inside.history c.note_say-kept.new.self (act.Say) c.args.bytes.now c.next_say-is_done.result
-      (ap (λ (s : Ledger). s.past) (c.self.view_is ∙ c.next_say-is_done.ensures.counted)) (ap (λ (s : Ledger). s.past) c.end_say.ensures.counted)
+  disk c.note_say-kept.result c.args.self.now c.end_say.new.self c.self.inside.history c.note_say-kept.new.self
+      (act.Say) c.args.bytes.now c.next_say-is_done.result
+      (ap (λ (s : Ledger). s.past) (c.self.view_is ∙ c.next_say-is_done.ensures.counted))
+      (ap (λ (s : Ledger). s.past) c.end_say.ensures.counted)
       c.note_say-kept.ensures.ok c.note_say-kept.ensures.err tt,
-  ap (λ (s : Ledger). s.disk_faults) c.end_say.ensures.counted ∙ ap (λ (s : Ledger). s.disk_faults) (c.self.view_is ∙ c.next_say-is_done.ensures.counted),
+  ap (λ (s : Ledger). s.disk_faults) c.end_say.ensures.counted ∙ ap (λ (s : Ledger). s.disk_faults)
+      (c.self.view_is ∙ c.next_say-is_done.ensures.counted),
 )
 
 pub returns-clause-stops : goal.returns-clause-stops
 returns-clause-stops c =
-    stops c.note_say-kept.result c.args.self.now c.end_say.new.self c.self.inside.history c.note_say-kept.new.self (act.Say) c.args.bytes.now c.next_say-is_done.result
-    (ap (λ (s : Ledger). s.past) (c.self.view_is ∙ c.next_say-is_done.ensures.counted)) (ap (λ (s : Ledger). s.past) c.end_say.ensures.counted)
+    stops c.note_say-kept.result c.args.self.now c.end_say.new.self c.self.inside.history c.note_say-kept.new.self
+    (act.Say) c.args.bytes.now c.next_say-is_done.result
+    (ap (λ (s : Ledger). s.past) (c.self.view_is ∙ c.next_say-is_done.ensures.counted))
+    (ap (λ (s : Ledger). s.past) c.end_say.ensures.counted)
     c.note_say-kept.ensures.ok c.note_say-kept.ensures.err tt
 
 pub returns-clause-said : goal.returns-clause-said
 returns-clause-said c =
-    done c.note_say-kept.result c.args.self.now c.end_say.new.self c.self.inside.history c.note_say-kept.new.self (act.Say) c.args.bytes.now c.next_say-is_done.result
-    (ap (λ (s : Ledger). s.past) (c.self.view_is ∙ c.next_say-is_done.ensures.counted)) (ap (λ (s : Ledger). s.past) c.end_say.ensures.counted)
+    done c.note_say-kept.result c.args.self.now c.end_say.new.self c.self.inside.history c.note_say-kept.new.self
+    (act.Say) c.args.bytes.now c.next_say-is_done.result
+    (ap (λ (s : Ledger). s.past) (c.self.view_is ∙ c.next_say-is_done.ensures.counted))
+    (ap (λ (s : Ledger). s.past) c.end_say.ensures.counted)
     c.note_say-kept.ensures.ok c.note_say-kept.ensures.err c.end_say.result c.end_say.ensures.answer
     (λ then. ap (λ (s : Scene). Some s.said) then)
 
 pub returns-clause-part : goal.returns-clause-part
 returns-clause-part c =
-    undone c.note_say-kept.result c.args.self.now c.end_say.new.self c.self.inside.history c.note_say-kept.new.self (act.Say) c.args.bytes.now c.next_say-is_done.result
-    (ap (λ (s : Ledger). s.past) (c.self.view_is ∙ c.next_say-is_done.ensures.counted)) (ap (λ (s : Ledger). s.past) c.end_say.ensures.counted)
+    undone c.note_say-kept.result c.args.self.now c.end_say.new.self c.self.inside.history c.note_say-kept.new.self
+    (act.Say) c.args.bytes.now c.next_say-is_done.result
+    (ap (λ (s : Ledger). s.past) (c.self.view_is ∙ c.next_say-is_done.ensures.counted))
+    (ap (λ (s : Ledger). s.past) c.end_say.ensures.counted)
     c.note_say-kept.ensures.ok c.note_say-kept.ensures.err c.end_say.result c.end_say.ensures.answer
-    (λ then. (0, omega arith, ap (λ (l : List ℕ). Some l) (⊎_elim (λ e. ap (λ (s : Scene). s.said) e) (λ e. ap (λ (s : Scene). s.said) e) then ∙ sym (append-nil (said_of c.args.self.now)))))
+    (λ then. (
+      0,
+      omega arith,
+      ap (λ (l : List ℕ). Some l)
+          (⊎_elim (λ e. ap (λ (s : Scene). s.said) e) (λ e. ap (λ (s : Scene). s.said) e) then ∙ sym
+          (append-nil (said_of c.args.self.now))),
+    ))
 
 pub returns-clause-faults : goal.returns-clause-faults
 returns-clause-faults c =
-    subst (λ (n : ℕ). n ≤ c.end_say.new.self.say_faults) (ap (λ (s : Ledger). s.say_faults) (c.self.view_is ∙ c.next_say-is_done.ensures.counted)) c.end_say.ensures.rises
+    subst (λ (n : ℕ). n ≤ c.end_say.new.self.say_faults)
+    (ap (λ (s : Ledger). s.say_faults) (c.self.view_is ∙ c.next_say-is_done.ensures.counted)) c.end_say.ensures.rises

@@ -1,36 +1,43 @@
 -- A sync that is done leaves the disk as read, and nothing else.
-use Rattle.std.proofs.Common.{◌≡◌, ℕ, ◌≤◌, ◌++◌, List, [], ◌∷◌, Some, true, false, ⊎_elim, refl, sym, ap, ◌∙◌, subst, length, take, arith}
-use Rattle.std.proofs.lemmas.List.{append-nil}
-use Rattle.sz_outside.specs.Disk.{GivesAt}
+use Rattle.std.proofs.Common.{[], ⊎_elim, ap, ◌∙◌, subst}
 use Rattle.sz_outside.specs.History.{Scene, MayLeave}
-use Rattle.sz_outside.specs.Memory.{Past, Ledger, now, said_of, disk_of}
+use Rattle.sz_outside.specs.Memory.{Ledger}
 use Rattle.sz_outside.specs.declared.history.Act.TheVariants as act
-use Rattle.sz_outside.proofs.Ledgers.{stops, said, reads, disk, done, undone}
+use Rattle.sz_outside.proofs.Ledgers.{stops, said, disk, done}
 use Rattle.sz_outside.proofs.stations.MemStationStation.sync.Goals as goal
 
 pub returns-clause-disk : goal.returns-clause-disk
 returns-clause-disk c =
-    disk c.note_sync-kept.result c.args.self.now c.end_disk_call.new.self c.self.inside.history c.note_sync-kept.new.self (act.Sync) [] c.next_disk_call-is_done.result
-    (ap (λ (s : Ledger). s.past) (c.self.view_is ∙ c.next_disk_call-is_done.ensures.counted)) (ap (λ (s : Ledger). s.past) c.end_disk_call.ensures.counted)
+    disk c.note_sync-kept.result c.args.self.now c.end_disk_call.new.self c.self.inside.history
+    c.note_sync-kept.new.self (act.Sync) [] c.next_disk_call-is_done.result
+    (ap (λ (s : Ledger). s.past) (c.self.view_is ∙ c.next_disk_call-is_done.ensures.counted))
+    (ap (λ (s : Ledger). s.past) c.end_disk_call.ensures.counted)
     c.note_sync-kept.ensures.ok c.note_sync-kept.ensures.err tt
 
 pub returns-clause-output : goal.returns-clause-output
 returns-clause-output c = (
-  said c.note_sync-kept.result c.args.self.now c.end_disk_call.new.self c.self.inside.history c.note_sync-kept.new.self (act.Sync) [] c.next_disk_call-is_done.result
-      (ap (λ (s : Ledger). s.past) (c.self.view_is ∙ c.next_disk_call-is_done.ensures.counted)) (ap (λ (s : Ledger). s.past) c.end_disk_call.ensures.counted)
+  said c.note_sync-kept.result c.args.self.now c.end_disk_call.new.self c.self.inside.history c.note_sync-kept.new.self
+      (act.Sync) [] c.next_disk_call-is_done.result
+      (ap (λ (s : Ledger). s.past) (c.self.view_is ∙ c.next_disk_call-is_done.ensures.counted))
+      (ap (λ (s : Ledger). s.past) c.end_disk_call.ensures.counted)
       c.note_sync-kept.ensures.ok c.note_sync-kept.ensures.err tt,
-  ap (λ (s : Ledger). s.say_faults) c.end_disk_call.ensures.counted ∙ ap (λ (s : Ledger). s.say_faults) (c.self.view_is ∙ c.next_disk_call-is_done.ensures.counted),
+  ap (λ (s : Ledger). s.say_faults) c.end_disk_call.ensures.counted ∙ ap (λ (s : Ledger). s.say_faults)
+      (c.self.view_is ∙ c.next_disk_call-is_done.ensures.counted),
 )
 
 pub returns-clause-stops : goal.returns-clause-stops
 returns-clause-stops c =
-    stops c.note_sync-kept.result c.args.self.now c.end_disk_call.new.self c.self.inside.history c.note_sync-kept.new.self (act.Sync) [] c.next_disk_call-is_done.result
-    (ap (λ (s : Ledger). s.past) (c.self.view_is ∙ c.next_disk_call-is_done.ensures.counted)) (ap (λ (s : Ledger). s.past) c.end_disk_call.ensures.counted)
+    stops c.note_sync-kept.result c.args.self.now c.end_disk_call.new.self c.self.inside.history
+    c.note_sync-kept.new.self (act.Sync) [] c.next_disk_call-is_done.result
+    (ap (λ (s : Ledger). s.past) (c.self.view_is ∙ c.next_disk_call-is_done.ensures.counted))
+    (ap (λ (s : Ledger). s.past) c.end_disk_call.ensures.counted)
     c.note_sync-kept.ensures.ok c.note_sync-kept.ensures.err tt
 
 pub returns-clause-synced : goal.returns-clause-synced
 returns-clause-synced c =
-    done c.note_sync-kept.result c.args.self.now c.end_disk_call.new.self c.self.inside.history c.note_sync-kept.new.self (act.Sync) [] c.next_disk_call-is_done.result
-    (ap (λ (s : Ledger). s.past) (c.self.view_is ∙ c.next_disk_call-is_done.ensures.counted)) (ap (λ (s : Ledger). s.past) c.end_disk_call.ensures.counted)
+    done c.note_sync-kept.result c.args.self.now c.end_disk_call.new.self c.self.inside.history
+    c.note_sync-kept.new.self (act.Sync) [] c.next_disk_call-is_done.result
+    (ap (λ (s : Ledger). s.past) (c.self.view_is ∙ c.next_disk_call-is_done.ensures.counted))
+    (ap (λ (s : Ledger). s.past) c.end_disk_call.ensures.counted)
     c.note_sync-kept.ensures.ok c.note_sync-kept.ensures.err c.end_disk_call.result c.end_disk_call.ensures.answer
     (λ then image left. ⊎_elim (λ read. read) (λ read. read) (subst (λ (s : Scene). MayLeave s image) then left))
