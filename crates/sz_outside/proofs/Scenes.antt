@@ -7,10 +7,11 @@ use Rattle.std.proofs.Common.{length-append, length-drop}
 use Rattle.std.specs.Prelude.{⊤}
 use Rattle.std.proofs.Math.Seq.{take-length}
 use Rattle.std.proofs.lemmas.List.{append-nil, append_assoc, take_at, drop_at, length-take, length-take-le}
-use Rattle.std.proofs.lemmas.List.{length-replicate}
+use Rattle.std.proofs.lemmas.List.{length-replicate, drop_all, take_all}
+use Rattle.std.proofs.lemmas.Bool.{cases_lt}
 use Rattle.sz_outside.specs.Disk.{Passes, Follows, Torn, written}
 use Rattle.sz_outside.specs.History.{Event, Scene, Shows, scene_before, scene_at, scene_after, with_ones, step_of}
-use Rattle.sz_outside.specs.History.{MayLeave, LeavesNow, LeavesIn, LeftSince, left_now}
+use Rattle.sz_outside.specs.History.{MayLeave, images_after, LeavesNow, LeavesIn, LeftSince, left_now}
 use Rattle.sz_outside.specs.Memory.{Past, now, noted}
 use Rattle.sz_outside.specs.declared.history.Act.{Act}
 use Rattle.sz_outside.specs.declared.history.Act.TheVariants as act
@@ -66,6 +67,50 @@ torn_written disk at bytes place =
       no_shorter = omega (arith, size, place);
       no_longer = omega (arith, size, place);
     }
+
+take_take : (i j : ℕ) (l : List ℕ) → i ≤ j → take i (take j l) ≡ take i l
+take_take zero j l le = refl
+take_take (suc i) zero l le = absurd (omega (arith, le))
+take_take (suc i) (suc j) [] le = refl
+take_take (suc i) (suc j) (x ∷ l) le = ap (λ (m : List ℕ). x ∷ m) (take_take i j l (omega (arith, le)))
+
+-- the marks of a write are one of the ways in which it may be torn, also where they do not make the disk longer
+pub torn_ones : (disk : List ℕ) (at n : ℕ) → at ≤ length disk → Torn at n disk (written disk at (replicate n 1))
+torn_ones disk at n place =
+    subst (λ (k : ℕ). Torn at k disk (written disk at (replicate n 1))) (length-replicate n 1)
+    (torn_written disk at (replicate n 1) place)
+
+pub torn_marked : (disk : List ℕ) (at n : ℕ) → at ≤ length disk → Torn at n disk (with_ones disk at n)
+torn_marked disk at n place =
+    let over = written disk at (replicate n 1) in
+    let torn = torn_ones disk at n place in
+    let size : length over ≡ min at (length disk) + (n + (length disk - (at + n))) =
+    length_written disk at (replicate n 1)
+    ∙ ap (λ (k : ℕ). min at (length disk) + (k + (length disk - (at + k)))) (length-replicate n 1) in
+    let cut = length-take (length disk) over in
+    record {
+      before = take_take at (length disk) over place ∙ torn.before;
+      after = ⊎_elim
+          (λ past. drop_all (at + n) (with_ones disk at n) (omega (arith, cut, past))
+          ∙ sym (drop_all (at + n) disk (omega (arith, past))))
+          (λ within. ap (λ (l : List ℕ). drop (at + n) l)
+          (take_all (length disk) over (omega (arith, size, within, place))) ∙ torn.after)
+          (cases_lt (length disk) (at + n));
+      no_shorter = omega (arith, cut, size, place);
+      no_longer = omega (arith, cut);
+    }
+
+-- the disk as at the last sync is one of the images, whatever is not synced
+step_self : (e : Event) (a : Act) (image : List ℕ) → step_of e a image image
+step_self e act.Look image = refl
+step_self e (act.Write at) image = torn_self at (length e.bytes) image
+step_self e (act.Cut size) image = inl refl
+step_self e act.Sync image = refl
+step_self e act.Say image = refl
+
+pub synced_left : (es : List Event) (synced : List ℕ) → images_after es synced synced
+synced_left [] synced = refl
+synced_left (e ∷ es) synced = (synced, synced_left es synced, step_self e e.act synced)
 
 -- what a call asks of a disk
 abbrev pub Fits : Act → Scene → Type 0

@@ -66,13 +66,6 @@ abbrev pub scene_at : Scene → List Event → Scene
 scene_at s [] = s
 scene_at s (e ∷ es) = scene_at (scene_after s e) es
 
--- These are the bytes of a scene.
-pub record Shows (d a y o : List ℕ) (s : Scene) : Type 0 where
-  pub disk : d ≡ s.disk
-  pub said : a ≡ s.said
-  pub synced : y ≡ s.synced
-  pub ones : o ≡ s.ones
-
 -- What a call that is not synced leaves of an image.
 abbrev pub step_of : Event → Act → List ℕ → List ℕ → Type 0
 step_of e (act.Write at) = Torn at (length e.bytes)
@@ -83,6 +76,14 @@ step_of e _ = Same
 abbrev pub images_after : List Event → List ℕ → List ℕ → Type 0
 images_after [] synced image = image ≡ synced
 images_after (e ∷ es) synced image = Follows (step_of e e.act) (images_after es synced) image
+
+-- These are the bytes of a scene, whose marked disk is one of the images of what is not synced.
+pub record Shows (d a y o : List ℕ) (s : Scene) : Type 0 where
+  pub disk : d ≡ s.disk
+  pub said : a ≡ s.said
+  pub synced : y ≡ s.synced
+  pub ones : o ≡ s.ones
+  pub torn : images_after s.unsynced s.synced s.ones
 
 -- What a stop leaves of the disk: what a read gives, or an image of what is not synced.
 abbrev pub MayLeave : Scene → List ℕ → Type 0

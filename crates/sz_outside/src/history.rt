@@ -3,7 +3,7 @@ ghost use Rattle.std.specs.Prelude.{◌≡◌, ◌≤◌, ◌++◌, ◌∷◌, �
 ghost use Rattle.std.specs.Prelude.{replicate};
 ghost use Rattle.std.specs.Prelude.{IfOk, OnOk, OnErr};
 ghost use Rattle.sz_outside.specs.Disk.{written};
-ghost use Rattle.sz_outside.specs.History.{Event, scene_at, scene_before};
+ghost use Rattle.sz_outside.specs.History.{Event, MayLeave, scene_at, scene_before};
 ghost use Rattle.sz_outside.specs.Memory.{now, noted};
 ghost use Rattle.sz_outside.specs.declared.history.Act.TheVariants as act;
 
@@ -86,14 +86,16 @@ impl History {
 
     /// The disk as at the last sync.
     pub(crate) fn synced(&self) -> &[u8]
-        ensures { result.now ≡ (now self.now).synced }
+        ensures value { result.now ≡ (now self.now).synced }
+        ensures left { MayLeave (now self.now) result.now }
     {
         &self.synced
     }
 
     /// The disk as read, with a byte 1 wherever one is not synced.
     pub(crate) fn ones(&self) -> &[u8]
-        ensures { result.now ≡ (now self.now).ones }
+        ensures value { result.now ≡ (now self.now).ones }
+        ensures left { MayLeave (now self.now) result.now }
     {
         &self.ones
     }

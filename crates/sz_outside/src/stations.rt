@@ -232,7 +232,8 @@ impl MemStation {
 
     /// One image of the disk that a stop may leave now.
     pub fn image(&self, alloc: Global, torn: Torn) -> Result<Vec<u8>, NoMemory>
-        ensures { IfOk result (λ v. v.items ≡ image_by torn (now self.now.past)) }
+        ensures bytes { IfOk result (λ v. v.items ≡ image_by torn (now self.now.past)) }
+        ensures left { IfOk result (λ v. MayLeave (now self.now.past) v.items) }
     {
         let image = match torn {
             Torn::Old => self.history.synced(),

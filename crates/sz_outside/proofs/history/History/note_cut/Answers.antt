@@ -1,5 +1,5 @@
 -- A cut shortens the disk and its marks, where it is done.
-use Rattle.std.proofs.Common.{[], List, ℕ, true, false, ap, ◌∙◌, take}
+use Rattle.std.proofs.Common.{[], List, ℕ, true, false, inl, inr, refl, ap, ◌∙◌, take}
 use Rattle.sz_outside.specs.History.{scene_before}
 use Rattle.sz_outside.specs.declared.history.Act.TheVariants as act
 use Rattle.sz_outside.proofs.Scenes.{shows_call, shows_next}
@@ -14,8 +14,8 @@ invariant_of-self c =
       disk = c.self.invariant.disk;
       said = c.self.invariant.said;
       synced = c.self.invariant.synced;
-      ones =
-          c.self.invariant.ones;
+      ones = c.self.invariant.ones;
+      torn = (_, c.self.invariant.torn, inl refl);
     })
 
 pub invariant_of-self-2 : goal.invariant_of-self-2
@@ -24,9 +24,8 @@ invariant_of-self-2 c =
     (record { act = act.Cut c.args.size; bytes = []; is_done = true }) c.in_ok-push_call.ensures.ok
     (record {
       disk = c.truncate.ensures.items ∙ ap (λ (l : List ℕ). take c.args.size l) c.self.invariant.disk;
-      said =
-          c.self.invariant.said;
+      said = c.self.invariant.said;
       synced = c.self.invariant.synced;
-      ones = c.truncate-2.ensures.items ∙ ap
-          (λ (l : List ℕ). take c.args.size l) c.self.invariant.ones;
+      ones = c.truncate-2.ensures.items ∙ ap (λ (l : List ℕ). take c.args.size l) c.self.invariant.ones;
+      torn = (_, c.self.invariant.torn, inr refl);
     })

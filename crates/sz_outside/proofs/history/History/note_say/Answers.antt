@@ -14,8 +14,8 @@ invariant_of-self c =
       disk = c.self.invariant.disk;
       said = c.self.invariant.said;
       synced = c.self.invariant.synced;
-      ones =
-          c.self.invariant.ones;
+      ones = c.self.invariant.ones;
+      torn = c.self.invariant.torn;
     })
 
 pub invariant_of-self-else-is_err : goal.invariant_of-self-else-is_err
@@ -28,4 +28,5 @@ invariant_of-self-else-is_err c =
       said = c.in_ok-extend_from_slice.ensures.items ∙ ap (λ (l : List ℕ). l ++ c.args.bytes.now) c.self.invariant.said;
       synced = c.self.invariant.synced;
       ones = c.self.invariant.ones;
+      torn = c.self.invariant.torn;
     })

@@ -1,5 +1,5 @@
 -- A sync puts the disk as read in the place of the one before.
-use Rattle.std.proofs.Common.{[], true, false, ◌∙◌}
+use Rattle.std.proofs.Common.{[], true, false, refl, ◌∙◌}
 use Rattle.sz_outside.specs.History.{scene_before}
 use Rattle.sz_outside.specs.declared.history.Act.TheVariants as act
 use Rattle.sz_outside.proofs.Scenes.{shows_call, shows_next}
@@ -14,8 +14,8 @@ invariant_of-self c =
       disk = c.self.invariant.disk;
       said = c.self.invariant.said;
       synced = c.self.invariant.synced;
-      ones =
-          c.self.invariant.ones;
+      ones = c.self.invariant.ones;
+      torn = c.self.invariant.torn;
     })
 
 pub invariant_of-self-2 : goal.invariant_of-self-2
@@ -25,9 +25,9 @@ invariant_of-self-2 c =
     (record {
       disk = c.self.invariant.disk;
       said = c.self.invariant.said;
-      synced =
-          c.in_ok-synced.ensures.items_if_clones_equal (λ x y e. e) ∙
-          (c.as_slice.ensures.value ∙ c.self.invariant.disk);
-      ones = c.in_ok-ones.ensures.items_if_clones_equal (λ x y e. e) ∙
-          (c.as_slice-2.ensures.value ∙ c.self.invariant.disk);
+      synced = c.in_ok-synced.ensures.items_if_clones_equal (λ x y e. e)
+          ∙ (c.as_slice.ensures.value ∙ c.self.invariant.disk);
+      ones = c.in_ok-ones.ensures.items_if_clones_equal (λ x y e. e)
+          ∙ (c.as_slice-2.ensures.value ∙ c.self.invariant.disk);
+      torn = refl;
     })
