@@ -64,7 +64,8 @@ impl<R: Read> Source for ReaderSource<R> {
 
 /// A station over a file and a writer, with the counts of their faults.
 ///
-/// It tells nothing of the bytes of its file, and so claims nothing of what a stop leaves.
+/// It tells nothing of the bytes of its file, and so claims nothing of what a stop leaves. Each
+/// disk call is one call of the file, but a read, which asks for the size first.
 #[derive(Drop)]
 pub struct StreamStation<V, W> {
     volume: Option<V>,

@@ -1,15 +1,15 @@
 //! The edges of the program: where bytes come from, where they go, where they are kept, and where a
 //! test may hold up a thread.
 //!
-//! A [`Source`] gives bytes by `read`. A [`Station`] takes what the program says by `say`, and holds
-//! one disk, with `size`, `read_at`, `write_at`, `cut` and `sync`. Each counts its faults, and
-//! answers `Failed` only where the count rose in that call. A [`Gate`] is called as a piece of work
-//! begins and as an ask was answered. The rest of the program is written for any of them.
+//! A [`Source`] gives bytes by `read`. A [`Station`] takes what the program says by `say`, and
+//! holds one disk, with `size`, `read_at`, `write_at`, `cut` and `sync`. Each counts its faults,
+//! and answers `Failed` only where the count rose in that call. A [`Gate`] is called as a piece of
+//! work begins and as an ask was answered. The rest of the program is written for any of them.
 //!
 //! In memory there are `MemSource`, `SteadySource` and `MemStation`. They tell their bytes, so that
-//! a contract can speak of what was read, said and written, and they fail at the calls whose numbers
-//! they are given. `StdinSource` and `FileStation` stand over the real streams and a real file, of
-//! whose bytes nothing is told. `NoGate` holds up nobody.
+//! a contract can speak of what was read, said and written, and they fail at the calls whose
+//! numbers they are given. `StdinSource` and `FileStation` stand over the real streams and a real
+//! file, of whose bytes nothing is told. `NoGate` holds up nobody.
 //!
 //! ```
 //! let mut source = MemSource::new(b"12345".to_vec(alloc)?, 2, Vec::new(alloc));
@@ -38,8 +38,8 @@
 //! // each image is 5 6 20 21
 //! ```
 //!
-//! A station made by `MemStation::stopped` lets some disk calls pass and fails all others, so a test
-//! can stop a body after each of its disk calls, and open each image again.
+//! A station made by `MemStation::stopped` lets some disk calls pass and fails all others, so a
+//! test can stop a body after each of its disk calls, and open each image again.
 #![tactic(auto)]
 
 mod adapters;

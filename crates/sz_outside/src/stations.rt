@@ -24,6 +24,9 @@ use std::marker::Model;
 /// the counts of its faults in saying and of those of its disk, each of which rises exactly where
 /// such a call fails; what a stop of the machine may leave of the disk now; and what a stop at some
 /// moment since an earlier one could have left of the disk and of what was said.
+///
+/// Places and sizes are in bytes, and the first byte of the disk is at place 0. A disk call that
+/// answers `Failed` raised the count of the disk's faults, and one that answers Ok left it.
 pub trait Station {
     ghost said: { Self → Option (List ℕ) };
 
@@ -39,7 +42,7 @@ pub trait Station {
 
     ghost left_since: { Self → ℕ → List ℕ → List ℕ → Type 0 };
 
-    /// How many bytes the disk has.
+    /// How many bytes the disk has, as read.
     fn size(&mut self) -> Result<u64, Failed>
         ensures size { IfOk result (λ n. HasSize (disk self.old) n) }
         ensures counted { disk_faults self.new
@@ -52,7 +55,8 @@ pub trait Station {
             (may_leave self.old) (may_leave self.new) Same (Said (said self.old))) };
 
     /// Reads the bytes of the disk from a place on into the front of `into`, as many as there are
-    /// and as there is room for, and says how many.
+    /// and as there is room for, and says how many: 0 at the end of the disk and behind it. Where
+    /// it fails, nothing is said of what `into` holds.
     fn read_at(&mut self, at: u64, into: &mut [u8]) -> Result<usize, Failed>
         ensures bound { IfOk result (λ n. n ≤ length into.new) }
         ensures bytes { IfOk result (λ n.
@@ -67,8 +71,9 @@ pub trait Station {
             (may_leave self.old) (may_leave self.new) Same (Said (said self.old))) };
 
     /// Writes these bytes at a place of the disk, which becomes longer where they go past its end.
-    /// It fails where they would end at 2^62 or behind. Until a sync, a stop may leave any bytes
-    /// where they were to stand, also where the write failed.
+    /// The place is at most the size. It fails where they would end at 2^62 or behind. Until a
+    /// sync, a stop may leave any bytes where they were to stand, also where the write failed; of
+    /// what a read gives there after a write that failed, no clause tells.
     fn write_at(&mut self, at: u64, bytes: &[u8]) -> Result<(), Failed>
         requires place { HasPlace (disk self.old) at }
         ensures written { OnOk result (Writes (disk self.old) (disk self.new) at bytes.now) }
@@ -82,8 +87,8 @@ pub trait Station {
             (may_leave self.old) (may_leave self.new) (TornBy at (length bytes.now))
             (Said (said self.old))) };
 
-    /// Cuts the disk to a size. Until a sync, a stop may leave the old size or the new one, also
-    /// where the cut failed.
+    /// Cuts the disk to a size, which is at most the present one. Until a sync, a stop may leave
+    /// the old size or the new one, also where the cut failed.
     fn cut(&mut self, size: u64) -> Result<(), Failed>
         requires place { HasPlace (disk self.old) size }
         ensures cut { OnOk result (Cuts (disk self.old) (disk self.new) size) }
@@ -95,7 +100,8 @@ pub trait Station {
             Passes (moment self.old) (moment self.new) (left_since self.old) (left_since self.new)
             (may_leave self.old) (may_leave self.new) (Cut size) (Said (said self.old))) };
 
-    /// Puts the disk where a stop leaves what a read gives.
+    /// Puts the disk where a stop leaves what a read gives. Where it fails, a stop may leave what
+    /// it might have left before.
     fn sync(&mut self) -> Result<(), Failed>
         ensures synced { OnOk result (Only (disk self.old) (may_leave self.new)) }
         ensures counted { disk_faults self.new
@@ -149,6 +155,10 @@ pub enum Torn {
 /// Each call takes memory for its record, and one that finds none fails and is counted like any
 /// other; how many of them found none is told beside it. So a call fails exactly where its number
 /// is one of those that fail, or it found no memory.
+///
+/// The record grows by the bytes of each write and each say, and is never made shorter. A write and
+/// a sync also copy the whole disk. `size` and a cut take constant time, and a read and a say time
+/// in proportion to their bytes.
 #[derive(Drop)]
 pub struct MemStation {
     history: History,
@@ -182,7 +192,7 @@ impl Model for MemStation {
 
 impl MemStation {
     /// A station with this disk, synced, with nothing said and no faults. The disk calls and the
-    /// says of these numbers, counted from 1, fail.
+    /// says of these numbers, counted from 1, fail. It copies the disk.
     pub fn new(
         alloc: Global,
         disk: Vec<u8>,
@@ -223,14 +233,14 @@ impl MemStation {
         })
     }
 
-    /// The bytes said so far.
+    /// The bytes said so far, with no copy.
     pub fn said(&self) -> &[u8]
         ensures { result.now ≡ said_of self.now }
     {
         self.history.said()
     }
 
-    /// One image of the disk that a stop may leave now.
+    /// One image of the disk that a stop may leave now, as a copy.
     pub fn image(&self, alloc: Global, torn: Torn) -> Result<Vec<u8>, NoMemory>
         ensures bytes { IfOk result (λ v. v.items ≡ image_by torn (now self.now.past)) }
         ensures left { IfOk result (λ v. MayLeave (now self.now.past) v.items) }

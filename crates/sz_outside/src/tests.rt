@@ -228,13 +228,34 @@ fn a_real_file_is_a_disk(rt: HostRuntime) -> Result<(), Fail> {
     Ok(())
 }
 
+/// What standard input holds in a test is not known, and a read might wait for it: so it is asked
+/// for no byte, which shows only that a source over it is made and can be read. The one read that
+/// serves it is shown on a file, of which the bytes are known, and on a folder, which is a fault.
 #[test]
-fn the_real_input_is_read(rt: HostRuntime) {
+fn the_real_input_is_read(rt: HostRuntime) -> Result<(), Fail> {
     let mut source = StdinSource::new(&rt);
     need_send(&source);
     let mut into = [7; 4];
     assert_eq!(rt; read_from(&mut source, &mut into[..0]), Ok(0));
     assert_eq!(rt; into, [7; 4]);
+    let path = "sz_outside_test_input";
+    fs::write(&rt, path, b"lineage")?;
+    let mut file = File::open(&rt, path)?;
+    let mut faults = 0;
+    assert_eq!(rt; read_and_count(&mut file, &mut faults, &mut into), Ok(4));
+    assert_eq!(rt; into, *b"line");
+    assert_eq!(rt; read_and_count(&mut file, &mut faults, &mut into), Ok(3));
+    assert_eq!(rt; into, *b"agee");
+    assert_eq!(rt; read_and_count(&mut file, &mut faults, &mut into), Ok(0));
+    fs::remove_file(&rt, path)?;
+    let mut folder = File::open(&rt, ".")?;
+    assert_eq!(rt; faults, 0);
+    assert_eq!(rt;
+        read_and_count(&mut folder, &mut faults, &mut into),
+        Err(Failed)
+    );
+    assert_eq!(rt; faults, 1);
+    Ok(())
 }
 
 #[test]
