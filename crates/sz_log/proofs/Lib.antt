@@ -1,0 +1,4 @@
+-- The lemmas: how calls join, what torn writes leave, what is read of a log, and rows worked by hand.
+pub mod Moments
+pub mod Rows
+pub mod Tears

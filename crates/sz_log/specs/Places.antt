@@ -1,0 +1,40 @@
+-- What stands at a place of a disk.
+use Rattle.std.specs.Prelude.{◌≡◌, ℕ, ◌+◌, ◌==◌, nat_le, Bool, ◌&&◌, if◌then◌else◌, ⊤}
+use Rattle.std.specs.Prelude.{Option, None, Some, List, [], ◌∷◌, length, take, drop}
+use Rattle.std.specs.Int.{w64, from_be_bytes}
+use Rattle.sz_log.specs.Log.{is_kind, begins_as_log}
+use Rattle.sz_log.specs.declared.groups.Group.{Group}
+use Rattle.sz_log.specs.declared.groups.Group.TheVariants.{Closed, Whole, Bad}
+
+-- The length that eight bytes give.
+abbrev pub length_in : List ℕ → ℕ
+length_in bytes = from_be_bytes w64 (take 8 bytes)
+
+-- The eight bytes of a length and as many bytes as they say are there.
+abbrev pub is_whole : List ℕ → Bool
+is_whole bytes = nat_le (8 + length_in bytes) (length bytes)
+
+-- What stands behind the open gate at a place, by the bytes behind that gate.
+abbrev pub opened : ℕ → List ℕ → Group
+opened at [] = Bad
+opened at (kind ∷ bytes) = if is_kind kind && is_whole bytes
+    then Whole kind (at + 10) (length_in bytes) (at + 10 + length_in bytes)
+    else Bad
+
+-- The group at a place, by the bytes from there on: a gate that is not 1 is closed.
+abbrev pub group_in : ℕ → List ℕ → Group
+group_in at [] = Bad
+group_in at (gate ∷ bytes) = if gate == 1 then opened at bytes else Closed
+
+abbrev pub group_on : List ℕ → ℕ → Group
+group_on disk at = group_in at (drop at disk)
+
+-- It is the group at a place, where the disk is told.
+abbrev pub StandsAt : Option (List ℕ) → ℕ → Group → Type 0
+StandsAt None at group = ⊤
+StandsAt (Some disk) at group = group ≡ group_on disk at
+
+-- Whether the disk begins as a log, where it is told.
+abbrev pub SaysWhether : Option (List ℕ) → Bool → Type 0
+SaysWhether None is_log = ⊤
+SaysWhether (Some disk) is_log = is_log ≡ begins_as_log disk

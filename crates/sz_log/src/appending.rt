@@ -1,0 +1,87 @@
+//! Adding a group to a log.
+ghost use Rattle.std.specs.Prelude.{◌≡◌, ◌≤◌, ◌+◌, ◌++◌, ◌∷◌, [], List, ℕ, Some, true};
+ghost use Rattle.std.specs.Prelude.{IfOk, OnOk, is_ok, length};
+ghost use Rattle.std.specs.Int.{w64, to_be_bytes};
+ghost use Rattle.sz_outside.specs.Counts.{faults_after};
+ghost use Rattle.sz_outside.specs.Disk.{Told, Passes, Said, Only, Writes, written};
+ghost use Rattle.sz_log.specs.Log.{Entry, EndsAt, is_kind, entry_bytes, group_bytes};
+ghost use Rattle.sz_log.specs.Steps.{Added, AddsOrKeeps, KeepsFront, place_behind};
+
+use crate::LogEnd;
+use crate::writing::{put, write};
+use sz_outside::{Failed, Station};
+
+/// Adds a group at the end of a log, and says where the log ends then. Takes no memory.
+///
+/// At every moment a stop leaves the log without the group or with it whole, and after `Ok` with
+/// it. After `Failed` the log must be opened again.
+pub fn append<T: Station>(
+    station: &mut T,
+    end: LogEnd,
+    kind: u8,
+    body: &[u8],
+) -> Result<LogEnd, Failed>
+    requires log { EndsAt (T.disk station.old) end.at }
+    requires synced { Only (T.disk station.old) (T.may_leave station.old) }
+    requires kind { is_kind kind ≡ true }
+
+    // The group stands in the place of the closed gate, and a closed gate behind it.
+    ensures written { OnOk result (Writes (T.disk station.old) (T.disk station.new) end.at
+        (group_bytes (record { kind = kind; body = body.now }) ++ 0 ∷ [])) }
+    // So the log has it behind its others.
+    ensures added { OnOk result (Added (T.disk station.old) (T.disk station.new) end.at
+        (record { kind = kind; body = body.now })) }
+    ensures end { IfOk result (λ next. Told (T.disk station.old)
+        (next.at ≡ place_behind end.at (record { kind = kind; body = body.now }))) }
+    // No write is pending.
+    ensures synced { OnOk result (Only (T.disk station.new) (T.may_leave station.new)) }
+    ensures counted { T.disk_faults station.new
+        ≡ faults_after (T.disk_faults station.old) (is_ok result) }
+    ensures output { (T.said station.new ≡ T.said station.old)
+        × (T.say_faults station.new ≡ T.say_faults station.old) }
+    // At every moment the log is without the group, or has it whole.
+    ensures stops { Told (T.disk station.old) (
+        Passes (T.moment station.old) (T.moment station.new)
+        (T.left_since station.old) (T.left_since station.new)
+        (T.may_leave station.old) (T.may_leave station.new)
+        (AddsOrKeeps end.at (record { kind = kind; body = body.now }))
+        (Said (T.said station.old))) }
+{
+    let next = stage(station, end.at.saturating_add(1), kind, body)?;
+    put(station, end.at, &[1])?;
+    Ok(LogEnd { at: next })
+}
+
+/// Writes a group at a place behind its gate, and a closed gate behind it, and puts them where a
+/// stop leaves them. Says where the closed gate stands.
+fn stage<T: Station>(station: &mut T, at: u64, kind: u8, body: &[u8]) -> Result<u64, Failed>
+    ensures written { OnOk result ((d : List ℕ) → T.disk station.old ≡ Some d → at ≤ length d
+        → T.disk station.new ≡ Some (written d at
+        (entry_bytes (record { kind = kind; body = body.now }) ++ 0 ∷ []))) }
+    ensures gate { IfOk result (λ gate. (d : List ℕ) → T.disk station.old ≡ Some d
+        → at ≤ length d → gate ≡ at + 9 + length body.now) }
+    ensures synced { OnOk result (Only (T.disk station.new) (T.may_leave station.new)) }
+    ensures counted { T.disk_faults station.new
+        ≡ faults_after (T.disk_faults station.old) (is_ok result) }
+    ensures output { (T.said station.new ≡ T.said station.old)
+        × (T.say_faults station.new ≡ T.say_faults station.old) }
+    ensures stops { (d : List ℕ) → T.disk station.old ≡ Some d → at ≤ length d
+        → Passes (T.moment station.old) (T.moment station.new)
+        (T.left_since station.old) (T.left_since station.new)
+        (T.may_leave station.old) (T.may_leave station.new)
+        (KeepsFront at) (Said (T.said station.old)) }
+{
+    let behind_head = write(station, at, &head_of(kind, body.len() as u64))?;
+    let gate = write(station, behind_head, body)?;
+    write(station, gate, &[0])?;
+    station.sync()?;
+    Ok(gate)
+}
+
+/// The bytes of a kind and of a length.
+fn head_of(kind: u8, length: u64) -> [u8; 9]
+    ensures { result ≡ kind ∷ to_be_bytes w64 length }
+{
+    let [a, b, c, d, e, f, g, h] = length.to_be_bytes();
+    [kind, a, b, c, d, e, f, g, h]
+}

@@ -1,0 +1,106 @@
+//! Reading a log: whether a disk begins as one, and what stands at a place.
+ghost use Rattle.std.specs.Prelude.{◌≡◌, List, ℕ, IfOk, is_ok, length};
+ghost use Rattle.sz_outside.specs.Counts.{faults_after};
+ghost use Rattle.sz_outside.specs.Disk.{Told, Passes, Same, Said, bytes_at};
+ghost use Rattle.sz_log.specs.Log.{is_kind};
+ghost use Rattle.sz_log.specs.Places.{StandsAt, SaysWhether, group_on};
+
+use sz_outside::{Failed, Station};
+
+/// The kinds of group.
+const KINDS: [u8; 4] = [1, 2, 3, 4];
+
+/// How a log begins: an open gate and a title.
+const HEADER: [u8; 16] = [
+    1, 83, 117, 98, 90, 101, 114, 111, 32, 108, 111, 103, 32, 49, 13, 10,
+];
+
+/// What stands at a place of a log.
+#[derive(Clone, Copy, Debug, Drop, PartialEq, Eq)]
+pub enum Group {
+    /// A closed gate.
+    Closed,
+    /// An open gate and a whole group: its kind, where its body begins, how many bytes it has, and
+    /// the place of the next gate.
+    Whole {
+        kind: u8,
+        body: u64,
+        length: u64,
+        next: u64,
+    },
+    /// No gate, or an open gate without a whole group of a known kind behind it.
+    Bad,
+}
+
+/// Whether groups are of this kind.
+pub fn is_kind(kind: u8) -> bool
+    ensures { result ≡ is_kind kind }
+{
+    KINDS.contains(&kind)
+}
+
+/// Whether the disk begins as a log. Takes no memory.
+pub fn is_log<T: Station>(station: &mut T) -> Result<bool, Failed>
+    ensures answer { IfOk result (λ is_log. SaysWhether (T.disk station.old) is_log) }
+    ensures counted { T.disk_faults station.new
+        ≡ faults_after (T.disk_faults station.old) (is_ok result) }
+    ensures disk { T.disk station.new ≡ T.disk station.old }
+    ensures output { (T.said station.new ≡ T.said station.old)
+        × (T.say_faults station.new ≡ T.say_faults station.old) }
+    ensures stops { Told (T.disk station.old) (
+        Passes (T.moment station.old) (T.moment station.new)
+        (T.left_since station.old) (T.left_since station.new)
+        (T.may_leave station.old) (T.may_leave station.new) Same (Said (T.said station.old))) }
+{
+    let mut front = [0; 16];
+    let count = station.read_at(0, &mut front)?;
+    Ok(front[..count] == HEADER[..])
+}
+
+/// What stands at a place of the disk. Takes no memory.
+pub fn group_at<T: Station>(station: &mut T, at: u64) -> Result<Group, Failed>
+    ensures group { IfOk result (λ group. StandsAt (T.disk station.old) at group) }
+    ensures counted { T.disk_faults station.new
+        ≡ faults_after (T.disk_faults station.old) (is_ok result) }
+    ensures disk { T.disk station.new ≡ T.disk station.old }
+    ensures output { (T.said station.new ≡ T.said station.old)
+        × (T.say_faults station.new ≡ T.say_faults station.old) }
+    ensures stops { Told (T.disk station.old) (
+        Passes (T.moment station.old) (T.moment station.new)
+        (T.left_since station.old) (T.left_since station.new)
+        (T.may_leave station.old) (T.may_leave station.new) Same (Said (T.said station.old))) }
+{
+    let size = station.size()?;
+    let mut head = [0; 10];
+    let count = station.read_at(at, &mut head)?;
+    Ok(group_of(at, &head[..count], size))
+}
+
+/// What stands at a place of a disk of this size, by the first ten bytes from there on, or as many
+/// as there are.
+fn group_of(at: u64, head: &[u8], size: u64) -> Group
+    ensures { (disk : List ℕ) → size ≡ length disk → head.now ≡ bytes_at disk at 10
+        → result ≡ group_on disk at }
+{
+    let [gate, rest @ ..] = head else {
+        return Group::Bad;
+    };
+    if *gate != 1 {
+        return Group::Closed;
+    }
+    let [kind, a, b, c, d, e, f, g, h] = rest else {
+        return Group::Bad;
+    };
+    let length = u64::from_be_bytes([*a, *b, *c, *d, *e, *f, *g, *h]);
+    let left = size.saturating_sub(at);
+    if !is_kind(*kind) || left < 10 || length > left - 10 {
+        return Group::Bad;
+    }
+    let body = at + 10;
+    Group::Whole {
+        kind: *kind,
+        body,
+        length,
+        next: body + length,
+    }
+}

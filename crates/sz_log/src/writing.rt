@@ -1,0 +1,47 @@
+//! Writing at a place of the disk, and putting it where a stop leaves it.
+ghost use Rattle.std.specs.Prelude.{◌≡◌, ◌≤◌, ◌+◌, List, ℕ, Some, IfOk, OnOk, is_ok, length};
+ghost use Rattle.sz_outside.specs.Counts.{faults_after};
+ghost use Rattle.sz_outside.specs.Disk.{Passes, Torn, Said, Only, written};
+
+use sz_outside::{Failed, Station};
+
+/// Writes these bytes at a place of the disk, and says which place is behind them. A place behind
+/// the disk's end is taken as the end.
+pub fn write<T: Station>(station: &mut T, at: u64, bytes: &[u8]) -> Result<u64, Failed>
+    ensures written { OnOk result ((d : List ℕ) → T.disk station.old ≡ Some d → at ≤ length d
+        → T.disk station.new ≡ Some (written d at bytes.now)) }
+    ensures behind { IfOk result (λ behind. (d : List ℕ) → T.disk station.old ≡ Some d
+        → at ≤ length d → behind ≡ at + length bytes.now) }
+    ensures counted { T.disk_faults station.new
+        ≡ faults_after (T.disk_faults station.old) (is_ok result) }
+    ensures output { (T.said station.new ≡ T.said station.old)
+        × (T.say_faults station.new ≡ T.say_faults station.old) }
+    ensures stops { (d : List ℕ) → T.disk station.old ≡ Some d → at ≤ length d
+        → Passes (T.moment station.old) (T.moment station.new)
+        (T.left_since station.old) (T.left_since station.new)
+        (T.may_leave station.old) (T.may_leave station.new)
+        (Torn at (length bytes.now)) (Said (T.said station.old)) }
+{
+    let place = station.size()?.min(at);
+    station.write_at(place, bytes)?;
+    Ok(place + bytes.len() as u64)
+}
+
+/// Writes these bytes at a place of the disk, and puts them where a stop leaves them.
+pub fn put<T: Station>(station: &mut T, at: u64, bytes: &[u8]) -> Result<(), Failed>
+    ensures written { OnOk result ((d : List ℕ) → T.disk station.old ≡ Some d → at ≤ length d
+        → T.disk station.new ≡ Some (written d at bytes.now)) }
+    ensures synced { OnOk result (Only (T.disk station.new) (T.may_leave station.new)) }
+    ensures counted { T.disk_faults station.new
+        ≡ faults_after (T.disk_faults station.old) (is_ok result) }
+    ensures output { (T.said station.new ≡ T.said station.old)
+        × (T.say_faults station.new ≡ T.say_faults station.old) }
+    ensures stops { (d : List ℕ) → T.disk station.old ≡ Some d → at ≤ length d
+        → Passes (T.moment station.old) (T.moment station.new)
+        (T.left_since station.old) (T.left_since station.new)
+        (T.may_leave station.old) (T.may_leave station.new)
+        (Torn at (length bytes.now)) (Said (T.said station.old)) }
+{
+    write(station, at, bytes)?;
+    station.sync()
+}
