@@ -1,8 +1,10 @@
 -- How calls join. The key idea: what a stop leaves in the second of two calls follows from what may be left between
 -- them, so it is enough to say once what both steps together make of an image.
-use Rattle.std.proofs.Common.{◌≡◌, ◌⊎◌, inl, inr, ⊎_elim, ℕ, ◌≤◌, List, Option, None, Some, refl, sym, ◌∙◌, subst, arith}
+use Rattle.std.proofs.Common.{◌≡◌, ◌⊎◌, inl, inr, ⊎_elim, ℕ, ◌≤◌, List, Option, None, Some, refl, sym, ap, ◌∙◌, take, subst, arith}
 use Rattle.std.specs.Prelude.{⊤}
-use Rattle.sz_outside.specs.Disk.{Told, Only, Passes, Follows, Said, Same}
+use Rattle.sz_outside.specs.Disk.{Told, Only, Passes, Follows, Said, Same, Torn, Writes, written}
+use Rattle.sz_log.specs.Steps.{KeepsFront}
+use Rattle.sz_log.proofs.Tears.{torn_keeps}
 
 abbrev pub Images : Type 1
 Images = List ℕ → Type 0
@@ -19,6 +21,10 @@ all_told (Some d) C here = here d refl
 pub only_of : (o : Option (List ℕ)) (d : List ℕ) (images : List ℕ → Type 0) → o ≡ Some d → Only o images
     → (image : List ℕ) → images image → image ≡ d
 only_of o d images is only = subst (λ (p : Option (List ℕ)). Only p images) is only
+
+pub writes_of : (o new : Option (List ℕ)) (d : List ℕ) (at : ℕ) (x : List ℕ) → o ≡ Some d → Writes o new at x
+    → new ≡ Some (written d at x)
+writes_of o new d at x is wrote = subst (λ (p : Option (List ℕ)). Writes p new at x) is wrote
 
 -- one call behind another
 pub joined_by : {before mid now : ℕ} {past half since : ℕ → List ℕ → List ℕ → Type 0} {A B C : List ℕ → Type 0}
@@ -64,3 +70,38 @@ seen_as {before} {now} {past} {since} {A} {C} {S} {U} {F} one first = record {
   within = λ image said left. (first image (one.within image said left).0, (one.within image said left).1);
   images = λ image left. first image (one.images image left);
 }
+
+-- ---- calls that keep the front
+
+pub keeps_first : {before now : ℕ} {past since : ℕ → List ℕ → List ℕ → Type 0} {A C : List ℕ → Type 0}
+    {F : List ℕ → Type 0} (k at n : ℕ)
+    → Passes before now past since A C (Torn at n) F → k ≤ at
+    → Passes before now past since A C (KeepsFront k) F
+keeps_first {before} {now} {past} {since} {A} {C} {F} k at n one le =
+    seen_as one (λ image (old, was, torn). (old, was, torn_keeps k at n old image le torn))
+
+pub keeps_write : {before mid now : ℕ} {past half since : ℕ → List ℕ → List ℕ → Type 0} {A B C : List ℕ → Type 0}
+    (found then : Option (List ℕ)) (k at n : ℕ)
+    → Passes before mid past half A B (KeepsFront k) (Said found)
+    → Passes mid now half since B C (Torn at n) (Said then)
+    → then ≡ found → k ≤ at
+    → Passes before now past since A C (KeepsFront k) (Said found)
+keeps_write {before} {mid} {now} {past} {half} {since} {A} {B} {C} found then k at n one two same le =
+    joined_by found then one two same (λ image was. was) (λ image (old, was, torn). (
+      (one.images old was).0,
+      (one.images old was).1,
+      torn_keeps k at n old image le torn ∙ (one.images old was).2,
+    ))
+
+pub keeps_sync : {before mid now : ℕ} {past half since : ℕ → List ℕ → List ℕ → Type 0} {A B C : List ℕ → Type 0}
+    (found then : Option (List ℕ)) (k : ℕ)
+    → Passes before mid past half A B (KeepsFront k) (Said found)
+    → Passes mid now half since B C Same (Said then)
+    → then ≡ found
+    → Passes before now past since A C (KeepsFront k) (Said found)
+keeps_sync {before} {mid} {now} {past} {half} {since} {A} {B} {C} found then k one two same =
+    joined_by found then one two same (λ image was. was) (λ image (old, was, is). (
+      (one.images old was).0,
+      (one.images old was).1,
+      ap (λ (l : List ℕ). take k l) is ∙ (one.images old was).2,
+    ))

@@ -20,10 +20,11 @@ take_less (suc k) (suc m) [] le = refl
 take_less (suc k) (suc m) (x ∷ l) le = ap (λ (r : List ℕ). x ∷ r) (take_less k m l (omega (arith, le)))
 
 pub drop_twice : (m n : ℕ) (l : List ℕ) → drop n (drop m l) ≡ drop (m + n) l
-drop_twice zero n l = refl
-drop_twice (suc m) zero [] = refl
-drop_twice (suc m) (suc n) [] = refl
-drop_twice (suc m) n (x ∷ l) = drop_twice m n l
+drop_twice zero n l = ap (λ (k : ℕ). drop k l) (omega arith)
+drop_twice (suc m) n [] = drop_all n [] (omega arith) ∙ sym (drop_all (suc m + n) [] (omega arith))
+drop_twice (suc m) n (x ∷ l) =
+    let more : suc (m + n) ≡ suc m + n = omega arith in
+    drop_twice m n l ∙ ap (λ (k : ℕ). drop k (x ∷ l)) more
 
 -- ---- writes
 
@@ -69,11 +70,12 @@ written-before d at b x lt =
     ∙ take_less at (at + 1) d (omega arith) in
     let back : drop (at + 1) whole ≡ x ++ drop (at + 1 + length x) d =
     ap (λ (l : List ℕ). drop (at + 1) l) split ∙ drop_at (take (at + 1) d) _ (at + 1) long in
+    let size : at + 1 + length x ≡ at + length (b ∷ x) = omega arith in
     ap (λ (l : List ℕ). l ++ (b ∷ []) ++ drop (at + 1) whole) front
     ∙ ap (λ (l : List ℕ). take at d ++ (b ∷ []) ++ l) back
     ∙ append_assoc (take at d) (b ∷ []) (x ++ drop (at + 1 + length x) d)
-    ∙ ap (λ (n : ℕ). take at d ++ (b ∷ (x ++ drop n d))) (omega arith)
-    ∙ sym (append_assoc (take at d) (b ∷ x) (drop (at + (length x + 1)) d))
+    ∙ ap (λ (n : ℕ). take at d ++ (b ∷ (x ++ drop n d))) size
+    ∙ sym (append_assoc (take at d) (b ∷ x) (drop (at + length (b ∷ x)) d))
 
 -- ---- logs
 
@@ -120,10 +122,11 @@ is_log_more es e at rest disk place each is bytes = record {
   each = each-last es e each is;
 }
 
-module _ (d : List ℕ) (es : List Entry) (at : ℕ) (held : IsLog d es at) where
-  all_bytes : List ℕ
-  all_bytes = log_bytes es
+-- a disk with a group written behind the gate at a place, and a closed gate behind it
+abbrev pub staged : List ℕ → ℕ → Entry → List ℕ
+staged d at e = written d (at + 1) (entry_bytes e ++ 0 ∷ [])
 
+module _ (d : List ℕ) (es : List Entry) (at : ℕ) (held : IsLog d es at) where
   pub place-inside : at + 1 ≤ length d
   place-inside = omega (arith, held.place, ap length held.bytes, length-append (log_bytes es) (held.gate ∷ held.behind))
 
@@ -146,11 +149,7 @@ module _ (d : List ℕ) (es : List Entry) (at : ℕ) (held : IsLog d es at) wher
       ∙ append_assoc (log_bytes es) (held.gate ∷ []) (drop (at + 1) image) in
       is_log_with es at held.gate (drop (at + 1) image) image held.place held.each held.closed whole
 
-  -- a group that is written behind the closed gate, with a closed gate behind it
-  staged : (e : Entry) → List ℕ
-  staged e = written d (at + 1) (entry_bytes e ++ 0 ∷ [])
-
-  rest : (e : Entry) → List ℕ
+  abbrev pub rest : (e : Entry) → List ℕ
   rest e = drop (at + 1 + length (entry_bytes e ++ 0 ∷ [])) d
 
   staged-is : (e : Entry) → written d (at + 1) (entry_bytes e ++ 0 ∷ [])
@@ -162,16 +161,16 @@ module _ (d : List ℕ) (es : List Entry) (at : ℕ) (held : IsLog d es at) wher
       ∙ ap (λ (l : List ℕ). log_bytes es ++ held.gate ∷ l) (append_assoc (entry_bytes e) (0 ∷ []) (rest e))
 
   -- when the gate is torn, the log is without the group or has it whole
-  pub torn_gate : (e : Entry) → IsEntry e → (image : List ℕ) → Torn at 1 (staged e) image
+  pub torn_gate : (e : Entry) → IsEntry e → (image : List ℕ) → Torn at 1 (staged d at e) image
       → IsLog image es at ⊎ IsLog image (es ++ e ∷ []) (place_behind at e)
   torn_gate e is image torn =
       let tail : List ℕ = entry_bytes e ++ 0 ∷ rest e in
       let gate : ℕ = get_or image at 0 in
-      let long : length (staged e) ≡ at + 1 + length tail =
+      let long : length (staged d at e) ≡ at + 1 + length tail =
       omega (arith, held.place, ap length (staged-is e), length-append (log_bytes es) (held.gate ∷ tail)) in
-      let first : take at (staged e) ≡ log_bytes es =
+      let first : take at (staged d at e) ≡ log_bytes es =
       ap (λ (l : List ℕ). take at l) (staged-is e) ∙ take_at (log_bytes es) (held.gate ∷ tail) at (sym held.place) in
-      let last : drop (at + 1) (staged e) ≡ tail =
+      let last : drop (at + 1) (staged d at e) ≡ tail =
       ap (λ (l : List ℕ). drop (at + 1) l) (staged-is e ∙ sym (append_assoc (log_bytes es) (held.gate ∷ []) tail))
       ∙ drop_at (log_bytes es ++ held.gate ∷ []) tail (at + 1) long-front in
       let behind : drop at image ≡ gate ∷ tail =

@@ -6,20 +6,17 @@ use Rattle.sz_log.specs.Log.{is_kind, begins_as_log}
 use Rattle.sz_log.specs.declared.groups.Group.{Group}
 use Rattle.sz_log.specs.declared.groups.Group.TheVariants.{Closed, Whole, Bad}
 
--- The length that eight bytes give.
-abbrev pub length_in : List ℕ → ℕ
-length_in bytes = from_be_bytes w64 (take 8 bytes)
+-- What stands at a place behind an open gate, by the kind and the length there, where so many bytes
+-- are left from the gate on: a group where it is whole and its kind is one.
+abbrev pub opened_with : ℕ → ℕ → ℕ → ℕ → Group
+opened_with at kind len left = if is_kind kind && nat_le (10 + len) left
+    then Whole kind (at + 10) len (at + 10 + len)
+    else Bad
 
--- The eight bytes of a length and as many bytes as they say are there.
-abbrev pub is_whole : List ℕ → Bool
-is_whole bytes = nat_le (8 + length_in bytes) (length bytes)
-
--- What stands behind the open gate at a place, by the bytes behind that gate.
+-- The same by the bytes behind the gate: a kind, and eight bytes of the length.
 abbrev pub opened : ℕ → List ℕ → Group
 opened at [] = Bad
-opened at (kind ∷ bytes) = if is_kind kind && is_whole bytes
-    then Whole kind (at + 10) (length_in bytes) (at + 10 + length_in bytes)
-    else Bad
+opened at (kind ∷ bytes) = opened_with at kind (from_be_bytes w64 (take 8 bytes)) (2 + length bytes)
 
 -- The group at a place, by the bytes from there on: a gate that is not 1 is closed.
 abbrev pub group_in : ℕ → List ℕ → Group

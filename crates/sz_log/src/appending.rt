@@ -1,9 +1,9 @@
 //! Adding a group to a log.
-ghost use Rattle.std.specs.Prelude.{◌≡◌, ◌≤◌, ◌+◌, ◌++◌, ◌∷◌, [], List, ℕ, Some, true};
+ghost use Rattle.std.specs.Prelude.{◌≡◌, ◌≤◌, ◌<◌, ◌+◌, ◌^◌, ◌++◌, ◌∷◌, [], List, ℕ, Some, true};
 ghost use Rattle.std.specs.Prelude.{IfOk, OnOk, is_ok, length};
 ghost use Rattle.std.specs.Int.{w64, to_be_bytes};
 ghost use Rattle.sz_outside.specs.Counts.{faults_after};
-ghost use Rattle.sz_outside.specs.Disk.{Told, Passes, Said, Only, Writes, written};
+ghost use Rattle.sz_outside.specs.Disk.{Told, Passes, Said, Only, HasPlace, Writes, written};
 ghost use Rattle.sz_log.specs.Log.{Entry, EndsAt, is_kind, entry_bytes, group_bytes};
 ghost use Rattle.sz_log.specs.Steps.{Added, AddsOrKeeps, KeepsFront, place_behind};
 
@@ -47,6 +47,7 @@ pub fn append<T: Station>(
         (AddsOrKeeps end.at (record { kind = kind; body = body.now }))
         (Said (T.said station.old))) }
 {
+    station.size()?; // it is a number of the type, and so is a place behind a byte of the disk
     let next = stage(station, end.at.saturating_add(1), kind, body)?;
     put(station, end.at, &[1])?;
     Ok(LogEnd { at: next })
@@ -55,11 +56,13 @@ pub fn append<T: Station>(
 /// Writes a group at a place behind its gate, and a closed gate behind it, and puts them where a
 /// stop leaves them. Says where the closed gate stands.
 fn stage<T: Station>(station: &mut T, at: u64, kind: u8, body: &[u8]) -> Result<u64, Failed>
+    requires place { HasPlace (T.disk station.old) at }
     ensures written { OnOk result ((d : List ℕ) → T.disk station.old ≡ Some d → at ≤ length d
         → T.disk station.new ≡ Some (written d at
         (entry_bytes (record { kind = kind; body = body.now }) ++ 0 ∷ []))) }
     ensures gate { IfOk result (λ gate. (d : List ℕ) → T.disk station.old ≡ Some d
         → at ≤ length d → gate ≡ at + 9 + length body.now) }
+    ensures limit { OnOk result (length body.now < 2 ^ 62) }
     ensures synced { OnOk result (Only (T.disk station.new) (T.may_leave station.new)) }
     ensures counted { T.disk_faults station.new
         ≡ faults_after (T.disk_faults station.old) (is_ok result) }
@@ -71,8 +74,8 @@ fn stage<T: Station>(station: &mut T, at: u64, kind: u8, body: &[u8]) -> Result<
         (T.may_leave station.old) (T.may_leave station.new)
         (KeepsFront at) (Said (T.said station.old)) }
 {
-    let behind_head = write(station, at, &head_of(kind, body.len() as u64))?;
-    let gate = write(station, behind_head, body)?;
+    station.write_at(at, &head_of(kind, body.len() as u64))?;
+    let gate = write(station, at + 9, body)?;
     write(station, gate, &[0])?;
     station.sync()?;
     Ok(gate)

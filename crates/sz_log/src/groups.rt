@@ -1,9 +1,9 @@
 //! Reading a log: whether a disk begins as one, and what stands at a place.
-ghost use Rattle.std.specs.Prelude.{◌≡◌, List, ℕ, IfOk, is_ok, length};
+ghost use Rattle.std.specs.Prelude.{◌≡◌, ◌<◌, ◌+◌, ◌^◌, List, ℕ, IfOk, is_ok, length};
 ghost use Rattle.sz_outside.specs.Counts.{faults_after};
 ghost use Rattle.sz_outside.specs.Disk.{Told, Passes, Same, Said, bytes_at};
 ghost use Rattle.sz_log.specs.Log.{is_kind};
-ghost use Rattle.sz_log.specs.Places.{StandsAt, SaysWhether, group_on};
+ghost use Rattle.sz_log.specs.Places.{StandsAt, SaysWhether, group_on, opened_with};
 
 use sz_outside::{Failed, Station};
 
@@ -82,23 +82,31 @@ fn group_of(at: u64, head: &[u8], size: u64) -> Group
     ensures { (disk : List ℕ) → size ≡ length disk → head.now ≡ bytes_at disk at 10
         → result ≡ group_on disk at }
 {
-    let [gate, rest @ ..] = head else {
+    let [gate, ..] = head else {
         return Group::Bad;
     };
     if *gate != 1 {
         return Group::Closed;
     }
-    let [kind, a, b, c, d, e, f, g, h] = rest else {
+    let [_, kind, a, b, c, d, e, f, g, h] = head else {
         return Group::Bad;
     };
     let length = u64::from_be_bytes([*a, *b, *c, *d, *e, *f, *g, *h]);
-    let left = size.saturating_sub(at);
-    if !is_kind(*kind) || left < 10 || length > left - 10 {
+    group_with(at, *kind, length, size.saturating_sub(at))
+}
+
+/// What stands at a place behind an open gate, by the kind and the length there, where so many
+/// bytes are left on the disk from the gate on.
+fn group_with(at: u64, kind: u8, length: u64, left: u64) -> Group
+    requires { at + left < 2 ^ 64 }
+    ensures { result ≡ opened_with at kind length left }
+{
+    if !is_kind(kind) || left < 10 || length > left - 10 {
         return Group::Bad;
     }
     let body = at + 10;
     Group::Whole {
-        kind: *kind,
+        kind,
         body,
         length,
         next: body + length,

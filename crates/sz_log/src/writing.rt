@@ -1,5 +1,5 @@
 //! Writing at a place of the disk, and putting it where a stop leaves it.
-ghost use Rattle.std.specs.Prelude.{◌≡◌, ◌≤◌, ◌+◌, List, ℕ, Some, IfOk, OnOk, is_ok, length};
+ghost use Rattle.std.specs.Prelude.{◌≡◌, ◌≤◌, ◌<◌, ◌+◌, ◌^◌, List, ℕ, Some, IfOk, OnOk, is_ok, length};
 ghost use Rattle.sz_outside.specs.Counts.{faults_after};
 ghost use Rattle.sz_outside.specs.Disk.{Passes, Torn, Said, Only, written};
 
@@ -12,6 +12,7 @@ pub fn write<T: Station>(station: &mut T, at: u64, bytes: &[u8]) -> Result<u64, 
         → T.disk station.new ≡ Some (written d at bytes.now)) }
     ensures behind { IfOk result (λ behind. (d : List ℕ) → T.disk station.old ≡ Some d
         → at ≤ length d → behind ≡ at + length bytes.now) }
+    ensures limit { OnOk result (length bytes.now < 2 ^ 62) }
     ensures counted { T.disk_faults station.new
         ≡ faults_after (T.disk_faults station.old) (is_ok result) }
     ensures output { (T.said station.new ≡ T.said station.old)
