@@ -3,5 +3,6 @@ pub mod Appends
 pub mod Makes
 pub mod Moments
 pub mod Places
+pub mod Reading
 pub mod Rows
 pub mod Tears
