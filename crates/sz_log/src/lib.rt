@@ -60,3 +60,6 @@ pub fn groups_are_read()
     ensures { GroupsAreRead }
 {
 }
+
+#[cfg(test)]
+mod tests;
