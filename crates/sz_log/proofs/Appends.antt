@@ -1,11 +1,11 @@
 -- How the calls of an append join. The key idea: until the gate is written all that stands up to it stays, and then
 -- the whole group stands behind it, whatever the gate's byte is.
 use Rattle.std.proofs.Common.{◌≡◌, ℕ, ◌+◌, ◌-◌, ◌≤◌, ◌<◌, ◌^◌, min, inl, List, Option, None, Some, [], ◌∷◌, ◌++◌, refl, ap, ◌∙◌, subst, length, take, arith}
-use Rattle.sz_outside.specs.Disk.{Only, Passes, Said, Same, Torn, Writes, Told, HasSize, written}
-use Rattle.sz_log.specs.Log.{Entry, EndsAt, IsEntry, IsLog, entry_bytes, group_bytes}
-use Rattle.sz_log.specs.Steps.{KeepsFront, AddsOrKeeps, Added, Adds, place_behind}
-use Rattle.sz_log.proofs.Moments.{joined_by, seen_as, only_of, all_told}
-use Rattle.sz_log.proofs.Tears.{place-inside, kept_log, torn_gate, opened_gate, staged, written-before}
+use Rattle.sz_outside.specs.Disk.{Passes, Said, Same, Torn, Writes, HasSize, written}
+use Rattle.sz_log.specs.Log.{Entry, EndsAt, IsEntry, IsLog, group_bytes}
+use Rattle.sz_log.specs.Steps.{KeepsFront, AddsOrKeeps, Added}
+use Rattle.sz_log.proofs.Moments.{joined_by, seen_as}
+use Rattle.sz_log.proofs.Tears.{place-inside, kept_log, torn_gate, opened_gate, staged}
 
 pub log_of : (o : Option (List ℕ)) (d : List ℕ) (at : ℕ) → o ≡ Some d → EndsAt o at → (es : List Entry) × IsLog d es at
 log_of o d at is ends = subst (λ (p : Option (List ℕ)). EndsAt p at) is ends

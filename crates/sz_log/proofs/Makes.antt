@@ -1,10 +1,9 @@
 -- How the calls that make a log join. The key idea: each of them is synced before the next, so a stop within one tears
 -- one image alone, and as long as the header's gate is closed what is left is no log.
-use Rattle.std.proofs.Common.{◌≡◌, ◌≢◌, ◌⊎◌, inl, inr, ℕ, zero, suc, ◌+◌, ◌≤◌, Bool, true, false, List, Option, None, Some, [], ◌∷◌, ◌++◌, refl, sym, ap, ◌∙◌, subst, length, get_or, take, drop, arith}
+use Rattle.std.proofs.Common.{◌≡◌, ◌≢◌, inl, inr, ℕ, ◌≤◌, Bool, false, List, Option, None, Some, [], ◌∷◌, refl, sym, ap, ◌∙◌, subst, length, get_or, take, drop, arith}
 use Rattle.std.proofs.lemmas.Bool.{cases_eq, le-ltb}
 use Rattle.std.proofs.lemmas.Bool.Decides.{nat_tests}
-use Rattle.std.proofs.lemmas.List.{drop_more}
-use Rattle.sz_outside.specs.Disk.{Only, Passes, Follows, Said, Same, Torn, Cut, HasImage, written}
+use Rattle.sz_outside.specs.Disk.{Passes, Follows, Said, Same, Torn, Cut, HasImage}
 use Rattle.sz_log.specs.Log.{begins_as_log, empty_log, bar_to}
 use Rattle.sz_log.specs.Places.{SaysWhether}
 use Rattle.sz_log.specs.Steps.{IsShort, Makes, MakesIfFree}
@@ -86,9 +85,6 @@ pub free : (d old image : List ℕ) → (images : List ℕ → Type 0) → bar_t
 free d old image images is_free has was (inl same) = (old, was, inl same)
 free d old image images is_free has was (inr made) = (d, has, inr (is_free, made))
 
-
-
-
 pub bar_none : (d : List ℕ) → begins_as_log d ≡ false → length d ≤ 17 → bar_to d ≡ None
 bar_none d no_log small = rw (no_log, le-ltb 17 (length d) small) refl
 
@@ -111,7 +107,7 @@ pub makes_free : {before mid now : ℕ} {past half since : ℕ → List ℕ → 
 makes_free {before} {mid} {now} {past} {half} {since} {A} {B} {C} found then d is_free has one two same =
     joined_by found then one two same (λ image (old, was, is). (old, was, inl is))
     (λ image (old, was, makes). free d (one.images old was).0 image A is_free has (one.images old was).1
-        (subst (λ (l : List ℕ). Makes l image) (one.images old was).2 makes))
+    (subst (λ (l : List ℕ). Makes l image) (one.images old was).2 makes))
 
 pub whether_of : (o : Option (List ℕ)) (d : List ℕ) (says : Bool) → o ≡ Some d → SaysWhether o says → says ≡ begins_as_log d
 whether_of o d says is whether = subst (λ (p : Option (List ℕ)). SaysWhether p says) is whether

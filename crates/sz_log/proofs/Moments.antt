@@ -1,8 +1,7 @@
 -- How calls join. The key idea: what a stop leaves in the second of two calls follows from what may be left between
 -- them, so it is enough to say once what both steps together make of an image.
-use Rattle.std.proofs.Common.{◌≡◌, ◌⊎◌, inl, inr, ⊎_elim, ℕ, ◌≤◌, List, Option, None, Some, refl, sym, ap, ◌∙◌, take, subst, arith}
-use Rattle.std.specs.Prelude.{⊤}
-use Rattle.sz_outside.specs.Disk.{Told, Only, Passes, Follows, Said, Same, Torn, Writes, written}
+use Rattle.std.proofs.Common.{◌≡◌, inl, inr, ⊎_elim, ℕ, ◌≤◌, List, Option, None, Some, refl, ◌∙◌, subst, arith}
+use Rattle.sz_outside.specs.Disk.{Told, Only, Passes, Follows, Said, Torn, Writes, written}
 use Rattle.sz_log.specs.Steps.{KeepsFront}
 use Rattle.sz_log.proofs.Tears.{torn_keeps}
 
@@ -91,17 +90,4 @@ keeps_write {before} {mid} {now} {past} {half} {since} {A} {B} {C} found then k 
       (one.images old was).0,
       (one.images old was).1,
       torn_keeps k at n old image le torn ∙ (one.images old was).2,
-    ))
-
-pub keeps_sync : {before mid now : ℕ} {past half since : ℕ → List ℕ → List ℕ → Type 0} {A B C : List ℕ → Type 0}
-    (found then : Option (List ℕ)) (k : ℕ)
-    → Passes before mid past half A B (KeepsFront k) (Said found)
-    → Passes mid now half since B C Same (Said then)
-    → then ≡ found
-    → Passes before now past since A C (KeepsFront k) (Said found)
-keeps_sync {before} {mid} {now} {past} {half} {since} {A} {B} {C} found then k one two same =
-    joined_by found then one two same (λ image was. was) (λ image (old, was, is). (
-      (one.images old was).0,
-      (one.images old was).1,
-      ap (λ (l : List ℕ). take k l) is ∙ (one.images old was).2,
     ))

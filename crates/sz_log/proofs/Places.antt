@@ -1,6 +1,8 @@
 -- What stands at a place, by the first ten bytes from there on.
-use Rattle.std.proofs.Common.{◌≡◌, ℕ, ◌+◌, ◌-◌, List, [], ◌∷◌, ◌++◌, refl, sym, ap, ◌∙◌, length, take, drop, arith}
+use Rattle.std.proofs.Common.{◌≡◌, ℕ, ◌+◌, ◌-◌, List, [], ◌∷◌, ◌++◌, sym, ap, ◌∙◌, length, drop, arith}
 use Rattle.std.proofs.Common.{length-append, length-drop, take-append-drop, slice_index_or}
+use Rattle.std.proofs.lemmas.Bool.Decides.{nat_tests}
+use Rattle.std.specs.Prelude.{◌==◌, true}
 use Rattle.std.specs.Int.{w64, from_be_bytes}
 use Rattle.sz_outside.specs.Disk.{bytes_at}
 use Rattle.sz_log.specs.Places.{group_in, group_on, opened_with}
@@ -9,6 +11,9 @@ use Rattle.sz_log.specs.Places.{group_in, group_on, opened_with}
 abbrev pub eight : List ℕ → List ℕ
 eight l = slice_index_or l 2 0 ∷ slice_index_or l 3 0 ∷ slice_index_or l 4 0 ∷ slice_index_or l 5 0
     ∷ slice_index_or l 6 0 ∷ slice_index_or l 7 0 ∷ slice_index_or l 8 0 ∷ slice_index_or l 9 0 ∷ []
+
+pub gate_is : (gate : ℕ) → (gate == 1) ≡ true → gate ≡ 1
+gate_is gate is_one = grind (arith, nat_tests)
 
 module _ (at : ℕ) where
   -- ten bytes and a rest

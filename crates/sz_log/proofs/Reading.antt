@@ -1,16 +1,15 @@
 -- What is read of a log place by place. The key idea: behind any front, the bytes of the next group say where the front
 -- goes on.
-use Rattle.std.proofs.Common.{◌≡◌, ◌≢◌, ℕ, ◌+◌, ◌≤◌, ◌<◌, ◌^◌, true, List, [], ◌∷◌, ◌++◌, refl, sym, ap, ◌∙◌, length, take, drop, arith}
+use Rattle.std.proofs.Common.{◌≡◌, ◌≢◌, ℕ, ◌+◌, ◌≤◌, true, List, [], ◌∷◌, ◌++◌, refl, sym, ap, ◌∙◌, length, take, drop, arith}
 use Rattle.std.proofs.Common.{append_assoc, length-append}
 use Rattle.std.proofs.lemmas.Bool.Decides.{nat_tests}
 use Rattle.std.proofs.lemmas.Nat.{from_be_bytes-to_be_bytes_8}
 use Rattle.std.proofs.lemmas.List.{take_at, drop_at}
 use Rattle.std.specs.Prelude.{nat_le}
-use Rattle.std.specs.Int.{w64, to_be_bytes, from_be_bytes}
+use Rattle.std.specs.Int.{w64, to_be_bytes}
 use Rattle.std.specs.List.{flat_map, AllByRecursion}
-use Rattle.sz_outside.specs.Disk.{bytes_at}
-use Rattle.sz_log.specs.Log.{Entry, IsEntry, IsLog, group_bytes, header, is_kind}
-use Rattle.sz_log.specs.Places.{group_in, group_on, opened_with}
+use Rattle.sz_log.specs.Log.{Entry, IsEntry, group_bytes, header, is_kind}
+use Rattle.sz_log.specs.Places.{group_in, opened_with}
 use Rattle.sz_log.specs.Steps.{place_behind}
 use Rattle.sz_log.specs.Laws.{Reads, GroupsAreRead}
 use Rattle.sz_log.specs.declared.groups.Group.TheVariants.{Closed, Whole}
@@ -57,8 +56,7 @@ walk disk front (e ∷ es) at end gate behind is place last each shut =
     inner ∙ ap (λ (l : List ℕ). front ++ l) (append_assoc (head e) e.body rest)
     ∙ sym (append_assoc front (head e) (e.body ++ rest)) in
     let long : length (front ++ head e) ≡ at + 10 = omega (arith, place, length-append front (head e)) in
-    let size : length (group_bytes e) ≡ 10 + length e.body = omega arith in
-    (
+    let size : length (group_bytes e) ≡ 10 + length e.body = omega arith in (
       ap (group_in at) (ap (λ (l : List ℕ). drop at l) inner ∙ drop_at front (group_bytes e ++ rest) at (sym place))
           ∙ whole_group at e rest each.0,
       ap (λ (l : List ℕ). take (length e.body) l)

@@ -2,9 +2,9 @@
 --
 -- The key idea: on written-out bytes every definition is a computation, so a row that holds is its own proof, and
 -- a row that does not holds two different values equal.
-use Rattle.std.proofs.Common.{◌≡◌, ℕ, ◌+◌, ◌-◌, ◌^◌, true, false, None, Some, List, [], ◌∷◌, ◌++◌, refl, length, take}
+use Rattle.std.proofs.Common.{◌≡◌, ℕ, true, false, None, Some, List, [], ◌∷◌, ◌++◌, refl, length, take}
 use Rattle.std.proofs.Common.{set, replicate, arith}
-use Rattle.sz_log.specs.Log.{Entry, IsLog, empty_log, header, begins_as_log, bar_to, is_kind, log_bytes}
+use Rattle.sz_log.specs.Log.{Entry, IsLog, empty_log, header, begins_as_log, bar_to, log_bytes}
 use Rattle.sz_log.specs.Places.{group_on}
 use Rattle.sz_log.specs.Steps.{IsShort, place_behind}
 use Rattle.sz_log.specs.Laws.{Reads}

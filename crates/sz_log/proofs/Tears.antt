@@ -1,15 +1,15 @@
 -- What a torn write leaves of a log. The key idea: whatever stands behind the closed gate, a log is its bytes up to
 -- that gate, the gate's byte, and a rest.
-use Rattle.std.proofs.Common.{◌≡◌, ◌≢◌, ◌⊎◌, inl, inr, ℕ, zero, suc, ◌+◌, ◌≤◌, ◌<◌, ◌^◌, true, List, [], ◌∷◌, ◌++◌}
-use Rattle.std.proofs.Common.{refl, sym, ap, ◌∙◌, subst, length, get_or, take, drop, arith}
-use Rattle.std.proofs.Common.{append_assoc, length-append, length-drop, take-append-drop}
+use Rattle.std.proofs.Common.{◌≡◌, ◌≢◌, ◌⊎◌, inl, inr, ℕ, zero, suc, ◌+◌, ◌≤◌, ◌<◌, List, [], ◌∷◌, ◌++◌}
+use Rattle.std.proofs.Common.{refl, sym, ap, ◌∙◌, length, get_or, take, drop, arith}
+use Rattle.std.proofs.Common.{append_assoc, length-append, take-append-drop}
 use Rattle.std.proofs.Math.Seq.{drop-append-add}
-use Rattle.std.proofs.lemmas.List.{take_at, drop_at, drop_more, take_all, drop_all, length-take-le, append-nil}
+use Rattle.std.proofs.lemmas.List.{take_at, drop_at, drop_more, drop_all, length-take-le, append-nil}
 use Rattle.std.proofs.lemmas.Bool.{cases_eq}
 use Rattle.std.specs.List.{flat_map, AllByRecursion}
 use Rattle.sz_outside.specs.Disk.{Torn, written}
 use Rattle.sz_log.specs.Log.{Entry, IsEntry, IsLog, entry_bytes, group_bytes, log_bytes, header}
-use Rattle.sz_log.specs.Steps.{KeepsFront, place_behind, AddsOrKeeps, Adds}
+use Rattle.sz_log.specs.Steps.{KeepsFront, place_behind}
 
 -- ---- lists
 

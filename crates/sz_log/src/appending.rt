@@ -76,8 +76,7 @@ fn stage<T: Station>(station: &mut T, at: u64, kind: u8, body: &[u8]) -> Result<
 {
     station.write_at(at, &head_of(kind, body.len() as u64))?;
     let gate = write(station, at + 9, body)?;
-    write(station, gate, &[0])?;
-    station.sync()?;
+    put(station, gate, &[0])?;
     Ok(gate)
 }
 

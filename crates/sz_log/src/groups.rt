@@ -1,5 +1,5 @@
 //! Reading a log: whether a disk begins as one, and what stands at a place.
-ghost use Rattle.std.specs.Prelude.{◌≡◌, ◌<◌, ◌+◌, ◌^◌, List, ℕ, IfOk, is_ok, length};
+ghost use Rattle.std.specs.Prelude.{◌≡◌, ◌==◌, ◌<◌, ◌+◌, ◌^◌, List, ℕ, IfOk, is_ok, length};
 ghost use Rattle.sz_outside.specs.Counts.{faults_after};
 ghost use Rattle.sz_outside.specs.Disk.{Told, Passes, Same, Said, bytes_at};
 ghost use Rattle.sz_log.specs.Log.{is_kind};
@@ -85,7 +85,7 @@ fn group_of(at: u64, head: &[u8], size: u64) -> Group
     let [gate, ..] = head else {
         return Group::Bad;
     };
-    if *gate != 1 {
+    if !is_open(*gate) {
         return Group::Closed;
     }
     let [_, kind, a, b, c, d, e, f, g, h] = head else {
@@ -93,6 +93,13 @@ fn group_of(at: u64, head: &[u8], size: u64) -> Group
     };
     let length = u64::from_be_bytes([*a, *b, *c, *d, *e, *f, *g, *h]);
     group_with(at, *kind, length, size.saturating_sub(at))
+}
+
+/// Whether a gate is open.
+fn is_open(gate: u8) -> bool
+    ensures { result ≡ (gate == 1) }
+{
+    gate == 1
 }
 
 /// What stands at a place behind an open gate, by the kind and the length there, where so many

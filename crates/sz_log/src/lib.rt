@@ -15,6 +15,7 @@
 //! // and end.at is 28
 //! ```
 #![tactic(auto)]
+
 ghost use Rattle.sz_log.specs.Laws.{GroupsAreRead};
 
 mod appending;
@@ -58,8 +59,7 @@ impl From<Failed> for LogFault {
 /// The groups of a log are those that are read at one place after another from byte 16 on.
 pub fn groups_are_read()
     ensures { GroupsAreRead }
-{
-}
+{}
 
 #[cfg(test)]
 mod tests;

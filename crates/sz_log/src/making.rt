@@ -10,6 +10,9 @@ use crate::writing::put;
 use crate::{LogEnd, LogFault};
 use sz_outside::{Failed, Station};
 
+/// The most bytes that a stop of `init` leaves.
+const MOST: u64 = 17;
+
 /// The title of a log and its first closed gate.
 const TITLE: [u8; 16] = [
     83, 117, 98, 90, 101, 114, 111, 32, 108, 111, 103, 32, 49, 13, 10, 0,
@@ -41,7 +44,7 @@ pub fn init<T: Station>(station: &mut T) -> Result<LogEnd, LogFault>
     if is_log(station)? {
         return Err(LogFault::AlreadyALog);
     }
-    if size > 17 {
+    if size > MOST {
         return Err(LogFault::NotALog);
     }
     make(station)?;

@@ -23,6 +23,7 @@ const LINE: &[u8] = b"{\"array\":\"a\",\"cells\":[[5]]}";
 
 /// How many disk calls `init` and `append` make.
 const INIT_CALLS: u64 = 13;
+
 const APPEND_CALLS: u64 = 10;
 
 /// A station with the empty log, whose disk calls all fail past so many.
@@ -42,12 +43,7 @@ fn failing_empty(alloc: Global, call: u64) -> Result<MemStation, NoMemory>
 
 /// A station with these bytes.
 fn station_with(alloc: Global, disk: &[u8]) -> Result<MemStation, NoMemory> {
-    MemStation::new(
-        alloc,
-        disk.to_vec(alloc)?,
-        Vec::new(alloc),
-        Vec::new(alloc),
-    )
+    MemStation::new(alloc, disk.to_vec(alloc)?, Vec::new(alloc), Vec::new(alloc))
 }
 
 /// Adds a group of kind 1 to the empty log.
@@ -61,12 +57,14 @@ fn add(station: &mut MemStation, body: &[u8]) -> Result<LogEnd, Failed>
 fn is_without_or_with(image: &mut MemStation, has_it: bool) -> bool {
     match group_at(image, 16) {
         Ok(Group::Closed) => !has_it,
-        Ok(Group::Whole {
-            kind,
-            body,
-            length,
-            next,
-        }) => {
+        Ok(
+            Group::Whole {
+                kind,
+                body,
+                length,
+                next,
+            },
+        ) => {
             kind == 1
                 && body == 26
                 && length == 27
@@ -92,7 +90,10 @@ fn a_log_is_made_and_has_a_group(rt: HostRuntime) -> Result<(), Fail> {
     let mut station = station_with(alloc, &[])?;
     assert_eq!(rt; is_log(&mut station), Ok(false));
     assert_eq!(rt; init(&mut station), Ok(LogEnd { at: 16 }));
-    assert_eq!(rt; station.image(alloc, Torn::New)?.as_slice(), EMPTY.as_slice());
+    assert_eq!(rt;
+        station.image(alloc, Torn::New)?.as_slice(),
+        EMPTY.as_slice()
+    );
     assert_eq!(rt; is_log(&mut station), Ok(true));
     let mut station = failing_empty(alloc, 99)?;
     assert_eq!(rt; add(&mut station, LINE), Ok(LogEnd { at: 53 }));
@@ -160,7 +161,10 @@ fn what_is_a_log_or_too_long_is_no_more_made_one(rt: HostRuntime) -> Result<(), 
     assert_eq!(rt; log.image(alloc, Torn::New)?.as_slice(), LOG);
     let mut foreign = station_with(alloc, &[7; 18])?;
     assert_eq!(rt; init(&mut foreign), Err(LogFault::NotALog));
-    assert_eq!(rt; foreign.image(alloc, Torn::New)?.as_slice(), [7; 18].as_slice());
+    assert_eq!(rt;
+        foreign.image(alloc, Torn::New)?.as_slice(),
+        [7; 18].as_slice()
+    );
     let mut short = station_with(alloc, &[7; 17])?;
     assert_eq!(rt; init(&mut short), Ok(LogEnd { at: 16 }));
     Ok(())

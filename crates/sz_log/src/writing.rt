@@ -5,8 +5,8 @@ ghost use Rattle.sz_outside.specs.Disk.{Passes, Torn, Said, Only, written};
 
 use sz_outside::{Failed, Station};
 
-/// Writes these bytes at a place of the disk, and says which place is behind them. A place behind
-/// the disk's end is taken as the end.
+/// Writes these bytes at a place of the disk, and says which place is behind them. Where the disk is
+/// shorter they go to its end, since nothing can be written behind it.
 pub fn write<T: Station>(station: &mut T, at: u64, bytes: &[u8]) -> Result<u64, Failed>
     ensures written { OnOk result ((d : List ℕ) → T.disk station.old ≡ Some d → at ≤ length d
         → T.disk station.new ≡ Some (written d at bytes.now)) }

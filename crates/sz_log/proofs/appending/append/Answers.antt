@@ -1,5 +1,5 @@
 -- Up to the gate all stays while the group is written behind it, and then the gate alone is torn.
-use Rattle.std.proofs.Common.{◌≡◌, ◌≤◌, ◌<◌, ◌+◌, ◌++◌, ◌∷◌, [], List, ℕ, Some, length, ap, ◌∙◌, subst, arith}
+use Rattle.std.proofs.Common.{◌≡◌, ◌≤◌, ◌+◌, ◌++◌, ◌∷◌, [], List, ℕ, Some, length, ap, ◌∙◌, subst, arith}
 use Rattle.sz_outside.specs.Disk.{Passes, Said, written}
 use Rattle.sz_log.specs.Log.{Entry, IsEntry, entry_bytes}
 use Rattle.sz_log.specs.Steps.{KeepsFront}
@@ -19,9 +19,9 @@ returns-in_err-next-clause-stops g c = all_told _ _ (λ d is.
     let place : c.saturating_add.result ≤ length d = omega (arith, next, inner) in
     let front = looks_first found (g.T.Station.said c.size.new.self) (at + 1) (told o d _ is c.size.ensures.stops)
     (subst (λ (n : ℕ). Passes (g.T.Station.moment c.size.new.self) (g.T.Station.moment c.stage.new.station)
-        (g.T.Station.left_since c.size.new.self) (g.T.Station.left_since c.stage.new.station)
-        (g.T.Station.may_leave c.size.new.self) (g.T.Station.may_leave c.stage.new.station)
-        (KeepsFront n) (Said (g.T.Station.said c.size.new.self))) next (c.stage.ensures.stops d is_1 place)) c.size.ensures.output.0 in
+    (g.T.Station.left_since c.size.new.self) (g.T.Station.left_since c.stage.new.station)
+    (g.T.Station.may_leave c.size.new.self) (g.T.Station.may_leave c.stage.new.station)
+    (KeepsFront n) (Said (g.T.Station.said c.size.new.self))) next (c.stage.ensures.stops d is_1 place)) c.size.ensures.output.0 in
     let log = as_log at (record { kind = c.args.kind; body = c.args.body.now }) front in
     log)
 
@@ -36,9 +36,9 @@ returns-in_err-put-clause-stops g c = all_told _ _ (λ d is.
     let place : c.saturating_add.result ≤ length d = omega (arith, next, inner) in
     let front = looks_first found (g.T.Station.said c.size.new.self) (at + 1) (told o d _ is c.size.ensures.stops)
     (subst (λ (n : ℕ). Passes (g.T.Station.moment c.size.new.self) (g.T.Station.moment c.stage.new.station)
-        (g.T.Station.left_since c.size.new.self) (g.T.Station.left_since c.stage.new.station)
-        (g.T.Station.may_leave c.size.new.self) (g.T.Station.may_leave c.stage.new.station)
-        (KeepsFront n) (Said (g.T.Station.said c.size.new.self))) next (c.stage.ensures.stops d is_1 place)) c.size.ensures.output.0 in
+    (g.T.Station.left_since c.size.new.self) (g.T.Station.left_since c.stage.new.station)
+    (g.T.Station.may_leave c.size.new.self) (g.T.Station.may_leave c.stage.new.station)
+    (KeepsFront n) (Said (g.T.Station.said c.size.new.self))) next (c.stage.ensures.stops d is_1 place)) c.size.ensures.output.0 in
     let log = as_log at (record { kind = c.args.kind; body = c.args.body.now }) front in
     let e : Entry = record { kind = c.args.kind; body = c.args.body.now } in
     let disk_2 : g.T.Station.disk c.stage.new.station ≡ Some (staged d at e) =
@@ -62,9 +62,9 @@ returns-clause-stops g c = all_told _ _ (λ d is.
     let place : c.saturating_add.result ≤ length d = omega (arith, next, inner) in
     let front = looks_first found (g.T.Station.said c.size.new.self) (at + 1) (told o d _ is c.size.ensures.stops)
     (subst (λ (n : ℕ). Passes (g.T.Station.moment c.size.new.self) (g.T.Station.moment c.stage.new.station)
-        (g.T.Station.left_since c.size.new.self) (g.T.Station.left_since c.stage.new.station)
-        (g.T.Station.may_leave c.size.new.self) (g.T.Station.may_leave c.stage.new.station)
-        (KeepsFront n) (Said (g.T.Station.said c.size.new.self))) next (c.stage.ensures.stops d is_1 place)) c.size.ensures.output.0 in
+    (g.T.Station.left_since c.size.new.self) (g.T.Station.left_since c.stage.new.station)
+    (g.T.Station.may_leave c.size.new.self) (g.T.Station.may_leave c.stage.new.station)
+    (KeepsFront n) (Said (g.T.Station.said c.size.new.self))) next (c.stage.ensures.stops d is_1 place)) c.size.ensures.output.0 in
     let log = as_log at (record { kind = c.args.kind; body = c.args.body.now }) front in
     let e : Entry = record { kind = c.args.kind; body = c.args.body.now } in
     let disk_2 : g.T.Station.disk c.stage.new.station ≡ Some (staged d at e) =

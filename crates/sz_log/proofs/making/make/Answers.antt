@@ -1,5 +1,5 @@
 -- Each call tears one image alone.
-use Rattle.std.proofs.Common.{◌≡◌, [], ◌∷◌, ℕ, Some, ◌∙◌, arith}
+use Rattle.std.proofs.Common.{[], ◌∷◌, ◌∙◌, arith}
 use Rattle.std.proofs.lemmas.Result.{on_ok_weaker}
 use Rattle.sz_log.proofs.Moments.{only_of}
 use Rattle.sz_log.proofs.Makes.{cleared, puts, title, torn_first, torn_second, torn_third}
