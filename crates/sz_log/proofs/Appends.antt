@@ -1,6 +1,7 @@
 -- How the calls of an append join. The key idea: until the gate is written all that stands up to it stays, and then
 -- the whole group stands behind it, whatever the gate's byte is.
-use Rattle.std.proofs.Common.{◌≡◌, ℕ, ◌+◌, ◌-◌, ◌≤◌, ◌<◌, ◌^◌, min, inl, List, Option, None, Some, [], ◌∷◌, ◌++◌, refl, ap, ◌∙◌, subst, length, take, arith}
+use Rattle.std.proofs.Common.{◌≡◌, ℕ, ◌+◌, ◌-◌, ◌≤◌, ◌<◌, ◌^◌, min, inl, List, Option, None, Some, [], ◌∷◌, ◌++◌, refl}
+use Rattle.std.proofs.Common.{ap, ◌∙◌, subst, length, take, arith}
 use Rattle.sz_outside.specs.Disk.{Passes, Said, Same, Torn, Writes, HasSize, written}
 use Rattle.sz_log.specs.Log.{Entry, EndsAt, IsEntry, IsLog, group_bytes}
 use Rattle.sz_log.specs.Steps.{KeepsFront, AddsOrKeeps, Added}

@@ -1,6 +1,7 @@
 -- How the calls that make a log join. The key idea: each of them is synced before the next, so a stop within one tears
 -- one image alone, and as long as the header's gate is closed what is left is no log.
-use Rattle.std.proofs.Common.{◌≡◌, ◌≢◌, inl, inr, ℕ, ◌≤◌, Bool, false, List, Option, None, Some, [], ◌∷◌, refl, sym, ap, ◌∙◌, subst, length, get_or, take, drop, arith}
+use Rattle.std.proofs.Common.{◌≡◌, ◌≢◌, inl, inr, ℕ, ◌≤◌, Bool, false, List, Option, None, Some, [], ◌∷◌, refl, sym, ap}
+use Rattle.std.proofs.Common.{◌∙◌, subst, length, get_or, take, drop, arith}
 use Rattle.std.proofs.lemmas.Bool.{cases_eq, le-ltb}
 use Rattle.std.proofs.lemmas.Bool.Decides.{nat_tests}
 use Rattle.sz_outside.specs.Disk.{Passes, Follows, Said, Same, Torn, Cut, HasImage}
@@ -80,7 +81,8 @@ pub image_of : (o : Option (List ℕ)) (d : List ℕ) (images : List ℕ → Typ
 image_of o d images is has = subst (λ (p : Option (List ℕ)). HasImage p images) is has
 
 -- where the disk is free to be made a log
-pub free : (d old image : List ℕ) → (images : List ℕ → Type 0) → bar_to d ≡ None → images d → images old → Makes old image
+pub free : (d old image : List ℕ) → (images : List ℕ → Type 0) → bar_to d ≡ None → images d → images old
+    → Makes old image
     → Follows MakesIfFree images image
 free d old image images is_free has was (inl same) = (old, was, inl same)
 free d old image images is_free has was (inr made) = (d, has, inr (is_free, made))
@@ -109,5 +111,6 @@ makes_free {before} {mid} {now} {past} {half} {since} {A} {B} {C} found then d i
     (λ image (old, was, makes). free d (one.images old was).0 image A is_free has (one.images old was).1
     (subst (λ (l : List ℕ). Makes l image) (one.images old was).2 makes))
 
-pub whether_of : (o : Option (List ℕ)) (d : List ℕ) (says : Bool) → o ≡ Some d → SaysWhether o says → says ≡ begins_as_log d
+pub whether_of : (o : Option (List ℕ)) (d : List ℕ) (says : Bool) → o ≡ Some d → SaysWhether o says
+    → says ≡ begins_as_log d
 whether_of o d says is whether = subst (λ (p : Option (List ℕ)). SaysWhether p says) is whether

@@ -34,26 +34,28 @@ pub joined_by : {before mid now : ℕ} {past half since : ℕ → List ℕ → L
     → ((image : List ℕ) → Follows S A image → Follows U A image)
     → ((image : List ℕ) → Follows T B image → Follows U A image)
     → Passes before now past since A C U (Said found)
-joined_by {before} {mid} {now} {past} {half} {since} {A} {B} {C} {S} {T} {U} found then one two same first second = record {
-  later = omega (arith, one.later, two.later);
-  joined = λ t image said le left. ⊎_elim
-      (λ was. ⊎_elim inl (λ in_first. inr (two.kept before image said one.later in_first)) (one.joined t image said le was))
-      (λ in_second. inr (two.earlier before image said one.later in_second))
-      (two.joined t image said (omega (arith, le, one.later)) left);
-  kept = λ t image said le was. two.kept t image said (omega (arith, le, one.later)) (one.kept t image said le was);
-  earlier = λ t image said le left. ⊎_elim
-      (λ in_first. two.kept t image said (omega (arith, le, one.later)) (one.earlier t image said le in_first))
-      (λ in_second. two.earlier t image said (omega (arith, le, one.later)) in_second)
-      (two.joined before image said one.later left);
-  within = λ image said left. ⊎_elim
-      (λ in_first. (first image (one.within image said in_first).0, (one.within image said in_first).1))
-      (λ in_second. (
-        second image (two.within image said in_second).0,
-        subst (λ (o : Option (List ℕ)). Said o said) same (two.within image said in_second).1,
-      ))
-      (two.joined before image said one.later left);
-  images = λ image left. second image (two.images image left);
-}
+joined_by {before} {mid} {now} {past} {half} {since} {A} {B} {C} {S} {T} {U} found then one two same first second =
+    record {
+      later = omega (arith, one.later, two.later);
+      joined = λ t image said le left. ⊎_elim
+          (λ was. ⊎_elim inl (λ in_first. inr (two.kept before image said one.later in_first))
+          (one.joined t image said le was))
+          (λ in_second. inr (two.earlier before image said one.later in_second))
+          (two.joined t image said (omega (arith, le, one.later)) left);
+      kept = λ t image said le was. two.kept t image said (omega (arith, le, one.later)) (one.kept t image said le was);
+      earlier = λ t image said le left. ⊎_elim
+          (λ in_first. two.kept t image said (omega (arith, le, one.later)) (one.earlier t image said le in_first))
+          (λ in_second. two.earlier t image said (omega (arith, le, one.later)) in_second)
+          (two.joined before image said one.later left);
+      within = λ image said left. ⊎_elim
+          (λ in_first. (first image (one.within image said in_first).0, (one.within image said in_first).1))
+          (λ in_second. (
+            second image (two.within image said in_second).0,
+            subst (λ (o : Option (List ℕ)). Said o said) same (two.within image said in_second).1,
+          ))
+          (two.joined before image said one.later left);
+      images = λ image left. second image (two.images image left);
+    }
 
 -- a call whose images are seen otherwise
 pub seen_as : {before now : ℕ} {past since : ℕ → List ℕ → List ℕ → Type 0} {A C : List ℕ → Type 0}

@@ -18,7 +18,8 @@ gate_is gate is_one = grind (arith, nat_tests)
 module _ (at : ℕ) where
   -- ten bytes and a rest
   stands : (head rest : List ℕ) → length head ≡ 10 → slice_index_or head 0 0 ≡ 1
-      → opened_with at (slice_index_or head 1 0) (from_be_bytes w64 (eight head)) (10 + length rest) ≡ group_in at (head ++ rest)
+      → opened_with at (slice_index_or head 1 0) (from_be_bytes w64 (eight head)) (10 + length rest) ≡ group_in at
+      (head ++ rest)
   stands (g ∷ k ∷ a ∷ b ∷ c ∷ d ∷ e ∷ f ∷ h ∷ i ∷ []) rest is one =
       let left : 10 + length rest ≡ 2 + length (a ∷ b ∷ c ∷ d ∷ e ∷ f ∷ h ∷ i ∷ rest) = omega arith in
       ap (λ (n : ℕ). opened_with at k (from_be_bytes w64 (a ∷ b ∷ c ∷ d ∷ e ∷ f ∷ h ∷ i ∷ [])) n) left

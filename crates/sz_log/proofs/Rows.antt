@@ -2,7 +2,7 @@
 --
 -- The key idea: on written-out bytes every definition is a computation, so a row that holds is its own proof, and
 -- a row that does not holds two different values equal.
-use Rattle.std.proofs.Common.{◌≡◌, ℕ, true, false, None, Some, List, [], ◌∷◌, ◌++◌, refl, length, take}
+use Rattle.std.proofs.Common.{◌≡◌, ℕ, true, false, None, Some, List, [], ◌∷◌, ◌++◌, refl, length, take, drop}
 use Rattle.std.proofs.Common.{set, replicate, arith}
 use Rattle.sz_log.specs.Log.{Entry, IsLog, empty_log, header, begins_as_log, bar_to, log_bytes}
 use Rattle.sz_log.specs.Places.{group_on}
@@ -42,7 +42,8 @@ pub log-behind : place_behind 16 one ≡ 53
 log-behind = refl
 
 pub log-held : IsLog log (one ∷ []) 53
-log-held = record { gate = 0; behind = []; closed = omega arith; bytes = refl; place = refl; each = ((refl, omega arith), tt) }
+log-held =
+    record { gate = 0; behind = []; closed = omega arith; bytes = refl; place = refl; each = ((refl, omega arith), tt) }
 
 pub log-group : group_on log 16 ≡ Whole 1 26 27 53
 log-group = refl
@@ -83,10 +84,8 @@ pub gate_255 : group_on (set log 16 255) 16 ≡ Closed
 gate_255 = refl
 
 pub closed-held : IsLog (set log 16 0) [] 16
-closed-held = record { gate = 0; behind = one_behind; closed = omega arith; bytes = refl; place = refl; each = tt }
-  where
-    one_behind : List ℕ
-    one_behind = 1 ∷ 0 ∷ 0 ∷ 0 ∷ 0 ∷ 0 ∷ 0 ∷ 0 ∷ 27 ∷ 123 ∷ 34 ∷ 97 ∷ 114 ∷ 114 ∷ 97 ∷ 121 ∷ 34 ∷ 58 ∷ 34 ∷ 97 ∷ 34 ∷ 44 ∷ 34 ∷ 99 ∷ 101 ∷ 108 ∷ 108 ∷ 115 ∷ 34 ∷ 58 ∷ 91 ∷ 91 ∷ 53 ∷ 93 ∷ 93 ∷ 125 ∷ 0 ∷ []
+closed-held =
+    record { gate = 0; behind = drop 17 log; closed = omega arith; bytes = refl; place = refl; each = tt }
 
 -- a group is bad whose kind is none, or whose length is of the wrong end or the greatest number
 pub kind_0 : group_on (set log 17 0) 16 ≡ Bad

@@ -79,13 +79,15 @@ written-before d at b x lt =
 
 -- ---- logs
 
-pub flat_map-last : (es : List Entry) (e : Entry) → flat_map group_bytes (es ++ e ∷ []) ≡ flat_map group_bytes es ++ group_bytes e
+pub flat_map-last : (es : List Entry) (e : Entry)
+    → flat_map group_bytes (es ++ e ∷ []) ≡ flat_map group_bytes es ++ group_bytes e
 flat_map-last [] e = append-nil (group_bytes e)
 flat_map-last (x ∷ es) e =
     ap (λ (l : List ℕ). group_bytes x ++ l) (flat_map-last es e)
     ∙ sym (append_assoc (group_bytes x) (flat_map group_bytes es) (group_bytes e))
 
-pub each-last : (es : List Entry) (e : Entry) → AllByRecursion IsEntry es → IsEntry e → AllByRecursion IsEntry (es ++ e ∷ [])
+pub each-last : (es : List Entry) (e : Entry) → AllByRecursion IsEntry es → IsEntry e
+    → AllByRecursion IsEntry (es ++ e ∷ [])
 each-last [] e all is = (is, tt)
 each-last (x ∷ es) e all is = (all.0, each-last es e all.1 is)
 
@@ -97,7 +99,8 @@ length-entry : (e : Entry) → length (entry_bytes e) ≡ 9 + length e.body
 length-entry e = omega arith
 
 -- whatever closes the gate and stands behind it
-pub is_log_with : (es : List Entry) (at gate : ℕ) (behind disk : List ℕ) → at ≡ length (log_bytes es) → AllByRecursion IsEntry es
+pub is_log_with : (es : List Entry) (at gate : ℕ) (behind disk : List ℕ) → at ≡ length (log_bytes es)
+    → AllByRecursion IsEntry es
     → gate ≢ 1 → disk ≡ log_bytes es ++ gate ∷ behind → IsLog disk es at
 is_log_with es at gate behind disk place each closed bytes =
     record { gate = gate; behind = behind; closed = closed; bytes = bytes; place = place; each = each }
@@ -135,11 +138,13 @@ module _ (d : List ℕ) (es : List Entry) (at : ℕ) (held : IsLog d es at) wher
 
   -- the bytes up to the gate, and the gate
   pub front : take (at + 1) d ≡ log_bytes es ++ held.gate ∷ []
-  front = ap (λ (l : List ℕ). take (at + 1) l) (held.bytes ∙ sym (append_assoc (log_bytes es) (held.gate ∷ []) held.behind))
+  front = ap (λ (l : List ℕ). take (at + 1) l)
+      (held.bytes ∙ sym (append_assoc (log_bytes es) (held.gate ∷ []) held.behind))
       ∙ take_at (log_bytes es ++ held.gate ∷ []) held.behind (at + 1) long-front
 
   pub before : take at d ≡ log_bytes es
-  before = ap (λ (l : List ℕ). take at l) held.bytes ∙ take_at (log_bytes es) (held.gate ∷ held.behind) at (sym held.place)
+  before = ap (λ (l : List ℕ). take at l) held.bytes ∙ take_at (log_bytes es) (held.gate ∷ held.behind) at
+      (sym held.place)
 
   -- what keeps the gate and all before it keeps the log
   pub kept_log : (image : List ℕ) → KeepsFront (at + 1) d image → IsLog image es at

@@ -1,7 +1,8 @@
 -- What a stop in a call of the log leaves of an image that might have been left before it, and what
 -- the calls answer.
 use Rattle.std.specs.Prelude.{◌≡◌, ◌⊎◌, ℕ, ◌+◌, ◌≤◌, Bool, true, false, ⊤}
-use Rattle.std.specs.Prelude.{Option, None, Some, List, [], ◌∷◌, ◌++◌, length, take, Result, Ok, Err}
+use Rattle.std.specs.Prelude.{Option, None, Some, List, [], ◌∷◌, ◌++◌, length, take, Result, Ok}
+use Rattle.std.specs.Prelude.{Err}
 use Rattle.sz_log.specs.Log.{Entry, IsLog, begins_as_log, empty_log, bar_to}
 use Rattle.sz_log.specs.declared.LogEnd.{LogEnd}
 use Rattle.sz_log.specs.declared.LogFault.{LogFault}

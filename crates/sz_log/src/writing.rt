@@ -1,12 +1,13 @@
 //! Writing at a place of the disk, and putting it where a stop leaves it.
-ghost use Rattle.std.specs.Prelude.{◌≡◌, ◌≤◌, ◌<◌, ◌+◌, ◌^◌, List, ℕ, Some, IfOk, OnOk, is_ok, length};
+ghost use Rattle.std.specs.Prelude.{◌≡◌, ◌≤◌, ◌<◌, ◌+◌, ◌^◌, List, ℕ, Some, IfOk, OnOk, is_ok};
+ghost use Rattle.std.specs.Prelude.{length};
 ghost use Rattle.sz_outside.specs.Counts.{faults_after};
 ghost use Rattle.sz_outside.specs.Disk.{Passes, Torn, Said, Only, written};
 
 use sz_outside::{Failed, Station};
 
-/// Writes these bytes at a place of the disk, and says which place is behind them. Where the disk is
-/// shorter they go to its end, since nothing can be written behind it.
+/// Writes these bytes at a place of the disk, and says which place is behind them. Where the disk
+/// is shorter they go to its end, since nothing can be written behind it.
 pub fn write<T: Station>(station: &mut T, at: u64, bytes: &[u8]) -> Result<u64, Failed>
     ensures written { OnOk result ((d : List ℕ) → T.disk station.old ≡ Some d → at ≤ length d
         → T.disk station.new ≡ Some (written d at bytes.now)) }

@@ -15,13 +15,16 @@ returns-in_err-next-clause-stops g c = all_told _ _ (λ d is.
     let found = g.T.Station.said c.args.station.now in
     let is_1 = c.size.ensures.disk ∙ is in
     let inner = inside o d at is c.requires.log in
-    let next : c.saturating_add.result ≡ at + 1 = place_is o d at c.in_ok-size.field-0 c.saturating_add.result is c.requires.log c.in_ok-size.ensures.size (omega arith) c.saturating_add.ensures in
+    let next : c.saturating_add.result ≡ at + 1 =
+    place_is o d at c.in_ok-size.field-0 c.saturating_add.result is c.requires.log c.in_ok-size.ensures.size
+    (omega arith) c.saturating_add.ensures in
     let place : c.saturating_add.result ≤ length d = omega (arith, next, inner) in
     let front = looks_first found (g.T.Station.said c.size.new.self) (at + 1) (told o d _ is c.size.ensures.stops)
     (subst (λ (n : ℕ). Passes (g.T.Station.moment c.size.new.self) (g.T.Station.moment c.stage.new.station)
     (g.T.Station.left_since c.size.new.self) (g.T.Station.left_since c.stage.new.station)
     (g.T.Station.may_leave c.size.new.self) (g.T.Station.may_leave c.stage.new.station)
-    (KeepsFront n) (Said (g.T.Station.said c.size.new.self))) next (c.stage.ensures.stops d is_1 place)) c.size.ensures.output.0 in
+    (KeepsFront n) (Said (g.T.Station.said c.size.new.self))) next (c.stage.ensures.stops d is_1 place))
+    c.size.ensures.output.0 in
     let log = as_log at (record { kind = c.args.kind; body = c.args.body.now }) front in
     log)
 
@@ -32,22 +35,27 @@ returns-in_err-put-clause-stops g c = all_told _ _ (λ d is.
     let found = g.T.Station.said c.args.station.now in
     let is_1 = c.size.ensures.disk ∙ is in
     let inner = inside o d at is c.requires.log in
-    let next : c.saturating_add.result ≡ at + 1 = place_is o d at c.in_ok-size.field-0 c.saturating_add.result is c.requires.log c.in_ok-size.ensures.size (omega arith) c.saturating_add.ensures in
+    let next : c.saturating_add.result ≡ at + 1 =
+    place_is o d at c.in_ok-size.field-0 c.saturating_add.result is c.requires.log c.in_ok-size.ensures.size
+    (omega arith) c.saturating_add.ensures in
     let place : c.saturating_add.result ≤ length d = omega (arith, next, inner) in
     let front = looks_first found (g.T.Station.said c.size.new.self) (at + 1) (told o d _ is c.size.ensures.stops)
     (subst (λ (n : ℕ). Passes (g.T.Station.moment c.size.new.self) (g.T.Station.moment c.stage.new.station)
     (g.T.Station.left_since c.size.new.self) (g.T.Station.left_since c.stage.new.station)
     (g.T.Station.may_leave c.size.new.self) (g.T.Station.may_leave c.stage.new.station)
-    (KeepsFront n) (Said (g.T.Station.said c.size.new.self))) next (c.stage.ensures.stops d is_1 place)) c.size.ensures.output.0 in
+    (KeepsFront n) (Said (g.T.Station.said c.size.new.self))) next (c.stage.ensures.stops d is_1 place))
+    c.size.ensures.output.0 in
     let log = as_log at (record { kind = c.args.kind; body = c.args.body.now }) front in
     let e : Entry = record { kind = c.args.kind; body = c.args.body.now } in
     let disk_2 : g.T.Station.disk c.stage.new.station ≡ Some (staged d at e) =
     c.in_ok-next.ensures.written d is_1 place ∙ ap (λ (n : ℕ). Some (written d n (entry_bytes e ++ 0 ∷ []))) next in
-    let place_2 : at ≤ length (staged d at e) = omega (arith, length-written d (at + 1) (entry_bytes e ++ 0 ∷ []) inner) in
+    let place_2 : at ≤ length (staged d at e) =
+    omega (arith, length-written d (at + 1) (entry_bytes e ++ 0 ∷ []) inner) in
     let is_entry : IsEntry e = (c.requires.kind, omega (arith, c.in_ok-next.ensures.limit)) in
     let all = opens found (g.T.Station.said c.stage.new.station) at e d is_entry
     (only_of o d (g.T.Station.may_leave c.args.station.now) is c.requires.synced)
-    (only_of (g.T.Station.disk c.stage.new.station) (staged d at e) (g.T.Station.may_leave c.stage.new.station) disk_2 c.in_ok-next.ensures.synced)
+    (only_of (g.T.Station.disk c.stage.new.station) (staged d at e) (g.T.Station.may_leave c.stage.new.station) disk_2
+    c.in_ok-next.ensures.synced)
     log (c.put.ensures.stops (staged d at e) disk_2 place_2) (c.stage.ensures.output.0 ∙ c.size.ensures.output.0) in
     all)
 
@@ -58,22 +66,27 @@ returns-clause-stops g c = all_told _ _ (λ d is.
     let found = g.T.Station.said c.args.station.now in
     let is_1 = c.size.ensures.disk ∙ is in
     let inner = inside o d at is c.requires.log in
-    let next : c.saturating_add.result ≡ at + 1 = place_is o d at c.in_ok-size.field-0 c.saturating_add.result is c.requires.log c.in_ok-size.ensures.size (omega arith) c.saturating_add.ensures in
+    let next : c.saturating_add.result ≡ at + 1 =
+    place_is o d at c.in_ok-size.field-0 c.saturating_add.result is c.requires.log c.in_ok-size.ensures.size
+    (omega arith) c.saturating_add.ensures in
     let place : c.saturating_add.result ≤ length d = omega (arith, next, inner) in
     let front = looks_first found (g.T.Station.said c.size.new.self) (at + 1) (told o d _ is c.size.ensures.stops)
     (subst (λ (n : ℕ). Passes (g.T.Station.moment c.size.new.self) (g.T.Station.moment c.stage.new.station)
     (g.T.Station.left_since c.size.new.self) (g.T.Station.left_since c.stage.new.station)
     (g.T.Station.may_leave c.size.new.self) (g.T.Station.may_leave c.stage.new.station)
-    (KeepsFront n) (Said (g.T.Station.said c.size.new.self))) next (c.stage.ensures.stops d is_1 place)) c.size.ensures.output.0 in
+    (KeepsFront n) (Said (g.T.Station.said c.size.new.self))) next (c.stage.ensures.stops d is_1 place))
+    c.size.ensures.output.0 in
     let log = as_log at (record { kind = c.args.kind; body = c.args.body.now }) front in
     let e : Entry = record { kind = c.args.kind; body = c.args.body.now } in
     let disk_2 : g.T.Station.disk c.stage.new.station ≡ Some (staged d at e) =
     c.in_ok-next.ensures.written d is_1 place ∙ ap (λ (n : ℕ). Some (written d n (entry_bytes e ++ 0 ∷ []))) next in
-    let place_2 : at ≤ length (staged d at e) = omega (arith, length-written d (at + 1) (entry_bytes e ++ 0 ∷ []) inner) in
+    let place_2 : at ≤ length (staged d at e) =
+    omega (arith, length-written d (at + 1) (entry_bytes e ++ 0 ∷ []) inner) in
     let is_entry : IsEntry e = (c.requires.kind, omega (arith, c.in_ok-next.ensures.limit)) in
     let all = opens found (g.T.Station.said c.stage.new.station) at e d is_entry
     (only_of o d (g.T.Station.may_leave c.args.station.now) is c.requires.synced)
-    (only_of (g.T.Station.disk c.stage.new.station) (staged d at e) (g.T.Station.may_leave c.stage.new.station) disk_2 c.in_ok-next.ensures.synced)
+    (only_of (g.T.Station.disk c.stage.new.station) (staged d at e) (g.T.Station.may_leave c.stage.new.station) disk_2
+    c.in_ok-next.ensures.synced)
     log (c.put.ensures.stops (staged d at e) disk_2 place_2) (c.stage.ensures.output.0 ∙ c.size.ensures.output.0) in
     all)
 
@@ -84,7 +97,9 @@ returns-clause-end g c = all_told _ _ (λ d is.
     let found = g.T.Station.said c.args.station.now in
     let is_1 = c.size.ensures.disk ∙ is in
     let inner = inside o d at is c.requires.log in
-    let next : c.saturating_add.result ≡ at + 1 = place_is o d at c.in_ok-size.field-0 c.saturating_add.result is c.requires.log c.in_ok-size.ensures.size (omega arith) c.saturating_add.ensures in
+    let next : c.saturating_add.result ≡ at + 1 =
+    place_is o d at c.in_ok-size.field-0 c.saturating_add.result is c.requires.log c.in_ok-size.ensures.size
+    (omega arith) c.saturating_add.ensures in
     let place : c.saturating_add.result ≤ length d = omega (arith, next, inner) in
     omega (arith, next, c.in_ok-next.ensures.gate d is_1 place))
 
@@ -95,12 +110,15 @@ returns-clause-written g c = writes_told _ _ _ _ (λ d is.
     let found = g.T.Station.said c.args.station.now in
     let is_1 = c.size.ensures.disk ∙ is in
     let inner = inside o d at is c.requires.log in
-    let next : c.saturating_add.result ≡ at + 1 = place_is o d at c.in_ok-size.field-0 c.saturating_add.result is c.requires.log c.in_ok-size.ensures.size (omega arith) c.saturating_add.ensures in
+    let next : c.saturating_add.result ≡ at + 1 =
+    place_is o d at c.in_ok-size.field-0 c.saturating_add.result is c.requires.log c.in_ok-size.ensures.size
+    (omega arith) c.saturating_add.ensures in
     let place : c.saturating_add.result ≤ length d = omega (arith, next, inner) in
     let e : Entry = record { kind = c.args.kind; body = c.args.body.now } in
     let disk_2 : g.T.Station.disk c.stage.new.station ≡ Some (staged d at e) =
     c.in_ok-next.ensures.written d is_1 place ∙ ap (λ (n : ℕ). Some (written d n (entry_bytes e ++ 0 ∷ []))) next in
-    let place_2 : at ≤ length (staged d at e) = omega (arith, length-written d (at + 1) (entry_bytes e ++ 0 ∷ []) inner) in
+    let place_2 : at ≤ length (staged d at e) =
+    omega (arith, length-written d (at + 1) (entry_bytes e ++ 0 ∷ []) inner) in
     c.in_ok-put.ensures.written (staged d at e) disk_2 place_2
     ∙ ap (λ (l : List ℕ). Some l) (written-before d at 1 (entry_bytes e ++ 0 ∷ []) (omega (arith, inner))))
 
@@ -111,11 +129,14 @@ returns-clause-added g c = added_told _ _ _ _ (c.requires.kind, omega (arith, c.
     let found = g.T.Station.said c.args.station.now in
     let is_1 = c.size.ensures.disk ∙ is in
     let inner = inside o d at is c.requires.log in
-    let next : c.saturating_add.result ≡ at + 1 = place_is o d at c.in_ok-size.field-0 c.saturating_add.result is c.requires.log c.in_ok-size.ensures.size (omega arith) c.saturating_add.ensures in
+    let next : c.saturating_add.result ≡ at + 1 =
+    place_is o d at c.in_ok-size.field-0 c.saturating_add.result is c.requires.log c.in_ok-size.ensures.size
+    (omega arith) c.saturating_add.ensures in
     let place : c.saturating_add.result ≤ length d = omega (arith, next, inner) in
     let e : Entry = record { kind = c.args.kind; body = c.args.body.now } in
     let disk_2 : g.T.Station.disk c.stage.new.station ≡ Some (staged d at e) =
     c.in_ok-next.ensures.written d is_1 place ∙ ap (λ (n : ℕ). Some (written d n (entry_bytes e ++ 0 ∷ []))) next in
-    let place_2 : at ≤ length (staged d at e) = omega (arith, length-written d (at + 1) (entry_bytes e ++ 0 ∷ []) inner) in
+    let place_2 : at ≤ length (staged d at e) =
+    omega (arith, length-written d (at + 1) (entry_bytes e ++ 0 ∷ []) inner) in
     c.in_ok-put.ensures.written (staged d at e) disk_2 place_2
     ∙ ap (λ (l : List ℕ). Some l) (written-before d at 1 (entry_bytes e ++ 0 ∷ []) (omega (arith, inner))))

@@ -38,10 +38,13 @@ returns-in_err-put-clause-stops g c = λ d is le.
     (c.write.ensures.stops (written d at head) disk_1 place_1) c.write_at.ensures.output.0 (omega arith) in
     let mid = written (written d at head) (at + 9) c.args.body.now in
     let disk_2 = c.in_ok-gate.ensures.written (written d at head) disk_1 place_1 in
-    let behind_2 : c.in_ok-gate.gate ≡ at + 9 + length c.args.body.now = c.in_ok-gate.ensures.behind (written d at head) disk_1 place_1 in
-    let place_2 : c.in_ok-gate.gate ≤ length mid = omega (arith, behind_2, length-written (written d at head) (at + 9) c.args.body.now place_1) in
+    let behind_2 : c.in_ok-gate.gate ≡ at + 9 + length c.args.body.now =
+    c.in_ok-gate.ensures.behind (written d at head) disk_1 place_1 in
+    let place_2 : c.in_ok-gate.gate ≤ length mid =
+    omega (arith, behind_2, length-written (written d at head) (at + 9) c.args.body.now place_1) in
     keeps_write found (g.T.Station.said c.write.new.station) at c.in_ok-gate.gate 1 both
-    (c.put.ensures.stops mid disk_2 place_2) (c.write.ensures.output.0 ∙ c.write_at.ensures.output.0) (omega (arith, behind_2))
+    (c.put.ensures.stops mid disk_2 place_2) (c.write.ensures.output.0 ∙ c.write_at.ensures.output.0)
+    (omega (arith, behind_2))
 
 pub returns-clause-stops : goal.returns-clause-stops
 returns-clause-stops g c = λ d is le.
@@ -57,10 +60,13 @@ returns-clause-stops g c = λ d is le.
     (c.write.ensures.stops (written d at head) disk_1 place_1) c.write_at.ensures.output.0 (omega arith) in
     let mid = written (written d at head) (at + 9) c.args.body.now in
     let disk_2 = c.in_ok-gate.ensures.written (written d at head) disk_1 place_1 in
-    let behind_2 : c.in_ok-gate.gate ≡ at + 9 + length c.args.body.now = c.in_ok-gate.ensures.behind (written d at head) disk_1 place_1 in
-    let place_2 : c.in_ok-gate.gate ≤ length mid = omega (arith, behind_2, length-written (written d at head) (at + 9) c.args.body.now place_1) in
+    let behind_2 : c.in_ok-gate.gate ≡ at + 9 + length c.args.body.now =
+    c.in_ok-gate.ensures.behind (written d at head) disk_1 place_1 in
+    let place_2 : c.in_ok-gate.gate ≤ length mid =
+    omega (arith, behind_2, length-written (written d at head) (at + 9) c.args.body.now place_1) in
     keeps_write found (g.T.Station.said c.write.new.station) at c.in_ok-gate.gate 1 both
-    (c.put.ensures.stops mid disk_2 place_2) (c.write.ensures.output.0 ∙ c.write_at.ensures.output.0) (omega (arith, behind_2))
+    (c.put.ensures.stops mid disk_2 place_2) (c.write.ensures.output.0 ∙ c.write_at.ensures.output.0)
+    (omega (arith, behind_2))
 
 pub returns-clause-gate : goal.returns-clause-gate
 returns-clause-gate g c = λ d is le.
@@ -84,11 +90,15 @@ returns-clause-written g c = λ d is le.
     let place_1 : at + 9 ≤ length (written d at head) = omega (arith, nine, length-written d at head le) in
     let mid = written (written d at head) (at + 9) c.args.body.now in
     let disk_2 = c.in_ok-gate.ensures.written (written d at head) disk_1 place_1 in
-    let behind_2 : c.in_ok-gate.gate ≡ at + 9 + length c.args.body.now = c.in_ok-gate.ensures.behind (written d at head) disk_1 place_1 in
-    let place_2 : c.in_ok-gate.gate ≤ length mid = omega (arith, behind_2, length-written (written d at head) (at + 9) c.args.body.now place_1) in
+    let behind_2 : c.in_ok-gate.gate ≡ at + 9 + length c.args.body.now =
+    c.in_ok-gate.ensures.behind (written d at head) disk_1 place_1 in
+    let place_2 : c.in_ok-gate.gate ≤ length mid =
+    omega (arith, behind_2, length-written (written d at head) (at + 9) c.args.body.now place_1) in
     let bytes_2 : mid ≡ written d at (head ++ c.args.body.now) =
-    ap (λ (n : ℕ). written (written d at head) (at + n) c.args.body.now) (sym nine) ∙ written-both d at head c.args.body.now le in
-    let gate : c.in_ok-gate.gate ≡ at + length (head ++ c.args.body.now) = omega (arith, nine, behind_2, length-append head c.args.body.now) in
+    ap (λ (n : ℕ). written (written d at head) (at + n) c.args.body.now) (sym nine) ∙ written-both d at head
+    c.args.body.now le in
+    let gate : c.in_ok-gate.gate ≡ at + length (head ++ c.args.body.now) =
+    omega (arith, nine, behind_2, length-append head c.args.body.now) in
     let bytes_3 : written mid c.in_ok-gate.gate (0 ∷ []) ≡ written d at (head ++ c.args.body.now ++ 0 ∷ []) =
     ap (λ (l : List ℕ). written l c.in_ok-gate.gate (0 ∷ [])) bytes_2
     ∙ ap (λ (n : ℕ). written (written d at (head ++ c.args.body.now)) n (0 ∷ [])) gate

@@ -12,8 +12,11 @@ returns-in_err-make-clause-stops g c = all_told _ _ (λ d is.
     let found = g.T.Station.said c.args.station.now in
     let is_1 = c.size.ensures.disk ∙ is in
     let is_2 = c.is_log.ensures.disk ∙ is_1 in
-    let small : length d ≤ 17 = omega (arith, size_of o d c.in_ok-size.size is c.in_ok-size.ensures.size, c.if-size-gt-MOST.false) in
-    let no_log : begins_as_log d ≡ false = sym (whether_of (g.T.Station.disk c.size.new.self) d c.in_ok-is_log.field-0 is_1 c.in_ok-is_log.ensures.answer) ∙ c.if-branch.false in
+    let small : length d ≤ 17 =
+    omega (arith, size_of o d c.in_ok-size.size is c.in_ok-size.ensures.size, c.if-size-gt-MOST.false) in
+    let no_log : begins_as_log d ≡ false =
+    sym (whether_of (g.T.Station.disk c.size.new.self) d c.in_ok-is_log.field-0 is_1 c.in_ok-is_log.ensures.answer) ∙
+    c.if-branch.false in
     let looks = looks_twice found (g.T.Station.said c.size.new.self) (told o d _ is c.size.ensures.stops)
     (told (g.T.Station.disk c.size.new.self) d _ is_1 c.is_log.ensures.stops) c.size.ensures.output.0 in
     makes_free found (g.T.Station.said c.is_log.new.station) d (bar_none d no_log small)
@@ -26,8 +29,11 @@ returns-clause-stops g c = all_told _ _ (λ d is.
     let found = g.T.Station.said c.args.station.now in
     let is_1 = c.size.ensures.disk ∙ is in
     let is_2 = c.is_log.ensures.disk ∙ is_1 in
-    let small : length d ≤ 17 = omega (arith, size_of o d c.in_ok-size.size is c.in_ok-size.ensures.size, c.if-size-gt-MOST.false) in
-    let no_log : begins_as_log d ≡ false = sym (whether_of (g.T.Station.disk c.size.new.self) d c.in_ok-is_log.field-0 is_1 c.in_ok-is_log.ensures.answer) ∙ c.if-branch.false in
+    let small : length d ≤ 17 =
+    omega (arith, size_of o d c.in_ok-size.size is c.in_ok-size.ensures.size, c.if-size-gt-MOST.false) in
+    let no_log : begins_as_log d ≡ false =
+    sym (whether_of (g.T.Station.disk c.size.new.self) d c.in_ok-is_log.field-0 is_1 c.in_ok-is_log.ensures.answer) ∙
+    c.if-branch.false in
     let looks = looks_twice found (g.T.Station.said c.size.new.self) (told o d _ is c.size.ensures.stops)
     (told (g.T.Station.disk c.size.new.self) d _ is_1 c.is_log.ensures.stops) c.size.ensures.output.0 in
     makes_free found (g.T.Station.said c.is_log.new.station) d (bar_none d no_log small)
