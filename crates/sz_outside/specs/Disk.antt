@@ -39,14 +39,15 @@ abbrev pub Holds : Option (List ℕ) → ℕ → List ℕ → Type 0
 Holds None at bytes = ⊤
 Holds (Some disk) at bytes = bytes ≡ bytes_at disk at (length bytes)
 
--- These bytes were written at a place of the disk, which else is as before.
+-- These bytes were written at a place of the disk, which else is as before. A disk that is not told
+-- stays so.
 abbrev pub Writes : Option (List ℕ) → Option (List ℕ) → ℕ → List ℕ → Type 0
-Writes None new at bytes = ⊤
+Writes None new at bytes = new ≡ None
 Writes (Some disk) new at bytes = new ≡ Some (written disk at bytes)
 
--- The disk is cut to a size.
+-- The disk is cut to a size. A disk that is not told stays so.
 abbrev pub Cuts : Option (List ℕ) → Option (List ℕ) → ℕ → Type 0
-Cuts None new size = ⊤
+Cuts None new size = new ≡ None
 Cuts (Some disk) new size = new ≡ Some (take size disk)
 
 -- A stop leaves what a read gives, and nothing else.
