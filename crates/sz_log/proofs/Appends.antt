@@ -1,10 +1,10 @@
 -- How the calls of an append join. The key idea: until the gate is written all that stands up to it stays, and then
 -- the whole group stands behind it, whatever the gate's byte is.
 use Rattle.std.proofs.Common.{◌≡◌, ℕ, ◌+◌, ◌-◌, ◌≤◌, ◌<◌, ◌^◌, min, inl, List, Option, None, Some, [], ◌∷◌, ◌++◌, refl}
-use Rattle.std.proofs.Common.{ap, ◌∙◌, subst, length, take, arith}
-use Rattle.sz_outside.specs.Disk.{Passes, Said, Same, Torn, Writes, HasSize, written}
+use Rattle.std.proofs.Common.{ap, ◌∙◌, sym, subst, length, take, arith}
+use Rattle.sz_outside.specs.Disk.{Passes, Said, Same, Told, Torn, Writes, HasSize, written}
 use Rattle.sz_log.specs.Log.{Entry, EndsAt, IsEntry, IsLog, group_bytes}
-use Rattle.sz_log.specs.Steps.{KeepsFront, AddsOrKeeps, Added}
+use Rattle.sz_log.specs.Steps.{KeepsFront, AddsOrKeeps, Added, place_behind}
 use Rattle.sz_log.proofs.Moments.{joined_by, seen_as}
 use Rattle.sz_log.proofs.Tears.{place-inside, kept_log, torn_gate, opened_gate, staged}
 
@@ -66,15 +66,29 @@ opens {before} {mid} {now} {past} {half} {since} {A} {B} {C} found then at e d i
 -- ---- what is told of the disk
 
 pub writes_told : (o new : Option (List ℕ)) (at : ℕ) (x : List ℕ)
-    → ((d : List ℕ) → o ≡ Some d → new ≡ Some (written d at x)) → Writes o new at x
-writes_told None new at x here = tt
-writes_told (Some d) new at x here = here d refl
+    → ((d : List ℕ) → o ≡ Some d → new ≡ Some (written d at x)) → (o ≡ None → new ≡ None) → Writes o new at x
+writes_told None new at x here untold = untold refl
+writes_told (Some d) new at x here untold = here d refl
+
+-- a write leaves a disk that is not told as it is
+pub untold_by : (o new : Option (List ℕ)) (at : ℕ) (x : List ℕ) → o ≡ None → Writes o new at x → new ≡ None
+untold_by o new at x is wrote = subst (λ (p : Option (List ℕ)). Writes p new at x) is wrote
 
 pub added_told : (o new : Option (List ℕ)) (at : ℕ) (e : Entry) → IsEntry e
-    → ((d : List ℕ) → o ≡ Some d → new ≡ Some (written d at (group_bytes e ++ 0 ∷ []))) → Added o new at e
-added_told None new at e is here = tt
-added_told (Some d) new at e is here = (
+    → ((d : List ℕ) → o ≡ Some d → new ≡ Some (written d at (group_bytes e ++ 0 ∷ []))) → (o ≡ None → new ≡ None)
+    → Added o new at e
+added_told None new at e is here untold = untold refl
+added_told (Some d) new at e is here untold = (
   written d at (group_bytes e ++ 0 ∷ []),
   here d refl,
   λ es held. opened_gate d es at held e is,
 )
+
+-- what an append leaves is what the next one wants
+pub ends_behind : (o new : Option (List ℕ)) (at next : ℕ) (e : Entry) → EndsAt o at → Added o new at e
+    → Told o (next ≡ place_behind at e) → EndsAt new next
+ends_behind None new at next e ends added told =
+    subst (λ (p : Option (List ℕ)). EndsAt p next) (sym added) tt
+ends_behind (Some d) new at next e (es, held) (image, is, adds) told =
+    subst (λ (p : Option (List ℕ)). EndsAt p next) (sym is)
+    (es ++ e ∷ [], subst (λ (n : ℕ). IsLog image (es ++ e ∷ []) n) (sym told) (adds es held))

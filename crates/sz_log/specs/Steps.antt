@@ -22,9 +22,9 @@ abbrev pub AddsOrKeeps : ℕ → Entry → List ℕ → List ℕ → Type 0
 AddsOrKeeps at e old new = (entries : List Entry) → IsLog old entries at
     → IsLog new entries at ⊎ IsLog new (entries ++ e ∷ []) (place_behind at e)
 
--- The disk has the group in the end, where it is told.
+-- The disk has the group in the end, where it is told; a disk that is not told stays so.
 abbrev pub Added : Option (List ℕ) → Option (List ℕ) → ℕ → Entry → Type 0
-Added None new at e = ⊤
+Added None new at e = new ≡ None
 Added (Some disk) new at e = (image : List ℕ) × (new ≡ Some image) × Adds at e disk image
 
 -- Some bytes from the front stay.

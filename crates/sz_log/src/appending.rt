@@ -1,6 +1,6 @@
 //! Adding a group to a log.
 ghost use Rattle.std.specs.Prelude.{◌≡◌, ◌≤◌, ◌<◌, ◌+◌, ◌^◌, ◌++◌, ◌∷◌, [], List, ℕ, Some, true};
-ghost use Rattle.std.specs.Prelude.{IfOk, OnOk, is_ok, length};
+ghost use Rattle.std.specs.Prelude.{IfOk, OnOk, is_ok, length, None};
 ghost use Rattle.std.specs.Int.{w64, to_be_bytes};
 ghost use Rattle.sz_outside.specs.Counts.{faults_after};
 ghost use Rattle.sz_outside.specs.Disk.{Told, Passes, Said, Only, HasPlace, Writes, written};
@@ -60,6 +60,7 @@ fn stage<T: Station>(station: &mut T, at: u64, kind: u8, body: &[u8]) -> Result<
     ensures written { OnOk result ((d : List ℕ) → T.disk station.old ≡ Some d → at ≤ length d
         → T.disk station.new ≡ Some (written d at
         (entry_bytes (record { kind = kind; body = body.now }) ++ 0 ∷ []))) }
+    ensures untold { OnOk result (T.disk station.old ≡ None → T.disk station.new ≡ None) }
     ensures gate { IfOk result (λ gate. (d : List ℕ) → T.disk station.old ≡ Some d
         → at ≤ length d → gate ≡ at + 9 + length body.now) }
     ensures limit { OnOk result (length body.now < 2 ^ 62) }

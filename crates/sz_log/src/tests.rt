@@ -3,12 +3,13 @@
 ghost use Rattle.std.specs.Prelude.{◌≡◌, [], ◌∷◌, Some, None, IfOk};
 ghost use Rattle.sz_outside.specs.History.{scene_before};
 ghost use Rattle.sz_outside.specs.Memory.{now, ledger_before};
-ghost use Rattle.sz_log.specs.Log.{empty_log};
+ghost use Rattle.sz_outside.specs.Disk.{Only};
+ghost use Rattle.sz_log.specs.Log.{empty_log, EndsAt};
 
 use crate::*;
 use std::alloc::Global;
 use std::test::Fail;
-use sz_outside::{MemStation, NoMemory, Torn};
+use sz_outside::{MemStation, NoMemory, Station, Torn};
 
 /// The empty log.
 const EMPTY: [u8; 17] = [
@@ -51,6 +52,28 @@ fn add(station: &mut MemStation, body: &[u8]) -> Result<LogEnd, Failed>
     requires { now station.old.past ≡ scene_before empty_log }
 {
     append(station, LogEnd { at: 16 }, 1, body)
+}
+
+/// Adds two groups one after the other, over any station, one that tells nothing of its disk too:
+/// what the first leaves is what the second wants.
+fn add_two<T: Station>(
+    station: &mut T,
+    end: LogEnd,
+    first: &[u8],
+    second: &[u8],
+) -> Result<LogEnd, Failed>
+    requires log { EndsAt (T.disk station.old) end.at }
+    requires synced { Only (T.disk station.old) (T.may_leave station.old) }
+{
+    let next = append(station, end, 1, first)?;
+    append(station, next, 2, second)
+}
+
+/// Adds two groups to the empty log.
+fn add_both(station: &mut MemStation, first: &[u8], second: &[u8]) -> Result<LogEnd, Failed>
+    requires { now station.old.past ≡ scene_before empty_log }
+{
+    add_two(station, LogEnd { at: 16 }, first, second)
 }
 
 /// Whether an image is the log without its group, where it need not have it, or with it whole.
@@ -167,6 +190,23 @@ fn what_is_a_log_or_too_long_is_no_more_made_one(rt: HostRuntime) -> Result<(), 
     );
     let mut short = station_with(alloc, &[7; 17])?;
     assert_eq!(rt; init(&mut short), Ok(LogEnd { at: 16 }));
+    Ok(())
+}
+
+#[test]
+fn a_group_is_added_behind_another(rt: HostRuntime) -> Result<(), Fail> {
+    let alloc = rt.alloc();
+    let mut station = failing_empty(alloc, 99)?;
+    assert_eq!(rt; add_both(&mut station, b"ab", b"c"), Ok(LogEnd { at: 39 }));
+    assert_eq!(rt;
+        group_at(&mut station, 28),
+        Ok(Group::Whole {
+            kind: 2,
+            body: 38,
+            length: 1,
+            next: 39
+        })
+    );
     Ok(())
 }
 

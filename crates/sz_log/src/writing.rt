@@ -1,6 +1,6 @@
 //! Writing at a place of the disk, and putting it where a stop leaves it.
 ghost use Rattle.std.specs.Prelude.{◌≡◌, ◌≤◌, ◌<◌, ◌+◌, ◌^◌, List, ℕ, Some, IfOk, OnOk, is_ok};
-ghost use Rattle.std.specs.Prelude.{length};
+ghost use Rattle.std.specs.Prelude.{length, None};
 ghost use Rattle.sz_outside.specs.Counts.{faults_after};
 ghost use Rattle.sz_outside.specs.Disk.{Passes, Torn, Said, Only, written};
 
@@ -11,6 +11,7 @@ use sz_outside::{Failed, Station};
 pub fn write<T: Station>(station: &mut T, at: u64, bytes: &[u8]) -> Result<u64, Failed>
     ensures written { OnOk result ((d : List ℕ) → T.disk station.old ≡ Some d → at ≤ length d
         → T.disk station.new ≡ Some (written d at bytes.now)) }
+    ensures untold { OnOk result (T.disk station.old ≡ None → T.disk station.new ≡ None) }
     ensures behind { IfOk result (λ behind. (d : List ℕ) → T.disk station.old ≡ Some d
         → at ≤ length d → behind ≡ at + length bytes.now) }
     ensures limit { OnOk result (length bytes.now < 2 ^ 62) }
@@ -33,6 +34,7 @@ pub fn write<T: Station>(station: &mut T, at: u64, bytes: &[u8]) -> Result<u64, 
 pub fn put<T: Station>(station: &mut T, at: u64, bytes: &[u8]) -> Result<(), Failed>
     ensures written { OnOk result ((d : List ℕ) → T.disk station.old ≡ Some d → at ≤ length d
         → T.disk station.new ≡ Some (written d at bytes.now)) }
+    ensures untold { OnOk result (T.disk station.old ≡ None → T.disk station.new ≡ None) }
     ensures synced { OnOk result (Only (T.disk station.new) (T.may_leave station.new)) }
     ensures counted { T.disk_faults station.new
         ≡ faults_after (T.disk_faults station.old) (is_ok result) }

@@ -121,6 +121,7 @@ returns-clause-written g c = writes_told _ _ _ _ (λ d is.
     omega (arith, length-written d (at + 1) (entry_bytes e ++ 0 ∷ []) inner) in
     c.in_ok-put.ensures.written (staged d at e) disk_2 place_2
     ∙ ap (λ (l : List ℕ). Some l) (written-before d at 1 (entry_bytes e ++ 0 ∷ []) (omega (arith, inner))))
+    (λ is. c.in_ok-put.ensures.untold (c.in_ok-next.ensures.untold (c.size.ensures.disk ∙ is)))
 
 pub returns-clause-added : goal.returns-clause-added
 returns-clause-added g c = added_told _ _ _ _ (c.requires.kind, omega (arith, c.in_ok-next.ensures.limit)) (λ d is.
@@ -140,3 +141,4 @@ returns-clause-added g c = added_told _ _ _ _ (c.requires.kind, omega (arith, c.
     omega (arith, length-written d (at + 1) (entry_bytes e ++ 0 ∷ []) inner) in
     c.in_ok-put.ensures.written (staged d at e) disk_2 place_2
     ∙ ap (λ (l : List ℕ). Some l) (written-before d at 1 (entry_bytes e ++ 0 ∷ []) (omega (arith, inner))))
+    (λ is. c.in_ok-put.ensures.untold (c.in_ok-next.ensures.untold (c.size.ensures.disk ∙ is)))
