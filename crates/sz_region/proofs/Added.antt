@@ -7,25 +7,30 @@
 -- cells, so adding what none passes changes nothing.
 use Rattle.std.proofs.Common.{inl, inr, ◌≡◌, ℕ, zero, suc, ◌+◌, ◌-◌, ◌<◌, ◌≤◌, ◌==◌}
 use Rattle.std.proofs.Common.{Bool, true, false, ◌&&◌, ◌||◌, List, [], ◌∷◌, ◌++◌, map, Some, None}
-use Rattle.std.proofs.Common.{Option, refl, sym, ap, ap₂, subst, ◌∙◌, arith}
-use Rattle.std.specs.List.{filter, list_any, range_with_len}
+use Rattle.std.proofs.Common.{get_or, Option, refl, sym, ap, ap₂, subst, ◌∙◌, arith}
+use Rattle.std.specs.List.{filter, list_any, range_with_len, zip}
 use Rattle.std.specs.Prelude.{Result, ℤ, length}
 use Rattle.std.specs.Result.{result_unwrap_or}
 use Rattle.std.proofs.Math.Bool.{or_assoc, or-false}
 use Rattle.std.proofs.lemmas.Bool.{cases_Bool, false_from_ne_true}
+use Rattle.std.proofs.lemmas.List.{ext_get_or, get_or-map, length-map, map-append}
 use Rattle.std.proofs.lemmas.List.FromFn.{map-range_with_len_more, length-map-range_with_len}
+use Rattle.std.proofs.lemmas.List.FromFn.{get_or-map-range_with_len, fill_by_all}
+use Rattle.std.proofs.lemmas.Option.{unwrap_or-slice_get}
+use Rattle.std.proofs.lemmas.Slice.Zip.{length-zip, get_or-zip}
 use Rattle.sz_cells.specs.declared.Cell.{Cell}
 use Rattle.sz_cells.specs.Extent.{Extent, size_of, holds, index_of, cell_of}
 use Rattle.sz_cells.specs.Cells.{Cells, is_same, cells_where, any_cell, has, with_those, next_index}
 use Rattle.sz_cells.specs.Rising.{AreRising}
-use Rattle.sz_cells.proofs.Sets.{has-index, index-cell, has-cells_where, cells_where-ext}
+use Rattle.sz_cells.proofs.Windows.{range-append}
+use Rattle.sz_cells.proofs.Sets.{cell-held, has-index, index-cell, has-cells_where, cells_where-ext}
 use Rattle.sz_cells.proofs.Sets.{any_cell-same}
 use Rattle.sz_cells.proofs.LawsOfSets.{rising-sets, next-least, none-next}
 use Rattle.sz_cells.proofs.Rising.{rising-below}
 use Rattle.sz_spec.specs.declared.modes.Dir.{Dir}
 use Rattle.sz_spec.specs.declared.modes.Dir.TheVariants.{Back, Forward}
 use Rattle.sz_spec.specs.declared.shapes.ShapeFault.{ShapeFault}
-use Rattle.sz_spec.specs.Values.{Grid, no_extent, extent_at, extents_of}
+use Rattle.sz_spec.specs.Values.{Grid, no_extent, extent_at, extents_of, value_at}
 use Rattle.sz_spec.specs.Shapes.{Site, output_extent}
 use Rattle.sz_spec.specs.Evaluation.{value_of, output_of}
 use Rattle.sz_spec.specs.Work.{IsAtWork}
@@ -295,3 +300,66 @@ values-next s inputs n cell v so_far new is at value more =
 -- how many values there are
 pub values-length : (s : Site) (inputs : List Grid) (n : ℕ) → length (values_before s inputs n) ≡ n
 values-length s inputs n = length-map-range_with_len (λ k. value_of s.op inputs (cell_of s.out k)) 0 n
+
+-- ---- values that are made in another way than one by one
+
+-- the value of the cell of an index
+pub value-index : (g : Grid) (e : Extent) (k : ℕ) → g.extent ≡ e
+    → value_at g (cell_of e k) ≡ get_or g.values k None
+value-index g e k same =
+    unwrap_or-slice_get g.values (index_of g.extent (cell_of e k)) None
+    ∙ ap (λ (i : ℕ). get_or g.values i None) (ap (λ (d : Extent). index_of d (cell_of e k)) same ∙ index-cell e k)
+
+-- several values more
+pub values-append : (s : Site) (inputs : List Grid) (n m : ℕ) (so_far xs : List (Option ℤ))
+    → so_far ≡ values_before s inputs n → length xs ≡ m
+    → ((k : ℕ) → k < m → get_or xs k None ≡ value_of s.op inputs (cell_of s.out (n + k)))
+    → so_far ++ xs ≡ values_before s inputs (n + m)
+values-append s inputs n m so_far xs is long each =
+    let f = λ (k : ℕ). value_of s.op inputs (cell_of s.out k) in
+    let from : 0 + n ≡ n = omega arith in
+    let tail : xs ≡ map f (range_with_len n m) =
+    ext_get_or None xs (map f (range_with_len n m)) (long ∙ sym (length-map-range_with_len f n m))
+    (λ k low.
+    let below : k < m = subst (λ (l : ℕ). k < l) long low in
+    each k below ∙ sym (get_or-map-range_with_len f n m k (n + k) None below refl)) in
+    ap₂ (λ (us vs : List (Option ℤ)). us ++ vs) is tail
+    ∙ sym (ap (λ (ks : List ℕ). map f ks)
+    (range-append n 0 m ∙ ap (λ (a : ℕ). range_with_len 0 n ++ range_with_len a m) from)
+    ∙ map-append f (range_with_len 0 n) (range_with_len n m))
+
+-- all values, each made of that of an array at the same cell
+pub values-mapped : (s : Site) (inputs : List Grid) (h : Option ℤ → Option ℤ) (g : Grid) → g.extent ≡ s.out
+    → length g.values ≡ size_of g.extent
+    → ((o : Cell) → holds s.out o ≡ true → value_of s.op inputs o ≡ h (value_at g o))
+    → map h g.values ≡ values_before s inputs (size_of s.out)
+values-mapped s inputs h g same long each =
+    let f = λ (k : ℕ). value_of s.op inputs (cell_of s.out k) in
+    let size : length g.values ≡ size_of s.out = long ∙ ap size_of same in
+    fill_by_all f (map h g.values) (size_of s.out) None (length-map g.values h ∙ size)
+    (λ k below.
+    let inside : k < length g.values = omega (arith, below, size) in
+    get_or-map h g.values k None None inside
+    ∙ ap h (sym (value-index g s.out k same))
+    ∙ sym (each (cell_of s.out k) (cell-held s.out k below)))
+
+-- and of those of two arrays
+pub values-zipped : (s : Site) (inputs : List Grid) (h : Option ℤ → Option ℤ → Option ℤ) (g g' : Grid)
+    → g.extent ≡ s.out → g'.extent ≡ s.out → length g.values ≡ size_of g.extent
+    → length g'.values ≡ size_of g'.extent
+    → ((o : Cell) → holds s.out o ≡ true → value_of s.op inputs o ≡ h (value_at g o) (value_at g' o))
+    → map (λ p. h p.0 p.1) (zip g.values g'.values) ≡ values_before s inputs (size_of s.out)
+values-zipped s inputs h g g' same same' long long' each =
+    let f = λ (k : ℕ). value_of s.op inputs (cell_of s.out k) in
+    let both : Option ℤ × Option ℤ → Option ℤ = λ p. h p.0 p.1 in
+    let pairs = zip g.values g'.values in
+    let size : length g.values ≡ size_of s.out = long ∙ ap size_of same in
+    let size' : length g'.values ≡ size_of s.out = long' ∙ ap size_of same' in
+    let count : length pairs ≡ size_of s.out = omega (arith, length-zip g.values g'.values, size, size') in
+    fill_by_all f (map both pairs) (size_of s.out) None (length-map pairs both ∙ count)
+    (λ k below.
+    let inside : k < length pairs = omega (arith, below, count) in
+    get_or-map both pairs k (None, None) None inside
+    ∙ ap both (get_or-zip g.values g'.values k (None, None) (omega (arith, below, size)) (omega (arith, below, size')))
+    ∙ ap₂ h (sym (value-index g s.out k same)) (sym (value-index g' s.out k same'))
+    ∙ sym (each (cell_of s.out k) (cell-held s.out k below)))

@@ -4,7 +4,14 @@ pub mod Fits
 pub mod Images
 pub mod Walks
 pub mod Single
+pub mod Groups
 pub mod Written
 pub mod Taking
 pub mod Folding
+pub mod Counted
+pub mod FullBytes
+pub mod PayBytes
+pub mod Putting
+pub mod Stores
 pub mod Laws
+pub mod LawsStores

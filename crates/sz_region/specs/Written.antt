@@ -1,39 +1,64 @@
--- What the lineage of a piece has when the cells of a range were written.
-use Rattle.std.specs.Prelude.{ℕ, ◌+◌, ◌*◌, ◌-◌, List, [], ◌∷◌, ◌++◌, map, min, Bool, ◌&&◌}
-use Rattle.std.specs.Prelude.{if◌then◌else◌}
+-- What the lineage of a piece has: one region pair, or one entry, for the cells that are kept
+-- together.
+use Rattle.std.specs.Prelude.{ℕ, ◌+◌, ◌*◌, ◌-◌, List, map, length, min, Bool, true, false, ◌&&◌}
 use Rattle.std.specs.List.{range_with_len, filter}
 use Rattle.sz_cells.specs.declared.Cell.{Cell}
 use Rattle.sz_cells.specs.Extent.{Extent, size_of, cell_of}
+use Rattle.sz_spec.specs.declared.op.Op.{Op}
 use Rattle.sz_spec.specs.Values.{Grid}
 use Rattle.sz_spec.specs.Shapes.{Site}
-use Rattle.sz_spec.specs.Payloads.{overrides}
-use Rattle.sz_region.specs.declared.pieces.Wanted.{Wanted}
+use Rattle.sz_spec.specs.Payloads.{overrides, payload_of}
+use Rattle.sz_region.specs.declared.groups.Keeping.{Keeping}
 use Rattle.sz_region.specs.Parts.{Pairing, Entry, Parts}
-use Rattle.sz_region.specs.Images.{region_at, entry_at}
+use Rattle.sz_region.specs.Images.{related_sets}
+use Rattle.sz_region.specs.Groups.{lineage_kind, payload_kind, keeping_of, leads, group_at}
 
--- the region pairs of n cells, from a number on
-abbrev pub regions_from : Site → List Grid → ℕ → ℕ → List Pairing
-regions_from s inputs start n =
-    map (λ k. region_at s inputs (cell_of s.out k)) (range_with_len start n)
+-- how each part keeps output cell o, where the part is wanted; a composite part keeps those cells
+-- alone that override the default
+abbrev pub full_keeping : Bool → Op → List Grid → Cell → Keeping
+full_keeping wanted op inputs o = keeping_of wanted (lineage_kind op inputs o)
 
--- the entries of those of n cells that pass a test, from a number on
-abbrev pub entries_from : Site → List Grid → (Cell → Bool) → ℕ → ℕ → List Entry
-entries_from s inputs test start n =
-    map (λ k. entry_at s inputs (cell_of s.out k))
-    (filter (λ k. test (cell_of s.out k)) (range_with_len start n))
+abbrev pub pay_keeping : Bool → Op → List Grid → Cell → Keeping
+pay_keeping wanted op inputs o = keeping_of wanted (payload_kind op inputs o)
 
--- a list with one more at its end, where that is wanted
-abbrev pub more_if : {X : Type 0} → Bool → List X → X → List X
-more_if wanted xs x = if wanted then xs ++ x ∷ [] else xs
+abbrev pub comp_keeping : Bool → Op → List Grid → Cell → Keeping
+comp_keeping wanted op inputs o = pay_keeping (wanted && overrides op inputs o) op inputs o
 
--- parts with what one cell gives
-abbrev pub with_written : Site → List Grid → Wanted → Cell → Parts → Parts
-with_written s inputs w o p = record {
-  piece = p.piece;
-  regions = more_if w.full p.regions (region_at s inputs o);
-  pays = more_if w.pay p.pays (entry_at s inputs o);
-  comps = more_if (w.comp && overrides s.op inputs o) p.comps (entry_at s inputs o);
+-- how n cells of a shape are kept, from an index on
+abbrev pub keepings : Extent → (Cell → Keeping) → ℕ → ℕ → List Keeping
+keepings e keep start n = map (λ k. keep (cell_of e k)) (range_with_len start n)
+
+-- the places of a piece of which the cells lead those that are kept with them, below n
+abbrev pub leaders_below : List Keeping → ℕ → List ℕ
+leaders_below kept n = filter (leads kept) (range_with_len 0 n)
+
+-- the region pair of the cells that are kept with that at place p of a piece, of the cells from
+-- index `start` on, and the pairs of all its cells
+abbrev pub region_by : Site → List Grid → ℕ → List Keeping → ℕ → Pairing
+region_by s inputs start kept p = record {
+  out = group_at s.out start kept p;
+  ins = related_sets s inputs (cell_of s.out (start + p));
 }
+
+abbrev pub regions_by : Site → List Grid → ℕ → List Keeping → List Pairing
+regions_by s inputs start kept =
+    map (region_by s inputs start kept) (leaders_below kept (length kept))
+
+-- the entry of those cells, and the entries of all cells of the piece
+abbrev pub entry_by : Site → List Grid → ℕ → List Keeping → ℕ → Entry
+entry_by s inputs start kept p = record {
+  out = group_at s.out start kept p;
+  payload = payload_of s.op inputs (cell_of s.out (start + p));
+}
+
+abbrev pub entries_by : Site → List Grid → ℕ → List Keeping → List Entry
+entries_by s inputs start kept =
+    map (entry_by s inputs start kept) (leaders_below kept (length kept))
+
+-- a lineage with these entries: in the composite part, or in the payload part
+abbrev pub with_entries : Bool → List Entry → Parts → Parts
+with_entries true entries p = record p { comps = entries }
+with_entries false entries p = record p { pays = entries }
 
 -- how many cells a piece has
 abbrev pub cells_in_piece : Extent → ℕ → ℕ

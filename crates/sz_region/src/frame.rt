@@ -13,6 +13,7 @@ ghost use Rattle.sz_spec.specs.Evaluation.{value_of, output_of};
 ghost use Rattle.sz_spec.specs.Payloads.{payload_of, overrides};
 ghost use Rattle.sz_spec.specs.Work.{IsAtWork};
 ghost use Rattle.sz_region.specs.Images.{related_cells};
+ghost use Rattle.sz_region.specs.Groups.{lineage_kind, payload_kind};
 
 use crate::payload::Payload;
 use std::alloc::Global;
@@ -69,6 +70,20 @@ pub trait AtWork {
         requires input { input < length (site self.now).ins }
         ensures { IfOk result
             (λ s. arc_value s ≡ related_cells (site self.now) (inputs self.now) input out) };
+
+    /// The kind of an output cell for its lineage, if it has one: all output cells of a kind are
+    /// related to the same cells of each input. Takes no memory.
+    fn lineage_kind(&self, out: Cell) -> Option<u32>
+        requires right { IsAtWork (site self.now) (inputs self.now) }
+        requires out { holds (site self.now).out out ≡ true }
+        ensures { result ≡ lineage_kind (site self.now).op (inputs self.now) out };
+
+    /// The kind of an output cell for its payload, if it has one: all output cells of a kind have
+    /// one payload. Takes no memory.
+    fn payload_kind(&self, out: Cell) -> Option<u32>
+        requires right { IsAtWork (site self.now) (inputs self.now) }
+        requires out { holds (site self.now).out out ≡ true }
+        ensures { result ≡ payload_kind (site self.now).op (inputs self.now) out };
 
     /// The payload of an output cell: no byte, for an operator with a mapping.
     fn payload(&self, alloc: Global, out: Cell) -> Result<Arc<Payload>, NoMemory>

@@ -21,16 +21,26 @@
 //! pieces stand for exactly the relation.
 #![tactic(auto)]
 
+mod apart;
 mod folding;
 mod frame;
+mod groups;
 pub mod laws;
 mod lineage;
 mod mapping;
+mod numbers;
 mod payload;
 mod pieces;
+mod put_full;
+mod put_pay;
 mod region;
 mod set_bytes;
 mod single;
+#[cfg(test)]
+mod store_tests;
+mod tables;
+mod take_full;
+mod take_pay;
 #[cfg(test)]
 mod tests;
 mod walks;
@@ -41,7 +51,12 @@ pub use lineage::PieceLineage;
 pub use mapping::{MapOf, Mapped, Mapping};
 pub use payload::{PayEntry, Payload};
 pub use pieces::piece_by;
+pub use put_full::put_regions;
+pub use put_pay::put_entries;
 pub use region::{Region, SetList};
 pub use set_bytes::{Take, put_set, take_set};
 pub use single::{add_cell, has_cell, set_of_cell};
-pub use walks::{image_by, run_by, trace_by};
+pub use tables::{ListedPayload, ListedSet, put_numbered, put_numbered_entries};
+pub use take_full::take_regions;
+pub use take_pay::take_entries;
+pub use walks::{image_by, output_with, run_by, trace_by};

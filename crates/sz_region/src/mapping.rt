@@ -130,6 +130,16 @@ impl<'a, M: Mapping> AtWork for Mapped<'a, M> {
         self.of.mapped_set(alloc, out, input)
     }
 
+    fn lineage_kind(&self, _out: Cell) -> Option<u32> {
+        self.of.at();
+        None
+    }
+
+    fn payload_kind(&self, _out: Cell) -> Option<u32> {
+        self.of.at();
+        None
+    }
+
     fn payload(&self, alloc: Global, _out: Cell) -> Result<Arc<Payload>, NoMemory> {
         self.of.at();
         Ok(Arc::new(alloc, Payload::of(Vec::new(alloc)))?)

@@ -1,34 +1,37 @@
-//! The lineage of one piece of any operator's output: one walk over the piece's cells.
+//! The lineage of one piece of any operator's output: one walk over the piece's cells says how each
+//! part keeps them, and then each part has one entry for those that are kept together.
 
-ghost use Rattle.std.specs.Prelude.{◌≡◌, ◌<◌, ◌+◌, ◌^◌, ◌&&◌, ◌++◌, ◌∷◌, [], true};
-ghost use Rattle.std.specs.Prelude.{false, length, All, IfOk, OnOk};
+ghost use Rattle.std.specs.Prelude.{◌≡◌, ◌<◌, ◌≤◌, ◌+◌, ◌-◌, ◌^◌, ◌&&◌, ◌++◌, ◌∷◌, [], true};
+ghost use Rattle.std.specs.Prelude.{false, length, map, All, IfOk, OnOk};
 ghost use Rattle.std.specs.Prelude.{if◌then◌else◌};
 ghost use Rattle.std.specs.Arc.{arc_value};
-ghost use Rattle.sz_cells.specs.Extent.{holds};
+ghost use Rattle.sz_cells.specs.Extent.{holds, size_of};
 ghost use Rattle.sz_spec.specs.Work.{IsAtWork};
-ghost use Rattle.sz_spec.specs.Modes.{has_mapping, supports};
-ghost use Rattle.sz_spec.specs.Payloads.{overrides};
+ghost use Rattle.sz_spec.specs.Modes.{supports};
 ghost use Rattle.sz_spec.specs.Pieces.{pieces_of};
-ghost use Rattle.sz_region.specs.Parts.{most_entries};
 ghost use Rattle.sz_region.specs.Fits.{Fits, is_mode, needs};
-ghost use Rattle.sz_region.specs.Images.{measure_of, single, region_at, entry_at};
-ghost use Rattle.sz_region.specs.Written.{more_if, with_written, cells_in_piece};
+ghost use Rattle.sz_region.specs.Groups.{leads};
+ghost use Rattle.sz_region.specs.Images.{measure_of};
+ghost use Rattle.sz_region.specs.Written.{full_keeping, pay_keeping, comp_keeping, keepings};
+ghost use Rattle.sz_region.specs.Written.{region_by, regions_by, entry_by, entries_by};
+ghost use Rattle.sz_region.specs.Written.{with_entries, cells_in_piece};
 
 use crate::frame::AtWork;
+use crate::groups::{Keeping, group, keeping_of, leads};
 use crate::lineage::PieceLineage;
 use crate::payload::PayEntry;
 use crate::region::{Region, SetList};
 use crate::walks::cell_after;
 use std::alloc::Global;
-use std::sync::Arc;
-use sz_cells::{Cell, CellSet, NoMemory, Shape};
+use sz_cells::{Cell, NoMemory};
 use sz_spec::{Mode, Strategy, Tally};
 
 /// How many cells a piece has. The last piece of an array may have fewer.
 const CELLS: u32 = 64;
 
 /// The lineage of piece `k` of the output of an operator at work: the parts that the strategies of
-/// a list need. Each cell of the piece is looked at once, and counted.
+/// a list need. Each cell of the piece is looked at once, and counted. Cells of one lineage share a
+/// region pair, and cells of one payload an entry, where the operator tells.
 pub fn piece_by<A: AtWork>(
     alloc: Global,
     at: &A,
@@ -53,22 +56,20 @@ pub fn piece_by<A: AtWork>(
     };
     let start = k * CELLS;
     let end = shape.size().min(start + CELLS);
+    let kept = look(alloc, at, start, end, wanted, tally)?;
     let mut lineage = PieceLineage::new(alloc, k);
-    let mut cell = shape.cell_at(start);
-    for index in start..end {
-        write_cell(alloc, at, cell, wanted, &mut lineage)?;
-        tally.tick();
-        cell = cell_after(&shape, cell);
-    }
+    write_regions(alloc, at, start, &kept.full, &mut lineage)?;
+    write_entries(alloc, at, start, &kept.pay, false, &mut lineage)?;
+    write_entries(alloc, at, start, &kept.comp, true, &mut lineage)?;
     Ok(lineage)
 }
 
 /// Which parts of a lineage are wanted.
 #[derive(Clone, Copy)]
-pub(crate) struct Wanted {
-    pub(crate) full: bool,
-    pub(crate) pay: bool,
-    pub(crate) comp: bool,
+struct Wanted {
+    full: bool,
+    pay: bool,
+    comp: bool,
 }
 
 /// Whether a list has a strategy of a mode that keeps a store.
@@ -90,118 +91,129 @@ fn is_mode(wanted: Mode, mode: Mode) -> bool
     }
 }
 
-/// Writes what one output cell gives to the parts that are wanted.
-fn write_cell<A: AtWork>(
+/// How each part keeps each cell of a piece, in row-major order.
+#[derive(Drop)]
+struct Keepings {
+    full: Vec<Keeping>,
+    pay: Vec<Keeping>,
+    comp: Vec<Keeping>,
+}
+
+/// Looks at the output cells from an index to before another, each of which is counted.
+fn look<A: AtWork>(
     alloc: Global,
     at: &A,
-    cell: Cell,
+    start: u32,
+    end: u32,
     wanted: Wanted,
-    lineage: &mut PieceLineage,
-) -> Result<(), NoMemory>
+    tally: &mut Tally,
+) -> Result<Keepings, NoMemory>
     requires right { IsAtWork (A.site at.now) (A.inputs at.now) }
-    requires cell { holds (A.site at.now).out cell ≡ true }
-    requires pay { wanted.pay ≡ true → has_mapping (A.site at.now).op ≡ false }
-    requires comp { wanted.comp ≡ true → has_mapping (A.site at.now).op ≡ false }
-    requires regions { length lineage.old.regions < most_entries }
-    requires pays { length lineage.old.pays < most_entries }
-    requires comps { length lineage.old.comps < most_entries }
-    ensures { OnOk result
-        (lineage.new ≡ with_written (A.site at.now) (A.inputs at.now) wanted cell lineage.old) }
+    requires some { start < end }
+    requires cells { end ≤ size_of (A.site at.now).out }
+    requires room { tally.old + (end - start) < 2 ^ 63 }
+    ensures full { let s = A.site at.now in IfOk result (λ l. l.full.items
+        ≡ keepings s.out (full_keeping wanted.full s.op (A.inputs at.now)) start (end - start)) }
+    ensures pay { let s = A.site at.now in IfOk result (λ l. l.pay.items
+        ≡ keepings s.out (pay_keeping wanted.pay s.op (A.inputs at.now)) start (end - start)) }
+    ensures comp { let s = A.site at.now in IfOk result (λ l. l.comp.items
+        ≡ keepings s.out (comp_keeping wanted.comp s.op (A.inputs at.now)) start (end - start)) }
+    ensures ticks { OnOk result (tally.new ≡ tally.old + (end - start)) }
 {
-    write_region(alloc, at, cell, wanted.full, lineage)?;
-    write_pay(alloc, at, cell, wanted.pay, lineage)?;
-    let kept = is_kept(at, cell, wanted.comp);
-    write_comp(alloc, at, cell, kept, lineage)
+    let shape = at.out();
+    let mut full = Vec::with_capacity(alloc, CELLS as usize)?;
+    let mut pay = Vec::with_capacity(alloc, CELLS as usize)?;
+    let mut comp = Vec::with_capacity(alloc, CELLS as usize)?;
+    let mut cell = shape.cell_at(start);
+    for index in start..end {
+        full.push(full_keeping(at, cell, wanted.full))?;
+        pay.push(pay_keeping(at, cell, wanted.pay))?;
+        comp.push(comp_keeping(at, cell, wanted.comp))?;
+        tally.tick();
+        cell = cell_after(&shape, cell);
+    }
+    Ok(Keepings { full, pay, comp })
 }
 
-/// Writes the region pair of an output cell, where it is wanted.
-fn write_region<A: AtWork>(
-    alloc: Global,
-    at: &A,
-    cell: Cell,
-    wanted: bool,
-    lineage: &mut PieceLineage,
-) -> Result<(), NoMemory>
+/// How a part for full lineage keeps an output cell, where the part is wanted.
+fn full_keeping<A: AtWork>(at: &A, cell: Cell, wanted: bool) -> Keeping
     requires right { IsAtWork (A.site at.now) (A.inputs at.now) }
     requires cell { holds (A.site at.now).out cell ≡ true }
-    requires room { length lineage.old.regions < most_entries }
-    ensures { OnOk result (lineage.new ≡ record lineage.old {
-      regions =
-          more_if wanted lineage.old.regions (region_at (A.site at.now) (A.inputs at.now) cell);
-    }) }
+    ensures { result ≡ full_keeping wanted (A.site at.now).op (A.inputs at.now) cell }
 {
     if wanted {
-        lineage.lwrite(region_of(alloc, at, cell)?)
+        keeping_of(true, at.lineage_kind(cell))
     } else {
-        Ok(())
+        Keeping::Nothing
     }
 }
 
-/// Writes the entry of an output cell to the payload part, where it is wanted.
-fn write_pay<A: AtWork>(
-    alloc: Global,
-    at: &A,
-    cell: Cell,
-    wanted: bool,
-    lineage: &mut PieceLineage,
-) -> Result<(), NoMemory>
+/// How a payload part keeps an output cell, where the part is wanted.
+fn pay_keeping<A: AtWork>(at: &A, cell: Cell, wanted: bool) -> Keeping
     requires right { IsAtWork (A.site at.now) (A.inputs at.now) }
     requires cell { holds (A.site at.now).out cell ≡ true }
-    requires payload { wanted ≡ true → has_mapping (A.site at.now).op ≡ false }
-    requires room { length lineage.old.pays < most_entries }
-    ensures { OnOk result (lineage.new ≡ record lineage.old {
-      pays =
-          more_if wanted lineage.old.pays (entry_at (A.site at.now) (A.inputs at.now) cell);
-    }) }
+    ensures { result ≡ pay_keeping wanted (A.site at.now).op (A.inputs at.now) cell }
 {
     if wanted {
-        lineage.lwrite_payload(entry_of(alloc, at, cell)?, false)
+        keeping_of(true, at.payload_kind(cell))
     } else {
-        Ok(())
+        Keeping::Nothing
     }
 }
 
-/// Writes the entry of an output cell to the composite part, where it is wanted.
-fn write_comp<A: AtWork>(
+/// How a composite part keeps an output cell, where the part is wanted: not at all, unless the cell
+/// overrides the default.
+fn comp_keeping<A: AtWork>(at: &A, cell: Cell, wanted: bool) -> Keeping
+    requires right { IsAtWork (A.site at.now) (A.inputs at.now) }
+    requires cell { holds (A.site at.now).out cell ≡ true }
+    ensures { result ≡ comp_keeping wanted (A.site at.now).op (A.inputs at.now) cell }
+{
+    pay_keeping(at, cell, wanted && at.overrides(cell))
+}
+
+/// Writes the region pairs of the cells of a piece, one for those that are kept together. The piece
+/// has the cells from an index on.
+fn write_regions<A: AtWork>(
     alloc: Global,
     at: &A,
-    cell: Cell,
-    wanted: bool,
+    start: u32,
+    kept: &[Keeping],
     lineage: &mut PieceLineage,
 ) -> Result<(), NoMemory>
     requires right { IsAtWork (A.site at.now) (A.inputs at.now) }
-    requires cell { holds (A.site at.now).out cell ≡ true }
-    requires payload { wanted ≡ true → has_mapping (A.site at.now).op ≡ false }
-    requires room { length lineage.old.comps < most_entries }
+    requires few { length kept.now ≤ 64 }
+    requires cells { start + length kept.now ≤ size_of (A.site at.now).out }
+    requires none { lineage.old.regions ≡ [] }
     ensures { OnOk result (lineage.new ≡ record lineage.old {
-      comps =
-          more_if wanted lineage.old.comps (entry_at (A.site at.now) (A.inputs at.now) cell);
+      regions = regions_by (A.site at.now) (A.inputs at.now) start kept.now;
     }) }
 {
-    if wanted {
-        lineage.lwrite_payload(entry_of(alloc, at, cell)?, true)
-    } else {
-        Ok(())
+    for place in 0..kept.len() {
+        if leads(kept, place) {
+            lineage.lwrite(region_of(alloc, at, start, kept, place)?)?;
+        }
     }
+    Ok(())
 }
 
-/// Whether a composite part that is wanted keeps an entry for an output cell.
-fn is_kept<A: AtWork>(at: &A, cell: Cell, wanted: bool) -> bool
+/// The region pair of the cells of a piece that are kept with the one at a place, which leads them.
+fn region_of<A: AtWork>(
+    alloc: Global,
+    at: &A,
+    start: u32,
+    kept: &[Keeping],
+    place: usize,
+) -> Result<Region, NoMemory>
     requires right { IsAtWork (A.site at.now) (A.inputs at.now) }
-    requires cell { holds (A.site at.now).out cell ≡ true }
-    requires payload { wanted ≡ true → has_mapping (A.site at.now).op ≡ false }
-    ensures { result ≡ (wanted && overrides (A.site at.now).op (A.inputs at.now) cell) }
+    requires place { place < length kept.now }
+    requires leads { leads kept.now place ≡ true }
+    requires cells { start + length kept.now ≤ size_of (A.site at.now).out }
+    ensures { IfOk result
+        (λ r. r ≡ region_by (A.site at.now) (A.inputs at.now) start kept.now place) }
 {
-    wanted && at.overrides(cell)
-}
-
-/// The region pair of one output cell.
-fn region_of<A: AtWork>(alloc: Global, at: &A, cell: Cell) -> Result<Region, NoMemory>
-    requires right { IsAtWork (A.site at.now) (A.inputs at.now) }
-    requires cell { holds (A.site at.now).out cell ≡ true }
-    ensures { IfOk result (λ r. r ≡ region_at (A.site at.now) (A.inputs at.now) cell) }
-{
-    let out = single(alloc, at.out(), cell)?;
+    let shape = at.out();
+    let out = group(alloc, shape, start, kept, place)?;
+    let cell = shape.cell_at(start + place as u32);
     let mut ins = Vec::new(alloc);
     for input in 0..at.arity() {
         ins.push(at.related_set(alloc, cell, input)?)?;
@@ -212,24 +224,52 @@ fn region_of<A: AtWork>(alloc: Global, at: &A, cell: Cell) -> Result<Region, NoM
     })
 }
 
-/// The entry of one output cell.
-fn entry_of<A: AtWork>(alloc: Global, at: &A, cell: Cell) -> Result<PayEntry, NoMemory>
+/// Writes the entries of the cells of a piece, one for those that are kept together: to the
+/// composite part where `comp` is true, else to the payload part. The piece has the cells from an
+/// index on.
+fn write_entries<A: AtWork>(
+    alloc: Global,
+    at: &A,
+    start: u32,
+    kept: &[Keeping],
+    comp: bool,
+    lineage: &mut PieceLineage,
+) -> Result<(), NoMemory>
     requires right { IsAtWork (A.site at.now) (A.inputs at.now) }
-    requires cell { holds (A.site at.now).out cell ≡ true }
-    requires payload { has_mapping (A.site at.now).op ≡ false }
-    ensures { IfOk result (λ e. e ≡ entry_at (A.site at.now) (A.inputs at.now) cell) }
+    requires few { length kept.now ≤ 64 }
+    requires cells { start + length kept.now ≤ size_of (A.site at.now).out }
+    requires none { (if comp then lineage.old.comps else lineage.old.pays) ≡ [] }
+    ensures { OnOk result (lineage.new
+        ≡ with_entries comp (entries_by (A.site at.now) (A.inputs at.now) start kept.now)
+        lineage.old) }
 {
-    Ok(PayEntry {
-        out: single(alloc, at.out(), cell)?,
-        payload: at.payload(alloc, cell)?,
-    })
+    for place in 0..kept.len() {
+        if leads(kept, place) {
+            lineage.lwrite_payload(entry_of(alloc, at, start, kept, place)?, comp)?;
+        }
+    }
+    Ok(())
 }
 
-/// The set of one cell of a shape.
-fn single(alloc: Global, shape: Shape, cell: Cell) -> Result<Arc<CellSet>, NoMemory>
-    requires { holds shape cell ≡ true }
-    ensures { IfOk result (λ s. arc_value s ≡ single shape cell) }
+/// The entry of the cells of a piece that are kept with the one at a place, which leads them.
+fn entry_of<A: AtWork>(
+    alloc: Global,
+    at: &A,
+    start: u32,
+    kept: &[Keeping],
+    place: usize,
+) -> Result<PayEntry, NoMemory>
+    requires right { IsAtWork (A.site at.now) (A.inputs at.now) }
+    requires place { place < length kept.now }
+    requires leads { leads kept.now place ≡ true }
+    requires cells { start + length kept.now ≤ size_of (A.site at.now).out }
+    ensures { IfOk result
+        (λ e. e ≡ entry_by (A.site at.now) (A.inputs at.now) start kept.now place) }
 {
-    let set = CellSet::from_cells(alloc, shape, &[cell])?;
-    Ok(Arc::new(alloc, set)?)
+    let shape = at.out();
+    let cell = shape.cell_at(start + place as u32);
+    Ok(PayEntry {
+        out: group(alloc, shape, start, kept, place)?,
+        payload: at.payload(alloc, cell)?,
+    })
 }

@@ -9,7 +9,7 @@ ghost use Rattle.sz_cells.specs.SetWords.{runs_spelled};
 ghost use Rattle.sz_region.specs.Taking.{SaysNoneBegins, runs_bytes, HasBody, HasNoRuns};
 ghost use Rattle.sz_region.specs.Taking.{SaysNoRuns, run_at, number_at};
 
-use std::alloc::{AllocFailed, Global};
+use std::alloc::{AllocError, AllocFailed, Global};
 use sz_cells::{CellSet, NoMemory, Run, Shape};
 
 /// Why no set was read.
@@ -28,6 +28,28 @@ impl<T: Drop> From<AllocFailed<T>> for Take {
     ghost from_gives = { λ _ e. e ≡ NoMemory };
 
     fn from(_error: AllocFailed<T>) -> Take {
+        Take::NoMemory
+    }
+}
+
+impl From<AllocError> for Take {
+    ghost use Rattle.std.specs.Prelude.{◌≡◌};
+    ghost use Rattle.sz_region.specs.declared.set_bytes.Take.TheVariants.{NoMemory};
+
+    ghost from_gives = { λ _ e. e ≡ NoMemory };
+
+    fn from(_error: AllocError) -> Take {
+        Take::NoMemory
+    }
+}
+
+impl From<NoMemory> for Take {
+    ghost use Rattle.std.specs.Prelude.{◌≡◌};
+    ghost use Rattle.sz_region.specs.declared.set_bytes.Take.TheVariants as take;
+
+    ghost from_gives = { λ _ e. e ≡ take.NoMemory };
+
+    fn from(_error: NoMemory) -> Take {
         Take::NoMemory
     }
 }
@@ -51,7 +73,7 @@ pub fn put_set(set: &CellSet, to: &mut Vec<u8>) -> Result<(), NoMemory>
 
 /// Appends the number of these runs of a shape and their bytes. After `NoMemory` some of the bytes
 /// may be there.
-fn put_runs(shape: &Shape, runs: &[Run], to: &mut Vec<u8>) -> Result<(), NoMemory>
+pub(crate) fn put_runs(shape: &Shape, runs: &[Run], to: &mut Vec<u8>) -> Result<(), NoMemory>
     requires { AreRunsFrom 0 (size_of shape.now) runs.now }
     ensures ok { OnOk result (to.new.items ≡ to.old.items ++ runs_bytes runs.now) }
     ensures err { OnErr result (take (length to.old.items) to.new.items ≡ to.old.items) }
@@ -140,7 +162,7 @@ fn run_at(bytes: &[u8], at: usize) -> Run
 }
 
 /// The number of the four bytes at a place.
-fn number_at(bytes: &[u8], at: usize) -> u32
+pub(crate) fn number_at(bytes: &[u8], at: usize) -> u32
     requires { at + 4 ≤ length bytes.now }
     ensures { result ≡ number_at bytes.now at }
 {

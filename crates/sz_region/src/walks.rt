@@ -1,19 +1,21 @@
 //! Runs, traces and images of any operator, each one walk over the cells of an array in row-major
 //! order.
 
-ghost use Rattle.std.specs.Prelude.{◌≡◌, ◌<◌, ◌+◌, ◌^◌, true, length, IfOk};
+ghost use Rattle.std.specs.Prelude.{◌≡◌, ◌<◌, ◌+◌, ◌^◌, true, length, map, IfOk};
+ghost use Rattle.std.specs.Arc.{arc_value};
 ghost use Rattle.sz_cells.specs.Extent.{holds, index_of, cell_of, size_of};
 ghost use Rattle.sz_cells.specs.Cells.{has, with_those};
 ghost use Rattle.sz_spec.specs.Evaluation.{output_of};
 ghost use Rattle.sz_spec.specs.Lineage.{related, mapped};
 ghost use Rattle.sz_spec.specs.Work.{IsAtWork};
 ghost use Rattle.sz_spec.specs.Sides.{near_side, far_side, image_in};
-ghost use Rattle.sz_region.specs.Walks.{traced, steps};
+ghost use Rattle.sz_region.specs.Walks.{traced, steps, values_before};
 
 use crate::frame::AtWork;
 use std::alloc::Global;
+use std::sync::Arc;
 use sz_cells::{Cell, CellBits, NoMemory, Shape};
-use sz_spec::{Array, Dir, Mapper, Tally};
+use sz_spec::{Array, Dir, Mapper, OpAt, Tally, Value};
 
 /// The output of an operator at work. One pass over its cells.
 pub fn run_by<A: AtWork>(alloc: Global, at: &A) -> Result<Array, NoMemory>
@@ -30,6 +32,20 @@ pub fn run_by<A: AtWork>(alloc: Global, at: &A) -> Result<Array, NoMemory>
     }
     match Array::make(shape, cells) {
         Some(array) => Ok(array),
+        None => unreachable!(),
+    }
+}
+
+/// The output of an operator at work, of the values of all its cells in row-major order: for an
+/// operator that makes them in a way of its own.
+pub fn output_with(at: &OpAt, _inputs: &[Arc<Array>], cells: Vec<Value>) -> Array
+    requires right { IsAtWork at.now (map (λ a. arc_value a) _inputs.now) }
+    requires values { cells.items
+        ≡ values_before at.now (map (λ a. arc_value a) _inputs.now) (size_of at.now.out) }
+    ensures { result ≡ output_of at.now.op (map (λ a. arc_value a) _inputs.now) }
+{
+    match Array::make(at.out(), cells) {
+        Some(array) => array,
         None => unreachable!(),
     }
 }

@@ -1,117 +1,95 @@
--- Each cell of the piece writes its own entry, and the entries of all its cells fit.
-use Rattle.std.proofs.Common.{◌≡◌, ◌+◌, ◌-◌, ◌*◌, ◌≤◌, true, refl, sym, ap, subst, ◌∙◌}
-use Rattle.std.proofs.Common.{arith}
-use Rattle.sz_cells.specs.Extent.{size_of, holds}
-use Rattle.sz_cells.specs.declared.Cell.{Cell}
-use Rattle.sz_cells.proofs.Sets.{cell-held}
-use Rattle.sz_spec.specs.Payloads.{overrides}
-use Rattle.sz_region.specs.Parts.{Parts}
-use Rattle.sz_region.specs.Fits.{FitsFull, FitsPay, FitsComp}
-use Rattle.sz_region.specs.Images.{measure_of, region_at, entry_at}
-use Rattle.sz_region.specs.Written.{regions_from, entries_from, cells_in_piece}
-use Rattle.sz_region.proofs.Added.{cell-next}
-use Rattle.sz_region.proofs.Fitting.{full-fits, pay-fits, comp-fits, if-more, if-more_and}
-use Rattle.sz_region.proofs.Fitting.{regions-more, entries-more}
-use Rattle.sz_region.proofs.Fitting.{regions-few, entries-few, pay-unmapped, comp-unmapped}
+-- Each part has what the cells of the piece write to it, and that fits.
+use Rattle.std.proofs.Common.{◌≡◌, ℕ, ◌-◌, ◌*◌, ◌∙◌, Bool, List, false, true, sym, ap, ap₂, subst}
+use Rattle.sz_cells.specs.Extent.{size_of}
+use Rattle.sz_spec.specs.declared.modes.Mode.TheVariants as mode
+use Rattle.sz_region.specs.declared.groups.Keeping.{Keeping}
+use Rattle.sz_region.specs.Parts.{Parts, no_parts}
+use Rattle.sz_region.specs.Fits.{Fits, needs}
+use Rattle.sz_region.specs.Images.{measure_of}
+use Rattle.sz_region.specs.Written.{full_keeping, pay_keeping, comp_keeping, keepings, cells_in_piece}
+use Rattle.sz_region.specs.Written.{regions_by, entries_by, with_entries}
+use Rattle.sz_region.proofs.Fitting.{piece-fits, all-looked, few-looked}
 use Rattle.sz_region.proofs.pieces.piece_by.Goals as goal
 
-pub write_cell-requires-clause-cell : goal.write_cell-requires-clause-cell
-write_cell-requires-clause-cell g c =
+pub write_regions-requires-clause-few : goal.write_regions-requires-clause-few
+write_regions-requires-clause-few g c =
     let s = g.A.AtWork.site c.args.at.now in
-    let size : c.size.result ≡ size_of s.out = c.size.ensures.value ∙ ap size_of c.loop-index.invariant.0 in
-    subst (λ (x : Cell). holds s.out x ≡ true) (sym c.loop-index.invariant.2)
-    (cell-held s.out c.loop-index.index (omega (arith, size, c.min-end.ensures)))
+    let all = all-looked s.out c.args.k c.size.result c.min-end.result c.requires.piece
+    (c.size.ensures.value ∙ ap size_of c.out-shape.ensures) c.min-end.ensures in
+    (few-looked s.out (full_keeping c.needs.result s.op (g.A.AtWork.inputs c.args.at.now)) c.args.k
+    (c.min-end.result - c.args.k * 64) c.deref.result.now c.requires.piece all
+    (c.deref.ensures.value ∙ c.in_ok-kept.ensures.full)).0
 
-pub write_cell-requires-clause-pay : goal.write_cell-requires-clause-pay
-write_cell-requires-clause-pay g c = λ wanted.
-    pay-unmapped (g.A.AtWork.site c.args.at.now).op c.args.list.now c.requires.supported (sym c.needs-2.ensures ∙
-    wanted)
-
-pub write_cell-requires-clause-comp : goal.write_cell-requires-clause-comp
-write_cell-requires-clause-comp g c = λ wanted.
-    comp-unmapped (g.A.AtWork.site c.args.at.now).op c.args.list.now c.requires.supported (sym c.needs-3.ensures ∙
-    wanted)
-
-pub write_cell-requires-clause-regions : goal.write_cell-requires-clause-regions
-write_cell-requires-clause-regions g c =
+pub write_regions-requires-clause-cells : goal.write_regions-requires-clause-cells
+write_regions-requires-clause-cells g c =
     let s = g.A.AtWork.site c.args.at.now in
-    let few = regions-few s (g.A.AtWork.inputs c.args.at.now) c.needs.result (c.args.k * 64) (c.loop-index.index -
-    c.args.k * 64) c.loop-index.lineage.regions c.loop-index.invariant.5 in
-    omega (arith, few, c.min-end.ensures)
+    let all = all-looked s.out c.args.k c.size.result c.min-end.result c.requires.piece
+    (c.size.ensures.value ∙ ap size_of c.out-shape.ensures) c.min-end.ensures in
+    (few-looked s.out (full_keeping c.needs.result s.op (g.A.AtWork.inputs c.args.at.now)) c.args.k
+    (c.min-end.result - c.args.k * 64) c.deref.result.now c.requires.piece all
+    (c.deref.ensures.value ∙ c.in_ok-kept.ensures.full)).1
 
-pub write_cell-requires-clause-pays : goal.write_cell-requires-clause-pays
-write_cell-requires-clause-pays g c =
+pub write_entries-requires-clause-few : goal.write_entries-requires-clause-few
+write_entries-requires-clause-few g c =
     let s = g.A.AtWork.site c.args.at.now in
-    let few = entries-few s (g.A.AtWork.inputs c.args.at.now) (λ _. true) c.needs-2.result (c.args.k * 64)
-    (c.loop-index.index - c.args.k * 64) c.loop-index.lineage.pays c.loop-index.invariant.6 in
-    omega (arith, few, c.min-end.ensures)
+    let all = all-looked s.out c.args.k c.size.result c.min-end.result c.requires.piece
+    (c.size.ensures.value ∙ ap size_of c.out-shape.ensures) c.min-end.ensures in
+    (few-looked s.out (pay_keeping c.needs-2.result s.op (g.A.AtWork.inputs c.args.at.now)) c.args.k
+    (c.min-end.result - c.args.k * 64) c.deref-2.result.now c.requires.piece all
+    (c.deref-2.ensures.value ∙ c.in_ok-kept.ensures.pay)).0
 
-pub write_cell-requires-clause-comps : goal.write_cell-requires-clause-comps
-write_cell-requires-clause-comps g c =
+pub write_entries-requires-clause-cells : goal.write_entries-requires-clause-cells
+write_entries-requires-clause-cells g c =
     let s = g.A.AtWork.site c.args.at.now in
-    let inputs = g.A.AtWork.inputs c.args.at.now in
-    let few = entries-few s inputs (overrides s.op inputs) c.needs-3.result (c.args.k * 64) (c.loop-index.index -
-    c.args.k * 64) c.loop-index.lineage.comps c.loop-index.invariant.7 in
-    omega (arith, few, c.min-end.ensures)
+    let all = all-looked s.out c.args.k c.size.result c.min-end.result c.requires.piece
+    (c.size.ensures.value ∙ ap size_of c.out-shape.ensures) c.min-end.ensures in
+    (few-looked s.out (pay_keeping c.needs-2.result s.op (g.A.AtWork.inputs c.args.at.now)) c.args.k
+    (c.min-end.result - c.args.k * 64) c.deref-2.result.now c.requires.piece all
+    (c.deref-2.ensures.value ∙ c.in_ok-kept.ensures.pay)).1
 
-pub loop-index-preserved : goal.loop-index-preserved
-loop-index-preserved g c =
+pub write_entries-requires-2-clause-few : goal.write_entries-requires-2-clause-few
+write_entries-requires-2-clause-few g c =
     let s = g.A.AtWork.site c.args.at.now in
-    let inputs = g.A.AtWork.inputs c.args.at.now in
-    let inv = c.loop-index.invariant in
-    let start = c.args.k * 64 in
-    let i = c.loop-index.index in
-    let cell = c.loop-index.cell in
-    let low : start ≤ i = inv.1 in
-    let at : start + (i - start) ≡ i = omega arith in
-    let more : i + 1 - start ≡ i - start + 1 = omega arith in
-    let new = c.in_ok-write_cell.ensures in (
-      inv.0,
-      omega arith,
-      cell-next s.out c.out-shape.result i cell c.cell_after-cell.result inv.0 inv.2 c.cell_after-cell.ensures,
-      omega (arith, inv.3, c.tick.ensures),
-      ap (λ (p : Parts). p.piece) new ∙ inv.4,
-      ap (λ (p : Parts). p.regions) new
-          ∙ if-more c.needs.result (region_at s inputs cell) c.loop-index.lineage.regions (regions_from s inputs
-          start (i - start)) (regions_from s inputs start (i + 1 - start))
-          inv.5 (regions-more s inputs start (i - start) (i + 1 - start) i cell at more inv.2),
-      ap (λ (p : Parts). p.pays) new
-          ∙ if-more c.needs-2.result (entry_at s inputs cell) c.loop-index.lineage.pays (entries_from s inputs (λ
-          _. true) start (i - start))
-          (entries_from s inputs (λ _. true) start (i + 1 - start)) inv.6 (entries-more s inputs (λ _. true) start
-          (i - start) (i + 1 - start) i cell at more inv.2),
-      ap (λ (p : Parts). p.comps) new
-          ∙ if-more_and c.needs-3.result (overrides s.op inputs cell) (entry_at s inputs cell)
-          c.loop-index.lineage.comps (entries_from s inputs (overrides s.op inputs) start (i - start))
-          (entries_from s inputs (overrides s.op inputs) start (i + 1 - start)) inv.7
-          (entries-more s inputs (overrides s.op inputs) start (i - start) (i + 1 - start) i cell at more inv.2),
-    )
+    let all = all-looked s.out c.args.k c.size.result c.min-end.result c.requires.piece
+    (c.size.ensures.value ∙ ap size_of c.out-shape.ensures) c.min-end.ensures in
+    (few-looked s.out (comp_keeping c.needs-3.result s.op (g.A.AtWork.inputs c.args.at.now)) c.args.k
+    (c.min-end.result - c.args.k * 64) c.deref-3.result.now c.requires.piece all
+    (c.deref-3.ensures.value ∙ c.in_ok-kept.ensures.comp)).0
+
+pub write_entries-requires-2-clause-cells : goal.write_entries-requires-2-clause-cells
+write_entries-requires-2-clause-cells g c =
+    let s = g.A.AtWork.site c.args.at.now in
+    let all = all-looked s.out c.args.k c.size.result c.min-end.result c.requires.piece
+    (c.size.ensures.value ∙ ap size_of c.out-shape.ensures) c.min-end.ensures in
+    (few-looked s.out (comp_keeping c.needs-3.result s.op (g.A.AtWork.inputs c.args.at.now)) c.args.k
+    (c.min-end.result - c.args.k * 64) c.deref-3.result.now c.requires.piece all
+    (c.deref-3.ensures.value ∙ c.in_ok-kept.ensures.comp)).1
 
 pub returns-clause-fits : goal.returns-clause-fits
 returns-clause-fits g c =
     let s = g.A.AtWork.site c.args.at.now in
     let inputs = g.A.AtWork.inputs c.args.at.now in
-    let inv = c.loop-index.invariant in
-    let start = c.args.k * 64 in
-    let size : c.size.result ≡ size_of s.out = c.size.ensures.value ∙ ap size_of inv.0 in
-    let all : c.loop-index.index - start ≡ cells_in_piece s.out c.args.k = omega (arith, size, c.min-end.ensures) in
-    let m = measure_of s inputs in
-    record {
-      full = λ need.
-          let is = inv.5 ∙ (rw (c.needs.ensures ∙ need, all) refl) in
-          subst (FitsFull m c.args.k) (sym is) (full-fits s inputs c.args.k);
-      pay = λ need.
-          let is = inv.6 ∙ (rw (c.needs-2.ensures ∙ need, all) refl) in
-          subst (FitsPay m c.args.k) (sym is) (pay-fits s inputs c.args.k c.requires.right (pay-unmapped s.op
-          c.args.list.now c.requires.supported need));
-      comp = λ need.
-          let is = inv.7 ∙ (rw (c.needs-3.ensures ∙ need, all) refl) in
-          subst (FitsComp m c.args.k) (sym is) (comp-fits s inputs c.args.k c.requires.right (comp-unmapped s.op
-          c.args.list.now c.requires.supported need));
-      no_full = λ need.
-          inv.5 ∙ (rw (c.needs.ensures ∙ need) refl);
-      no_pay = λ need.
-          inv.6 ∙ (rw (c.needs-2.ensures ∙ need) refl);
-      no_comp = λ need.
-          inv.7 ∙ (rw (c.needs-3.ensures ∙ need) refl);
-    }
+    let k = c.args.k in
+    let all = all-looked s.out k c.size.result c.min-end.result c.requires.piece
+    (c.size.ensures.value ∙ ap size_of c.out-shape.ensures) c.min-end.ensures in
+    let kept = c.in_ok-kept.ensures in
+    let full = c.deref.result.now in
+    let pay = c.deref-2.result.now in
+    let comp = c.deref-3.result.now in
+    let is : c.write_entries-2.new.lineage ≡ with_entries true (entries_by s inputs (k * 64) comp)
+    (with_entries false (entries_by s inputs (k * 64) pay)
+    (record (no_parts k) { regions = regions_by s inputs (k * 64) full })) =
+    c.in_ok-write_entries-2.ensures
+    ∙ ap (with_entries true (entries_by s inputs (k * 64) comp))
+    (c.in_ok-write_entries.ensures
+    ∙ ap (with_entries false (entries_by s inputs (k * 64) pay))
+    (c.in_ok-write_regions.ensures
+    ∙ ap (λ (p : Parts). record p { regions = regions_by s inputs (k * 64) full }) c.new-lineage.ensures)) in
+    subst (Fits (measure_of s inputs) c.args.list.now k) (sym is)
+    (piece-fits s inputs c.args.list.now k full pay comp c.requires.right c.requires.supported
+    (c.deref.ensures.value ∙ kept.full
+    ∙ ap₂ (λ (b : Bool) (n : ℕ). keepings s.out (full_keeping b s.op inputs) (k * 64) n) c.needs.ensures all)
+    (c.deref-2.ensures.value ∙ kept.pay
+    ∙ ap₂ (λ (b : Bool) (n : ℕ). keepings s.out (pay_keeping b s.op inputs) (k * 64) n) c.needs-2.ensures all)
+    (c.deref-3.ensures.value ∙ kept.comp
+    ∙ ap₂ (λ (b : Bool) (n : ℕ). keepings s.out (comp_keeping b s.op inputs) (k * 64) n) c.needs-3.ensures all))

@@ -1,0 +1,47 @@
+//! Numbers of four bytes, big-endian: writing them, alone and in rows, and reading one at a place.
+
+ghost use Rattle.std.specs.Prelude.{◌≡◌, ◌<◌, ◌≤◌, ◌+◌, ◌*◌, ◌^◌, ◌++◌, ℕ, List, length, take};
+ghost use Rattle.std.specs.Prelude.{IfSome, IfNone, OnOk, OnErr};
+ghost use Rattle.sz_cells.specs.SetBytes.{four_bytes};
+ghost use Rattle.sz_region.specs.Counted.{rows_bytes, IsAt};
+ghost use Rattle.sz_region.specs.Putting.{AreRows, MakeRows};
+
+use crate::set_bytes::number_at;
+use sz_cells::NoMemory;
+
+/// Appends a number. After `NoMemory` the bytes are as before.
+pub(crate) fn put_number(number: u32, to: &mut Vec<u8>) -> Result<(), NoMemory>
+    ensures ok { OnOk result (to.new.items ≡ to.old.items ++ four_bytes number) }
+    ensures err { OnErr result (to.new.items ≡ to.old.items) }
+{
+    to.extend_from_slice(&number.to_be_bytes())?;
+    Ok(())
+}
+
+/// Appends how many rows of `width` numbers there are, and the numbers, row by row. After
+/// `NoMemory` some of the bytes may be there.
+pub(crate) fn put_rows(width: u32, numbers: &[u32], to: &mut Vec<u8>) -> Result<(), NoMemory>
+    requires width { 0 < width }
+    requires whole { MakeRows width numbers.now }
+    ensures ok { OnOk result ((rows : List (List ℕ)) → AreRows width numbers.now rows
+        → to.new.items ≡ to.old.items ++ rows_bytes rows) }
+    ensures err { OnErr result (take (length to.old.items) to.new.items ≡ to.old.items) }
+{
+    put_number((numbers.len() / width as usize) as u32, to)?;
+    for number in numbers {
+        put_number(*number, to)?;
+    }
+    Ok(())
+}
+
+/// The number whose four bytes stand at a place. `None` exactly where there are not four bytes.
+pub(crate) fn take_number(bytes: &[u8], at: u64) -> Option<u32>
+    ensures some { IfSome result (λ n. IsAt bytes.now at (at + 4) (four_bytes n)) }
+    ensures none { IfNone result (length bytes.now < at + 4) }
+{
+    let length = bytes.len() as u64;
+    if length < 4 || length - 4 < at {
+        return None;
+    }
+    Some(number_at(bytes, at as usize))
+}
