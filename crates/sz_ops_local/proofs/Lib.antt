@@ -1,3 +1,4 @@
 pub mod Places
 pub mod WindowCells
 pub mod Blocks
+pub mod Arithmetic

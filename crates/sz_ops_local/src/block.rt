@@ -5,13 +5,15 @@ ghost use Rattle.std.specs.Prelude.{◌≡◌, ℕ, ◌+◌, ◌*◌, ◌/◌, �
 ghost use Rattle.std.specs.Prelude.{length, Some};
 ghost use Rattle.std.specs.Arc.{arc_value};
 ghost use Rattle.std.specs.Prelude.{◌==◌, ◌&&◌, nat_le, nat_lt};
+ghost use Rattle.std.specs.Prelude.{map};
 ghost use Rattle.sz_cells.specs.declared.Cell.{Cell};
 ghost use Rattle.sz_cells.specs.Extent.{holds, height_of};
 ghost use Rattle.sz_cells.specs.Cells.{any_cell, cells_where, with_those};
 ghost use Rattle.sz_spec.specs.declared.op.Op.TheVariants.{Block};
 ghost use Rattle.sz_spec.specs.Values.{extent_at};
 ghost use Rattle.sz_spec.specs.Lineage.{mapped, mapped_between};
-ghost use Rattle.sz_spec.specs.Evaluation.{value_of};
+ghost use Rattle.sz_spec.specs.Work.{IsAtWork};
+ghost use Rattle.sz_spec.specs.Evaluation.{output_of, value_of};
 ghost use Rattle.sz_spec.specs.Operators.Folds.{blocks_over};
 ghost use Rattle.sz_region.specs.Single.{IsOnly};
 ghost use Rattle.sz_ops_local.specs.Windows.{is_in, IsWindow, IsBlocked};
@@ -22,7 +24,7 @@ use std::alloc::Global;
 use std::sync::Arc;
 use sz_cells::laws::a_shape_is_within_limits;
 use sz_cells::{Cell, CellBits, CellSet, NoMemory, Shape};
-use sz_region::{Mapping, add_cell, input_of};
+use sz_region::{Mapped, Mapping, add_cell, input_of, run_by};
 use sz_spec::{Array, Fold, OpAt, Value};
 
 /// A fold of blocks between its shapes.
@@ -62,6 +64,17 @@ impl<'a> Mapping for FoldBlocks<'a> {
 
     fn mapped_set(&self, alloc: Global, out: Cell, input: u32) -> Result<Arc<CellSet>, NoMemory> {
         set(alloc, self.at, self.fold, self.h, self.w, out, input)
+    }
+}
+
+impl<'a> FoldBlocks<'a> {
+    /// The output over these inputs, cell by cell.
+    pub fn run(self, alloc: Global, inputs: &[Arc<Array>]) -> Result<Array, NoMemory>
+        requires { IsAtWork self.at.now (map (λ a. arc_value a) inputs.now) }
+        ensures { IfOk result (λ a. a
+            ≡ output_of self.entry.at.now.op (map (λ a. arc_value a) inputs.now)) }
+    {
+        run_by(alloc, &Mapped { of: self, inputs })
     }
 }
 

@@ -7,13 +7,14 @@ ghost use Rattle.sz_cells.specs.Cells.{any_cell, cells_where, has, with_those};
 ghost use Rattle.sz_spec.specs.Values.{value_at, input_at, extent_at};
 ghost use Rattle.sz_spec.specs.Shapes.{IsSite};
 ghost use Rattle.sz_spec.specs.Lineage.{mapped};
-ghost use Rattle.sz_spec.specs.Evaluation.{value_of};
+ghost use Rattle.sz_spec.specs.Evaluation.{output_of, value_of};
 ghost use Rattle.sz_spec.specs.LawsShapes.{AreExtents};
 ghost use Rattle.sz_spec.specs.Work.{IsAtWork};
 ghost use Rattle.sz_spec.specs.Sides.{near_side, far_side, image_in};
 ghost use Rattle.sz_ops_local.specs.Local.{is_elementwise};
 
 use crate::numbers::of_numbers;
+use crate::whole;
 use std::alloc::Global;
 use std::sync::Arc;
 use sz_cells::{Cell, CellBits, CellSet, NoMemory, Shape};
@@ -56,6 +57,15 @@ impl<'a> Mapping for Elementwise<'a> {
 }
 
 impl<'a> Elementwise<'a> {
+    /// The output over these inputs. One pass over its cells.
+    pub fn run(&self, alloc: Global, inputs: &[Arc<Array>]) -> Result<Array, NoMemory>
+        requires { IsAtWork self.now.at.now (map (λ a. arc_value a) inputs.now) }
+        ensures { IfOk result (λ a. a
+            ≡ output_of self.now.at.now.op (map (λ a. arc_value a) inputs.now)) }
+    {
+        whole::run(alloc, self.at, inputs)
+    }
+
     /// Adds the image of a set of cells under the mapping: the same cells, as they are at the same
     /// places, all at once.
     pub fn image(&self, dir: Dir, input: u32, from: &CellBits, to: &mut CellBits)

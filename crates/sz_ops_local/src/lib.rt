@@ -17,6 +17,7 @@
 mod block;
 mod elementwise;
 mod numbers;
+mod whole;
 mod window;
 
 pub use block::FoldBlocks;
