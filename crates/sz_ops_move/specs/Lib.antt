@@ -1,1 +1,3 @@
 pub mod Moving
+pub mod Turning
+pub mod Entries

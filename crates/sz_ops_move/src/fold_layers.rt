@@ -1,6 +1,7 @@
 //! Fold of layers: the cells of all layers at one row and column folded into one cell.
 
 ghost use Rattle.std.specs.Prelude.{◌≡◌, ◌<◌, ◌||◌, ◌&&◌, [], ◌∷◌, true, length, Some, IfOk, OnOk};
+ghost use Rattle.std.specs.Prelude.{map};
 ghost use Rattle.std.specs.Arc.{arc_value};
 ghost use Rattle.std.specs.List.{list_any};
 ghost use Rattle.sz_cells.specs.declared.Cell.{Cell};
@@ -10,7 +11,8 @@ ghost use Rattle.sz_spec.specs.declared.op.Op.TheVariants.{FoldLayers};
 ghost use Rattle.sz_spec.specs.Values.{extent_at, numbers_at};
 ghost use Rattle.sz_spec.specs.Operators.Folds.{fold_of};
 ghost use Rattle.sz_spec.specs.Lineage.{mapped};
-ghost use Rattle.sz_spec.specs.Evaluation.{value_of};
+ghost use Rattle.sz_spec.specs.Work.{IsAtWork};
+ghost use Rattle.sz_spec.specs.Evaluation.{output_of, value_of};
 ghost use Rattle.sz_region.specs.Single.{IsOnly};
 ghost use Rattle.sz_ops_move.specs.Moving.{is_in_line};
 
@@ -19,7 +21,7 @@ use std::alloc::Global;
 use std::sync::Arc;
 use sz_cells::laws::a_shape_is_within_limits;
 use sz_cells::{Cell, CellBits, CellSet, NoMemory, Shape};
-use sz_region::{Folding, Mapping, input_of};
+use sz_region::{Folding, Mapped, Mapping, input_of, run_by};
 use sz_spec::{Array, Fold, OpAt, Value};
 
 /// A fold of layers between its shapes.
@@ -63,6 +65,17 @@ impl<'a> Mapping for LayerFold<'a> {
 
     fn mapped_set(&self, alloc: Global, out: Cell, input: u32) -> Result<Arc<CellSet>, NoMemory> {
         set(alloc, self.at, self.fold, out, input)
+    }
+}
+
+impl<'a> LayerFold<'a> {
+    /// The output over these inputs, cell by cell.
+    pub fn run(self, alloc: Global, inputs: &[Arc<Array>]) -> Result<Array, NoMemory>
+        requires { IsAtWork self.at.now (map (λ a. arc_value a) inputs.now) }
+        ensures { IfOk result (λ a. a
+            ≡ output_of self.entry.at.now.op (map (λ a. arc_value a) inputs.now)) }
+    {
+        run_by(alloc, &Mapped { of: self, inputs })
     }
 }
 

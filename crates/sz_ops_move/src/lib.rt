@@ -21,6 +21,7 @@ mod lookup;
 mod single;
 mod slice;
 mod transpose;
+mod turning;
 
 pub use fold_layers::LayerFold;
 pub use lookup::Matching;

@@ -1,6 +1,6 @@
 //! Lookup: a cell of the first input names a column of the second, which is a table of one row.
 
-ghost use Rattle.std.specs.Prelude.{◌≡◌, ◌<◌, ℤ, [], ◌∷◌, true, length, map, Option, option_map};
+ghost use Rattle.std.specs.Prelude.{◌≡◌, ◌<◌, ◌≤◌, ℤ, [], ◌∷◌, true, length, map, Option, option_map};
 ghost use Rattle.std.specs.Prelude.{IfSome, IfOk};
 ghost use Rattle.std.specs.Arc.{arc_value};
 ghost use Rattle.std.specs.Option.{option_map_or};
@@ -9,15 +9,18 @@ ghost use Rattle.sz_cells.specs.SetBytes.{four_bytes};
 ghost use Rattle.sz_spec.specs.declared.op.Op.TheVariants.{Lookup};
 ghost use Rattle.sz_spec.specs.Values.{input_at, extent_at};
 ghost use Rattle.sz_spec.specs.Lineage.{related};
+ghost use Rattle.sz_spec.specs.Evaluation.{output_of};
 ghost use Rattle.sz_spec.specs.Work.{IsAtWork};
+ghost use Rattle.sz_region.specs.Groups.{kind_of};
 ghost use Rattle.sz_region.specs.Single.{IsOnly};
+ghost use Rattle.sz_ops_move.specs.Entries.{entry_of};
 ghost use Rattle.sz_spec.specs.Operators.Lookup.{column_of, match_of, entry_at, looked_up};
 
 use std::alloc::Global;
 use std::sync::Arc;
 use sz_cells::laws::a_shape_is_within_limits;
 use sz_cells::{Cell, CellBits, CellSet, NoMemory, Shape};
-use sz_region::{AtWork, Payload, add_cell, has_cell, input_of, set_of_cell};
+use sz_region::{AtWork, Payload, add_cell, has_cell, input_of, output_with, set_of_cell};
 use sz_spec::{Array, OpAt, Value};
 
 /// A lookup at work over the array of columns and the table.
@@ -57,6 +60,14 @@ impl<'a> AtWork for Matching<'a> {
     fn related_set(&self, alloc: Global, out: Cell, input: u32) -> Result<Arc<CellSet>, NoMemory> {
         let shape = self.at.ins()[input as usize];
         set_of_cell(alloc, shape, self.cell_of(out, input))
+    }
+
+    fn lineage_kind(&self, _out: Cell) -> Option<u32> {
+        None
+    }
+
+    fn payload_kind(&self, out: Cell) -> Option<u32> {
+        Some(payload_kind(self.input(0), self.input(1), out))
     }
 
     fn payload(&self, alloc: Global, out: Cell) -> Result<Arc<Payload>, NoMemory> {
@@ -99,6 +110,53 @@ impl<'a> Matching<'a> {
     }
 }
 
+impl<'a> Matching<'a> {
+    /// The output. One pass over the columns that are named.
+    pub fn run(&self, alloc: Global) -> Result<Array, NoMemory>
+        requires { IsAtWork self.now.at.now (map (λ a. arc_value a) self.now.inputs.now) }
+        ensures { IfOk result (λ a. a
+            ≡ output_of self.now.at.now.op (map (λ a. arc_value a) self.now.inputs.now)) }
+    {
+        let table = self.input(1);
+        let cols = table.shape().cols;
+        let cells = entries(alloc, cols, table.cells(), self.input(0).cells())?;
+        Ok(output_with(self.at, self.inputs, cells))
+    }
+}
+
+/// What a table of so many columns has for each of some numbers.
+fn entries(
+    alloc: Global,
+    cols: u32,
+    table: &[Value],
+    numbers: &[Value],
+) -> Result<Vec<Value>, NoMemory>
+    requires { cols ≤ length table.now }
+    ensures { IfOk result (λ v. v.items ≡ map (entry_of cols table.now) numbers.now) }
+{
+    let entries = numbers
+        .iter()
+        .map(
+            |number: &Value| -> Value
+                requires { cols ≤ length table.now }
+                ensures { result ≡ entry_of cols table.entry.now number.now }
+            { entry_of(cols, table, *number) },
+        )
+        .collect(alloc)?;
+    Ok(entries)
+}
+
+/// What a table of so many columns has for a number: nothing where it names no column.
+fn entry_of(cols: u32, table: &[Value], number: Value) -> Value
+    requires { cols ≤ length table.now }
+    ensures { result ≡ entry_of cols table.now number }
+{
+    match column_of(cols, number?) {
+        Some(column) => table[column as usize],
+        None => None,
+    }
+}
+
 /// The value of an output cell: that of the table's cell in the column that is named.
 pub(crate) fn value(first: &Array, table: &Array, out: Cell) -> Value
     requires { holds first.now.extent out ≡ true }
@@ -120,6 +178,19 @@ pub(crate) fn matched(first: &Array, table: &Array, out: Cell) -> Option<Cell>
     a_shape_is_within_limits(&shape);
     let col = column_of(shape.cols, first.at(out)?)?;
     Some(Cell { row: 0, col })
+}
+
+/// The kind of the payload of an output cell: 1 plus the column that is named, or 0.
+pub(crate) fn payload_kind(first: &Array, table: &Array, out: Cell) -> u32
+    requires { holds first.now.extent out ≡ true }
+    ensures { result ≡ kind_of (match_of first.now table.now out) }
+{
+    let shape = table.shape();
+    a_shape_is_within_limits(&shape);
+    match matched(first, table, out) {
+        Some(cell) => 1 + cell.col,
+        None => 0,
+    }
 }
 
 /// The payload of an output cell: four bytes of the column that is named, or no byte.

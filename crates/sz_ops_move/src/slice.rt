@@ -1,18 +1,22 @@
 //! Slice: a window of each layer.
 
-ghost use Rattle.std.specs.Prelude.{◌≡◌, ◌+◌, [], ◌∷◌, true, Some, Option, IfSome};
-ghost use Rattle.sz_cells.specs.Extent.{holds, layer_of, row_in, cell_in};
+ghost use Rattle.std.specs.Prelude.{◌≡◌, ◌+◌, ◌<◌, ◌≤◌, ℕ, [], ◌∷◌, true, Some, None, Option};
+ghost use Rattle.std.specs.Prelude.{IfSome, map, IfOk, length, slice_index_or};
+ghost use Rattle.std.specs.Arc.{arc_value};
+ghost use Rattle.sz_cells.specs.Extent.{holds, layer_of, row_in, cell_in, size_of};
 ghost use Rattle.sz_spec.specs.declared.op.Op.TheVariants.{Slice};
 ghost use Rattle.sz_spec.specs.Values.{extent_at};
-ghost use Rattle.sz_spec.specs.Evaluation.{value_in};
+ghost use Rattle.sz_spec.specs.Evaluation.{output_of, value_in};
 ghost use Rattle.sz_spec.specs.Lineage.{mapped};
+ghost use Rattle.sz_spec.specs.Work.{IsAtWork};
 ghost use Rattle.sz_region.specs.Single.{IsOnly};
+ghost use Rattle.sz_region.specs.Walks.{values_before};
 
 use crate::single::{add_source, add_target, has_source, set_of_source, sides};
 use std::alloc::Global;
 use std::sync::Arc;
 use sz_cells::{Cell, CellBits, CellSet, NoMemory};
-use sz_region::{Mapping, input_of};
+use sz_region::{Mapping, input_of, output_with};
 use sz_spec::{Array, OpAt, Value};
 
 /// A slice between its shapes.
@@ -30,6 +34,9 @@ impl<'a> Slicing<'a> {
     /// The cell of the input to which an output cell is mapped.
     fn source(&self, out: Cell) -> Cell
         requires { holds self.now.at.now.out out ≡ true }
+        ensures value { let s = self.now.at.now in let e = extent_at s.ins 0 in
+            result ≡ cell_in e (layer_of s.out out) (self.now.r0 + row_in s.out out)
+            (self.now.c0 + out.col) }
         ensures held { holds (extent_at self.now.at.now.ins 0) result ≡ true }
         ensures only { let s = self.now.at.now in
             IsOnly (extent_at s.ins 0) (mapped s.op s.ins 0 out) (Some result) }
@@ -68,6 +75,46 @@ impl<'a> Mapping for Slicing<'a> {
     fn mapped_set(&self, alloc: Global, out: Cell, input: u32) -> Result<Arc<CellSet>, NoMemory> {
         set_of_source(alloc, self.at, out, self.source(out), input)
     }
+}
+
+impl<'a> Slicing<'a> {
+    /// The output over these inputs, copied row by row.
+    pub fn run(&self, alloc: Global, inputs: &[Arc<Array>]) -> Result<Array, NoMemory>
+        requires { IsAtWork self.now.at.now (map (λ a. arc_value a) inputs.now) }
+        ensures { IfOk result (λ a. a
+            ≡ output_of self.now.at.now.op (map (λ a. arc_value a) inputs.now)) }
+    {
+        let cells = self.rows(alloc, inputs)?;
+        Ok(output_with(self.at, inputs, cells))
+    }
+
+    /// The values of all output cells.
+    fn rows(&self, alloc: Global, inputs: &[Arc<Array>]) -> Result<Vec<Value>, NoMemory>
+        requires { IsAtWork self.now.at.now (map (λ a. arc_value a) inputs.now) }
+        ensures { IfOk result (λ v. v.items ≡ values_before self.now.at.now
+            (map (λ a. arc_value a) inputs.now) (size_of self.now.at.now.out)) }
+    {
+        let (shape, made) = sides(self.at);
+        let cells = input_of(self.at, inputs, 0).cells();
+        let mut rows = Vec::new(alloc);
+        rows.reserve(made.size() as usize)?;
+        for row in 0..made.rows {
+            let from = shape.index(self.source(Cell { row, col: 0 }));
+            rows.extend_from_slice(part(cells, from as usize, made.cols as usize))?;
+        }
+        Ok(rows)
+    }
+}
+
+/// So many values from one on.
+fn part(cells: &[Value], from: usize, count: usize) -> &[Value]
+    requires within { from + count ≤ length cells.now }
+    requires small { length cells.now ≤ 1048576 }
+    ensures long { length result.now ≡ count }
+    ensures each { (k : ℕ) → k < count
+        → slice_index_or result.now k None ≡ slice_index_or cells.now (from + k) None }
+{
+    &cells[from..from + count]
 }
 
 /// The value of an output cell.

@@ -1,18 +1,21 @@
 //! Transpose: rows and columns of each layer exchanged.
 
-ghost use Rattle.std.specs.Prelude.{◌≡◌, [], ◌∷◌, true, Some};
+ghost use Rattle.std.specs.Prelude.{◌≡◌, [], ◌∷◌, true, Some, map, IfOk};
+ghost use Rattle.std.specs.Arc.{arc_value};
 ghost use Rattle.sz_cells.specs.Extent.{holds, layer_of, row_in, cell_in};
 ghost use Rattle.sz_spec.specs.declared.op.Op.TheVariants.{Transpose};
 ghost use Rattle.sz_spec.specs.Values.{extent_at};
-ghost use Rattle.sz_spec.specs.Evaluation.{value_in};
+ghost use Rattle.sz_spec.specs.Evaluation.{output_of, value_in};
 ghost use Rattle.sz_spec.specs.Lineage.{mapped};
+ghost use Rattle.sz_spec.specs.Work.{IsAtWork};
 ghost use Rattle.sz_region.specs.Single.{IsOnly};
 
 use crate::single::{add_source, add_target, has_source, set_of_source, sides};
+use crate::turning::turned;
 use std::alloc::Global;
 use std::sync::Arc;
 use sz_cells::{Cell, CellBits, CellSet, NoMemory};
-use sz_region::{Mapping, input_of};
+use sz_region::{Mapping, input_of, output_with};
 use sz_spec::{Array, OpAt, Value};
 
 /// A transposition between its shapes.
@@ -49,6 +52,18 @@ impl<'a> Mapping for Transposition<'a> {
 
     fn mapped_set(&self, alloc: Global, out: Cell, input: u32) -> Result<Arc<CellSet>, NoMemory> {
         set_of_source(alloc, self.at, out, source(self.at, out), input)
+    }
+}
+
+impl<'a> Transposition<'a> {
+    /// The output over these inputs, written strip by strip.
+    pub fn run(&self, alloc: Global, inputs: &[Arc<Array>]) -> Result<Array, NoMemory>
+        requires { IsAtWork self.now.at.now (map (λ a. arc_value a) inputs.now) }
+        ensures { IfOk result (λ a. a
+            ≡ output_of self.now.at.now.op (map (λ a. arc_value a) inputs.now)) }
+    {
+        let cells = turned(alloc, self.at, inputs)?;
+        Ok(output_with(self.at, inputs, cells))
     }
 }
 
