@@ -61,6 +61,14 @@ impl<'a> AtWork for Cleaning<'a> {
         set_under(alloc, self.at.out(), &self.window(out), out)
     }
 
+    fn lineage_kind(&self, _out: Cell) -> Option<u32> {
+        None
+    }
+
+    fn payload_kind(&self, out: Cell) -> Option<u32> {
+        Some(u32::from(is_hot(self.t, self.input(), out)))
+    }
+
     fn payload(&self, alloc: Global, out: Cell) -> Result<Arc<Payload>, NoMemory> {
         let mut bytes = Vec::new(alloc);
         bytes.push(u8::from(is_hot(self.t, self.input(), out)))?;

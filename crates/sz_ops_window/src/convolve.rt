@@ -1,9 +1,13 @@
 //! Convolve: the weighted sum of the cells under a kernel.
 
 ghost use Rattle.std.specs.Prelude.{◌≡◌, ◌≤◌, ◌<◌, ◌+◌, ◌-◌, ◌*◌, ◌/◌, true, IfSome};
+ghost use Rattle.std.specs.Prelude.{map, IfOk};
+ghost use Rattle.std.specs.Arc.{arc_value};
 ghost use Rattle.sz_cells.specs.Extent.{holds, is_extent};
 ghost use Rattle.sz_spec.specs.declared.op.Op.TheVariants.{Convolve};
 ghost use Rattle.sz_spec.specs.Values.{fit};
+ghost use Rattle.sz_spec.specs.Work.{IsAtWork};
+ghost use Rattle.sz_spec.specs.Evaluation.{output_of};
 ghost use Rattle.sz_spec.specs.Weights.{is_weight, is_kernel};
 ghost use Rattle.sz_spec.specs.Operators.Convolve.{convolved_at};
 ghost use Rattle.sz_ops_window.specs.Sums.{times, part_of, sum_from, reach_of, IsWithin};
@@ -15,7 +19,7 @@ use std::alloc::Global;
 use std::sync::Arc;
 use sz_cells::laws::a_shape_is_within_limits;
 use sz_cells::{Cell, CellBits, CellSet, NoMemory, Shape};
-use sz_region::{Mapping, input_of};
+use sz_region::{Mapped, Mapping, input_of, run_by};
 use sz_spec::{Array, Dir, Kernel, OpAt, Value};
 
 /// A convolution between its shapes.
@@ -57,6 +61,17 @@ impl<'a> Mapping for Convolution<'a> {
     fn mapped_set(&self, alloc: Global, out: Cell, _input: u32) -> Result<Arc<CellSet>, NoMemory> {
         let shape = same_shape(self.at);
         set_under(alloc, shape, &self.mask(), out)
+    }
+}
+
+impl<'a> Convolution<'a> {
+    /// The output over these inputs, cell by cell.
+    pub fn run(self, alloc: Global, inputs: &[Arc<Array>]) -> Result<Array, NoMemory>
+        requires { IsAtWork self.at.now (map (λ a. arc_value a) inputs.now) }
+        ensures { IfOk result (λ a. a
+            ≡ output_of self.entry.at.now.op (map (λ a. arc_value a) inputs.now)) }
+    {
+        run_by(alloc, &Mapped { of: self, inputs })
     }
 }
 
