@@ -5,3 +5,4 @@ pub mod Stretches
 pub mod Sets
 pub mod Labels
 pub mod Tracing
+pub mod Firsts

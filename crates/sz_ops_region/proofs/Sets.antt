@@ -259,7 +259,7 @@ low-component t g o low =
     ∙ filter-false (range_with_len 0 (size_of e)))
 
 -- that of a cell without a high neighbour is the cell
-lone-component : (t : ℤ) (g : Grid) (marks : List Mark) (count k : ℕ) → AreNumbers t g marks count
+pub lone-component : (t : ℤ) (g : Grid) (marks : List Mark) (count k : ℕ) → AreNumbers t g marks count
     → k < size_of g.extent → mark_at marks k ≡ Alone
     → record { extent = g.extent; indexes = k ∷ [] } ≡ component_of t g (cell_of g.extent k)
 lone-component t g marks count k are below alone =

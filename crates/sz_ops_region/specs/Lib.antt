@@ -6,3 +6,4 @@ pub mod Sides
 pub mod Sets
 pub mod Parts
 pub mod Tracing
+pub mod Labels

@@ -23,11 +23,13 @@
 mod aid;
 mod fill;
 mod marks;
+mod output;
 mod run_lists;
 mod sides;
 mod walk;
 mod work;
 
 pub use aid::Aid;
+pub use output::run;
 pub use walk::trace;
 pub use work::{Labelling, prepare};

@@ -66,6 +66,14 @@ impl Marks {
         Ok(Marks { words })
     }
 
+    /// How many cells there are.
+    pub(crate) fn len(&self) -> u32
+        requires { length self.now ≤ 1048576 }
+        ensures { result ≡ length self.now }
+    {
+        self.words.len() as u32
+    }
+
     /// The mark of the cell of an index.
     pub(crate) fn at(&self, index: u32) -> Mark
         requires { index < length self.now }

@@ -1,6 +1,6 @@
 //! The operator at work over its input.
 
-ghost use Rattle.std.specs.Prelude.{◌≡◌, true, map, is_some, IfSome, IfNone, IfOk};
+ghost use Rattle.std.specs.Prelude.{◌≡◌, ◌<◌, true, map, is_some, IfSome, IfNone, IfOk};
 ghost use Rattle.std.specs.Arc.{arc_value};
 ghost use Rattle.sz_cells.specs.Extent.{holds, index_of};
 ghost use Rattle.sz_cells.specs.Cells.{any_cell, has, is_same};
@@ -12,6 +12,7 @@ ghost use Rattle.sz_spec.specs.Lineage.{related};
 ghost use Rattle.sz_spec.specs.declared.op.Op.TheVariants.{Regions};
 ghost use Rattle.sz_spec.specs.Operators.Regions.{is_high, component_of};
 ghost use Rattle.sz_spec.specs.Work.{IsAtWork};
+ghost use Rattle.sz_region.specs.Groups.{least_of};
 ghost use Rattle.sz_ops_region.specs.Regions.{is_regions, components_of, aid_of};
 ghost use Rattle.sz_ops_region.specs.Parts.{IsPartAt};
 
@@ -81,6 +82,17 @@ impl<'a> AtWork for Labelling<'a> {
         }
     }
 
+    fn lineage_kind(&self, out: Cell) -> Option<u32> {
+        self.least(out)
+    }
+
+    fn payload_kind(&self, out: Cell) -> Option<u32> {
+        match self.least(out) {
+            Some(index) => Some(1 + index),
+            None => Some(0),
+        }
+    }
+
     fn payload(&self, alloc: Global, out: Cell) -> Result<Arc<Payload>, NoMemory> {
         match self.component(out) {
             Some(Part::Shared(component)) => component.payload(alloc),
@@ -110,6 +122,23 @@ impl<'a> Labelling<'a> {
     {
         match self.aid.component(self.at.out().index(out)) {
             Some(part) => Some(part),
+            None => None,
+        }
+    }
+
+    /// The least index of the component of a cell. `None` exactly where the cell is not high.
+    pub(crate) fn least(&self, out: Cell) -> Option<u32>
+        requires right { IsAtWork self.now.at.now (map (λ a. arc_value a) self.now.inputs.now) }
+        requires out { holds self.now.at.now.out out ≡ true }
+        ensures value { result ≡ least_of (component_of self.now.t
+            (input_at (map (λ a. arc_value a) self.now.inputs.now) 0) out).indexes }
+        ensures few { IfSome result (λ k. k < 1048576) }
+    {
+        let shape = self.at.out();
+        shape.size(); // a shape is within the limits
+        match self.component(out) {
+            Some(Part::Shared(component)) => Some(component.first()),
+            Some(Part::Alone) => Some(shape.index(out)),
             None => None,
         }
     }
