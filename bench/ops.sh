@@ -1,7 +1,8 @@
 #!/usr/bin/env bash
 # Times each operator, as LLVM builds it, on an array of SIDE by SIDE (1024 where no side is given): a run; a trace backward of one cell
-# and of all cells; and where the operator has a mapping, the mapped image backward of one cell and of all cells. Each time is the best
-# of five, in microseconds, and behind it stands its ratio to a plain copy of the array's values in the same run. `regions` is also run
+# and of all cells; the lineage of all pieces, for a full strategy; and where the operator has a mapping, the mapped image backward of one
+# cell and of all cells, else the lineage of all pieces for a payload and for a composite strategy. Each time is the best of five, in
+# microseconds, and behind it stands its ratio to a plain copy of the array's values in the same run. `regions` is also run
 # on a chessboard, on pairs of cells, on one block and on one winding line, and preparing it is timed by itself. It is no test: nothing is
 # compared. It works in a folder of its own.
 set -euo pipefail
@@ -39,18 +40,18 @@ ANTT
 sed "s/SIDE_HERE/$side/" >"$work/crates/times/src/main.rt" <<'RT'
 #![tactic(auto)]
 
-ghost use Rattle.std.specs.Prelude.{◌≡◌, length, map, true, IfSome};
+ghost use Rattle.std.specs.Prelude.{◌≡◌, length, map, true, All, IfSome};
 ghost use Rattle.std.specs.Arc.{arc_value};
 ghost use Rattle.sz_spec.specs.Values.{extents_of};
 ghost use Rattle.sz_spec.specs.Shapes.{arity, has_right_parameters};
-ghost use Rattle.sz_spec.specs.Modes.{has_mapping};
+ghost use Rattle.sz_spec.specs.Modes.{has_mapping, supports};
 
 use std::alloc::Global;
 use std::sync::Arc;
 use std::time::Instant;
 use sz_cells::{CellBits, Run, Shape};
-use sz_ops::{image_by_map, prepare, run, trace};
-use sz_spec::{Array, Dir, Fold, Kernel, Op, OpAt, Strategy, Tally, supports};
+use sz_ops::{image_by_map, piece, prepare, run, trace};
+use sz_spec::{Array, Dir, Fold, Kernel, Op, OpAt, Strategy, Tally, pieces_of, supports};
 
 const SIDE: u32 = SIDE_HERE;
 const TURNS: u32 = 5;
@@ -201,6 +202,25 @@ fn traces(rt: &HostRuntime, at: &OpAt, inputs: &[Arc<Array>], all: bool) -> Opti
     Some(best)
 }
 
+/// The best of some times of the lineage of all pieces, each dropped once it is made.
+fn pieces(rt: &HostRuntime, at: &OpAt, inputs: &[Arc<Array>], list: &[Strategy]) -> Option<u64>
+    requires inputs { extents_of (map (λ a. arc_value a) inputs.now) ≡ at.now.ins }
+    requires supported { All (λ s. supports at.now.op s ≡ true) list.now }
+{
+    let aid = prepare(rt.alloc(), at, inputs).ok()?;
+    let mut best = u64::MAX;
+    for _ in 0..TURNS {
+        let start = Instant::now(rt).ok()?;
+        for k in 0..pieces_of(at.out()) {
+            let mut tally = Tally::new();
+            let made = piece(rt.alloc(), at, inputs, &aid, k, list, &mut tally).ok()?;
+            drop(made);
+        }
+        best = best.min(since(rt, start)?);
+    }
+    Some(best)
+}
+
 /// The best of some mapped images backward.
 fn images(rt: &HostRuntime, at: &OpAt, all: bool) -> Option<u64>
     requires { has_mapping at.now.op ≡ true }
@@ -231,6 +251,15 @@ fn times(rt: &HostRuntime, name: &str, at: &OpAt, inputs: &[Arc<Array>], copy: u
     show(rt, "run", runs(rt, at, inputs)?, copy)?;
     show(rt, "trace of one", traces(rt, at, inputs, false)?, copy)?;
     show(rt, "trace of all", traces(rt, at, inputs, true)?, copy)?;
+    if supports(at.op(), Strategy::FullOneB) {
+        show(rt, "full pieces", pieces(rt, at, inputs, &[Strategy::FullOneB])?, copy)?;
+    }
+    if supports(at.op(), Strategy::PayOne) {
+        show(rt, "pay pieces", pieces(rt, at, inputs, &[Strategy::PayOne])?, copy)?;
+    }
+    if supports(at.op(), Strategy::CompOne) {
+        show(rt, "comp pieces", pieces(rt, at, inputs, &[Strategy::CompOne])?, copy)?;
+    }
     if supports(at.op(), Strategy::Map) {
         show(rt, "image of one", images(rt, at, false)?, copy)?;
         show(rt, "image of all", images(rt, at, true)?, copy)?;

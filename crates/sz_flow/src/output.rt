@@ -14,7 +14,7 @@ use std::alloc::Global;
 use std::sync::Arc;
 use std::thread::Threads;
 use sz_cells::{NoMemory, Shape};
-use sz_ops::{Aid, run, value_at};
+use sz_ops::{Aid, run_prepared, value_at};
 use sz_spec::{Array, Op, OpAt, Value};
 
 /// From how many cells on values are computed side by side.
@@ -37,11 +37,8 @@ pub(crate) fn output_of<R: Threads + Sync>(
     if is_side_by_side(at.op(), shape.size()) {
         let values = side_by_side(rt, alloc, at, inputs, aid)?;
         Ok(array_of(shape, values))
-    } else if is_by_aid(at.op()) {
-        let values = one_by_one(alloc, at, inputs, aid)?;
-        Ok(array_of(shape, values))
     } else {
-        run(alloc, at, inputs)
+        run_prepared(alloc, at, inputs, aid)
     }
 }
 
@@ -49,12 +46,6 @@ pub(crate) fn output_of<R: Threads + Sync>(
 /// settles the cost alone: it pays for an operator that reads many cells for each value.
 pub(crate) fn is_side_by_side(op: &Op, size: u32) -> bool {
     size >= SIDE_BY_SIDE_FROM && matches!(op, Op::Convolve { .. } | Op::Clean { .. })
-}
-
-/// Whether the values of an operator are read from what was prepared, which a run of its own would
-/// prepare again. It settles the cost alone.
-pub(crate) fn is_by_aid(op: &Op) -> bool {
-    matches!(op, Op::Regions { .. })
 }
 
 /// An operator's values at all cells of its output, computed side by side. Each is written at its
@@ -87,27 +78,6 @@ pub(crate) fn side_by_side<R: Threads + Sync>(
             *value = value_of_index(at, inputs, aid, index as u32);
         },
     );
-    Ok(values)
-}
-
-/// The same values, computed one after another.
-pub(crate) fn one_by_one(
-    alloc: Global,
-    at: &OpAt,
-    inputs: &[Arc<Array>],
-    aid: &Aid,
-) -> Result<Vec<Value>, NoMemory>
-    requires inputs { extents_of (map (λ a. arc_value a) inputs.now) ≡ at.now.ins }
-    requires aid { aid.now ≡ aid_of at.now.op (map (λ a. arc_value a) inputs.now) }
-    ensures { IfOk result (λ v. v.items
-        ≡ values_before at.now (map (λ a. arc_value a) inputs.now) (size_of at.now.out)) }
-{
-    let size = at.out().size();
-    let mut values = Vec::new(alloc);
-    values.reserve(size as usize)?;
-    for index in 0..size {
-        values.push(value_of_index(at, inputs, aid, index))?;
-    }
     Ok(values)
 }
 

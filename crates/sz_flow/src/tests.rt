@@ -6,7 +6,7 @@ ghost use Rattle.std.specs.Arc.{arc_value};
 ghost use Rattle.sz_cells.specs.Extent.{flat};
 ghost use Rattle.sz_spec.specs.declared.op.Op.{Op};
 
-use crate::output::{is_by_aid, is_side_by_side, one_by_one, side_by_side};
+use crate::output::{is_side_by_side, side_by_side};
 use crate::run_all;
 use std::alloc::Global;
 use std::sync::Arc;
@@ -143,8 +143,6 @@ fn values_are_the_same_side_by_side(rt: HostRuntime) -> Result<(), Fail> {
     assert_eq!(rt; values.get(32_767), Some(&Some(32_767)));
     let plain = run(alloc, &at, &inputs)?;
     assert_eq!(rt; values.as_slice(), plain.cells());
-    let others = one_by_one(alloc, &at, &inputs, &aid)?;
-    assert_eq!(rt; values.as_slice(), others.as_slice());
     Ok(())
 }
 
@@ -153,7 +151,5 @@ fn large_arrays_that_cost_are_run_side_by_side(rt: HostRuntime) -> Result<(), Fa
     assert!(rt; is_side_by_side(&Op::Clean { t: 0 }, 16_384));
     assert!(rt; !is_side_by_side(&Op::Clean { t: 0 }, 16_383));
     assert!(rt; !is_side_by_side(&Op::Neg, 1_048_576));
-    assert!(rt; is_by_aid(&Op::Regions { t: 0 }));
-    assert!(rt; !is_by_aid(&Op::Neg));
     Ok(())
 }

@@ -55,20 +55,49 @@ pub fn value_at(at: &OpAt, inputs: &[Arc<Array>], aid: &Aid, cell: Cell) -> Valu
     )
 }
 
-/// The operator's output. One pass over its cells.
+/// The operator's output. One pass over its cells, in the way of the operator's own type.
 pub fn run(alloc: Global, at: &OpAt, inputs: &[Arc<Array>]) -> Result<Array, NoMemory>
     requires inputs { extents_of (map (λ a. arc_value a) inputs.now) ≡ at.now.ins }
     ensures { IfOk result (λ a. a ≡ output_of at.now.op (map (λ a. arc_value a) inputs.now)) }
 {
     sz_region::at_work(at, inputs);
-    at_work!(
+    choose!(
         at, inputs;
-        work => run_by(alloc, &work);
-        regions t => {
-            let aid = &sz_ops_region::prepare(alloc, at, inputs)?;
-            run_by(alloc, &Labelling { at, inputs, aid, t })
-        }
+        elementwise of => of.run(alloc, inputs);
+        mapped of => of.run(alloc, inputs);
+        lookup work => work.run(alloc);
+        clean work => run_by(alloc, &work);
+        regions _t => sz_ops_region::run(alloc, at, inputs)
     )
+}
+
+/// The operator's output, by what was prepared for these inputs: nothing is prepared anew.
+pub fn run_prepared<'x>(
+    alloc: Global,
+    at: &'x OpAt,
+    inputs: &'x [Arc<Array>],
+    aid: &'x Aid,
+) -> Result<Array, NoMemory>
+    requires inputs { extents_of (map (λ a. arc_value a) inputs.now) ≡ at.now.ins }
+    requires aid { aid.now ≡ aid_of at.now.op (map (λ a. arc_value a) inputs.now) }
+    ensures { IfOk result (λ a. a ≡ output_of at.now.op (map (λ a. arc_value a) inputs.now)) }
+{
+    sz_region::at_work(at, inputs);
+    match at.op() {
+        Op::Regions { t } => {
+            let aid = aid.components(at, inputs);
+            run_by(
+                alloc,
+                &Labelling {
+                    at,
+                    inputs,
+                    aid,
+                    t: *t,
+                },
+            )
+        }
+        _ => run(alloc, at, inputs),
+    }
 }
 
 /// The lineage of piece `k` of the output: the parts that the strategies of a list need. Each cell

@@ -27,5 +27,5 @@ mod table;
 mod tests;
 
 pub use aid::Aid;
-pub use calls::{image_by_map, piece, prepare, run, trace, value_at};
+pub use calls::{image_by_map, piece, prepare, run, run_prepared, trace, value_at};
 pub use op_map::OpMap;

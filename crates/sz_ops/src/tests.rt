@@ -12,7 +12,7 @@ ghost use Rattle.sz_spec.specs.Pieces.{pieces_of};
 ghost use Rattle.sz_spec.specs.Sides.{near_side, far_side};
 ghost use Rattle.sz_ops.specs.Aids.{aid_of};
 
-use crate::{Aid, OpMap, image_by_map, piece, prepare, run, trace, value_at};
+use crate::{Aid, OpMap, image_by_map, piece, prepare, run, run_prepared, trace, value_at};
 use std::alloc::Global;
 use std::sync::Arc;
 use std::test::Fail;
@@ -64,6 +64,20 @@ impl Example {
             output.shape() == array.shape()
                 && output.cells() == array.cells()
                 && values.as_slice() == array.cells(),
+        )
+    }
+
+    /// Whether a run, and a run by what was prepared, make what the cells hold one by one.
+    fn runs_as_its_cells(&self, alloc: Global) -> Result<bool, Fail> {
+        let inputs = self.inputs.as_slice();
+        let output = run(alloc, &self.at, inputs)?;
+        let aid = prepare(alloc, &self.at, inputs)?;
+        let prepared = run_prepared(alloc, &self.at, inputs, &aid)?;
+        let values = self.values(alloc, &aid)?;
+        Ok(
+            output.shape() == self.at.out()
+                && values.as_slice() == output.cells()
+                && values.as_slice() == prepared.cells(),
         )
     }
 
@@ -228,6 +242,16 @@ impl Example {
         Ok(to.to_set(alloc)?)
     }
 
+    /// How many region pairs the pieces have, one after the other.
+    fn pairs(&self, alloc: Global) -> Result<Vec<usize>, Fail> {
+        let mut counts = Vec::new(alloc);
+        for k in 0..pieces_of(self.at.out()) {
+            let (lineage, _) = self.lineage(alloc, k, &[Strategy::FullManyB])?;
+            counts.push(lineage.regions().len())?;
+        }
+        Ok(counts)
+    }
+
     /// The payload and the composite part of the first piece.
     fn kept(&self, alloc: Global) -> Result<PieceLineage, Fail> {
         let op = self.at.op();
@@ -332,29 +356,36 @@ fn meets(set: &CellSet, from: &CellBits) -> bool {
         .is_some_and(|index| index <= run.last))
 }
 
-/// Whether there are just the entries of a table: for each the index of its one cell, the number of
+/// What some entries keep: for each the number of the runs of its cells, their ends, the number of
 /// its bytes, and its bytes.
-fn keep(entries: &[Arc<PayEntry>], table: &[u8]) -> bool {
-    let mut rest = table;
+fn kept_by(alloc: Global, entries: &[Arc<PayEntry>]) -> Result<Vec<u32>, Fail> {
+    let mut told = Vec::new(alloc);
     for entry in entries {
-        if rest.len() < 2 {
-            return false;
-        }
-        let count = rest[1] as usize;
-        let tail = &rest[2..];
-        let index = u32::from(rest[0]);
-        if tail.len() < count || !keeps(entry, index, &tail[..count]) {
-            return false;
-        }
-        rest = &tail[count..];
+        push_runs(&mut told, entry.out.runs())?;
+        push_bytes(&mut told, entry.payload.bytes())?;
     }
-    rest.is_empty()
+    Ok(told)
 }
 
-/// Whether an entry keeps just these bytes for just the cell of this index.
-fn keeps(entry: &PayEntry, index: u32, bytes: &[u8]) -> bool {
-    let run = run_of(index, index);
-    entry.out.runs() == [run].as_slice() && entry.payload.bytes() == bytes
+fn push_runs(told: &mut Vec<u32>, runs: &[Run]) -> Result<(), Fail> {
+    told.push(u32::try_from(runs.len()).ok().ok_or("there are few runs")?)?;
+    for run in runs {
+        told.push(run.first)?;
+        told.push(run.last)?;
+    }
+    Ok(())
+}
+
+fn push_bytes(told: &mut Vec<u32>, bytes: &[u8]) -> Result<(), Fail> {
+    told.push(
+        u32::try_from(bytes.len())
+            .ok()
+            .ok_or("there are few bytes")?,
+    )?;
+    for byte in bytes {
+        told.push(u32::from(*byte))?;
+    }
+    Ok(())
 }
 
 fn run_of(first: u32, last: u32) -> Run {

@@ -56,6 +56,16 @@ impl<A: AtWork> AtWork for Counted<A> {
         self.of.related_set(alloc, out, input)
     }
 
+    fn lineage_kind(&self, out: Cell) -> Option<u32> {
+        self.look();
+        self.of.lineage_kind(out)
+    }
+
+    fn payload_kind(&self, out: Cell) -> Option<u32> {
+        self.look();
+        self.of.payload_kind(out)
+    }
+
     fn payload(&self, alloc: Global, out: Cell) -> Result<Arc<Payload>, NoMemory> {
         self.look();
         self.of.payload(alloc, out)

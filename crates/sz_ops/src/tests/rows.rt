@@ -1,9 +1,10 @@
 //! The rows: what each operator makes of small arrays, and where their cells lead.
 
-use super::{BACK, Example, ON, keep, layers, numbers};
+use super::{BACK, Example, ON, kept_by, layers, numbers};
 use std::alloc::Global;
+use std::sync::Arc;
 use std::test::Fail;
-use sz_spec::{Fold, Kernel, Op, Value};
+use sz_spec::{Array, Fold, Kernel, Op, Value};
 
 /// An array of a row: how many layers it has, the height of each, and its columns.
 type Sides = (u32, u32, u32);
@@ -246,87 +247,150 @@ fn cells_round_a_cell_stay_in_its_layer(rt: HostRuntime) -> Result<(), Fail> {
 const LOW: Value = Some(0);
 
 #[test]
-fn a_matched_cell_keeps_its_column(rt: HostRuntime) -> Result<(), Fail> {
+fn matched_cells_keep_their_column(rt: HostRuntime) -> Result<(), Fail> {
     let alloc = rt.alloc();
-    let columns = layers(alloc, 1, 2, 2, &[Some(1), Some(-1), Some(2), None])?;
+    let columns = [Some(1), Some(0), Some(1), Some(-1), Some(0), None];
+    let columns = layers(alloc, 1, 2, 3, &columns)?;
     let table = numbers(alloc, 1, 2, &[10, 20])?;
     let found = Example::of_two(alloc, Op::Lookup, columns, table)?;
     let steps = [
-        BACK, 1, 0, 0, 1, 1, BACK, 1, 1, 3, 0, BACK, 0, 3, 3, 1, 3, ON, 1, 0, 1, 1, 0,
+        BACK, 1, 0, 0, 1, 1, BACK, 1, 3, 3, 0, BACK, 0, 5, 5, 1, 5, ON, 1, 1, 1, 2, 0, 2,
     ];
-    assert!(rt;
-        row(
-            alloc,
-            &found,
-            (1, 2, 2),
-            &[Some(20), None, None, None],
-            &steps
-        )?
-    );
+    let output = [Some(20), Some(10), Some(20), None, Some(10), None];
+    assert!(rt; row(alloc, &found, (1, 2, 3), &output, &steps)?);
     let kept = found.kept(alloc)?;
-    assert!(rt; keep(kept.pays(), &[0, 4, 0, 0, 0, 1, 1, 0, 2, 0, 3, 0]));
-    assert!(rt; keep(kept.comps(), &[0, 4, 0, 0, 0, 1]));
+    let matched = [2, 0, 0, 2, 2, 4, 0, 0, 0, 1, 2, 1, 1, 4, 4, 4, 0, 0, 0, 0];
+    let others = [
+        2, 0, 0, 2, 2, 4, 0, 0, 0, 1, 2, 1, 1, 4, 4, 4, 0, 0, 0, 0, 2, 3, 3, 5, 5, 0,
+    ];
+    assert_eq!(rt; kept_by(alloc, kept.pays())?.as_slice(), others.as_slice());
+    assert_eq!(rt;
+        kept_by(alloc, kept.comps())?.as_slice(),
+        matched.as_slice()
+    );
     Ok(())
 }
 
 #[test]
-fn a_hot_cell_keeps_a_mark(rt: HostRuntime) -> Result<(), Fail> {
+fn hot_cells_keep_one_mark(rt: HostRuntime) -> Result<(), Fail> {
     let alloc = rt.alloc();
-    let array = numbers(alloc, 2, 2, &[1, 2, 300, 4])?;
+    let array = numbers(alloc, 2, 3, &[300, 2, 300, 4, 300, 6])?;
     let cleaned = Example::of_one(alloc, Op::Clean { t: 100 }, array)?;
     let steps = [
-        BACK, 0, 2, 2, 4, 0, 1, 2, 3, BACK, 0, 1, 1, 1, 1, ON, 0, 0, 0, 2, 0, 2,
+        BACK, 0, 0, 0, 4, 0, 1, 3, 4, BACK, 0, 1, 1, 1, 1, ON, 0, 5, 5, 3, 2, 4, 5,
     ];
-    let output = [Some(1), Some(2), Some(1), Some(4)];
-    assert!(rt; row(alloc, &cleaned, (1, 2, 2), &output, &steps)?);
+    let output = [Some(2), Some(2), Some(2), Some(4), Some(2), Some(6)];
+    assert!(rt; row(alloc, &cleaned, (1, 2, 3), &output, &steps)?);
     let kept = cleaned.kept(alloc)?;
-    assert!(rt; keep(kept.pays(), &[0, 1, 0, 1, 1, 0, 2, 1, 1, 3, 1, 0]));
-    assert!(rt; keep(kept.comps(), &[2, 1, 1]));
+    let all = [3, 0, 0, 2, 2, 4, 4, 1, 1, 3, 1, 1, 3, 3, 5, 5, 1, 0];
+    assert_eq!(rt; kept_by(alloc, kept.pays())?.as_slice(), all.as_slice());
+    let hot = [3, 0, 0, 2, 2, 4, 4, 1, 1];
+    assert_eq!(rt; kept_by(alloc, kept.comps())?.as_slice(), hot.as_slice());
     Ok(())
 }
 
 #[test]
-fn a_high_cell_keeps_its_region(rt: HostRuntime) -> Result<(), Fail> {
+fn high_cells_keep_their_region(rt: HostRuntime) -> Result<(), Fail> {
     let alloc = rt.alloc();
-    let array = numbers(alloc, 2, 2, &[9, 0, 9, 5])?;
+    let array = numbers(alloc, 2, 3, &[9, 0, 9, 9, 0, 5])?;
     let labels = Example::of_one(alloc, Op::Regions { t: 6 }, array)?;
     let steps = [
-        BACK, 0, 2, 2, 2, 0, 2, BACK, 0, 0, 1, 3, 0, 1, 2, ON, 0, 0, 0, 2, 0, 2,
+        BACK, 0, 3, 3, 2, 0, 3, BACK, 0, 0, 2, 4, 0, 1, 2, 3, ON, 0, 0, 0, 2, 0, 3,
     ];
-    let output = [Some(1), LOW, Some(1), LOW];
-    assert!(rt; row(alloc, &labels, (1, 2, 2), &output, &steps)?);
+    let output = [Some(1), LOW, Some(3), Some(1), LOW, LOW];
+    assert!(rt; row(alloc, &labels, (1, 2, 3), &output, &steps)?);
     let kept = labels.kept(alloc)?;
-    assert_eq!(rt; kept.pays().len(), 4);
-    let high = [
-        0, 20, 0, 0, 0, 2, 0, 0, 0, 0, 0, 0, 0, 0, 0, 0, 0, 2, 0, 0, 0, 2, 2, 20, 0, 0, 0, 2, 0, 0,
-        0, 0, 0, 0, 0, 0, 0, 0, 0, 2, 0, 0, 0, 2,
+    let all = [
+        2, 0, 0, 3, 3, 20, 0, 0, 0, 2, 0, 0, 0, 0, 0, 0, 0, 0, 0, 0, 0, 3, 0, 0, 0, 3, 2, 1, 1, 4,
+        5, 0, 1, 2, 2, 12, 0, 0, 0, 1, 0, 0, 0, 2, 0, 0, 0, 2,
     ];
-    assert!(rt; keep(kept.comps(), &high));
+    assert_eq!(rt; kept_by(alloc, kept.pays())?.as_slice(), all.as_slice());
+    let high = [
+        2, 0, 0, 3, 3, 20, 0, 0, 0, 2, 0, 0, 0, 0, 0, 0, 0, 0, 0, 0, 0, 3, 0, 0, 0, 3, 1, 2, 2, 12,
+        0, 0, 0, 1, 0, 0, 0, 2, 0, 0, 0, 2,
+    ];
+    assert_eq!(rt; kept_by(alloc, kept.comps())?.as_slice(), high.as_slice());
+    assert_eq!(rt; labels.pairs(alloc)?.as_slice(), [5].as_slice());
     Ok(())
 }
 
-/// Whether steps of an operator over the row of the numbers 1 to 130 are true: that is three
-/// pieces, of 64, 64 and 2 cells.
-fn three_pieces(alloc: Global, op: Op, steps: &[u32]) -> Result<bool, Fail> {
+/// Whether an operator over the row of the numbers 1 to 130 has these numbers of region pairs, one
+/// for each of its three pieces, of 64, 64 and 2 cells, and whether steps are true.
+fn three_pieces(alloc: Global, op: Op, pairs: [usize; 3], steps: &[u32]) -> Result<bool, Fail> {
     let mut values = Vec::new(alloc);
     for number in 1..131i64 {
         values.push(number)?;
     }
     let array = numbers(alloc, 1, 130, &values)?;
-    Example::of_one(alloc, op, array)?.leads_all(alloc, steps)
+    let example = Example::of_one(alloc, op, array)?;
+    let counts = example.pairs(alloc)?;
+    Ok(counts.as_slice() == pairs.as_slice() && example.leads_all(alloc, steps)?)
 }
 
 #[test]
 fn cells_of_three_pieces_lead_on(rt: HostRuntime) -> Result<(), Fail> {
     let alloc = rt.alloc();
+    let each = [64, 64, 2];
     let op = under(alloc, 1, 3, &[1, 0, 2])?;
     let steps = [BACK, 0, 64, 64, 2, 63, 65, ON, 0, 64, 65, 4, 63, 64, 65, 66];
-    assert!(rt; three_pieces(alloc, op, &steps)?);
+    assert!(rt; three_pieces(alloc, op, each, &steps)?);
     let steps = [BACK, 0, 63, 65, 3, 63, 64, 65, ON, 0, 128, 129, 2, 128, 129];
-    assert!(rt; three_pieces(alloc, Op::Transpose, &steps)?);
+    assert!(rt; three_pieces(alloc, Op::Transpose, each, &steps)?);
     let steps = [
         BACK, 0, 128, 128, 3, 127, 128, 129, ON, 0, 63, 64, 2, 63, 64,
     ];
-    assert!(rt; three_pieces(alloc, Op::Regions { t: 128 }, &steps)?);
+    assert!(rt; three_pieces(alloc, Op::Regions { t: 128 }, [64, 64, 1], &steps)?);
+    assert!(rt; three_pieces(alloc, Op::Regions { t: 1 }, [1, 1, 1], &[])?);
+    Ok(())
+}
+
+/// Two layers of 3 rows and 37 columns, of numbers on both sides of 0 and of empty cells.
+fn uneven(alloc: Global) -> Result<Arc<Array>, Fail> {
+    let mut cells = Vec::new(alloc);
+    for index in 0..222u32 {
+        cells.push(if index % 11 == 4 {
+            None
+        } else {
+            Some(i64::from(index * 7 % 23) - 9)
+        })?;
+    }
+    layers(alloc, 2, 3, 37, &cells)
+}
+
+/// Whether an operator over the uneven array is run as its cells say.
+fn runs_as_its_cells(alloc: Global, op: Op) -> Result<bool, Fail> {
+    Example::of_one(alloc, op, uneven(alloc)?)?.runs_as_its_cells(alloc)
+}
+
+#[test]
+fn an_output_is_what_its_cells_say(rt: HostRuntime) -> Result<(), Fail> {
+    let alloc = rt.alloc();
+    assert!(rt; runs_as_its_cells(alloc, Op::Neg)?);
+    assert!(rt; runs_as_its_cells(alloc, Op::Transpose)?);
+    assert!(rt;
+        runs_as_its_cells(
+            alloc,
+            Op::Slice {
+                r0: 1,
+                c0: 2,
+                h: 2,
+                w: 31
+            }
+        )?
+    );
+    assert!(rt; runs_as_its_cells(alloc, Op::Regions { t: 0 })?);
+    let kernel = under(alloc, 3, 5, &[1, 0, 2, 0, 0, 0, 3, -1, 0, 4, 0, 0, 5, 0, 6])?;
+    assert!(rt; runs_as_its_cells(alloc, kernel)?);
+    Ok(())
+}
+
+#[test]
+fn an_output_of_two_is_what_its_cells_say(rt: HostRuntime) -> Result<(), Fail> {
+    let alloc = rt.alloc();
+    let both = Example::of_two(alloc, Op::Sub, uneven(alloc)?, uneven(alloc)?)?;
+    assert!(rt; both.runs_as_its_cells(alloc)?);
+    let table = numbers(alloc, 1, 9, &[10, 11, 12, 13, 14, 15, 16, 17, 18])?;
+    let looked = Example::of_two(alloc, Op::Lookup, uneven(alloc)?, table)?;
+    assert!(rt; looked.runs_as_its_cells(alloc)?);
     Ok(())
 }

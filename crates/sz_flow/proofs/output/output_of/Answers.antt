@@ -12,10 +12,3 @@ array_of-requires g c =
     ap (λ (vs : List (Option ℤ)). length vs) c.in_ok-values.ensures
     ∙ values-length s (map (λ a. arc_value a) c.args.inputs.now) (size_of s.out)
     ∙ sym (ap size_of c.out-shape.ensures.value)
-
-pub array_of-requires-then-is_by_aid : goal.array_of-requires-then-is_by_aid
-array_of-requires-then-is_by_aid g c =
-    let s = c.args.at.now in
-    ap (λ (vs : List (Option ℤ)). length vs) c.in_ok-values-2.ensures
-    ∙ values-length s (map (λ a. arc_value a) c.args.inputs.now) (size_of s.out)
-    ∙ sym (ap size_of c.out-shape.ensures.value)
