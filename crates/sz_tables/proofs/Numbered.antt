@@ -1,0 +1,222 @@
+-- How sets stay numbered where one is added, and what the set of a number is.
+--
+-- The key idea: the runs of a further set stand behind all others, so each old span gives the runs that it gave, and
+-- the new one gives those that were added.
+use Rattle.std.proofs.Common.{◌≡◌, ◌≢◌, ℕ, ◌+◌, ◌-◌, ◌<◌, ◌≤◌, List, [], ◌∷◌, ◌++◌, length, map, All, get_or}
+use Rattle.std.proofs.Common.{take, drop, slice_range, refl, sym, ap, ap₂, subst, ◌∙◌, inl, inr, arith}
+use Rattle.std.proofs.Common.{length-append, Option, Some, None, unwrap_or}
+use Rattle.std.specs.List.{slice_get, HoldsAt, flat_map}
+use Rattle.std.specs.Option.{IfSome}
+use Rattle.std.proofs.Math.Seq.{drop-append_seam}
+use Rattle.std.proofs.lemmas.List.{map-append, length-map, length-drop, get_or-map, take_all, take-append-le}
+use Rattle.std.proofs.lemmas.List.{drop-append-le}
+use Rattle.std.proofs.lemmas.Option.{slice_get_within, slice_get-get_or, unwrap_or-slice_get}
+use Rattle.std.proofs.lemmas.Option.{get_or_from_slice_get}
+use Rattle.std.proofs.lemmas.Bool.{cases_lt}
+use Rattle.std.proofs.lemmas.List.Elements.{All-head, All-tail, All-push}
+use Rattle.sz_spec.proofs.FlowOutputs.{slice_get-left, slice_get-seam}
+use Rattle.sz_spec.specs.Values.{no_extent}
+use Rattle.sz_cells.specs.declared.Run.{Run}
+use Rattle.sz_cells.specs.Extent.{Extent, size_of}
+use Rattle.sz_cells.specs.Cells.{Cells, no_cells}
+use Rattle.sz_cells.specs.Runs.{AreRunsFrom, runs_of, indexes_of}
+use Rattle.sz_cells.proofs.Runs.{runs_of-spelled}
+use Rattle.sz_tables.specs.declared.set_table.Span.{Span}
+use Rattle.sz_tables.specs.Filed.{Filed, Files, IsLastBelow}
+use Rattle.sz_tables.specs.Rows.{set_at}
+use Rattle.sz_tables.specs.Tables.{AreDifferent, AreNumbered, spelled, runs_by_number, keys_for, key_of}
+
+-- ---- spans, where runs stand behind
+
+abbrev IsWithin : List Run → Span → Type 0
+IsWithin runs s = (s.start ≤ s.end) × (s.end ≤ length runs)
+
+abbrev cut : List Run → Span → List Run
+cut runs s = slice_range runs s.start s.end
+
+cut-kept : (runs more : List Run) (s : Span) → IsWithin runs s → cut (runs ++ more) s ≡ cut runs s
+cut-kept runs more s within =
+    let few : s.end - s.start ≤ length (drop s.start runs) = omega (arith, length-drop s.start runs) in
+    ap (take (s.end - s.start)) (drop-append-le s.start runs more (omega arith))
+    ∙ take-append-le (s.end - s.start) (drop s.start runs) more few
+
+cuts-kept : (runs more : List Run) (spans : List Span) → All (IsWithin runs) spans
+    → runs_by_number (runs ++ more) spans ≡ runs_by_number runs spans
+cuts-kept runs more [] within = refl
+cuts-kept runs more (s ∷ spans) within =
+    ap₂ (λ x xs. x ∷ xs) (cut-kept runs more s (All-head (IsWithin runs) s spans within))
+    (cuts-kept runs more spans (All-tail (IsWithin runs) s spans within))
+
+cut-new : (runs more : List Run) (s : Span) → s.start ≡ length runs → s.end ≡ length runs + length more
+    → cut (runs ++ more) s ≡ more
+cut-new runs more s start end =
+    ap (λ n. take (s.end - s.start) (drop n (runs ++ more))) start
+    ∙ ap (take (s.end - s.start)) (drop-append_seam runs more)
+    ∙ take_all (s.end - s.start) more (omega arith)
+
+-- the runs of each set, and those that were added
+pub cuts-push : (runs more : List Run) (spans : List Span) (s : Span) → All (IsWithin runs) spans
+    → s.start ≡ length runs → s.end ≡ length runs + length more
+    → runs_by_number (runs ++ more) (spans ++ s ∷ []) ≡ runs_by_number runs spans ++ more ∷ []
+cuts-push runs more spans s within start end =
+    map-append (cut (runs ++ more)) spans (s ∷ [])
+    ∙ ap₂ (λ xs x. xs ++ x ∷ []) (cuts-kept runs more spans within) (cut-new runs more s start end)
+
+-- ---- one more set
+
+-- an element that the list has not is met behind it alone
+met-behind : {X : Type 0} (xs : List X) (x y : X) (m n : ℕ) → ((k : ℕ) → slice_get xs k ≢ Some x) → m < length xs
+    → length xs ≡ n → slice_get (xs ++ x ∷ []) m ≡ Some y → slice_get (xs ++ x ∷ []) n ≡ Some y → ⊥
+met-behind xs x y m n new before behind at too =
+    let same : Some x ≡ Some y = sym (slice_get-seam xs x [] n behind) ∙ too in
+    new m (sym (slice_get-left xs (x ∷ []) m before) ∙ at ∙ sym same)
+
+different-push : {X : Type 0} (xs : List X) (x : X) → AreDifferent xs → ((n : ℕ) → slice_get xs n ≢ Some x)
+    → AreDifferent (xs ++ x ∷ [])
+different-push xs x was new m n y at too =
+    let long = length-append xs (x ∷ []) in
+    let m_in = slice_get_within (xs ++ x ∷ []) m y at in
+    let n_in = slice_get_within (xs ++ x ∷ []) n y too in
+    elim (cases_lt m (length xs)) [
+      | inl low ↦ elim (cases_lt n (length xs)) [
+        | inl both ↦ was m n y (sym (slice_get-left xs (x ∷ []) m low) ∙ at)
+            (sym (slice_get-left xs (x ∷ []) n both) ∙ too)
+        | inr high ↦ absurd (met-behind xs x y m n new low (omega arith) at too)
+      ]
+      | inr high ↦ elim (cases_lt n (length xs)) [
+        | inl low ↦ absurd (met-behind xs x y n m new low (omega arith) too at)
+        | inr both ↦ omega arith
+      ]
+    ]
+
+-- sets are numbered where one more that is new stands behind them, under its key
+pub numbered-push : (e : Extent) (runs more : List Run) (spans : List Span) (s : Span) (index after : Files)
+    (key item : ℕ) → AreNumbered e runs spans index → AreRunsFrom 0 (size_of e) more
+    → ((n : ℕ) → slice_get (map (spelled e) (runs_by_number runs spans)) n ≢ Some (spelled e more))
+    → s.start ≡ length runs → s.end ≡ length runs + length more
+    → key ≡ key_of (keys_for e) more → after.keys ≡ index.keys
+    → after.entries ≡ index.entries ++ record { key = key; item = item } ∷ []
+    → AreNumbered e (runs ++ more) (spans ++ s ∷ []) after
+numbered-push e runs more spans s index after key item was long new start end under keys entries =
+    let pieces = runs_by_number runs spans in
+    let f : Filed = record { key = key; item = item } in
+    let grown = cuts-push runs more spans s was.within start end in
+    record {
+      within = All-push (IsWithin (runs ++ more)) spans s
+          (λ k d lt. let at = was.within k d lt in (omega arith, omega (arith, length-append runs more)))
+          (omega arith, omega (arith, length-append runs more));
+      longest = rw grown (All-push (AreRunsFrom 0 (size_of e)) pieces more was.longest long);
+      different = rw (grown, map-append (spelled e) pieces (more ∷ []))
+          (different-push (map (spelled e) pieces) (spelled e more) was.different new);
+      keys = keys ∙ was.keys;
+      filed = rw (
+        grown,
+        entries,
+        map-append (λ (x : Filed). x.key) index.entries (f ∷ []),
+        map-append (key_of (keys_for e)) pieces (more ∷ []),
+        was.filed,
+        under,
+      ) refl;
+    }
+
+-- ---- the set of a number
+
+-- there are as many sets as spans
+pub sets-count : (e : Extent) (runs : List Run) (spans : List Span)
+    → length (map (spelled e) (runs_by_number runs spans)) ≡ length spans
+sets-count e runs spans = length-map (runs_by_number runs spans) (spelled e) ∙ length-map spans (cut runs)
+
+-- a span gives the longest runs of the set of its number
+pub set-at : (e : Extent) (runs : List Run) (spans : List Span) (index : Files) (n : ℕ) (s : Span)
+    → AreNumbered e runs spans index → n < length (map (spelled e) (runs_by_number runs spans))
+    → s ≡ get_or spans n s
+    → (set_at (map (spelled e) (runs_by_number runs spans)) n ≡ spelled e (slice_range runs s.start s.end))
+    × AreRunsFrom 0 (size_of e) (slice_range runs s.start s.end)
+set-at e runs spans index n s was within read =
+    let pieces = runs_by_number runs spans in
+    let sets = map (spelled e) pieces in
+    let none = no_cells no_extent in
+    let many : n < length pieces = omega (arith, length-map pieces (spelled e)) in
+    let inside : n < length spans = omega (arith, length-map spans (cut runs)) in
+    let piece : get_or pieces n [] ≡ cut runs s =
+    get_or-map (cut runs) spans n s [] inside ∙ ap (cut runs) (sym read) in (
+      unwrap_or-slice_get sets n none ∙ get_or-map (spelled e) pieces n [] none many ∙ ap (spelled e) piece,
+      subst (AreRunsFrom 0 (size_of e)) piece (was.longest n [] many),
+    )
+
+-- a set that runs spell has these longest runs
+pub runs-met : (sets : List Cells) (n : ℕ) (e : Extent) (more : List Run) → AreRunsFrom 0 (size_of e) more
+    → slice_get sets n ≡ Some (spelled e more) → runs_of (set_at sets n).indexes ≡ more
+runs-met sets n e more long same =
+    ap (λ (o : Option Cells). runs_of (unwrap_or o (no_cells no_extent)).indexes) same
+    ∙ runs_of-spelled 0 (size_of e) more long
+
+-- a set of this shape that runs spell
+pub set-met : (sets : List Cells) (n : ℕ) (e : Extent) (more : List Run) → n < length sets
+    → (set_at sets n).extent ≡ e → flat_map indexes_of more ≡ (set_at sets n).indexes
+    → slice_get sets n ≡ Some (spelled e more)
+set-met sets n e more within shape indexes =
+    let none = no_cells no_extent in
+    slice_get-get_or sets n none within
+    ∙ ap (λ (x : Cells). Some x) (sym (unwrap_or-slice_get sets n none)
+    ∙ ap₂ (λ (x : Extent) (xs : List ℕ). record { extent = x; indexes = xs }) shape (sym indexes))
+
+-- ---- a walk over the entries of a key
+
+-- one more than the number of an entry, and 0 where there is none
+abbrev pub reach : Option ℕ → ℕ
+reach None = 0
+reach (Some n) = n + 1
+
+-- an entry of the key below a number is within the reach of the last one there
+pub last-reach : (es : List Filed) (key end : ℕ) (r : Option ℕ) (n : ℕ) → IsLastBelow es key end r
+    → HoldsAt (λ e. e.key ≡ key) es n → n < end → n < reach r
+last-reach es key end None n last has below =
+    let d : Filed = record { key = 0; item = 0 } in
+    absurd (last n d (omega arith) below (has d))
+last-reach es key end (Some m) n last has below =
+    let d : Filed = record { key = 0; item = 0 } in
+    elim (cases_lt n (m + 1)) [
+      | inl within ↦ within
+      | inr behind ↦ absurd (last.2 n d behind below (has d))
+    ]
+
+pub last-filed : (es : List Filed) (key end : ℕ) (r : Option ℕ) → IsLastBelow es key end r
+    → IfSome r (λ n. HoldsAt (λ e. e.key ≡ key) es n)
+last-filed es key end None last = tt
+last-filed es key end (Some m) last = last.1
+
+-- each set has an entry
+pub entries-count : (e : Extent) (runs : List Run) (spans : List Span) (index : Files)
+    → AreNumbered e runs spans index → length index.entries ≡ length (map (spelled e) (runs_by_number runs spans))
+entries-count e runs spans index was =
+    let pieces = runs_by_number runs spans in
+    sym (length-map index.entries (λ (f : Filed). f.key))
+    ∙ ap length was.filed
+    ∙ length-map pieces (key_of (keys_for e))
+    ∙ sym (length-map pieces (spelled e))
+
+-- the set that runs spell is filed under their key
+pub key-at : (e : Extent) (runs more : List Run) (spans : List Span) (index : Files) (key n : ℕ)
+    → AreNumbered e runs spans index → AreRunsFrom 0 (size_of e) more → key ≡ key_of (keys_for e) more
+    → slice_get (map (spelled e) (runs_by_number runs spans)) n ≡ Some (spelled e more)
+    → HoldsAt (λ f. f.key ≡ key) index.entries n × (n < length index.entries)
+key-at e runs more spans index key n was long under same =
+    let pieces = runs_by_number runs spans in
+    let sets = map (spelled e) pieces in
+    let in_sets : n < length sets = slice_get_within sets n (spelled e more) same in
+    let many : n < length pieces = omega (arith, length-map pieces (spelled e)) in
+    let filed : n < length index.entries = omega (arith, entries-count e runs spans index was) in
+    let p = get_or pieces n [] in
+    let piece : p ≡ more =
+    sym (runs_of-spelled 0 (size_of e) p (was.longest n [] many))
+    ∙ ap (λ (s : Cells). runs_of s.indexes) (sym (get_or-map (spelled e) pieces n [] (spelled e more) many)
+    ∙ get_or_from_slice_get sets n (spelled e more) (spelled e more) same)
+    ∙ runs_of-spelled 0 (size_of e) more long in (
+      λ d. sym (get_or-map (λ (f : Filed). f.key) index.entries n d 0 filed)
+          ∙ ap (λ (ks : List ℕ). get_or ks n 0) was.filed
+          ∙ get_or-map (key_of (keys_for e)) pieces n [] 0 many
+          ∙ ap (key_of (keys_for e)) piece
+          ∙ sym under,
+      filed,
+    )

@@ -1,0 +1,11 @@
+-- The key idea: a table of sets without a set has all that is asked of one.
+use Rattle.sz_tables.proofs.Rows.{sound-none, none-seen}
+use Rattle.sz_tables.proofs.region_table.RegionTable.new.Goals as goal
+
+pub invariant_of-result : goal.invariant_of-result
+invariant_of-result c =
+    rw (c.in_ok-new.ensures, c.in_ok-tables_for.ensures, c.new-2.ensures.items) (sound-none c.args.out c.args.ins.now _)
+
+pub returns : goal.returns
+returns c =
+    rw (c.in_ok-new.ensures, c.in_ok-tables_for.ensures) (none-seen c.args.out c.args.ins.now)

@@ -1,0 +1,54 @@
+-- The key idea: the runs of the new set stand behind all others, and it is filed under their key.
+use Rattle.std.proofs.Common.{◌≡◌, ◌+◌, ◌∙◌, [], ◌∷◌, length, ap, refl, arith, length-append}
+use Rattle.std.proofs.lemmas.List.{map-append}
+use Rattle.sz_tables.specs.Filed.{Files}
+use Rattle.sz_tables.specs.Tables.{SetsByNumber, spelled, runs_by_number}
+use Rattle.sz_tables.specs.declared.set_table.Span.{Span}
+use Rattle.sz_tables.proofs.Numbered.{numbered-push, cuts-push}
+use Rattle.sz_tables.proofs.set_table.SetTable.append.Goals as goal
+
+pub invariant_of-self : goal.invariant_of-self
+invariant_of-self c =
+    let was = c.self.invariant in
+    let runs = c.self.inside.runs.items in
+    let spans = c.self.inside.spans.items in
+    let more = c.args.runs.now in
+    let s : Span = record { start = c.len-start.result; end = c.len-end.result } in
+    let long = ap length c.put_runs.ensures.items ∙ length-append runs more in
+    let start : s.start ≡ length runs = omega (arith, c.len-start.ensures) in
+    let end : s.end ≡ length runs + length more = omega (arith, c.len-end.ensures, long) in
+    let longest = rw (← c.self.view_is) at c.requires.longest in
+    let new = rw (← c.self.view_is) at c.requires.new in
+    let key = rw (← c.self.view_is) at c.requires.key in
+    let sets = ap (λ (t : SetsByNumber). t.spare_sets) c.self.view_is in
+    let room = ap (λ (t : SetsByNumber). t.spare_runs) c.self.view_is in
+    let spans_long = ap length c.push_reserved.ensures.items ∙ length-append spans (s ∷ []) in (
+      rw (c.put_runs.ensures.items, c.push_reserved.ensures.items)
+          (numbered-push c.self.inside.shape runs more spans s c.self.inside.index c.add.new.self c.args.key
+          c.len-number.result was.0 longest new start end key (ap (λ (f : Files). f.keys) c.add.ensures)
+          (ap (λ (f : Files). f.entries) c.add.ensures)),
+      record {
+        few = omega (arith, was.1.few, spans_long, sets, c.requires.sets);
+        room = omega (arith, was.1.room, spans_long, sets, c.requires.sets, c.push_reserved.ensures.capacity);
+      },
+      omega (arith, was.2, ap (λ (f : Files). f.spare) c.add.ensures),
+      omega (arith, was.3, long, c.put_runs.ensures.capacity, room, c.requires.runs),
+    )
+
+pub returns-clause-table : goal.returns-clause-table
+returns-clause-table c =
+    let was = c.self.invariant in
+    let runs = c.self.inside.runs.items in
+    let spans = c.self.inside.spans.items in
+    let more = c.args.runs.now in
+    let s : Span = record { start = c.len-start.result; end = c.len-end.result } in
+    let long = ap length c.put_runs.ensures.items ∙ length-append runs more in
+    let start : s.start ≡ length runs = omega (arith, c.len-start.ensures) in
+    let end : s.end ≡ length runs + length more = omega (arith, c.len-end.ensures, long) in
+    rw (
+      ← c.self.view_is,
+      c.put_runs.ensures.items,
+      c.push_reserved.ensures.items,
+      cuts-push runs more spans s was.0.within start end,
+      map-append (spelled c.self.inside.shape) (runs_by_number runs spans) (more ∷ []),
+    ) refl

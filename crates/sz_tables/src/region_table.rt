@@ -1,0 +1,371 @@
+//! Region pairs as rows of the numbers of their sets.
+
+ghost use Rattle.std.specs.Prelude.{◌≡◌, ◌<◌, ◌≤◌, ◌+◌, ◌-◌, ◌^◌, [], ◌∷◌, ◌++◌};
+ghost use Rattle.std.specs.Prelude.{length, map, max, OnOk, OnErr, IfOk, Some, All, ℕ, take, drop};
+ghost use Rattle.std.specs.Prelude.{sum_by, vec_len, vec_capacity, ◌*◌, List, slice_index_or};
+ghost use Rattle.std.specs.Prelude.{flat_map};
+ghost use Rattle.std.specs.List.{range_with_len};
+ghost use Rattle.std.specs.Arc.{arc_value};
+ghost use Rattle.sz_cells.specs.Runs.{runs_of};
+ghost use Rattle.sz_spec.specs.Values.{extent_at};
+ghost use Rattle.sz_cells.specs.SetBytes.{IsSetOf};
+ghost use Rattle.sz_tables.specs.Rows.{pairings, weight_of, empty_rows, Keeps, IsRowOf};
+ghost use Rattle.sz_tables.specs.Rows.{row_at, number_in};
+ghost use Rattle.sz_tables.specs.Stores.{most_given};
+ghost use Rattle.sz_tables.specs.Rows.{set_at, sets_of, empty_sets, runs_in, HasRoomFor};
+ghost use Rattle.sz_tables.specs.Rows.{Takes, TakeEach};
+ghost use Rattle.sz_tables.specs.Tables.{AreDifferent, HasAtMostOneMore};
+ghost use Rattle.sz_region.specs.Stands.{set_of};
+ghost use Rattle.sz_tables.specs.Listing.{listed_as, numbers_at, shifted, AreSetsOf, AreListed};
+ghost use Rattle.sz_region.specs.FullBytes.{Listed, IsFullWord};
+
+use crate::set_table::SetTable;
+use std::alloc::Global;
+use std::marker::Model;
+use std::sync::Arc;
+use sz_cells::{CellSet, NoMemory, Run, Shape};
+use sz_region::{ListedSet, Region, put_numbered};
+
+/// Region pairs between an output and inputs of given shapes, each different set of an array once.
+#[derive(Drop)]
+pub struct RegionTable {
+    outs: SetTable,
+    ins: Vec<SetTable>,
+    /// For each row the number of its output set, and then one number for each input.
+    names: Vec<u32>,
+    count: u32,
+    spare_rows: u32,
+    spare_runs: usize,
+}
+
+impl Model for RegionTable {
+    ghost use Rattle.std.specs.Prelude.{◌≡◌, ℕ, ◌<◌, ◌≤◌, ◌*◌, ◌+◌, map, length, All};
+    ghost use Rattle.sz_tables.specs.Rows.{RowTable, rows_of};
+
+    ghost Value = { RowTable };
+
+    ghost view = { λ t. record {
+      out = t.outs.extent;
+      ins = map (λ s. s.extent) t.ins.items;
+      outs = t.outs.sets;
+      sets = map (λ s. s.sets) t.ins.items;
+      rows = rows_of (length t.ins.items) t.count t.names.items;
+      spare_rows = t.spare_rows;
+      spare_runs = t.spare_runs;
+    } };
+
+    ghost use Rattle.std.specs.Prelude.{vec_capacity};
+    ghost use Rattle.sz_tables.specs.Rows.{IsSound};
+
+    ghost invariant = { λ t. IsSound t.outs t.ins.items t.names.items t.count t.spare_rows
+        t.spare_runs (vec_capacity t.names) };
+}
+
+impl RegionTable {
+    /// A table between an output and inputs of these shapes, without a region pair.
+    pub fn new(alloc: Global, out: Shape, ins: &[Shape]) -> Result<RegionTable, NoMemory>
+        ensures { IfOk result (λ t. t ≡ empty_rows out ins.now) }
+    {
+        Ok(RegionTable {
+            outs: SetTable::new(alloc, out)?,
+            ins: tables_for(alloc, ins)?,
+            names: Vec::new(alloc),
+            count: 0,
+            spare_rows: 0,
+            spare_runs: 0,
+        })
+    }
+
+    /// Makes room for so many more region pairs, whose sets have so many runs together, where there
+    /// is none yet.
+    pub fn reserve(&mut self, rows: u32, runs: usize) -> Result<(), NoMemory>
+        requires few { length self.old.rows + rows ≤ most_given }
+        requires inputs { length self.old.ins ≤ 2 }
+        ensures ok { OnOk result (self.new ≡ record self.old {
+          spare_rows = max self.old.spare_rows rows;
+          spare_runs = max self.old.spare_runs runs;
+        }) }
+        ensures kept { self.new ≡ record self.old {
+          spare_rows = self.new.spare_rows;
+          spare_runs = self.new.spare_runs;
+        } }
+        ensures grown { (self.old.spare_rows ≤ self.new.spare_rows)
+            × (self.old.spare_runs ≤ self.new.spare_runs) }
+    {
+        let rows = rows.max(self.spare_rows);
+        let runs = runs.max(self.spare_runs);
+        self.names.reserve(rows as usize * (self.ins.len() + 1))?;
+        self.outs.reserve(rows, runs)?;
+        reserve_each(&mut self.ins, rows, runs)?;
+        self.spare_rows = rows;
+        self.spare_runs = runs;
+        Ok(())
+    }
+
+    /// Adds a region pair, whose row is the `len` before. Its sets get the numbers of equal sets
+    /// that are there, or the next ones. Takes no memory.
+    pub fn add(&mut self, region: &Region)
+        requires out { region.now.out.extent ≡ self.old.out }
+        requires ins { map (λ s. s.extent) region.now.ins ≡ self.old.ins }
+        requires rows { 0 < self.old.spare_rows }
+        requires runs { weight_of region.now ≤ self.old.spare_runs }
+        ensures pairings { pairings self.new ≡ pairings self.old ++ region.now ∷ [] }
+        ensures kept { Keeps self.old self.new }
+        ensures sets { (i : ℕ) → i < length self.old.ins → HasAtMostOneMore
+            (sets_of self.old.sets i) (sets_of self.new.sets i) (set_of region.now i) }
+        ensures one { length self.new.rows ≡ length self.old.rows + 1 }
+        ensures room { self.old.spare_rows ≤ self.new.spare_rows + 1 }
+        ensures runs { self.old.spare_runs ≤ self.new.spare_runs + weight_of region.now }
+    {
+        let number = self.outs.add(&region.out);
+        self.names.push_reserved(number);
+        let sets = region.ins.as_slice();
+        add_each(&mut self.ins, sets, &mut self.names);
+        self.count += 1;
+        self.spare_rows -= 1;
+        self.spare_runs -= region.out.runs().len() + runs_of_each(sets);
+    }
+
+    /// How many region pairs there are.
+    pub fn len(&self) -> u32
+        ensures count { result ≡ length self.now.rows }
+        ensures few { length self.now.rows ≤ most_given }
+        ensures named { All (IsRowOf self.now) self.now.rows }
+    {
+        self.count
+    }
+
+    /// How many different sets of the output there are.
+    pub fn out_sets(&self) -> u32
+        ensures { result ≡ length self.now.outs }
+    {
+        self.outs.len()
+    }
+
+    /// How many different sets of an input there are.
+    pub fn sets_of(&self, input: u32) -> u32
+        requires { input < length self.now.ins }
+        ensures { result ≡ length (sets_of self.now.sets input) }
+    {
+        self.ins[input as usize].len()
+    }
+
+    /// The number of the set of an input of a row.
+    pub fn number_of(&self, row: u32, input: u32) -> u32
+        requires row { row < length self.now.rows }
+        requires input { input < length self.now.ins }
+        ensures { result ≡ number_in (row_at self.now.rows row) input }
+    {
+        let start = row as usize * (self.ins.len() + 1);
+        self.names[start + 1 + input as usize]
+    }
+
+    /// The number of the output set of a row.
+    pub fn out_number(&self, row: u32) -> u32
+        requires { row < length self.now.rows }
+        ensures { result ≡ (row_at self.now.rows row).out }
+    {
+        self.names[row as usize * (self.ins.len() + 1)]
+    }
+
+    /// The longest runs, rising, of the output set of a number.
+    pub fn out_runs(&self, number: u32) -> &[Run]
+        requires { number < length self.now.outs }
+        ensures runs { result.now ≡ runs_of (set_at self.now.outs number).indexes }
+        ensures set { IsSetOf self.now.out (set_at self.now.outs number) }
+    {
+        self.outs.runs(number)
+    }
+
+    /// The longest runs, rising, of the set of a number of an input.
+    pub fn in_runs(&self, input: u32, number: u32) -> &[Run]
+        requires input { input < length self.now.ins }
+        requires number { number < length (sets_of self.now.sets input) }
+        ensures runs { result.now
+            ≡ runs_of (set_at (sets_of self.now.sets input) number).indexes }
+        ensures set { IsSetOf (extent_at self.now.ins input)
+            (set_at (sets_of self.now.sets input) number) }
+    {
+        self.ins[input as usize].runs(number)
+    }
+
+    /// Appends the bytes of these region pairs: a table of the different sets, each once, and the
+    /// rows. After `NoMemory` the bytes are as before.
+    ///
+    /// Takes time and memory in the number of the sets' runs and of the region pairs.
+    pub fn put_bytes(&self, to: &mut Vec<u8>) -> Result<(), NoMemory>
+        ensures ok { OnOk result ((sets : List Listed) × (word : List ℕ) × AreDifferent sets
+            × IsFullWord self.now.out self.now.ins sets (pairings self.now) word
+            × (to.new.items ≡ to.old.items ++ word)) }
+        ensures err { OnErr result (to.new.items ≡ to.old.items) }
+    {
+        if self.count == 0 {
+            return put_numbered(&[], 1, &[], to);
+        }
+        let alloc = *to.allocator();
+        let mut sets = Vec::new(alloc);
+        let mut starts = Vec::new(alloc);
+        list_each(&self.outs, &self.ins, &mut sets, &mut starts)?;
+        let mut names = Vec::new(alloc);
+        shift_each(self.count, &self.names, &starts, &mut names)?;
+        put_numbered(&sets, starts.len() as u32, &names, to)
+    }
+}
+
+/// A table of sets for each of these shapes, without a set.
+fn tables_for(alloc: Global, shapes: &[Shape]) -> Result<Vec<SetTable>, NoMemory>
+    ensures { IfOk result (λ tables. tables.items ≡ map empty_sets shapes.now) }
+{
+    let mut tables = Vec::new(alloc);
+    for shape in shapes {
+        let table = SetTable::new(alloc, *shape)?;
+        tables.push(table)?;
+    }
+    Ok(tables)
+}
+
+/// Makes room in each of these tables.
+fn reserve_each(tables: &mut [SetTable], rows: u32, runs: usize) -> Result<(), NoMemory>
+    requires { All (λ t. length t.sets + rows < 2 ^ 32) tables.old }
+    ensures extents { map (λ t. t.extent) tables.new ≡ map (λ t. t.extent) tables.old }
+    ensures sets { map (λ t. t.sets) tables.new ≡ map (λ t. t.sets) tables.old }
+    ensures kept { (rows runs : ℕ)
+        → All (HasRoomFor rows runs) tables.old → All (HasRoomFor rows runs) tables.new }
+    ensures ok { OnOk result (All (HasRoomFor rows runs) tables.new) }
+{
+    for table in tables.iter_mut() {
+        table.reserve(rows, runs)?;
+    }
+    Ok(())
+}
+
+/// How many runs these sets have together.
+fn runs_of_each(sets: &[Arc<CellSet>]) -> usize
+    requires { sum_by runs_in (map (λ a. arc_value a) sets.now) < 2 ^ 64 }
+    ensures { result ≡ sum_by runs_in (map (λ a. arc_value a) sets.now) }
+{
+    let mut count = 0;
+    for set in sets {
+        count += set.runs().len();
+    }
+    count
+}
+
+/// Appends the numbers that these tables give to these sets, which are added where they are new.
+fn add_each(tables: &mut [SetTable], sets: &[Arc<CellSet>], names: &mut Vec<u32>)
+    requires extents { map (λ s. s.extent) (map (λ a. arc_value a) sets.now)
+        ≡ map (λ t. t.extent) tables.old }
+    requires room { let xs = map (λ a. arc_value a) sets.now in
+        All (HasRoomFor 1 (sum_by runs_in xs)) tables.old }
+    requires names { vec_len names.old + length tables.old ≤ vec_capacity names.old }
+    ensures before { take (length names.old.items) names.new.items ≡ names.old.items }
+    ensures taken { TakeEach tables.old tables.new (map (λ a. arc_value a) sets.now)
+        (drop (length names.old.items) names.new.items) }
+    ensures capacity { vec_capacity names.new ≡ vec_capacity names.old }
+{
+    for i in 0..tables.len() {
+        let number = add_one(&mut tables[i], &sets[i]);
+        names.push_reserved(number);
+    }
+}
+
+/// The number that this table gives to this set, which is added where it is new.
+fn add_one(table: &mut SetTable, set: &CellSet) -> u32
+    requires extent { set.now.extent ≡ table.old.extent }
+    requires room { HasRoomFor 1 (runs_in set.now) table.old }
+    ensures { Takes table.old table.new set.now result }
+{
+    table.add(set)
+}
+
+/// Lists the sets of the output and then of each input, and where those of each array begin.
+fn list_each<'a>(
+    outs: &'a SetTable,
+    ins: &'a [SetTable],
+    sets: &mut Vec<ListedSet<'a>>,
+    starts: &mut Vec<u32>,
+) -> Result<(), NoMemory>
+    requires inputs { length ins.now ≤ 2 }
+    requires few { All (λ t. length t.sets ≤ 2 ^ 30) (outs.now ∷ ins.now) }
+    requires sets { sets.old.items ≡ [] }
+    requires starts { starts.old.items ≡ [] }
+    ensures { OnOk result (AreListed (outs.now ∷ ins.now) sets.new.items starts.new.items) }
+{
+    for array in 0..ins.len() as u8 + 1 {
+        starts.push(sets.len() as u32)?;
+        let table = table_of(outs, ins, array);
+        list_sets(table, array, sets)?;
+    }
+    Ok(())
+}
+
+/// The table of the sets of an array: 0 is the output, i + 1 is input i.
+fn table_of<'a>(outs: &'a SetTable, ins: &'a [SetTable], array: u8) -> &'a SetTable
+    requires { array ≤ length ins.now }
+    ensures { result.now ≡ slice_index_or (outs.now ∷ ins.now) array result.now }
+{
+    if array == 0 {
+        outs
+    } else {
+        &ins[array as usize - 1]
+    }
+}
+
+/// Appends the sets of a table to a list, as sets of this array.
+fn list_sets<'a>(
+    table: &'a SetTable,
+    array: u8,
+    sets: &mut Vec<ListedSet<'a>>,
+) -> Result<(), NoMemory>
+    ensures added { OnOk result
+        (sets.new.items ≡ sets.old.items ++ listed_as array table.now.sets) }
+    ensures right { OnOk result (AreSetsOf table.now.extent table.now.sets) }
+{
+    for number in 0..table.len() {
+        sets.push(listed(table, array, number))?;
+    }
+    Ok(())
+}
+
+/// The set of a number, as one of this array.
+fn listed<'a>(table: &'a SetTable, array: u8, number: u32) -> ListedSet<'a>
+    requires { number < length table.now.sets }
+    ensures value { result ≡ record { array = array; set = set_at table.now.sets number } }
+    ensures right { IsSetOf table.now.extent (set_at table.now.sets number) }
+{
+    ListedSet {
+        array,
+        shape: table.shape(),
+        runs: table.runs(number),
+    }
+}
+
+/// Appends the numbers of so many rows, each number behind the start of its array.
+fn shift_each(rows: u32, names: &[u32], starts: &[u32], to: &mut Vec<u32>) -> Result<(), NoMemory>
+    requires whole { length names.now ≡ rows * length starts.now }
+    requires fits { (n : ℕ) → n < rows
+        → All (λ k. k < 2 ^ 32) (shifted starts.now (numbers_at (length starts.now) names.now n)) }
+    requires to { to.old.items ≡ [] }
+    ensures { OnOk result (to.new.items
+        ≡ flat_map (λ n. shifted starts.now (numbers_at (length starts.now) names.now n))
+        (range_with_len 0 rows)) }
+{
+    let width = starts.len();
+    for row in 0..rows {
+        let start = row as usize * width;
+        shift(&names[start..start + width], starts, to)?;
+    }
+    Ok(())
+}
+
+/// Appends the numbers of a row, each behind the start of its array.
+fn shift(numbers: &[u32], starts: &[u32], to: &mut Vec<u32>) -> Result<(), NoMemory>
+    requires arrays { length numbers.now ≡ length starts.now }
+    requires fits { All (λ k. k < 2 ^ 32) (shifted starts.now numbers.now) }
+    ensures { OnOk result (to.new.items ≡ to.old.items ++ shifted starts.now numbers.now) }
+{
+    for i in 0..numbers.len() {
+        to.push(starts[i] + numbers[i])?;
+    }
+    Ok(())
+}

@@ -1,0 +1,106 @@
+//! Region pairs as rows, and their bytes, with memory to spare. The bytes were spelled by hand.
+
+ghost use Rattle.std.specs.Prelude.{◌≡◌, ◌<◌, ◌+◌, [], ◌∷◌, length, All, IfOk, OnOk};
+ghost use Rattle.std.specs.Arc.{arc_value};
+ghost use Rattle.sz_cells.specs.Extent.{flat};
+
+use crate::RegionTable;
+use std::alloc::Global;
+use std::sync::Arc;
+use std::test::Fail;
+use sz_cells::{Cell, CellSet, NoMemory, Run, Shape};
+use sz_region::{Region, SetList};
+
+/// A shape of one row of 20 columns.
+fn row_of_20() -> Result<Shape, Fail>
+    ensures { IfOk result (λ s. s ≡ flat 1 20) }
+{
+    Ok(Shape::make(1, 20).ok_or("a row of 20 is a shape")?)
+}
+
+/// The set of one cell of such a row.
+fn one_cell(alloc: Global, shape: Shape, col: u32) -> Result<Arc<CellSet>, NoMemory>
+    requires shape { shape ≡ flat 1 20 }
+    requires col { col < 20 }
+    ensures { IfOk result (λ s. (arc_value s).extent ≡ flat 1 20) }
+{
+    let set = CellSet::from_cells(alloc, shape, &[Cell { row: 0, col }])?;
+    Ok(Arc::new(alloc, set)?)
+}
+
+/// Adds the region pair of one cell of the output, and one of each of two inputs.
+fn add_cells(alloc: Global, table: &mut RegionTable, cols: [u32; 3]) -> Result<(), Fail>
+    requires out { table.old.out ≡ flat 1 20 }
+    requires ins { table.old.ins ≡ flat 1 20 ∷ flat 1 20 ∷ [] }
+    requires cols { All (λ c. c < 20) cols }
+    requires few { length table.old.rows < 100 }
+    ensures out { table.new.out ≡ table.old.out }
+    ensures ins { table.new.ins ≡ table.old.ins }
+    ensures one { OnOk result (length table.new.rows ≡ length table.old.rows + 1) }
+{
+    let shape = row_of_20()?;
+    let out = one_cell(alloc, shape, cols[0])?;
+    let first = one_cell(alloc, shape, cols[1])?;
+    let second = one_cell(alloc, shape, cols[2])?;
+    table.reserve(
+        1,
+        out.runs().len() + first.runs().len() + second.runs().len(),
+    )?;
+    let ins = SetList::of(vec![in alloc; first, second]?);
+    table.add(&Region { out, ins });
+    Ok(())
+}
+
+#[test]
+fn equal_sets_of_an_array_stand_once(rt: HostRuntime) -> Result<(), Fail> {
+    let alloc = rt.alloc();
+    let shape = row_of_20()?;
+    let mut table = RegionTable::new(alloc, shape, &[shape, shape])?;
+    add_cells(alloc, &mut table, [1, 2, 3])?;
+    add_cells(alloc, &mut table, [1, 3, 2])?;
+    add_cells(alloc, &mut table, [4, 2, 3])?;
+    assert_eq!(rt; table.len(), 3);
+    assert_eq!(rt; table.out_sets(), 2);
+    assert_eq!(rt; table.sets_of(0), 2);
+    assert_eq!(rt; table.out_number(1), 0);
+    assert_eq!(rt; table.out_number(2), 1);
+    assert_eq!(rt; table.number_of(1, 0), 1);
+    assert_eq!(rt; table.number_of(2, 0), 0);
+    assert_eq!(rt; table.number_of(1, 1), 1);
+    if 1 < table.out_sets() {
+        assert_eq!(rt; table.out_runs(1), [Run { first: 4, last: 4 }].as_slice());
+    }
+    if 1 < table.sets_of(1) {
+        assert_eq!(rt; table.in_runs(1, 1), [Run { first: 2, last: 2 }].as_slice());
+    }
+    Ok(())
+}
+
+#[test]
+fn each_set_of_an_array_is_written_once(rt: HostRuntime) -> Result<(), Fail> {
+    let alloc = rt.alloc();
+    let shape = row_of_20()?;
+    let mut table = RegionTable::new(alloc, shape, &[shape, shape])?;
+    let mut bytes = vec![in alloc; 9u8]?;
+    table.put_bytes(&mut bytes)?;
+    assert_eq!(rt; bytes.as_slice(), [9, 0, 0, 0, 0, 0, 0, 0, 0].as_slice());
+    add_cells(alloc, &mut table, [1, 2, 3])?;
+    add_cells(alloc, &mut table, [1, 3, 3])?;
+    bytes.clear();
+    table.put_bytes(&mut bytes)?;
+    assert_eq!(rt;
+        bytes.as_slice(),
+        [
+            0, 0, 0, 4, // four sets
+            0, 0, 0, 0, 1, 0, 0, 0, 1, 0, 0, 0, 1, // output: 1
+            1, 0, 0, 0, 1, 0, 0, 0, 2, 0, 0, 0, 2, // input 0: 2
+            1, 0, 0, 0, 1, 0, 0, 0, 3, 0, 0, 0, 3, // input 0: 3
+            2, 0, 0, 0, 1, 0, 0, 0, 3, 0, 0, 0, 3, // input 1: 3
+            0, 0, 0, 2, // two rows
+            0, 0, 0, 0, 0, 0, 0, 1, 0, 0, 0, 3, //
+            0, 0, 0, 0, 0, 0, 0, 2, 0, 0, 0, 3,
+        ]
+        .as_slice()
+    );
+    Ok(())
+}

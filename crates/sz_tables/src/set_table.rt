@@ -1,0 +1,256 @@
+//! Sets of cells of one shape by number, each different set once.
+
+ghost use Rattle.std.specs.Prelude.{◌≡◌, ◌<◌, ◌≤◌, ◌+◌, ◌-◌, ◌^◌, [], ◌∷◌, ◌++◌};
+ghost use Rattle.std.specs.Prelude.{ℕ, ◌≢◌, MatchOption, vec_len, vec_capacity};
+ghost use Rattle.std.specs.Bool.{Decides};
+ghost use Rattle.std.specs.Prelude.{length, max, OnOk, OnErr, IfOk, Some};
+ghost use Rattle.std.specs.List.{slice_get};
+ghost use Rattle.sz_cells.specs.Runs.{runs_of, AreRunsFrom, Spells};
+ghost use Rattle.sz_cells.specs.Extent.{size_of};
+ghost use Rattle.sz_tables.specs.Tables.{AreDifferent, HasAtMostOneMore};
+ghost use Rattle.sz_tables.specs.Tables.{spelled, keys_for, key_of};
+ghost use Rattle.sz_tables.specs.Rows.{set_at, runs_in};
+
+use crate::chains::Chains;
+use std::alloc::Global;
+use std::marker::Model;
+use sz_cells::{CellSet, NoMemory, Run, Shape};
+
+/// Sets of one shape. The runs of all sets stand in one list.
+#[derive(Drop)]
+pub struct SetTable {
+    shape: Shape,
+    runs: Vec<Run>,
+    spans: Vec<Span>,
+    /// Each set under a key that its runs give, so that an equal set is found.
+    index: Chains,
+    spare_sets: u32,
+    spare_runs: usize,
+}
+
+/// Where the runs of a set begin, and where they end.
+#[derive(Clone, Copy)]
+struct Span {
+    start: usize,
+    end: usize,
+}
+
+impl Model for SetTable {
+    ghost use Rattle.std.specs.Prelude.{◌≤◌, ◌+◌, map, length, vec_capacity};
+    ghost use Rattle.sz_tables.specs.Tables.{SetsByNumber};
+
+    ghost Value = { SetsByNumber };
+
+    ghost use Rattle.sz_tables.specs.Filed.{HasRoom};
+    ghost use Rattle.sz_tables.specs.Tables.{spelled, runs_by_number, AreNumbered};
+
+    ghost view = { λ t. record {
+      extent = t.shape;
+      sets = map (spelled t.shape) (runs_by_number t.runs.items t.spans.items);
+      spare_sets = t.spare_sets;
+      spare_runs = t.spare_runs;
+    } };
+
+    ghost invariant = { λ t. AreNumbered t.shape t.runs.items t.spans.items t.index
+        × HasRoom (length t.spans.items) t.spare_sets (vec_capacity t.spans)
+        × (t.spare_sets ≤ t.index.spare)
+        × (length t.runs.items + t.spare_runs ≤ vec_capacity t.runs) };
+}
+
+impl SetTable {
+    /// A table of sets of this shape, without one.
+    pub fn new(alloc: Global, shape: Shape) -> Result<SetTable, NoMemory>
+        ensures { IfOk result (λ t.
+            t ≡ record { extent = shape; sets = []; spare_sets = 0; spare_runs = 0 }) }
+    {
+        let index = Chains::new(alloc, key_count(shape))?;
+        Ok(SetTable {
+            shape,
+            runs: Vec::new(alloc),
+            spans: Vec::new(alloc),
+            index,
+            spare_sets: 0,
+            spare_runs: 0,
+        })
+    }
+
+    /// Makes room for so many more sets, which have so many runs together, where there is none yet.
+    pub fn reserve(&mut self, sets: u32, runs: usize) -> Result<(), NoMemory>
+        requires { length self.old.sets + sets < 2 ^ 32 }
+        ensures ok { OnOk result (self.new ≡ record self.old {
+          spare_sets = max self.old.spare_sets sets;
+          spare_runs = max self.old.spare_runs runs;
+        }) }
+        ensures kept { self.new ≡ record self.old {
+          spare_sets = self.new.spare_sets;
+          spare_runs = self.new.spare_runs;
+        } }
+        ensures grown { (self.old.spare_sets ≤ self.new.spare_sets)
+            × (self.old.spare_runs ≤ self.new.spare_runs) }
+    {
+        self.reserve_sets(sets)?;
+        self.reserve_runs(runs)
+    }
+
+    /// Makes room for so many more sets, and for their keys.
+    fn reserve_sets(&mut self, more: u32) -> Result<(), NoMemory>
+        requires { length self.old.sets + more < 2 ^ 32 }
+        ensures ok { OnOk result
+            (self.new ≡ record self.old { spare_sets = max self.old.spare_sets more }) }
+        ensures err { OnErr result (self.new ≡ self.old) }
+    {
+        if more <= self.spare_sets {
+            return Ok(());
+        }
+        self.spans.reserve(more as usize)?;
+        self.index.reserve(0, more)?;
+        self.spare_sets = more;
+        Ok(())
+    }
+
+    /// Makes room for so many more runs.
+    fn reserve_runs(&mut self, more: usize) -> Result<(), NoMemory>
+        ensures ok { OnOk result
+            (self.new ≡ record self.old { spare_runs = max self.old.spare_runs more }) }
+        ensures err { OnErr result (self.new ≡ self.old) }
+    {
+        if more <= self.spare_runs {
+            return Ok(());
+        }
+        self.runs.reserve(more)?;
+        self.spare_runs = more;
+        Ok(())
+    }
+
+    /// The number of this set, which is added where no set of the table is equal. Takes no memory.
+    ///
+    /// Costs a look at each run of the set, and at the sets whose runs give the same key.
+    pub fn add(&mut self, set: &CellSet) -> u32
+        requires shape { set.now.extent ≡ self.old.extent }
+        requires sets { 0 < self.old.spare_sets }
+        requires runs { runs_in set.now ≤ self.old.spare_runs }
+        ensures number { slice_get self.new.sets result ≡ Some set.now }
+        ensures sets { HasAtMostOneMore self.old.sets self.new.sets set.now }
+        ensures extent { self.new.extent ≡ self.old.extent }
+        ensures room { self.old.spare_sets ≤ self.new.spare_sets + 1 }
+        ensures runs { self.old.spare_runs ≤ self.new.spare_runs + runs_in set.now }
+    {
+        let runs = set.runs();
+        let key = key_of(runs, key_count(self.shape()));
+        match self.find(runs, key) {
+            Some(number) => number,
+            None => self.append(runs, key),
+        }
+    }
+
+    /// The number of the set that has these runs, whose key this is.
+    fn find(&self, runs: &[Run], key: u32) -> Option<u32>
+        requires longest { AreRunsFrom 0 (size_of self.now.extent) runs.now }
+        requires key { key ≡ key_of (keys_for self.now.extent) runs.now }
+        ensures { let set = spelled self.now.extent runs.now in MatchOption result
+            ((n : ℕ) → slice_get self.now.sets n ≢ Some set)
+            (λ n. slice_get self.now.sets n ≡ Some set) }
+    {
+        let mut next = self.index.last(key);
+        while let Some(number) = next {
+            if are_same(self.runs(number), runs) {
+                return Some(number);
+            }
+            next = self.index.before(number, key);
+        }
+        None
+    }
+
+    /// Adds the set that has these runs, which is none of the table's. Its number is the count of
+    /// those before it.
+    fn append(&mut self, runs: &[Run], key: u32) -> u32
+        requires longest { AreRunsFrom 0 (size_of self.old.extent) runs.now }
+        requires key { key ≡ key_of (keys_for self.old.extent) runs.now }
+        requires new { (n : ℕ)
+            → slice_get self.old.sets n ≢ Some (spelled self.old.extent runs.now) }
+        requires sets { 0 < self.old.spare_sets }
+        requires runs { length runs.now ≤ self.old.spare_runs }
+        ensures number { result ≡ length self.old.sets }
+        ensures table { self.new ≡ record self.old {
+          sets = self.old.sets ++ spelled self.old.extent runs.now ∷ [];
+          spare_sets = self.old.spare_sets - 1;
+          spare_runs = self.old.spare_runs - length runs.now;
+        } }
+    {
+        let number = self.spans.len() as u32;
+        let start = self.runs.len();
+        put_runs(&mut self.runs, runs);
+        let end = self.runs.len();
+        self.spans.push_reserved(Span { start, end });
+        self.index.add(key, number);
+        self.spare_sets -= 1;
+        self.spare_runs -= runs.len();
+        number
+    }
+
+    /// The longest runs of the set of a number, rising.
+    pub fn runs(&self, number: u32) -> &[Run]
+        requires { number < length self.now.sets }
+        ensures runs { result.now ≡ runs_of (set_at self.now.sets number).indexes }
+        ensures longest { AreRunsFrom 0 (size_of self.now.extent) result.now }
+        ensures extent { (set_at self.now.sets number).extent ≡ self.now.extent }
+        ensures spelled { Spells result.now (set_at self.now.sets number) }
+    {
+        let span = self.spans[number as usize];
+        &self.runs[span.start..span.end]
+    }
+
+    /// How many sets there are. No two of them are equal.
+    pub fn len(&self) -> u32
+        ensures count { result ≡ length self.now.sets }
+        ensures different { AreDifferent self.now.sets }
+    {
+        self.spans.len() as u32
+    }
+
+    /// The shape of the sets.
+    pub fn shape(&self) -> Shape
+        ensures { result ≡ self.now.extent }
+    {
+        self.shape
+    }
+}
+
+/// How many keys suit the sets of a shape.
+fn key_count(shape: Shape) -> u32
+    ensures count { result ≡ keys_for shape }
+    ensures some { 0 < result }
+{
+    (shape.size() / 4 + 16).min(65_536)
+}
+
+/// The key of a set's runs, below the number of keys.
+fn key_of(runs: &[Run], keys: u32) -> u32
+    requires { 0 < keys }
+    ensures key { result ≡ key_of keys runs.now }
+    ensures below { result < keys }
+{
+    let mut mixed: u64 = 0;
+    for run in runs {
+        let first = u64::from(run.first);
+        let last = u64::from(run.last);
+        mixed = ((mixed * 31 + first) * 31 + last) % 4_294_967_296;
+    }
+    (mixed % u64::from(keys)) as u32
+}
+
+/// Appends runs for which there is room. Takes no memory.
+fn put_runs(list: &mut Vec<Run>, more: &[Run])
+    requires { vec_len list.old + length more.now ≤ vec_capacity list.old }
+    ensures items { list.new.items ≡ list.old.items ++ more.now }
+    ensures capacity { vec_capacity list.old ≤ vec_capacity list.new }
+{
+    let _ = list.extend_from_slice(more);
+}
+
+/// Whether two lists of runs are one.
+fn are_same(a: &[Run], b: &[Run]) -> bool
+    ensures { Decides result (a.now ≡ b.now) }
+{
+    a == b
+}

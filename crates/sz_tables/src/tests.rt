@@ -1,0 +1,81 @@
+//! Entries under three keys, and sets by number: each call once, with memory to spare.
+
+ghost use Rattle.std.specs.Prelude.{◌≡◌, ◌<◌, ◌≤◌, ◌+◌, true, length, All, IfOk};
+ghost use Rattle.sz_cells.specs.Extent.{holds};
+
+use crate::{Chains, SetTable};
+use std::alloc::Global;
+use std::test::Fail;
+use sz_cells::{Cell, CellSet, NoMemory, Run, Shape};
+
+#[test]
+fn walks_from_the_last_entry_of_a_key_to_its_first(rt: HostRuntime) -> Result<(), Fail> {
+    let mut chains = Chains::new(rt.alloc(), 2)?;
+    chains.reserve(1, 3)?;
+    chains.add_key();
+    chains.add(0, 70);
+    chains.add(2, 80);
+    chains.add(0, 90);
+    assert_eq!(rt; chains.last(0), Some(2));
+    assert_eq!(rt; chains.before(2, 0), Some(0));
+    assert_eq!(rt; chains.before(0, 0), None);
+    assert_eq!(rt; chains.last(1), None);
+    assert_eq!(rt; chains.last(2), Some(1));
+    assert_eq!(rt; chains.item(2), 90);
+    Ok(())
+}
+
+/// A shape of one row of 20 columns.
+fn row_of_20() -> Result<Shape, Fail>
+    ensures { IfOk result (λ s. s ≡ record { layers = 1; rows = 1; cols = 20 }) }
+{
+    Ok(Shape::make(1, 20).ok_or("a row of 20 is a shape")?)
+}
+
+/// The number of the set of three cells of a row.
+fn number_of(alloc: Global, table: &mut SetTable, cols: [u32; 3]) -> Result<u32, NoMemory>
+    requires extent { table.old.extent ≡ record { layers = 1; rows = 1; cols = 20 } }
+    requires cols { All (λ c. c < 20) cols }
+    requires few { length table.old.sets < 100 }
+    ensures extent { table.new.extent ≡ table.old.extent }
+    ensures few { length table.new.sets ≤ length table.old.sets + 1 }
+{
+    let cells = [
+        Cell {
+            row: 0,
+            col: cols[0],
+        },
+        Cell {
+            row: 0,
+            col: cols[1],
+        },
+        Cell {
+            row: 0,
+            col: cols[2],
+        },
+    ];
+    let set = CellSet::from_cells(alloc, table.shape(), &cells)?;
+    table.reserve(1, set.runs().len())?;
+    Ok(table.add(&set))
+}
+
+#[test]
+fn equal_sets_have_one_number(rt: HostRuntime) -> Result<(), Fail> {
+    let mut table = SetTable::new(rt.alloc(), row_of_20()?)?;
+    let first = number_of(rt.alloc(), &mut table, [0, 5, 10])?;
+    let equal = number_of(rt.alloc(), &mut table, [0, 5, 10])?;
+    // The first run, the last one and the count are those of the set before.
+    let other = number_of(rt.alloc(), &mut table, [0, 6, 10])?;
+    let again = number_of(rt.alloc(), &mut table, [10, 0, 5])?;
+    assert_eq!(rt; first, 0);
+    assert_eq!(rt; equal, 0);
+    assert_eq!(rt; other, 1);
+    assert_eq!(rt; again, 0);
+    assert_eq!(rt; table.len(), 2);
+    if 1 < table.len() {
+        let runs = table.runs(1);
+        assert_eq!(rt; runs.len(), 3);
+        assert_eq!(rt; runs.get(1), Some(&Run { first: 6, last: 6 }));
+    }
+    Ok(())
+}
