@@ -1,0 +1,55 @@
+//! Adding region pairs to a table and to its index.
+
+ghost use Rattle.std.specs.Prelude.{◌≡◌, ℕ, ◌<◌, ◌≤◌, ◌+◌, [], ◌∷◌, ◌++◌, length, map, sum_by};
+ghost use Rattle.std.specs.Prelude.{All};
+ghost use Rattle.std.specs.Arc.{arc_value};
+ghost use Rattle.sz_tables.specs.Rows.{pairings, weight_of};
+ghost use Rattle.sz_full_one.specs.ByCells.{IsIndexOf, IsPairIn, HasRoom, pair_cells};
+
+use crate::index::Index;
+use std::sync::Arc;
+use sz_region::Region;
+use sz_tables::RegionTable;
+
+/// Adds region pairs, in their order. Takes no memory.
+pub fn add_regions(table: &mut RegionTable, index: &mut Index, regions: &[Arc<Region>])
+    requires index { IsIndexOf table.old index.old }
+    requires inputs { length table.old.ins ≤ 2 }
+    requires pairs { All (IsPairIn table.old) (map (λ a. arc_value a) regions.now) }
+    requires rows { length regions.now ≤ table.old.spare_rows }
+    requires runs { sum_by weight_of (map (λ a. arc_value a) regions.now)
+        ≤ table.old.spare_runs }
+    requires room { HasRoom (sum_by pair_cells (map (λ a. arc_value a) regions.now))
+        (length regions.now) index.old }
+    ensures pairings { pairings table.new
+        ≡ pairings table.old ++ map (λ a. arc_value a) regions.now }
+    ensures index { IsIndexOf table.new index.new }
+    ensures out { table.new.out ≡ table.old.out }
+    ensures ins { table.new.ins ≡ table.old.ins }
+{
+    for region in regions {
+        add_region(table, index, region);
+    }
+}
+
+/// Adds a region pair.
+fn add_region(table: &mut RegionTable, index: &mut Index, region: &Region)
+    requires index { IsIndexOf table.old index.old }
+    requires inputs { length table.old.ins ≤ 2 }
+    requires pair { IsPairIn table.old region.now }
+    requires rows { 0 < table.old.spare_rows }
+    requires runs { weight_of region.now ≤ table.old.spare_runs }
+    requires room { HasRoom (pair_cells region.now) 1 index.old }
+    ensures pairings { pairings table.new ≡ pairings table.old ++ region.now ∷ [] }
+    ensures index { IsIndexOf table.new index.new }
+    ensures out { table.new.out ≡ table.old.out }
+    ensures ins { table.new.ins ≡ table.old.ins }
+    ensures rows { table.old.spare_rows ≤ table.new.spare_rows + 1 }
+    ensures runs { table.old.spare_runs ≤ table.new.spare_runs + weight_of region.now }
+    ensures room { (cells count : ℕ) → HasRoom (pair_cells region.now + cells) (count + 1) index.old
+        → HasRoom cells count index.new }
+{
+    table.add(region);
+    table.len(); // each row names sets of the table
+    index.file(table, region);
+}
