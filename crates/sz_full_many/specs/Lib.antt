@@ -1,0 +1,2 @@
+-- Region pairs by rectangles round their sets.
+pub mod Indexed

@@ -1,0 +1,49 @@
+//! How many runs the sets of region pairs have.
+
+ghost use Rattle.std.specs.Prelude.{◌≡◌, ◌≤◌, ◌*◌, ◌+◌, length, map, sum_by, All};
+ghost use Rattle.std.specs.Arc.{arc_value};
+ghost use Rattle.sz_tables.specs.Rows.{runs_in, weight_of};
+ghost use Rattle.sz_tables.specs.Stores.{cells_in, most_given};
+
+use std::sync::Arc;
+use sz_cells::CellSet;
+use sz_region::Region;
+
+/// How many runs the sets of all these region pairs have.
+pub(crate) fn runs_of_all(regions: &[Arc<Region>]) -> usize
+    requires few { length regions.now ≤ most_given }
+    requires inputs { All (λ r. length r.ins ≤ 2) (map (λ a. arc_value a) regions.now) }
+    ensures runs { result ≡ sum_by weight_of (map (λ a. arc_value a) regions.now) }
+    ensures cells { sum_by (λ r. cells_in r.out + sum_by cells_in r.ins)
+        (map (λ a. arc_value a) regions.now) ≤ result * 1048576 }
+{
+    let mut runs = 0;
+    for region in regions {
+        runs += runs_of(region);
+    }
+    runs
+}
+
+/// How many runs the sets of a region pair have.
+fn runs_of(region: &Region) -> usize
+    requires { length region.now.ins ≤ 2 }
+    ensures runs { result ≡ weight_of region.now }
+    ensures few { result ≤ 3145728 }
+    ensures cells { cells_in region.now.out + sum_by cells_in region.now.ins ≤ result * 1048576 }
+{
+    let mut runs = runs_of_set(&region.out);
+    for set in region.ins.as_slice() {
+        runs += runs_of_set(set);
+    }
+    runs
+}
+
+/// How many runs a set has. None of them is longer than the largest shape.
+fn runs_of_set(set: &CellSet) -> usize
+    ensures runs { result ≡ runs_in set.now }
+    ensures few { result ≤ 1048576 }
+    ensures cells { cells_in set.now ≤ result * 1048576 }
+{
+    set.shape().size(); // its runs are within a shape
+    set.runs().len()
+}
