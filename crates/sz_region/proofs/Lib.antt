@@ -20,3 +20,4 @@ pub mod FullStores
 pub mod NumberingPay
 pub mod Meeting
 pub mod PayStores
+pub mod ReadShapes

@@ -36,13 +36,9 @@ mod put_pay;
 mod region;
 mod set_bytes;
 mod single;
-#[cfg(test)]
-mod store_tests;
 mod tables;
 mod take_full;
 mod take_pay;
-#[cfg(test)]
-mod tests;
 mod walks;
 
 pub use folding::Folding;
