@@ -1,10 +1,14 @@
--- The lemmas on entries under keys, sets by number, region pairs as rows of these, and looks.
+-- The lemmas on entries under keys, sets and payloads by number, region pairs and payload entries as rows of these,
+-- and looks.
 pub mod Chained
+pub mod Slices
 pub mod Numbered
+pub mod Payloads
 pub mod Listing
 pub mod Longest
 pub mod Rows
 pub mod Taking
 pub mod Words
+pub mod Entries
 pub mod Scanned
 pub mod MetRuns

@@ -2,92 +2,29 @@
 --
 -- The key idea: the runs of a further set stand behind all others, so each old span gives the runs that it gave, and
 -- the new one gives those that were added.
-use Rattle.std.proofs.Common.{◌≡◌, ◌≢◌, ℕ, ◌+◌, ◌-◌, ◌<◌, ◌≤◌, List, [], ◌∷◌, ◌++◌, length, map, All, get_or}
-use Rattle.std.proofs.Common.{take, drop, slice_range, refl, sym, ap, ap₂, subst, ◌∙◌, inl, inr, arith}
+use Rattle.std.proofs.Common.{◌≡◌, ◌≢◌, ℕ, ◌+◌, ◌<◌, List, [], ◌∷◌, ◌++◌, length, map, get_or}
+use Rattle.std.proofs.Common.{slice_range, refl, sym, ap, ap₂, subst, ◌∙◌, inl, inr, arith}
 use Rattle.std.proofs.Common.{length-append, Option, Some, None, unwrap_or}
 use Rattle.std.specs.List.{slice_get, HoldsAt, flat_map}
 use Rattle.std.specs.Option.{IfSome}
-use Rattle.std.proofs.Math.Seq.{drop-append_seam}
-use Rattle.std.proofs.lemmas.List.{map-append, length-map, length-drop, get_or-map, take_all, take-append-le}
-use Rattle.std.proofs.lemmas.List.{drop-append-le}
+use Rattle.std.proofs.lemmas.List.{map-append, length-map, get_or-map}
 use Rattle.std.proofs.lemmas.Option.{slice_get_within, slice_get-get_or, unwrap_or-slice_get}
 use Rattle.std.proofs.lemmas.Option.{get_or_from_slice_get}
 use Rattle.std.proofs.lemmas.Bool.{cases_lt}
-use Rattle.std.proofs.lemmas.List.Elements.{All-head, All-tail, All-push}
-use Rattle.sz_spec.proofs.FlowOutputs.{slice_get-left, slice_get-seam}
+use Rattle.std.proofs.lemmas.List.Elements.{All-push}
 use Rattle.sz_spec.specs.Values.{no_extent}
 use Rattle.sz_cells.specs.declared.Run.{Run}
 use Rattle.sz_cells.specs.Extent.{Extent, size_of}
 use Rattle.sz_cells.specs.Cells.{Cells, no_cells}
 use Rattle.sz_cells.specs.Runs.{AreRunsFrom, runs_of, indexes_of}
 use Rattle.sz_cells.proofs.Runs.{runs_of-spelled}
-use Rattle.sz_tables.specs.declared.set_table.Span.{Span}
+use Rattle.sz_tables.specs.declared.spans.Span.{Span}
 use Rattle.sz_tables.specs.Filed.{Filed, Files, IsLastBelow}
 use Rattle.sz_tables.specs.Rows.{set_at}
-use Rattle.sz_tables.specs.Tables.{AreDifferent, AreNumbered, spelled, runs_by_number, keys_for, key_of}
-
--- ---- spans, where runs stand behind
-
-abbrev IsWithin : List Run → Span → Type 0
-IsWithin runs s = (s.start ≤ s.end) × (s.end ≤ length runs)
-
-abbrev cut : List Run → Span → List Run
-cut runs s = slice_range runs s.start s.end
-
-cut-kept : (runs more : List Run) (s : Span) → IsWithin runs s → cut (runs ++ more) s ≡ cut runs s
-cut-kept runs more s within =
-    let few : s.end - s.start ≤ length (drop s.start runs) = omega (arith, length-drop s.start runs) in
-    ap (take (s.end - s.start)) (drop-append-le s.start runs more (omega arith))
-    ∙ take-append-le (s.end - s.start) (drop s.start runs) more few
-
-cuts-kept : (runs more : List Run) (spans : List Span) → All (IsWithin runs) spans
-    → runs_by_number (runs ++ more) spans ≡ runs_by_number runs spans
-cuts-kept runs more [] within = refl
-cuts-kept runs more (s ∷ spans) within =
-    ap₂ (λ x xs. x ∷ xs) (cut-kept runs more s (All-head (IsWithin runs) s spans within))
-    (cuts-kept runs more spans (All-tail (IsWithin runs) s spans within))
-
-cut-new : (runs more : List Run) (s : Span) → s.start ≡ length runs → s.end ≡ length runs + length more
-    → cut (runs ++ more) s ≡ more
-cut-new runs more s start end =
-    ap (λ n. take (s.end - s.start) (drop n (runs ++ more))) start
-    ∙ ap (take (s.end - s.start)) (drop-append_seam runs more)
-    ∙ take_all (s.end - s.start) more (omega arith)
-
--- the runs of each set, and those that were added
-pub cuts-push : (runs more : List Run) (spans : List Span) (s : Span) → All (IsWithin runs) spans
-    → s.start ≡ length runs → s.end ≡ length runs + length more
-    → runs_by_number (runs ++ more) (spans ++ s ∷ []) ≡ runs_by_number runs spans ++ more ∷ []
-cuts-push runs more spans s within start end =
-    map-append (cut (runs ++ more)) spans (s ∷ [])
-    ∙ ap₂ (λ xs x. xs ++ x ∷ []) (cuts-kept runs more spans within) (cut-new runs more s start end)
+use Rattle.sz_tables.specs.Tables.{AreNumbered, spelled, runs_by_number, keys_for, key_of}
+use Rattle.sz_tables.proofs.Slices.{IsWithin, cut, cuts-push, different-push}
 
 -- ---- one more set
-
--- an element that the list has not is met behind it alone
-met-behind : {X : Type 0} (xs : List X) (x y : X) (m n : ℕ) → ((k : ℕ) → slice_get xs k ≢ Some x) → m < length xs
-    → length xs ≡ n → slice_get (xs ++ x ∷ []) m ≡ Some y → slice_get (xs ++ x ∷ []) n ≡ Some y → ⊥
-met-behind xs x y m n new before behind at too =
-    let same : Some x ≡ Some y = sym (slice_get-seam xs x [] n behind) ∙ too in
-    new m (sym (slice_get-left xs (x ∷ []) m before) ∙ at ∙ sym same)
-
-different-push : {X : Type 0} (xs : List X) (x : X) → AreDifferent xs → ((n : ℕ) → slice_get xs n ≢ Some x)
-    → AreDifferent (xs ++ x ∷ [])
-different-push xs x was new m n y at too =
-    let long = length-append xs (x ∷ []) in
-    let m_in = slice_get_within (xs ++ x ∷ []) m y at in
-    let n_in = slice_get_within (xs ++ x ∷ []) n y too in
-    elim (cases_lt m (length xs)) [
-      | inl low ↦ elim (cases_lt n (length xs)) [
-        | inl both ↦ was m n y (sym (slice_get-left xs (x ∷ []) m low) ∙ at)
-            (sym (slice_get-left xs (x ∷ []) n both) ∙ too)
-        | inr high ↦ absurd (met-behind xs x y m n new low (omega arith) at too)
-      ]
-      | inr high ↦ elim (cases_lt n (length xs)) [
-        | inl low ↦ absurd (met-behind xs x y n m new low (omega arith) too at)
-        | inr both ↦ omega arith
-      ]
-    ]
 
 -- sets are numbered where one more that is new stands behind them, under its key
 pub numbered-push : (e : Extent) (runs more : List Run) (spans : List Span) (s : Span) (index after : Files)

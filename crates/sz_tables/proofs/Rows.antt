@@ -74,7 +74,7 @@ rows-more inputs count names number ns whole long =
 -- ---- the region pair of a row
 
 -- a set that keeps its number
-set-kept : (old new : List Cells) (n : ℕ) → n < length old
+pub set-kept : (old new : List Cells) (n : ℕ) → n < length old
     → ((m : ℕ) (s : Cells) → slice_get old m ≡ Some s → slice_get new m ≡ Some s) → set_at new n ≡ set_at old n
 set-kept old new n inside keeps =
     let here = slice_get-get_or old n (no_cells no_extent) inside in

@@ -33,7 +33,7 @@ all-range P count each k d below =
     let same : 0 + k ≡ k = omega arith in
     rw (get_or-range_with_len 0 count k d inside, same) (each k inside)
 
-all-zipped : {X A B : Type 0} (R : A → B → Type 0) (f : X → A) (g : X → B) (xs : List X)
+pub all-zipped : {X A B : Type 0} (R : A → B → Type 0) (f : X → A) (g : X → B) (xs : List X)
     → All (λ (x : X). R (f x) (g x)) xs → AllZip R (map f xs) (map g xs)
 all-zipped R f g [] all = tt
 all-zipped R f g (x ∷ xs) all =

@@ -1,8 +1,10 @@
--- Entries under keys, sets by number, region pairs by the numbers of their sets, and what a store
--- is seen as.
+-- Entries under keys, sets and payloads by number, region pairs and payload entries by the numbers
+-- of these, and what a store is seen as.
 pub mod Filed
 pub mod Tables
+pub mod Payloads
 pub mod Rows
+pub mod Entries
 pub mod Listing
 pub mod Stores
 pub mod Scans

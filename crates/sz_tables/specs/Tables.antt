@@ -7,7 +7,7 @@ use Rattle.sz_cells.specs.Extent.{Extent, size_of}
 use Rattle.sz_cells.specs.Cells.{Cells}
 use Rattle.sz_cells.specs.Runs.{indexes_of, AreRunsFrom}
 use Rattle.sz_tables.specs.Filed.{Files}
-use Rattle.sz_tables.specs.declared.set_table.Span.{Span}
+use Rattle.sz_tables.specs.declared.spans.Span.{Span}
 
 -- what is seen of a table of sets: the shape, the sets in the order of their numbers, and for how
 -- many sets and how many runs there is room without more memory
@@ -29,13 +29,17 @@ HasAtMostOneMore old new x = (new ≡ old) ⊎ (new ≡ old ++ x ∷ [])
 abbrev pub spelled : Extent → List Run → Cells
 spelled e runs = record { extent = e; indexes = flat_map indexes_of runs }
 
+-- the slices of a list, in the order of their numbers
+abbrev pub slices_by_number : {X : Type 0} → List X → List Span → List (List X)
+slices_by_number {X} xs spans = map (λ s. slice_range xs s.start s.end) spans
+
 -- the runs of each set, in the order of the sets' numbers
 abbrev pub runs_by_number : List Run → List Span → List (List Run)
-runs_by_number runs spans = map (λ s. slice_range runs s.start s.end) spans
+runs_by_number runs spans = slices_by_number runs spans
 
 -- how many keys there are for sets of a shape, and the key of a set's runs
 abbrev pub keys_for : Extent → ℕ
-keys_for e = min (size_of e / 4 + 16) 65536
+keys_for e = size_of e / 8 * 2 + 17
 
 abbrev pub mixed : ℕ → Run → ℕ
 mixed h r = ((h * 31 + r.first) * 31 + r.last) % 4294967296

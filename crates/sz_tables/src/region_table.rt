@@ -312,7 +312,7 @@ fn table_of<'a>(outs: &'a SetTable, ins: &'a [SetTable], array: u8) -> &'a SetTa
 }
 
 /// Appends the sets of a table to a list, as sets of this array.
-fn list_sets<'a>(
+pub fn list_sets<'a>(
     table: &'a SetTable,
     array: u8,
     sets: &mut Vec<ListedSet<'a>>,

@@ -12,6 +12,7 @@ ghost use Rattle.sz_tables.specs.Tables.{spelled, keys_for, key_of};
 ghost use Rattle.sz_tables.specs.Rows.{set_at, runs_in};
 
 use crate::chains::Chains;
+use crate::spans::Span;
 use std::alloc::Global;
 use std::marker::Model;
 use sz_cells::{CellSet, NoMemory, Run, Shape};
@@ -26,13 +27,6 @@ pub struct SetTable {
     index: Chains,
     spare_sets: u32,
     spare_runs: usize,
-}
-
-/// Where the runs of a set begin, and where they end.
-#[derive(Clone, Copy)]
-struct Span {
-    start: usize,
-    end: usize,
 }
 
 impl Model for SetTable {
@@ -216,12 +210,13 @@ impl SetTable {
     }
 }
 
-/// How many keys suit the sets of a shape.
+/// How many keys suit the sets of a shape: an odd number, so that numbers which are all even, or all
+/// multiples of a power of two, do not leave keys unused.
 fn key_count(shape: Shape) -> u32
     ensures count { result ≡ keys_for shape }
     ensures some { 0 < result }
 {
-    (shape.size() / 4 + 16).min(65_536)
+    shape.size() / 8 * 2 + 17
 }
 
 /// The key of a set's runs, below the number of keys.

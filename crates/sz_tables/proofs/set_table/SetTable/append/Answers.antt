@@ -3,8 +3,9 @@ use Rattle.std.proofs.Common.{◌≡◌, ◌+◌, ◌∙◌, [], ◌∷◌, leng
 use Rattle.std.proofs.lemmas.List.{map-append}
 use Rattle.sz_tables.specs.Filed.{Files}
 use Rattle.sz_tables.specs.Tables.{SetsByNumber, spelled, runs_by_number}
-use Rattle.sz_tables.specs.declared.set_table.Span.{Span}
-use Rattle.sz_tables.proofs.Numbered.{numbered-push, cuts-push}
+use Rattle.sz_tables.specs.declared.spans.Span.{Span}
+use Rattle.sz_tables.proofs.Numbered.{numbered-push}
+use Rattle.sz_tables.proofs.Slices.{cuts-push}
 use Rattle.sz_tables.proofs.set_table.SetTable.append.Goals as goal
 
 pub invariant_of-self : goal.invariant_of-self

@@ -1,0 +1,96 @@
+-- How payloads stay kept where one is added, and what the payload of a number is.
+--
+-- The key idea: the bytes of a further payload stand behind all others, so each old span gives the payload that it
+-- gave; and an equal payload has the same key, so the walk over the entries of that key meets it.
+use Rattle.std.proofs.Common.{◌≡◌, ◌≢◌, ℕ, ◌+◌, ◌<◌, List, [], ◌∷◌, ◌++◌, length, get_or}
+use Rattle.std.proofs.Common.{slice_range, refl, sym, ap, ◌∙◌, arith, length-append, Option, Some, unwrap_or}
+use Rattle.std.specs.List.{slice_get, HoldsAt}
+use Rattle.std.proofs.lemmas.List.{map-append, length-map, get_or-map}
+use Rattle.std.proofs.lemmas.Option.{slice_get_within, slice_get-get_or, unwrap_or-slice_get}
+use Rattle.std.proofs.lemmas.Option.{get_or_from_slice_get}
+use Rattle.std.proofs.lemmas.List.Elements.{All-push}
+use Rattle.sz_tables.specs.declared.spans.Span.{Span}
+use Rattle.sz_tables.specs.Filed.{Filed, Files}
+use Rattle.sz_tables.specs.Tables.{slices_by_number}
+use Rattle.sz_tables.specs.Payloads.{AreKept, payload_at, payload_key}
+use Rattle.sz_tables.proofs.Slices.{IsWithin, cut, cuts-push, different-push}
+
+-- ---- one more payload
+
+-- payloads are kept where one more that is new stands behind them, under its key
+pub kept-push : (bytes more : List ℕ) (spans : List Span) (s : Span) (index after : Files) (key item : ℕ)
+    → AreKept bytes spans index → ((n : ℕ) → slice_get (slices_by_number bytes spans) n ≢ Some more)
+    → s.start ≡ length bytes → s.end ≡ length bytes + length more
+    → key ≡ payload_key more → after.keys ≡ index.keys
+    → after.entries ≡ index.entries ++ record { key = key; item = item } ∷ []
+    → AreKept (bytes ++ more) (spans ++ s ∷ []) after
+kept-push bytes more spans s index after key item was new start end under keys entries =
+    let pieces = slices_by_number bytes spans in
+    let f : Filed = record { key = key; item = item } in
+    let grown = cuts-push bytes more spans s was.within start end in
+    record {
+      within = All-push (IsWithin (bytes ++ more)) spans s
+          (λ k d lt. let at = was.within k d lt in (omega arith, omega (arith, length-append bytes more)))
+          (omega arith, omega (arith, length-append bytes more));
+      different = rw grown (different-push pieces more was.different new);
+      keys = keys ∙ was.keys;
+      filed = rw (
+        grown,
+        entries,
+        map-append (λ (x : Filed). x.key) index.entries (f ∷ []),
+        map-append payload_key pieces (more ∷ []),
+        was.filed,
+        under,
+      ) refl;
+    }
+
+-- ---- the payload of a number
+
+-- there are as many payloads as spans
+pub payloads-count : (bytes : List ℕ) (spans : List Span) → length (slices_by_number bytes spans) ≡ length spans
+payloads-count bytes spans = length-map spans (cut bytes)
+
+-- a span gives the payload of its number
+pub payload-at : (bytes : List ℕ) (spans : List Span) (n : ℕ) (s : Span) → n < length (slices_by_number bytes spans)
+    → s ≡ get_or spans n s → payload_at (slices_by_number bytes spans) n ≡ slice_range bytes s.start s.end
+payload-at bytes spans n s within read =
+    let inside : n < length spans = omega (arith, payloads-count bytes spans) in
+    unwrap_or-slice_get (slices_by_number bytes spans) n []
+    ∙ get_or-map (cut bytes) spans n s [] inside
+    ∙ ap (cut bytes) (sym read)
+
+-- the payload that has a number is there under it
+pub payload-there : (ps : List (List ℕ)) (n : ℕ) (more : List ℕ) → n < length ps → payload_at ps n ≡ more
+    → slice_get ps n ≡ Some more
+payload-there ps n more within is =
+    slice_get-get_or ps n [] within
+    ∙ ap (λ (x : List ℕ). Some x) (sym (unwrap_or-slice_get ps n []) ∙ is)
+
+pub payload-read : (ps : List (List ℕ)) (n : ℕ) (more : List ℕ) → slice_get ps n ≡ Some more → payload_at ps n ≡ more
+payload-read ps n more same = ap (λ (o : Option (List ℕ)). unwrap_or o []) same
+
+-- ---- a walk over the entries of a key
+
+-- each payload has an entry
+pub filed-count : (bytes : List ℕ) (spans : List Span) (index : Files) → AreKept bytes spans index
+    → length index.entries ≡ length (slices_by_number bytes spans)
+filed-count bytes spans index was =
+    sym (length-map index.entries (λ (f : Filed). f.key))
+    ∙ ap length was.filed
+    ∙ length-map (slices_by_number bytes spans) payload_key
+
+-- a payload is filed under its key
+pub filed-at : (bytes more : List ℕ) (spans : List Span) (index : Files) (key n : ℕ) → AreKept bytes spans index
+    → key ≡ payload_key more → slice_get (slices_by_number bytes spans) n ≡ Some more
+    → HoldsAt (λ f. f.key ≡ key) index.entries n × (n < length index.entries)
+filed-at bytes more spans index key n was under same =
+    let pieces = slices_by_number bytes spans in
+    let many : n < length pieces = slice_get_within pieces n more same in
+    let filed : n < length index.entries = omega (arith, filed-count bytes spans index was) in (
+      λ d. sym (get_or-map (λ (f : Filed). f.key) index.entries n d 0 filed)
+          ∙ ap (λ (ks : List ℕ). get_or ks n 0) was.filed
+          ∙ get_or-map payload_key pieces n [] 0 many
+          ∙ ap payload_key (get_or_from_slice_get pieces n more [] same)
+          ∙ sym under,
+      filed,
+    )

@@ -1,0 +1,80 @@
+-- How slices of a list by number stay as they are where one more stands behind.
+--
+-- The key idea: what is added stands behind all that there was, so each old span gives the slice that it gave, and the
+-- new one gives what was added.
+use Rattle.std.proofs.Common.{◌≡◌, ◌≢◌, ℕ, ◌+◌, ◌-◌, ◌<◌, ◌≤◌, List, [], ◌∷◌, ◌++◌, length, All}
+use Rattle.std.proofs.Common.{take, drop, slice_range, refl, sym, ap, ap₂, ◌∙◌, inl, inr, arith}
+use Rattle.std.proofs.Common.{length-append, Some}
+use Rattle.std.specs.List.{slice_get}
+use Rattle.std.proofs.Math.Seq.{drop-append_seam}
+use Rattle.std.proofs.lemmas.List.{map-append, length-drop, take_all, take-append-le, drop-append-le}
+use Rattle.std.proofs.lemmas.Option.{slice_get_within}
+use Rattle.std.proofs.lemmas.Bool.{cases_lt}
+use Rattle.std.proofs.lemmas.List.Elements.{All-head, All-tail}
+use Rattle.sz_spec.proofs.FlowOutputs.{slice_get-left, slice_get-seam}
+use Rattle.sz_tables.specs.declared.spans.Span.{Span}
+use Rattle.sz_tables.specs.Tables.{AreDifferent, slices_by_number}
+
+-- ---- spans, where more stands behind
+
+abbrev pub IsWithin : {X : Type 0} → List X → Span → Type 0
+IsWithin {X} xs s = (s.start ≤ s.end) × (s.end ≤ length xs)
+
+abbrev pub cut : {X : Type 0} → List X → Span → List X
+cut {X} xs s = slice_range xs s.start s.end
+
+cut-kept : {X : Type 0} (xs more : List X) (s : Span) → IsWithin xs s → cut (xs ++ more) s ≡ cut xs s
+cut-kept xs more s within =
+    let few : s.end - s.start ≤ length (drop s.start xs) = omega (arith, length-drop s.start xs) in
+    ap (take (s.end - s.start)) (drop-append-le s.start xs more (omega arith))
+    ∙ take-append-le (s.end - s.start) (drop s.start xs) more few
+
+cuts-kept : {X : Type 0} (xs more : List X) (spans : List Span) → All (IsWithin xs) spans
+    → slices_by_number (xs ++ more) spans ≡ slices_by_number xs spans
+cuts-kept xs more [] within = refl
+cuts-kept xs more (s ∷ spans) within =
+    ap₂ (λ y ys. y ∷ ys) (cut-kept xs more s (All-head (IsWithin xs) s spans within))
+    (cuts-kept xs more spans (All-tail (IsWithin xs) s spans within))
+
+cut-new : {X : Type 0} (xs more : List X) (s : Span) → s.start ≡ length xs → s.end ≡ length xs + length more
+    → cut (xs ++ more) s ≡ more
+cut-new xs more s start end =
+    ap (λ n. take (s.end - s.start) (drop n (xs ++ more))) start
+    ∙ ap (take (s.end - s.start)) (drop-append_seam xs more)
+    ∙ take_all (s.end - s.start) more (omega arith)
+
+-- the slices that there were, and what was added
+pub cuts-push : {X : Type 0} (xs more : List X) (spans : List Span) (s : Span) → All (IsWithin xs) spans
+    → s.start ≡ length xs → s.end ≡ length xs + length more
+    → slices_by_number (xs ++ more) (spans ++ s ∷ []) ≡ slices_by_number xs spans ++ more ∷ []
+cuts-push xs more spans s within start end =
+    map-append (cut (xs ++ more)) spans (s ∷ [])
+    ∙ ap₂ (λ ys y. ys ++ y ∷ []) (cuts-kept xs more spans within) (cut-new xs more s start end)
+
+-- ---- one more of different ones
+
+-- an element that the list has not is met behind it alone
+met-behind : {X : Type 0} (xs : List X) (x y : X) (m n : ℕ) → ((k : ℕ) → slice_get xs k ≢ Some x) → m < length xs
+    → length xs ≡ n → slice_get (xs ++ x ∷ []) m ≡ Some y → slice_get (xs ++ x ∷ []) n ≡ Some y → ⊥
+met-behind xs x y m n new before behind at too =
+    let same : Some x ≡ Some y = sym (slice_get-seam xs x [] n behind) ∙ too in
+    new m (sym (slice_get-left xs (x ∷ []) m before) ∙ at ∙ sym same)
+
+-- no two are one where a new one stands behind
+pub different-push : {X : Type 0} (xs : List X) (x : X) → AreDifferent xs → ((n : ℕ) → slice_get xs n ≢ Some x)
+    → AreDifferent (xs ++ x ∷ [])
+different-push xs x was new m n y at too =
+    let long = length-append xs (x ∷ []) in
+    let m_in = slice_get_within (xs ++ x ∷ []) m y at in
+    let n_in = slice_get_within (xs ++ x ∷ []) n y too in
+    elim (cases_lt m (length xs)) [
+      | inl low ↦ elim (cases_lt n (length xs)) [
+        | inl both ↦ was m n y (sym (slice_get-left xs (x ∷ []) m low) ∙ at)
+            (sym (slice_get-left xs (x ∷ []) n both) ∙ too)
+        | inr high ↦ absurd (met-behind xs x y m n new low (omega arith) at too)
+      ]
+      | inr high ↦ elim (cases_lt n (length xs)) [
+        | inl low ↦ absurd (met-behind xs x y n m new low (omega arith) too at)
+        | inr both ↦ omega arith
+      ]
+    ]

@@ -1,0 +1,57 @@
+-- The key idea: a payload of these bytes is filed under their key, so the walk over the entries of the key meets it.
+use Rattle.std.proofs.Common.{◌≡◌, ◌≢◌, ℕ, ◌<◌, ◌∙◌, length, ap, sym, arith}
+use Rattle.std.proofs.lemmas.Bool.{false≢true}
+use Rattle.sz_tables.specs.Payloads.{payload_at}
+use Rattle.sz_tables.proofs.Chained.{entry-within}
+use Rattle.sz_tables.proofs.Numbered.{last-reach, last-filed}
+use Rattle.sz_tables.proofs.Payloads.{filed-at, filed-count, payload-there, payload-read}
+use Rattle.sz_tables.proofs.payload_table.PayloadTable.find.Goals as goal
+
+pub loop-next-init : goal.loop-next-init
+loop-next-init c =
+    let index = c.self.inside.index in
+    let spans = c.self.inside.spans.items in
+    record {
+      ahead = λ n same.
+          let key = filed-at c.self.inside.bytes.items c.args.bytes.now spans index c.args.key n c.self.invariant.0
+          c.requires (rw (← c.self.view_is) at same) in
+          last-reach index.entries c.args.key _ c.last-next.result n c.last-next.ensures key.0 key.1;
+      filed = last-filed index.entries c.args.key _ c.last-next.result c.last-next.ensures;
+    }
+
+pub bytes-requires : goal.bytes-requires
+bytes-requires c =
+    let index = c.self.inside.index in
+    let filed = rw c.in-Some.is at c.loop-next.invariant.filed in
+    let many = entry-within index.entries c.in-Some.number c.args.key filed in
+    let count = filed-count c.self.inside.bytes.items c.self.inside.spans.items index c.self.invariant.0 in
+    rw (← c.self.view_is) (omega (arith, many, count))
+
+pub returns-then-are_same : goal.returns-then-are_same
+returns-then-are_same c =
+    let index = c.self.inside.index in
+    let filed = rw c.in-Some.is at c.loop-next.invariant.filed in
+    let many = entry-within index.entries c.in-Some.number c.args.key filed in
+    let count = filed-count c.self.inside.bytes.items c.self.inside.spans.items index c.self.invariant.0 in
+    let within : c.in-Some.number < length c.args.self.now.payloads =
+    rw (← c.self.view_is) (omega (arith, many, count)) in
+    let same : c.bytes.result.now ≡ c.args.bytes.now = c.are_same.ensures.0 c.if-are_same.true in
+    payload-there c.args.self.now.payloads c.in-Some.number c.args.bytes.now within (sym c.bytes.ensures ∙ same)
+
+pub loop-next-preserved : goal.loop-next-preserved
+loop-next-preserved c =
+    let index = c.self.inside.index in
+    let spans = c.self.inside.spans.items in
+    record {
+      ahead = λ n same.
+          let key = filed-at c.self.inside.bytes.items c.args.bytes.now spans index c.args.key n c.self.invariant.0
+          c.requires (rw (← c.self.view_is) at same) in
+          let ahead = rw c.in-Some.is at c.loop-next.invariant.ahead n same in
+          let other : n ≢ c.in-Some.number = λ here.
+          false≢true (sym c.if-are_same.false ∙ c.are_same.ensures.1 (c.bytes.ensures
+          ∙ ap (λ (k : ℕ). payload_at c.args.self.now.payloads k) (sym here)
+          ∙ payload-read c.args.self.now.payloads n c.args.bytes.now same)) in
+          last-reach index.entries c.args.key c.in-Some.number c.before-next.result n c.before-next.ensures key.0
+          (omega (arith, ahead));
+      filed = last-filed index.entries c.args.key c.in-Some.number c.before-next.result c.before-next.ensures;
+    }

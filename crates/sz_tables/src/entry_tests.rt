@@ -1,0 +1,70 @@
+//! Payload entries as rows, with memory to spare, and the bytes of none, spelled by hand.
+
+ghost use Rattle.std.specs.Prelude.{◌≡◌, ◌<◌, ◌≤◌, ◌+◌, length, IfOk, OnOk};
+ghost use Rattle.sz_cells.specs.Extent.{flat};
+
+use crate::EntryTable;
+use std::alloc::Global;
+use std::sync::Arc;
+use std::test::Fail;
+use sz_cells::{Cell, CellSet, Run, Shape};
+use sz_region::{PayEntry, Payload};
+
+/// A shape of one row of 20 columns.
+fn row_of_20() -> Result<Shape, Fail>
+    ensures { IfOk result (λ s. s ≡ flat 1 20) }
+{
+    Ok(Shape::make(1, 20).ok_or("a row of 20 is a shape")?)
+}
+
+/// Adds the entry of one cell of the output, and a payload of one byte.
+fn add_cell(alloc: Global, table: &mut EntryTable, col: u32, byte: u8) -> Result<(), Fail>
+    requires out { table.old.out ≡ flat 1 20 }
+    requires col { col < 20 }
+    requires few { length table.old.rows < 100 }
+    ensures out { table.new.out ≡ table.old.out }
+    ensures one { OnOk result (length table.new.rows ≡ length table.old.rows + 1) }
+{
+    let set = CellSet::from_cells(alloc, row_of_20()?, &[Cell { row: 0, col }])?;
+    let payload = Payload::of(vec![in alloc; byte]?);
+    table.reserve(1, set.runs().len(), payload.bytes().len())?;
+    let out = Arc::new(alloc, set)?;
+    let payload = Arc::new(alloc, payload)?;
+    table.add(&PayEntry { out, payload });
+    Ok(())
+}
+
+#[test]
+fn equal_payloads_stand_once(rt: HostRuntime) -> Result<(), Fail> {
+    let alloc = rt.alloc();
+    let mut table = EntryTable::new(alloc, row_of_20()?)?;
+    add_cell(alloc, &mut table, 1, 70)?;
+    add_cell(alloc, &mut table, 2, 80)?;
+    add_cell(alloc, &mut table, 3, 70)?;
+    assert_eq!(rt; table.len(), 3);
+    assert_eq!(rt; table.sets(), 3);
+    assert_eq!(rt; table.payloads(), 2);
+    assert_eq!(rt; table.set_number(2), 2);
+    assert_eq!(rt; table.payload_number(1), 1);
+    assert_eq!(rt; table.payload_number(2), 0);
+    if 2 < table.sets() {
+        assert_eq!(rt; table.out_runs(2), [Run { first: 3, last: 3 }].as_slice());
+    }
+    if 1 < table.payloads() {
+        assert_eq!(rt; table.payload(1), [80].as_slice());
+    }
+    Ok(())
+}
+
+#[test]
+fn no_entry_is_three_empty_lists(rt: HostRuntime) -> Result<(), Fail> {
+    let alloc = rt.alloc();
+    let table = EntryTable::new(alloc, row_of_20()?)?;
+    let mut bytes = vec![in alloc; 9u8]?;
+    table.put_bytes(&mut bytes)?;
+    assert_eq!(rt;
+        bytes.as_slice(),
+        [9, 0, 0, 0, 0, 0, 0, 0, 0, 0, 0, 0, 0].as_slice()
+    );
+    Ok(())
+}
