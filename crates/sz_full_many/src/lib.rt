@@ -39,8 +39,6 @@ ghost use Rattle.sz_tables.specs.Stores.{IsPairOf, IsWithin, room_for_pairs, no_
 mod bounds;
 mod counting;
 mod looking;
-#[cfg(test)]
-mod tests;
 
 use crate::bounds::{add_bounds, empty_trees, reserve_trees};
 use crate::counting::runs_of_all;

@@ -38,8 +38,6 @@ mod counting;
 mod filing;
 mod index;
 mod looking;
-#[cfg(test)]
-mod tests;
 
 use crate::adding::add_regions;
 use crate::counting::needs_of;
