@@ -1,0 +1,66 @@
+-- The entries stay as they were, and so does their index.
+use Rattle.std.proofs.Common.{◌≡◌, ℕ, ◌≤◌, true, false, List, map, ap, sym, subst, ◌∙◌, arith}
+use Rattle.std.specs.Prelude.{All}
+use Rattle.std.specs.Arc.{arc_value}
+use Rattle.sz_cells.specs.Extent.{size_of}
+use Rattle.sz_spec.specs.Modes.{has_mapping}
+use Rattle.sz_spec.specs.Payloads.{is_payload}
+use Rattle.sz_spec.specs.Shapes.{Site}
+use Rattle.sz_spec.specs.Values.{extent_at}
+use Rattle.sz_region.specs.Fits.{AreApart}
+use Rattle.sz_region.specs.Parts.{Entry}
+use Rattle.sz_tables.specs.Entries.{EntryRows, entries}
+use Rattle.sz_payload.specs.Kept.{Keeping, IsEntryOf}
+use Rattle.sz_payload.specs.Owned.{IsIndexOf}
+use Rattle.sz_payload.proofs.Operators.{own-shape}
+use Rattle.sz_payload.proofs.Short.{entries-short}
+use Rattle.sz_payload.proofs.store.PayStore.reserve_all.Goals as goal
+
+pub bytes_of_all-bytes-requires-clause-short : goal.bytes_of_all-bytes-requires-clause-short
+bytes_of_all-bytes-requires-clause-short g c =
+    let s = c.deref.result.now in
+    let none : has_mapping s.op ≡ false =
+    subst (λ (t : Site). has_mapping t.op ≡ false) (sym c.deref.ensures) c.self.invariant.0.none in
+    let first = own-shape s.op s.ins s.out none c.out.ensures.rule in
+    let few : size_of (extent_at s.ins 0) ≤ 1048576 = omega (
+      arith,
+      c.size.ensures.few,
+      c.size.ensures.value,
+      ap size_of c.out.ensures.value,
+      ap size_of first,
+    ) in
+    let es : List Entry = map (λ a. arc_value a) c.args.entries.now in
+    let own : c.args.self.now.store.site ≡ s =
+    sym (ap (λ (k : Keeping). k.store.site) c.self.view_is) ∙ sym c.deref.ensures in
+    entries-short s es few (subst (λ (t : Site). All (IsEntryOf t) es) own c.requires.entries)
+
+pub invariant_of-self : goal.invariant_of-self
+invariant_of-self g c =
+    let held = c.self.invariant.0 in (
+      record {
+        none = held.none;
+        out = held.out;
+        lawful = held.lawful;
+        apart = held.apart;
+        index = c.reserve.ensures.kept (arc_value c.self.inside.at).out (entries c.self.inside.table) held.index;
+      },
+      c.self.invariant.1,
+    )
+
+pub invariant_of-self-2 : goal.invariant_of-self-2
+invariant_of-self-2 g c =
+    let site = arc_value c.self.inside.at in
+    let held = c.self.invariant.0 in
+    let kept = c.reserve-2.ensures.kept in
+    let same = ap entries kept in (
+      record {
+        none = held.none;
+        out = ap (λ (t : EntryRows). t.out) kept ∙ held.out;
+        lawful = subst (λ (ps : List (List ℕ)). All (λ (p : List ℕ). is_payload site.op site.ins p ≡ true) ps)
+            (sym (ap (λ (t : EntryRows). t.payloads) kept)) held.lawful;
+        apart = subst AreApart (sym same) held.apart;
+        index = subst (λ (es : List Entry). IsIndexOf site.out es c.reserve.new.self) (sym same)
+            (c.reserve.ensures.kept site.out (entries c.self.inside.table) held.index);
+      },
+      c.self.invariant.1,
+    )

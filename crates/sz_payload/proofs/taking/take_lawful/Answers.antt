@@ -1,0 +1,49 @@
+-- The table of payloads has one reading, so it tells whether the store is one of the operator.
+use Rattle.std.proofs.Common.{◌++◌, List, map, refl, subst}
+use Rattle.std.specs.Arc.{arc_value}
+use Rattle.sz_cells.specs.Extent.{Extent}
+use Rattle.sz_cells.specs.SetBytes.{set_bytes}
+use Rattle.sz_region.specs.Counted.{counted, rows_bytes}
+use Rattle.sz_region.specs.Parts.{Entry}
+use Rattle.sz_region.specs.PayBytes.{BeginsEntries}
+use Rattle.sz_region.specs.Stores.{SaysNoEntries}
+use Rattle.sz_payload.proofs.Judged.{table-of, forget, judge, says-none}
+use Rattle.sz_payload.proofs.taking.take_lawful.Goals as goal
+
+pub are_lawful-requires-clause-table : goal.are_lawful-requires-clause-table
+are_lawful-requires-clause-table c =
+    let s = c.args.at.now in
+    let es : List Entry = map (λ x. arc_value x) c.in-Ok.taken.0.items in
+    let b = subst (λ (e : Extent). BeginsEntries e c.args.bytes.now c.args.from c.in-Ok.taken.1 es) c.out.ensures.value
+    c.in-Ok.ensures.ok in (
+      b.payloads,
+      counted set_bytes b.sets ++ (rows_bytes b.is_word.names ++ b.rest),
+      table-of s c.args.bytes.now c.args.from c.in-Ok.taken.1 es b,
+    )
+
+pub returns-then-are_lawful-clause-ok : goal.returns-then-are_lawful-clause-ok
+returns-then-are_lawful-clause-ok c =
+    let s = c.args.at.now in
+    let es : List Entry = map (λ x. arc_value x) c.in-Ok.taken.0.items in
+    let b = subst (λ (e : Extent). BeginsEntries e c.args.bytes.now c.args.from c.in-Ok.taken.1 es) c.out.ensures.value
+    c.in-Ok.ensures.ok in
+    judge s c.args.bytes.now c.args.from c.in-Ok.taken.1 es b
+    (c.are_lawful.ensures.yes c.if-are_lawful.true b.payloads
+    (counted set_bytes b.sets ++ (rows_bytes b.is_word.names ++ b.rest))
+    (table-of s c.args.bytes.now c.args.from c.in-Ok.taken.1 es b))
+
+pub returns-else-are_lawful-clause-err : goal.returns-else-are_lawful-clause-err
+returns-else-are_lawful-clause-err c =
+    let s = c.args.at.now in (
+      refl,
+      λ next es b. c.are_lawful.ensures.no c.if-are_lawful.false b.payloads
+          (counted set_bytes b.sets ++ (rows_bytes b.is_word.names ++ b.rest))
+          (table-of s c.args.bytes.now c.args.from next es (forget s c.args.bytes.now c.args.from next es b)) b.lawful,
+    )
+
+pub returns-in-Err-clause-err : goal.returns-in-Err-clause-err
+returns-in-Err-clause-err c =
+    let s = c.args.at.now in
+    says-none s c.args.bytes.now c.args.from c.in-Err.fault
+    (subst (λ (e : Extent). SaysNoEntries e c.args.bytes.now c.args.from c.in-Err.fault) c.out.ensures.value
+    c.in-Err.ensures.err)

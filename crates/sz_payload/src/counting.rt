@@ -1,0 +1,48 @@
+//! How many runs the sets of entries have, and how many bytes their payloads.
+
+ghost use Rattle.std.specs.Prelude.{◌≡◌, ◌<◌, ◌≤◌, ◌*◌, ◌^◌, length, map, sum_by, All};
+ghost use Rattle.std.specs.Arc.{arc_value};
+ghost use Rattle.sz_region.specs.PayBytes.{IsShort};
+ghost use Rattle.sz_tables.specs.Rows.{runs_in};
+ghost use Rattle.sz_tables.specs.Stores.{cells_in, most_given};
+
+use std::sync::Arc;
+use sz_cells::CellSet;
+use sz_region::PayEntry;
+
+/// How many runs the sets of all these entries have.
+pub(crate) fn runs_of_all(entries: &[Arc<PayEntry>]) -> usize
+    requires { length entries.now ≤ most_given }
+    ensures runs { result ≡ sum_by (λ e. runs_in e.out) (map (λ a. arc_value a) entries.now) }
+    ensures cells { sum_by (λ e. cells_in e.out) (map (λ a. arc_value a) entries.now)
+        ≤ result * 1048576 }
+{
+    let mut runs = 0;
+    for entry in entries {
+        runs += runs_of_set(&entry.out);
+    }
+    runs
+}
+
+/// How many bytes the payloads of all these entries have.
+pub(crate) fn bytes_of_all(entries: &[Arc<PayEntry>]) -> usize
+    requires few { length entries.now ≤ most_given }
+    requires short { All (λ e. IsShort e.payload) (map (λ a. arc_value a) entries.now) }
+    ensures { result ≡ sum_by (λ e. length e.payload) (map (λ a. arc_value a) entries.now) }
+{
+    let mut bytes = 0;
+    for entry in entries {
+        bytes += entry.payload.bytes().len();
+    }
+    bytes
+}
+
+/// How many runs a set has. None of them is longer than the largest shape.
+fn runs_of_set(set: &CellSet) -> usize
+    ensures runs { result ≡ runs_in set.now }
+    ensures few { result ≤ 1048576 }
+    ensures cells { cells_in set.now ≤ result * 1048576 }
+{
+    set.shape().size(); // its runs are within a shape
+    set.runs().len()
+}

@@ -1,0 +1,167 @@
+//! Looks in both directions, whichever way entries are found, and their bytes. What each look finds
+//! was worked by hand, and so were the bytes.
+//!
+//! The operator is `lookup`, from 2 rows of 3 and a table of one row of 4. Cells 0 and 1 of the
+//! output name column 1, cell 3 names none, and the others are in no entry.
+
+ghost use Rattle.std.specs.Prelude.{◌≡◌, ◌<◌, ◌≤◌, [], ◌∷◌, IfOk};
+ghost use Rattle.std.specs.Arc.{arc_value};
+ghost use Rattle.sz_cells.specs.Extent.{flat};
+ghost use Rattle.sz_spec.specs.declared.op.Op.TheVariants.{Lookup};
+
+use crate::{PayMap, PayStore};
+use std::alloc::Global;
+use std::sync::Arc;
+use std::test::Fail;
+use sz_cells::{Cell, CellBits, CellSet, Run, Shape};
+use sz_region::{PayEntry, Payload, PieceLineage, Take};
+use sz_spec::{Dir, Op, OpAt};
+
+/// Two payloads, none and that of column 1; two sets, {0, 1} and {3}; and the two entries.
+const BYTES: [u8; 64] = [
+    0, 0, 0, 2, 0, 0, 0, 0, 0, 0, 0, 4, 0, 0, 0, 1, 0, 0, 0, 2, 0, 0, 0, 1, 0, 0, 0, 0, 0, 0, 0, 1,
+    0, 0, 0, 1, 0, 0, 0, 3, 0, 0, 0, 3, 0, 0, 0, 2, 0, 0, 0, 0, 0, 0, 0, 1, 0, 0, 0, 1, 0, 0, 0, 0,
+];
+
+/// The output's shape, which is that of input 0.
+fn picture() -> Result<Shape, Fail>
+    ensures { IfOk result (λ s. s ≡ flat 2 3) }
+{
+    Ok(Shape::make(2, 3).ok_or("two rows of three are a shape")?)
+}
+
+/// The shape of input 1.
+fn table() -> Result<Shape, Fail>
+    ensures { IfOk result (λ s. s ≡ flat 1 4) }
+{
+    Ok(Shape::make(1, 4).ok_or("a row of four is a shape")?)
+}
+
+/// `lookup` between these shapes.
+fn sample(alloc: Global) -> Result<Arc<OpAt>, Fail>
+    ensures { IfOk result (λ a. arc_value a
+        ≡ record { op = Lookup; ins = flat 2 3 ∷ flat 1 4 ∷ []; out = flat 2 3 }) }
+{
+    let ins = vec![in alloc; picture()?, table()?]?;
+    match OpAt::of(Op::Lookup, ins) {
+        Ok(at) => Ok(Arc::new(alloc, at)?),
+        Err(_) => Err("the table has one row")?,
+    }
+}
+
+/// The store of the entries.
+fn store(alloc: Global, many: bool, comp: bool) -> Result<PayStore<PayMap>, Fail>
+    ensures out { IfOk result (λ s. s.store.site.out ≡ flat 2 3) }
+    ensures ins { IfOk result (λ s. s.store.site.ins ≡ flat 2 3 ∷ flat 1 4 ∷ []) }
+{
+    let at = sample(alloc)?;
+    let map = PayMap::new(sample(alloc)?);
+    let (store, _) = PayStore::take_bytes(alloc, map, at, many, comp, &BYTES, 0)?;
+    Ok(store)
+}
+
+/// The run from one index to another.
+fn run(first: u32, last: u32) -> Run
+    ensures { result ≡ record { first = first; last = last } }
+{
+    Run { first, last }
+}
+
+/// Whether a look from the cells of a run finds those of these runs.
+fn finds(
+    alloc: Global,
+    store: &PayStore<PayMap>,
+    dir: Dir,
+    input: u32,
+    from: Run,
+    want: &[Run],
+) -> Result<bool, Fail>
+    requires out { store.now.store.site.out ≡ flat 2 3 }
+    requires ins { store.now.store.site.ins ≡ flat 2 3 ∷ flat 1 4 ∷ [] }
+    requires input { input < 2 }
+    requires order { from.first ≤ from.last }
+    requires within { from.last < 4 }
+{
+    let side = if input == 0 { picture()? } else { table()? };
+    let (near, far) = match dir {
+        Dir::Back => (picture()?, side),
+        Dir::Forward => (side, picture()?),
+    };
+    let mut asked = CellBits::new(alloc, near)?;
+    asked.add_run(from);
+    let mut to = CellBits::new(alloc, far)?;
+    store.image(dir, input, &asked, &mut to);
+    Ok(to.to_set(alloc)?.runs() == want)
+}
+
+/// Whether looks find what they are to find, of payload or of composite lineage.
+fn is_right(alloc: Global, store: &PayStore<PayMap>, comp: bool) -> Result<bool, Fail>
+    requires out { store.now.store.site.out ≡ flat 2 3 }
+    requires ins { store.now.store.site.ins ≡ flat 2 3 ∷ flat 1 4 ∷ [] }
+{
+    let first = if comp { run(0, 2) } else { run(0, 1) };
+    Ok(
+        finds(alloc, store, Dir::Back, 1, run(0, 3), &[run(1, 1)])?
+            && finds(alloc, store, Dir::Back, 1, run(2, 3), &[])?
+            && finds(alloc, store, Dir::Back, 0, run(3, 3), &[run(3, 3)])?
+            && finds(alloc, store, Dir::Back, 0, run(0, 2), &[first])?
+            && finds(alloc, store, Dir::Forward, 1, run(1, 2), &[run(0, 1)])?
+            && finds(alloc, store, Dir::Forward, 1, run(2, 3), &[])?
+            && finds(alloc, store, Dir::Forward, 0, run(0, 2), &[first])?
+            && finds(alloc, store, Dir::Forward, 0, run(3, 3), &[run(3, 3)])?,
+    )
+}
+
+#[test]
+fn stores_of_payload_lineage_answer_both_ways(rt: HostRuntime) -> Result<(), Fail> {
+    let alloc = rt.alloc();
+    assert!(rt; is_right(alloc, &store(alloc, false, false)?, false)?);
+    assert!(rt; is_right(alloc, &store(alloc, true, false)?, false)?);
+    Ok(())
+}
+
+#[test]
+fn stores_of_composite_lineage_have_defaults(rt: HostRuntime) -> Result<(), Fail> {
+    let alloc = rt.alloc();
+    assert!(rt; is_right(alloc, &store(alloc, false, true)?, true)?);
+    assert!(rt; is_right(alloc, &store(alloc, true, true)?, true)?);
+    Ok(())
+}
+
+#[test]
+fn what_is_written_is_what_was_read(rt: HostRuntime) -> Result<(), Fail> {
+    let alloc = rt.alloc();
+    let mut bytes = vec![in alloc; 0u8; 0]?;
+    store(alloc, false, false)?.put_bytes(&mut bytes)?;
+    // the payloads are numbered in the order of the entries: that of column 1 comes first
+    assert_eq!(rt; bytes.len(), BYTES.len());
+    assert_eq!(rt; bytes[7], 4);
+    Ok(())
+}
+
+#[test]
+fn a_payload_that_no_entry_names_is_judged(rt: HostRuntime) -> Result<(), Fail> {
+    let alloc = rt.alloc();
+    let bytes = [0, 0, 0, 1, 0, 0, 0, 4, 0, 0, 0, 4, 0, 0, 0, 0, 0, 0, 0, 0]; // column 4 of 4
+    let map = PayMap::new(sample(alloc)?);
+    let fault = PayStore::take_bytes(alloc, map, sample(alloc)?, true, false, &bytes, 0).err();
+    assert_eq!(rt; fault, Some(Take::Bad { at: 0 }));
+    Ok(())
+}
+
+#[test]
+fn an_entry_that_is_added_is_found(rt: HostRuntime) -> Result<(), Fail> {
+    let alloc = rt.alloc();
+    let cell = Cell { row: 1, col: 0 };
+    let out = Arc::new(alloc, CellSet::from_cells(alloc, picture()?, &[cell])?)?;
+    let payload = Arc::new(alloc, Payload::of(vec![in alloc; 0, 0, 0, 3]?))?;
+    let mut lineage = PieceLineage::new(alloc, 0);
+    lineage.lwrite_payload(PayEntry { out, payload }, false)?;
+    let map = PayMap::new(sample(alloc)?);
+    let mut store = PayStore::new(alloc, map, sample(alloc)?, true, false)?;
+    store.reserve_piece(&lineage)?;
+    store.add_piece(&lineage);
+    assert!(rt; finds(alloc, &store, Dir::Back, 1, run(3, 3), &[run(3, 3)])?);
+    assert!(rt; finds(alloc, &store, Dir::Forward, 1, run(3, 3), &[run(3, 3)])?);
+    Ok(())
+}
