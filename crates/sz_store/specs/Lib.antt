@@ -1,0 +1,7 @@
+-- What the stores of a node keep and stand for, their bytes, what stays true of them, and the law
+-- of a store in which each piece was placed.
+pub mod Kept
+pub mod Stocks
+pub mod Words
+pub mod Stocked
+pub mod Laws

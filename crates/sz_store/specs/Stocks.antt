@@ -1,0 +1,75 @@
+-- One store, whichever sort it is: a further sort is a further line in `stock_of`.
+use Rattle.std.specs.Prelude.{ℕ, ◌+◌, ◌≤◌, ◌++◌, length, true, false, All}
+use Rattle.sz_spec.specs.declared.modes.Mode.{Mode}
+use Rattle.sz_spec.specs.declared.modes.Mode.TheVariants as mode
+use Rattle.sz_spec.specs.Shapes.{Site}
+use Rattle.sz_region.specs.Parts.{Parts}
+use Rattle.sz_region.specs.Fits.{AreApart}
+use Rattle.sz_tables.specs.Stores.{Room, IsWithin, IsPairOf, no_room, most_given}
+use Rattle.sz_tables.specs.Stores.{room_for_pairs, room_for_entries}
+use Rattle.sz_store.specs.Kept.{Holding, regions, entries, Keep, nothing_for}
+use Rattle.sz_payload.specs.Kept.{IsEntryOf, part_of}
+use Rattle.sz_store.specs.declared.kept.KeptStore.{KeptStore}
+use Rattle.sz_store.specs.declared.kept.KeptStore.TheVariants.{One, Many, Pay}
+use Rattle.sz_store.specs.declared.stores.ListedStore.{ListedStore}
+
+-- a store: the operator at its shapes, what it keeps, and for how much more there is room
+pub record Stock : Type 0 where
+  pub site : Site
+  pub holding : Holding
+  pub room : Room
+
+abbrev pub stock_of : KeptStore → Stock
+stock_of (One s) = record { site = s.site; holding = regions s.given; room = s.room }
+stock_of (Many s) = record { site = s.site; holding = regions s.given; room = s.room }
+stock_of (Pay s) = record {
+  site = s.store.site;
+  holding = entries s.comp s.store.given;
+  room = s.store.room;
+}
+
+-- a store of a list, as the node's stores have it, and the operator that it is for
+abbrev pub keep_of : ListedStore → Keep
+keep_of l = record { strategy = l.strategy; holding = (stock_of l.kept).holding }
+
+abbrev pub site_of : ListedStore → Site
+site_of l = (stock_of l.kept).site
+
+-- the store of a mode before anything is placed
+abbrev pub empty_stock : Site → Mode → Stock
+empty_stock s m = record { site = s; holding = nothing_for m; room = no_room }
+
+-- the mode of what is kept
+abbrev pub mode_in : Holding → Mode
+mode_in (regions rs) = mode.Full
+mode_in (entries false es) = mode.Pay
+mode_in (entries true es) = mode.Comp
+
+-- how many region pairs or entries are kept, and how many a lineage has for them
+abbrev pub count_in : Holding → ℕ
+count_in (regions rs) = length rs
+count_in (entries comp es) = length es
+
+abbrev pub more_in : Parts → Holding → ℕ
+more_in p (regions rs) = length p.regions
+more_in p (entries comp es) = length (part_of comp p)
+
+-- the room that a lineage's part needs
+abbrev pub room_for : Parts → Holding → Room
+room_for p (regions rs) = room_for_pairs p.regions
+room_for p (entries comp es) = room_for_entries (part_of comp p)
+
+-- a lineage's part is one of the operator's, and no cell of its entries is in an entry that is kept
+abbrev pub IsPartOf : Site → Parts → Holding → Type 0
+IsPartOf s p (regions rs) = All (IsPairOf s) p.regions
+IsPartOf s p (entries comp es) =
+    All (IsEntryOf s) (part_of comp p) × AreApart (es ++ part_of comp p)
+
+-- a store can be given a lineage's part
+pub record CanGrow (p : Parts) (k : Stock) : Type 0 where
+  pub few : count_in k.holding + more_in p k.holding ≤ most_given
+  pub part : IsPartOf k.site p k.holding
+
+-- it has the room for it
+abbrev pub HasRoomFor : Parts → Stock → Type 0
+HasRoomFor p k = IsWithin (room_for p k.holding) k.room

@@ -1,0 +1,15 @@
+//! Laws of the definitions, for a reader: each function has an empty body, and its contract is the
+//! law.
+
+ghost use Rattle.sz_store.specs.Laws.{FittingLineagesCanBePlaced, PlacedPiecesMakeTheRelation};
+
+/// A lineage that fits its piece can be placed.
+pub fn fitting_lineages_can_be_placed()
+    ensures { FittingLineagesCanBePlaced }
+{}
+
+/// Where a fitting lineage of each piece is placed, the stores are whole, and each stands for
+/// exactly the relation.
+pub fn placed_pieces_make_the_relation()
+    ensures { PlacedPiecesMakeTheRelation }
+{}
