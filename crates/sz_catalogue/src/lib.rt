@@ -44,6 +44,3 @@ pub use catalogue::Catalogue;
 pub use lists::{BaseArrays, StrategyLists};
 pub use reply::{Reply, reply_text};
 pub use version::{BaseArray, HeldVersion};
-
-#[cfg(test)]
-mod tests;

@@ -244,6 +244,3 @@ impl Shape {
         }
     }
 }
-
-#[cfg(test)]
-mod tests;

@@ -71,8 +71,6 @@ ghost use Rattle.sz_claims.specs.Claims.{AreDisjoint, newcomer};
 
 pub mod laws;
 mod rule;
-#[cfg(test)]
-mod tests;
 mod words;
 
 use crate::rule::View;

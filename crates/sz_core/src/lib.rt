@@ -45,6 +45,3 @@ pub use asks::CoreAsk;
 pub use events::{Event, Told};
 pub use machine::Machine;
 pub use pairs::{Pair, ShelfPairs};
-
-#[cfg(test)]
-mod tests;

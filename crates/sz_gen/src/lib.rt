@@ -23,8 +23,6 @@
 mod draft;
 pub mod laws;
 mod load;
-#[cfg(test)]
-mod tests;
 
 pub use load::{session_text, summary_text};
 use std::alloc::AllocError;

@@ -60,6 +60,3 @@ impl From<Failed> for LogFault {
 pub fn groups_are_read()
     ensures { GroupsAreRead }
 {}
-
-#[cfg(test)]
-mod tests;

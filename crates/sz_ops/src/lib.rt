@@ -23,8 +23,6 @@ mod aid;
 mod calls;
 mod op_map;
 mod table;
-#[cfg(test)]
-mod tests;
 
 pub use aid::Aid;
 pub use calls::{image_by_map, piece, prepare, run, run_prepared, trace, value_at};

@@ -95,7 +95,7 @@ enum Call<'a> {
 }
 
 /// Makes a call on a disk, where its place is one.
-fn call_disk(station: &mut MemStation, call: Call<'_>) -> Result<(), Failed> {
+fn call_disk<S: Station>(station: &mut S, call: Call<'_>) -> Result<(), Failed> {
     let size = station.size()?;
     match call {
         Call::Write(at, bytes) => {
@@ -113,18 +113,34 @@ fn call_disk(station: &mut MemStation, call: Call<'_>) -> Result<(), Failed> {
     Err(Failed)
 }
 
-/// Whether a stop leaves these images, and the disk reads as the second of them.
-fn leaves(station: &mut MemStation, alloc: Global, images: [&[u8]; 3]) -> Result<bool, Fail> {
+fn size_of_disk<S: Station>(station: &mut S) -> Result<u64, Failed> {
+    station.size()
+}
+
+fn read_disk<S: Station>(station: &mut S, at: u64, into: &mut [u8]) -> Result<usize, Failed> {
+    station.read_at(at, into)
+}
+
+/// Whether a disk of at most 16 bytes reads as these, and has no byte behind place 16.
+fn reads_as<S: Station>(station: &mut S, bytes: &[u8]) -> Result<bool, Failed> {
     let mut into = [0; 16];
     let read = station.read_at(0, &mut into)?;
     let past = station.read_at(17, &mut [0; 4])?;
+    Ok(past == 0 && &into[..read] == bytes)
+}
+
+/// Whether a stop leaves these images.
+fn has_images(station: &MemStation, alloc: Global, images: [&[u8]; 3]) -> Result<bool, Fail> {
     Ok(
-        past == 0
-            && &into[..read] == images[1]
-            && station.image(alloc, Torn::Old)?.as_slice() == images[0]
+        station.image(alloc, Torn::Old)?.as_slice() == images[0]
             && station.image(alloc, Torn::New)?.as_slice() == images[1]
             && station.image(alloc, Torn::Ones)?.as_slice() == images[2],
     )
+}
+
+/// Whether a stop leaves these images, and the disk reads as the second of them.
+fn leaves(station: &mut MemStation, alloc: Global, images: [&[u8]; 3]) -> Result<bool, Fail> {
+    Ok(reads_as(station, images[1])? && has_images(station, alloc, images)?)
 }
 
 #[test]
@@ -213,15 +229,15 @@ fn a_real_file_is_a_disk(rt: HostRuntime) -> Result<(), Fail> {
         .open(&rt, path)?;
     let mut station = FileStation::over(&rt, file);
     let mut into = [0; 8];
-    assert_eq!(rt; station.write_at(0, b"lineage"), Ok(()));
-    assert_eq!(rt; station.write_at(3, b"ked"), Ok(()));
-    assert_eq!(rt; station.size(), Ok(7));
-    assert_eq!(rt; station.read_at(2, &mut into), Ok(5));
+    assert_eq!(rt; call_disk(&mut station, Call::Write(0, b"lineage")), Ok(()));
+    assert_eq!(rt; call_disk(&mut station, Call::Write(3, b"ked")), Ok(()));
+    assert_eq!(rt; size_of_disk(&mut station), Ok(7));
+    assert_eq!(rt; read_disk(&mut station, 2, &mut into), Ok(5));
     assert_eq!(rt; into, *b"nkede\0\0\0");
-    assert_eq!(rt; station.cut(4), Ok(()));
-    assert_eq!(rt; station.sync(), Ok(()));
-    assert_eq!(rt; station.read_at(0, &mut into[..2]), Ok(2));
-    assert_eq!(rt; station.read_at(9, &mut into), Ok(0));
+    assert_eq!(rt; call_disk(&mut station, Call::Cut(4)), Ok(()));
+    assert_eq!(rt; call_disk(&mut station, Call::Sync), Ok(()));
+    assert_eq!(rt; read_disk(&mut station, 0, &mut into[..2]), Ok(2));
+    assert_eq!(rt; read_disk(&mut station, 9, &mut into), Ok(0));
     assert_eq!(rt; station.write_at(1 << 62, b"x"), Err(Failed));
     assert_eq!(rt; fs::read(&rt, path)?.as_slice(), b"link".as_slice());
     fs::remove_file(&rt, path)?;

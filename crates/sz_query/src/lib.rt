@@ -24,8 +24,6 @@
 pub mod laws;
 mod path;
 mod steps;
-#[cfg(test)]
-mod tests;
 mod used;
 mod views;
 

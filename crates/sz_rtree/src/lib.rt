@@ -49,8 +49,6 @@ ghost use Rattle.sz_rtree.specs.Rectangles.{IsNextHit};
 pub mod laws;
 mod levels;
 mod search;
-#[cfg(test)]
-mod tests;
 
 use crate::levels::{Level, add_to_all, empty_levels, reserve_all, reserve_bounds};
 use crate::search::first_hit;

@@ -27,8 +27,6 @@ mod name;
 mod nodes;
 mod reading;
 mod refusal;
-#[cfg(test)]
-mod tests;
 mod words;
 
 pub use command::{BaseName, Command, LineFault, NamedCell, PathStep};

@@ -45,8 +45,6 @@ mod pieces;
 mod shapes;
 mod squares;
 mod tally;
-#[cfg(test)]
-mod tests;
 
 pub use array::{Array, ArrayList, Value};
 pub use flow::{Flow, FlowFault, Node, SourceList, SourceRef};

@@ -36,8 +36,6 @@ ghost use Rattle.sz_words.specs.Numbers.{HasNumbers};
 ghost use Rattle.sz_words.specs.Place.{place_of, path_and_make};
 
 mod arguments;
-#[cfg(test)]
-mod tests;
 
 use arguments::{fitting_mode, makes_log, matches_of, number, text};
 use std::alloc::{AllocError, Global};

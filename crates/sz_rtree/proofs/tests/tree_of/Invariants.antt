@@ -1,6 +1,0 @@
--- The key idea: each rectangle uses up one of the places that room was made for.
-use Rattle.std.proofs.Common.{◌+◌, ◌≤◌, length}
-use Rattle.sz_rtree.proofs.tests.tree_of.Given as goal
-
-abbrev pub invariant-loop-rectangle : goal.invariant-loop-rectangle
-invariant-loop-rectangle l = length l.rectangles ≤ l.tree.spare + l.rectangle-index

@@ -1,0 +1,90 @@
+//! Lines read and refused, with the running reader. Which number comes where is worked out line by
+//! line in proofs/Rows*.antt.
+
+use std::alloc::{AllocError, Global};
+use sz_script::{LINE_LIMIT, LineFault, read_line, strategy_name, strategy_named};
+use sz_spec::Strategy;
+
+/// The number of the refusal of a line, and nothing where it is a command.
+fn refused(alloc: Global, line: &[u8]) -> Option<u32> {
+    match read_line(alloc, line) {
+        Ok(_) => None,
+        Err(LineFault::Refused(refusal)) => Some(refusal.printed().number),
+        Err(LineFault::NoMemory) => Some(u32::MAX),
+    }
+}
+
+#[test]
+fn lines_are_read_or_refused(rt: HostRuntime) {
+    let alloc = rt.alloc();
+    let array = r#" {"cells": [[1,null],[-3,9223372036854775807]], "array": "\u0073ky_9"} "#;
+    let flow = r#"{"flow":"f","inputs":1,"nodes":[
+        {"op":"convolve","kernel":[[0,-1,0]],"from":[{"i":0}]},
+        {"op":"block","fold":"count","h":2,"w":3,"from":[{"n":0}]}]}"#;
+    let ask = r#"{"ask":2,"dir":"forward","path":[[0,1]],"cells":[[3,4],[5,6,7]]}"#;
+    assert!(rt; refused(alloc, array.as_bytes()) == None);
+    assert!(rt; refused(alloc, br#"{"layers":"a","cells":[[[1,2]],[[3,null]]]}"#) == None);
+    assert!(rt; refused(alloc, flow.as_bytes()) == None);
+    assert!(rt; refused(alloc, br#"{"strategy":"f","node":3,"list":["full_one_b"]}"#) == None);
+    assert!(rt; refused(alloc, br#"{"start":"minus","base":[["sky",4294967295]]}"#) == None);
+    assert!(rt; refused(alloc, br#"{"await":"x","await":1}"#) == None);
+    assert!(rt; refused(alloc, ask.as_bytes()) == None);
+    assert!(rt; refused(alloc, br#"{"explain":1,"dir":"back","path":[],"cells":[]}"#) == None);
+    assert!(rt; refused(alloc, br#"{"show":1,"node":0}"#) == None);
+    assert!(rt; refused(alloc, b"{\"await\":\"\xff\"}") == Some(1));
+    assert!(rt; refused(alloc, br#"{"csv":"a","text":"1"}"#) == Some(3));
+    assert!(rt; refused(alloc, br#"{"start":"f","base":[["A",1]]}"#) == Some(4));
+    assert!(rt; refused(alloc, br#"{"array":"a","cells":[[1],[1,2]]}"#) == Some(5));
+    assert!(rt; refused(alloc, br#"{"flow":"f","inputs":1,"nodes":[]}"#) == Some(8));
+    assert_eq!(rt; strategy_name(Strategy::PayMany), "pay_many");
+    assert!(rt; strategy_named("blackbox") == Some(Strategy::BlackBox));
+}
+
+/// A line that holds an array of so many rows of so many zeros, the last cell being this text.
+fn zeros(alloc: Global, rows: u32, cols: u32, last: &str) -> Result<Vec<u8>, AllocError> {
+    let mut line = Vec::new(alloc);
+    line.extend_from_slice(br#"{"array":"a","cells":["#)?;
+    for row in 0..rows {
+        line.extend_from_slice(if row == 0 { b"[" } else { b",[" })?;
+        for _ in 1..cols {
+            line.extend_from_slice(b"0,")?;
+        }
+        line.extend_from_slice(if row + 1 == rows {
+            last.as_bytes()
+        } else {
+            b"0"
+        })?;
+        line.extend_from_slice(b"]")?;
+    }
+    line.extend_from_slice(b"]}")?;
+    Ok(line)
+}
+
+#[test]
+fn cells_are_too_many_where_none_is_bad(rt: HostRuntime) -> Result<(), AllocError> {
+    let alloc = rt.alloc();
+    let most = zeros(alloc, 1_024, 1_024, "0")?;
+    assert!(rt; refused(alloc, &most) == None);
+    let more = zeros(alloc, 1_025, 1_024, "0")?;
+    assert!(rt; refused(alloc, &more) == Some(6));
+    let bad = zeros(alloc, 1_025, 1_024, "-0")?;
+    assert!(rt; refused(alloc, &bad) == Some(5));
+    let row = zeros(alloc, 1, 1_048_577, "0")?;
+    assert!(rt; refused(alloc, &row) == Some(6));
+    Ok(())
+}
+
+#[test]
+fn a_line_is_as_long_as_the_limit(rt: HostRuntime) -> Result<(), AllocError> {
+    let alloc = rt.alloc();
+    let mut line = Vec::with_capacity(alloc, LINE_LIMIT + 1)?;
+    line.extend_from_slice(br#"{"await":1}"#)?;
+    line.resize(LINE_LIMIT, b' ')?;
+    assert!(rt; refused(alloc, &line) == None);
+    line.extend_from_slice(b" ")?;
+    assert!(rt; refused(alloc, &line) == Some(2));
+    line.resize(LINE_LIMIT, b' ')?;
+    line.extend_from_slice(b"x")?;
+    assert!(rt; refused(alloc, &line) == Some(2));
+    Ok(())
+}

@@ -1,0 +1,105 @@
+//! The bytes of a set as they are written, each fault of bytes that are no set, and one cell or
+//! none as a set.
+
+ghost use Rattle.std.specs.Prelude.{◌≡◌, IfOk};
+ghost use Rattle.sz_cells.specs.Extent.{flat};
+
+use std::alloc::Global;
+use std::test::Fail;
+use sz_cells::{Cell, CellBits, CellSet, Run, Shape};
+use sz_region::{Take, add_cell, has_cell, put_set, set_of_cell, take_set};
+
+/// The shape of four rows and five columns.
+fn four_by_five() -> Result<Shape, Fail>
+    ensures { IfOk result (λ s. s ≡ flat 4 5) }
+{
+    Ok(Shape::make(4, 5).ok_or("four rows of five columns are a shape")?)
+}
+
+#[test]
+fn a_set_is_written_and_read_again(rt: HostRuntime) -> Result<(), Fail> {
+    let alloc = rt.alloc();
+    let shape = four_by_five()?;
+    let cells = [
+        Cell { row: 2, col: 0 },
+        Cell { row: 1, col: 1 },
+        Cell { row: 1, col: 0 },
+        Cell { row: 1, col: 2 },
+    ];
+    let set = CellSet::from_cells(alloc, shape, &cells)?;
+    let mut bytes = vec![in alloc; 9u8]?;
+    put_set(&set, &mut bytes)?;
+    assert_eq!(rt;
+        bytes.as_slice(),
+        [
+            9, 0, 0, 0, 2, 0, 0, 0, 5, 0, 0, 0, 7, 0, 0, 0, 10, 0, 0, 0, 10
+        ]
+        .as_slice()
+    );
+    bytes.push(1)?;
+    let (again, next) = take_set(alloc, shape, &bytes, 1)?;
+    assert_eq!(rt; next, 21);
+    assert_eq!(rt;
+        again.runs(),
+        [
+            Run { first: 5, last: 7 },
+            Run {
+                first: 10,
+                last: 10
+            }
+        ]
+        .as_slice()
+    );
+    assert_eq!(rt; again.count(), 4);
+    Ok(())
+}
+
+/// Whether the bytes are refused, behind one byte, at that place.
+fn is_refused(alloc: Global, bytes: &[u8]) -> Result<bool, Fail> {
+    let fault = take_set(alloc, four_by_five()?, bytes, 1).err();
+    Ok(fault == Some(Take::Bad { at: 1 }))
+}
+
+#[test]
+fn bytes_of_no_set_are_refused(rt: HostRuntime) -> Result<(), Fail> {
+    let alloc = rt.alloc();
+    let turned_round = [9, 0, 0, 0, 1, 0, 0, 0, 7, 0, 0, 0, 5];
+    assert!(rt; is_refused(alloc, &turned_round)?);
+    let touching = [
+        9, 0, 0, 0, 2, 0, 0, 0, 5, 0, 0, 0, 7, 0, 0, 0, 8, 0, 0, 0, 8,
+    ];
+    assert!(rt; is_refused(alloc, &touching)?);
+    let out_of_range = [9, 0, 0, 0, 1, 0, 0, 0, 19, 0, 0, 0, 20];
+    assert!(rt; is_refused(alloc, &out_of_range)?);
+    let cut_short = [9, 0, 0, 0, 1, 0, 0, 0, 5, 0, 0, 0];
+    assert!(rt; is_refused(alloc, &cut_short)?);
+    let too_many_runs = [9, 255, 255, 255, 255, 0, 0, 0, 5, 0, 0, 0, 5];
+    assert!(rt; is_refused(alloc, &too_many_runs)?);
+    assert!(rt; is_refused(alloc, &[])?);
+    let no_run = [9, 0, 0, 0, 0];
+    let (none, next) = take_set(alloc, four_by_five()?, &no_run, 1)?;
+    assert_eq!(rt; none.count(), 0);
+    assert_eq!(rt; next, 5);
+    Ok(())
+}
+
+#[test]
+fn one_cell_or_none_is_a_set(rt: HostRuntime) -> Result<(), Fail> {
+    let alloc = rt.alloc();
+    let shape = four_by_five()?;
+    let cell = Cell { row: 2, col: 3 };
+    let mut bits = CellBits::new(alloc, shape)?;
+    add_cell(&mut bits, None);
+    assert!(rt; !has_cell(&bits, Some(cell)));
+    add_cell(&mut bits, Some(cell));
+    assert!(rt; has_cell(&bits, Some(cell)));
+    assert!(rt; !has_cell(&bits, None));
+    let set = set_of_cell(alloc, shape, Some(cell))?;
+    let run = Run {
+        first: 13,
+        last: 13,
+    };
+    assert_eq!(rt; set.runs(), [run].as_slice());
+    assert_eq!(rt; set_of_cell(alloc, shape, None)?.count(), 0);
+    Ok(())
+}
