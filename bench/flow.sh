@@ -1,6 +1,6 @@
 #!/usr/bin/env bash
 # Times `subzero play`, as LLVM builds it, on images of 128, 256, 512 and 1,024 a side (or of the sides that are given; of the
-# last one 1,008 rows, since with more of them the outputs would pass the limit of held cells), and prints two tables.
+# last one 1,008 rows, since with more of them the outputs would pass the limit of held cells), and prints three tables.
 #
 # The first is of a flow of clean, convolve, regions and block, each on the one before: how long the image's line takes, what the start
 # adds, per cell, and what an ask adds, of one cell and of a quarter of the cells, in each direction along the whole flow; beside these the
@@ -9,6 +9,10 @@
 #
 # The second is of a flow of convolve and block alone, whose steps are answered by the mapping of cells: what an ask adds, of one cell and
 # of a quarter of the cells, and how much of the latter is the reading of its line, which is that of a line refused for its version.
+#
+# The third is of the flow of the first with a stored strategy on every node: what the start adds beside that of the first table, since it
+# builds the stores, the peak of memory, and what an ask adds, of one cell and of a quarter of the cells, in each direction along the whole
+# flow, and how much of the former is the reading of its line.
 #
 # What a line adds is the difference of two sessions, each a whole process, the best of five. Of a line and of a start the time is told,
 # of asks the time that the processor was at work. It is no test: nothing is compared. It builds the program in this checkout and needs
@@ -31,6 +35,7 @@ whole = [
     {"op": "regions", "t": 2500, "from": [{"n": 1}]},
     {**folded, "from": [{"n": 2}]},
 ]
+stored = [["comp_one"], ["full_many_b", "full_one_f"], ["pay_many"], ["full_one_b", "full_one_f"]]
 mapped = [{**plus, "from": [{"i": 0}]}, {**folded, "from": [{"n": 0}]}]
 
 def rows_of(side):
@@ -39,8 +44,9 @@ def rows_of(side):
 def line(value):
     return json.dumps(value, separators=(",", ":")) + "\n"
 
-def begin(nodes):
-    return [line({"flow": "f", "inputs": 1, "nodes": nodes}), line({"start": "f", "base": [["img", 1]]}), line({"await": 1})]
+def begin(nodes, lists=()):
+    kept = [line({"strategy": "f", "node": node, "list": strategies}) for node, strategies in enumerate(lists)]
+    return [line({"flow": "f", "inputs": 1, "nodes": nodes}), *kept, line({"start": "f", "base": [["img", 1]]}), line({"await": 1})]
 
 # The line that asks for cells along all nodes of a flow.
 def ask(nodes, direction, cells, version=1):
@@ -57,10 +63,14 @@ def write_sessions(side):
     one = {"back": [[rows // 8, side // 8]], "forward": [[rows // 2, side // 2]]}
     quarter = {"back": [[r, c] for r in range(rows // 8) for c in range(side // 8)],
                "forward": [[r, c] for r in range(rows // 2) for c in range(side // 2)]}
-    sessions = {"read": array, "whole": array + begin(whole), "mapped": array + begin(mapped)}
+    sessions = {"read": array, "whole": array + begin(whole), "mapped": array + begin(mapped),
+                "stored": array + begin(whole, stored)}
     for d in directions:
         sessions["whole one " + d] = sessions["whole"] + [ask(whole, d, one[d])] * 10
         sessions["whole quarter " + d] = sessions["whole"] + [ask(whole, d, quarter[d])]
+        sessions["stored one " + d] = sessions["stored"] + [ask(whole, d, one[d])] * 2000
+        sessions["stored one refused " + d] = sessions["stored"] + [ask(whole, d, one[d], 2)] * 2000
+        sessions["stored quarter " + d] = sessions["stored"] + [ask(whole, d, quarter[d])]
         sessions["mapped one " + d] = sessions["mapped"] + [ask(mapped, d, one[d])] * 2000
         sessions["mapped quarter " + d] = sessions["mapped"] + [ask(mapped, d, quarter[d])]
         sessions["mapped refused " + d] = sessions["mapped"] + [ask(mapped, d, quarter[d], 2)]
@@ -90,7 +100,7 @@ def best(name):
 def added(kind, asks, before):
     return [(best(f"{kind} {d}")[1] - before) / asks for d in directions]
 
-first, second = [], []
+first, second, third = [], [], []
 for side in sides:
     child = os.fork()
     if child == 0:
@@ -109,10 +119,18 @@ for side in sides:
     lines = added("mapped refused", 1, mapped_run)
     second.append(f"{side:5d} {few[0]:14.1f} {few[1]:8.1f} {many[0]:18.0f} {many[1]:10.0f} {lines[0]:22.0f} {lines[1]:10.0f}"
         f" {(many[0] - lines[0]) * 1e3 / size:20.1f} {(many[1] - lines[1]) * 1e3 / size:6.1f}")
+    (kept, kept_work, kept_peak) = best("stored")
+    few, many = added("stored one", 2000, kept_work), added("stored quarter", 1, kept_work)
+    lines = added("stored one refused", 2000, kept_work)
+    third.append(f"{side:5d} {kept - read:10.0f} ({(kept - read) / (run - read):4.1f}) {kept_peak:8.0f} {few[0]:18.1f} {few[1]:8.1f}"
+        f" {lines[0]:22.1f} {lines[1]:8.1f} {many[0]:22.0f} {many[1]:10.0f}")
 print("side  array line us  start us (ns a cell)   ask of one: back, forward us   of a quarter: back, forward us   (ns a cell)"
       "   peak MB: read, run, asked   values MB")
 print("\n".join(first))
 print("\nby map alone")
 print("side  ask of one: back, forward us   of a quarter: back, forward us   of it reading: back, forward us   the rest, ns a cell")
 print("\n".join(second))
+print("\nby stores alone: " + ", ".join(" ".join(kept) for kept in stored))
+print("side   start us (to that above)  peak MB   ask of one: back, forward us   of it reading: back, forward us   of a quarter: back, forward us")
+print("\n".join(third))
 PY

@@ -189,3 +189,12 @@ def forward(op: str, p: dict[str, Any], grids: list[Grid], number: int, cells: n
 
 def footprint(kernel: list[list[int]]) -> np.ndarray:
     return (np.array(kernel) != 0)[None]
+
+
+STRATEGIES = "map blackbox full_one_b full_one_f full_many_b full_many_f pay_one pay_many comp_one comp_many".split()
+
+
+def supports(op: str, strategy: str) -> bool:
+    """Whether an operator's lineage can be kept by a strategy."""
+    mapped = op not in ("lookup", "regions", "clean")
+    return {"map": mapped, "pay": not mapped, "com": not mapped}.get(strategy[:3], True)

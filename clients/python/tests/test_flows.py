@@ -1,4 +1,5 @@
-"""Flows of several nodes: all paths between two arrays, one path, too many; and flows drawn at random."""
+"""Flows of several nodes: all paths between two arrays, one path, too many; and flows drawn at random, whose lineage
+is kept by strategies drawn at random."""
 
 import unittest
 from typing import Any
@@ -153,6 +154,9 @@ class RandomFlows(unittest.TestCase):
                 node = getattr(flow, op)(x, int(draw.randint(-20, 60)))
             else:
                 node = getattr(flow, op)(x)
+            if draw.rand() < 0.7:
+                supported = [kept for kept in reference.STRATEGIES if reference.supports(op, kept)]
+                flow.keep(node, [str(kept) for kept in draw.choice(supported, draw.randint(1, 4), replace=False)])
             places.append(node)
             shapes.append(node.shape_from(shape))
 

@@ -1,6 +1,7 @@
 """Each operator's values, and its lineage in both directions, against numpy and scipy.ndimage."""
 
 import unittest
+from collections.abc import Iterator
 
 import numpy as np
 
@@ -47,49 +48,76 @@ def some(draw: np.random.RandomState, shape: tuple[int, ...]) -> np.ma.MaskedArr
     return np.ma.MaskedArray(draw.randint(-50, 100, shape), draw.rand(*shape) < 0.1)
 
 
+# what is asked of a node: which of its inputs, the direction, the cells that are asked, and those that are related to them
+Question = tuple[int, str, np.ndarray, np.ndarray]
+
+
 class Operators(unittest.TestCase):
     def check(self, shape: tuple[int, ...]) -> None:
-        """Run every operator on arrays of this shape."""
+        """Run every operator on arrays of this shape, with its lineage kept by each strategy that it supports."""
         draw = np.random.RandomState(len(shape))
         first, second = some(draw, shape), some(draw, shape)
         small, table = np.ma.MaskedArray(draw.randint(-2, 9, shape), draw.rand(*shape) < 0.1), some(draw, (1, 6))
+        given = {"a": first, "b": second, "c": small, "t": table}
+        asked: dict[int, list[Question]] = {}
         with subzero.Session() as session:
-            held = [session.array(name, given) for name, given in zip("abct", (first, second, small, table))]
-            flow = session.flow("all", inputs=4)
-            a, b, c, t = flow.inputs
-            cases = [(getattr(flow, op)(a, **parameters), [first]) for op, parameters in UNARY]
-            cases += [(getattr(flow, op)(a, b), [first, second]) for op in BINARY]
-            cases += [(flow.lookup(c, t), [small, table])]
-            run = session.start(flow.define(), held)
-            run.wait()
-            for node, given in cases:
-                with self.subTest(op=node.op, parameters=node.parameters, shape=shape):
-                    self.check_node(run, node, [reference.grid_of(one) for one in given], draw)
+            held = [session.array(name, array) for name, array in given.items()]
+            for strategy in reference.STRATEGIES:
+                flow = session.flow(strategy, inputs=4)
+                a, b, c, t = flow.inputs
+                cases = [(getattr(flow, op)(a, **parameters), [first]) for op, parameters in UNARY]
+                cases += [(getattr(flow, op)(a, b), [first, second]) for op in BINARY]
+                cases += [(flow.lookup(c, t), [small, table])]
+                for node in flow.nodes:
+                    if reference.supports(node.op, strategy):
+                        flow.keep(node, [strategy])
+                run = session.start(flow.define(), held)
+                run.wait()
+                for number, (node, arrays) in enumerate(cases):
+                    with self.subTest(op=node.op, parameters=node.parameters, shape=shape, strategy=strategy):
+                        grids = [reference.grid_of(one) for one in arrays]
+                        if number not in asked:
+                            self.check_values(run, node, grids)
+                            asked[number] = list(self.questions(run, node, grids, draw))
+                        if reference.supports(node.op, strategy):
+                            self.check_lineage(run, node, strategy, asked[number])
 
-    def check_node(
-        self, run: subzero.Run, node: subzero.Node, grids: list[reference.Grid], draw: np.random.RandomState
-    ) -> None:
+    def check_values(self, run: subzero.Run, node: subzero.Node, grids: list[reference.Grid]) -> None:
         values, empty = reference.evaluate(node.op, node.parameters, grids)
         shape = run.shape(node)
         found = run.values(node)
         self.assertEqual(found.shape, shape)
         self.assertEqual(np.ma.getmaskarray(found).tolist(), empty.reshape(shape).tolist())
         self.assertEqual(found.filled(0).tolist(), values.reshape(shape).tolist())
+
+    def questions(
+        self, run: subzero.Run, node: subzero.Node, grids: list[reference.Grid], draw: np.random.RandomState
+    ) -> Iterator[Question]:
+        values, _ = reference.evaluate(node.op, node.parameters, grids)
         for number, source in enumerate(node.sources):
-            within = run.shape(source)
+            within = grids[number][0].shape
             for chance in (0, 0.05, 0.3, 1):
-                asked = draw.rand(*shape) < chance
-                behind = reference.back(node.op, node.parameters, grids, number, asked.reshape(values.shape))
-                got = run.back(node, asked, to=source)
-                self.assertEqual((got.dtype, got.shape), (bool, within))
-                self.assertTrue(np.array_equal(got, behind.reshape(within)))
-                asked = draw.rand(*within) < chance
-                touched = reference.forward(
-                    node.op, node.parameters, grids, number, asked.reshape(grids[number][0].shape)
-                )
-                got = run.forward(source, asked, to=node)
-                self.assertEqual((got.dtype, got.shape), (bool, shape))
-                self.assertTrue(np.array_equal(got, touched.reshape(shape)))
+                mask = draw.rand(*values.shape) < chance
+                yield number, "back", mask, reference.back(node.op, node.parameters, grids, number, mask)
+                mask = draw.rand(*within) < chance
+                yield number, "forward", mask, reference.forward(node.op, node.parameters, grids, number, mask)
+
+    def check_lineage(self, run: subzero.Run, node: subzero.Node, strategy: str, questions: list[Question]) -> None:
+        shape = run.shape(node)
+        traced = int(np.prod(shape)) if strategy == "blackbox" else 0
+        for number, direction, mask, related in questions:
+            source = node.sources[number]
+            within = run.shape(source)
+            if direction == "back":
+                got = run.back(node, mask.reshape(shape), to=source)
+                told = run.explain(node, mask.reshape(shape), to=source)
+            else:
+                got = run.forward(source, mask.reshape(within), to=node)
+                told = run.explain(source, mask.reshape(within), to=node, direction="forward")
+            expected = related.reshape(within if direction == "back" else shape)
+            self.assertEqual((got.dtype, got.shape), (bool, expected.shape))
+            self.assertTrue(np.array_equal(got, expected), (number, direction))
+            self.assertEqual([(one.steps, one.traced) for one in told], [(((node, strategy),), traced)] * len(told))
 
     def test_images(self) -> None:
         self.check((7, 9))

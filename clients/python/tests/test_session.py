@@ -96,15 +96,10 @@ class Refusals(unittest.TestCase):
         self.assertEqual(run.explain(labels, (0, 1), to=base)[0].steps, ((labels, "blackbox"),))
         flow = self.session.flow("kept")
         labels = flow.regions(flow.input(0), t=5, keep=["pay_many"])
-        try:
-            flow.define()
-            expected = "pay_many"
-        except subzero.Refused as fault:  # stored strategies are to come
-            self.assertEqual(fault.number, 21)
-            expected = "blackbox"
         run = self.session.start(flow, [base])
         run.wait()
-        self.assertEqual(run.explain(labels, (0, 1), to=base)[0].steps, ((labels, expected),))
+        explained = run.explain(labels, (0, 1), to=base)[0]
+        self.assertEqual((explained.steps, explained.traced), (((labels, "pay_many"),), 0))
         self.assertEqual(np.argwhere(run.back(labels, (0, 1), to=base)).tolist(), [[0, 1], [0, 2]])
 
     def test_what_is_refused_before_it_is_sent(self) -> None:

@@ -23,7 +23,6 @@ _RULES = {
     18: "there is no such node, or its list of strategies is empty, too long, or has one twice or unfit",
     19: "the version is not awaited",
     20: "there is no such node to show",
-    21: "the strategy is not built yet",
 }
 
 _FAULTS = {

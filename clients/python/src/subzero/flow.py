@@ -202,7 +202,7 @@ class Flow:
         """Send the flow, and how its nodes are kept; gives itself. A second call sends what is not yet accepted.
 
         Raises Refused: with number 8 and the fault and the node of a flow against the rules; with number 9 for a name
-        that is taken; with 18 for a strategy that a node cannot have, and 21 for one that the program cannot keep yet.
+        that is taken; with 18 for a strategy that a node cannot have.
         """
         if not self._defined:
             nodes = [
