@@ -95,16 +95,12 @@ fn text_of_zeros(alloc: Global, rows: u32, cols: u32, last: &str) -> Result<Vec<
 }
 
 #[test]
-fn fields_are_too_many_where_none_is_bad(rt: HostRuntime) -> Result<(), AllocError> {
+fn a_text_has_as_many_fields_as_an_array(rt: HostRuntime) -> Result<(), AllocError> {
     let alloc = rt.alloc();
     let most = text_of_zeros(alloc, 1_024, 1_024, "-0")?;
     assert!(rt; refused(alloc, &most) == None);
-    let more = text_of_zeros(alloc, 1_025, 1_024, "0")?;
+    let more = text_of_zeros(alloc, 1_048_577, 1, "0")?;
     assert!(rt; refused(alloc, &more) == Some(6));
-    let bad = text_of_zeros(alloc, 1_025, 1_024, "+0")?;
-    assert!(rt; refused(alloc, &bad) == Some(5));
-    let column = text_of_zeros(alloc, 1_048_577, 1, "0")?;
-    assert!(rt; refused(alloc, &column) == Some(6));
     Ok(())
 }
 
