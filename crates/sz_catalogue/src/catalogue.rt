@@ -22,7 +22,7 @@ ghost use Rattle.sz_catalogue.specs.Seen.{response_of, Judges};
 use crate::arrays::HeldArrays;
 use crate::carried::Carried;
 use crate::flows::{HeldFlow, HeldFlows};
-use crate::lists::BaseArrays;
+use crate::lists::{BaseArrays, StrategyLists};
 use crate::memory::{another_flow, another_owner, own_name};
 use crate::paths::is_joined;
 use crate::reply::Reply;
@@ -98,6 +98,18 @@ impl<K: Carried> Catalogue<K> {
     {
         match self.flows.get(name) {
             Some(held) => Some(held.flow()),
+            None => None,
+        }
+    }
+
+    /// The strategies that the nodes of a name's flow have now, one list a node. Logarithmic in the
+    /// names, and takes no memory.
+    pub fn lists(&self, name: &str) -> Option<&StrategyLists>
+        ensures { option_copied result
+            ≡ option_map (λ w. w.lists) (flow_named self.now name.now) }
+    {
+        match self.flows.get(name) {
+            Some(held) => Some(held.lists()),
             None => None,
         }
     }
