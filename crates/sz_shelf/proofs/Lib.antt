@@ -1,0 +1,5 @@
+-- The lemmas: of what lineages placed one after another stand for, of marks of placed pieces, and of the stores of a
+-- tag.
+pub mod Lineages
+pub mod Marks
+pub mod Stores

@@ -1,0 +1,5 @@
+-- What contracts name.
+pub mod Tags
+pub mod Contents
+pub mod Placed
+pub mod Keeping
