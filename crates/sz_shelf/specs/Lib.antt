@@ -3,3 +3,9 @@ pub mod Tags
 pub mod Contents
 pub mod Placed
 pub mod Keeping
+pub mod Places
+pub mod Rule
+pub mod Steps
+pub mod Turns
+pub mod Answers
+pub mod Passes

@@ -1,6 +1,15 @@
 //! The shared store of one operator of one version.
 #![tactic(auto)]
 
+mod answers;
+mod pass;
+mod rule;
+mod shelf;
 mod shelved;
 mod stored;
 mod tag;
+mod words;
+
+pub use answers::{Look, Placed, SealReply};
+pub use pass::Pass;
+pub use shelf::Shelf;
