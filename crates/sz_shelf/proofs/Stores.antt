@@ -11,7 +11,7 @@ use Rattle.std.proofs.lemmas.Bool.{cases_Bool, and_parts}
 use Rattle.std.proofs.lemmas.List.Elements.{All-head, All-tail, All-weaker, All-append, All-cons, All-nil}
 use Rattle.sz_cells.specs.declared.Cell.{Cell}
 use Rattle.sz_cells.specs.Extent.{Extent, holds, index_of}
-use Rattle.sz_cells.specs.Cells.{Cells, cells_where, any_cell, has}
+use Rattle.sz_cells.specs.Cells.{Cells, cells_where, any_cell, has, with_those}
 use Rattle.sz_cells.proofs.Sets.{cells_where-ext, any_cell-ext}
 use Rattle.sz_spec.specs.declared.modes.Dir.{Dir}
 use Rattle.sz_spec.specs.declared.modes.Dir.TheVariants.{Back, Forward}
@@ -31,11 +31,12 @@ use Rattle.sz_store.specs.Kept.{Holding, regions, entries, Keep, NodeLineage, ke
 use Rattle.sz_store.specs.Kept.{empty_keep, no_lineage, stored_in, is_placed, holding_for, holding_stands}
 use Rattle.sz_store.specs.Laws.{AllFit}
 use Rattle.sz_store.proofs.Parting.{holding_has, or-cases, stands-old}
+use Rattle.sz_store.proofs.Placing.{fitting-placed}
 use Rattle.sz_store.proofs.Standing.{is-false, own-piece, pieces-make-relation}
 use Rattle.sz_shelf.specs.Tags.{Tag, StandsFor, tag_pieces, tag_relation, tag_image}
 use Rattle.sz_shelf.specs.Contents.{is_in, missing_in}
 use Rattle.sz_shelf.specs.Placed.{StandsOnPlaced, unplaced_stands}
-use Rattle.sz_shelf.specs.Keeping.{IsMadeOf, AreStores, store_in, IsSharedFrom}
+use Rattle.sz_shelf.specs.Keeping.{IsMadeOf, AreStores, store_in, IsSharedFrom, CanTake, with_more}
 use Rattle.sz_shelf.specs.declared.stored.Stored.{Stored}
 use Rattle.sz_shelf.specs.declared.stored.Stored.TheVariants.{Open, Shared, Moved}
 use Rattle.sz_shelf.proofs.Lineages.{IsRight, AreRight, IsRun, run-all, empty-right, none-placed}
@@ -208,6 +209,29 @@ made-more t placed kept p made below fits =
           ∙ sym (with-last (no_lineage t.site t.list) made.lineages p);
     }
 
+-- open stores can be given a lineage that fits
+pub can-take : (t : Tag) (placed : List ℕ) (sealed : Bool) (s : Stored) (p : Parts) → sealed ≡ false
+    → AreStores t placed sealed s → p.piece < tag_pieces t
+    → Fits (measure_of t.site t.inputs) t.list p.piece p → CanTake p s
+can-take t placed sealed (Open kept) p free are below fits =
+    let same = same-all (no_lineage t.site t.list) are.lineages in
+    let site : kept.site ≡ t.site = ap (λ (x : NodeLineage). x.site) are.made ∙ same.site in
+    let list : kept.list ≡ t.list = ap (λ (x : NodeLineage). x.list) are.made ∙ same.list in (
+      rw site below,
+      rw (site, list) (fitting-placed t.site t.inputs t.list p fits),
+    )
+can-take t placed sealed (Shared a) p free are below fits = absurd (true≢false (sym are.0 ∙ free))
+can-take t placed sealed Moved p free are below fits = absurd are
+
+-- and are then the tag's still
+pub stores-more : (t : Tag) (placed : List ℕ) (sealed : Bool) (s : Stored) (p : Parts) → sealed ≡ false
+    → AreStores t placed sealed s → p.piece < tag_pieces t
+    → Fits (measure_of t.site t.inputs) t.list p.piece p
+    → AreStores t (placed ++ p.piece ∷ []) sealed (with_more p s)
+stores-more t placed sealed (Open kept) p free are below fits = made-more t placed kept p are below fits
+stores-more t placed sealed (Shared a) p free are below fits = absurd (true≢false (sym are.0 ∙ free))
+stores-more t placed sealed Moved p free are below fits = absurd are
+
 pub made-none : (t : Tag) → IsMadeOf t [] (no_lineage t.site t.list)
 made-none t = record {
   lineages = [];
@@ -303,3 +327,13 @@ pub image-stands : (t : Tag) (kept : NodeLineage) (u : Strategy) (dir : Dir) (i 
 image-stands t kept u dir i from is listed stored inside own near =
     image-same dir t.site i (holding_stands t.site (holding_for u kept.stores) i) (tag_relation t i) from own near
     (λ o x here held. strategy-stands t kept u is listed stored i o x inside here held)
+
+-- so what a store adds by that strategy is the image under the tag's relation
+pub image-told : (t : Tag) (kept : NodeLineage) (u : Strategy) (dir : Dir) (i : ℕ) (from to : Cells) → StandsFor t kept
+    → is_listed t.list u ≡ true → is_stored u ≡ true → i < length t.site.ins
+    → from ≡ cells_where from.extent (has from) → from.extent ≡ near_side dir t.site i
+    → with_those to (has (image_in dir kept.site i (holding_stands kept.site (holding_for u kept.stores) i) from))
+    ≡ with_those to (has (tag_image dir t i from))
+image-told t kept u dir i from to is listed stored inside own near =
+    ap (λ (s : Site). with_those to (has (image_in dir s i (holding_stands s (holding_for u kept.stores) i) from))) is.site
+    ∙ ap (λ (set : Cells). with_those to (has set)) (image-stands t kept u dir i from is listed stored inside own near)

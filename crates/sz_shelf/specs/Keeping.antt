@@ -61,8 +61,9 @@ pub record AreMarks (t : Tag) (placed : List ℕ) (marks : List Bool) : Type 0 w
   pub marked : (k : ℕ) → k < length marks → slice_index_or marks k false ≡ is_in placed k
   pub once : length (filter (λ b. b) marks) ≡ length placed
 
-pub record IsKept (t : Tag) (placed : List ℕ) (sealed : Bool) (marks : List Bool) (s : Stored) : Type 0 where
+pub record IsKept (t : Tag) (placed : List ℕ) (sealed : Bool) (flags : List Bool)
+    (s : Stored) : Type 0 where
   pub tag : IsTag t
-  pub marks : AreMarks t placed marks
+  pub marks : AreMarks t placed flags
   pub whole : sealed ≡ true → missing_in (tag_pieces t) placed ≡ None
   pub stores : AreStores t placed sealed s
