@@ -35,6 +35,9 @@ use Rattle.sz_store.proofs.Placing.{fitting-placed}
 use Rattle.sz_store.proofs.Standing.{is-false, own-piece, pieces-make-relation}
 use Rattle.sz_shelf.specs.Tags.{Tag, StandsFor, tag_pieces, tag_relation, tag_image}
 use Rattle.sz_shelf.specs.Contents.{is_in, missing_in}
+use Rattle.sz_shelf.specs.LawsStores.{LineagesStandOnTheirPieces, LineagesOfAllPiecesStandForTheTag}
+use Rattle.sz_shelf.specs.LawsStores.{WholeStoresStandOnPlacedPieces, EachStrategyStandsForTheTag}
+use Rattle.sz_shelf.specs.LawsStores.{ImagesByStoresAreTheTags}
 use Rattle.sz_shelf.specs.Placed.{StandsOnPlaced, unplaced_stands}
 use Rattle.sz_shelf.specs.Keeping.{IsMadeOf, AreStores, store_in, IsSharedFrom, CanTake, with_more}
 use Rattle.sz_shelf.specs.declared.stored.Stored.{Stored}
@@ -88,8 +91,7 @@ stands-unplaced s (entries true es) i o x none =
 piece-in : (ps : List Parts) (k : ℕ) → is_in (map (λ p. p.piece) ps) k ≡ list_any (λ p. p.piece == k) ps
 piece-in ps k = any-map (λ (j : ℕ). j == k) (λ (p : Parts). p.piece) ps
 
-made-placed : (t : Tag) (ps : List Parts) → AllFit t.site t.inputs t.list ps
-    → StandsOnPlaced t (map (λ p. p.piece) ps) (with_lineages (no_lineage t.site t.list) ps)
+pub made-placed : LineagesStandOnTheirPieces
 made-placed t ps fit =
     let start = no_lineage t.site t.list in
     let same = same-all start ps in
@@ -114,9 +116,7 @@ made-placed t ps fit =
           ]));
     }
 
-made-whole : (t : Tag) (ps : List Parts) → AllFit t.site t.inputs t.list ps
-    → missing_in (tag_pieces t) (map (λ p. p.piece) ps) ≡ None
-    → StandsFor t (with_lineages (no_lineage t.site t.list) ps)
+pub made-whole : LineagesOfAllPiecesStandForTheTag
 made-whole t ps fit none =
     let start = no_lineage t.site t.list in
     let same = same-all start ps in
@@ -133,8 +133,7 @@ made-whole t ps fit none =
 -- ---- the stores of a tag
 
 -- what stands for the relation stands for it on each piece
-whole-placed : (t : Tag) (placed : List ℕ) (kept : NodeLineage) → missing_in (tag_pieces t) placed ≡ None
-    → StandsFor t kept → StandsOnPlaced t placed kept
+pub whole-placed : WholeStoresStandOnPlacedPieces
 whole-placed t placed kept none is = record {
   site = is.site;
   list = is.list;
@@ -292,8 +291,7 @@ for-found P t (f ∷ fs) all some =
     ]
 
 -- the store of a stored strategy of the list stands for the relation
-pub strategy-stands : (t : Tag) (kept : NodeLineage) (u : Strategy) → StandsFor t kept → is_listed t.list u ≡ true
-    → is_stored u ≡ true → IsTheRelation (measure_of t.site t.inputs) (holding_stands t.site (holding_for u kept.stores))
+pub strategy-stands : EachStrategyStandsForTheTag
 strategy-stands t kept u is listed stored =
     for-found (λ h. IsTheRelation (measure_of t.site t.inputs) (holding_stands t.site h)) u kept.stores is.exact
     (sym (any-map (λ (v : Strategy). number_of v == number_of u) (λ (f : Keep). f.strategy) kept.stores)
@@ -320,12 +318,10 @@ image-same Forward s i r q from own near same =
     (λ o held. any-same from (λ x. r o x) (λ x. q o x) own
     (λ x there. same o x held (subst (λ (e : Extent). holds e x ≡ true) near there)))
 
-pub image-stands : (t : Tag) (kept : NodeLineage) (u : Strategy) (dir : Dir) (i : ℕ) (from : Cells) → StandsFor t kept
-    → is_listed t.list u ≡ true → is_stored u ≡ true → i < length t.site.ins
-    → from ≡ cells_where from.extent (has from) → from.extent ≡ near_side dir t.site i
-    → image_in dir t.site i (holding_stands t.site (holding_for u kept.stores) i) from ≡ tag_image dir t i from
+pub image-stands : ImagesByStoresAreTheTags
 image-stands t kept u dir i from is listed stored inside own near =
-    image-same dir t.site i (holding_stands t.site (holding_for u kept.stores) i) (tag_relation t i) from own near
+    ap (λ (s : Site). image_in dir s i (holding_stands s (holding_for u kept.stores) i) from) is.site
+    ∙ image-same dir t.site i (holding_stands t.site (holding_for u kept.stores) i) (tag_relation t i) from own near
     (λ o x here held. strategy-stands t kept u is listed stored i o x inside here held)
 
 -- so what a store adds by that strategy is the image under the tag's relation
@@ -335,5 +331,4 @@ pub image-told : (t : Tag) (kept : NodeLineage) (u : Strategy) (dir : Dir) (i : 
     → with_those to (has (image_in dir kept.site i (holding_stands kept.site (holding_for u kept.stores) i) from))
     ≡ with_those to (has (tag_image dir t i from))
 image-told t kept u dir i from to is listed stored inside own near =
-    ap (λ (s : Site). with_those to (has (image_in dir s i (holding_stands s (holding_for u kept.stores) i) from))) is.site
-    ∙ ap (λ (set : Cells). with_those to (has set)) (image-stands t kept u dir i from is listed stored inside own near)
+    ap (λ (set : Cells). with_those to (has set)) (image-stands t kept u dir i from is listed stored inside own near)

@@ -3,3 +3,4 @@ pub mod Tags
 pub mod Contents
 pub mod Placed
 pub mod Keeping
+pub mod LawsStores

@@ -2,5 +2,8 @@
 #![tactic(auto)]
 
 mod shelved;
+pub mod standing;
 mod stored;
 mod tag;
+
+pub use shelved::Shelved;
