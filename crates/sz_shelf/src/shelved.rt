@@ -43,7 +43,7 @@ pub struct Shelved {
 
 impl Model for Shelved {
     ghost use Rattle.sz_shelf.specs.Contents.{Contents};
-    ghost use Rattle.sz_shelf.specs.Keeping.{IsKept};
+    ghost use Rattle.sz_shelf.specs.Keeping.{IsShelved};
 
     ghost Value = { Contents };
 
@@ -54,7 +54,7 @@ impl Model for Shelved {
     } };
 
     ghost invariant = { λ s.
-        IsKept s.tag.value s.placed.items s.sealed s.marks.items s.stored };
+        IsShelved s.tag.value s.placed.items s.sealed s.marks.items s.stored };
 }
 
 impl Shelved {
