@@ -2,18 +2,18 @@
 --
 -- The key idea: the marks say of each piece whether it is in the list, and as many are set as the list has pieces. So
 -- the list has no piece twice, and no more pieces than there are.
-use Rattle.std.proofs.Common.{◌≡◌, ℕ, zero, suc, ◌+◌, ◌<◌, ◌≤◌, ◌==◌, ◌^◌, Bool, true, false, not, ◌||◌}
+use Rattle.std.proofs.Common.{◌≡◌, ℕ, zero, suc, ◌+◌, ◌<◌, ◌≤◌, ◌==◌, ◌^◌, Bool, true, false, ◌||◌}
 use Rattle.std.proofs.Common.{List, [], ◌∷◌, ◌++◌, length, get_or, set, refl, sym, ap, subst, ◌∙◌}
 use Rattle.std.proofs.Common.{true≢false, eqb-true, eq-eqb, inl, inr, arith, get_or-set_other}
 use Rattle.std.proofs.Common.{length-set, length-append, Option, Some, None}
 use Rattle.std.specs.Prelude.{replicate, unwrap_or}
-use Rattle.std.specs.List.{filter, list_any}
+use Rattle.std.specs.List.{filter}
 use Rattle.std.proofs.lemmas.Bool.{cases_Bool, cases_lt}
 use Rattle.std.proofs.lemmas.List.{get_or-set_same, get_or-replicate, length-replicate}
 use Rattle.std.proofs.lemmas.List.Folds.{list_any-append}
 use Rattle.sz_spec.specs.Values.{no_extent}
 use Rattle.sz_core.specs.declared.pairs.Pair.{Pair}
-use Rattle.sz_core.specs.States.{Shelf, missing_piece}
+use Rattle.sz_core.specs.States.{Shelf}
 use Rattle.sz_core.proofs.Placing.{missing-some, missing-none, all-placed}
 use Rattle.sz_shelf.specs.Tags.{Tag, tag_pieces}
 use Rattle.sz_shelf.specs.Contents.{is_in, missing_in, least_missing}

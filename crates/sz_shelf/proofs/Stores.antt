@@ -2,13 +2,13 @@
 --
 -- The key idea: what is open is made of lineages that fit, one of each placed piece; so it stands for the relation on
 -- these pieces, and where none is missing, on all. What is shared stands for the relation from the start.
-use Rattle.std.proofs.Common.{◌≡◌, ℕ, suc, ◌+◌, ◌/◌, ◌<◌, ◌==◌, Bool, true, false, not, ◌||◌, List, [], ◌∷◌, length, map}
+use Rattle.std.proofs.Common.{◌≡◌, ℕ, ◌/◌, ◌<◌, ◌==◌, Bool, true, false, not, ◌||◌, List, [], ◌∷◌, length, map}
 use Rattle.std.proofs.Common.{get_or, ◌++◌, Some, None}
-use Rattle.std.proofs.Common.{refl, sym, ap, ap₂, subst, ◌∙◌, true≢false, eqb-true, inl, inr, arith}
+use Rattle.std.proofs.Common.{refl, sym, ap, subst, ◌∙◌, true≢false, eqb-true, inl, inr}
 use Rattle.std.specs.List.{All, list_any}
 use Rattle.std.specs.Arc.{arc_value}
 use Rattle.std.proofs.lemmas.Bool.{cases_Bool, and_parts}
-use Rattle.std.proofs.lemmas.List.Elements.{All-head, All-tail, All-weaker, All-append, All-cons, All-nil}
+use Rattle.std.proofs.lemmas.List.Elements.{All-head, All-tail, All-append, All-cons, All-nil}
 use Rattle.sz_cells.specs.declared.Cell.{Cell}
 use Rattle.sz_cells.specs.Extent.{Extent, holds, index_of}
 use Rattle.sz_cells.specs.Cells.{Cells, cells_where, any_cell, has, with_those}
@@ -17,19 +17,18 @@ use Rattle.sz_spec.specs.declared.modes.Dir.{Dir}
 use Rattle.sz_spec.specs.declared.modes.Dir.TheVariants.{Back, Forward}
 use Rattle.sz_spec.specs.declared.modes.Strategy.{Strategy}
 use Rattle.sz_spec.specs.declared.modes.Strategy.TheVariants as strategy
-use Rattle.sz_spec.specs.Values.{Grid, extent_at}
+use Rattle.sz_spec.specs.Values.{extent_at}
 use Rattle.sz_spec.specs.Shapes.{Site}
 use Rattle.sz_spec.specs.Modes.{number_of, is_stored, is_listed}
-use Rattle.sz_spec.specs.Pieces.{pieces_of, is_in_piece}
+use Rattle.sz_spec.specs.Pieces.{pieces_of}
 use Rattle.sz_spec.specs.Sides.{near_side, image_in}
-use Rattle.sz_region.specs.Parts.{Pairing, Entry, Parts}
-use Rattle.sz_region.specs.Fits.{Fits, StandsOn}
+use Rattle.sz_region.specs.Parts.{Parts}
+use Rattle.sz_region.specs.Fits.{Fits}
 use Rattle.sz_region.specs.Images.{measure_of}
 use Rattle.sz_region.specs.Laws.{IsTheRelation}
 use Rattle.sz_region.proofs.Passing.{any-map}
 use Rattle.sz_store.specs.Kept.{Holding, regions, entries, Keep, NodeLineage, keep_with, with_lineage, with_lineages}
 use Rattle.sz_store.specs.Kept.{empty_keep, no_lineage, stored_in, is_placed, holding_for, holding_stands}
-use Rattle.sz_store.specs.Laws.{AllFit}
 use Rattle.sz_store.proofs.Parting.{holding_has, or-cases, stands-old}
 use Rattle.sz_store.proofs.Placing.{fitting-placed}
 use Rattle.sz_store.proofs.Standing.{is-false, own-piece, pieces-make-relation}
@@ -42,7 +41,7 @@ use Rattle.sz_shelf.specs.Placed.{StandsOnPlaced, unplaced_stands}
 use Rattle.sz_shelf.specs.Keeping.{IsMadeOf, AreStores, store_in, IsSharedFrom, CanTake, with_more}
 use Rattle.sz_shelf.specs.declared.stored.Stored.{Stored}
 use Rattle.sz_shelf.specs.declared.stored.Stored.TheVariants.{Open, Shared, Moved}
-use Rattle.sz_shelf.proofs.Lineages.{IsRight, AreRight, IsRun, run-all, empty-right, none-placed}
+use Rattle.sz_shelf.proofs.Lineages.{run-all, empty-right, none-placed}
 use Rattle.sz_shelf.proofs.Marks.{each-placed}
 
 -- ---- what lineages leave as it is

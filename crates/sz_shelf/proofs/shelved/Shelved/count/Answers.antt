@@ -1,5 +1,5 @@
 -- No more pieces are placed than there are.
-use Rattle.std.proofs.Common.{◌≡◌, ◌≤◌, length, arith, ap, ◌∙◌, subst}
+use Rattle.std.proofs.Common.{◌≤◌, arith, subst}
 use Rattle.sz_shelf.specs.Tags.{tag_pieces}
 use Rattle.sz_shelf.specs.Contents.{Contents}
 use Rattle.sz_shelf.proofs.Marks.{few-placed}

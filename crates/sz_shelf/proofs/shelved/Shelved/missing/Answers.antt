@@ -1,5 +1,5 @@
 -- The first piece that is not marked is the least one that is missing.
-use Rattle.std.proofs.Common.{◌≡◌, ◌<◌, ◌≤◌, ℕ, get_or, length, true, false, Bool, List, Some, None, subst, sym}
+use Rattle.std.proofs.Common.{◌≡◌, ◌<◌, ◌≤◌, ℕ, get_or, length, true, false, Bool, List, Some, None, subst}
 use Rattle.sz_shelf.specs.Tags.{tag_pieces}
 use Rattle.sz_shelf.specs.Contents.{Contents, missing_in, least_missing}
 use Rattle.sz_shelf.proofs.Marks.{least-told, none-told, value-told}

@@ -1,14 +1,13 @@
 -- Nothing is marked, and the stores are made of no lineage.
-use Rattle.std.proofs.Common.{rules, ◌≡◌, ◌<◌, ◌^◌, ℕ, List, Bool, [], length, false, true, true≢false, subst, sym, ap, ap₂}
+use Rattle.std.proofs.Common.{rules, ◌≡◌, ◌<◌, ◌^◌, List, [], false, true≢false, subst, sym, ap, ap₂}
 use Rattle.std.proofs.Common.{◌∙◌, arith}
 use Rattle.std.specs.Prelude.{replicate}
-use Rattle.sz_cells.specs.Extent.{Extent}
 use Rattle.sz_spec.specs.Shapes.{Site}
 use Rattle.sz_spec.specs.Pieces.{pieces_of}
 use Rattle.sz_spec.specs.declared.modes.Strategy.{Strategy}
 use Rattle.sz_store.specs.Kept.{NodeLineage, no_lineage}
-use Rattle.sz_shelf.specs.Tags.{Tag, IsTag, tag_pieces}
-use Rattle.sz_shelf.specs.Keeping.{AreMarks, IsMadeOf}
+use Rattle.sz_shelf.specs.Tags.{Tag, tag_pieces}
+use Rattle.sz_shelf.specs.Keeping.{IsMadeOf}
 use Rattle.sz_shelf.proofs.Marks.{marks-none}
 use Rattle.sz_shelf.proofs.Stores.{made-none}
 use Rattle.sz_shelf.proofs.shelved.Shelved.new.Goals as goal

@@ -1,8 +1,7 @@
 -- One piece more is marked, and the open stores are made of one lineage more.
-use Rattle.std.proofs.Common.{◌≡◌, ◌<◌, ◌++◌, [], ◌∷◌, ℕ, List, length, false, true≢false, subst, sym, ap, ◌∙◌, set, true}
+use Rattle.std.proofs.Common.{◌≡◌, ◌<◌, ◌++◌, [], ◌∷◌, ℕ, List, length, false, true≢false, subst, sym, ap, ◌∙◌}
 use Rattle.sz_shelf.specs.Tags.{tag_pieces}
 use Rattle.sz_shelf.specs.Contents.{Contents, is_in}
-use Rattle.sz_shelf.specs.Keeping.{AreMarks}
 use Rattle.sz_region.specs.Fits.{Fits}
 use Rattle.sz_region.specs.Images.{measure_of}
 use Rattle.sz_shelf.proofs.Marks.{marks-more}

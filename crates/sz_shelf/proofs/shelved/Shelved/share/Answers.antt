@@ -1,9 +1,9 @@
 -- The stores are sealed, so every piece is placed; shared, they stand for the relation.
-use Rattle.std.proofs.Common.{◌≡◌, ℕ, List, Bool, true, Some, None, IfOk, subst, sym}
+use Rattle.std.proofs.Common.{◌≡◌, Bool, true, Some, IfOk, subst, sym}
 use Rattle.std.specs.Arc.{arc_value}
 use Rattle.std.proofs.lemmas.Result.{IfOk-weaker}
-use Rattle.sz_shelf.specs.Tags.{StandsFor, tag_pieces}
-use Rattle.sz_shelf.specs.Contents.{Contents, missing_in}
+use Rattle.sz_shelf.specs.Tags.{StandsFor}
+use Rattle.sz_shelf.specs.Contents.{Contents}
 use Rattle.sz_shelf.specs.Keeping.{AreStores, IsSharedFrom, store_in}
 use Rattle.sz_shelf.specs.declared.stored.Stored.{Stored}
 use Rattle.sz_shelf.proofs.Stores.{stores-shared, stores-whole}
