@@ -7,3 +7,4 @@ mod Lists
 mod Moves
 mod Slots
 mod Turning
+mod Telling

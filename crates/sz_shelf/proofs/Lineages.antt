@@ -3,7 +3,7 @@
 -- The key idea: what a store keeps is of placed pieces alone, and on each placed piece it stands for the relation. A
 -- lineage of a further piece has cells of that piece alone, so it changes nothing on the others; and of the further
 -- piece's cells the store had nothing.
-use Rattle.std.proofs.Common.{◌≡◌, ℕ, suc, ◌/◌, ◌<◌, ◌==◌, ◌||◌, Bool, true, false, ◌⊎◌, List, [], ◌∷◌, length, map}
+use Rattle.std.proofs.Common.{◌≡◌, ℕ, ◌/◌, ◌<◌, ◌==◌, ◌||◌, Bool, true, false, ◌⊎◌, List, [], ◌∷◌, length}
 use Rattle.std.proofs.Common.{refl, sym, ap, ◌∙◌, true≢false, eqb-true, eq-eqb, inl, inr}
 use Rattle.std.proofs.Common.{arith, get_or, set, length-set}
 use Rattle.std.specs.Prelude.{replicate}

@@ -2,43 +2,46 @@
 --
 -- The key idea: what is open is made of lineages that fit, one of each placed piece; so it stands for the relation on
 -- these pieces, and where none is missing, on all. What is shared stands for the relation from the start.
-use Rattle.std.proofs.Common.{◌≡◌, ℕ, suc, ◌+◌, ◌/◌, ◌<◌, ◌==◌, Bool, true, false, not, ◌||◌, List, [], ◌∷◌, length, map}
+use Rattle.std.proofs.Common.{◌≡◌, ℕ, ◌/◌, ◌<◌, ◌==◌, Bool, true, false, not, ◌||◌, List, [], ◌∷◌, length, map}
 use Rattle.std.proofs.Common.{get_or, ◌++◌, Some, None}
-use Rattle.std.proofs.Common.{refl, sym, ap, ap₂, subst, ◌∙◌, true≢false, eqb-true, inl, inr, arith}
+use Rattle.std.proofs.Common.{refl, sym, ap, subst, ◌∙◌, true≢false, eqb-true, inl, inr}
 use Rattle.std.specs.List.{All, list_any}
 use Rattle.std.specs.Arc.{arc_value}
 use Rattle.std.proofs.lemmas.Bool.{cases_Bool, and_parts}
-use Rattle.std.proofs.lemmas.List.Elements.{All-head, All-tail, All-weaker, All-append, All-cons, All-nil}
+use Rattle.std.proofs.lemmas.List.Elements.{All-head, All-tail, All-append, All-cons, All-nil}
 use Rattle.sz_cells.specs.declared.Cell.{Cell}
 use Rattle.sz_cells.specs.Extent.{Extent, holds, index_of}
-use Rattle.sz_cells.specs.Cells.{Cells, cells_where, any_cell, has}
+use Rattle.sz_cells.specs.Cells.{Cells, cells_where, any_cell, has, with_those}
 use Rattle.sz_cells.proofs.Sets.{cells_where-ext, any_cell-ext}
 use Rattle.sz_spec.specs.declared.modes.Dir.{Dir}
 use Rattle.sz_spec.specs.declared.modes.Dir.TheVariants.{Back, Forward}
 use Rattle.sz_spec.specs.declared.modes.Strategy.{Strategy}
 use Rattle.sz_spec.specs.declared.modes.Strategy.TheVariants as strategy
-use Rattle.sz_spec.specs.Values.{Grid, extent_at}
+use Rattle.sz_spec.specs.Values.{extent_at}
 use Rattle.sz_spec.specs.Shapes.{Site}
 use Rattle.sz_spec.specs.Modes.{number_of, is_stored, is_listed}
-use Rattle.sz_spec.specs.Pieces.{pieces_of, is_in_piece}
+use Rattle.sz_spec.specs.Pieces.{pieces_of}
 use Rattle.sz_spec.specs.Sides.{near_side, image_in}
-use Rattle.sz_region.specs.Parts.{Pairing, Entry, Parts}
-use Rattle.sz_region.specs.Fits.{Fits, StandsOn}
+use Rattle.sz_region.specs.Parts.{Parts}
+use Rattle.sz_region.specs.Fits.{Fits}
 use Rattle.sz_region.specs.Images.{measure_of}
 use Rattle.sz_region.specs.Laws.{IsTheRelation}
 use Rattle.sz_region.proofs.Passing.{any-map}
 use Rattle.sz_store.specs.Kept.{Holding, regions, entries, Keep, NodeLineage, keep_with, with_lineage, with_lineages}
 use Rattle.sz_store.specs.Kept.{empty_keep, no_lineage, stored_in, is_placed, holding_for, holding_stands}
-use Rattle.sz_store.specs.Laws.{AllFit}
 use Rattle.sz_store.proofs.Parting.{holding_has, or-cases, stands-old}
+use Rattle.sz_store.proofs.Placing.{fitting-placed}
 use Rattle.sz_store.proofs.Standing.{is-false, own-piece, pieces-make-relation}
 use Rattle.sz_shelf.specs.Tags.{Tag, StandsFor, tag_pieces, tag_relation, tag_image}
 use Rattle.sz_shelf.specs.Contents.{is_in, missing_in}
+use Rattle.sz_shelf.specs.LawsStores.{LineagesStandOnTheirPieces, LineagesOfAllPiecesStandForTheTag}
+use Rattle.sz_shelf.specs.LawsStores.{WholeStoresStandOnPlacedPieces, EachStrategyStandsForTheTag}
+use Rattle.sz_shelf.specs.LawsStores.{ImagesByStoresAreTheTags}
 use Rattle.sz_shelf.specs.Placed.{StandsOnPlaced, unplaced_stands}
-use Rattle.sz_shelf.specs.Keeping.{IsMadeOf, AreStores, store_in, IsSharedFrom}
+use Rattle.sz_shelf.specs.Keeping.{IsMadeOf, AreStores, store_in, IsSharedFrom, CanTake, with_more}
 use Rattle.sz_shelf.specs.declared.stored.Stored.{Stored}
 use Rattle.sz_shelf.specs.declared.stored.Stored.TheVariants.{Open, Shared, Moved}
-use Rattle.sz_shelf.proofs.Lineages.{IsRight, AreRight, IsRun, run-all, empty-right, none-placed}
+use Rattle.sz_shelf.proofs.Lineages.{run-all, empty-right, none-placed}
 use Rattle.sz_shelf.proofs.Marks.{each-placed}
 
 -- ---- what lineages leave as it is
@@ -87,8 +90,7 @@ stands-unplaced s (entries true es) i o x none =
 piece-in : (ps : List Parts) (k : ℕ) → is_in (map (λ p. p.piece) ps) k ≡ list_any (λ p. p.piece == k) ps
 piece-in ps k = any-map (λ (j : ℕ). j == k) (λ (p : Parts). p.piece) ps
 
-made-placed : (t : Tag) (ps : List Parts) → AllFit t.site t.inputs t.list ps
-    → StandsOnPlaced t (map (λ p. p.piece) ps) (with_lineages (no_lineage t.site t.list) ps)
+pub made-placed : LineagesStandOnTheirPieces
 made-placed t ps fit =
     let start = no_lineage t.site t.list in
     let same = same-all start ps in
@@ -113,9 +115,7 @@ made-placed t ps fit =
           ]));
     }
 
-made-whole : (t : Tag) (ps : List Parts) → AllFit t.site t.inputs t.list ps
-    → missing_in (tag_pieces t) (map (λ p. p.piece) ps) ≡ None
-    → StandsFor t (with_lineages (no_lineage t.site t.list) ps)
+pub made-whole : LineagesOfAllPiecesStandForTheTag
 made-whole t ps fit none =
     let start = no_lineage t.site t.list in
     let same = same-all start ps in
@@ -132,8 +132,7 @@ made-whole t ps fit none =
 -- ---- the stores of a tag
 
 -- what stands for the relation stands for it on each piece
-whole-placed : (t : Tag) (placed : List ℕ) (kept : NodeLineage) → missing_in (tag_pieces t) placed ≡ None
-    → StandsFor t kept → StandsOnPlaced t placed kept
+pub whole-placed : WholeStoresStandOnPlacedPieces
 whole-placed t placed kept none is = record {
   site = is.site;
   list = is.list;
@@ -208,6 +207,29 @@ made-more t placed kept p made below fits =
           ∙ sym (with-last (no_lineage t.site t.list) made.lineages p);
     }
 
+-- open stores can be given a lineage that fits
+pub can-take : (t : Tag) (placed : List ℕ) (sealed : Bool) (s : Stored) (p : Parts) → sealed ≡ false
+    → AreStores t placed sealed s → p.piece < tag_pieces t
+    → Fits (measure_of t.site t.inputs) t.list p.piece p → CanTake p s
+can-take t placed sealed (Open kept) p free are below fits =
+    let same = same-all (no_lineage t.site t.list) are.lineages in
+    let site : kept.site ≡ t.site = ap (λ (x : NodeLineage). x.site) are.made ∙ same.site in
+    let list : kept.list ≡ t.list = ap (λ (x : NodeLineage). x.list) are.made ∙ same.list in (
+      rw site below,
+      rw (site, list) (fitting-placed t.site t.inputs t.list p fits),
+    )
+can-take t placed sealed (Shared a) p free are below fits = absurd (true≢false (sym are.0 ∙ free))
+can-take t placed sealed Moved p free are below fits = absurd are
+
+-- and are then the tag's still
+pub stores-more : (t : Tag) (placed : List ℕ) (sealed : Bool) (s : Stored) (p : Parts) → sealed ≡ false
+    → AreStores t placed sealed s → p.piece < tag_pieces t
+    → Fits (measure_of t.site t.inputs) t.list p.piece p
+    → AreStores t (placed ++ p.piece ∷ []) sealed (with_more p s)
+stores-more t placed sealed (Open kept) p free are below fits = made-more t placed kept p are below fits
+stores-more t placed sealed (Shared a) p free are below fits = absurd (true≢false (sym are.0 ∙ free))
+stores-more t placed sealed Moved p free are below fits = absurd are
+
 pub made-none : (t : Tag) → IsMadeOf t [] (no_lineage t.site t.list)
 made-none t = record {
   lineages = [];
@@ -268,8 +290,7 @@ for-found P t (f ∷ fs) all some =
     ]
 
 -- the store of a stored strategy of the list stands for the relation
-pub strategy-stands : (t : Tag) (kept : NodeLineage) (u : Strategy) → StandsFor t kept → is_listed t.list u ≡ true
-    → is_stored u ≡ true → IsTheRelation (measure_of t.site t.inputs) (holding_stands t.site (holding_for u kept.stores))
+pub strategy-stands : EachStrategyStandsForTheTag
 strategy-stands t kept u is listed stored =
     for-found (λ h. IsTheRelation (measure_of t.site t.inputs) (holding_stands t.site h)) u kept.stores is.exact
     (sym (any-map (λ (v : Strategy). number_of v == number_of u) (λ (f : Keep). f.strategy) kept.stores)
@@ -296,10 +317,17 @@ image-same Forward s i r q from own near same =
     (λ o held. any-same from (λ x. r o x) (λ x. q o x) own
     (λ x there. same o x held (subst (λ (e : Extent). holds e x ≡ true) near there)))
 
-pub image-stands : (t : Tag) (kept : NodeLineage) (u : Strategy) (dir : Dir) (i : ℕ) (from : Cells) → StandsFor t kept
+pub image-stands : ImagesByStoresAreTheTags
+image-stands t kept u dir i from is listed stored inside own near =
+    ap (λ (s : Site). image_in dir s i (holding_stands s (holding_for u kept.stores) i) from) is.site
+    ∙ image-same dir t.site i (holding_stands t.site (holding_for u kept.stores) i) (tag_relation t i) from own near
+    (λ o x here held. strategy-stands t kept u is listed stored i o x inside here held)
+
+-- so what a store adds by that strategy is the image under the tag's relation
+pub image-told : (t : Tag) (kept : NodeLineage) (u : Strategy) (dir : Dir) (i : ℕ) (from to : Cells) → StandsFor t kept
     → is_listed t.list u ≡ true → is_stored u ≡ true → i < length t.site.ins
     → from ≡ cells_where from.extent (has from) → from.extent ≡ near_side dir t.site i
-    → image_in dir t.site i (holding_stands t.site (holding_for u kept.stores) i) from ≡ tag_image dir t i from
-image-stands t kept u dir i from is listed stored inside own near =
-    image-same dir t.site i (holding_stands t.site (holding_for u kept.stores) i) (tag_relation t i) from own near
-    (λ o x here held. strategy-stands t kept u is listed stored i o x inside here held)
+    → with_those to (has (image_in dir kept.site i (holding_stands kept.site (holding_for u kept.stores) i) from))
+    ≡ with_those to (has (tag_image dir t i from))
+image-told t kept u dir i from to is listed stored inside own near =
+    ap (λ (set : Cells). with_those to (has set)) (image-stands t kept u dir i from is listed stored inside own near)

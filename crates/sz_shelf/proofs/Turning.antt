@@ -13,7 +13,8 @@ use Rattle.sz_shelf.specs.declared.answers.Placed.{Placed}
 use Rattle.sz_shelf.specs.declared.answers.Placed.TheVariants as placed
 use Rattle.sz_shelf.specs.declared.answers.SealReply.{SealReply}
 use Rattle.sz_shelf.specs.declared.answers.SealReply.TheVariants as seal
-use Rattle.sz_shelf.specs.Rule.{Begins, ArePieces}
+use Rattle.sz_shelf.specs.Rule.{Own, Begins, ArePieces}
+use Rattle.sz_shelf.specs.Steps.{after_release}
 use Rattle.sz_shelf.specs.Turns.{Entered}
 use Rattle.sz_shelf.specs.Answers.{place_answer, seal_answer}
 use Rattle.sz_shelf.specs.Passes.{Onlooker, onlooker, TookTurn, Stays}
@@ -56,7 +57,7 @@ pub equal-stays : (v w y : View) → Entered v w → y ≡ w → Stays w y
 equal-stays v w y e same = subst (Stays w) (sym same) (same-stays v w e)
 
 -- where a piece is new, there was no seal, and it was not placed
-is-new : Placed → Bool
+abbrev pub is-new : Placed → Bool
 is-new placed.New = true
 is-new _ = false
 
@@ -68,7 +69,7 @@ new-piece found false piece is = (refl, by_test (is_in found piece) is) where
   by_test true e = absurd (true≢false (ap is-new e))
   by_test false e = refl
 
-is-new-told : Result Placed NoMemory → Bool
+abbrev pub is-new-told : Result Placed NoMemory → Bool
 is-new-told (Ok p) = is-new p
 is-new-told (Err _) = false
 
@@ -96,7 +97,7 @@ placed-stays v w y piece (Ok placed.Sealed) e inside answer new other =
 placed-stays v w y piece (Err n) e inside answer new other =
     equal-stays v w y e (other (λ h. true≢false (sym (ap is-new-told h))))
 
-is-sealed : SealReply → Bool
+abbrev pub is-sealed : SealReply → Bool
 is-sealed seal.Sealed = true
 is-sealed _ = false
 
@@ -123,3 +124,19 @@ sealed-stays v w y seal.Sealed e answer sealed missing =
     }
 sealed-stays v w y (seal.Missing k) e answer sealed missing =
     equal-stays v w y e (missing (λ h. true≢false (sym (ap is-sealed h))))
+
+-- what a pass knows once its seat has given the store back and is idle
+pub turn-of : (p : Onlooker) (z z' : TableId) (v w y : View) (m : Own) (k l : Option NodeLineage)
+    → onlooker z v k ≡ p → z' ≡ z → m ≡ (after_release y, []) → Entered v w → Stays w y
+    → TookTurn p (onlooker z' m.0 l)
+turn-of p z z' v w y m k l is same left e s =
+    subst (λ (x : Onlooker). TookTurn x (onlooker z' m.0 l)) is
+    (subst (λ (x : Onlooker). TookTurn (onlooker z v k) x)
+    (ap₂ (λ (i : TableId) (n : Own). onlooker i n.0 l) (sym same) (sym left))
+    (turn-told z v w y k l e s))
+
+-- the tag is that of the pass
+pub inside-tag : (p : Onlooker) (z : TableId) (v w : View) (k : Option NodeLineage) (piece : ℕ) → onlooker z v k ≡ p
+    → Entered v w → piece < tag_pieces p.tag → piece < tag_pieces w.tag
+inside-tag p z v w k piece is e h = subst (λ (t : Tag). piece < tag_pieces t)
+    (sym (ap (λ (x : View). x.tag) e.after ∙ ap (λ (x : Onlooker). x.tag) is)) h

@@ -1,8 +1,8 @@
 -- What contracts see of a shelf's store: its tag, the pieces that are placed, and whether it is
 -- sealed.
-use Rattle.std.specs.Prelude.{◌≡◌, ◌==◌, ℕ, ◌<◌, List, Bool, true, not, Option, unwrap_or, All}
+use Rattle.std.specs.Prelude.{◌==◌, ℕ, List, Bool, not, Option, unwrap_or}
 use Rattle.std.specs.List.{list_any, find, range_with_len}
-use Rattle.sz_shelf.specs.Tags.{Tag, tag_pieces}
+use Rattle.sz_shelf.specs.Tags.{Tag}
 
 -- the tag, the pieces that are placed, in their order, and whether the store is sealed
 pub record Contents : Type 0 where

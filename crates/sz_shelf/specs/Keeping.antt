@@ -9,7 +9,6 @@ use Rattle.std.specs.Arc.{arc_value}
 use Rattle.sz_spec.specs.Pieces.{pieces_of}
 use Rattle.sz_region.specs.Parts.{Parts}
 use Rattle.sz_store.specs.Kept.{NodeLineage, AreParts, no_lineage, with_lineage, with_lineages}
-use Rattle.sz_store.specs.Kept.{is_placed}
 use Rattle.sz_store.specs.Laws.{AllFit}
 use Rattle.sz_shelf.specs.Tags.{Tag, IsTag, StandsFor, tag_pieces}
 use Rattle.sz_shelf.specs.Contents.{is_in, missing_in}
@@ -54,15 +53,18 @@ AreStores t placed sealed (Open kept) = IsMadeOf t placed kept
 AreStores t placed sealed (Shared a) = (sealed ≡ true) × StandsFor t (arc_value a)
 AreStores t placed sealed Moved = ⊥
 
--- for each piece whether it is placed, and no piece is placed twice
+-- For each piece whether it is placed. As many are marked as the list has pieces, so no piece is in
+-- it twice, and none that there is not.
 pub record AreMarks (t : Tag) (placed : List ℕ) (marks : List Bool) : Type 0 where
   pub long : length marks ≡ tag_pieces t
   pub few : length marks < 2 ^ 32
   pub marked : (k : ℕ) → k < length marks → slice_index_or marks k false ≡ is_in placed k
   pub once : length (filter (λ b. b) marks) ≡ length placed
 
-pub record IsKept (t : Tag) (placed : List ℕ) (sealed : Bool) (marks : List Bool) (s : Stored) : Type 0 where
+-- what lies in the slot: stores of this tag, with these pieces, sealed or not
+pub record IsShelved (t : Tag) (placed : List ℕ) (sealed : Bool) (flags : List Bool)
+    (s : Stored) : Type 0 where
   pub tag : IsTag t
-  pub marks : AreMarks t placed marks
+  pub marks : AreMarks t placed flags
   pub whole : sealed ≡ true → missing_in (tag_pieces t) placed ≡ None
   pub stores : AreStores t placed sealed s

@@ -9,6 +9,9 @@ ghost use Rattle.sz_spec.specs.Modes.{is_listed, is_stored};
 ghost use Rattle.sz_spec.specs.Sides.{near_side, far_side};
 ghost use Rattle.sz_region.specs.Fits.{Fits};
 ghost use Rattle.sz_region.specs.Images.{measure_of};
+ghost use Rattle.sz_core.specs.Events.{place_reply, after_place, seal_reply, after_seal, look_reply};
+ghost use Rattle.sz_shelf.specs.Machine.{found_shelf, left_shelf, first_step};
+ghost use Rattle.sz_shelf.specs.Machine.{told_of_place, told_of_seal, told_of_look};
 ghost use Rattle.sz_shelf.specs.Tags.{IsTag, StandsFor, tag_pieces, tag_image};
 ghost use Rattle.sz_shelf.specs.Steps.{longer};
 ghost use Rattle.sz_shelf.specs.Passes.{TookTurn, newcomer, place_of};
@@ -127,6 +130,10 @@ impl Shelf {
             → pass.new.seen ≡ pass.new.found ++ lineage.now.piece ∷ [] }
         ensures other { ¬ (result ≡ Ok New) → pass.new.seen ≡ pass.new.found }
         ensures saw { pass.new.saw ≡ pass.new.found_sealed }
+        ensures told { IfOk result (λ p. told_of_place p
+            ≡ place_reply lineage.now.piece (found_shelf pass.new)) }
+        ensures left { IfOk result (λ _.
+            left_shelf pass.new ≡ after_place lineage.now.piece (found_shelf pass.new)) }
     {
         self.words.enter(rt, &mut pass.seat);
         let placed = self.words.place(&mut pass.seat, lineage);
@@ -144,6 +151,8 @@ impl Shelf {
         ensures sealed { result ≡ SealedNow → pass.new.saw ≡ true }
         ensures missing { ¬ (result ≡ SealedNow) → pass.new.saw ≡ pass.new.found_sealed }
         ensures again { pass.old.saw ≡ true → result ≡ SealedNow }
+        ensures told { told_of_seal result ≡ seal_reply (found_shelf pass.new) }
+        ensures left { left_shelf pass.new ≡ after_seal (found_shelf pass.new) }
     {
         self.words.enter(rt, &mut pass.seat);
         let sealed = self.words.seal(&mut pass.seat);
@@ -180,6 +189,8 @@ impl Shelf {
         ensures seen { pass.new.seen ≡ pass.new.found }
         ensures saw { pass.new.saw ≡ pass.new.found_sealed }
         ensures never { pass.old.saw ≡ true → result ≡ Done }
+        ensures told { told_of_look result ≡ look_reply (found_shelf pass.new ∷ [])
+            (first_step dir input from.now) }
     {
         self.words.enter(rt, &mut pass.seat);
         let look = self.words.image(&mut pass.seat, s, dir, input, from, to);

@@ -4,7 +4,7 @@
 //! whether it is sealed; the stores themselves are seen by [`Shelved::store`], which says what they
 //! stand for.
 
-ghost use Rattle.std.specs.Prelude.{◌≡◌, ◌<◌, ◌≤◌, ◌++◌, ◌∷◌, [], length, true, false};
+ghost use Rattle.std.specs.Prelude.{◌≡◌, ℕ, ◌<◌, ◌≤◌, ◌++◌, ◌∷◌, [], length, true, false};
 ghost use Rattle.std.specs.Prelude.{Some, None, IfOk, OnOk, OnErr};
 ghost use Rattle.std.specs.List.{slice_index_or};
 ghost use Rattle.std.specs.Arc.{arc_value};
@@ -13,7 +13,8 @@ ghost use Rattle.sz_spec.specs.Modes.{is_listed, is_stored};
 ghost use Rattle.sz_spec.specs.Sides.{near_side, far_side};
 ghost use Rattle.sz_region.specs.Fits.{Fits};
 ghost use Rattle.sz_region.specs.Images.{measure_of};
-ghost use Rattle.sz_shelf.specs.Tags.{IsTag, StandsFor, StandsOnPlaced, tag_pieces, tag_image};
+ghost use Rattle.sz_shelf.specs.Tags.{IsTag, StandsFor, tag_pieces, tag_image};
+ghost use Rattle.sz_shelf.specs.Placed.{StandsOnPlaced};
 ghost use Rattle.sz_shelf.specs.Contents.{is_in, missing_in, least_missing};
 
 use crate::stored::Stored;
@@ -42,7 +43,7 @@ pub struct Shelved {
 
 impl Model for Shelved {
     ghost use Rattle.sz_shelf.specs.Contents.{Contents};
-    ghost use Rattle.sz_shelf.specs.Keeping.{IsKept};
+    ghost use Rattle.sz_shelf.specs.Keeping.{IsShelved};
 
     ghost Value = { Contents };
 
@@ -53,7 +54,7 @@ impl Model for Shelved {
     } };
 
     ghost invariant = { λ s.
-        IsKept s.tag.value s.placed.items s.sealed s.marks.items s.stored };
+        IsShelved s.tag.value s.placed.items s.sealed s.marks.items s.stored };
 }
 
 impl Shelved {
@@ -64,7 +65,11 @@ impl Shelved {
             (λ s. s ≡ record { tag = tag; placed = []; sealed = false }) }
     {
         let seen = Snapshot::of(&tag);
-        let TagParts { at, inputs: _, list } = tag;
+        let TagParts {
+            at,
+            inputs: _,
+            list,
+        } = tag;
         let pieces = pieces_of(at.out()) as usize;
         let store = NodeStore::new(alloc, at, &list)?;
         let placed = Vec::with_capacity(alloc, pieces)?;
