@@ -156,6 +156,17 @@ seal-left t found seen sealed saw (seal.Missing k) is same yet not_yet =
     ∙ sym (ap (λ (b : Bool). if b then shelf_of t found true else shelf_of t found sealed)
     (ap is_none (misses t found sealed) ∙ missing-some found (tag_pieces t) k is))
 
+pub seal-leaves : (w y : View) (r : SealReply) → r ≡ seal_answer (tag_pieces w.tag) w.seen
+    → (r ≡ seal.Sealed → y ≡ record w { saw = true }) → (¬ (r ≡ seal.Sealed) → y ≡ w)
+    → shelf_of w.tag y.seen y.saw ≡ after_seal (shelf_of w.tag w.seen w.saw)
+seal-leaves w y seal.Sealed is yet not_yet =
+    seal-left w.tag w.seen y.seen w.saw y.saw seal.Sealed is (ap (λ (x : View). x.seen) (yet refl))
+    (λ _. ap (λ (x : View). x.saw) (yet refl)) (λ other. absurd (other refl))
+seal-leaves w y (seal.Missing k) is yet not_yet =
+    let other : ¬ (seal.Missing k ≡ seal.Sealed) = λ e. true≢false (sym (ap is-sealed e)) in
+    seal-left w.tag w.seen y.seen w.saw y.saw (seal.Missing k) is (ap (λ (x : View). x.seen) (not_yet other))
+    (λ e. absurd (other e)) (λ _. ap (λ (x : View). x.saw) (not_yet other))
+
 pub look-told : (t : Tag) (found : List ℕ) (sealed : Bool) (dir : Dir) (input : ℕ) (from : Cells)
     → told_of_look (look_answer (tag_pieces t) found sealed)
     ≡ look_reply (shelf_of t found sealed ∷ []) (first_step dir input from)
