@@ -3,3 +3,8 @@
 pub mod Lineages
 pub mod Marks
 pub mod Stores
+mod Lists
+mod Moves
+mod Slots
+mod Turning
+mod Telling

@@ -4,3 +4,10 @@ pub mod Contents
 pub mod Placed
 pub mod Keeping
 pub mod LawsStores
+pub mod Places
+pub mod Rule
+pub mod Steps
+pub mod Turns
+pub mod Answers
+pub mod Passes
+pub mod Machine
