@@ -37,7 +37,8 @@ use Rattle.sz_store.proofs.Parting.{piece-number}
 use Rattle.sz_store.proofs.Standing.{placed-same, placed-more, placed-cases, is-false}
 
 -- a store of the list is right so far
-pub record IsRight (s : Site) (inputs : List Grid) (list : List Strategy) (placed : List Bool) (h : Holding) : Type 0 where
+pub record IsRight (s : Site) (inputs : List Grid) (list : List Strategy) (placed : List Bool)
+    (h : Holding) : Type 0 where
   pub needed : needs list (mode_in h) ≡ true
   pub inside : (o : Cell) → holding_has h o ≡ true → is_placed placed (index_of s.out o / 64) ≡ true
   pub stands : (k : ℕ) → is_placed placed k ≡ true → StandsOn (measure_of s inputs) k (holding_stands s h)
@@ -144,7 +145,8 @@ step-more s inputs list st p right below fits =
     ]
 
 -- all of them
-pub record IsRun (s : Site) (inputs : List Grid) (list : List Strategy) (ps : List Parts) (st last : NodeLineage) : Type 0 where
+pub record IsRun (s : Site) (inputs : List Grid) (list : List Strategy) (ps : List Parts)
+    (st last : NodeLineage) : Type 0 where
   pub right : AreRight s inputs list last
   pub own : (k : ℕ) → list_any (λ p. p.piece == k) ps ≡ true → is_placed last.placed k ≡ true
   pub others : (j : ℕ) → is_placed st.placed j ≡ true → is_placed last.placed j ≡ true
@@ -185,7 +187,9 @@ run-all s inputs list (p ∷ ps) st right fit =
             | inl later ↦ inl (or-right (p.piece == j) (list_any (λ q. q.piece == j) ps) later)
             | inr before ↦
                 elim (step.back j before) [
-                  | inl same ↦ inl (ap (λ (b : Bool). b || list_any (λ q. q.piece == j) ps) (eq-eqb p.piece j (sym same)))
+                  | inl same ↦
+                      inl
+                      (ap (λ (b : Bool). b || list_any (λ q. q.piece == j) ps) (eq-eqb p.piece j (sym same)))
                   | inr old ↦ inr old
                 ]
           ];

@@ -39,13 +39,15 @@ pub least-is : (n : ℕ) (placed : List ℕ) (i : ℕ) → i < n → ((k : ℕ) 
 unfolding shelf_with
 least-is n placed i within below here =
     subst (λ (m : ℕ). missing_in m placed ≡ Some i) (length-replicate n no_pairs)
-    (missing-some (shelf_with n placed) i (subst (λ (m : ℕ). i < m) (sym (length-replicate n no_pairs)) within) below here)
+    (missing-some (shelf_with n placed) i (subst (λ (m : ℕ). i < m) (sym (length-replicate n no_pairs)) within)
+    below here)
 
 pub none-missing : (n : ℕ) (placed : List ℕ) → ((k : ℕ) → k < n → is_in placed k ≡ true) → missing_in n placed ≡ None
 unfolding shelf_with
 none-missing n placed all =
     subst (λ (m : ℕ). missing_in m placed ≡ None) (length-replicate n no_pairs)
-    (missing-none (shelf_with n placed) (λ k below. all k (subst (λ (m : ℕ). k < m) (length-replicate n no_pairs) below)))
+    (missing-none (shelf_with n placed)
+    (λ k below. all k (subst (λ (m : ℕ). k < m) (length-replicate n no_pairs) below)))
 
 pub each-placed : (n : ℕ) (placed : List ℕ) → missing_in n placed ≡ None → (k : ℕ) → k < n → is_in placed k ≡ true
 unfolding shelf_with
@@ -65,7 +67,9 @@ or-none true = refl
 or-none false = refl
 
 pub in-more : (placed : List ℕ) (k j : ℕ) → is_in (placed ++ k ∷ []) j ≡ (is_in placed j || (k == j))
-in-more placed k j = list_any-append (λ (i : ℕ). i == j) placed (k ∷ []) ∙ ap (λ (b : Bool). is_in placed j || b) (or-none (k == j))
+in-more placed k j =
+    list_any-append (λ (i : ℕ). i == j) placed (k ∷ [])
+    ∙ ap (λ (b : Bool). is_in placed j || b) (or-none (k == j))
 
 set-more : (marks : List Bool) (k : ℕ) → k < length marks → get_or marks k false ≡ false
     → length (filter (λ b. b) (set marks k true)) ≡ length (filter (λ b. b) marks) + 1
@@ -89,7 +93,9 @@ marks-more t placed marks k are inside new = record {
             let e : k ≡ j = eqb-true k j same in
             rw (← e)
             (get_or-set_same marks k true false inside
-            ∙ sym (in-more placed k k ∙ ap (λ (b : Bool). is_in placed k || b) (eq-eqb k k refl) ∙ or-true (is_in placed k)))
+            ∙ sym
+            (in-more placed k k ∙ ap (λ (b : Bool). is_in placed k || b) (eq-eqb k k refl)
+            ∙ or-true (is_in placed k)))
         | inr other ↦
             get_or-set_other marks k j true false (λ e. true≢false (sym (eq-eqb k j (sym e)) ∙ other))
             ∙ are.marked j below

@@ -197,7 +197,8 @@ pub made-more : (t : Tag) (placed : List ℕ) (kept : NodeLineage) (p : Parts) �
     → p.piece < tag_pieces t → Fits (measure_of t.site t.inputs) t.list p.piece p
     → IsMadeOf t (placed ++ p.piece ∷ []) (with_lineage kept p)
 made-more t placed kept p made below fits =
-    let Q : Parts → Type 0 = λ q. (q.piece < pieces_of t.site.out) × Fits (measure_of t.site t.inputs) t.list q.piece q in
+    let Q : Parts → Type 0 =
+    λ q. (q.piece < pieces_of t.site.out) × Fits (measure_of t.site t.inputs) t.list q.piece q in
     record {
       lineages = made.lineages ++ p ∷ [];
       fit = All-append Q made.lineages (p ∷ []) made.fit (All-cons Q p [] (below, fits) (All-nil Q));
@@ -301,7 +302,8 @@ strategy-stands t kept u is listed stored =
 any-same : (from : Cells) (p q : Cell → Bool) → from ≡ cells_where from.extent (has from)
     → ((c : Cell) → holds from.extent c ≡ true → p c ≡ q c) → any_cell p from ≡ any_cell q from
 any-same from p q own same =
-    ap (any_cell p) own ∙ any_cell-ext from.extent (has from) p q (λ c held passes. same c held) ∙ sym (ap (any_cell q) own)
+    ap (any_cell p) own ∙ any_cell-ext from.extent (has from) p q (λ c held passes. same c held)
+    ∙ sym (ap (any_cell q) own)
 
 -- relations that agree on the cells of the shapes have one image
 pub image-same : (dir : Dir) (s : Site) (i : ℕ) (r q : Cell → Cell → Bool) (from : Cells)

@@ -2,7 +2,8 @@
 //! its contract is the law. What the stores in a shelf's slot stand for is said by
 //! [`Shelved::store`](crate::Shelved::store).
 
-ghost use Rattle.sz_shelf.specs.LawsStores.{LineagesStandOnTheirPieces, EachStrategyStandsForTheTag};
+ghost use Rattle.sz_shelf.specs.LawsStores.{LineagesStandOnTheirPieces};
+ghost use Rattle.sz_shelf.specs.LawsStores.{EachStrategyStandsForTheTag};
 ghost use Rattle.sz_shelf.specs.LawsStores.{LineagesOfAllPiecesStandForTheTag};
 ghost use Rattle.sz_shelf.specs.LawsStores.{WholeStoresStandOnPlacedPieces};
 ghost use Rattle.sz_shelf.specs.LawsStores.{ImagesByStoresAreTheTags};
