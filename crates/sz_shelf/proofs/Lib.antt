@@ -8,3 +8,5 @@ mod Moves
 mod Slots
 mod Turning
 mod Telling
+mod Reading
+mod Effects

@@ -31,7 +31,7 @@ idle-never-store InTurn e = absurd (true≢false e)
 idle-never-store StoreOut e = absurd (true≢false e)
 idle-never-store Spent e = refl
 
-store-busy : (d : Stage) → has_store d ≡ true → is_busy d ≡ true
+pub store-busy : (d : Stage) → has_store d ≡ true → is_busy d ≡ true
 store-busy Idle e = absurd (true≢false (sym e))
 store-busy InTurn e = absurd (true≢false (sym e))
 store-busy StoreOut e = refl
@@ -50,11 +50,11 @@ flag-one InTurn never = refl
 flag-one StoreOut never = refl
 flag-one Spent never = absurd (never refl)
 
-contrary : {X : Type 0} (b : Bool) → b ≡ true → b ≡ false → X
+pub contrary : {X : Type 0} (b : Bool) → b ≡ true → b ≡ false → X
 contrary b so never = absurd (true≢false (sym so ∙ never))
 
 -- the count has its last value exactly where there is a seal
-last-tells : (t : Tag) (placed : List ℕ) (sealed : Bool) → length placed ≤ tag_pieces t
+pub last-tells : (t : Tag) (placed : List ℕ) (sealed : Bool) → length placed ≤ tag_pieces t
     → sealed ≡ (count_of t placed sealed == last_of t)
 last-tells t placed true few = sym (eq-eqb (last_of t) (last_of t) refl)
 last-tells t placed false few =

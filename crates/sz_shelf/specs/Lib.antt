@@ -11,3 +11,5 @@ pub mod Turns
 pub mod Answers
 pub mod Passes
 pub mod Machine
+pub mod Rules
+pub mod Changes

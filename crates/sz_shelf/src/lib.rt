@@ -2,6 +2,7 @@
 #![tactic(auto)]
 
 mod answers;
+pub mod laws;
 mod pass;
 mod rule;
 mod shelf;

@@ -234,9 +234,7 @@ impl Shelf {
         let given = self.words.share(&mut pass.seat, alloc);
         self.words.leave(&mut pass.seat);
         let given = given?;
-        if let Some(store) = &given {
-            pass.kept = Some(Arc::try_clone(store)?);
-        }
+        pass.keep(&given)?;
         Ok(given)
     }
 
