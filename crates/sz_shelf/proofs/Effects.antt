@@ -23,6 +23,7 @@ use Rattle.sz_shelf.specs.Steps.{IsTry, IsTaking, IsCounting, IsGiving, IsReleas
 use Rattle.sz_shelf.specs.Changes.{IsWon, IsLost, IsTaken, IsCounted, IsGiven, IsReleased, IsLoaded}
 use Rattle.sz_shelf.specs.Changes.{OneView, IsStep, WinsOrLoses, Takes, Counts, Gives, Releases, Loads, Splits, Joins}
 use Rattle.sz_shelf.proofs.Lists.{set_there, two-of}
+use Rattle.sz_shelf.proofs.Slots.{first-out}
 
 -- the one slot and what a seat has out: the store c is in the slot, or the seat has it
 Whole : Contents → List (Option Contents) → List (ℕ × Contents) → Type 0
@@ -83,14 +84,8 @@ slot-taken (none ∷ []) a l c one out v took =
     nothing-out (0, c) [] (sym (acts-none a (none ∷ []) l refl out v).1 ∙ took)
 slot-taken (some d ∷ []) a l c one out v took = ⊎_elim
     (λ w. nothing-out (0, c) [] (sym w.1 ∙ took))
-    (λ w. (ap (λ (z : Contents). some z ∷ []) (first d (sym w.1 ∙ took)), w.0))
-    (acts d a (some d ∷ []) l (inl (refl, out)) v) where
-  store : Contents → List (ℕ × Contents) → Contents
-  store z [] = z
-  store z (p ∷ r) = p.1
-  first : (z : Contents) → (0, z) ∷ [] ≡ (0, c) ∷ [] → z ≡ c
-  unfolding store
-  first z e = ap (store z) e
+    (λ w. (ap (λ (z : Contents). some z ∷ []) (ap (first-out d) (sym w.1 ∙ took)), w.0))
+    (acts d a (some d ∷ []) l (inl (refl, out)) v)
 
 -- one view is another's, and each other view stays
 one-view : (id : ℕ) (v w : View) (s : Table) (words : List ℕ) (homes : List (Option Contents))

@@ -1,5 +1,5 @@
 -- The lemmas: of what lineages placed one after another stand for, of marks of placed pieces, and of the stores of a
--- tag.
+-- tag; then of lists, of the kinds of step, of a turn, of the machine's replies, and of the laws.
 pub mod Lineages
 pub mod Marks
 pub mod Stores

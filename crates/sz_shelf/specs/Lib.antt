@@ -1,4 +1,4 @@
--- What contracts name.
+-- What contracts name, how it is known, and what the laws say.
 pub mod Tags
 pub mod Contents
 pub mod Placed
