@@ -1,7 +1,9 @@
 -- What each kind of step changes.
--- Key idea: a table has one slot. An act on it by a seat that has nothing out takes the store or leaves all as it was, and an
--- act by the seat that has it out gives it back or leaves all as it was: which of the two, what the seat then has out says.
-use Rattle.std.proofs.Common.{◌≡◌, ◌==◌, ℕ, zero, suc, ◌<◌, ◌⊎◌, inl, inr, List, [], ◌∷◌, ◌++◌, Bool, true, false, set, length}
+-- Key idea: a table has one slot. An act on it by a seat that has nothing out takes the store or leaves all as it was,
+-- and an act by the seat that has it out gives it back or leaves all as it was: which of the two, what the seat then has
+-- out says.
+use Rattle.std.proofs.Common.{◌≡◌, ◌==◌, ℕ, zero, suc, ◌<◌, ◌⊎◌, inl, inr, List, [], ◌∷◌, ◌++◌, Bool, true, false, set}
+use Rattle.std.proofs.Common.{length}
 use Rattle.std.proofs.Common.{sym, refl, ap, ap₂, ◌∙◌, subst, arith, ⊎_elim, eq-eqb, ne_eqb}
 use Rattle.std.proofs.lemmas.List.{set-get_or}
 use mathlib.Core.Option.{Option, none, some, some-injective, some-ne-none}
@@ -11,15 +13,18 @@ use native.Mathlib.Decide.{ℕ_discrete}
 use prog.Atomic.{either}
 use lib.ListN.{get_elem?}
 use Rattle.std.specs.Prelude.{slice_index}
-use Rattle.atomic_table.specs.Table.{step, Act, stepped, keeps, takes, gives, chain, rest, put_back, homes_after, carried_after, Valid}
+use Rattle.atomic_table.specs.Table.{step, Act, stepped, keeps, takes, gives, chain, rest, put_back, homes_after}
+use Rattle.atomic_table.specs.Table.{carried_after, Valid}
 use Rattle.atomic_table.proofs.Lists.{set_again, set_else, exchanged}
 use Rattle.sz_shelf.specs.Tags.{Tag, tag_pieces}
 use Rattle.sz_shelf.specs.Contents.{Contents}
 use Rattle.sz_shelf.specs.declared.rule.View.{View}
 use Rattle.sz_shelf.specs.declared.rule.Stage.TheVariants.{Idle, InTurn, StoreOut}
-use Rattle.sz_shelf.specs.Rule.{Table, Own, IsKept, has_store, is_spent, is_busy, count_of, last_of, contents, spent_view}
+use Rattle.sz_shelf.specs.Rule.{Table, Own, IsKept, has_store, is_spent, is_busy, count_of, last_of, contents}
+use Rattle.sz_shelf.specs.Rule.{spent_view}
 use Rattle.sz_shelf.specs.Rules.{flag_in, count_in, slot_in}
-use Rattle.sz_shelf.specs.Steps.{IsTry, IsTaking, IsCounting, IsGiving, IsReleasing, IsLoad, after_count, after_split, after_join}
+use Rattle.sz_shelf.specs.Steps.{IsTry, IsTaking, IsCounting, IsGiving, IsReleasing, IsLoad, after_count, after_split}
+use Rattle.sz_shelf.specs.Steps.{after_join}
 use Rattle.sz_shelf.specs.Changes.{IsWon, IsLost, IsTaken, IsCounted, IsGiven, IsReleased, IsLoaded}
 use Rattle.sz_shelf.specs.Changes.{OneView, IsStep, WinsOrLoses, Takes, Counts, Gives, Releases, Loads, Splits, Joins}
 use Rattle.sz_shelf.proofs.Lists.{set_there, two-of}
@@ -43,8 +48,10 @@ unfolding Whole
 acts c keeps hs l w v = w
 acts c (takes k y) hs l (inl (e, f)) v =
     let at = only-home c y k (ap (λ (x : List (Option Contents)). get_elem? x k) (sym e) ∙ v) in
-    inr (ap₂ (λ (x : List (Option Contents)) (i : ℕ). set x i none) e at.0,
-    ap₂ (λ (x : ℕ × Contents) (r : List (ℕ × Contents)). x ∷ r) (ap₂ (λ (i : ℕ) (z : Contents). (i, z)) at.0 at.1) f)
+    inr (
+      ap₂ (λ (x : List (Option Contents)) (i : ℕ). set x i none) e at.0,
+      ap₂ (λ (x : ℕ × Contents) (r : List (ℕ × Contents)). x ∷ r) (ap₂ (λ (i : ℕ) (z : Contents). (i, z)) at.0 at.1) f,
+    )
 acts c (takes k y) hs l (inr (e, f)) v = none-home y k (ap (λ (x : List (Option Contents)). get_elem? x k) (sym e) ∙ v)
 acts c gives hs l (inl (e, f)) v = inl (ap (put_back hs) f ∙ e, ap rest f)
 acts c gives hs l (inr (e, f)) v = inl (ap₂ put_back e f, ap rest f)
@@ -119,7 +126,7 @@ tries-change t slots id m n s u empty st is = dite (ℕ_discrete (flag_in s) 0)
     (λ free.
     let two = two-of s.words 1 st.kept.two in
     let after : u ≡ stepped s 0 1 id m.1 n.0 st.act = st.after
-        ∙ ap (λ (k : ℕ). stepped s 0 k id m.1 n.0 st.act) (ap (λ b. either b 1 (flag_in s)) (eq-eqb (flag_in s) 0 free)) in
+    ∙ ap (λ (k : ℕ). stepped s 0 k id m.1 n.0 st.act) (ap (λ b. either b 1 (flag_in s)) (eq-eqb (flag_in s) 0 free)) in
     inl (subst (λ (x : Table). IsWon id m.0 n.0 s x) (sym after) record {
       free = free;
       flag = two.0;
@@ -133,7 +140,7 @@ tries-change t slots id m n s u empty st is = dite (ℕ_discrete (flag_in s) 0)
     (λ held.
     let lost = is.loss held in
     let after : u ≡ stepped s 0 (flag_in s) id m.1 n.0 st.act = st.after
-        ∙ ap (λ (k : ℕ). stepped s 0 k id m.1 n.0 st.act) (ap (λ b. either b 1 (flag_in s)) (ne_eqb (flag_in s) 0 held)) in
+    ∙ ap (λ (k : ℕ). stepped s 0 k id m.1 n.0 st.act) (ap (λ b. either b 1 (flag_in s)) (ne_eqb (flag_in s) 0 held)) in
     inr (subst (λ (x : Table). IsLost id m.0 n.0 s x) (sym after) record {
       held = lost.0;
       words = set-get_or s.words 0 0;
@@ -146,7 +153,7 @@ tries-change t slots id m n s u empty st is = dite (ℕ_discrete (flag_in s) 0)
 pub takes-change : Takes IsTaking
 takes-change t slots id m n s u empty st is =
     let took = slot-taken s.homes st.act m.1 is.store st.one empty st.valid
-        (sym st.carried ∙ ap (λ (x : Own). x.1) is.after ∙ ap (λ (l : List (ℕ × Contents)). (0, is.store) ∷ l) empty) in
+    (sym st.carried ∙ ap (λ (x : Own). x.1) is.after ∙ ap (λ (l : List (ℕ × Contents)). (0, is.store) ∷ l) empty) in
     subst (λ (x : Table). IsTaken id m.0 n.0 s x) (sym st.after) record {
       store = is.store;
       words = set-get_or s.words 1 0;
@@ -164,11 +171,11 @@ counts-change t slots id count found m n s u st is =
     let two = two-of s.words count st.kept.two in
     let homes = slot-empty t id m.0 s st.kept st.one st.seat is.turn in
     let stays : homes_after s.homes m.1 st.act ≡ none ∷ [] = ⊎_elim
-        (λ w. nothing-out (0, is.store) [] (sym w.1 ∙ sym st.carried ∙ ap (λ (x : Own). x.1) is.after ∙ is.out))
-        (λ w. w.0) (acts is.store st.act s.homes m.1 (inr (homes, is.out)) st.valid) in
+    (λ w. nothing-out (0, is.store) [] (sym w.1 ∙ sym st.carried ∙ ap (λ (x : Own). x.1) is.after ∙ is.out))
+    (λ w. w.0) (acts is.store st.act s.homes m.1 (inr (homes, is.out)) st.valid) in
     let view : n.0 ≡ after_count is.store m.0 = ap (λ (x : Own). x.0) is.after in
     let stored : slice_index (set s.words 1 count) 1 ≡ count_of m.0.tag is.store.placed is.store.sealed =
-        two.2 ∙ is.word.1 in
+    two.2 ∙ is.word.1 in
     subst (λ (x : Table). IsCounted id m.0 n.0 s x) (sym st.after) record {
       flag = two.3;
       away = first-slot _ _ homes;
@@ -177,14 +184,17 @@ counts-change t slots id count found m n s u st is =
       turn = is.turn;
       unsealed = is.unsealed;
       grows = ⊎_elim
-          (λ p. inl (p.0, record {
-            new = p.1.new;
-            inside = p.1.inside;
-            view = view ∙ ap₂ (λ (l : List ℕ) (b : Bool). record m.0 { seen = l; saw = b }) p.1.placed
-                (p.1.sealed ∙ sym is.unsealed);
-            count = stored ∙ ap (count_of m.0.tag is.store.placed) p.1.sealed
-                ∙ ap (λ (x : View). length x.seen) (sym view);
-          }))
+          (λ p. inl (
+            p.0,
+            record {
+              new = p.1.new;
+              inside = p.1.inside;
+              view = view ∙ ap₂ (λ (l : List ℕ) (b : Bool). record m.0 { seen = l; saw = b }) p.1.placed
+                  (p.1.sealed ∙ sym is.unsealed);
+              count = stored ∙ ap (count_of m.0.tag is.store.placed) p.1.sealed
+                  ∙ ap (λ (x : View). length x.seen) (sym view);
+            },
+          ))
           (λ p. inr record {
             whole = p.whole;
             view = view ∙ ap₂ (λ (l : List ℕ) (b : Bool). record m.0 { seen = l; saw = b }) p.placed p.sealed;
@@ -198,8 +208,8 @@ gives-change t slots id found m n s u st is =
     let c : Contents = contents m.0.tag m.0.seen m.0.saw in
     let homes = slot-empty t id m.0 s st.kept st.one st.seat is.turn in
     let back : homes_after s.homes m.1 st.act ≡ some c ∷ [] = ⊎_elim (λ w. w.0)
-        (λ w. nothing-out (0, c) [] (sym (ap (λ (x : Own). x.1) is.after) ∙ st.carried ∙ w.1))
-        (acts c st.act s.homes m.1 (inr (homes, is.store)) st.valid) in
+    (λ w. nothing-out (0, c) [] (sym (ap (λ (x : Own). x.1) is.after) ∙ st.carried ∙ w.1))
+    (acts c st.act s.homes m.1 (inr (homes, is.store)) st.valid) in
     subst (λ (x : Table). IsGiven id m.0 n.0 s x) (sym st.after) record {
       words = set-get_or s.words 1 0;
       away = first-slot _ _ homes;

@@ -10,3 +10,4 @@ mod Turning
 mod Telling
 mod Reading
 mod Effects
+mod Rows

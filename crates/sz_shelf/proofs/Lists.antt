@@ -1,6 +1,7 @@
 -- Beginnings of lists, lists with no repeats, and one element of a list set.
 use Rattle.std.proofs.Common.{◌≡◌, ◌==◌, eqb, ℕ, zero, suc, ◌<◌, ◌≤◌, ◌||◌, ◌⊎◌, List, [], ◌∷◌, ◌++◌, set, length}
-use Rattle.std.proofs.Common.{sym, refl, ap₂, ne_eqb, if◌then◌else◌, ap, ◌∙◌, subst, arith, true, false, Bool, All, eq-eqb, inl, inr, length-append}
+use Rattle.std.proofs.Common.{sym, refl, ap₂, ne_eqb, if◌then◌else◌, ap, ◌∙◌, subst, arith, true, false, Bool, All}
+use Rattle.std.proofs.Common.{eq-eqb, inl, inr, length-append}
 use Rattle.std.proofs.lemmas.List.{append-nil, append_assoc}
 use Rattle.std.proofs.lemmas.List.Folds.{list_any-append}
 use Rattle.std.proofs.lemmas.List.Elements.{All-push}
@@ -34,12 +35,13 @@ begins-either (x ∷ xs) (y ∷ ys) [] (r, e) c h = absurd (cons-none x (xs ++ r
 begins-either (x ∷ xs) (y ∷ ys) (z ∷ zs) (r, e) (q, f) h =
     let both = begins-either xs ys zs (r, ap tail e) (q, ap tail f) (omega (arith, h)) in
     (both.0, ap (λ l. y ∷ l) both.1 ∙ ap (λ (n : ℕ). n ∷ (xs ++ both.0)) (sym (ap (head y) f) ∙ ap (head y) e)) where
-  tail : List ℕ → List ℕ
-  tail [] = []
-  tail (a ∷ l) = l
-  head : ℕ → List ℕ → ℕ
-  head d [] = d
-  head d (a ∷ l) = a
+      tail : List ℕ → List ℕ
+      tail [] = []
+      tail (a ∷ l) = l
+
+      head : ℕ → List ℕ → ℕ
+      head d [] = d
+      head d (a ∷ l) = a
 
 or-never : (a b : Bool) → (a || b) ≡ false → (a ≡ false) × (b ≡ false)
 or-never true b e = absurd (true≢false e)

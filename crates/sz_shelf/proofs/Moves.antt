@@ -1,8 +1,9 @@
 -- Each kind of step keeps the rule, and tells what it says.
--- Key idea: the rule names who is in a turn and how far. A step out of turn changes no part of it; one in turn is made by that
--- seat alone, so each other seat is idle and knows a beginning of the list, which only grows.
+-- Key idea: the rule names who is in a turn and how far. A step out of turn changes no part of it; one in turn is made
+-- by that seat alone, so each other seat is idle and knows a beginning of the list, which only grows.
 use Rattle.std.proofs.Common.{◌≡◌, ◌==◌, eqb, ℕ, zero, suc, ◌<◌, ◌≤◌, ◌+◌, ◌||◌, List, [], ◌∷◌, ◌++◌, set, length}
-use Rattle.std.proofs.Common.{sym, refl, ap, ap₂, ◌∙◌, subst, arith, true, false, Bool, ⊎_elim, length-set, eq-eqb, ne_eqb, ◌⊎◌, inl, inr}
+use Rattle.std.proofs.Common.{sym, refl, ap, ap₂, ◌∙◌, subst, arith, true, false, Bool, ⊎_elim, length-set, eq-eqb}
+use Rattle.std.proofs.Common.{ne_eqb, ◌⊎◌, inl, inr}
 use Rattle.std.proofs.lemmas.List.{set-get_or}
 use mathlib.Core.Option.{none, some, some-injective, some-ne-none}
 use mathlib.Core.Bool.{true≢false}
@@ -11,18 +12,21 @@ use native.Mathlib.Decide.{ℕ_discrete}
 use prog.Atomic.{either}
 use lib.ListN.{get_elem?}
 use Rattle.std.specs.Prelude.{slice_index, None}
-use Rattle.atomic_table.specs.Table.{step, opening, keeps, takes, gives, rest, Act, Allows, Valid, stepped, carried_after, Splits, Joins}
+use Rattle.atomic_table.specs.Table.{step, opening, keeps, takes, gives, rest, Act, Allows, Valid, stepped}
+use Rattle.atomic_table.specs.Table.{carried_after, Splits, Joins}
 use Rattle.atomic_table.proofs.Lists.{at_set, at_snoc, at_longer, set_again, set_else, exchanged}
 use Rattle.sz_shelf.specs.Tags.{Tag, tag_pieces}
 use Rattle.sz_shelf.specs.Contents.{Contents, missing_in}
 use Rattle.sz_shelf.specs.declared.rule.View.{View}
 use Rattle.sz_shelf.specs.declared.rule.Stage.{Stage}
 use Rattle.sz_shelf.specs.declared.rule.Stage.TheVariants.{Idle, InTurn, StoreOut, Spent}
-use Rattle.sz_shelf.specs.Rule.{Table, Own, IsKept, Knows, Begins, ArePieces, is_busy, has_store, is_spent, flag_of, last_of}
+use Rattle.sz_shelf.specs.Rule.{Table, Own, IsKept, Knows, Begins, ArePieces, is_busy, has_store, is_spent, flag_of}
+use Rattle.sz_shelf.specs.Rule.{last_of}
 use Rattle.sz_shelf.specs.Rule.{count_of, contents, first_view, spent_view}
 use Rattle.sz_shelf.specs.Steps.{IsTry, IsTaking, IsFound, IsCounting, IsGiving, IsReleasing, IsLoad, Grows, after_win}
 use Rattle.sz_shelf.specs.Steps.{after_release, after_take, after_count, after_load, after_split, after_join}
-use Rattle.sz_shelf.proofs.Lists.{begins-all, begins-push, begins-through, longer-begins, pieces-push, set_there, two-of}
+use Rattle.sz_shelf.proofs.Lists.{begins-all, begins-push, begins-through, longer-begins, pieces-push, set_there}
+use Rattle.sz_shelf.proofs.Lists.{two-of}
 
 -- who is in no turn has no store
 idle-never-store : (d : Stage) → is_busy d ≡ false → has_store d ≡ false
@@ -76,7 +80,8 @@ for-tag : (t : Tag) (slots id i : ℕ) (m : Own) (f : ℕ → ℕ) (then : ℕ �
 for-tag t slots id i m f then here all s g wide me small =
     let tag : m.0.tag ≡ t = (g.each id m.0 me here).tag in
     subst (λ (x : Tag). (w : View) × (a : Act Contents) × Valid s.homes m.1 a
-    × IsKept x (stepped s i (f (slice_index s.words i)) id m.1 w a) × then (slice_index s.words i) (w, carried_after m.1 a))
+    × IsKept x (stepped s i (f (slice_index s.words i)) id m.1 w a)
+    × then (slice_index s.words i) (w, carried_after m.1 a))
     tag (all s (subst (λ (x : Tag). IsKept x s) (sym tag) g) wide me small)
 
 -- a word is written as it was
@@ -132,7 +137,8 @@ tries-keep t slots id m idle s g wide me _ =
               out = λ e. absurd (true≢false (sym e));
             })
             (λ h. let k = g.each j v h.1 here in
-            let never : is_busy v.stage ≡ true → ⊥ = λ b. true≢false (sym b ∙ ap is_busy (k.busy b).1 ∙ still) in record {
+            let never : is_busy v.stage ≡ true → ⊥ = λ b.
+                true≢false (sym b ∙ ap is_busy (k.busy b).1 ∙ still) in record {
               tag = k.tag;
               begins = k.begins;
               saw = k.saw;
@@ -153,7 +159,8 @@ tries-keep t slots id m idle s g wide me _ =
       keeps,
       tt,
       word-stays t s 0 s.homes (set s.views id m.0)
-      (subst (λ (l : List View). IsKept t record { words = s.words; homes = s.homes; views = l }) (sym (set_again s.views id m.0 me)) g),
+          (subst (λ (l : List View). IsKept t record { words = s.words; homes = s.homes; views = l })
+      (sym (set_again s.views id m.0 me)) g),
       record {
         word = (refl, refl, refl);
         idle = idle;
@@ -226,7 +233,9 @@ takes-here slots id m won s g wide me _ =
 
 pub takes-keep : (t : Tag) (slots id : ℕ) (m : Own) → m.0.stage ≡ InTurn
     → Allows (IsKept t) slots id m 1 (λ k. k) (IsTaking (step slots 1 0 0 none) m)
-takes-keep t slots id m won = for-tag t slots id 1 m (λ k. k) (IsTaking (step slots 1 0 0 none) m) (ap is_spent won) (takes-here slots id m won)
+takes-keep t slots id m won =
+    for-tag t slots id 1 m (λ k. k) (IsTaking (step slots 1 0 0 none) m) (ap is_spent won)
+    (takes-here slots id m won)
 
 -- a seat that has the store counts what it did to it
 counts-here : (slots id count : ℕ) (m : Own) (c : Contents) → m.1 ≡ (0, c) ∷ [] → m.0.stage ≡ StoreOut → m.0.saw ≡ false
@@ -240,8 +249,8 @@ counts-here slots id count m c out turn unsealed grows is s g wide me _ =
     let known = mine.out (ap has_store turn) in
     let two = two-of s.words count g.two in
     let grown : Begins m.0.seen c.placed = ⊎_elim
-        (λ p. subst (Begins m.0.seen) (sym p.1.placed) (begins-push m.0.seen p.0))
-        (λ p. subst (Begins m.0.seen) (sym p.placed) (begins-all m.0.seen)) grows in
+    (λ p. subst (Begins m.0.seen) (sym p.1.placed) (begins-push m.0.seen p.0))
+    (λ p. subst (Begins m.0.seen) (sym p.placed) (begins-all m.0.seen)) grows in
     let seen : ArePieces t m.0.seen = subst (ArePieces t) (sym known.0) g.pieces in
     let w : View = after_count c m.0 in (
       w,
@@ -330,7 +339,8 @@ gives-here slots id m out turn =
         pieces = g.pieces;
         few = g.few;
         whole = g.whole;
-        home = λ _. set_there s.homes 0 none (some c) (g.out (ap has_store (sym doing))) ∙ ap (λ (x : Contents). some (some x)) same;
+        home = λ _. set_there s.homes 0 none (some c) (g.out (ap has_store (sym doing)))
+            ∙ ap (λ (x : Contents). some (some x)) same;
         out = λ e. absurd (true≢false (sym e));
         turn = λ _. (w, set_there s.views id m.0 w me, refl);
         each = λ j v at unspent. ⊎_elim
@@ -354,10 +364,12 @@ gives-here slots id m out turn =
       record { word = (refl, refl, refl); turn = turn; store = refl; after = refl },
     ))
 
-pub gives-keep : (t : Tag) (slots id : ℕ) (m : Own) → m.1 ≡ (0, contents m.0.tag m.0.seen m.0.saw) ∷ [] → m.0.stage ≡ StoreOut
+pub gives-keep : (t : Tag) (slots id : ℕ) (m : Own) → m.1 ≡ (0, contents m.0.tag m.0.seen m.0.saw) ∷ []
+    → m.0.stage ≡ StoreOut
     → Allows (IsKept t) slots id m 1 (λ k. k) (λ _ n. IsGiving (step slots 1 0 0 none) m n)
 gives-keep t slots id m out turn =
-    for-tag t slots id 1 m (λ k. k) (λ _ n. IsGiving (step slots 1 0 0 none) m n) (ap is_spent turn) (gives-here slots id m out turn)
+    for-tag t slots id 1 m (λ k. k) (λ _ n. IsGiving (step slots 1 0 0 none) m n) (ap is_spent turn)
+    (gives-here slots id m out turn)
 
 -- a seat ends its turn
 pub releases-keep : (t : Tag) (slots id : ℕ) (m : Own) → m.0.stage ≡ InTurn
@@ -452,10 +464,10 @@ loads-here slots id m idle s g wide me _ =
       keeps,
       tt,
       word-stays t s 1 s.homes (set s.views id w) (knows-more t id m.0 w s g me idle refl refl
-      (λ h. (h.each id m.0 me (ap is_spent idle)).begins)
-      (λ h e. ⊎_elim (λ a. (h.each id m.0 me (ap is_spent idle)).saw a)
-      (λ a. last-tells t h.placed h.sealed h.few ∙ ap (λ n. n == last_of t) (sym h.count) ∙ a)
-      (or-either m.0.saw (found == last_of t) e))),
+          (λ h. (h.each id m.0 me (ap is_spent idle)).begins)
+          (λ h e. ⊎_elim (λ a. (h.each id m.0 me (ap is_spent idle)).saw a)
+          (λ a. last-tells t h.placed h.sealed h.few ∙ ap (λ n. n == last_of t) (sym h.count) ∙ a)
+          (or-either m.0.saw (found == last_of t) e))),
       record {
         word = (refl, refl, refl);
         idle = idle;
@@ -466,7 +478,9 @@ loads-here slots id m idle s g wide me _ =
 
 pub loads-keep : (t : Tag) (slots id : ℕ) (m : Own) → m.0.stage ≡ Idle
     → Allows (IsKept t) slots id m 1 (λ k. k) (IsLoad (step slots 1 0 0 none) m)
-loads-keep t slots id m idle = for-tag t slots id 1 m (λ k. k) (IsLoad (step slots 1 0 0 none) m) (ap is_spent idle) (loads-here slots id m idle)
+loads-keep t slots id m idle =
+    for-tag t slots id 1 m (λ k. k) (IsLoad (step slots 1 0 0 none) m) (ap is_spent idle)
+    (loads-here slots id m idle)
 
 -- a seat more knows what one that is split knows
 pub splits-keep : (t : Tag) (id : ℕ) (v : View) → v.stage ≡ Idle → Splits (IsKept t) id v v (after_split v)
@@ -486,7 +500,7 @@ splits-keep t id v idle s g me = record {
   turn = λ b. let u = g.turn b in (
     u.0,
     at_longer (set s.views id v) (after_split v ∷ []) g.who u.0
-    (ap (λ (l : List View). get_elem? l g.who) (set_again s.views id v me) ∙ u.1),
+        (ap (λ (l : List View). get_elem? l g.who) (set_again s.views id v me) ∙ u.1),
     u.2,
   );
   each = λ j u at unspent. ⊎_elim

@@ -1,6 +1,7 @@
 -- The rule that steps keep says what the rule read aloud says.
 -- Key idea: it names how far the one busy seat is, and whether that seat has the store decides where the store is.
-use Rattle.std.proofs.Common.{◌≡◌, ◌==◌, ℕ, ◌<◌, ◌⊎◌, inl, inr, List, Bool, true, false, sym, refl, ap, ◌∙◌, subst, length, ⊎_elim, eq-eqb, arith, if◌then◌else◌}
+use Rattle.std.proofs.Common.{◌≡◌, ◌==◌, ℕ, ◌<◌, ◌⊎◌, inl, inr, List, Bool, true, false, sym, refl, ap, ◌∙◌, subst}
+use Rattle.std.proofs.Common.{length, ⊎_elim, eq-eqb, arith, if◌then◌else◌}
 use Rattle.std.specs.Prelude.{None}
 use mathlib.Core.Option.{none, some, some-injective, some-ne-none}
 use mathlib.Core.Bool.{true≢false}
@@ -12,7 +13,8 @@ use Rattle.sz_shelf.specs.declared.rule.View.{View}
 use Rattle.sz_shelf.specs.declared.rule.Stage.{Stage}
 use Rattle.sz_shelf.specs.declared.rule.Stage.TheVariants.{Idle, InTurn, StoreOut, Spent}
 use Rattle.sz_shelf.specs.Rule.{Table, IsKept, is_busy, has_store, is_spent, flag_of, count_of, last_of, contents}
-use Rattle.sz_shelf.specs.Rules.{Rules, IsSeat, NoneIsBusy, OneIsBusy, NoneHasStore, IsAtHome, flag_in, count_in, slot_in}
+use Rattle.sz_shelf.specs.Rules.{Rules, IsSeat, NoneIsBusy, OneIsBusy, NoneHasStore, IsAtHome, flag_in, count_in}
+use Rattle.sz_shelf.specs.Rules.{slot_in}
 use Rattle.sz_shelf.proofs.Moves.{contrary, store-busy, last-tells}
 
 -- a test is true or false
@@ -87,7 +89,8 @@ module _ {t : Tag} {s : Table} (g : IsKept t s) where
     once = g.pieces.0;
     below = g.pieces.1;
     begins = λ id v at. (g.each id v at.0 at.1).begins;
-    flag_one = λ e. ⊎_elim the-busy (λ b. zero-one (sym (flag-idle g.doing b) ∙ sym g.flag ∙ e)) (either-way (is_busy g.doing));
+    flag_one = λ e. ⊎_elim the-busy (λ b. zero-one (sym (flag-idle g.doing b) ∙ sym g.flag ∙ e))
+        (either-way (is_busy g.doing));
     one_flag = λ o. g.flag ∙ flag-busy g.doing
         (sym (ap is_busy ((g.each o.id o.view o.seat.0 o.seat.1).busy o.busy).1) ∙ o.busy);
     flag_none = λ e. ⊎_elim (λ b. absurd (not-zero b e)) none-busy (either-way (is_busy g.doing));
@@ -97,8 +100,11 @@ module _ {t : Tag} {s : Table} (g : IsKept t s) where
     home = λ all. (contents t g.placed g.sealed, here (is-out all));
     home_none = λ c at. ⊎_elim
         (λ h. absurd (some-ne-none c (sym (some-injective none (some c) (sym (g.out h) ∙ at)))))
-        (λ h. (none-has h, subst (IsAtHome t g.placed s)
-        (some-injective _ _ (some-injective _ _ (sym (g.home h) ∙ at))) (here h))) (either-way (has_store g.doing));
+        (λ h. (
+          none-has h,
+          subst (IsAtHome t g.placed s)
+              (some-injective _ _ (some-injective _ _ (sym (g.home h) ∙ at))) (here h),
+        )) (either-way (has_store g.doing));
     away = λ id v at h. g.out (one-has id v at h);
     count = ⊎_elim
         (λ e. inr (g.count ∙ ap (count_of t g.placed) e, g.whole e))

@@ -1,7 +1,9 @@
 -- The store that a seat has out, and that it is the one that a call on the slot finds there.
 use Rattle.std.proofs.Common.{◌≡◌, ℕ, List, [], ◌∷◌, sym, ap, ◌∙◌}
 use Rattle.atomic_table.specs.Table.{rest}
+use Rattle.atomic_table.specs.Seated.{TableId}
 use Rattle.sz_shelf.specs.Contents.{Contents}
+use Rattle.sz_shelf.specs.Places.{Place}
 
 -- the store that is out first, or another where none is
 abbrev pub first-out : Contents → List (ℕ × Contents) → Contents
@@ -17,3 +19,7 @@ out-is l c d is same = ap (first-out d) (sym is ∙ same)
 
 pub out-now : (l : List (ℕ × Contents)) (c d : Contents) → l ≡ (0, c) ∷ [] → (0, d) ∷ rest l ≡ (0, d) ∷ []
 out-now l c d is = ap (λ (k : List (ℕ × Contents)). (0, d) ∷ rest k) is
+
+-- a seat of a shelf's table is one of the table inside it
+pub table-is : {z : TableId} {p q : Place} → z ≡ q.table → p ≡ q → z ≡ p.table
+table-is own is = own ∙ sym (ap (λ (x : Place). x.table) is)

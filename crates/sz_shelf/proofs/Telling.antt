@@ -1,5 +1,6 @@
 -- The answers of a shelf are the machine's: its shelf has as many pieces as the tag, so the two look for a piece alike.
-use Rattle.std.proofs.Common.{◌≡◌, ℕ, ◌<◌, ◌++◌, ◌∷◌, [], List, Bool, true, false, sym, refl, ap, ap₂, ◌∙◌, length, arith}
+use Rattle.std.proofs.Common.{◌≡◌, ℕ, ◌<◌, ◌++◌, ◌∷◌, [], List, Bool, true, false, sym, refl, ap, ap₂, ◌∙◌, length}
+use Rattle.std.proofs.Common.{arith}
 use Rattle.std.proofs.lemmas.Bool.Decides.{nat_tests}
 use Rattle.sz_cells.specs.declared.NoMemory.{NoMemory}
 use Rattle.std.specs.Prelude.{Result, Ok, Err, IfOk, Option, Some, None, if◌then◌else◌, nat_lt, ◌&&◌, not, is_none}
@@ -46,11 +47,11 @@ pub place-told : (t : Tag) (found : List ℕ) (sealed : Bool) (k : ℕ) → k < 
 place-told t found sealed k h = by_cases sealed (is_in found k) ∙ sym (ap (λ (b : Bool). if b
     then (if sealed then told.SealedBefore else if is_in found k then told.Already else told.Placed) else told.NoSuch)
     (inside t found sealed k h)) where
-  by_cases : (a b : Bool) → told_of_place (if a then placed.Sealed else if b then placed.Already else placed.New)
-      ≡ (if a then told.SealedBefore else if b then told.Already else told.Placed)
-  by_cases true b = refl
-  by_cases false true = refl
-  by_cases false false = refl
+      by_cases : (a b : Bool) → told_of_place (if a then placed.Sealed else if b then placed.Already else placed.New)
+          ≡ (if a then told.SealedBefore else if b then told.Already else told.Placed)
+      by_cases true b = refl
+      by_cases false true = refl
+      by_cases false false = refl
 
 already-there : (found : List ℕ) (sealed : Bool) (k : ℕ) → (p : Placed) → ¬ (p ≡ placed.New)
     → p ≡ place_answer k found sealed → (not sealed && not (is_in found k)) ≡ false
@@ -130,10 +131,10 @@ pub seal-told : (t : Tag) (found : List ℕ) (sealed : Bool) (r : SealReply) →
 seal-told t found sealed r is =
     ap told_of_seal is ∙ by_cases (missing_in (tag_pieces t) found)
     ∙ ap (λ (o : Option ℕ). option_map_or told.Missing o told.Sealed) (sym (misses t found sealed)) where
-  by_cases : (o : Option ℕ)
-      → told_of_seal (option_map_or seal.Missing o seal.Sealed) ≡ option_map_or told.Missing o told.Sealed
-  by_cases None = refl
-  by_cases (Some k) = refl
+      by_cases : (o : Option ℕ)
+          → told_of_seal (option_map_or seal.Missing o seal.Sealed) ≡ option_map_or told.Missing o told.Sealed
+      by_cases None = refl
+      by_cases (Some k) = refl
 
 -- a piece is told as missing only where there is one
 missing-some : (found : List ℕ) (n k : ℕ) → seal.Missing k ≡ seal_answer n found

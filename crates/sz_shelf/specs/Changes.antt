@@ -19,7 +19,8 @@ pub record OneView (id : ℕ) (v w : View) (s u : Table) : Type 0 where
   pub after : get_elem? u.views id ≡ some w
   pub others : (other : ℕ) → ¬ (other ≡ id) → get_elem? u.views other ≡ get_elem? s.views other
 
--- the flag was 0 and is 1, the count and the slot stay, and the seat, which was idle, is in its turn
+-- the flag was 0 and is 1, the count and the slot stay, and the seat, which was idle, is in its
+-- turn
 pub record IsWon (id : ℕ) (v w : View) (s u : Table) : Type 0 where
   pub free : flag_in s ≡ 0
   pub flag : flag_in u ≡ 1
@@ -99,8 +100,8 @@ pub record IsReleased (id : ℕ) (v w : View) (s u : Table) : Type 0 where
   pub turn : v.stage ≡ InTurn
   pub view : w ≡ record v { stage = Idle }
 
--- the words and the slot stay, and the seat, which is idle, has one load more; it saw the seal where
--- it had seen it, or where the count has its last value
+-- the words and the slot stay, and the seat, which is idle, has one load more; it saw the seal
+-- where it had seen it, or where the count has its last value
 pub record IsLoaded (id : ℕ) (v w : View) (s u : Table) : Type 0 where
   pub words : u.words ≡ s.words
   pub slot : slot_in u ≡ slot_in s

@@ -66,7 +66,8 @@ contents t placed sealed = record { tag = t; placed = placed; sealed = sealed }
 -- list is a beginning of the placed one, it saw a seal only if there is one, and it is busy only if
 -- it is that seat. While it has the store, its list is the placed one, and it saw the seal if there
 -- is one.
-pub record Knows (t : Tag) (placed : List ℕ) (sealed : Bool) (who : ℕ) (doing : Stage) (seat : ℕ) (v : View) : Type 0 where
+pub record Knows (t : Tag) (placed : List ℕ) (sealed : Bool) (who : ℕ) (doing : Stage) (seat : ℕ)
+    (v : View) : Type 0 where
   pub tag : v.tag ≡ t
   pub begins : Begins v.seen placed
   pub saw : v.saw ≡ true → sealed ≡ true

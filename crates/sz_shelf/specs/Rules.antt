@@ -45,12 +45,13 @@ pub record IsAtHome (t : Tag) (placed : List ℕ) (s : Table) (c : Contents) : T
   pub list : c.placed ≡ placed
   pub sealed : c.sealed ≡ true → count_in s ≡ last_of t
 
--- The placed list is that of the seat which has the store out, and where none has, that of the slot.
--- All seats have one tag. The placed list has no repeats and only pieces of the output, and the list
--- of each seat is a beginning of it. The flag is 1 exactly where one seat is in a turn, and 0
--- exactly where none is. The store is in its slot exactly where no seat has it. The count is the
--- number of placed pieces, or it has its last value, and then every piece is placed. It has its last
--- value where a seat saw the seal; and where it has it, the seat that has the store saw the seal.
+-- The placed list is that of the seat which has the store out, and where none has, that of the
+-- slot. All seats have one tag. The placed list has no repeats and only pieces of the output, and
+-- the list of each seat is a beginning of it. The flag is 1 exactly where one seat is in a turn,
+-- and 0 exactly where none is. The store is in its slot exactly where no seat has it. The count is
+-- the number of placed pieces, or it has its last value, and then every piece is placed. It has its
+-- last value where a seat saw the seal; and where it has it, the seat that has the store saw the
+-- seal.
 pub record Rules (t : Tag) (s : Table) : Type 0 where
   pub placed : List ℕ
   pub holder : (id : ℕ) (v : View) → IsSeat s id v → has_store v.stage ≡ true → v.seen ≡ placed

@@ -48,8 +48,8 @@ abbrev pub after_join : View → View → View
 after_join v spent =
     record v { seen = longer v.seen spent.seen; saw = v.saw || spent.saw }
 
--- A try is an exchange of 0 for 1. It found 0, and the seat has the turn; or it found 1, and nothing
--- changes.
+-- A try is an exchange of 0 for 1. It found 0, and the seat has the turn; or it found 1, and
+-- nothing changes.
 pub record IsTry (st : Step Contents) (m : Own) (found : ℕ) (n : Own) : Type 0 where
   pub word : (st.word ≡ 0) × (st.first ≡ 0) × (st.second ≡ 1)
   pub idle : m.0.stage ≡ Idle

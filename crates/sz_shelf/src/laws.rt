@@ -13,8 +13,9 @@ ghost use Rattle.sz_shelf.specs.Changes.{Loads as LoadsCount, Splits, Joins};
 ghost use Rattle.std.specs.declared.snapshot.Snapshot.{Snapshot};
 ghost use Rattle.sz_shelf.specs.declared.tag.TagParts.{TagParts};
 
-use crate::rule::{Copies, Counts, Gives, Loads, OneAtATime, Releases, Takes, TakesBoth, Tries};
-use crate::rule::View;
+use crate::rule::{
+    Copies, Counts, Gives, Loads, OneAtATime, Releases, Takes, TakesBoth, Tries, View,
+};
 use crate::shelved::Shelved;
 use crate::tag::TagParts;
 use atomic_table::{Join, Play, Split, TableRule};

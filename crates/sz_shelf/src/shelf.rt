@@ -9,7 +9,8 @@ ghost use Rattle.sz_spec.specs.Modes.{is_listed, is_stored};
 ghost use Rattle.sz_spec.specs.Sides.{near_side, far_side};
 ghost use Rattle.sz_region.specs.Fits.{Fits};
 ghost use Rattle.sz_region.specs.Images.{measure_of};
-ghost use Rattle.sz_core.specs.Events.{place_reply, after_place, seal_reply, after_seal, look_reply};
+ghost use Rattle.sz_core.specs.Events.{place_reply, after_place, seal_reply, after_seal};
+ghost use Rattle.sz_core.specs.Events.{look_reply};
 ghost use Rattle.sz_shelf.specs.Machine.{found_shelf, left_shelf, first_step};
 ghost use Rattle.sz_shelf.specs.Machine.{told_of_place, told_of_seal, told_of_look};
 ghost use Rattle.sz_shelf.specs.Tags.{IsTag, StandsFor, tag_pieces, tag_image};
@@ -211,8 +212,8 @@ impl Shelf {
     }
 
     /// A share of the store, in one turn, where it is sealed. The first one makes the store such
-    /// that it can be shared, later ones give the same. The pass keeps what it is given. Where there
-    /// is no memory, the store is as before, and the turn is taken.
+    /// that it can be shared, later ones give the same. The pass keeps what it is given. Where
+    /// there is no memory, the store is as before, and the turn is taken.
     pub fn store_of<R: Wait>(
         &self,
         alloc: Global,

@@ -1,6 +1,7 @@
 //! The flag, the count and the slot. Their table is in sight of this file alone, so these calls are
 //! all the steps there are.
-ghost use Rattle.std.specs.Prelude.{◌≡◌, ◌+◌, ◌<◌, ◌≤◌, ◌++◌, ◌∷◌, [], length, false, true, None, Ok};
+ghost use Rattle.std.specs.Prelude.{◌≡◌, ◌+◌, ◌<◌, ◌≤◌, ◌++◌, ◌∷◌, [], length, false, true, None};
+ghost use Rattle.std.specs.Prelude.{Ok};
 ghost use Rattle.std.specs.Prelude.{IfOk, OnErr, IfSome, is_none, not};
 ghost use Rattle.std.specs.Arc.{arc_value};
 ghost use Rattle.sz_cells.specs.Cells.{has, with_those};
@@ -20,8 +21,9 @@ ghost use Rattle.sz_shelf.specs.declared.answers.SealReply.TheVariants.{Sealed a
 ghost use Rattle.sz_shelf.specs.declared.rule.Stage.TheVariants.{StoreOut};
 
 use crate::answers::{Look, Placed, SealReply};
-use crate::rule::View;
-use crate::rule::{Copies, Counts, Gives, Loads, OneAtATime, Releases, Takes, TakesBoth, Tries};
+use crate::rule::{
+    Copies, Counts, Gives, Loads, OneAtATime, Releases, Takes, TakesBoth, Tries, View,
+};
 use crate::shelved::Shelved;
 use crate::tag::TagParts;
 use atomic_table::{Refused, Seat, Table};
@@ -91,7 +93,10 @@ impl Words {
         ensures won { result ≡ true → seat.new.me ≡ (after_win seat.old.me.0, []) }
         ensures lost { result ≡ false → seat.new.me ≡ seat.old.me }
     {
-        self.table.shared.compare_exchange::<Tries>(seat, FLAG, 0, 1) == 0
+        self.table
+            .shared
+            .compare_exchange::<Tries>(seat, FLAG, 0, 1)
+            == 0
     }
 
     /// One load of the count, by a seat that was idle and has won the turn. It has the store now.
@@ -156,10 +161,13 @@ impl Words {
         requires tag { seat.old.me.0.tag ≡ self.now.tag }
         requires idle { IsIdle seat.old.me }
         ensures own { seat.new.table_id ≡ seat.old.table_id }
-        ensures after { seat.new.me ≡ (record seat.old.me.0 {
-          loads = seat.old.me.0.loads + 1;
-          saw = result;
-        }, []) }
+        ensures after { seat.new.me ≡ (
+          record seat.old.me.0 {
+            loads = seat.old.me.0.loads + 1;
+            saw = result;
+          },
+          [],
+        ) }
         ensures saw { seat.old.me.0.saw ≡ true → result ≡ true }
     {
         self.look(seat) == self.last
@@ -311,7 +319,8 @@ impl Words {
         ensures unsealed { seat.old.me.0.saw ≡ false → to.new ≡ to.old }
     {
         let store = seat.slot_mut(&self.table.shared, 0);
-        if store.is_sealed() {
+        let sealed = store.is_sealed();
+        if sealed {
             store.image(strategy, dir, input, from, to);
             Look::Done
         } else {

@@ -13,7 +13,8 @@ returns-clause-turn g c =
     let entered = c.enter.ensures.entered in
     turn-of _ _ _ _ _ _ _ _ _ c.pass.view_is (c.leave.ensures.own ∙ placed.own ∙ c.enter.ensures.own)
     c.leave.ensures.left entered
-    (placed-stays _ _ _ _ _ entered (inside-tag _ _ _ _ _ _ c.pass.view_is entered c.requires.piece) placed.answer placed.new placed.other)
+    (placed-stays _ _ _ _ _ entered (inside-tag _ _ _ _ _ _ c.pass.view_is entered c.requires.piece)
+    placed.answer placed.new placed.other)
 
 pub returns-clause-told : goal.returns-clause-told
 returns-clause-told g c =

@@ -2,12 +2,12 @@ use Rattle.std.proofs.Common.{rules, ap, sym, subst, ◌∙◌}
 use Rattle.sz_shelf.specs.declared.rule.View.{View}
 use Rattle.sz_shelf.specs.Rule.{Own}
 use Rattle.sz_shelf.proofs.Moves.{counts-keep}
-use Rattle.sz_shelf.specs.Places.{Place}
+use Rattle.sz_shelf.proofs.Slots.{table-is}
 use Rattle.sz_shelf.proofs.words.Words.count.Goals as goal
 
 pub store-requires : goal.store-requires
 store-requires c = let g = c.requires.grown in (
-  c.requires.own ∙ sym (ap (λ (z : Place). z.table) c.self.view_is),
+  table-is c.requires.own c.self.view_is,
   search rules,
   counts-keep _ _ _ _ _ g.0 g.1 c.requires.turn c.requires.unsealed g.2 g.3,
 )

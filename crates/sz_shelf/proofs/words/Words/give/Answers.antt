@@ -2,9 +2,9 @@ use Rattle.std.proofs.Common.{rules, ap, sym, subst, ◌∙◌}
 use Rattle.sz_shelf.specs.declared.rule.View.{View}
 use Rattle.sz_shelf.specs.Rule.{Own}
 use Rattle.sz_shelf.proofs.Moves.{gives-keep}
-use Rattle.sz_shelf.specs.Places.{Place}
+use Rattle.sz_shelf.proofs.Slots.{table-is}
 use Rattle.sz_shelf.proofs.words.Words.give.Goals as goal
 
 pub load-requires : goal.load-requires
 load-requires c =
-    (c.requires.own ∙ sym (ap (λ (z : Place). z.table) c.self.view_is), search rules, gives-keep _ _ _ _ c.requires.seen c.requires.turn)
+    (table-is c.requires.own c.self.view_is, search rules, gives-keep _ _ _ _ c.requires.seen c.requires.turn)

@@ -2,8 +2,8 @@ use Rattle.std.proofs.Common.{rules, ap, sym, subst, ◌∙◌}
 use Rattle.sz_shelf.specs.declared.rule.View.{View}
 use Rattle.sz_shelf.specs.Rule.{Own}
 use Rattle.sz_shelf.proofs.Moves.{splits-keep}
-use Rattle.sz_shelf.specs.Places.{Place}
+use Rattle.sz_shelf.proofs.Slots.{table-is}
 use Rattle.sz_shelf.proofs.words.Words.split.Goals as goal
 
 pub split_seat-requires : goal.split_seat-requires
-split_seat-requires c = (c.requires.own ∙ sym (ap (λ (z : Place). z.table) c.self.view_is), search rules, splits-keep _ _ _ c.requires.idle.0)
+split_seat-requires c = (table-is c.requires.own c.self.view_is, search rules, splits-keep _ _ _ c.requires.idle.0)

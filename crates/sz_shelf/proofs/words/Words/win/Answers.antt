@@ -2,8 +2,9 @@ use Rattle.std.proofs.Common.{rules, ap, sym, subst, ◌∙◌}
 use Rattle.sz_shelf.specs.declared.rule.View.{View}
 use Rattle.sz_shelf.specs.Rule.{Own}
 use Rattle.sz_shelf.proofs.Moves.{tries-keep}
-use Rattle.sz_shelf.specs.Places.{Place}
+use Rattle.sz_shelf.proofs.Slots.{table-is}
 use Rattle.sz_shelf.proofs.words.Words.win.Goals as goal
 
 pub compare_exchange-requires : goal.compare_exchange-requires
-compare_exchange-requires c = (c.requires.own ∙ sym (ap (λ (z : Place). z.table) c.self.view_is), search rules, tries-keep _ _ _ _ c.requires.idle.0)
+compare_exchange-requires c =
+    (table-is c.requires.own c.self.view_is, search rules, tries-keep _ _ _ _ c.requires.idle.0)
