@@ -2,31 +2,30 @@
 -- Key idea: a table has one slot. An act on it by a seat that has nothing out takes the store or leaves all as it was,
 -- and an act by the seat that has it out gives it back or leaves all as it was: which of the two, what the seat then has
 -- out says.
-use Rattle.std.proofs.Common.{◌≡◌, ◌==◌, ℕ, zero, suc, ◌<◌, ◌⊎◌, inl, inr, List, [], ◌∷◌, ◌++◌, Bool, true, false, set}
+use Rattle.std.proofs.Common.{◌≡◌, ℕ, zero, suc, ◌⊎◌, inl, inr, List, [], ◌∷◌, ◌++◌, Bool, set}
 use Rattle.std.proofs.Common.{length}
 use Rattle.std.proofs.Common.{sym, refl, ap, ap₂, ◌∙◌, subst, arith, ⊎_elim, eq-eqb, ne_eqb}
 use Rattle.std.proofs.lemmas.List.{set-get_or}
 use mathlib.Core.Option.{Option, none, some, some-injective, some-ne-none}
-use mathlib.Core.Bool.{true≢false}
 use mathlib.Core.Logic.{dite}
 use native.Mathlib.Decide.{ℕ_discrete}
 use prog.Atomic.{either}
 use lib.ListN.{get_elem?}
 use Rattle.std.specs.Prelude.{slice_index}
-use Rattle.atomic_table.specs.Table.{step, Act, stepped, keeps, takes, gives, chain, rest, put_back, homes_after}
+use Rattle.atomic_table.specs.Table.{Act, stepped, keeps, takes, gives, chain, rest, put_back, homes_after}
 use Rattle.atomic_table.specs.Table.{carried_after, Valid}
-use Rattle.atomic_table.proofs.Lists.{set_again, set_else, exchanged}
-use Rattle.sz_shelf.specs.Tags.{Tag, tag_pieces}
+use Rattle.atomic_table.proofs.Lists.{set_again, set_else}
+use Rattle.sz_shelf.specs.Tags.{Tag}
 use Rattle.sz_shelf.specs.Contents.{Contents}
 use Rattle.sz_shelf.specs.declared.rule.View.{View}
-use Rattle.sz_shelf.specs.declared.rule.Stage.TheVariants.{Idle, InTurn, StoreOut}
-use Rattle.sz_shelf.specs.Rule.{Table, Own, IsKept, has_store, is_spent, is_busy, count_of, last_of, contents}
+use Rattle.sz_shelf.specs.declared.rule.Stage.TheVariants.{StoreOut}
+use Rattle.sz_shelf.specs.Rule.{Table, Own, IsKept, has_store, is_spent, is_busy, count_of, contents}
 use Rattle.sz_shelf.specs.Rule.{spent_view}
-use Rattle.sz_shelf.specs.Rules.{flag_in, count_in, slot_in}
+use Rattle.sz_shelf.specs.Rules.{flag_in}
 use Rattle.sz_shelf.specs.Steps.{IsTry, IsTaking, IsCounting, IsGiving, IsReleasing, IsLoad, after_count, after_split}
 use Rattle.sz_shelf.specs.Steps.{after_join}
 use Rattle.sz_shelf.specs.Changes.{IsWon, IsLost, IsTaken, IsCounted, IsGiven, IsReleased, IsLoaded}
-use Rattle.sz_shelf.specs.Changes.{OneView, IsStep, WinsOrLoses, Takes, Counts, Gives, Releases, Loads, Splits, Joins}
+use Rattle.sz_shelf.specs.Changes.{OneView, WinsOrLoses, Takes, Counts, Gives, Releases, Loads, Splits, Joins}
 use Rattle.sz_shelf.proofs.Lists.{set_there, two-of}
 use Rattle.sz_shelf.proofs.Slots.{first-out}
 

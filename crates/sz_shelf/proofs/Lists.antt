@@ -1,13 +1,12 @@
 -- Beginnings of lists, lists with no repeats, and one element of a list set.
-use Rattle.std.proofs.Common.{◌≡◌, ◌==◌, eqb, ℕ, zero, suc, ◌<◌, ◌≤◌, ◌||◌, ◌⊎◌, List, [], ◌∷◌, ◌++◌, set, length}
-use Rattle.std.proofs.Common.{sym, refl, ap₂, ne_eqb, if◌then◌else◌, ap, ◌∙◌, subst, arith, true, false, Bool, All}
-use Rattle.std.proofs.Common.{eq-eqb, inl, inr, length-append}
+use Rattle.std.proofs.Common.{◌≡◌, ◌==◌, ℕ, zero, suc, ◌<◌, ◌≤◌, ◌||◌, List, [], ◌∷◌, ◌++◌, set, length}
+use Rattle.std.proofs.Common.{sym, refl, ap₂, ne_eqb, if◌then◌else◌, ap, ◌∙◌, arith, true, false, Bool}
+use Rattle.std.proofs.Common.{eq-eqb}
 use Rattle.std.proofs.lemmas.List.{append-nil, append_assoc}
 use Rattle.std.proofs.lemmas.List.Folds.{list_any-append}
 use Rattle.std.proofs.lemmas.List.Elements.{All-push}
-use mathlib.Core.Option.{some, some-injective, some-ne-none}
+use mathlib.Core.Option.{some, some-ne-none}
 use mathlib.Core.Bool.{true≢false}
-use native.Mathlib.Decide.{dec_le}
 use lib.ListN.{get_elem?}
 use Rattle.std.specs.Prelude.{slice_index, nat_lt}
 use Rattle.sz_shelf.specs.Tags.{Tag, tag_pieces}

@@ -1,7 +1,7 @@
 -- Each kind of step keeps the rule, and tells what it says.
 -- Key idea: the rule names who is in a turn and how far. A step out of turn changes no part of it; one in turn is made
 -- by that seat alone, so each other seat is idle and knows a beginning of the list, which only grows.
-use Rattle.std.proofs.Common.{◌≡◌, ◌==◌, eqb, ℕ, zero, suc, ◌<◌, ◌≤◌, ◌+◌, ◌||◌, List, [], ◌∷◌, ◌++◌, set, length}
+use Rattle.std.proofs.Common.{◌≡◌, ◌==◌, ℕ, zero, suc, ◌≤◌, ◌||◌, List, [], ◌∷◌, set, length}
 use Rattle.std.proofs.Common.{sym, refl, ap, ap₂, ◌∙◌, subst, arith, true, false, Bool, ⊎_elim, length-set, eq-eqb}
 use Rattle.std.proofs.Common.{ne_eqb, ◌⊎◌, inl, inr}
 use Rattle.std.proofs.lemmas.List.{set-get_or}
@@ -11,8 +11,8 @@ use mathlib.Core.Logic.{dite}
 use native.Mathlib.Decide.{ℕ_discrete}
 use prog.Atomic.{either}
 use lib.ListN.{get_elem?}
-use Rattle.std.specs.Prelude.{slice_index, None}
-use Rattle.atomic_table.specs.Table.{step, opening, keeps, takes, gives, rest, Act, Allows, Valid, stepped}
+use Rattle.std.specs.Prelude.{slice_index}
+use Rattle.atomic_table.specs.Table.{step, opening, keeps, takes, gives, Act, Allows, Valid, stepped}
 use Rattle.atomic_table.specs.Table.{carried_after, Splits, Joins}
 use Rattle.atomic_table.proofs.Lists.{at_set, at_snoc, at_longer, set_again, set_else, exchanged}
 use Rattle.sz_shelf.specs.Tags.{Tag, tag_pieces}
@@ -23,7 +23,7 @@ use Rattle.sz_shelf.specs.declared.rule.Stage.TheVariants.{Idle, InTurn, StoreOu
 use Rattle.sz_shelf.specs.Rule.{Table, Own, IsKept, Knows, Begins, ArePieces, is_busy, has_store, is_spent, flag_of}
 use Rattle.sz_shelf.specs.Rule.{last_of}
 use Rattle.sz_shelf.specs.Rule.{count_of, contents, first_view, spent_view}
-use Rattle.sz_shelf.specs.Steps.{IsTry, IsTaking, IsFound, IsCounting, IsGiving, IsReleasing, IsLoad, Grows, after_win}
+use Rattle.sz_shelf.specs.Steps.{IsTry, IsTaking, IsCounting, IsGiving, IsReleasing, IsLoad, Grows, after_win}
 use Rattle.sz_shelf.specs.Steps.{after_release, after_take, after_count, after_load, after_split, after_join}
 use Rattle.sz_shelf.proofs.Lists.{begins-all, begins-push, begins-through, longer-begins, pieces-push, set_there}
 use Rattle.sz_shelf.proofs.Lists.{two-of}
@@ -138,7 +138,7 @@ tries-keep t slots id m idle s g wide me _ =
             })
             (λ h. let k = g.each j v h.1 here in
             let never : is_busy v.stage ≡ true → ⊥ = λ b.
-                true≢false (sym b ∙ ap is_busy (k.busy b).1 ∙ still) in record {
+            true≢false (sym b ∙ ap is_busy (k.busy b).1 ∙ still) in record {
               tag = k.tag;
               begins = k.begins;
               saw = k.saw;
@@ -160,7 +160,7 @@ tries-keep t slots id m idle s g wide me _ =
       tt,
       word-stays t s 0 s.homes (set s.views id m.0)
           (subst (λ (l : List View). IsKept t record { words = s.words; homes = s.homes; views = l })
-      (sym (set_again s.views id m.0 me)) g),
+          (sym (set_again s.views id m.0 me)) g),
       record {
         word = (refl, refl, refl);
         idle = idle;

@@ -1,20 +1,15 @@
 -- The rule that steps keep says what the rule read aloud says.
 -- Key idea: it names how far the one busy seat is, and whether that seat has the store decides where the store is.
-use Rattle.std.proofs.Common.{◌≡◌, ◌==◌, ℕ, ◌<◌, ◌⊎◌, inl, inr, List, Bool, true, false, sym, refl, ap, ◌∙◌, subst}
-use Rattle.std.proofs.Common.{length, ⊎_elim, eq-eqb, arith, if◌then◌else◌}
-use Rattle.std.specs.Prelude.{None}
+use Rattle.std.proofs.Common.{◌≡◌, ℕ, ◌⊎◌, inl, inr, Bool, true, false, sym, refl, ap, ◌∙◌, subst}
+use Rattle.std.proofs.Common.{⊎_elim, eq-eqb, arith, if◌then◌else◌}
 use mathlib.Core.Option.{none, some, some-injective, some-ne-none}
 use mathlib.Core.Bool.{true≢false}
-use lib.ListN.{get_elem?}
-use Rattle.std.specs.Prelude.{slice_index}
-use Rattle.sz_shelf.specs.Tags.{Tag, tag_pieces}
-use Rattle.sz_shelf.specs.Contents.{Contents, missing_in}
+use Rattle.sz_shelf.specs.Tags.{Tag}
 use Rattle.sz_shelf.specs.declared.rule.View.{View}
 use Rattle.sz_shelf.specs.declared.rule.Stage.{Stage}
 use Rattle.sz_shelf.specs.declared.rule.Stage.TheVariants.{Idle, InTurn, StoreOut, Spent}
-use Rattle.sz_shelf.specs.Rule.{Table, IsKept, is_busy, has_store, is_spent, flag_of, count_of, last_of, contents}
-use Rattle.sz_shelf.specs.Rules.{Rules, IsSeat, NoneIsBusy, OneIsBusy, NoneHasStore, IsAtHome, flag_in, count_in}
-use Rattle.sz_shelf.specs.Rules.{slot_in}
+use Rattle.sz_shelf.specs.Rule.{Table, IsKept, is_busy, has_store, is_spent, flag_of, count_of, contents}
+use Rattle.sz_shelf.specs.Rules.{Rules, IsSeat, NoneIsBusy, OneIsBusy, NoneHasStore, IsAtHome, flag_in}
 use Rattle.sz_shelf.proofs.Moves.{contrary, store-busy, last-tells}
 
 -- a test is true or false

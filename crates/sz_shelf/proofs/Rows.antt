@@ -1,8 +1,7 @@
 -- Worked rows of the definitions, on a shelf of two pieces: what each says, and what it must refuse.
-use Rattle.std.specs.Prelude.{◌≡◌, [], ◌∷◌, true, false, Some, None}
-use Rattle.std.proofs.Common.{refl, sym}
+use Rattle.std.specs.Prelude.{◌≡◌, [], ◌∷◌, true, false}
+use Rattle.std.proofs.Common.{refl}
 use mathlib.Core.Bool.{true≢false}
-use Rattle.sz_shelf.specs.Contents.{is_in, missing_in, least_missing}
 use Rattle.sz_shelf.specs.Rule.{HasNoRepeats}
 use Rattle.sz_shelf.specs.Steps.{longer}
 use Rattle.sz_shelf.specs.Answers.{place_answer, seal_answer, look_answer}

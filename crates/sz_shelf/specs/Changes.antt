@@ -1,6 +1,6 @@
 -- What each kind of step changes, on the words, the slot and the views of all seats.
-use Rattle.std.specs.Prelude.{◌≡◌, ◌==◌, ℕ, ◌+◌, ◌<◌, ◌||◌, ◌⊎◌, List, [], ◌∷◌, ◌++◌, true, false}
-use Rattle.std.specs.Prelude.{None, length, slice_index, slice_set}
+use Rattle.std.specs.Prelude.{◌≡◌, ◌==◌, ℕ, ◌+◌, ◌<◌, ◌||◌, ◌⊎◌, [], ◌∷◌, ◌++◌, true, false}
+use Rattle.std.specs.Prelude.{None, length, slice_set}
 use mathlib.Core.Option.{none, some}
 use lib.ListN.{get_elem?}
 use prog.Atomic.{either}

@@ -1,8 +1,7 @@
 -- The shelf of the pure machine that a shelf is, and what the machine is told where a call answers.
 use Rattle.std.specs.Prelude.{ℕ, List, [], ◌∷◌, map, length, Bool}
 use Rattle.std.specs.List.{filter, flat_map, range_with_len}
-use Rattle.sz_cells.specs.declared.Cell.{Cell}
-use Rattle.sz_cells.specs.Extent.{Extent, size_of, index_of, cell_of}
+use Rattle.sz_cells.specs.Extent.{Extent, size_of, cell_of}
 use Rattle.sz_cells.specs.Cells.{Cells}
 use Rattle.sz_spec.specs.declared.modes.Dir.{Dir}
 use Rattle.sz_spec.specs.Values.{extent_at}

@@ -1,5 +1,5 @@
 -- The rule that holds between any two steps, of the words, the slot and what each seat knows.
-use Rattle.std.specs.Prelude.{◌≡◌, ◌==◌, ℕ, ◌+◌, ◌<◌, ◌≤◌, List, [], ◌∷◌, ◌++◌, Bool, true, false}
+use Rattle.std.specs.Prelude.{◌≡◌, ℕ, ◌+◌, ◌<◌, ◌≤◌, List, [], ◌∷◌, ◌++◌, Bool, true, false}
 use Rattle.std.specs.Prelude.{None, All, length, slice_index, if◌then◌else◌}
 use mathlib.Core.Option.{none, some}
 use lib.ListN.{get_elem?}

@@ -1,5 +1,5 @@
 -- The rule read aloud: what holds of the words, the slot and all views between any two steps.
-use Rattle.std.specs.Prelude.{◌≡◌, ℕ, ◌<◌, ◌⊎◌, List, Bool, true, false, None, All, length}
+use Rattle.std.specs.Prelude.{◌≡◌, ℕ, ◌<◌, ◌⊎◌, List, true, false, None, All, length}
 use Rattle.std.specs.Prelude.{slice_index}
 use mathlib.Core.Option.{Option, none, some}
 use lib.ListN.{get_elem?}

@@ -1,10 +1,10 @@
 -- What each kind of step tells the seat that takes it, and what the seat knows after it.
-use Rattle.std.specs.Prelude.{◌≡◌, ◌==◌, ℕ, ◌+◌, ◌<◌, ◌≤◌, List, [], ◌∷◌, ◌++◌, Bool, true, false}
+use Rattle.std.specs.Prelude.{◌≡◌, ◌==◌, ℕ, ◌+◌, ◌<◌, ◌≤◌, List, [], ◌∷◌, ◌++◌, true, false}
 use Rattle.std.specs.Prelude.{None, length, nat_lt, ◌||◌, ◌⊎◌, if◌then◌else◌}
 use Rattle.atomic_table.specs.Table.{Step}
 use Rattle.sz_shelf.specs.Tags.{tag_pieces}
 use Rattle.sz_shelf.specs.Contents.{Contents, is_in, missing_in}
-use Rattle.sz_shelf.specs.Rule.{Own, Begins, ArePieces, last_of, count_of, contents, is_busy}
+use Rattle.sz_shelf.specs.Rule.{Own, Begins, ArePieces, last_of, count_of, contents}
 use Rattle.sz_shelf.specs.declared.rule.View.{View}
 use Rattle.sz_shelf.specs.declared.rule.Stage.TheVariants.{Idle, InTurn, StoreOut}
 

@@ -2,7 +2,7 @@ use Rattle.std.proofs.Common.{sym, subst, ap, ◌∙◌, ◌≡◌}
 use Rattle.sz_core.specs.States.{Shelf}
 use Rattle.sz_core.specs.Events.{seal_reply, after_seal}
 use Rattle.sz_shelf.specs.declared.rule.View.{View}
-use Rattle.sz_shelf.specs.Machine.{shelf_of, told_of_seal}
+use Rattle.sz_shelf.specs.Machine.{told_of_seal}
 use Rattle.sz_shelf.proofs.Turning.{sealed-stays}
 use Rattle.sz_shelf.proofs.Telling.{seal-told, seal-leaves, found-is, left-is}
 use Rattle.sz_shelf.proofs.shelf.Shelf.seal.Goals as goal

@@ -1,4 +1,4 @@
-use Rattle.std.proofs.Common.{rules, sym, ap, subst, ◌∙◌}
+use Rattle.std.proofs.Common.{sym, ap, subst, ◌∙◌}
 use Rattle.sz_shelf.specs.Rule.{Own}
 use Rattle.sz_shelf.specs.Passes.{Onlooker, TookTurn}
 use Rattle.sz_shelf.proofs.Turning.{turn-of, equal-stays}

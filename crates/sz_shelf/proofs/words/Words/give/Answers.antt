@@ -1,6 +1,4 @@
-use Rattle.std.proofs.Common.{rules, ap, sym, subst, ◌∙◌}
-use Rattle.sz_shelf.specs.declared.rule.View.{View}
-use Rattle.sz_shelf.specs.Rule.{Own}
+use Rattle.std.proofs.Common.{rules}
 use Rattle.sz_shelf.proofs.Moves.{gives-keep}
 use Rattle.sz_shelf.proofs.Slots.{table-is}
 use Rattle.sz_shelf.proofs.words.Words.give.Goals as goal

@@ -1,4 +1,3 @@
-use Rattle.std.proofs.Common.{ap, sym, ◌∙◌}
 use Rattle.sz_shelf.proofs.Slots.{table-is, out-here}
 use Rattle.sz_shelf.proofs.words.Words.image.Goals as goal
 

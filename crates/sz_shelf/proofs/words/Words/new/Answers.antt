@@ -1,4 +1,4 @@
-use Rattle.std.proofs.Common.{ap, refl, ◌∙◌, ◌∷◌, ◌++◌, [], List}
+use Rattle.std.proofs.Common.{ap, ◌∙◌, ◌∷◌, ◌++◌, [], List}
 use Rattle.sz_shelf.specs.Contents.{Contents}
 use Rattle.sz_shelf.proofs.Moves.{opens}
 use Rattle.sz_shelf.proofs.words.Words.new.Goals as goal

@@ -1,8 +1,8 @@
-use Rattle.std.proofs.Common.{rules, Bool, None, sym, refl, ap, ap₂, ◌∙◌, ◌+◌, ◌≡◌, ◌≤◌, inr, subst, true}
+use Rattle.std.proofs.Common.{rules, Bool, None, sym, ap, ◌∙◌, ◌+◌, ◌≡◌, inr, subst, true}
 use Rattle.std.proofs.Common.{if◌then◌else◌, ℕ, length}
-use Rattle.sz_shelf.specs.Tags.{Tag, tag_pieces}
+use Rattle.sz_shelf.specs.Tags.{tag_pieces}
 use Rattle.sz_shelf.specs.Contents.{Contents, missing_in}
-use Rattle.sz_shelf.specs.Rule.{contents, count_of, last_of}
+use Rattle.sz_shelf.specs.Rule.{last_of}
 use Rattle.sz_shelf.proofs.Slots.{table-is, out-here, out-is, out-now}
 use Rattle.sz_shelf.proofs.words.Words.seal.Goals as goal
 
@@ -15,7 +15,7 @@ count-requires-clause-grown c =
     let is = out-is _ _ _ c.requires.out.1 c.slot_mut-store.ensures.value in
     let now : Contents = c.seal.new.self in
     let placed : now.placed ≡ v.seen = ap (λ (x : Contents). x.placed) c.seal.ensures
-        ∙ sym (ap (λ (x : Contents). x.placed) is) in
+    ∙ sym (ap (λ (x : Contents). x.placed) is) in
     let sealed : now.sealed ≡ true = ap (λ (x : Contents). x.sealed) c.seal.ensures in
     let whole : missing_in (tag_pieces v.tag) v.seen ≡ None =
     subst (λ (x : Contents). missing_in (tag_pieces x.tag) x.placed ≡ None) (sym is)
@@ -24,6 +24,6 @@ count-requires-clause-grown c =
       out-now _ _ now c.requires.out.1,
       inr record { placed = placed; sealed = sealed; whole = whole },
       ap (λ (n : ℕ). n + 1) (c.from.ensures ∙ c.pieces-pieces.ensures
-      ∙ ap (λ (x : Contents). tag_pieces x.tag) (sym is))
+          ∙ ap (λ (x : Contents). tag_pieces x.tag) (sym is))
           ∙ ap (λ (b : Bool). if b then last_of v.tag else length now.placed) (sym sealed),
     )
