@@ -203,9 +203,9 @@ strategy-two : says held (command.Strategy f 0 (strategy.BlackBox ∷ strategy.M
 unfolding digits
 strategy-two = refl
 
--- a strategy that keeps a store
+-- strategies that keep a store
 strategy-stored : says held (command.Strategy f 0 (strategy.Map ∷ strategy.FullOneB ∷ strategy.FullManyF ∷ []))
-    ≡ codes "refused 21"
+    ≡ codes "strategy f 0"
 unfolding digits
 strategy-stored = refl
 
@@ -238,7 +238,7 @@ strategy-no_node_stored : says held (command.Strategy f 1 (strategy.FullOneB ∷
 unfolding digits
 strategy-no_node_stored = refl
 
--- a list of which no strategy can be chosen, and one of which one keeps a store
+-- one strategy of two that the operator has not
 strategy-comp_stored : says held (command.Strategy f 0 (strategy.CompOne ∷ strategy.FullOneF ∷ []))
     ≡ codes "refused 18"
 unfolding digits
@@ -261,6 +261,10 @@ unfolding digits
 start-second_node = refl
 
 -- ---- names, and what is held under them
+
+csv-two : says held (command.Csv a five) ≡ codes "array a 2"
+unfolding digits
+csv-two = refl
 
 layers-two : says held (command.Layers a five) ≡ codes "array a 2"
 unfolding digits
@@ -341,15 +345,15 @@ choose-box : chosen (strategy.BlackBox ∷ []) ≡ codes "strategy f 0"
 unfolding digits
 choose-box = refl
 
-choose-pay : chosen (strategy.PayOne ∷ strategy.PayMany ∷ []) ≡ codes "refused 21"
+choose-pay : chosen (strategy.PayOne ∷ strategy.PayMany ∷ []) ≡ codes "strategy f 0"
 unfolding digits
 choose-pay = refl
 
-choose-comp : chosen (strategy.CompOne ∷ strategy.CompMany ∷ strategy.BlackBox ∷ []) ≡ codes "refused 21"
+choose-comp : chosen (strategy.CompOne ∷ strategy.CompMany ∷ strategy.BlackBox ∷ []) ≡ codes "strategy f 0"
 unfolding digits
 choose-comp = refl
 
-choose-full : chosen (strategy.FullOneB ∷ strategy.FullManyF ∷ []) ≡ codes "refused 21"
+choose-full : chosen (strategy.FullOneB ∷ strategy.FullManyF ∷ []) ≡ codes "strategy f 0"
 unfolding digits
 choose-full = refl
 
@@ -364,11 +368,11 @@ choose-first = refl
 
 -- of an operator with a mapping
 choose-all_full : says held (command.Strategy f 0 (strategy.FullOneB ∷ strategy.FullOneF ∷ strategy.FullManyB ∷ []))
-    ≡ codes "refused 21"
+    ≡ codes "strategy f 0"
 unfolding digits
 choose-all_full = refl
 
-choose-last_full : says held (command.Strategy f 0 (strategy.FullManyF ∷ [])) ≡ codes "refused 21"
+choose-last_full : says held (command.Strategy f 0 (strategy.FullManyF ∷ [])) ≡ codes "strategy f 0"
 unfolding digits
 choose-last_full = refl
 

@@ -105,6 +105,7 @@ traced v dir path =
 -- the commands that change what is held and start no version
 abbrev pub changes_without_start : Command → Bool
 changes_without_start (command.Array name array) = true
+changes_without_start (command.Csv name array) = true
 changes_without_start (command.Layers name array) = true
 changes_without_start (command.Flow name flow) = true
 changes_without_start (command.Strategy name node list) = true
@@ -117,6 +118,8 @@ changes_without_start (command.Show n node) = false
 -- what a command that no rule refuses changes, and its reply
 abbrev pub accepted : Holdings → Command → Holdings × Response
 accepted c (command.Array name array) =
+    (with_array c name array, array_held name (length (things_named name c.arrays) + 1))
+accepted c (command.Csv name array) =
     (with_array c name array, array_held name (length (things_named name c.arrays) + 1))
 accepted c (command.Layers name array) =
     (with_array c name array, array_held name (length (things_named name c.arrays) + 1))

@@ -164,14 +164,15 @@ has_no_node c n node = nat_le (length (version_of c n).flow.nodes) node
 abbrev pub rules_of : Holdings → Command → List (Bool × Refusal)
 rules_of c (command.Array name array) =
     (has_no_room_for_array c array, refusal.NoRoomForArray) ∷ []
+rules_of c (command.Csv name array) =
+    (has_no_room_for_array c array, refusal.NoRoomForArray) ∷ []
 rules_of c (command.Layers name array) =
     (has_no_room_for_array c array, refusal.NoRoomForArray) ∷ []
 rules_of c (command.Flow name flow) =
     (has_no_room_for_flow c name, refusal.NoRoomForFlow) ∷ []
 rules_of c (command.Strategy name node list) =
     (has_no_flow c name, refusal.NoSuchFlow)
-    ∷ (has_bad_strategies c name node list, refusal.BadStrategies)
-    ∷ (names_a_store list, refusal.NotBuilt) ∷ []
+    ∷ (has_bad_strategies c name node list, refusal.BadStrategies) ∷ []
 rules_of c (command.Start name base) =
     (has_no_flow c name, refusal.NoSuchFlow)
     ∷ (has_no_array c base, refusal.NoSuchArray)

@@ -36,7 +36,6 @@ numbers_of refusal.OutOfRange = 17 ∷ []
 numbers_of refusal.BadStrategies = 18 ∷ []
 numbers_of refusal.NotAwaited = 19 ∷ []
 numbers_of refusal.NoSuchNode = 20 ∷ []
-numbers_of refusal.NotBuilt = 21 ∷ []
 
 -- a number that is there, before others
 abbrev pub before : Option ℕ → List ℕ → List ℕ

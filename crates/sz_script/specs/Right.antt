@@ -10,6 +10,7 @@ use Rattle.sz_script.specs.declared.command.Command.TheVariants as command
 -- the names of a command, those of base arrays too
 abbrev pub names_in : Command → List (List ℕ)
 names_in (command.Array name array) = name ∷ []
+names_in (command.Csv name array) = name ∷ []
 names_in (command.Layers name array) = name ∷ []
 names_in (command.Flow name flow) = name ∷ []
 names_in (command.Strategy name node list) = name ∷ []
@@ -22,6 +23,7 @@ names_in (command.Show version node) = []
 -- the fault of its flow, where it has one
 abbrev pub fault_in : Command → Option FlowFault
 fault_in (command.Array name array) = None
+fault_in (command.Csv name array) = None
 fault_in (command.Layers name array) = None
 fault_in (command.Flow name flow) = flow_fault flow
 fault_in (command.Strategy name node list) = None

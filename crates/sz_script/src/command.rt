@@ -17,6 +17,11 @@ pub enum Command {
         name: Name,
         array: Array,
     },
+    /// Hold an array of one layer, given as comma-separated text, as the next version of a name.
+    Csv {
+        name: Name,
+        array: Array,
+    },
     /// Hold an array of several layers as the next version of a name.
     Layers {
         name: Name,

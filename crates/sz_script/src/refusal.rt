@@ -50,8 +50,6 @@ pub enum Refusal {
     NotAwaited,
     /// The version has no such node.
     NoSuchNode,
-    /// A strategy is not built yet.
-    NotBuilt,
 }
 
 /// What is printed of a refusal: its number, and the numbers behind it. Contracts see the list of
@@ -99,7 +97,6 @@ impl Refusal {
             Refusal::BadStrategies => number(18),
             Refusal::NotAwaited => number(19),
             Refusal::NoSuchNode => number(20),
-            Refusal::NotBuilt => number(21),
         }
     }
 }

@@ -46,6 +46,7 @@ fn accept(held: &mut Held, command: Command) -> Result<Reply, NoMemory>
 {
     match command {
         Command::Array { name, array } => held.accept(Command::Array { name, array }),
+        Command::Csv { name, array } => held.accept(Command::Csv { name, array }),
         Command::Layers { name, array } => held.accept(Command::Layers { name, array }),
         Command::Flow { name, flow } => held.accept(Command::Flow { name, flow }),
         Command::Strategy { name, node, list } => {

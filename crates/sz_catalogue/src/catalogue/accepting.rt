@@ -40,6 +40,7 @@ impl<K: Carried> Catalogue<K> {
     {
         match command {
             Command::Array { name, array } => self.hold_array(name, array),
+            Command::Csv { name, array } => self.hold_array(name, array),
             Command::Layers { name, array } => self.hold_array(name, array),
             Command::Flow { name, flow } => self.hold_flow(name, flow),
             Command::Strategy { name, node, list } => Ok(self.set_list(name, node, list)),

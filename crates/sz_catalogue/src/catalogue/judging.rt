@@ -17,7 +17,7 @@ use super::{Catalogue, GREATEST_NUMBER, MOST_ARRAYS, MOST_CELLS, MOST_FLOWS};
 use crate::carried::Carried;
 use crate::paths::is_joined;
 use crate::shapes::cells_of;
-use crate::strategies::{is_list_of, names_a_store};
+use crate::strategies::is_list_of;
 use std::alloc::Global;
 use sz_cells::{NoMemory, Shape};
 use sz_script::{BaseName, Command, LineFault, NamedCell, PathStep, Refusal};
@@ -46,6 +46,7 @@ impl<K: Carried> Catalogue<K> {
     {
         match command {
             Command::Array { name: _, array } => Ok(self.refusal_of_array(array)),
+            Command::Csv { name: _, array } => Ok(self.refusal_of_array(array)),
             Command::Layers { name: _, array } => Ok(self.refusal_of_array(array)),
             Command::Flow { name, flow: _ } => Ok(self.refusal_of_flow(name.as_str())),
             Command::Strategy { name, node, list } => {
@@ -74,6 +75,7 @@ impl<K: Carried> Catalogue<K> {
     /// The rule that refuses an array.
     fn refusal_of_array(&self, array: &Array) -> Option<Refusal>
         ensures one { (name : List ℕ) → result ≡ judged self.now (command.Array name array.now) }
+        ensures csv { (name : List ℕ) → result ≡ judged self.now (command.Csv name array.now) }
         ensures layers { (name : List ℕ) → result ≡ judged self.now (command.Layers name array.now) }
     {
         let size = u64::from(array.shape().size());
@@ -104,9 +106,6 @@ impl<K: Carried> Catalogue<K> {
         };
         if !is_list_of(held.flow().nodes(), node, list) {
             return Some(Refusal::BadStrategies);
-        }
-        if names_a_store(list) {
-            return Some(Refusal::NotBuilt);
         }
         None
     }

@@ -10,6 +10,10 @@ pub returns-in-Array : goal.returns-in-Array
 returns-in-Array g c =
     c.refusal_of_array.ensures.one c.in-Array.name ∙ ap (judged c.args.self.now) (sym c.in-Array.is)
 
+pub returns-in-Csv : goal.returns-in-Csv
+returns-in-Csv g c =
+    c.refusal_of_array-in-Csv.ensures.csv c.in-Csv.name ∙ ap (judged c.args.self.now) (sym c.in-Csv.is)
+
 pub returns-in-Layers : goal.returns-in-Layers
 returns-in-Layers g c =
     c.refusal_of_array-in-Layers.ensures.layers c.in-Layers.name ∙ ap (judged c.args.self.now) (sym c.in-Layers.is)
