@@ -2,6 +2,7 @@
 pub mod Ways
 pub mod Steps
 pub mod PathViews
+pub mod Whole
 pub mod Kept
 pub mod Keeps
 pub mod Cuts

@@ -1,4 +1,4 @@
--- What no rule refuses is what a run asks for.
+-- What no rule refuses is what a run asks for, and the stores are of what it gives.
 use Rattle.std.proofs.Common.{List, length, map, sym, ap, ◌∙◌}
 use Rattle.std.specs.Arc.{arc_value}
 use Rattle.std.proofs.lemmas.List.{length-map}
@@ -16,7 +16,7 @@ run_all-requires-clause-well_formed g c =
     let cat = c.args.catalogue.now in
     let can = can-start cat c.args.name.now c.args.base.now c.requires.judged in
     let graph = c.deref.ensures ∙ flow-graph cat c.args.name.now _ (rw c.in-Some.is at c.flow.ensures) in
-    λ κs lives. rw graph (flow-sound cat c.args.name.now c.requires.sound can.flow).flow.right
+    λ κs lives. rw graph (flow-sound cat c.args.name.now c.requires.sound can.flow).right
 
 pub run_all-requires-clause-count : goal.run_all-requires-clause-count
 run_all-requires-clause-count g c =
@@ -37,3 +37,16 @@ run_all-requires-clause-fits g c =
     let graph = c.deref.ensures ∙ flow-graph cat c.args.name.now _ (rw c.in-Some.is at c.flow.ensures) in
     let arrays = ap (λ xs. map (λ a. arc_value a) xs) c.deref-2.ensures.value ∙ c.in_ok-arrays.ensures in
     λ κs lives. (can.fits.0, rw (graph, arrays, base-shapes (bases_of cat c.args.base.now)) can.fits.1)
+
+-- the executions, and the lists, are those of the version that is started
+pub stores_of-requires : goal.stores_of-requires
+stores_of-requires g c =
+    let cat = c.args.catalogue.now in
+    let can = can-start cat c.args.name.now c.args.base.now c.requires.judged in
+    let w = workflow_of cat c.args.name.now in
+    let graph = c.deref.ensures ∙ flow-graph cat c.args.name.now _ (rw c.in-Some.is at c.flow.ensures) in
+    let arrays = ap (λ xs. map (λ a. arc_value a) xs) c.deref-2.ensures.value ∙ c.in_ok-arrays.ensures in
+    let lists = flow-lists cat c.args.name.now _ (rw c.in-Some-2.is at c.lists.ensures) in
+    rw (c.as_slice.ensures, lists, c.in_ok-runs.ensures, graph, arrays)
+    (lists-listed (arrays_of (bases_of cat c.args.base.now)) [] w.graph.nodes w.lists
+    (flow-sound cat c.args.name.now c.requires.sound can.flow).lists)
