@@ -20,7 +20,8 @@ use Rattle.sz_rtree.specs.Rectangles.{Rectangles}
 use Rattle.sz_tables.specs.Rows.{RowTable, pairings}
 use Rattle.sz_tables.specs.Stores.{IsPairOf}
 use Rattle.sz_tables.specs.Scans.{near_set}
-use Rattle.sz_full_many.specs.Indexed.{IsRound, AreRound, HasNext, IsIndexed, room_in, trees_for, tree_for}
+use Rattle.sz_tables.specs.Sets.{IsRound}
+use Rattle.sz_full_many.specs.Indexed.{AreRound, HasNext, IsIndexed, room_in, trees_for, tree_for}
 
 -- ---- inputs
 

@@ -1,6 +1,4 @@
--- The lemmas: of numbers of runs and cells, of rectangles round sets, of looks, of trees beside a table, and of bytes.
-mod Counted
+-- The lemmas: of rectangles round sets, of looks, and of trees beside a table.
 mod Rounded
 mod Looked
 mod Indexing
-mod Words

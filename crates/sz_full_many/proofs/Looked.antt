@@ -26,7 +26,8 @@ use Rattle.sz_region.proofs.Added.{with-ext, with-none}
 use Rattle.sz_rtree.specs.Rectangles.{Overlaps, IsNextHit}
 use Rattle.sz_tables.specs.Rows.{RowTable, pairings}
 use Rattle.sz_tables.specs.Scans.{near_set, far_set, pair_adds, pairs_add}
-use Rattle.sz_full_many.specs.Indexed.{IsRound, AreRound}
+use Rattle.sz_tables.specs.Sets.{IsRound}
+use Rattle.sz_full_many.specs.Indexed.{AreRound}
 use Rattle.sz_tables.proofs.Scanned.{all-added}
 
 -- ---- sets that share no cell

@@ -1,13 +1,10 @@
 -- Region pairs by rectangles round their sets: rectangle r of a tree is round every cell of the
 -- set of region pair r from which a look starts. Backward that is the output set, in one tree;
 -- forward there is a tree for each input.
-use Rattle.std.specs.Prelude.{◌≡◌, ℕ, ◌<◌, ◌≤◌, ◌+◌, List, [], ◌∷◌, ◌++◌, length, true}
+use Rattle.std.specs.Prelude.{◌≡◌, ℕ, ◌<◌, ◌≤◌, ◌+◌, List, [], ◌∷◌, ◌++◌, length}
 use Rattle.std.specs.Prelude.{slice_index_or, min}
 use Rattle.std.specs.List.{AllZip}
 use Rattle.sz_cells.specs.declared.Bounds.{Bounds}
-use Rattle.sz_cells.specs.declared.Cell.{Cell}
-use Rattle.sz_cells.specs.Cells.{Cells, has}
-use Rattle.sz_cells.specs.Laws.{IsInBounds}
 use Rattle.sz_spec.specs.declared.modes.Dir.{Dir}
 use Rattle.sz_spec.specs.declared.modes.Dir.TheVariants.{Back, Forward}
 use Rattle.sz_spec.specs.Shapes.{Site}
@@ -15,10 +12,7 @@ use Rattle.sz_region.specs.Parts.{Pairing}
 use Rattle.sz_rtree.specs.Rectangles.{Rectangles}
 use Rattle.sz_tables.specs.Rows.{RowTable, pairings}
 use Rattle.sz_tables.specs.Scans.{near_set}
-
--- the rectangle has every cell of the set
-abbrev pub IsRound : Bounds → Cells → Type 0
-IsRound b set = (c : Cell) → has set c ≡ true → IsInBounds b c
+use Rattle.sz_tables.specs.Sets.{IsRound}
 
 -- rectangle r is round the near set of region pair r
 abbrev pub AreRound : Dir → ℕ → List Pairing → List Bounds → Type 0

@@ -6,14 +6,16 @@ ghost use Rattle.sz_cells.specs.declared.Cell.{Cell};
 ghost use Rattle.sz_cells.specs.Cells.{has};
 ghost use Rattle.sz_cells.specs.Laws.{IsInBounds};
 ghost use Rattle.sz_rtree.specs.Rectangles.{Rectangles};
-ghost use Rattle.sz_full_many.specs.Indexed.{IsRound, HasNext, trees_for};
+ghost use Rattle.sz_full_many.specs.Indexed.{HasNext, trees_for};
 ghost use Rattle.sz_tables.specs.Scans.{near_set};
+ghost use Rattle.sz_tables.specs.Sets.{IsRound};
 
 use std::alloc::Global;
-use sz_cells::{Bounds, Cell, CellBits, CellSet, NoMemory};
+use sz_cells::{Bounds, Cell, CellBits, NoMemory};
 use sz_region::Region;
 use sz_rtree::RTree;
 use sz_spec::Dir;
+use sz_tables::bounds_of_set;
 
 /// The trees of a store without a region pair.
 pub(crate) fn empty_trees(alloc: Global, dir: Dir, inputs: usize) -> Result<Vec<RTree>, NoMemory>
@@ -65,21 +67,6 @@ fn near_bounds(dir: Dir, input: usize, region: &Region) -> Bounds
     match dir {
         Dir::Back => bounds_of_set(&region.out),
         Dir::Forward => bounds_of_set(&region.ins.as_slice()[input]),
-    }
-}
-
-/// The bounds of a set; of the set of no cell a rectangle that overlaps none with cells.
-fn bounds_of_set(set: &CellSet) -> Bounds
-    ensures { IsRound result set.now }
-{
-    match set.bounds() {
-        Some(bounds) => bounds,
-        None => Bounds {
-            top: u32::MAX,
-            left: u32::MAX,
-            bottom: 0,
-            right: 0,
-        },
     }
 }
 

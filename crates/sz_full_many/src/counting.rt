@@ -6,8 +6,8 @@ ghost use Rattle.sz_tables.specs.Rows.{runs_in, weight_of};
 ghost use Rattle.sz_tables.specs.Stores.{cells_in, most_given};
 
 use std::sync::Arc;
-use sz_cells::CellSet;
 use sz_region::Region;
+use sz_tables::runs_of_set;
 
 /// How many runs the sets of all these region pairs have.
 pub(crate) fn runs_of_all(regions: &[Arc<Region>]) -> usize
@@ -36,14 +36,4 @@ fn runs_of(region: &Region) -> usize
         runs += runs_of_set(set);
     }
     runs
-}
-
-/// How many runs a set has. None of them is longer than the largest shape.
-fn runs_of_set(set: &CellSet) -> usize
-    ensures runs { result ≡ runs_in set.now }
-    ensures few { result ≤ 1048576 }
-    ensures cells { cells_in set.now ≤ result * 1048576 }
-{
-    set.shape().size(); // its runs are within a shape
-    set.runs().len()
 }

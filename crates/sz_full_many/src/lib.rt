@@ -207,7 +207,8 @@ impl FullMany {
     /// The store of the region pairs whose bytes begin at a place, and the place behind them.
     /// `Take::Bad` exactly where none begin there.
     ///
-    /// Costs by the bytes that it reads, and by the runs of the sets of all region pairs.
+    /// Costs by the bytes that it reads, and by the runs of the sets of all region pairs. The store
+    /// has room for each different set once, and for the sets of one region pair more.
     pub fn take_bytes(
         alloc: Global,
         at: Arc<OpAt>,
@@ -223,13 +224,41 @@ impl FullMany {
             (λ e. SaysNoRegions s.out s.ins bytes.now from e) }
     {
         let (regions, next) = take_regions(alloc, at.out(), at.ins(), bytes, from)?;
-        let Ok(mut store) = FullMany::new(alloc, at, dir) else {
-            return Err(Take::NoMemory);
-        };
-        if store.reserve_all(&regions).is_err() {
-            return Err(Take::NoMemory);
-        }
-        store.add_all(&regions);
+        let store = FullMany::of_regions(alloc, at, dir, &regions)?;
         Ok((store, next))
+    }
+
+    /// The store of these region pairs. The room for each is made when those before it are added,
+    /// so a set that many of them share is counted once.
+    fn of_regions(
+        alloc: Global,
+        at: Arc<OpAt>,
+        dir: Dir,
+        regions: &[Arc<Region>],
+    ) -> Result<FullMany, NoMemory>
+        requires few { length regions.now ≤ most_given }
+        requires pairs { All (IsPairOf (arc_value at)) (map (λ a. arc_value a) regions.now) }
+        ensures given { IfOk result (λ s. s.given ≡ map (λ a. arc_value a) regions.now) }
+        ensures site { IfOk result (λ s. s.site ≡ arc_value at) }
+    {
+        let mut store = FullMany::new(alloc, at, dir)?;
+        for region in regions {
+            store.keep(region)?;
+        }
+        Ok(store)
+    }
+
+    /// Makes the room for a region pair, and adds it.
+    fn keep(&mut self, region: &Arc<Region>) -> Result<(), NoMemory>
+        requires few { length self.old.given < most_given }
+        requires pair { IsPairOf self.old.site (arc_value region.now) }
+        ensures given { OnOk result
+            (self.new.given ≡ self.old.given ++ arc_value region.now ∷ []) }
+        ensures site { self.new.site ≡ self.old.site }
+    {
+        let pairs = [Arc::try_clone(region)?];
+        self.reserve_all(&pairs)?;
+        self.add_all(&pairs);
+        Ok(())
     }
 }

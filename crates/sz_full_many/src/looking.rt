@@ -5,7 +5,8 @@ ghost use Rattle.sz_cells.specs.Cells.{has, with_those};
 ghost use Rattle.sz_spec.specs.Sides.{extent_before, extent_after, image_between};
 ghost use Rattle.sz_region.specs.Stands.{full_stands};
 ghost use Rattle.sz_tables.specs.Rows.{pairings};
-ghost use Rattle.sz_full_many.specs.Indexed.{IsRound, AreRound, tree_for};
+ghost use Rattle.sz_tables.specs.Sets.{IsRound};
+ghost use Rattle.sz_full_many.specs.Indexed.{AreRound, tree_for};
 
 use crate::bounds::bounds_of_bits;
 use sz_cells::{Bounds, CellBits};

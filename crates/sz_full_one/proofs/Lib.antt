@@ -7,4 +7,3 @@ mod ImagesBetween
 mod Growing
 mod Counted
 mod KeptRoom
-pub mod Words

@@ -22,7 +22,7 @@
 //! of the set that it handled last (`IsDone`), and begins each ask without one.
 #![tactic(auto)]
 
-ghost use Rattle.std.specs.Prelude.{◌≡◌, ◌<◌, ◌≤◌, ◌+◌, [], ◌++◌, length, All};
+ghost use Rattle.std.specs.Prelude.{◌≡◌, ◌<◌, ◌≤◌, ◌+◌, [], ◌∷◌, ◌++◌, length, All};
 ghost use Rattle.std.specs.Prelude.{OnOk, OnErr, IfOk, IfErr, List, ℕ, map};
 ghost use Rattle.std.specs.Arc.{arc_value};
 ghost use Rattle.sz_cells.specs.Cells.{has, with_those};
@@ -219,7 +219,8 @@ impl FullOne {
         Ok((store, next))
     }
 
-    /// The store of these region pairs.
+    /// The store of these region pairs. The room for each is made when those before it are added,
+    /// so a set that many of them share is counted once.
     fn of_regions(
         alloc: Global,
         at: Arc<OpAt>,
@@ -232,8 +233,23 @@ impl FullOne {
         ensures site { IfOk result (λ s. s.site ≡ arc_value at) }
     {
         let mut store = FullOne::new(alloc, at, dir)?;
-        store.reserve_all(regions)?;
-        store.add_all(regions);
+        for region in regions {
+            store.keep(region)?;
+        }
         Ok(store)
+    }
+
+    /// Makes the room for a region pair, and adds it.
+    fn keep(&mut self, region: &Arc<Region>) -> Result<(), NoMemory>
+        requires few { length self.old.given < most_given }
+        requires pair { IsPairOf self.old.site (arc_value region.now) }
+        ensures given { OnOk result
+            (self.new.given ≡ self.old.given ++ arc_value region.now ∷ []) }
+        ensures site { self.new.site ≡ self.old.site }
+    {
+        let pairs = [Arc::try_clone(region)?];
+        self.reserve_all(&pairs)?;
+        self.add_all(&pairs);
+        Ok(())
     }
 }

@@ -1,10 +1,9 @@
 -- The lemmas: of bytes that spell a set, of operators that have payloads, of asked cells, of the index of entries, of
--- counts, of what entries stand for and looks add, of a store that grows, of short payloads, and of bytes that are read.
+-- what entries stand for and looks add, of a store that grows, of short payloads, and of bytes that are read.
 mod SetWords
 mod Operators
 mod Meeting
 mod Owning
-mod Counted
 mod Standing
 mod Adding
 mod Keeping

@@ -24,7 +24,8 @@ use Rattle.sz_region.specs.Stands.{has_entry}
 use Rattle.sz_rtree.specs.Rectangles.{Overlaps}
 use Rattle.sz_tables.specs.Entries.{entry_at}
 use Rattle.sz_tables.specs.Filed.{told}
-use Rattle.sz_payload.specs.Owned.{IsOwnerOf, AreSlotsOf, IsRound, AreRound}
+use Rattle.sz_tables.specs.Sets.{IsRound}
+use Rattle.sz_payload.specs.Owned.{IsOwnerOf, AreSlotsOf, AreRound}
 
 -- ---- entries by number
 

@@ -5,8 +5,7 @@ use Rattle.std.specs.List.{AllZip}
 use Rattle.sz_cells.specs.declared.Bounds.{Bounds}
 use Rattle.sz_cells.specs.declared.Cell.{Cell}
 use Rattle.sz_cells.specs.Extent.{Extent, size_of, cell_of}
-use Rattle.sz_cells.specs.Cells.{Cells, has}
-use Rattle.sz_cells.specs.Laws.{IsInBounds}
+use Rattle.sz_cells.specs.Cells.{has}
 use Rattle.sz_spec.specs.Modes.{has_mapping}
 use Rattle.sz_spec.specs.Payloads.{is_payload}
 use Rattle.sz_spec.specs.Shapes.{Site}
@@ -15,6 +14,7 @@ use Rattle.sz_region.specs.Parts.{Entry}
 use Rattle.sz_region.specs.Stands.{has_entry}
 use Rattle.sz_tables.specs.Entries.{EntryRows, entries, entry_at}
 use Rattle.sz_tables.specs.Filed.{told}
+use Rattle.sz_tables.specs.Sets.{IsRound}
 use Rattle.sz_payload.specs.declared.owner.Owner.{Owner}
 use Rattle.sz_payload.specs.declared.owner.Owner.TheVariants.{One, Many}
 
@@ -28,10 +28,7 @@ pub record AreSlotsOf (e : Extent) (es : List Entry) (slots : List ℕ) : Type 0
   pub count : length slots ≡ size_of e
   pub each : (k : ℕ) → k < size_of e → IsOwnerOf es (cell_of e k) (told (slice_index slots k))
 
--- the rectangle has every cell of the set, and each rectangle those of its entry
-abbrev pub IsRound : Bounds → Cells → Type 0
-IsRound b set = (c : Cell) → has set c ≡ true → IsInBounds b c
-
+-- each rectangle has every cell of its entry
 abbrev pub AreRound : List Entry → List Bounds → Type 0
 AreRound es rectangles = AllZip (λ e b. IsRound b e.out) es rectangles
 

@@ -7,8 +7,8 @@ ghost use Rattle.sz_tables.specs.Rows.{runs_in};
 ghost use Rattle.sz_tables.specs.Stores.{cells_in, most_given};
 
 use std::sync::Arc;
-use sz_cells::CellSet;
 use sz_region::PayEntry;
+use sz_tables::runs_of_set;
 
 /// How many runs the sets of all these entries have.
 pub(crate) fn runs_of_all(entries: &[Arc<PayEntry>]) -> usize
@@ -35,14 +35,4 @@ pub(crate) fn bytes_of_all(entries: &[Arc<PayEntry>]) -> usize
         bytes += entry.payload.bytes().len();
     }
     bytes
-}
-
-/// How many runs a set has. None of them is longer than the largest shape.
-fn runs_of_set(set: &CellSet) -> usize
-    ensures runs { result ≡ runs_in set.now }
-    ensures few { result ≤ 1048576 }
-    ensures cells { cells_in set.now ≤ result * 1048576 }
-{
-    set.shape().size(); // its runs are within a shape
-    set.runs().len()
 }

@@ -40,8 +40,6 @@ mod runs;
 mod store;
 mod table;
 mod taking;
-#[cfg(test)]
-mod tests;
 
 pub use pay_map::PayMap;
 pub use store::PayStore;

@@ -11,13 +11,13 @@ ghost use Rattle.sz_region.specs.Parts.{Entry};
 ghost use Rattle.sz_tables.specs.Entries.{entries, entry_at};
 ghost use Rattle.sz_tables.specs.Filed.{told};
 ghost use Rattle.sz_tables.specs.Stores.{most_given};
-ghost use Rattle.sz_payload.specs.Owned.{IsIndexOf, IsOwnerOf, IsRound, AreRound, AreSlotsOf};
+ghost use Rattle.sz_payload.specs.Owned.{IsIndexOf, IsOwnerOf, AreRound, AreSlotsOf};
 ghost use Rattle.sz_payload.specs.Owned.{room_in};
 
 use std::alloc::Global;
 use sz_cells::{Bounds, CellSet, NoMemory, Run, Shape};
 use sz_rtree::RTree;
-use sz_tables::EntryTable;
+use sz_tables::{EntryTable, bounds_of_set};
 
 /// An index of entries whose sets are apart.
 #[derive(Drop)]
@@ -91,21 +91,6 @@ fn told(slot: u32) -> Option<u32>
     ensures { result ≡ told slot }
 {
     if slot == 0 { None } else { Some(slot - 1) }
-}
-
-/// The bounds of a set; of the set of no cell a rectangle that overlaps none with cells.
-fn bounds_of_set(set: &CellSet) -> Bounds
-    ensures { IsRound result set.now }
-{
-    match set.bounds() {
-        Some(bounds) => bounds,
-        None => Bounds {
-            top: u32::MAX,
-            left: u32::MAX,
-            bottom: 0,
-            right: 0,
-        },
-    }
 }
 
 /// Writes a number at each index of some runs.

@@ -11,7 +11,7 @@ ghost use Rattle.sz_region.specs.PayBytes.{IsPayWord};
 ghost use Rattle.sz_tables.specs.Rows.{runs_in};
 ghost use Rattle.sz_tables.specs.Stores.{IsWithin, room_for_entries, no_room, most_given};
 ghost use Rattle.sz_tables.specs.Tables.{AreDifferent};
-ghost use Rattle.sz_payload.specs.Begins.{BeginsPayloads, SaysNoPayloads};
+ghost use Rattle.sz_payload.specs.Begins.{AreLawful, BeginsPayloads, SaysNoPayloads};
 ghost use Rattle.sz_payload.specs.Kept.{IsEntryOf, entries_stand, part_of};
 
 use crate::counting::{bytes_of_all, runs_of_all};
@@ -232,7 +232,7 @@ impl<M: Mapper + Drop> PayStore<M> {
     pub fn put_bytes(&self, to: &mut Vec<u8>) -> Result<(), NoMemory>
         ensures ok { let s = self.now.store in OnOk result (
             (payloads : List (List ℕ)) × (sets : List Cells) × (word : List ℕ)
-            × AreDifferent payloads × AreDifferent sets
+            × AreDifferent payloads × AreDifferent sets × AreLawful s.site payloads
             × IsPayWord s.site.out payloads sets s.given word
             × (to.new.items ≡ to.old.items ++ word)) }
         ensures err { OnErr result (to.new.items ≡ to.old.items) }
@@ -244,7 +244,8 @@ impl<M: Mapper + Drop> PayStore<M> {
     /// The store of the entries whose bytes begin at a place, and the place behind them. Each
     /// payload of the bytes is one of the operator. `Take::Bad` exactly where none begin there.
     ///
-    /// Costs by the bytes that it reads, and by the cells of the entries.
+    /// Costs by the bytes that it reads, and by the cells of the entries. The store has room for each
+    /// different set and payload once, and for those of one entry more.
     pub fn take_bytes(
         alloc: Global,
         map: M,
@@ -264,13 +265,43 @@ impl<M: Mapper + Drop> PayStore<M> {
         ensures err { IfErr result (λ e. SaysNoPayloads (arc_value at) bytes.now from e) }
     {
         let (entries, next) = take_lawful(alloc, &at, bytes, from)?;
-        let Ok(mut store) = PayStore::new(alloc, map, at, many, comp) else {
-            return Err(Take::NoMemory);
-        };
-        if store.reserve_all(&entries).is_err() {
-            return Err(Take::NoMemory);
-        }
-        store.add_all(&entries);
+        let mut store = PayStore::new(alloc, map, at, many, comp)?;
+        store.keep_all(&entries)?;
         Ok((store, next))
+    }
+
+    /// Adds these entries. The room for each is made when those before it are added, so a set or a
+    /// payload that many of them share is counted once.
+    fn keep_all(&mut self, entries: &[Arc<PayEntry>]) -> Result<(), NoMemory>
+        requires few { length self.old.store.given + length entries.now ≤ most_given }
+        requires entries { All (IsEntryOf self.old.store.site)
+            (map (λ a. arc_value a) entries.now) }
+        requires apart { AreApart
+            (self.old.store.given ++ map (λ a. arc_value a) entries.now) }
+        ensures given { OnOk result (self.new.store.given
+            ≡ self.old.store.given ++ map (λ a. arc_value a) entries.now) }
+        ensures site { self.new.store.site ≡ self.old.store.site }
+        ensures comp { self.new.comp ≡ self.old.comp }
+    {
+        for entry in entries {
+            self.keep(entry)?;
+        }
+        Ok(())
+    }
+
+    /// Makes the room for an entry, and adds it.
+    fn keep(&mut self, entry: &Arc<PayEntry>) -> Result<(), NoMemory>
+        requires few { length self.old.store.given < most_given }
+        requires entry { IsEntryOf self.old.store.site (arc_value entry.now) }
+        requires apart { AreApart (self.old.store.given ++ arc_value entry.now ∷ []) }
+        ensures given { OnOk result
+            (self.new.store.given ≡ self.old.store.given ++ arc_value entry.now ∷ []) }
+        ensures site { self.new.store.site ≡ self.old.store.site }
+        ensures comp { self.new.comp ≡ self.old.comp }
+    {
+        let entries = [Arc::try_clone(entry)?];
+        self.reserve_all(&entries)?;
+        self.add_all(&entries);
+        Ok(())
     }
 }

@@ -20,7 +20,8 @@ use Rattle.sz_script.specs.Fields.{passes, list_in}
 use Rattle.sz_script.specs.Layers.{is_value, is_row, is_layer, value_of, values_of_row, values_of_layer, height_of}
 use Rattle.sz_script.specs.Layers.{width_of, are_counted, are_bad_cells, are_too_many_cells, grid_of}
 use Rattle.sz_script.specs.Layers.{filled, array_in}
-use Rattle.sz_script.specs.Drafts.{Draft, unless_fault, reading_of_draft, reading_of_form}
+use Rattle.sz_script.specs.Drafts.{Draft, in_layers, in_text, unless_fault, reading_of_draft, reading_of_form}
+use Rattle.sz_script.specs.Records.{records_in, table_in, is_bad_text, has_too_many_fields, grid_of_text}
 use Rattle.sz_script.specs.Names.{is_name}
 use Rattle.sz_script.specs.Right.{names_in, fault_in}
 use Rattle.sz_script.specs.Reading.{Reads}
@@ -200,13 +201,13 @@ pub reads_fault : {X Y : Type 0} (part : Result X Refusal) (all : Result Y Refus
 reads_fault part all (line_fault.Refused r) e each = each r e
 reads_fault part all line_fault.NoMemory e each = tt
 
--- the draft of a name and layers that were found
-pub drafted : (make : List ℕ → List Data → Draft) (name : List ℕ) (layers : List Data) (o : Option (List ℕ))
-    (l : Option (List Data)) → Some name ≡ o → Some layers ≡ l
-    → reading_of_form (option_and_then (λ n. option_map (make n) l) o) ≡ reading_of_draft (make name layers)
-drafted make name layers o l named found =
+-- the draft of a name and cells that were found
+pub drafted : {X : Type 0} (make : List ℕ → X → Draft) (name : List ℕ) (cells : X) (o : Option (List ℕ))
+    (l : Option X) → Some name ≡ o → Some cells ≡ l
+    → reading_of_form (option_and_then (λ n. option_map (make n) l) o) ≡ reading_of_draft (make name cells)
+drafted make name cells o l named found =
     ap (λ (p : Option (List ℕ)). reading_of_form (option_and_then (λ n. option_map (make n) l) p)) (sym named)
-    ∙ ap (λ (p : Option (List Data)). reading_of_form (option_map (make name) p)) (sym found)
+    ∙ ap (λ (p : Option _). reading_of_form (option_map (make name) p)) (sym found)
 
 abbrev refusal_in : Result Grid Refusal → Refusal
 refusal_in (Ok g) = BadName
@@ -224,7 +225,14 @@ refused_by false false false f c g r named e = cc
 
 pub array_refused : (layers : List Data) (c : Command) (r : Refusal) → list_all is_name (names_in c) ≡ true
     → array_in layers ≡ Err r
-    → reading_of_draft (record { command = c; layers = Some layers }) ≡ Err r
+    → reading_of_draft (record { command = c; cells = in_layers layers }) ≡ Err r
 array_refused layers c r named e =
     refused_by (not (list_all is_name (names_in c))) (are_bad_cells layers) (are_too_many_cells layers) (fault_in c) c
     (grid_of layers) r (ap not named) e
+
+pub text_refused : (text : List ℕ) (c : Command) (r : Refusal) → list_all is_name (names_in c) ≡ true
+    → table_in (records_in text) ≡ Err r
+    → reading_of_draft (record { command = c; cells = in_text text }) ≡ Err r
+text_refused text c r named e =
+    refused_by (not (list_all is_name (names_in c))) (is_bad_text text) (has_too_many_fields text) (fault_in c) c
+    (grid_of_text text) r (ap not named) e

@@ -4,6 +4,9 @@ pub mod ItemsRead
 pub mod Lines
 pub mod Walks
 pub mod LayersRead
+pub mod RecordsRead
+pub mod FieldValues
+pub mod Tables
 pub mod TableRead
 pub mod KernelsRead
 pub mod LawsLines
@@ -14,3 +17,4 @@ mod RowsNames
 mod RowsRules
 mod RowsNodes
 mod RowsLayers
+mod RowsTexts

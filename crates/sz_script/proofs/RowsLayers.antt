@@ -1,11 +1,11 @@
 -- Rows of the greatest arrays: on both sides of the number of cells that an array may have, by layers of zeros. Each
 -- is found by computing. And the numbers of the two rules on size.
-use Rattle.std.specs.Prelude.{◌≡◌, ℕ, zero, suc, List, [], ◌∷◌, map, true, false, Some, Err}
+use Rattle.std.specs.Prelude.{◌≡◌, ℕ, zero, suc, List, [], ◌∷◌, map, true, false, Err}
 use Rattle.std.specs.List.{range_with_len}
 use Rattle.std.proofs.Common.{refl}
 use Rattle.serde_json.specs.Data.{Data, number, unsigned, array, Items, no_items, item}
 use Rattle.sz_script.specs.Layers.{are_counted, are_too_many_cells}
-use Rattle.sz_script.specs.Drafts.{reading_of_draft}
+use Rattle.sz_script.specs.Drafts.{in_layers, reading_of_draft}
 use Rattle.sz_script.specs.Refusals.{numbers_of}
 use Rattle.sz_script.specs.declared.command.Command.TheVariants as command
 use Rattle.sz_script.specs.declared.refusal.Refusal.TheVariants as refusal
@@ -50,7 +50,8 @@ many = map (λ k. zeros 256 1024) (range_with_len 0 17)
 too_many : are_too_many_cells many ≡ true
 too_many = refl
 
-bad_before_too_many : reading_of_draft (record { command = command.Await 1; layers = Some many }) ≡ Err refusal.BadCells
+bad_before_too_many : reading_of_draft (record { command = command.Await 1; cells = in_layers many })
+    ≡ Err refusal.BadCells
 bad_before_too_many = refl
 
 number-too_many : numbers_of refusal.TooManyCells ≡ 6 ∷ []

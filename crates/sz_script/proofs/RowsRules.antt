@@ -3,6 +3,7 @@
 use Rattle.std.specs.Prelude.{◌≡◌, [], ◌∷◌, ◌++◌, codes}
 use Rattle.std.specs.Str.{is_utf8, chars}
 use Rattle.std.proofs.Common.{refl}
+use Rattle.csv.proofs.OnLiterals.{csv_on_literals}
 use Rattle.serde_json.proofs.OnLiterals.{serde_json_on_literals}
 use Rattle.sz_script.proofs.RowsTold.{read_as, flow_read_as, node_read_as, layers_of, nodes_of, lists_of}
 
@@ -69,11 +70,11 @@ form-no_field : read_as (codes "{}") ≡ 3 ∷ []
 unfolding serde_json_on_literals is_utf8 chars
 form-no_field = refl
 
-form-csv : read_as (codes "{\"csv\":\"a\",\"text\":\"1\"}") ≡ 3 ∷ []
-unfolding serde_json_on_literals is_utf8 chars
+form-csv : read_as (codes "{\"csv\":\"a\",\"text\":\"1\"}") ≡ []
+unfolding serde_json_on_literals csv_on_literals is_utf8 chars
 form-csv = refl
 
-form-csv_of_bad_name : read_as (codes "{\"csv\":\"A\",\"text\":\"1\"}") ≡ 3 ∷ []
+form-csv_of_bad_name : read_as (codes "{\"csv\":\"A\",\"text\":\"1\"}") ≡ 4 ∷ []
 unfolding serde_json_on_literals is_utf8 chars
 form-csv_of_bad_name = refl
 

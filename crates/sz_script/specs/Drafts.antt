@@ -1,5 +1,6 @@
 -- The rules that a line of a form is read by, one after another.
-use Rattle.std.specs.Prelude.{List, Bool, not, if◌then◌else◌, Option, Some, None, Result, Ok}
+use Rattle.std.specs.Prelude.{ℕ, List, Bool, false, not, if◌then◌else◌, Option, Some, None}
+use Rattle.std.specs.Prelude.{Result, Ok}
 use Rattle.std.specs.Prelude.{Err, is_some}
 use Rattle.std.specs.List.{list_all}
 use Rattle.serde_json.specs.Data.{Data}
@@ -7,20 +8,39 @@ use Rattle.sz_spec.specs.declared.flow.FlowFault.{FlowFault}
 use Rattle.sz_script.specs.Names.{is_name}
 use Rattle.sz_script.specs.Layers.{are_bad_cells, are_too_many_cells}
 use Rattle.sz_script.specs.Right.{names_in, fault_in}
-use Rattle.sz_script.specs.Fields.{passes}
+use Rattle.sz_script.specs.Records.{is_bad_text, has_too_many_fields}
 use Rattle.sz_script.specs.declared.command.Command.{Command}
 use Rattle.sz_script.specs.declared.refusal.Refusal.{Refusal}
 use Rattle.sz_script.specs.declared.refusal.Refusal.TheVariants as refusal
 
--- what a line of a form says: the command that it is where no rule refuses it, and the layers of
--- cells that it gives, if the form has cells of an array
+-- how a form gives the cells of an array: it has none, or gives layers of them, or a
+-- comma-separated text
+pub data Given : Type 0 where
+  no_cells : Given
+  in_layers : List Data → Given
+  in_text : List ℕ → Given
+
+-- the cells are bad
+abbrev pub are_bad : Given → Bool
+are_bad no_cells = false
+are_bad (in_layers ds) = are_bad_cells ds
+are_bad (in_text text) = is_bad_text text
+
+-- there are too many cells
+abbrev pub are_too_many : Given → Bool
+are_too_many no_cells = false
+are_too_many (in_layers ds) = are_too_many_cells ds
+are_too_many (in_text text) = has_too_many_fields text
+
+-- what a line of a form says: the command that it is where no rule refuses it, and the cells of an
+-- array as it gives them
 pub record Draft : Type 0 where
   pub command : Command
-  pub layers : Option (List Data)
+  pub cells : Given
 
 -- a draft of a form without cells of an array
 abbrev pub plain : Command → Draft
-plain c = record { command = c; layers = None }
+plain c = record { command = c; cells = no_cells }
 
 -- a name of the line is none
 abbrev pub has_bad_name : Draft → Bool
@@ -28,11 +48,11 @@ has_bad_name x = not (list_all is_name (names_in x.command))
 
 -- the cells are bad
 abbrev pub has_bad_cells : Draft → Bool
-has_bad_cells x = passes are_bad_cells x.layers
+has_bad_cells x = are_bad x.cells
 
 -- there are too many cells
 abbrev pub has_too_many_cells : Draft → Bool
-has_too_many_cells x = passes are_too_many_cells x.layers
+has_too_many_cells x = are_too_many x.cells
 
 -- the flow has a fault
 abbrev pub has_bad_flow : Draft → Bool

@@ -1,5 +1,6 @@
 -- The table of forms, with a file for each.
 pub mod Array
+pub mod Csv
 pub mod Layers
 pub mod Flow
 pub mod Strategy
@@ -14,6 +15,7 @@ use Rattle.sz_script.specs.Fields.{has_fields}
 use Rattle.sz_script.specs.Drafts.{Draft}
 use Rattle.sz_script.specs.Form.{Form}
 use Rattle.sz_script.specs.Forms.Array.{array_form}
+use Rattle.sz_script.specs.Forms.Csv.{csv_form}
 use Rattle.sz_script.specs.Forms.Layers.{layers_form}
 use Rattle.sz_script.specs.Forms.Flow.{flow_form}
 use Rattle.sz_script.specs.Forms.Strategy.{strategy_form}
@@ -24,8 +26,8 @@ use Rattle.sz_script.specs.Forms.Explain.{explain_form}
 use Rattle.sz_script.specs.Forms.Show.{show_form}
 
 abbrev pub forms : List Form
-forms = array_form ∷ layers_form ∷ flow_form ∷ strategy_form ∷ start_form ∷ await_form
-    ∷ ask_form ∷ explain_form ∷ show_form ∷ []
+forms = array_form ∷ csv_form ∷ layers_form ∷ flow_form ∷ strategy_form ∷ start_form
+    ∷ await_form ∷ ask_form ∷ explain_form ∷ show_form ∷ []
 
 -- what a value says by the first of these forms whose fields it has
 abbrev pub draft_by : List Form → Data → Option Draft

@@ -5,6 +5,7 @@ pub mod Words
 pub mod Kernels
 pub mod Nodes
 pub mod Layers
+pub mod Records
 pub mod Right
 pub mod Drafts
 pub mod Form

@@ -3,6 +3,7 @@
 mod array;
 mod ask;
 mod awaiting;
+mod csv_text;
 mod explain;
 mod flow;
 mod layers;
@@ -29,6 +30,9 @@ pub fn command_of(alloc: Global, value: &Value) -> Result<Command, LineFault>
 {
     if has_fields(value, &["array", "cells"]) {
         return array::read(alloc, value);
+    }
+    if has_fields(value, &["csv", "text"]) {
+        return csv_text::read(alloc, value);
     }
     if has_fields(value, &["layers", "cells"]) {
         return layers::read(alloc, value);

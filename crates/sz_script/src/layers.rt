@@ -73,7 +73,7 @@ fn width_of(layers: &[Value]) -> usize
 }
 
 /// The shape of this many layers, rows of each, and columns.
-fn make_shape(layers: usize, height: usize, width: usize) -> Option<Shape>
+pub fn make_shape(layers: usize, height: usize, width: usize) -> Option<Shape>
     requires { layers ≤ 16 }
     ensures { result ≡ (if is_layered layers height width
         then Some (layered layers height width) else None) }

@@ -26,6 +26,7 @@ mod lists;
 mod name;
 mod nodes;
 mod reading;
+mod records;
 mod refusal;
 mod words;
 

@@ -4,13 +4,13 @@ use Rattle.sz_cells.specs.declared.Cell.{Cell}
 use Rattle.sz_cells.specs.Extent.{index_of}
 use Rattle.sz_spec.specs.declared.modes.Strategy.{Strategy}
 use Rattle.sz_spec.specs.Shapes.{Site}
-use Rattle.sz_spec.specs.Modes.{mode_of, supports}
+use Rattle.sz_spec.specs.Modes.{supports}
 use Rattle.sz_spec.specs.Pieces.{pieces_of}
 use Rattle.sz_region.specs.Fits.{AreApart}
 use Rattle.sz_region.specs.Stands.{has_entry}
 use Rattle.sz_tables.specs.Stores.{most_given}
 use Rattle.sz_store.specs.Kept.{Holding, regions, entries, Keep, stored_in, is_placed}
-use Rattle.sz_store.specs.Stocks.{mode_in, count_in}
+use Rattle.sz_store.specs.Stocks.{IsOfItsMode, count_in}
 
 -- no cell is in two entries, and each cell of an entry is one of a piece that is placed
 abbrev pub AreOfPlaced : Site → List Bool → Holding → Type 0
@@ -20,7 +20,7 @@ AreOfPlaced s placed (entries comp es) = AreApart es
 
 -- a store keeps what its strategy asks for, and has numbers for so many entries more
 pub record IsStocked (s : Site) (placed : List Bool) (spare : ℕ) (f : Keep) : Type 0 where
-  pub mode : mode_of f.strategy ≡ mode_in f.holding
+  pub mode : IsOfItsMode f
   pub few : count_in f.holding + spare ≤ most_given
   pub apart : AreOfPlaced s placed f.holding
 

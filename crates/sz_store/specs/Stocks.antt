@@ -1,8 +1,9 @@
 -- One store, whichever sort it is: a further sort is a further line in `stock_of`.
-use Rattle.std.specs.Prelude.{ℕ, ◌+◌, ◌≤◌, ◌++◌, length, true, false, All}
+use Rattle.std.specs.Prelude.{◌≡◌, ℕ, ◌+◌, ◌≤◌, ◌++◌, length, true, false, All}
 use Rattle.sz_spec.specs.declared.modes.Mode.{Mode}
 use Rattle.sz_spec.specs.declared.modes.Mode.TheVariants as mode
 use Rattle.sz_spec.specs.Shapes.{Site}
+use Rattle.sz_spec.specs.Modes.{mode_of}
 use Rattle.sz_region.specs.Parts.{Parts}
 use Rattle.sz_region.specs.Fits.{AreApart}
 use Rattle.sz_tables.specs.Stores.{Room, IsWithin, IsPairOf, no_room, most_given}
@@ -44,6 +45,10 @@ abbrev pub mode_in : Holding → Mode
 mode_in (regions rs) = mode.Full
 mode_in (entries false es) = mode.Pay
 mode_in (entries true es) = mode.Comp
+
+-- a store keeps what its strategy asks for
+abbrev pub IsOfItsMode : Keep → Type 0
+IsOfItsMode f = mode_of f.strategy ≡ mode_in f.holding
 
 -- how many region pairs or entries are kept, and how many a lineage has for them
 abbrev pub count_in : Holding → ℕ

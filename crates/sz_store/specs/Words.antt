@@ -12,15 +12,17 @@ use Rattle.sz_region.specs.PayBytes.{IsPayWord}
 use Rattle.sz_region.specs.declared.set_bytes.Take.{Take}
 use Rattle.sz_region.specs.declared.set_bytes.Take.TheVariants.{Bad, NoMemory}
 use Rattle.sz_tables.specs.Tables.{AreDifferent}
-use Rattle.sz_payload.specs.Begins.{BeginsPayloads}
+use Rattle.sz_payload.specs.Begins.{AreLawful, BeginsPayloads}
 use Rattle.sz_store.specs.Kept.{Holding, regions, entries, Keep}
 
--- the word spells what a store keeps, and names no set twice
+-- The word spells what a store keeps, and names no set and no payload twice. Each payload of its
+-- table is one of the operator.
 abbrev pub IsWordOf : Site → Holding → List ℕ → Type 0
 IsWordOf s (regions rs) word = (sets : List Listed) × AreDifferent sets
     × IsFullWord s.out s.ins sets rs word
 IsWordOf s (entries comp es) word = (payloads : List (List ℕ)) × (sets : List Cells)
-    × AreDifferent payloads × AreDifferent sets × IsPayWord s.out payloads sets es word
+    × AreDifferent payloads × AreDifferent sets × AreLawful s payloads
+    × IsPayWord s.out payloads sets es word
 
 -- the bytes are words of what the stores keep, one after another
 abbrev pub AreWordsOf : Site → List Keep → List ℕ → Type 0

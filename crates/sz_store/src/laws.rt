@@ -2,6 +2,7 @@
 //! law.
 
 ghost use Rattle.sz_store.specs.Laws.{FittingLineagesCanBePlaced, PlacedPiecesMakeTheRelation};
+ghost use Rattle.sz_store.specs.Laws.{OneListOfStoresBegins, WrittenStoresAreRead};
 
 /// A lineage that fits its piece can be placed.
 pub fn fitting_lineages_can_be_placed()
@@ -12,4 +13,10 @@ pub fn fitting_lineages_can_be_placed()
 /// exactly the relation.
 pub fn placed_pieces_make_the_relation()
     ensures { PlacedPiecesMakeTheRelation }
+{}
+
+/// What is written of stores is read again whatever follows it, and is read in no other way.
+pub fn written_stores_are_read()
+    ensures one { OneListOfStoresBegins }
+    ensures read { WrittenStoresAreRead }
 {}

@@ -42,10 +42,11 @@ ghost use Rattle.sz_store.specs.Words.{AreWordsOf, BeginEach, NoneBegin, SaysNon
 mod kept;
 pub mod laws;
 mod stores;
-#[cfg(test)]
-mod tests;
 
-use crate::stores::{ListedStore, add_all, empty_stores, place_of, put_all, reserve_all, take_all};
+use crate::stores::{
+    ListedStore, add_all, empty_stores, place_of, put_all, reserve_all, shapes_are_within_limits,
+    take_all,
+};
 use std::alloc::Global;
 use std::marker::Model;
 use std::sync::Arc;
@@ -179,13 +180,18 @@ impl NodeStore {
         self.stores[place].kept.image(dir, input, from, to);
     }
 
-    /// Appends the bytes of each store, in the list's order. After `NoMemory` the bytes are as
-    /// before.
+    /// Appends the bytes of each store, in the list's order: whatever follows them, they are read
+    /// again as these stores, and in no other way ([`laws::written_stores_are_read`]). After
+    /// `NoMemory` the bytes are as before.
     pub fn put_bytes(&self, to: &mut Vec<u8>) -> Result<(), NoMemory>
         ensures ok { let s = self.now in OnOk result ((bytes : List ℕ)
             × AreWordsOf s.site s.stores bytes × (to.new.items ≡ to.old.items ++ bytes)) }
+        ensures read { let s = self.now in OnOk result ((rest : List ℕ)
+            → BeginEach s.site (stored_in s.list) (to.new.items ++ rest) (length to.old.items)
+            (length to.new.items) s.stores) }
         ensures err { OnErr result (to.new.items ≡ to.old.items) }
     {
+        shapes_are_within_limits(&self.at.out(), self.at.ins());
         let length = to.len();
         let put = put_all(&self.stores, to);
         if put.is_err() {

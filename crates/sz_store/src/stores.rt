@@ -173,7 +173,7 @@ pub fn take_all(
 }
 
 /// Every shape is within the limits.
-fn shapes_are_within_limits(out: &Shape, ins: &[Shape])
+pub fn shapes_are_within_limits(out: &Shape, ins: &[Shape])
     ensures { All (λ e. is_extent e ≡ true) (out.now ∷ ins.now) }
 {
     a_shape_is_within_limits(out);

@@ -1,5 +1,5 @@
 -- The lemmas on entries under keys, sets and payloads by number, region pairs and payload entries as rows of these,
--- and looks.
+-- looks, counts of runs and cells, and region pairs that are read.
 pub mod Chained
 pub mod Slices
 pub mod Numbered
@@ -12,3 +12,5 @@ pub mod Words
 pub mod Entries
 pub mod Scanned
 pub mod MetRuns
+pub mod Counted
+pub mod ReadPairs

@@ -1,5 +1,5 @@
 -- Entries under keys, sets and payloads by number, region pairs and payload entries by the numbers
--- of these, and what a store is seen as.
+-- of these, what a store is seen as, and rectangles round sets.
 pub mod Filed
 pub mod Tables
 pub mod Payloads
@@ -8,3 +8,4 @@ pub mod Entries
 pub mod Listing
 pub mod Stores
 pub mod Scans
+pub mod Sets

@@ -211,9 +211,9 @@ impl EntryTable {
     pub fn put_bytes(&self, to: &mut Vec<u8>) -> Result<(), NoMemory>
         requires apart { AreApart (entries self.now) }
         requires short { All IsShort self.now.payloads }
-        ensures ok { OnOk result ((payloads : List (List ℕ)) × (sets : List Cells)
-            × (word : List ℕ) × AreDifferent payloads × AreDifferent sets
-            × IsPayWord self.now.out payloads sets (entries self.now) word
+        ensures ok { let t = self.now in OnOk result ((sets : List Cells) × (word : List ℕ)
+            × AreDifferent t.payloads × AreDifferent sets
+            × IsPayWord t.out t.payloads sets (entries t) word
             × (to.new.items ≡ to.old.items ++ word)) }
         ensures err { OnErr result (to.new.items ≡ to.old.items) }
     {

@@ -7,24 +7,20 @@
 //! - [`RegionTable`] keeps region pairs as rows of the numbers of their sets.
 //! - [`EntryTable`] keeps payload entries as rows of the numbers of their sets and payloads.
 //! - [`Chains`] files entries under keys, and finds those of a key one after another.
+//! - [`runs_of_set`] counts the runs of a set, and [`bounds_of_set`] puts a rectangle round it.
 //!
 //! Each takes the room for what is to come beforehand (`reserve`), so that adding takes no memory.
 #![tactic(auto)]
 
 mod chains;
 mod entry_table;
-#[cfg(test)]
-mod entry_tests;
 mod looks;
 mod payload_table;
 mod region_table;
-#[cfg(test)]
-mod region_tests;
 mod scans;
 mod set_table;
+mod sets;
 mod spans;
-#[cfg(test)]
-mod tests;
 
 pub use chains::Chains;
 pub use entry_table::{EntryRow, EntryTable};
@@ -32,3 +28,4 @@ pub use payload_table::PayloadTable;
 pub use region_table::RegionTable;
 pub use scans::Seen;
 pub use set_table::SetTable;
+pub use sets::{bounds_of_set, runs_of_set};

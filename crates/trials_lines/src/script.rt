@@ -23,6 +23,7 @@ fn lines_are_read_or_refused(rt: HostRuntime) {
         {"op":"block","fold":"count","h":2,"w":3,"from":[{"n":0}]}]}"#;
     let ask = r#"{"ask":2,"dir":"forward","path":[[0,1]],"cells":[[3,4],[5,6,7]]}"#;
     assert!(rt; refused(alloc, array.as_bytes()) == None);
+    assert!(rt; refused(alloc, br#"{"csv":"t","text":"1,,3\n4,5,6\n"}"#) == None);
     assert!(rt; refused(alloc, br#"{"layers":"a","cells":[[[1,2]],[[3,null]]]}"#) == None);
     assert!(rt; refused(alloc, flow.as_bytes()) == None);
     assert!(rt; refused(alloc, br#"{"strategy":"f","node":3,"list":["full_one_b"]}"#) == None);
@@ -32,9 +33,9 @@ fn lines_are_read_or_refused(rt: HostRuntime) {
     assert!(rt; refused(alloc, br#"{"explain":1,"dir":"back","path":[],"cells":[]}"#) == None);
     assert!(rt; refused(alloc, br#"{"show":1,"node":0}"#) == None);
     assert!(rt; refused(alloc, b"{\"await\":\"\xff\"}") == Some(1));
-    assert!(rt; refused(alloc, br#"{"csv":"a","text":"1"}"#) == Some(3));
     assert!(rt; refused(alloc, br#"{"start":"f","base":[["A",1]]}"#) == Some(4));
     assert!(rt; refused(alloc, br#"{"array":"a","cells":[[1],[1,2]]}"#) == Some(5));
+    assert!(rt; refused(alloc, br#"{"csv":"t","text":"1,2\n3"}"#) == Some(5));
     assert!(rt; refused(alloc, br#"{"flow":"f","inputs":1,"nodes":[]}"#) == Some(8));
     assert_eq!(rt; strategy_name(Strategy::PayMany), "pay_many");
     assert!(rt; strategy_named("blackbox") == Some(Strategy::BlackBox));
@@ -71,6 +72,35 @@ fn cells_are_too_many_where_none_is_bad(rt: HostRuntime) -> Result<(), AllocErro
     assert!(rt; refused(alloc, &bad) == Some(5));
     let row = zeros(alloc, 1, 1_048_577, "0")?;
     assert!(rt; refused(alloc, &row) == Some(6));
+    Ok(())
+}
+
+/// A line that holds a comma-separated text of so many records of so many zeros, the last field
+/// being this text.
+fn text_of_zeros(alloc: Global, rows: u32, cols: u32, last: &str) -> Result<Vec<u8>, AllocError> {
+    let mut line = Vec::new(alloc);
+    line.extend_from_slice(br#"{"csv":"t","text":""#)?;
+    for row in 0..rows {
+        for _ in 1..cols {
+            line.extend_from_slice(b"0,")?;
+        }
+        line.extend_from_slice(if row + 1 == rows {
+            last.as_bytes()
+        } else {
+            br"0\n"
+        })?;
+    }
+    line.extend_from_slice(br#""}"#)?;
+    Ok(line)
+}
+
+#[test]
+fn a_text_has_as_many_fields_as_an_array(rt: HostRuntime) -> Result<(), AllocError> {
+    let alloc = rt.alloc();
+    let most = text_of_zeros(alloc, 1_024, 1_024, "-0")?;
+    assert!(rt; refused(alloc, &most) == None);
+    let more = text_of_zeros(alloc, 1_048_577, 1, "0")?;
+    assert!(rt; refused(alloc, &more) == Some(6));
     Ok(())
 }
 

@@ -1,10 +1,10 @@
 -- {"array":NAME,"cells":LIST}: an array of one layer, a list of rows of numbers and nulls.
-use Rattle.std.specs.Prelude.{ℕ, List, [], ◌∷◌, codes, Option, Some, option_map, option_and_then}
+use Rattle.std.specs.Prelude.{ℕ, List, [], ◌∷◌, codes, Option, option_map, option_and_then}
 use Rattle.serde_json.specs.Data.{Data}
 use Rattle.serde_json.specs.Find.{as_str}
 use Rattle.sz_script.specs.Fields.{list_in, at}
 use Rattle.sz_script.specs.Layers.{grid_of}
-use Rattle.sz_script.specs.Drafts.{Draft}
+use Rattle.sz_script.specs.Drafts.{Draft, in_layers}
 use Rattle.sz_script.specs.Form.{Form}
 use Rattle.sz_script.specs.declared.command.Command.TheVariants as command
 
@@ -14,7 +14,7 @@ one_layer d = option_map (λ rows. d ∷ []) (list_in d)
 
 abbrev pub with_one_layer : List ℕ → List Data → Draft
 with_one_layer name layers =
-    record { command = command.Array name (grid_of layers); layers = Some layers }
+    record { command = command.Array name (grid_of layers); cells = in_layers layers }
 
 abbrev pub array_form : Form
 array_form = record {

@@ -7,7 +7,7 @@ use Rattle.sz_region.specs.Parts.{Pairing}
 use Rattle.sz_spec.specs.Shapes.{Site}
 use Rattle.sz_tables.specs.Rows.{weight_of}
 use Rattle.sz_tables.specs.Stores.{IsPairOf}
-use Rattle.sz_full_many.proofs.Counted.{item-made, rest-more}
+use Rattle.sz_tables.proofs.Counted.{item-made, rest-more}
 use Rattle.sz_full_many.proofs.FullMany.add_all.Goals as goal
 
 pub add-requires-clause-pair : goal.add-requires-clause-pair

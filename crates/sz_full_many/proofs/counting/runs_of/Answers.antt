@@ -4,7 +4,7 @@ use Rattle.std.specs.Arc.{arc_value}
 use Rattle.sz_region.specs.Parts.{Pairing}
 use Rattle.sz_tables.specs.Rows.{runs_in}
 use Rattle.sz_tables.specs.Stores.{cells_in}
-use Rattle.sz_full_many.proofs.Counted.{item-made, sum-more}
+use Rattle.sz_tables.proofs.Counted.{item-made, sum-more}
 use Rattle.sz_full_many.proofs.counting.runs_of.Goals as goal
 
 pub loop-set-preserved : goal.loop-set-preserved

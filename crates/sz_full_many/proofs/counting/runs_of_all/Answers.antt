@@ -5,7 +5,7 @@ use Rattle.std.specs.Arc.{arc_value}
 use Rattle.sz_region.specs.Parts.{Pairing}
 use Rattle.sz_tables.specs.Rows.{weight_of}
 use Rattle.sz_tables.specs.Stores.{cells_in}
-use Rattle.sz_full_many.proofs.Counted.{item-made, sum-more}
+use Rattle.sz_tables.proofs.Counted.{item-made, sum-more}
 use Rattle.sz_full_many.proofs.counting.runs_of_all.Goals as goal
 
 pub runs_of-runs-requires : goal.runs_of-runs-requires

@@ -2,7 +2,7 @@
 use Rattle.std.proofs.Common.{◌≡◌, ℕ, List, length, refl, ap, ◌∙◌, arith, map}
 use Rattle.std.specs.Arc.{arc_value}
 use Rattle.sz_region.specs.Parts.{Entry}
-use Rattle.sz_payload.proofs.Counted.{item-made, sum-more}
+use Rattle.sz_tables.proofs.Counted.{item-made, sum-more}
 use Rattle.sz_payload.proofs.counting.bytes_of_all.Goals as goal
 
 pub loop-entry-preserved : goal.loop-entry-preserved

@@ -4,7 +4,7 @@ use Rattle.std.specs.Arc.{arc_value}
 use Rattle.sz_region.specs.Parts.{Entry}
 use Rattle.sz_tables.specs.Rows.{runs_in}
 use Rattle.sz_tables.specs.Stores.{cells_in}
-use Rattle.sz_payload.proofs.Counted.{item-made, sum-more}
+use Rattle.sz_tables.proofs.Counted.{item-made, sum-more}
 use Rattle.sz_payload.proofs.counting.runs_of_all.Goals as goal
 
 pub loop-entry-preserved : goal.loop-entry-preserved

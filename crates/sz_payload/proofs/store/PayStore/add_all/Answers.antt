@@ -9,7 +9,7 @@ use Rattle.sz_region.specs.Parts.{Entry}
 use Rattle.sz_spec.specs.Shapes.{Site}
 use Rattle.sz_tables.specs.Rows.{runs_in}
 use Rattle.sz_payload.specs.Kept.{IsEntryOf}
-use Rattle.sz_payload.proofs.Counted.{item-made, rest-more}
+use Rattle.sz_tables.proofs.Counted.{item-made, rest-more}
 use Rattle.sz_payload.proofs.Keeping.{apart-front, front-long}
 use Rattle.sz_payload.proofs.store.PayStore.add_all.Goals as goal
 

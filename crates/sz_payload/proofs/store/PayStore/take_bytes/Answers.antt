@@ -8,24 +8,12 @@ use Rattle.sz_payload.specs.Kept.{IsEntryOf, Keeping}
 use Rattle.sz_payload.proofs.Judged.{begun-lawful}
 use Rattle.sz_payload.proofs.store.PayStore.take_bytes.Goals as goal
 
-pub reserve_all-requires-clause-entries : goal.reserve_all-requires-clause-entries
-reserve_all-requires-clause-entries g c =
+pub keep_all-requires-clause-entries : goal.keep_all-requires-clause-entries
+keep_all-requires-clause-entries g c =
     let es : List Entry = map (λ a. arc_value a) c.in_ok-entries.entries.items in
     let site = arc_value c.args.at in
     let begins = subst (λ (s : Site). BeginsPayloads s c.args.bytes.now c.args.from c.in_ok-entries.next es)
     c.deref.ensures c.in_ok-entries.ensures.ok in
     rw c.deref-2.ensures.value
-    (subst (λ (s : Site). All (IsEntryOf s) es) (sym (ap (λ (k : Keeping). k.store.site) c.in-Ok.ensures))
-    (begun-lawful site c.args.bytes.now c.args.from c.in_ok-entries.next es begins))
-
-pub add_all-requires-clause-entries : goal.add_all-requires-clause-entries
-add_all-requires-clause-entries g c =
-    let es : List Entry = map (λ a. arc_value a) c.in_ok-entries.entries.items in
-    let site = arc_value c.args.at in
-    let begins = subst (λ (s : Site). BeginsPayloads s c.args.bytes.now c.args.from c.in_ok-entries.next es)
-    c.deref.ensures c.in_ok-entries.ensures.ok in
-    let kept = ap (λ (k : Keeping). k.store.site) c.reserve_all.ensures.kept in
-    rw c.deref-3.ensures.value
-    (subst (λ (s : Site). All (IsEntryOf s) es)
-    (sym (kept ∙ ap (λ (k : Keeping). k.store.site) c.in-Ok.ensures))
+    (subst (λ (s : Site). All (IsEntryOf s) es) (sym (ap (λ (k : Keeping). k.store.site) c.in_ok-store.ensures))
     (begun-lawful site c.args.bytes.now c.args.from c.in_ok-entries.next es begins))

@@ -71,7 +71,6 @@ returns-clause-ok c =
     rw (← c.self.view_is)
     (on_ok_weaker c.put_numbered_entries.result
     (λ put. (
-      payloads,
       sets,
       word,
       s.in_ok-list_payloads.ensures.different,

@@ -11,13 +11,13 @@ ghost use Rattle.sz_spec.specs.Modes.{is_listed, is_stored};
 ghost use Rattle.sz_spec.specs.declared.op.Op.TheVariants as op;
 ghost use Rattle.sz_spec.specs.declared.modes.Strategy.TheVariants as strategy;
 
-use crate::NodeStore;
 use std::alloc::Global;
 use std::sync::Arc;
 use std::test::Fail;
 use sz_cells::{CellBits, NoMemory, Run, Shape};
 use sz_region::{PieceLineage, Take};
 use sz_spec::{Dir, Op, OpAt, Strategy};
+use sz_store::NodeStore;
 
 /// The shape of input and output.
 fn row() -> Result<Shape, Fail>

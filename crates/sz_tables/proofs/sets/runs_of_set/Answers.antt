@@ -1,8 +1,8 @@
 -- Its shape is small, so its runs are few.
-use Rattle.std.proofs.Common.{◌≤◌, subst, ap, arith}
+use Rattle.std.proofs.Common.{◌≤◌, ap, arith}
 use Rattle.sz_cells.specs.Extent.{size_of}
-use Rattle.sz_full_many.proofs.Counted.{set-runs, set-cells}
-use Rattle.sz_full_many.proofs.counting.runs_of_set.Goals as goal
+use Rattle.sz_tables.proofs.Counted.{set-runs, set-cells}
+use Rattle.sz_tables.proofs.sets.runs_of_set.Goals as goal
 
 pub returns-clause-few : goal.returns-clause-few
 returns-clause-few c =

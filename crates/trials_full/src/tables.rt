@@ -3,10 +3,10 @@
 ghost use Rattle.std.specs.Prelude.{◌≡◌, ◌<◌, ◌≤◌, ◌+◌, true, length, All, IfOk};
 ghost use Rattle.sz_cells.specs.Extent.{holds};
 
-use crate::{Chains, SetTable};
 use std::alloc::Global;
 use std::test::Fail;
 use sz_cells::{Cell, CellSet, NoMemory, Run, Shape};
+use sz_tables::{Chains, SetTable};
 
 #[test]
 fn walks_from_the_last_entry_of_a_key_to_its_first(rt: HostRuntime) -> Result<(), Fail> {

@@ -9,11 +9,11 @@ ghost use Rattle.std.specs.Arc.{arc_value};
 ghost use Rattle.sz_cells.specs.Extent.{flat};
 ghost use Rattle.sz_spec.specs.declared.op.Op.TheVariants.{Lookup};
 
-use crate::{PayMap, PayStore};
 use std::alloc::Global;
 use std::sync::Arc;
 use std::test::Fail;
 use sz_cells::{Cell, CellBits, CellSet, Run, Shape};
+use sz_payload::{PayMap, PayStore};
 use sz_region::{PayEntry, Payload, PieceLineage, Take};
 use sz_spec::{Dir, Op, OpAt};
 

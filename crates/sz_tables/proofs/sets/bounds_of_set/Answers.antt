@@ -1,7 +1,7 @@
 -- The bounds of a set have each of its cells.
 use Rattle.std.proofs.Common.{sym, ◌∙◌}
 use Rattle.sz_cells.proofs.LawsOfSets.{bounds-have}
-use Rattle.sz_full_many.proofs.bounds.bounds_of_set.Goals as goal
+use Rattle.sz_tables.proofs.sets.bounds_of_set.Goals as goal
 
 pub returns-in-Some : goal.returns-in-Some
 returns-in-Some c cell there =

@@ -3,12 +3,12 @@
 ghost use Rattle.std.specs.Prelude.{◌≡◌, ◌<◌, ◌≤◌, ◌+◌, length, IfOk, OnOk};
 ghost use Rattle.sz_cells.specs.Extent.{flat};
 
-use crate::EntryTable;
 use std::alloc::Global;
 use std::sync::Arc;
 use std::test::Fail;
 use sz_cells::{Cell, CellSet, Run, Shape};
 use sz_region::{PayEntry, Payload};
+use sz_tables::EntryTable;
 
 /// A shape of one row of 20 columns.
 fn row_of_20() -> Result<Shape, Fail>

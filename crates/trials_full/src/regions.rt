@@ -4,12 +4,12 @@ ghost use Rattle.std.specs.Prelude.{◌≡◌, ◌<◌, ◌+◌, [], ◌∷◌, 
 ghost use Rattle.std.specs.Arc.{arc_value};
 ghost use Rattle.sz_cells.specs.Extent.{flat};
 
-use crate::RegionTable;
 use std::alloc::Global;
 use std::sync::Arc;
 use std::test::Fail;
 use sz_cells::{Cell, CellSet, NoMemory, Run, Shape};
 use sz_region::{Region, SetList};
+use sz_tables::RegionTable;
 
 /// A shape of one row of 20 columns.
 fn row_of_20() -> Result<Shape, Fail>
