@@ -1,5 +1,5 @@
 -- What one step writes: an empty bitmap with the image added is the image.
-use Rattle.std.proofs.Common.{◌≡◌, ℕ, Bool, true, false, ◌||◌, List, ap, sym, subst, ◌∙◌, refl}
+use Rattle.std.proofs.Common.{◌≡◌, ℕ, Bool, true, false, ◌||◌, ap, sym, subst, ◌∙◌, refl}
 use Rattle.sz_cells.specs.declared.Cell.{Cell}
 use Rattle.sz_cells.specs.Extent.{Extent, size_of, holds}
 use Rattle.sz_cells.specs.Cells.{Cells, cells_where, any_cell, has, no_cells, with_those, union_of}

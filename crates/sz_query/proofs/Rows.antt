@@ -3,16 +3,19 @@
 --
 -- The key idea: on written-out views every definition is a computation, so each row is its own proof. Expected values
 -- by hand. Sets are given by the row-major indexes of their cells.
-use Rattle.std.proofs.Common.{◌≡◌, ℕ, ℤ, pos, negsuc, List, [], ◌∷◌, map, Option, Some, refl, sym, ap, arith}
-use Rattle.std.proofs.Common.{true≢false}
+use Rattle.std.proofs.Common.{◌≡◌, ℕ, ℤ, pos, negsuc, List, [], ◌∷◌, map, length, Option, Some, refl, sym, ap, arith}
+use Rattle.std.proofs.Common.{true, false, true≢false}
 use Rattle.sz_cells.specs.Extent.{Extent, flat}
 use Rattle.sz_cells.specs.Cells.{Cells}
 use Rattle.sz_spec.specs.declared.op.Op.TheVariants.{Neg, Add, Transpose, Lookup}
 use Rattle.sz_spec.specs.declared.modes.Dir.TheVariants.{Back, Forward}
 use Rattle.sz_spec.specs.declared.modes.Strategy.TheVariants as strategy
 use Rattle.sz_spec.specs.Values.{Grid}
+use Rattle.sz_spec.specs.Shapes.{Site}
+use Rattle.sz_region.specs.Parts.{Pairing}
+use Rattle.sz_store.specs.Kept.{NodeLineage, regions}
 use Rattle.sz_query.specs.declared.used.Used.TheVariants as used
-use Rattle.sz_query.specs.Views.{View, by_map, by_trace, used_of, IsUsable}
+use Rattle.sz_query.specs.Views.{View, by_map, by_store, by_trace, used_of, traced_by, IsUsable}
 use Rattle.sz_query.specs.Answers.{answered, traced_of, AreSteps}
 
 abbrev at : Extent → List ℕ → Cells
@@ -132,3 +135,70 @@ no-mapping ready = true≢false (sym ready)
 
 pub other-arrays : IsUsable (by_trace (record { op = Neg; ins = one ∷ []; out = one }) []) → ⊥
 other-arrays ready = cc
+
+-- ---- by stores
+
+-- the negation of two cells, its stores indexed each way: that for backward queries keeps both pairs of cells, and that
+-- for forward ones, which nobody was to fill so, the first alone
+abbrev two : Extent
+two = flat 1 2
+
+abbrev pair_at : ℕ → Pairing
+pair_at k = record { out = at two (k ∷ []); ins = at two (k ∷ []) ∷ [] }
+
+abbrev opposite : Site
+opposite = record { op = Neg; ins = two ∷ []; out = two }
+
+abbrev kept : NodeLineage
+kept = record {
+  site = opposite;
+  list = strategy.FullOneB ∷ strategy.Map ∷ strategy.FullOneF ∷ [];
+  placed = true ∷ [];
+  stores = record { strategy = strategy.FullOneB; holding = regions (pair_at 0 ∷ pair_at 1 ∷ []) }
+      ∷ record { strategy = strategy.FullOneF; holding = regions (pair_at 0 ∷ []) } ∷ [];
+}
+
+abbrev kept_back : View
+kept_back = by_store opposite kept strategy.FullOneB
+
+abbrev kept_forward : View
+kept_forward = by_store opposite kept strategy.FullOneF
+
+-- each strategy is answered by its own store, in both directions
+pub kept-back : answered Back (kept_back ∷ []) (0 ∷ []) (at two (0 ∷ 1 ∷ [])) ≡ at two (0 ∷ 1 ∷ [])
+kept-back = refl
+
+pub kept-forward : answered Forward (kept_back ∷ []) (0 ∷ []) (at two (1 ∷ [])) ≡ at two (1 ∷ [])
+kept-forward = refl
+
+pub kept-other : answered Back (kept_forward ∷ []) (0 ∷ []) (at two (0 ∷ 1 ∷ [])) ≡ at two (0 ∷ [])
+kept-other = refl
+
+pub kept-other_forward : answered Forward (kept_forward ∷ kept_back ∷ []) (0 ∷ 0 ∷ []) (at two (0 ∷ 1 ∷ []))
+    ≡ at two (0 ∷ [])
+kept-other_forward = refl
+
+-- nothing is traced by a store, and the strategy is told
+pub kept-traced : (traced_of (kept_back ∷ traced_turned ∷ kept_forward ∷ []) ≡ 6) × (traced_by kept_back ≡ 0)
+kept-traced = (refl, refl)
+
+pub kept-uses : map used_of (kept_back ∷ turned ∷ kept_forward ∷ [])
+    ≡ used.By strategy.FullOneB ∷ used.By strategy.Map ∷ used.By strategy.FullOneF ∷ []
+kept-uses = refl
+
+-- a view that can be used, and such that can not: of another operator, while a piece is missing, by a strategy that
+-- keeps no store, by one that is not in the list
+pub kept-ready : IsUsable kept_back
+kept-ready = record { site = refl; whole = refl; stored = refl; listed = refl }
+
+pub kept-other_operator : IsUsable (by_store (record opposite { ins = [] }) kept strategy.FullOneB) → ⊥
+kept-other_operator ready = absurd (omega (arith, ap (λ (s : Site). length s.ins) ready.site))
+
+pub kept-piece_missing : IsUsable (by_store opposite (record kept { placed = true ∷ false ∷ [] }) strategy.FullOneB) → ⊥
+kept-piece_missing ready = true≢false (sym ready.whole)
+
+pub kept-no_store : IsUsable (by_store opposite kept strategy.Map) → ⊥
+kept-no_store ready = true≢false (sym ready.stored)
+
+pub kept-not_listed : IsUsable (by_store opposite kept strategy.FullManyB) → ⊥
+kept-not_listed ready = true≢false (sym ready.listed)

@@ -1,14 +1,21 @@
 -- What a reader may take for granted of answers. Each law is proved of the definitions.
-use Rattle.std.specs.Prelude.{◌≡◌, ℕ, List, ◌∷◌, ◌++◌, map, length, true, Some, option_map}
+use Rattle.std.specs.Prelude.{◌≡◌, ℕ, ◌<◌, List, [], ◌∷◌, ◌++◌, map, length, true, Some}
+use Rattle.std.specs.Prelude.{option_map}
 use Rattle.std.specs.List.{All, AllZip, slice_get}
 use Rattle.sz_cells.specs.Cells.{Cells}
+use Rattle.sz_cells.specs.SetBytes.{IsSetOf}
 use Rattle.sz_spec.specs.declared.flow.Node.{Node}
 use Rattle.sz_spec.specs.declared.modes.Dir.{Dir}
 use Rattle.sz_spec.specs.Values.{Grid, extents_of}
+use Rattle.sz_spec.specs.Shapes.{Site}
+use Rattle.sz_spec.specs.Sides.{near_side}
 use Rattle.sz_spec.specs.Flows.{Graph}
 use Rattle.sz_spec.specs.Modes.{has_mapping}
 use Rattle.sz_spec.specs.Paths.{Step, are_joined, inputs_of, extent_of, start_extent, compose}
-use Rattle.sz_query.specs.Views.{View, by_map, by_trace, view_site, IsUsable}
+use Rattle.sz_region.specs.Images.{measure_of}
+use Rattle.sz_region.specs.Laws.{IsTheRelation}
+use Rattle.sz_store.specs.Kept.{holding_for, holding_stands}
+use Rattle.sz_query.specs.Views.{View, by_map, by_store, by_trace, view_site, IsUsable, image_by}
 use Rattle.sz_query.specs.Answers.{answered, AreSteps}
 
 -- views taken in two parts: the set is taken along the first, and what that gives along the second
@@ -19,9 +26,11 @@ AnswersGoByParts = (dir : Dir) (views more : List View) (inputs rest : List ℕ)
     ≡ answered dir more rest (answered dir views inputs set)
 
 -- what makes a view stand for the relation of its operator over these inputs: the operator has a
--- mapping, or the arrays that are traced are these
+-- mapping, the store stands for exactly the relation, or the arrays that are traced are these
 abbrev pub IsFaithful : View → List Grid → Type 0
 IsFaithful (by_map s) inputs = has_mapping s.op ≡ true
+IsFaithful (by_store s kept t) inputs =
+    IsTheRelation (measure_of s inputs) (holding_stands s (holding_for t kept.stores))
 IsFaithful (by_trace s own) inputs = own ≡ inputs
 
 -- a view is one of a node of a flow, of which the base arrays and the outputs are given
@@ -36,11 +45,38 @@ abbrev pub AreOfPath : Graph → List Grid → List Grid → List Step → List 
 AreOfPath flow base outputs path views =
     AllZip (λ (s : Step) (v : View). IsOfNode flow base outputs s.node v) path views
 
+-- a step over one of the operator's inputs takes this set: it is one of the shape from which that
+-- step starts
+pub record IsTaken (dir : Dir) (s : Site) (i : ℕ) (set : Cells) : Type 0 where
+  pub input : i < length s.ins
+  pub of_shape : IsSetOf (near_side dir s i) set
+
+-- what a view asks of the set that it takes, so that it tells the relation of it: a store, which
+-- stands for cells of its shapes alone, that a step can take the set; the others nothing
+abbrev pub Asks : Dir → View → ℕ → Cells → Type 0
+Asks dir (by_map s) i set = Unit {0}
+Asks dir (by_store s kept t) i set = IsTaken dir s i set
+Asks dir (by_trace s own) i set = Unit {0}
+
+-- what each view asks of the set to which those before it take a set
+abbrev pub AskAlong : Dir → List View → List ℕ → Cells → Type 0
+AskAlong dir [] inputs set = Unit {0}
+AskAlong dir (v ∷ views) [] set = Unit {0}
+AskAlong dir (v ∷ views) (i ∷ inputs) set =
+    Asks dir v i set × AskAlong dir views inputs (image_by dir v i set)
+
+-- where steps can be taken from the shape of a set, each view has what it asks
+abbrev pub StepsHaveWhatViewsAsk : Type 0
+StepsHaveWhatViewsAsk = (dir : Dir) (views : List View) (inputs : List ℕ) (set : Cells)
+    → AreSteps dir views inputs set.extent → IsSetOf set.extent set
+    → AskAlong dir views inputs set
+
 -- by views of a path's nodes, the answer is the composed relation along the path
 abbrev pub AnswersAreTheComposedRelation : Type 0
 AnswersAreTheComposedRelation = (dir : Dir) (flow : Graph) (base outputs : List Grid)
     (path : List Step) (views : List View) (set : Cells)
     → AreOfPath flow base outputs path views
+    → AskAlong dir views (map (λ (s : Step). s.input) path) set
     → answered dir views (map (λ (s : Step). s.input) path) set
     ≡ compose dir flow base outputs path set
 

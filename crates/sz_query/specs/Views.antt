@@ -6,50 +6,69 @@ use Rattle.sz_cells.specs.declared.Cell.{Cell}
 use Rattle.sz_cells.specs.Extent.{size_of}
 use Rattle.sz_cells.specs.Cells.{Cells}
 use Rattle.sz_spec.specs.declared.modes.Dir.{Dir}
+use Rattle.sz_spec.specs.declared.modes.Strategy.{Strategy}
 use Rattle.sz_spec.specs.declared.modes.Strategy.TheVariants as strategy
 use Rattle.sz_spec.specs.Values.{Grid, extents_of}
 use Rattle.sz_spec.specs.Shapes.{Site}
 use Rattle.sz_spec.specs.Lineage.{mapped, related}
 use Rattle.sz_spec.specs.Sides.{image_in}
-use Rattle.sz_spec.specs.Modes.{has_mapping}
+use Rattle.sz_spec.specs.Modes.{has_mapping, is_listed, is_stored}
+use Rattle.sz_store.specs.Kept.{NodeLineage, is_whole, holding_for, holding_stands}
 use Rattle.sz_query.specs.declared.views.NodeView.{NodeView}
-use Rattle.sz_query.specs.declared.views.NodeView.TheVariants.{Mapped, Traced}
+use Rattle.sz_query.specs.declared.views.NodeView.TheVariants.{Mapped, Kept, Traced}
 use Rattle.sz_query.specs.declared.used.Used.{Used}
 use Rattle.sz_query.specs.declared.used.Used.TheVariants as used
 
--- an operator seen by its mapping, or at work over its inputs
+-- an operator seen by its mapping, by the store of a strategy among its node's stores, or at work
+-- over its inputs
 pub data View : Type 0 where
   by_map : Site → View
+  by_store : Site → NodeLineage → Strategy → View
   by_trace : Site → List Grid → View
 
 -- what a view of the code stands for
 abbrev pub view_of : NodeView → View
 view_of (Mapped at) = by_map (arc_value at)
+view_of (Kept at store s) = by_store (arc_value at) (arc_value store) s
 view_of (Traced run) = by_trace (arc_value run.at) run.inputs
 
 -- the operator, at its shapes
 abbrev pub view_site : View → Site
 view_site (by_map s) = s
+view_site (by_store s kept t) = s
 view_site (by_trace s inputs) = s
 
--- what a view needs so that it can be used: an operator with a mapping, or arrays of its shapes
+-- A strategy has a store to answer by among a node's stores: these are of this operator at these
+-- shapes, each piece is placed in them, and the strategy is one of their list that keeps a store.
+pub record HasStore (s : Site) (kept : NodeLineage) (t : Strategy) : Type 0 where
+  pub site : kept.site ≡ s
+  pub whole : is_whole kept ≡ true
+  pub stored : is_stored t ≡ true
+  pub listed : is_listed kept.list t ≡ true
+
+-- what a view needs so that it can be used: an operator with a mapping, a whole store of it, or
+-- arrays of its shapes
 abbrev pub IsUsable : View → Type 0
 IsUsable (by_map s) = has_mapping s.op ≡ true
+IsUsable (by_store s kept t) = HasStore s kept t
 IsUsable (by_trace s inputs) = extents_of inputs ≡ s.ins
 
 -- output cell o is related to cell x of input i, as the view tells it
 abbrev pub relation_of : View → ℕ → Cell → Cell → Bool
 relation_of (by_map s) i o x = mapped s.op s.ins i o x
+relation_of (by_store s kept t) i o x = holding_stands s (holding_for t kept.stores) i o x
 relation_of (by_trace s inputs) i o x = related s.op inputs i o x
 
 -- how a step goes that uses the view
 abbrev pub used_of : View → Used
 used_of (by_map s) = used.By strategy.Map
+used_of (by_store s kept t) = used.By t
 used_of (by_trace s inputs) = used.Traced
 
 -- how many output cells are told as traced: all of a step by a trace
 abbrev pub traced_by : View → ℕ
 traced_by (by_map s) = 0
+traced_by (by_store s kept t) = 0
 traced_by (by_trace s inputs) = size_of s.out
 
 -- the image of a set under one step: by a view and one of its inputs

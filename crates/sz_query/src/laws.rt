@@ -2,15 +2,16 @@
 //! body, and its contract is the law.
 
 ghost use Rattle.sz_query.specs.Laws.{AnswersGoByParts, AnswersAreTheComposedRelation};
-ghost use Rattle.sz_query.specs.Laws.{JoinedPathsAreSteps};
+ghost use Rattle.sz_query.specs.Laws.{JoinedPathsAreSteps, StepsHaveWhatViewsAsk};
 
 /// The answer by views in two parts is the answer by the second part from that by the first.
 pub fn answers_go_by_parts()
     ensures { AnswersGoByParts }
 {}
 
-/// By views of the nodes of a flow's path, each by the node's mapping or over the node's inputs,
-/// the answer is the composed relation along the path.
+/// By views of the nodes of a flow's path, each by the node's mapping, by a store that stands for
+/// exactly the node's relation, or over the node's inputs, the answer is the composed relation
+/// along the path. Where a view is by a store, the set that it takes is one that a step can take.
 pub fn answers_are_the_composed_relation()
     ensures { AnswersAreTheComposedRelation }
 {}
@@ -19,4 +20,9 @@ pub fn answers_are_the_composed_relation()
 /// [`crate::answer`] needs them from a set of the shape in which the path starts.
 pub fn joined_paths_are_steps()
     ensures { JoinedPathsAreSteps }
+{}
+
+/// Where steps can be taken from a set, each view has what it asks of the set that it takes.
+pub fn steps_have_what_views_ask()
+    ensures { StepsHaveWhatViewsAsk }
 {}

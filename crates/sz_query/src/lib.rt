@@ -2,9 +2,10 @@
 //! node after another.
 //!
 //! A [`NodeView`] is how the lineage of one node is looked at: by its operator's mapping of cells,
-//! or by running the operator again over its inputs. [`answer`] takes a set of cells through one
-//! view after another, each with the number of one of its inputs, and tells how each step was taken
-//! and how many output cells were looked at by those that were traced.
+//! by the store of a strategy, or by running the operator again over its inputs. [`answer`] takes a
+//! set of cells through one view after another, each with the number of one of its inputs, and
+//! tells how each step was taken and how many output cells were looked at by those that were
+//! traced.
 //!
 //! Two rows of three, turned over by `at`: the cell of row 2 and column 0 comes from that of row 0
 //! and column 2.
@@ -16,9 +17,10 @@
 //! // found.used.as_slice() == [Used::By(Strategy::Map)], and found.traced == 0
 //! ```
 //!
-//! Contracts see a view as its operator at its shapes, with the arrays where it is traced, and say
-//! what each view tells of its step. [`laws`] says that by views of a flow's nodes the answer is
-//! the composed relation along the path.
+//! Contracts see a view as its operator at its shapes, with the node's stores and the strategy
+//! where it is kept, and with the arrays where it is traced, and say what each view tells of its
+//! step. [`laws`] says that by views of a flow's nodes the answer is the composed relation along
+//! the path.
 #![tactic(auto)]
 
 pub mod laws;

@@ -25,11 +25,12 @@ pub struct Found {
 /// The cells that a set of cells leads to along a path: through each view, with the number of one
 /// of its inputs, in the order of the lists.
 ///
-/// Takes a bitmap for each step at the start and memory for the result at the end; in between, none
-/// but what tracing takes. A step by a mapping costs by the cells that it touches, one that is
-/// traced by the cells of its output. The tally rises by the output sizes of the steps that are
-/// told as traced, which says nothing of how a step was worked out. At `NoMemory` the tally is as
-/// before.
+/// Takes a bitmap for each step at the start and memory for the result at the end; in between it
+/// takes none with `Mapped` and `Kept` views alone, and else what tracing takes. A step by a
+/// mapping costs by the cells that it touches, one by a store by what the store finds of them, one
+/// that is traced by the cells of its output. The tally rises by the output sizes of the steps that
+/// are told as traced, which says nothing of how a step was worked out. At `NoMemory` the tally is
+/// as before.
 pub fn answer(
     alloc: Global,
     views: &mut [NodeView],

@@ -14,14 +14,25 @@ use std::sync::Arc;
 use sz_cells::{CellBits, NoMemory, Shape};
 use sz_ops::{image_by_map, trace};
 use sz_spec::{ArrayList, Dir, OpAt, Strategy, Tally};
+use sz_store::NodeStore;
 
 /// A view of a node: it owns what it uses.
 #[derive(Drop)]
 pub enum NodeView {
     /// The operator's mapping of cells.
-    Mapped { at: Arc<OpAt> },
+    Mapped {
+        at: Arc<OpAt>,
+    },
+    /// What the store of a strategy stands for. It holds no values.
+    Kept {
+        at: Arc<OpAt>,
+        store: Arc<NodeStore>,
+        s: Strategy,
+    },
     /// The operator, run again over its inputs.
-    Traced { run: NodeRunRef },
+    Traced {
+        run: NodeRunRef,
+    },
 }
 
 /// An operator at work: the operator, and the arrays that it takes, in their order.
@@ -38,6 +49,7 @@ impl NodeView {
     {
         match self {
             NodeView::Mapped { at } => at,
+            NodeView::Kept { at, .. } => at,
             NodeView::Traced { run } => &run.at,
         }
     }
@@ -48,6 +60,7 @@ impl NodeView {
     {
         match self {
             NodeView::Mapped { .. } => Used::By(Strategy::Map),
+            NodeView::Kept { s, .. } => Used::By(*s),
             NodeView::Traced { .. } => Used::Traced,
         }
     }
@@ -64,8 +77,9 @@ impl NodeView {
     }
 
     /// Takes a set of cells through one step, into a bitmap that is empty yet. A mapping costs by
-    /// the cells of the set and of its image, a trace looks at each output cell once and counts
-    /// them. After `NoMemory`, `to` and the tally are of no use.
+    /// the cells of the set and of its image, a store by what it finds of them, and a trace looks
+    /// at each output cell once and counts them. Only a trace takes memory. After `NoMemory`, `to`
+    /// and the tally are of no use.
     pub(crate) fn step_into(
         &self,
         alloc: Global,
@@ -86,6 +100,10 @@ impl NodeView {
         match self {
             NodeView::Mapped { at } => {
                 image_by_map(at, dir, input, from, to);
+                Ok(())
+            }
+            NodeView::Kept { store, s, .. } => {
+                store.image(*s, dir, input, from, to);
                 Ok(())
             }
             NodeView::Traced { run } => {

@@ -1,10 +1,12 @@
 -- What either view writes into an empty bitmap is its image.
-use Rattle.std.proofs.Common.{◌≡◌, ap, ap₂, map, sym, ◌∙◌, Global}
+use Rattle.std.proofs.Common.{◌≡◌, ap, ap₂, map, sym, subst, ◌∙◌, Global}
 use Rattle.std.specs.Arc.{arc_value}
 use Rattle.std.specs.declared.sync.Arc.{Arc}
 use Rattle.std.proofs.lemmas.Result.{on_ok_weaker}
 use Rattle.sz_spec.specs.Values.{Grid}
-use Rattle.sz_query.specs.Views.{view_of, by_map, by_trace}
+use Rattle.sz_spec.specs.Shapes.{Site}
+use Rattle.sz_store.specs.Kept.{NodeLineage}
+use Rattle.sz_query.specs.Views.{view_of, by_map, by_store, by_trace, IsUsable}
 use Rattle.sz_query.proofs.Images.{written}
 use Rattle.sz_query.proofs.views.NodeView.step_into.Goals as goal
 
@@ -15,10 +17,23 @@ returns-in-Mapped-clause-to c =
     written c.args.dir (view_of c.args.self.now) (by_map c.deref.result.now) c.args.input c.args.from.now c.args.to.now
     c.image_by_map.new.to same c.requires.to c.image_by_map.ensures
 
+pub returns-in-Kept-clause-to : goal.returns-in-Kept-clause-to
+returns-in-Kept-clause-to c =
+    let kept = c.deref-in-Kept.result.now in
+    let at = arc_value c.in-Kept.at in
+    let told : view_of c.args.self.now ≡ by_store at kept c.in-Kept.s =
+    ap view_of c.in-Kept.is ∙ ap (λ (x : NodeLineage). by_store at x c.in-Kept.s) (sym c.deref-in-Kept.ensures) in
+    let ready : IsUsable (by_store at kept c.in-Kept.s) = subst IsUsable told c.requires.ready in
+    let same = told ∙ ap (λ (x : Site). by_store x kept c.in-Kept.s) (sym ready.site) in
+    written c.args.dir (view_of c.args.self.now) (by_store kept.site kept c.in-Kept.s) c.args.input
+    c.args.from.now c.args.to.now c.image.new.to same c.requires.to c.image.ensures
+
 pub returns-in-Traced-clause-to : goal.returns-in-Traced-clause-to
 returns-in-Traced-clause-to c =
     let arrays = map (λ (a : Arc Grid Global). arc_value a) c.as_slice-arrays.result.now in
     let same : view_of c.args.self.now ≡ by_trace c.deref-in-Traced.result.now arrays =
     ap view_of c.in-Traced.is ∙ ap₂ by_trace (sym c.deref-in-Traced.ensures) (sym c.as_slice-arrays.ensures) in
-    on_ok_weaker c.trace.result (written c.args.dir (view_of c.args.self.now) (by_trace c.deref-in-Traced.result.now arrays)
-    c.args.input c.args.from.now c.args.to.now c.trace.new.to same c.requires.to) c.trace.ensures.to
+    let into = by_trace c.deref-in-Traced.result.now arrays in
+    on_ok_weaker c.trace.result
+    (written c.args.dir (view_of c.args.self.now) into c.args.input c.args.from.now c.args.to.now
+    c.trace.new.to same c.requires.to) c.trace.ensures.to

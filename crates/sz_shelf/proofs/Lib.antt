@@ -1,0 +1,13 @@
+-- The lemmas: of what lineages placed one after another stand for, of marks of placed pieces, and of the stores of a
+-- tag; then of lists, of the kinds of step, of a turn, of the machine's replies, and of the laws.
+pub mod Lineages
+pub mod Marks
+pub mod Stores
+mod Lists
+mod Moves
+mod Slots
+mod Turning
+mod Telling
+mod Reading
+mod Effects
+mod Rows

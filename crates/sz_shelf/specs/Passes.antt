@@ -1,0 +1,74 @@
+-- What contracts see of a pass, and what a turn does to it.
+use Rattle.std.specs.Prelude.{◌≡◌, ℕ, ◌+◌, List, Bool, true, Option, None}
+use Rattle.atomic_table.specs.Seated.{TableId}
+use Rattle.sz_store.specs.Kept.{NodeLineage}
+use Rattle.sz_shelf.specs.Tags.{Tag, tag_pieces}
+use Rattle.sz_shelf.specs.Contents.{missing_in}
+use Rattle.sz_shelf.specs.Places.{Place}
+use Rattle.sz_shelf.specs.Rule.{Begins, ArePieces, first_view}
+use Rattle.sz_shelf.specs.declared.rule.View.{View}
+
+-- Who looks at a shelf by a pass: the table of the shelf and its tag, the placed pieces as it has
+-- seen them, whether it saw the seal, how many turns and loads of the count it made, the placed
+-- list as its last turn found it and whether there was a seal then, and the stores that it keeps.
+pub record Onlooker : Type 0 where
+  pub table : TableId
+  pub tag : Tag
+  pub seen : List ℕ
+  pub saw : Bool
+  pub turns : ℕ
+  pub loads : ℕ
+  pub found : List ℕ
+  pub found_sealed : Bool
+  pub kept : Option NodeLineage
+
+-- the same, read off the view of a seat of a table
+abbrev pub onlooker : TableId → View → Option NodeLineage → Onlooker
+onlooker z v kept = record {
+  table = z;
+  tag = v.tag;
+  seen = v.seen;
+  saw = v.saw;
+  turns = v.turns;
+  loads = v.loads;
+  found = v.found;
+  found_sealed = v.found_sealed;
+  kept = kept;
+}
+
+-- the shelf that a pass is of
+abbrev pub place_of : Onlooker → Place
+place_of p = record { table = p.table; tag = p.tag }
+
+-- who has seen nothing
+abbrev pub newcomer : Place → Onlooker
+newcomer z = onlooker z.table (first_view z.tag) None
+
+-- A pass took exactly one turn, and no load of the count out of turn. What it found and what it has
+-- seen by the turn's end begin with what it had seen, and are pieces of the output, none of them
+-- twice. Where it saw the seal before, it found one; where it found one, it saw it; and where it
+-- saw one, every piece is placed.
+pub record TookTurn (p q : Onlooker) : Type 0 where
+  pub place : place_of q ≡ place_of p
+  pub turns : q.turns ≡ p.turns + 1
+  pub loads : q.loads ≡ p.loads
+  pub found : Begins p.seen q.found
+  pub grown : Begins q.found q.seen
+  pub begins : Begins p.seen q.seen
+  pub pieces : ArePieces p.tag q.seen
+  pub sealed : p.saw ≡ true → q.found_sealed ≡ true
+  pub saw : q.found_sealed ≡ true → q.saw ≡ true
+  pub whole : q.saw ≡ true → missing_in (tag_pieces p.tag) q.seen ≡ None
+
+-- What was done in a turn to what the seat knew when it had taken the store: all that it found
+-- stays, and what it has seen may have grown.
+pub record Stays (w y : View) : Type 0 where
+  pub tag : y.tag ≡ w.tag
+  pub turns : y.turns ≡ w.turns
+  pub loads : y.loads ≡ w.loads
+  pub found : y.found ≡ w.found
+  pub found_sealed : y.found_sealed ≡ w.found_sealed
+  pub grown : Begins w.seen y.seen
+  pub pieces : ArePieces w.tag y.seen
+  pub saw : w.saw ≡ true → y.saw ≡ true
+  pub whole : y.saw ≡ true → missing_in (tag_pieces w.tag) y.seen ≡ None

@@ -1,0 +1,7 @@
+-- Which shelf it is: its table, and what the shelf is for.
+use Rattle.atomic_table.specs.Seated.{TableId}
+use Rattle.sz_shelf.specs.Tags.{Tag}
+
+pub record Place : Type 0 where
+  pub table : TableId
+  pub tag : Tag

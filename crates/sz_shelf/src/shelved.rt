@@ -1,0 +1,222 @@
+//! What lies in the slot of a shelf: the stores, beside the tag and the list of the placed pieces.
+//!
+//! A [`Shelved`] knows no turns. Contracts see its tag, the placed pieces in their order, and
+//! whether it is sealed; the stores themselves are seen by [`Shelved::store`], which says what they
+//! stand for.
+
+ghost use Rattle.std.specs.Prelude.{◌≡◌, ℕ, ◌<◌, ◌≤◌, ◌++◌, ◌∷◌, [], length, true, false};
+ghost use Rattle.std.specs.Prelude.{Some, None, IfOk, OnOk, OnErr};
+ghost use Rattle.std.specs.List.{slice_index_or};
+ghost use Rattle.std.specs.Arc.{arc_value};
+ghost use Rattle.sz_cells.specs.Cells.{has, with_those};
+ghost use Rattle.sz_spec.specs.Modes.{is_listed, is_stored};
+ghost use Rattle.sz_spec.specs.Sides.{near_side, far_side};
+ghost use Rattle.sz_region.specs.Fits.{Fits};
+ghost use Rattle.sz_region.specs.Images.{measure_of};
+ghost use Rattle.sz_shelf.specs.Tags.{IsTag, StandsFor, tag_pieces, tag_image};
+ghost use Rattle.sz_shelf.specs.Placed.{StandsOnPlaced};
+ghost use Rattle.sz_shelf.specs.Contents.{is_in, missing_in, least_missing};
+
+use crate::stored::Stored;
+use crate::tag::TagParts;
+use std::alloc::Global;
+use std::marker::Model;
+use std::snapshot::Snapshot;
+use std::sync::Arc;
+use sz_cells::laws::a_bitmap_is_its_cells;
+use sz_cells::{CellBits, NoMemory};
+use sz_region::PieceLineage;
+use sz_spec::{Dir, Strategy, pieces_of};
+use sz_store::NodeStore;
+
+/// The stores of a shelf, its tag, and the placed pieces.
+#[derive(Drop)]
+pub struct Shelved {
+    tag: Snapshot<TagParts>,
+    stored: Stored,
+    /// The placed pieces, in their order. There is room for all from the start.
+    placed: Vec<u32>,
+    /// For each piece whether it is placed.
+    marks: Vec<bool>,
+    sealed: bool,
+}
+
+impl Model for Shelved {
+    ghost use Rattle.sz_shelf.specs.Contents.{Contents};
+    ghost use Rattle.sz_shelf.specs.Keeping.{IsShelved};
+
+    ghost Value = { Contents };
+
+    ghost view = { λ s. record {
+      tag = s.tag.value;
+      placed = s.placed.items;
+      sealed = s.sealed;
+    } };
+
+    ghost invariant = { λ s.
+        IsShelved s.tag.value s.placed.items s.sealed s.marks.items s.stored };
+}
+
+impl Shelved {
+    /// The stores of a tag. Nothing is placed, and they are not sealed.
+    pub(crate) fn new(alloc: Global, tag: TagParts) -> Result<Shelved, NoMemory>
+        requires { IsTag tag }
+        ensures { IfOk result
+            (λ s. s ≡ record { tag = tag; placed = []; sealed = false }) }
+    {
+        let seen = Snapshot::of(&tag);
+        let TagParts {
+            at,
+            inputs: _,
+            list,
+        } = tag;
+        let pieces = pieces_of(at.out()) as usize;
+        let store = NodeStore::new(alloc, at, &list)?;
+        let placed = Vec::with_capacity(alloc, pieces)?;
+        let marks = vec![in alloc; false; pieces]?;
+        Ok(Shelved {
+            tag: seen,
+            stored: Stored::Open(store),
+            placed,
+            marks,
+            sealed: false,
+        })
+    }
+
+    /// The stores. On each placed piece they stand for exactly the tag's relation, elsewhere for
+    /// nothing or the composite default; once sealed, they are whole and stand for all of it.
+    pub fn store(&self) -> &NodeStore
+        ensures placed { StandsOnPlaced self.now.tag self.now.placed result.now }
+        ensures whole { self.now.sealed ≡ true → StandsFor self.now.tag result.now }
+    {
+        self.stored.store()
+    }
+
+    /// Whether they are sealed.
+    pub(crate) fn is_sealed(&self) -> bool
+        ensures { result ≡ self.now.sealed }
+    {
+        self.sealed
+    }
+
+    /// Whether a piece is placed.
+    pub(crate) fn has(&self, piece: u32) -> bool
+        requires { piece < tag_pieces self.now.tag }
+        ensures { result ≡ is_in self.now.placed piece }
+    {
+        self.marks[piece as usize]
+    }
+
+    /// How many pieces are placed.
+    pub(crate) fn count(&self) -> u32
+        ensures value { result ≡ length self.now.placed }
+        ensures most { result ≤ tag_pieces self.now.tag }
+    {
+        self.placed.len() as u32
+    }
+
+    /// How many pieces there are.
+    pub(crate) fn pieces(&self) -> u32
+        ensures { result ≡ tag_pieces self.now.tag }
+    {
+        self.marks.len() as u32
+    }
+
+    /// The least piece that is not placed, or the number of pieces.
+    pub(crate) fn missing(&self) -> u32
+        ensures value { result ≡ least_missing (tag_pieces self.now.tag) self.now.placed }
+        ensures some { let n = tag_pieces self.now.tag in
+            result < n → missing_in n self.now.placed ≡ Some result }
+        ensures none { let n = tag_pieces self.now.tag in
+            n ≤ result → missing_in n self.now.placed ≡ None }
+    {
+        first_unmarked(&self.marks) as u32
+    }
+
+    /// Places the lineage of a piece. Where there is no memory, nothing changes.
+    pub(crate) fn place(&mut self, lineage: &PieceLineage) -> Result<(), NoMemory>
+        requires piece { lineage.now.piece < tag_pieces self.old.tag }
+        requires fits { let t = self.old.tag in
+            Fits (measure_of t.site t.inputs) t.list lineage.now.piece lineage.now }
+        requires open { self.old.sealed ≡ false }
+        requires new { is_in self.old.placed lineage.now.piece ≡ false }
+        ensures ok { OnOk result (self.new ≡ record self.old {
+          placed = self.old.placed ++ lineage.now.piece ∷ [];
+        }) }
+        ensures err { OnErr result (self.new ≡ self.old) }
+    {
+        self.placed.reserve(1)?;
+        self.stored.place(lineage)?;
+        let piece = lineage.piece();
+        self.placed.push_reserved(piece);
+        self.marks[piece as usize] = true;
+        Ok(())
+    }
+
+    /// Seals them. Takes no memory.
+    pub(crate) fn seal(&mut self)
+        requires { missing_in (tag_pieces self.old.tag) self.old.placed ≡ None }
+        ensures { self.new ≡ record self.old { sealed = true } }
+    {
+        self.sealed = true;
+    }
+
+    /// Adds the image of a set of cells under the relation of an input. Takes no memory.
+    pub(crate) fn image(
+        &self,
+        strategy: Strategy,
+        dir: Dir,
+        input: u32,
+        from: &CellBits,
+        to: &mut CellBits,
+    )
+        requires sealed { self.now.sealed ≡ true }
+        requires listed { is_listed self.now.tag.list strategy ≡ true }
+        requires stored { is_stored strategy ≡ true }
+        requires input { input < length self.now.tag.site.ins }
+        requires from { from.now.extent ≡ near_side dir self.now.tag.site input }
+        requires to { to.old.extent ≡ far_side dir self.now.tag.site input }
+        ensures { to.new
+            ≡ with_those to.old (has (tag_image dir self.now.tag input from.now)) }
+    {
+        a_bitmap_is_its_cells(from);
+        let store = self.store();
+        store.image(strategy, dir, input, from, to);
+    }
+
+    /// A share of the stores. The first one makes them such that they can be shared, later ones
+    /// hand out the same. Where there is no memory, nothing changes.
+    pub(crate) fn share(&mut self, alloc: Global) -> Result<Arc<NodeStore>, NoMemory>
+        requires { self.old.sealed ≡ true }
+        ensures kept { self.new ≡ self.old }
+        ensures ok { IfOk result (λ a. StandsFor self.old.tag (arc_value a)) }
+    {
+        let own = std::mem::replace(&mut self.stored, Stored::Moved);
+        let (stored, given) = own.share(alloc);
+        self.stored = stored;
+        given
+    }
+
+    /// Puts other stores in place of these. Takes no memory.
+    pub(crate) fn swap(&mut self, store: Arc<NodeStore>)
+        requires sealed { self.old.sealed ≡ true }
+        requires stands { StandsFor self.old.tag (arc_value store) }
+        ensures { self.new ≡ self.old }
+    {
+        self.stored = Stored::Shared(store);
+    }
+}
+
+/// The first place that is not marked, or the number of places.
+fn first_unmarked(marks: &[bool]) -> usize
+    ensures within { result ≤ length marks.now }
+    ensures below { (k : ℕ) → k < result → slice_index_or marks.now k false ≡ true }
+    ensures here { slice_index_or marks.now result false ≡ false }
+{
+    for place in 0..marks.len() {
+        if !marks[place] {
+            return place;
+        }
+    }
+    marks.len()
+}

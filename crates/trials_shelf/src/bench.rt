@@ -1,0 +1,145 @@
+//! A shelf of two pieces, and short calls of it.
+
+ghost use Rattle.std.specs.Prelude.{◌≡◌, ◌<◌, IfOk};
+ghost use Rattle.std.specs.Arc.{arc_value};
+ghost use Rattle.sz_cells.specs.Extent.{flat};
+ghost use Rattle.sz_shelf.specs.Passes.{place_of};
+ghost use Rattle.trials_shelf.specs.Bench.{negation, tag_of};
+
+use std::alloc::Global;
+use std::marker::Model;
+use std::sync::{Arc, Wait};
+use std::test::Fail;
+use sz_cells::{CellBits, CellSet, NoMemory, Run, Shape};
+use sz_ops::{piece, prepare};
+use sz_shelf::{Look, Pass, Placed, Shelf};
+use sz_spec::{Array, Dir, Op, OpAt, Strategy, Tally};
+
+const LIST: [Strategy; 3] = [Strategy::FullManyB, Strategy::Map, Strategy::FullOneF];
+
+/// A shelf of the negation of a row of 65 cells, and what its lineages are made of. Contracts see
+/// which shelf it is.
+#[derive(Drop)]
+pub struct Bench {
+    at: Arc<OpAt>,
+    array: Arc<Array>,
+    pub shelf: Arc<Shelf>,
+}
+
+impl Model for Bench {
+    ghost use Rattle.std.specs.Arc.{arc_value};
+    ghost use Rattle.sz_shelf.specs.Places.{Place};
+    ghost use Rattle.trials_shelf.specs.Bench.{IsBench};
+
+    ghost Value = { Place };
+
+    ghost view = { λ b. arc_value b.shelf };
+
+    ghost invariant = { λ b.
+        IsBench (arc_value b.at) (arc_value b.array) (arc_value b.shelf).tag };
+}
+
+/// The shape of input and output.
+fn row() -> Result<Shape, Fail>
+    ensures { IfOk result (λ s. s ≡ flat 1 65) }
+{
+    Ok(Shape::make(1, 65).ok_or("a row of 65 is a shape")?)
+}
+
+/// The operator.
+fn site(alloc: Global) -> Result<Arc<OpAt>, Fail>
+    ensures { IfOk result (λ at. arc_value at ≡ negation) }
+{
+    match OpAt::of(Op::Neg, vec![in alloc; row()?]?) {
+        Ok(at) => Ok(Arc::new(alloc, at)?),
+        Err(_) => Err("every shape can be negated".into()),
+    }
+}
+
+/// Its array.
+fn array(alloc: Global) -> Result<Arc<Array>, Fail>
+    ensures { IfOk result (λ a. (arc_value a).extent ≡ flat 1 65) }
+{
+    match Array::make(row()?, vec![in alloc; Some(7); 65]?) {
+        Some(array) => Ok(Arc::new(alloc, array)?),
+        None => Err("the shape has 65 cells".into()),
+    }
+}
+
+/// A shelf for them, and its first pass.
+fn shelf(alloc: Global, at: &Arc<OpAt>, array: &Arc<Array>) -> Result<(Arc<Shelf>, Pass), Fail>
+    requires site { arc_value at.now ≡ negation }
+    requires array { (arc_value array.now).extent ≡ flat 1 65 }
+    ensures tag { IfOk result (λ s. (arc_value s.0).tag ≡ tag_of (arc_value array.now)) }
+    ensures pass { IfOk result (λ s. place_of s.1 ≡ arc_value s.0) }
+{
+    let own = Arc::try_clone(at)?;
+    Ok(Shelf::make(alloc, own, &[Arc::try_clone(array)?], &LIST)?)
+}
+
+impl Bench {
+    /// The shelf, and its first pass.
+    pub fn new(alloc: Global) -> Result<(Bench, Pass), Fail>
+        ensures { IfOk result (λ b. place_of b.1 ≡ b.0) }
+    {
+        let at = site(alloc)?;
+        let array = array(alloc)?;
+        let (shelf, pass) = shelf(alloc, &at, &array)?;
+        Ok((Bench { at, array, shelf }, pass))
+    }
+
+    /// Places the lineage of a piece.
+    pub fn place<R: Wait>(
+        &self,
+        alloc: Global,
+        rt: &R,
+        pass: &mut Pass,
+        k: u32,
+    ) -> Result<Placed, NoMemory>
+        requires own { place_of pass.old ≡ self.now }
+        requires piece { k < 2 }
+        ensures own { place_of pass.new ≡ place_of pass.old }
+    {
+        let inputs = [Arc::try_clone(&self.array)?];
+        let aid = prepare(alloc, &self.at, &inputs)?;
+        let mut tally = Tally::new();
+        let lineage = piece(alloc, &self.at, &inputs, &aid, k, &LIST, &mut tally)?;
+        self.shelf.place(rt, pass, &lineage)
+    }
+
+    /// Looks backward from the cells 3 to 64 by the store by sets, with a target that has the cell
+    /// 0: what is told, and what the target then has.
+    pub fn look<R: Wait>(
+        &self,
+        alloc: Global,
+        rt: &R,
+        pass: &mut Pass,
+    ) -> Result<(Look, CellSet), NoMemory>
+        requires { place_of pass.old ≡ self.now }
+        ensures { place_of pass.new ≡ place_of pass.old }
+    {
+        let mut from = CellBits::new(alloc, self.at.out())?;
+        from.add_run(Run { first: 3, last: 64 });
+        let mut to = CellBits::new(alloc, self.at.out())?;
+        to.add_run(Run { first: 0, last: 0 });
+        let look = self.look_into(rt, pass, &from, &mut to);
+        Ok((look, to.to_set(alloc)?))
+    }
+
+    fn look_into<R: Wait>(
+        &self,
+        rt: &R,
+        pass: &mut Pass,
+        from: &CellBits,
+        to: &mut CellBits,
+    ) -> Look
+        requires own { place_of pass.old ≡ self.now }
+        requires from { from.now.extent ≡ flat 1 65 }
+        requires to { to.old.extent ≡ flat 1 65 }
+        ensures own { place_of pass.new ≡ place_of pass.old }
+    {
+        let _ = &self.at;
+        self.shelf
+            .look(rt, pass, Strategy::FullManyB, Dir::Back, 0, from, to)
+    }
+}

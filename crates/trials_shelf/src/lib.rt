@@ -1,0 +1,12 @@
+//! Tests of shelves: what each call answers on a shelf of two pieces, and passes in two threads.
+//!
+//! A crate is proved once for those above it and once more with its tests. So tests that call public
+//! functions alone stand in a crate that has nothing else.
+#![tactic(auto)]
+
+#[cfg(test)]
+mod bench;
+#[cfg(test)]
+mod rows;
+#[cfg(test)]
+mod threads;

@@ -1,0 +1,96 @@
+//! What each call answers, one after another.
+
+ghost use Rattle.std.specs.Prelude.{◌≡◌};
+ghost use Rattle.sz_shelf.specs.Passes.{place_of};
+
+use crate::bench::Bench;
+use std::alloc::Global;
+use std::sync::Wait;
+use std::test::Fail;
+use sz_cells::Run;
+use sz_shelf::{Look, Pass, Placed, SealReply};
+
+/// The target before a look, and once the image is added.
+const BEFORE: [Run; 1] = [Run { first: 0, last: 0 }];
+
+const ADDED: [Run; 2] = [Run { first: 0, last: 0 }, Run { first: 3, last: 64 }];
+
+/// Whether a look tells this, and leaves these runs of cells in its target.
+fn looks<R: Wait>(
+    alloc: Global,
+    rt: &R,
+    bench: &Bench,
+    pass: &mut Pass,
+    told: Look,
+    cells: &[Run],
+) -> Result<bool, Fail>
+    requires { place_of pass.old ≡ bench.now }
+    ensures { place_of pass.new ≡ place_of pass.old }
+{
+    let (look, to) = bench.look(alloc, rt, pass)?;
+    Ok(look == told && to.runs() == cells)
+}
+
+/// Whether the store is handed out.
+fn is_given<R: Wait>(alloc: Global, rt: &R, bench: &Bench, pass: &mut Pass) -> Result<bool, Fail>
+    requires { place_of pass.old ≡ bench.now }
+    ensures { place_of pass.new ≡ place_of pass.old }
+{
+    Ok(bench.shelf.store_of(alloc, rt, pass)?.is_some())
+}
+
+/// Whether both pieces are placed, the later one first, with these answers on the way.
+fn fills<R: Wait>(alloc: Global, rt: &R, bench: &Bench, pass: &mut Pass) -> Result<bool, Fail>
+    requires { place_of pass.old ≡ bench.now }
+    ensures { place_of pass.new ≡ place_of pass.old }
+{
+    let none = bench.shelf.seal(rt, pass) == SealReply::Missing(0);
+    let new = bench.place(alloc, rt, pass, 1)? == Placed::New;
+    let still = bench.shelf.seal(rt, pass) == SealReply::Missing(0);
+    let early = looks(
+        alloc,
+        rt,
+        bench,
+        pass,
+        Look::Unsealed { missing: 0 },
+        &BEFORE,
+    )?;
+    let again = bench.place(alloc, rt, pass, 1)? == Placed::Already;
+    let last = bench.place(alloc, rt, pass, 0)? == Placed::New;
+    Ok(none && new && still && early && again && last)
+}
+
+#[test]
+fn pieces_are_placed_and_then_sealed(rt: HostRuntime) -> Result<(), Fail> {
+    let alloc = rt.alloc();
+    let (bench, mut pass) = Bench::new(alloc)?;
+    let mut other = bench.shelf.split(&mut pass)?;
+    assert!(rt; fills(alloc, &rt, &bench, &mut pass)?);
+    let whole = Look::Unsealed { missing: 2 };
+    assert!(rt; looks(alloc, &rt, &bench, &mut pass, whole, &BEFORE)?);
+    assert!(rt; !is_given(alloc, &rt, &bench, &mut pass)?);
+    assert!(rt; !bench.shelf.sealed_now(&mut other));
+    assert_eq!(rt; bench.shelf.seal(&rt, &mut pass), SealReply::Sealed);
+    assert!(rt; looks(alloc, &rt, &bench, &mut pass, Look::Done, &ADDED)?);
+    assert_eq!(rt; bench.place(alloc, &rt, &mut pass, 0)?, Placed::Sealed);
+    assert!(rt; bench.shelf.sealed_now(&mut other));
+    Ok(())
+}
+
+#[test]
+fn what_is_handed_out_is_kept(rt: HostRuntime) -> Result<(), Fail> {
+    let alloc = rt.alloc();
+    let (bench, mut pass) = Bench::new(alloc)?;
+    assert!(rt; fills(alloc, &rt, &bench, &mut pass)?);
+    assert_eq!(rt; bench.shelf.seal(&rt, &mut pass), SealReply::Sealed);
+    let mut before = bench.shelf.split(&mut pass)?;
+    assert!(rt; pass.kept().is_none());
+    assert!(rt; is_given(alloc, &rt, &bench, &mut pass)?);
+    assert!(rt; pass.kept().is_some());
+    let mut after = bench.shelf.split(&mut pass)?;
+    assert!(rt; before.kept().is_none() && after.kept().is_some());
+    assert!(rt; looks(alloc, &rt, &bench, &mut after, Look::Done, &ADDED)?);
+    bench.shelf.join(&mut before, after);
+    assert!(rt; before.kept().is_some());
+    Ok(())
+}
