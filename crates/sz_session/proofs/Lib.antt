@@ -12,5 +12,7 @@ pub mod LawsLines
 pub mod LawsSessions
 pub mod Blanks
 pub mod Moments
+pub mod Loads
+pub mod Jobs
 mod RowsServing
 mod SessionRows

@@ -1,13 +1,20 @@
 //! A session: lines in, reply lines out.
 //!
-//! [`serve`] is the program's one call. It reads a source to its end, and for each line that is not
-//! blank it says one reply line to a station, before it reads on. Where source and station tell
+//! [`serve`] is the program's one call: it does what the words of the command line ask for. In mode
+//! play it reads a source to its end, and for each line that is not blank it says one reply line to
+//! a station, before it reads on. Where source and station tell
 //! their bytes, its clauses say what was said by each of its endings: all of the session's
 //! transcript (`done`), the replies of the whole lines that were read (`after_read_fault`,
 //! `after_input_limit`), a first part of the transcript (`after_say_fault`), or the first so many
 //! of its lines (`after_no_memory`). `quiet` says that a session is done only where no fault was
 //! counted, and `completes` that there is no other ending without one. Nothing depends on how many
 //! bytes a read gives.
+//!
+//! In mode load the lines are those of a session that is made from a seed and a side (`sz_gen`), and
+//! what is said is the one line that sums up their replies (`load`); `load_after_say_fault` and
+//! `load_after_no_memory` say what was said of it by the other endings. Words that ask for no mode
+//! that there is end with Usage, or where there was no memory for reading them (`usage`, `refused`),
+//! and then nothing was touched.
 //!
 //! ```text
 //! {"array":"a","cells":[[5]]}                                         1 array a 1
@@ -45,6 +52,7 @@ mod building;
 mod feed;
 mod finding;
 pub mod laws;
+mod load;
 mod runs;
 mod serving;
 mod session;
