@@ -249,7 +249,7 @@ views-told v dir (s ∷ path) [] zip = absurd zip
 views-told v dir (s ∷ path) (w ∷ views) zip =
     let h = zip.0 in
     ap₂ (λ (x : Strategy) (xs : List Strategy). x ∷ xs)
-    (ap (λ (x : View). strategy_told (used_of x)) h.is 
+    (ap (λ (x : View). strategy_told (used_of x)) h.is
     ∙ view_by-told (list_of v s) (way_of v dir s) h.execution h.kept h.list.listed h.own)
     (views-told v dir path views zip.1)
 

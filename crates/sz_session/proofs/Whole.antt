@@ -230,9 +230,12 @@ kept-at (d ∷ es) [] keeps n e list h here there = absurd h
 kept-at (d ∷ es) (l ∷ lists) [] n e list h here there = absurd h
 kept-at (d ∷ es) (l ∷ lists) (k ∷ keeps) zero e list h here there =
     let same : d ≡ e = cc in
-    let own : l ≡ list = cc in
-    (k, refl, subst (λ (x : Execution). IsKeptOf x list k) same
-    (subst (λ (x : List Strategy). IsKeptOf d x k) own h.0))
+    let own : l ≡ list = cc in (
+      k,
+      refl,
+      subst (λ (x : Execution). IsKeptOf x list k) same
+          (subst (λ (x : List Strategy). IsKeptOf d x k) own h.0),
+    )
 kept-at (d ∷ es) (l ∷ lists) (k ∷ keeps) (suc n) e list h here there = kept-at es lists keeps n e list h.1 here there
 
 pub kept-length : (es : List Execution) (lists : List (List Strategy)) (keeps : List (Option NodeLineage))

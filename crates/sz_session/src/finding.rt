@@ -24,8 +24,8 @@ use sz_cells::{Cell, CellSet, NoMemory, Shape, laws};
 use sz_flow::NodeRun;
 use sz_query::{Found, NodeRunRef, NodeView, answer};
 use sz_script::{NamedCell, NamedCells, Path, PathStep};
-use sz_store::NodeStore;
 use sz_spec::{Array, ArrayList, Dir, Strategy, Tally, way};
+use sz_store::NodeStore;
 
 /// What is found along a path from some named cells, each step by the view of its node for the way
 /// of the step. The tally rises by the output sizes of the steps that are told as traced. Takes
