@@ -17,7 +17,8 @@ exit_number InputLimit = 9
 -- The line of a status on standard error, without its newline. Done has none.
 abbrev pub error_line : Status → List ℕ
 error_line Done = []
-error_line Usage = codes "usage: subzero play"
+error_line Usage =
+    codes "usage: subzero play|load [--workers N] [--askers N] [--seed N] [--side N]"
 error_line ReadFault = codes "subzero: reading the session failed"
 error_line SayFault = codes "subzero: writing a reply failed"
 error_line NoMemory = codes "subzero: out of memory"

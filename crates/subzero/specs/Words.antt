@@ -1,5 +1,5 @@
--- The words of the command line, and which of them ask for a session.
-use Rattle.std.specs.Prelude.{◌≡◌, ◌≢◌, List, true, false, map, take, drop, Result, Ok, Err}
+-- The words of the command line, and what they ask for.
+use Rattle.std.specs.Prelude.{◌≡◌, ◌≢◌, ℕ, List, true, false, map, take, drop, Result, Ok, Err, ⊤}
 use Rattle.std.specs.Prelude.{string_bytes}
 use Rattle.std.specs.IoError.{error_kind}
 use Rattle.std.specs.Vec.Iter.{into_iter_items, into_iter_len}
@@ -8,7 +8,8 @@ use Rattle.std.specs.declared.string.String.{String}
 use Rattle.std.specs.declared.vec.IntoIter.{IntoIter}
 use Rattle.std.specs.declared.io.Error.{Error}
 use Rattle.std.specs.declared.io.ErrorKind.TheVariants.{OutOfMemory}
-use Rattle.sz_session.specs.Serving.{are_play}
+use Rattle.sz_session.specs.Serving.{are_served, are_play, IfLoad}
+use Rattle.sz_words.specs.Job.{job_of}
 
 -- What the command line gives: its words, of which the first is the program's name.
 abbrev pub Args : Type 0
@@ -18,12 +19,22 @@ Args = IntoIter (String Global) Global
 abbrev pub words_in : Args → List (String Global)
 words_in args = drop 1 (take (into_iter_len args) (into_iter_items args))
 
--- The words could be had, and are the one word `play`.
+-- The words could be had, and ask for the session on standard input.
 abbrev pub ArePlay : Result Args Error → Type 0
 ArePlay (Ok args) = are_play (map string_bytes (words_in args)) ≡ true
 ArePlay (Err fault) = ⊥
 
--- They are other words, or could not be had, and not for want of memory: one of them is no text.
+-- They could be had, and ask for a mode that there is.
+abbrev pub AreServed : Result Args Error → Type 0
+AreServed (Ok args) = are_served (map string_bytes (words_in args)) ≡ true
+AreServed (Err fault) = ⊥
+
+-- They ask for none, or could not be had, and not for want of memory: one of them is no text.
 abbrev pub AreOther : Result Args Error → Type 0
-AreOther (Ok args) = are_play (map string_bytes (words_in args)) ≡ false
+AreOther (Ok args) = are_served (map string_bytes (words_in args)) ≡ false
 AreOther (Err fault) = error_kind fault ≢ OutOfMemory
+
+-- Where they ask for the generated session, the line that sums it up is such a one.
+abbrev pub IfLoadAsked : Result Args Error → (List ℕ → Type 0) → Type 0
+IfLoadAsked (Ok args) IsSuch = IfLoad (job_of (map string_bytes (words_in args))) IsSuch
+IfLoadAsked (Err fault) IsSuch = ⊤

@@ -8,6 +8,9 @@ use std::io::Eprint;
 use std::process::ExitCode;
 use sz_session::Status;
 
+/// What is printed where the words are refused: the modes that there are.
+const USAGE: &str = "usage: subzero play|load [--workers N] [--askers N] [--seed N] [--side N]";
+
 /// Prints the status's line, where it has one, and gives its number. That the line cannot be
 /// printed changes nothing: the number still tells how the session ended.
 pub(crate) fn end<E: Eprint>(rt: &E, status: Status) -> ExitCode
@@ -34,7 +37,7 @@ pub(crate) fn ending_of(status: Status) -> Ending
 {
     let (number, line) = match status {
         Status::Done => (0, ""),
-        Status::Usage => (1, "usage: subzero play"),
+        Status::Usage => (1, USAGE),
         Status::ReadFault => (2, "subzero: reading the session failed"),
         Status::SayFault => (3, "subzero: writing a reply failed"),
         Status::NoMemory => (8, "subzero: out of memory"),

@@ -1,4 +1,5 @@
-//! The program: `subzero play` answers a session that comes on standard input, on standard output.
+//! The program: `subzero play` answers a session that comes on standard input, on standard output,
+//! and `subzero load` says there what sums up a session that is made from numbers.
 //!
 //! `main` makes the real input and output, and leaves with what [`run`] gives: the exit number. That
 //! one call is all that is left unproved of it. `words` reads the command line, `running` has the

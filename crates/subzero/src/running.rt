@@ -2,9 +2,9 @@
 
 ghost use Rattle.std.specs.Prelude.{◌≡◌, ◌^◌};
 ghost use Rattle.std.specs.Process.{exit_status};
-ghost use Rattle.sz_outside.specs.Outside.{Rose, Stood};
+ghost use Rattle.sz_outside.specs.Outside.{Rose, Stood, Says};
 ghost use Rattle.sz_session.specs.Serving.{Done, IsPastLimit};
-ghost use Rattle.subzero.specs.Words.{ArePlay, AreOther};
+ghost use Rattle.subzero.specs.Words.{ArePlay, AreServed, AreOther, IfLoadAsked};
 
 use crate::ending::end;
 use crate::words::{status_of_fault, words_of};
@@ -18,19 +18,23 @@ use sz_outside::{NoGate, Source, Station};
 use sz_session::{Status, serve};
 
 /// Runs the program over any source and any station, and gives the exit number; the line of the
-/// status is printed on standard error. 0 comes only where the session was read to its end, all of
-/// its transcript was said, and no fault was counted.
+/// status is printed on standard error. 0 comes only where the words ask for a mode that there is,
+/// and no fault was counted: in play the session was read to its end, and all of its transcript was
+/// said; in load the line that sums up the generated session was said.
 pub(crate) fn run<
     S: Source,
     T: Station,
     R: Eprint + Threads + Wait + Clone + Send + Sync + 'static,
 >(rt: &R, alloc: Global, args: io::Result<Args>, source: &mut S, station: &mut T) -> ExitCode
-    ensures done { exit_status result ≡ 0 → Done (2 ^ 62) (S.left source.old) (S.left source.new)
+    ensures done { exit_status result ≡ 0 → ArePlay args
+        → Done (2 ^ 62) (S.left source.old) (S.left source.new)
         (T.said station.old) (T.said station.new) }
+    ensures load { exit_status result ≡ 0 → IfLoadAsked args
+        (λ line. Says (T.said station.old) (T.said station.new) line) }
     ensures quiet { exit_status result ≡ 0
         → Stood (S.faults source.old) (S.faults source.new)
         × Stood (T.say_faults station.old) (T.say_faults station.new) }
-    ensures play { exit_status result ≡ 0 → ArePlay args }
+    ensures served { exit_status result ≡ 0 → AreServed args }
     ensures usage { exit_status result ≡ 1 → AreOther args }
     ensures untouched { exit_status result ≡ 1
         → (source.new ≡ source.old) × (station.new ≡ station.old) }
@@ -52,12 +56,15 @@ fn session<S: Source, T: Station, R: Threads + Wait + Clone + Send + Sync + 'sta
     source: &mut S,
     station: &mut T,
 ) -> Status
-    ensures done { result ≡ Status.Done → Done (2 ^ 62) (S.left source.old) (S.left source.new)
+    ensures done { result ≡ Status.Done → ArePlay args
+        → Done (2 ^ 62) (S.left source.old) (S.left source.new)
         (T.said station.old) (T.said station.new) }
+    ensures load { result ≡ Status.Done → IfLoadAsked args
+        (λ line. Says (T.said station.old) (T.said station.new) line) }
     ensures quiet { result ≡ Status.Done
         → Stood (S.faults source.old) (S.faults source.new)
         × Stood (T.say_faults station.old) (T.say_faults station.new) }
-    ensures play { result ≡ Status.Done → ArePlay args }
+    ensures served { result ≡ Status.Done → AreServed args }
     ensures usage { result ≡ Status.Usage → AreOther args }
     ensures untouched { result ≡ Status.Usage
         → (source.new ≡ source.old) × (station.new ≡ station.old) }

@@ -21,7 +21,13 @@ fn has_ending(status: Status, number: u8, line: &'static str) -> bool {
 #[test]
 fn each_status_has_its_number_and_its_line(rt: HostRuntime) {
     assert!(rt; has_ending(Status::Done, 0, ""));
-    assert!(rt; has_ending(Status::Usage, 1, "usage: subzero play"));
+    assert!(rt;
+        has_ending(
+            Status::Usage,
+            1,
+            "usage: subzero play|load [--workers N] [--askers N] [--seed N] [--side N]"
+        )
+    );
     assert!(rt; has_ending(Status::ReadFault, 2, "subzero: reading the session failed"));
     assert!(rt; has_ending(Status::SayFault, 3, "subzero: writing a reply failed"));
     assert!(rt; has_ending(Status::NoMemory, 8, "subzero: out of memory"));
@@ -96,6 +102,10 @@ fn words_and_sessions_give_their_exit_numbers(rt: HostRuntime) -> std::result::R
     assert!(rt; ends(&rt, alloc, &["play"], &[1], &[])? == ExitCode::from(2));
     assert!(rt; ends(&rt, alloc, &["play"], &[], &[1])? == ExitCode::from(3));
     assert!(rt; ends(&rt, alloc, &[], &[], &[])? == ExitCode::from(1));
+    assert!(rt; ends(&rt, alloc, &["load", "--side", "1"], &[1], &[])? == ExitCode::from(0));
+    assert!(rt; ends(&rt, alloc, &["load", "--side", "1"], &[], &[1])? == ExitCode::from(3));
+    assert!(rt; ends(&rt, alloc, &["load", "--side", "0"], &[], &[])? == ExitCode::from(1));
+    assert!(rt; ends(&rt, alloc, &["run", "x"], &[], &[])? == ExitCode::from(1));
     assert!(rt; ends(&rt, alloc, &["play", "x"], &[], &[])? == ExitCode::from(1));
     assert!(rt; ends(&rt, alloc, &["x", "play"], &[], &[])? == ExitCode::from(1));
     Ok(())

@@ -36,12 +36,13 @@ use Rattle.sz_catalogue.specs.Holdings.{Workflow, Version, Holdings, flow_named,
 use Rattle.sz_catalogue.specs.Holdings.{no_version, next_number, shapes_of, greatest}
 use Rattle.sz_catalogue.specs.Starts.{first_list, first_lists, workflow_of, bases_of, version_started}
 use Rattle.sz_catalogue.specs.Rules as rules
-use Rattle.sz_catalogue.specs.Rules.{judged, first_of, version_of, names_a_store}
+use Rattle.sz_catalogue.specs.Rules.{judged, first_of, version_of}
+use Rattle.sz_catalogue.specs.Kept.{IsWorkflow}
 use Rattle.sz_catalogue.specs.Changes.{accepted, with_flow, with_list, with_strategies, with_version}
 use Rattle.sz_catalogue.specs.Changes.{with_await, changes_without_start}
 use Rattle.sz_catalogue.proofs.NodeLists.{firsts-right, set-right}
 use Rattle.sz_catalogue.proofs.Bases.{bases-length}
-use Rattle.sz_session.specs.Runs.{keep_no_store, IsSoundFlow, IsSoundVersion, AreSound}
+use Rattle.sz_session.specs.Runs.{IsSoundVersion, AreSound}
 
 -- ---- rules
 
@@ -66,32 +67,14 @@ there-is (Some x) h = (x, refl)
 -- ---- flows
 
 -- a flow that is held is sound
-pub flow-sound : (c : Holdings) (name : List ℕ) → All IsSoundFlow (values_of c.flows)
-    → rules.has_no_flow c name ≡ false → IsSoundFlow (workflow_of c name)
+pub flow-sound : (c : Holdings) (name : List ℕ) → All IsWorkflow (values_of c.flows)
+    → rules.has_no_flow c name ≡ false → IsWorkflow (workflow_of c name)
 flow-sound c name all held =
     let found = there-is (flow_named c name) held in
-    let P : Option Workflow → Type 0 = λ o. IfSome o IsSoundFlow in
-    let sound = IfSome-lookup_from_All IsSoundFlow (is_at (slice_cmp nat_cmp name)) c.flows all in
-    subst IsSoundFlow (sym (ap (λ (o : Option Workflow). unwrap_or o no_workflow) found.1))
+    let P : Option Workflow → Type 0 = λ o. IfSome o IsWorkflow in
+    let sound = IfSome-lookup_from_All IsWorkflow (is_at (slice_cmp nat_cmp name)) c.flows all in
+    subst IsWorkflow (sym (ap (λ (o : Option Workflow). unwrap_or o no_workflow) found.1))
     (subst P found.1 sound)
-
--- the first lists keep no store
-firsts-unstored : (nodes : List Node) → keep_no_store (map first_list nodes) ≡ true
-firsts-unstored [] = refl
-firsts-unstored (x ∷ nodes) = ap₂ (λ (a b : Bool). a && b) (at (has_mapping x.op)) (firsts-unstored nodes) where
-  at : (b : Bool) → not (names_a_store ((if b then strategy.Map else strategy.BlackBox) ∷ [])) ≡ true
-  at true = refl
-  at false = refl
-
--- nor do lists of which one was set to one that does not
-set-unstored : (lists : List (List Strategy)) (n : ℕ) (list : List Strategy) → keep_no_store lists ≡ true
-    → names_a_store list ≡ false → keep_no_store (slice_set lists n list) ≡ true
-set-unstored [] n list none here = refl
-set-unstored (l ∷ lists) zero list none here =
-    let both = and_parts (not (names_a_store l)) (keep_no_store lists) none in rw (here, both.1) refl
-set-unstored (l ∷ lists) (suc n) list none here =
-    let both = and_parts (not (names_a_store l)) (keep_no_store lists) none in
-    rw (both.0, set-unstored lists n list both.1 here) refl
 
 -- the flow of a command that is right is well formed
 right-flow : (name : List ℕ) (flow : Graph) → is_right (order.Flow name flow) ≡ true → is_well_formed flow ≡ true
@@ -102,40 +85,31 @@ keeps-flow : (c : Holdings) (name : List ℕ) (flow : Graph) → AreSound c
     → is_well_formed flow ≡ true → AreSound (with_flow c name flow)
 keeps-flow c name flow k right =
     let new : Workflow = record { graph = flow; lists = first_lists flow } in
-    let sound : IsSoundFlow new = record {
-      flow = record { right = right; lists = firsts-right flow.nodes };
-      no_store = firsts-unstored flow.nodes;
-    } in
+    let sound : IsWorkflow new = record { right = right; lists = firsts-right flow.nodes } in
     record {
-      flows = All-values-insert_entry (slice_cmp nat_cmp) name new IsSoundFlow c.flows k.flows sound;
+      flows = All-values-insert_entry (slice_cmp nat_cmp) name new IsWorkflow c.flows k.flows sound;
       versions = k.versions;
     }
 
 -- a flow with another list for one of its nodes
-list-sound : (w : Workflow) (node : ℕ) (list : List Strategy) → IsSoundFlow w
-    → rules.is_list_of w.graph.nodes node list ≡ true → names_a_store list ≡ false
-    → IsSoundFlow (with_list w node list)
-list-sound w node list sound fits none = record {
-  flow = record {
-    right = sound.flow.right;
-    lists = (set-right w.graph.nodes w.lists node list sound.flow.lists fits).1;
-  };
-  no_store = set-unstored w.lists node list sound.no_store none;
+list-sound : (w : Workflow) (node : ℕ) (list : List Strategy) → IsWorkflow w
+    → rules.is_list_of w.graph.nodes node list ≡ true → IsWorkflow (with_list w node list)
+list-sound w node list sound fits = record {
+  right = sound.right;
+  lists = (set-right w.graph.nodes w.lists node list sound.lists fits).1;
 }
 
 keeps-strategies : (c : Holdings) (name : List ℕ) (node : ℕ) (list : List Strategy)
     → AreSound c → judged c (order.Strategy name node list) ≡ None
     → AreSound (with_strategies c name node list)
 keeps-strategies c name node list k none =
-    let built = (names_a_store list, refusal.NotBuilt) ∷ [] in
-    let listed = (rules.has_bad_strategies c name node list, refusal.BadStrategies) ∷ built in
+    let listed = (rules.has_bad_strategies c name node list, refusal.BadStrategies) ∷ [] in
     let held = rule-fails (rules.has_no_flow c name) refusal.NoSuchFlow listed none in
-    let fits = rule-fails (rules.has_bad_strategies c name node list) refusal.BadStrategies built held.1 in
-    let stores = rule-fails (names_a_store list) refusal.NotBuilt [] fits.1 in
+    let fits = rule-fails (rules.has_bad_strategies c name node list) refusal.BadStrategies [] held.1 in
     let old = flow-sound c name k.flows held.0 in
-    let new = list-sound (workflow_of c name) node list old (not_false _ fits.0) stores.0 in
+    let new = list-sound (workflow_of c name) node list old (not_false _ fits.0) in
     record {
-      flows = All-values-set_value (is_at (slice_cmp nat_cmp name)) IsSoundFlow c.flows
+      flows = All-values-set_value (is_at (slice_cmp nat_cmp name)) IsWorkflow c.flows
           (with_list (workflow_of c name) node list) k.flows new;
       versions = k.versions;
     }
@@ -172,7 +146,6 @@ keeps-await c n k none =
           lists = old.run.1.lists;
         },
       );
-      no_store = old.no_store;
     } in
     record {
       flows = k.flows;
@@ -184,6 +157,10 @@ pub keeps-accepted : (c : Holdings) (command : Command) → AreSound c
     → is_right command ≡ true → judged c command ≡ None → changes_without_start command ≡ true
     → AreSound (accepted c command).0
 keeps-accepted c (order.Array name array) k right none kind = record {
+  flows = k.flows;
+  versions = k.versions;
+}
+keeps-accepted c (order.Csv name array) k right none kind = record {
   flows = k.flows;
   versions = k.versions;
 }
@@ -244,7 +221,7 @@ can-start c name base none =
       below n h = grind (arith, nat_tests)
 
 -- the version that it makes is sound
-pub started-sound : (c : Holdings) (name : List ℕ) (base : List BaseName) → All IsSoundFlow (values_of c.flows)
+pub started-sound : (c : Holdings) (name : List ℕ) (base : List BaseName) → All IsWorkflow (values_of c.flows)
     → CanStart c name base → IsSoundVersion (version_started c name base)
 started-sound c name base all can =
     let w = flow-sound c name all can.flow in
@@ -252,13 +229,12 @@ started-sound c name base all can =
       run = (
         can.fits.0,
         record {
-          right = w.flow.right;
+          right = w.right;
           count = bases-length c base can.arrays ∙ can.count;
           fits = can.fits.1;
-          lists = w.flow.lists;
+          lists = w.lists;
         },
       );
-      no_store = w.no_store;
     }
 
 -- and is held beside the others
@@ -275,6 +251,14 @@ pub flow-graph : (c : Holdings) (name : List ℕ) (g : Graph)
     → Some g ≡ option_map (λ (w : Workflow). w.graph) (flow_named c name) → g ≡ (workflow_of c name).graph
 flow-graph c name g found = at (flow_named c name) found where
   at : (o : Option Workflow) → Some g ≡ option_map (λ (w : Workflow). w.graph) o → g ≡ (unwrap_or o no_workflow).graph
+  at None h = cc
+  at (Some w) h = cc
+
+-- and its lists
+pub flow-lists : (c : Holdings) (name : List ℕ) (ls : List (List Strategy))
+    → Some ls ≡ option_map (λ (w : Workflow). w.lists) (flow_named c name) → ls ≡ (workflow_of c name).lists
+flow-lists c name ls found = at (flow_named c name) found where
+  at : (o : Option Workflow) → Some ls ≡ option_map (λ (w : Workflow). w.lists) o → ls ≡ (unwrap_or o no_workflow).lists
   at None h = cc
   at (Some w) h = cc
 

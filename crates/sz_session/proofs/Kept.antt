@@ -48,7 +48,7 @@ pub list-there : (v : Version) (s : Step) → IsSoundVersion v → is_there (sou
 list-there v s sound there =
     let e = step-there v s sound there in
     let h = step-of v s e.0 sound there e.1 in
-    let known = lists-at v.flow.nodes v.lists s.node h.node sound.run.1.lists sound.no_store h.there in
+    let known = lists-at v.flow.nodes v.lists s.node h.node sound.run.1.lists h.there in
     slice_get_within v.lists s.node known.0 known.1
 
 pub list-filled : (v : Version) (s : Step) (list : List Strategy) → IsSoundVersion v
@@ -56,7 +56,7 @@ pub list-filled : (v : Version) (s : Step) (list : List Strategy) → IsSoundVer
 list-filled v s list sound there at =
     let e = step-there v s sound there in
     let h = step-of v s e.0 sound there e.1 in
-    let known = lists-at v.flow.nodes v.lists s.node h.node sound.run.1.lists sound.no_store h.there in
+    let known = lists-at v.flow.nodes v.lists s.node h.node sound.run.1.lists h.there in
     let same : known.0 ≡ list = some-same known.0 list (sym known.1 ∙ at) in
     subst (λ (xs : List Strategy). 0 < length xs) same (list-parts h.node.op known.0 known.2).0 where
       some-same : (a b : List Strategy) → Some a ≡ Some b → a ≡ b

@@ -2,6 +2,7 @@
 pub mod Ways
 pub mod Steps
 pub mod PathViews
+pub mod Whole
 pub mod Kept
 pub mod Keeps
 pub mod Cuts
@@ -11,5 +12,7 @@ pub mod LawsLines
 pub mod LawsSessions
 pub mod Blanks
 pub mod Moments
+pub mod Loads
+pub mod Jobs
 mod RowsServing
 mod SessionRows

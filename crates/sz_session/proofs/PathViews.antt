@@ -6,34 +6,41 @@ use Rattle.std.proofs.Common.{◌≡◌, ℕ, suc, zero, ◌+◌, ◌<◌, ◌�
 use Rattle.std.proofs.Common.{false, not}
 use Rattle.std.proofs.Common.{refl, sym, ap, ap₂, ◌∙◌, subst, arith, Option, Some, unwrap_or, cond, get_or}
 use Rattle.std.specs.Prelude.{◌&&◌, nat_lt, nat_le, sum_by, filter, if◌then◌else◌}
-use Rattle.std.specs.List.{AllZip, list_all, slice_get}
+use Rattle.std.specs.List.{AllZip, list_all, list_any, slice_get}
 use Rattle.std.specs.Option.{option_map}
 use Rattle.std.proofs.lemmas.Bool.{and_parts}
 use Rattle.std.proofs.lemmas.Bool.Decides.{nat_tests}
 use Rattle.std.proofs.lemmas.List.Sums.{sum_by-cons}
 use Rattle.sz_cells.specs.Extent.{Extent, size_of}
+use Rattle.sz_cells.specs.declared.Cell.{Cell}
+use Rattle.sz_cells.specs.Cells.{Cells, named_in, is_same}
+use Rattle.sz_cells.specs.SetBytes.{IsSetOf}
+use Rattle.sz_cells.proofs.LawsOfSets.{sets-rising}
 use Rattle.sz_spec.specs.declared.flow.Node.{Node}
 use Rattle.sz_spec.specs.declared.op.Op.{Op}
 use Rattle.sz_spec.specs.declared.modes.Dir.{Dir}
 use Rattle.sz_spec.specs.declared.modes.Dir.TheVariants.{Back}
 use Rattle.sz_spec.specs.declared.modes.Strategy.{Strategy}
-use Rattle.sz_spec.specs.Modes.{has_mapping, supports, is_stored, way}
+use Rattle.sz_spec.specs.Modes.{supports, is_listed, way}
 use Rattle.sz_spec.specs.Values.{Grid, extent_at, extents_of}
 use Rattle.sz_spec.specs.Shapes.{Site}
 use Rattle.sz_spec.specs.Flows.{Graph}
-use Rattle.sz_spec.specs.Paths.{Step, source_of, is_there, follows, are_joined, is_joined, inputs_of}
+use Rattle.sz_spec.specs.Paths.{Step, source_of, is_there, follows, are_joined, is_joined, inputs_of, compose}
 use Rattle.sz_spec.specs.Sides.{near_side, far_side}
 use Rattle.sz_flow.specs.Executions.{Execution}
+use Rattle.sz_store.specs.Kept.{NodeLineage}
 use Rattle.sz_query.specs.Views.{View, by_map, by_trace, view_site, IsUsable, used_of, traced_by}
-use Rattle.sz_query.specs.Answers.{traced_of, IsStep, AreSteps}
+use Rattle.sz_query.specs.Answers.{answered, traced_of, IsStep, AreSteps}
 use Rattle.sz_query.specs.Laws.{IsFaithful, IsOfNode, AreOfPath}
+use Rattle.sz_query.proofs.Composed.{answers-composed, steps-asked}
 use Rattle.sz_catalogue.specs.Holdings.{Version, arrays_of}
 use Rattle.sz_catalogue.specs.Starts as starts
-use Rattle.sz_catalogue.specs.Rules.{are_distinct, is_list_for, are_lists_for, names_a_store}
+use Rattle.sz_catalogue.specs.Rules.{are_distinct, is_list_for, are_lists_for}
 use Rattle.sz_catalogue.specs.Changes.{outputs, way_of, is_black_box, traced}
-use Rattle.sz_session.specs.Runs.{keep_no_store, IsSoundVersion}
-use Rattle.sz_session.specs.Views.{view_by, IsViewOf, strategy_told, are_there}
-use Rattle.sz_session.proofs.Ways.{way-unstored, way-supported, view_by-site, view_by-usable, view_by-faithful}
+use Rattle.sz_session.specs.Runs.{IsSoundVersion}
+use Rattle.sz_session.specs.Stores.{IsKeptOf}
+use Rattle.sz_session.specs.Views.{view_by, list_of, IsViewOf, strategy_told, are_there}
+use Rattle.sz_session.proofs.Ways.{way-is_listed, way-supported, view_by-site, view_by-usable, view_by-faithful}
 use Rattle.sz_session.proofs.Ways.{view_by-traced, view_by-told}
 use Rattle.sz_session.proofs.Steps.{IsStepOf, step-of, step-input, step-out, step-starts, step-leads}
 
@@ -41,23 +48,16 @@ use Rattle.sz_session.proofs.Steps.{IsStepOf, step-of, step-input, step-out, ste
 
 -- a node has a list of supported strategies, one at least
 pub lists-at : (nodes : List Node) (lists : List (List Strategy)) (n : ℕ) (x : Node)
-    → are_lists_for nodes lists ≡ true → keep_no_store lists ≡ true → slice_get nodes n ≡ Some x
+    → are_lists_for nodes lists ≡ true → slice_get nodes n ≡ Some x
     → (list : List Strategy) × (slice_get lists n ≡ Some list) × (is_list_for x.op list ≡ true)
-    × (names_a_store list ≡ false)
-lists-at [] lists n x fit none at = cc
-lists-at (y ∷ nodes) [] n x fit none at = cc
-lists-at (y ∷ nodes) (list ∷ lists) zero x fit none at =
+lists-at [] lists n x fit at = cc
+lists-at (y ∷ nodes) [] n x fit at = cc
+lists-at (y ∷ nodes) (list ∷ lists) zero x fit at =
     let same : y ≡ x = cc in
     let both = and_parts (is_list_for y.op list) (are_lists_for nodes lists) fit in
-    let stores = and_parts (not (names_a_store list)) (keep_no_store lists) none in
-    (list, refl, ap (λ (z : Node). is_list_for z.op list) (sym same) ∙ both.0, no (names_a_store list) stores.0) where
-      no : (b : Bool) → not b ≡ true → b ≡ false
-      no true h = cc
-      no false h = refl
-lists-at (y ∷ nodes) (list ∷ lists) (suc n) x fit none at =
-    let both = and_parts (is_list_for y.op list) (are_lists_for nodes lists) fit in
-    let stores = and_parts (not (names_a_store list)) (keep_no_store lists) none in
-    lists-at nodes lists n x both.1 stores.1 at
+    (list, refl, ap (λ (z : Node). is_list_for z.op list) (sym same) ∙ both.0)
+lists-at (y ∷ nodes) (list ∷ lists) (suc n) x fit at =
+    let both = and_parts (is_list_for y.op list) (are_lists_for nodes lists) fit in lists-at nodes lists n x both.1 at
 
 -- it is not empty, and its strategies are supported
 pub list-parts : (op : Op) (list : List Strategy) → is_list_for op list ≡ true
@@ -70,22 +70,24 @@ list-parts op list fit =
       at_least : (n : ℕ) → nat_le 1 n ≡ true → 0 < n
       at_least n h = grind (arith, nat_tests)
 
--- the way of a step whose node has such a list
-pub record HasWay (v : Version) (dir : Dir) (s : Step) (op : Op) : Type 0 where
-  pub unstored : is_stored (way_of v dir s) ≡ false
+-- the list of a step whose node has such a list, and the way by it
+pub record HasList (v : Version) (dir : Dir) (s : Step) (op : Op) : Type 0 where
+  pub listed : is_listed (list_of v s) (way_of v dir s) ≡ true
   pub supported : supports op (way_of v dir s) ≡ true
 
-step-way : (v : Version) (dir : Dir) (s : Step) (e : Execution) → IsSoundVersion v → IsStepOf v s e
-    → HasWay v dir s e.site.op
-step-way v dir s e sound h =
-    let known = lists-at v.flow.nodes v.lists s.node h.node sound.run.1.lists sound.no_store h.there in
+step-list : (v : Version) (dir : Dir) (s : Step) (e : Execution) → IsSoundVersion v → IsStepOf v s e
+    → HasList v dir s e.site.op
+step-list v dir s e sound h =
+    let known = lists-at v.flow.nodes v.lists s.node h.node sound.run.1.lists h.there in
     let parts = list-parts h.node.op known.0 known.2 in
-    let here : way_of v dir s ≡ way known.0 dir =
-    ap (λ (o : Option (List Strategy)). way (unwrap_or o []) dir) known.1 in
+    let here : list_of v s ≡ known.0 = ap (λ (o : Option (List Strategy)). unwrap_or o []) known.1 in
     let op : e.site.op ≡ h.node.op = ap (λ (x : Execution). x.site.op) h.is in
     record {
-      unstored = ap is_stored here ∙ way-unstored known.0 dir parts.0 known.3;
-      supported = ap₂ supports op here ∙ way-supported h.node.op known.0 dir parts.0 parts.1;
+      listed =
+          way-is_listed (list_of v s) dir (subst (λ (list : List Strategy). 0 < length list) (sym here) parts.0);
+      supported =
+          ap₂ supports op (ap (λ (list : List Strategy). way list dir) here)
+          ∙ way-supported h.node.op known.0 dir parts.0 parts.1;
     }
 
 -- ---- one view
@@ -94,19 +96,28 @@ step-way v dir s e sound h =
 pub record IsSoundView (v : Version) (dir : Dir) (s : Step) (w : View) : Type 0 where
   pub execution : Execution
   pub step : IsStepOf v s execution
-  pub way : HasWay v dir s execution.site.op
-  pub is : w ≡ view_by (way_of v dir s) execution
+  pub list : HasList v dir s execution.site.op
+  pub kept : Option NodeLineage
+  pub own : IsKeptOf execution (list_of v s) kept
+  pub is : w ≡ view_by (way_of v dir s) execution kept
 
 pub sound-view : (v : Version) (dir : Dir) (s : Step) (w : View) → IsSoundVersion v
     → is_there (source_of v.flow s) ≡ true → IsViewOf v dir s w → IsSoundView v dir s w
 sound-view v dir s w sound there view =
     let h = step-of v s view.0 sound there view.1 in
-    record { execution = view.0; step = h; way = step-way v dir s view.0 sound h; is = view.2 }
+    record {
+      execution = view.0;
+      step = h;
+      list = step-list v dir s view.0 sound h;
+      kept = view.2;
+      own = view.3;
+      is = view.4;
+    }
 
 -- its operator is that of the execution
 pub sound-site : (v : Version) (dir : Dir) (s : Step) (w : View) (h : IsSoundView v dir s w)
     → view_site w ≡ h.execution.site
-sound-site v dir s w h = ap view_site h.is ∙ view_by-site (way_of v dir s) h.execution
+sound-site v dir s w h = ap view_site h.is ∙ view_by-site (way_of v dir s) h.execution h.kept
 
 -- it can be used, and stands for the relation of its operator
 sound-ready : (v : Version) (dir : Dir) (s : Step) (w : View) → IsSoundView v dir s w → IsUsable w
@@ -114,7 +125,8 @@ sound-ready v dir s w h =
     let e = h.execution in
     let ins : extents_of e.inputs ≡ e.site.ins =
     ap (λ (x : Execution). extents_of x.inputs) h.step.is ∙ sym (ap (λ (x : Execution). x.site.ins) h.step.is) in
-    subst IsUsable (sym h.is) (view_by-usable (way_of v dir s) e h.way.supported ins)
+    subst IsUsable (sym h.is)
+    (view_by-usable (list_of v s) (way_of v dir s) e h.kept h.list.listed h.list.supported ins h.own)
 
 sound-faithful : (v : Version) (dir : Dir) (s : Step) (w : View) → IsSoundView v dir s w
     → IsFaithful w (inputs_of v.flow (arrays_of v.base) (outputs v) s.node)
@@ -123,7 +135,7 @@ sound-faithful v dir s w h =
     let gs = inputs_of v.flow (arrays_of v.base) (outputs v) s.node in
     let own : e.inputs ≡ gs = ap (λ (x : Execution). x.inputs) h.step.is in
     subst (λ (x : View). IsFaithful x gs) (sym h.is)
-    (view_by-faithful (way_of v dir s) e gs h.way.supported own)
+    (view_by-faithful (list_of v s) (way_of v dir s) e h.kept gs h.list.listed h.list.supported own h.own)
 
 -- it is one of the step's node
 pub sound-of_node : (v : Version) (dir : Dir) (s : Step) (w : View) → IsSoundView v dir s w
@@ -213,6 +225,21 @@ views-steps v dir (s ∷ t ∷ path) (w ∷ x ∷ views) from sound joined zip i
       views-steps v dir (t ∷ path) (x ∷ views) (far_side dir (view_site w) s.input) sound outer.1 zip.1 leads,
     )
 
+-- the cells that are named are a set
+pub named-set : (e : Extent) (cells : List Cell) → IsSetOf e (named_in e cells)
+named-set e cells = record { extent = refl; rising = sets-rising e (λ c. list_any (is_same c) cells) }
+
+-- so the answer by the views, of a set of the shape in which the path starts, is the composed relation
+pub views-answer : (v : Version) (dir : Dir) (path : List Step) (views : List View) (set : Cells) → IsSoundVersion v
+    → are_joined dir v.flow path ≡ true → AreSound v dir path views → set.extent ≡ starts.path_start dir v path
+    → IsSetOf set.extent set
+    → answered dir views (map (λ (s : Step). s.input) path) set
+    ≡ compose dir v.flow (arrays_of v.base) (outputs v) path set
+views-answer v dir path views set sound joined zip is all =
+    answers-composed dir v.flow (arrays_of v.base) (outputs v) path views set (views-of_path v dir path views zip)
+    (steps-asked dir views (map (λ (s : Step). s.input) path) set
+    (views-steps v dir path views set.extent sound joined zip is) all)
+
 -- what is told of the steps is their ways
 pub views-told : (v : Version) (dir : Dir) (path : List Step) (views : List View) → AreSound v dir path views
     → map strategy_told (map used_of views) ≡ map (way_of v dir) path
@@ -222,7 +249,8 @@ views-told v dir (s ∷ path) [] zip = absurd zip
 views-told v dir (s ∷ path) (w ∷ views) zip =
     let h = zip.0 in
     ap₂ (λ (x : Strategy) (xs : List Strategy). x ∷ xs)
-    (ap (λ (x : View). strategy_told (used_of x)) h.is ∙ view_by-told (way_of v dir s) h.execution h.way.unstored)
+    (ap (λ (x : View). strategy_told (used_of x)) h.is
+    ∙ view_by-told (list_of v s) (way_of v dir s) h.execution h.kept h.list.listed h.own)
     (views-told v dir path views zip.1)
 
 -- what a step traces: the output of its node where its way is black box
@@ -232,7 +260,7 @@ step-traced v dir s w sound h =
     let e = h.execution in
     let way = way_of v dir s in
     let shape : e.site.out ≡ extent_at (starts.outputs_of v) s.node = step-starts v s e Back sound h.step in
-    ap traced_by h.is ∙ view_by-traced way e h.way.unstored
+    ap traced_by h.is ∙ view_by-traced (list_of v s) way e h.kept h.list.listed h.own
     ∙ ap (λ (x : Extent). if is_black_box way then size_of x else 0) shape
 
 -- and all of them

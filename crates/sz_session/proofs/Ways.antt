@@ -1,25 +1,31 @@
--- The way of a step by a list of strategies none of which keeps a store: the mapping of its operator, or a trace.
+-- The way of a step by a list of strategies, and the view for it: the mapping of its operator, a trace, or a store.
 --
--- The key idea: a way by a list is in the list, so what the list's strategies are, it is.
-use Rattle.std.proofs.Common.{◌≡◌, ◌<◌, List, [], ◌∷◌, length, Bool, true, false, not, refl, sym, ap, ◌∙◌, subst}
+-- The key idea: a way by a list is in the list, so what the list's strategies are, it is; and where it keeps a store,
+-- one is kept for the list.
+use Rattle.std.proofs.Common.{◌≡◌, ◌<◌, List, [], ◌∷◌, map, length, Bool, true, false, refl, sym, ap, ◌∙◌, subst}
+use Rattle.std.proofs.Common.{Option, Some, None, true≢false}
 use Rattle.std.proofs.Common.{◌≤◌, eqb-true, inl, inr, arith}
 use Rattle.std.specs.Prelude.{◌==◌, ◌||◌, if◌then◌else◌}
-use Rattle.std.specs.List.{list_all, list_any}
+use Rattle.std.specs.List.{All, list_all, list_any}
 use Rattle.std.proofs.lemmas.Bool.{and_parts, cases_Bool}
+use Rattle.std.proofs.lemmas.List.Elements.{All-head, All-tail}
 use Rattle.sz_spec.specs.declared.op.Op.{Op}
 use Rattle.sz_spec.specs.declared.modes.Dir.{Dir}
 use Rattle.sz_spec.specs.declared.modes.Strategy.{Strategy}
 use Rattle.sz_spec.specs.declared.modes.Strategy.TheVariants as strategy
 use Rattle.sz_cells.specs.Extent.{size_of}
 use Rattle.sz_spec.specs.Modes.{supports, is_stored, number_of, is_listed, way}
-use Rattle.sz_spec.specs.Shapes.{Site}
 use Rattle.sz_spec.specs.Values.{Grid, extents_of}
 use Rattle.sz_spec.proofs.Ways.{number-apart, listed-is_in, way-listed}
 use Rattle.sz_flow.specs.Executions.{Execution}
-use Rattle.sz_query.specs.Views.{view_site, IsUsable, traced_by, used_of}
+use Rattle.sz_region.specs.Images.{measure_of}
+use Rattle.sz_region.specs.Laws.{IsTheRelation}
+use Rattle.sz_store.specs.Kept.{Holding, Keep, NodeLineage, stored_in, holding_for, holding_stands}
+use Rattle.sz_query.specs.Views.{View, by_store, view_site, HasStore, IsUsable, traced_by, used_of}
 use Rattle.sz_query.specs.Laws.{IsFaithful}
 use Rattle.sz_catalogue.specs.Changes.{is_black_box}
-use Rattle.sz_session.specs.Views.{view_by, strategy_told}
+use Rattle.sz_session.specs.Stores.{AreStoresFor, IsKeptOf}
+use Rattle.sz_session.specs.Views.{view_kept, view_by, strategy_told}
 
 -- the strategy at the front of a list is the one that is looked for, or that is further on
 listed-cases : (t : Strategy) (list : List Strategy) (w : Strategy) → is_listed (t ∷ list) w ≡ true
@@ -49,98 +55,160 @@ listed-fails p (t ∷ list) w none listed =
       or_parts true b h = cc
       or_parts false b h = (refl, h)
 
-way-is_listed : (list : List Strategy) (dir : Dir) → 0 < length list → is_listed list (way list dir) ≡ true
+pub way-is_listed : (list : List Strategy) (dir : Dir) → 0 < length list → is_listed list (way list dir) ≡ true
 way-is_listed list dir some = (listed-is_in list (way list dir)).1 (way-listed list dir some)
-
--- the way by a list without stores keeps none
-pub way-unstored : (list : List Strategy) (dir : Dir) → 0 < length list → list_any is_stored list ≡ false
-    → is_stored (way list dir) ≡ false
-way-unstored list dir some none = listed-fails is_stored list (way list dir) none (way-is_listed list dir some)
 
 -- the way by a list of supported strategies is supported
 pub way-supported : (op : Op) (list : List Strategy) (dir : Dir) → 0 < length list
     → list_all (supports op) list ≡ true → supports op (way list dir) ≡ true
 way-supported op list dir some all = listed-passes (supports op) list (way list dir) all (way-is_listed list dir some)
 
--- ---- the view for each way, of which each table has a line
+-- ---- the stores of a list
+
+-- a stored strategy of a list is among its stored ones
+listed-stored : (t : Strategy) (list : List Strategy) → is_stored t ≡ true → is_listed list t ≡ true
+    → is_listed (stored_in list) t ≡ true
+listed-stored t [] stored listed = listed
+listed-stored t (u ∷ list) stored listed =
+    elim (cases_Bool (number_of u == number_of t)) [
+      | inl same ↦
+          let is : u ≡ t = number-apart u t (eqb-true (number_of u) (number_of t) same) in
+          let own : is_stored u ≡ true = ap is_stored is ∙ stored in
+          rw own (ap (λ (b : Bool). b || is_listed (stored_in list) t) same)
+      | inr other ↦
+          let rest = listed-stored t list stored (sym (ap (λ (b : Bool). b || is_listed list t) other) ∙ listed) in
+          elim (cases_Bool (is_stored u)) [
+            | inl own ↦ rw own (ap (λ (b : Bool). b || is_listed (stored_in list) t) other ∙ rest)
+            | inr none ↦ rw none rest
+          ]
+    ]
+
+-- what all stores are, the store of a strategy that has one is
+holding-is : (P : Holding → Type 0) (t : Strategy) (keeps : List Keep) → All (λ f. P f.holding) keeps
+    → is_listed (map (λ f. f.strategy) keeps) t ≡ true → P (holding_for t keeps)
+holding-is P t [] all listed = cc
+holding-is P t (f ∷ keeps) all listed =
+    elim (cases_Bool (number_of f.strategy == number_of t)) [
+      | inl here ↦ rw here (All-head (λ (g : Keep). P g.holding) f keeps all)
+      | inr other ↦
+          rw other
+          (holding-is P t keeps (All-tail (λ (g : Keep). P g.holding) f keeps all)
+          (sym (ap (λ (b : Bool). b || is_listed (map (λ g. g.strategy) keeps) t) other) ∙ listed))
+    ]
+
+-- of a list that has a stored strategy stores are kept
+store-kept : (e : Execution) (list : List Strategy) (kept : Option NodeLineage) (t : Strategy)
+    → is_listed list t ≡ true → is_stored t ≡ true → IsKeptOf e list kept
+    → (k : NodeLineage) × (kept ≡ Some k) × AreStoresFor e list k
+store-kept e list None t listed stored own =
+    absurd (true≢false (sym stored ∙ listed-fails is_stored list t own listed))
+store-kept e list (Some k) t listed stored own = (k, refl, own.1)
+
+-- ---- the view for each way
+
+-- a way is the mapping, black box, or by a store
+by-ways : (P : Strategy → Type 0) → P strategy.Map → P strategy.BlackBox
+    → ((t : Strategy) → is_stored t ≡ true → P t) → (s : Strategy) → P s
+by-ways P map black stored strategy.Map = map
+by-ways P map black stored strategy.FullOneB = stored strategy.FullOneB refl
+by-ways P map black stored strategy.FullOneF = stored strategy.FullOneF refl
+by-ways P map black stored strategy.FullManyB = stored strategy.FullManyB refl
+by-ways P map black stored strategy.FullManyF = stored strategy.FullManyF refl
+by-ways P map black stored strategy.PayOne = stored strategy.PayOne refl
+by-ways P map black stored strategy.PayMany = stored strategy.PayMany refl
+by-ways P map black stored strategy.CompOne = stored strategy.CompOne refl
+by-ways P map black stored strategy.CompMany = stored strategy.CompMany refl
+by-ways P map black stored strategy.BlackBox = black
+
+-- what is so of the views by a store is so of the view for a stored strategy, which is not black box
+by-store : (e : Execution) (kept : Option NodeLineage) (t : Strategy) → is_stored t ≡ true
+    → (view_by t e kept ≡ view_kept t e kept) × (is_black_box t ≡ false)
+by-store e kept strategy.Map stored = cc
+by-store e kept strategy.FullOneB stored = (refl, refl)
+by-store e kept strategy.FullOneF stored = (refl, refl)
+by-store e kept strategy.FullManyB stored = (refl, refl)
+by-store e kept strategy.FullManyF stored = (refl, refl)
+by-store e kept strategy.PayOne stored = (refl, refl)
+by-store e kept strategy.PayMany stored = (refl, refl)
+by-store e kept strategy.CompOne stored = (refl, refl)
+by-store e kept strategy.CompMany stored = (refl, refl)
+by-store e kept strategy.BlackBox stored = cc
+
+-- the view for a stored strategy of the list
+store-view : (e : Execution) (list : List Strategy) (kept : Option NodeLineage) (t : Strategy)
+    → is_listed list t ≡ true → is_stored t ≡ true → IsKeptOf e list kept
+    → (k : NodeLineage) × (view_by t e kept ≡ by_store e.site k t) × AreStoresFor e list k
+store-view e list kept t listed stored own =
+    let k = store-kept e list kept t listed stored own in
+    (k.0, (by-store e kept t stored).0 ∙ ap (view_kept t e) k.1, k.2)
 
 -- its operator is that of the execution
-pub view_by-site : (s : Strategy) (e : Execution) → view_site (view_by s e) ≡ e.site
-view_by-site strategy.Map e = refl
-view_by-site strategy.FullOneB e = refl
-view_by-site strategy.FullOneF e = refl
-view_by-site strategy.FullManyB e = refl
-view_by-site strategy.FullManyF e = refl
-view_by-site strategy.PayOne e = refl
-view_by-site strategy.PayMany e = refl
-view_by-site strategy.CompOne e = refl
-view_by-site strategy.CompMany e = refl
-view_by-site strategy.BlackBox e = refl
+pub view_by-site : (s : Strategy) (e : Execution) (kept : Option NodeLineage) → view_site (view_by s e kept) ≡ e.site
+view_by-site s e kept =
+    by-ways (λ t. view_site (view_by t e kept) ≡ e.site) refl refl
+    (λ t stored. ap view_site (by-store e kept t stored).0 ∙ at t kept) s where
+      at : (t : Strategy) (k : Option NodeLineage) → view_site (view_kept t e k) ≡ e.site
+      at t None = refl
+      at t (Some k) = refl
 
--- it can be used where the way is supported
-pub view_by-usable : (s : Strategy) (e : Execution) → supports e.site.op s ≡ true → extents_of e.inputs ≡ e.site.ins
-    → IsUsable (view_by s e)
-view_by-usable strategy.Map e supported ins = supported
-view_by-usable strategy.FullOneB e supported ins = ins
-view_by-usable strategy.FullOneF e supported ins = ins
-view_by-usable strategy.FullManyB e supported ins = ins
-view_by-usable strategy.FullManyF e supported ins = ins
-view_by-usable strategy.PayOne e supported ins = ins
-view_by-usable strategy.PayMany e supported ins = ins
-view_by-usable strategy.CompOne e supported ins = ins
-view_by-usable strategy.CompMany e supported ins = ins
-view_by-usable strategy.BlackBox e supported ins = ins
+-- it can be used where the way is a supported one of the list, for which stores are kept
+pub view_by-usable : (list : List Strategy) (s : Strategy) (e : Execution) (kept : Option NodeLineage)
+    → is_listed list s ≡ true → supports e.site.op s ≡ true → extents_of e.inputs ≡ e.site.ins
+    → IsKeptOf e list kept → IsUsable (view_by s e kept)
+view_by-usable list s e kept listed supported ins own =
+    by-ways (λ t. is_listed list t ≡ true → supports e.site.op t ≡ true → IsUsable (view_by t e kept))
+    (λ there mapped. mapped) (λ there any. ins)
+    (λ t stored there any.
+    let k = store-view e list kept t there stored own in
+    let store : HasStore e.site k.0 t = record {
+      site = k.2.site;
+      whole = k.2.whole;
+      stored = stored;
+      listed = ap (λ (ts : List Strategy). is_listed ts t) k.2.listed ∙ there;
+    } in
+    subst IsUsable (sym k.1) store) s listed supported
 
 -- and then it stands for the relation of its operator
-pub view_by-faithful : (s : Strategy) (e : Execution) (gs : List Grid) → supports e.site.op s ≡ true
-    → e.inputs ≡ gs → IsFaithful (view_by s e) gs
-view_by-faithful strategy.Map e gs supported own = supported
-view_by-faithful strategy.FullOneB e gs supported own = own
-view_by-faithful strategy.FullOneF e gs supported own = own
-view_by-faithful strategy.FullManyB e gs supported own = own
-view_by-faithful strategy.FullManyF e gs supported own = own
-view_by-faithful strategy.PayOne e gs supported own = own
-view_by-faithful strategy.PayMany e gs supported own = own
-view_by-faithful strategy.CompOne e gs supported own = own
-view_by-faithful strategy.CompMany e gs supported own = own
-view_by-faithful strategy.BlackBox e gs supported own = own
+pub view_by-faithful : (list : List Strategy) (s : Strategy) (e : Execution) (kept : Option NodeLineage)
+    (gs : List Grid) → is_listed list s ≡ true → supports e.site.op s ≡ true → e.inputs ≡ gs → IsKeptOf e list kept
+    → IsFaithful (view_by s e kept) gs
+view_by-faithful list s e kept gs listed supported same own =
+    by-ways (λ t. is_listed list t ≡ true → supports e.site.op t ≡ true → IsFaithful (view_by t e kept) gs)
+    (λ there mapped. mapped) (λ there any. same)
+    (λ t stored there any.
+    let k = store-view e list kept t there stored own in
+    let R : List Grid → Holding → Type 0 = λ xs h. IsTheRelation (measure_of e.site xs) (holding_stands e.site h) in
+    let found = ap (λ (ts : List Strategy). is_listed ts t) k.2.stored ∙ listed-stored t list stored there in
+    subst (λ v. IsFaithful v gs) (sym k.1)
+    (subst (λ (xs : List Grid). R xs (holding_for t k.0.stores)) same
+    (holding-is (R e.inputs) t k.0.stores k.2.each found))) s listed supported
 
--- it is told as traced by no more than its output, and where it keeps no store by all of that exactly where the way is
--- black box
-pub view_by-few : (s : Strategy) (e : Execution) → traced_by (view_by s e) ≤ size_of e.site.out
-view_by-few strategy.Map e = omega arith
-view_by-few strategy.FullOneB e = omega arith
-view_by-few strategy.FullOneF e = omega arith
-view_by-few strategy.FullManyB e = omega arith
-view_by-few strategy.FullManyF e = omega arith
-view_by-few strategy.PayOne e = omega arith
-view_by-few strategy.PayMany e = omega arith
-view_by-few strategy.CompOne e = omega arith
-view_by-few strategy.CompMany e = omega arith
-view_by-few strategy.BlackBox e = omega arith
+-- it is told as traced by no more than its output
+pub view_by-few : (s : Strategy) (e : Execution) (kept : Option NodeLineage)
+    → traced_by (view_by s e kept) ≤ size_of e.site.out
+view_by-few s e kept =
+    by-ways (λ t. traced_by (view_by t e kept) ≤ size_of e.site.out) (omega arith) (omega arith)
+    (λ t stored. omega (arith, ap traced_by (by-store e kept t stored).0, at t kept)) s where
+      at : (t : Strategy) (k : Option NodeLineage) → traced_by (view_kept t e k) ≤ size_of e.site.out
+      at t None = omega arith
+      at t (Some k) = omega arith
 
-pub view_by-traced : (s : Strategy) (e : Execution) → is_stored s ≡ false
-    → traced_by (view_by s e) ≡ (if is_black_box s then size_of e.site.out else 0)
-view_by-traced strategy.Map e none = refl
-view_by-traced strategy.FullOneB e none = cc
-view_by-traced strategy.FullOneF e none = cc
-view_by-traced strategy.FullManyB e none = cc
-view_by-traced strategy.FullManyF e none = cc
-view_by-traced strategy.PayOne e none = cc
-view_by-traced strategy.PayMany e none = cc
-view_by-traced strategy.CompOne e none = cc
-view_by-traced strategy.CompMany e none = cc
-view_by-traced strategy.BlackBox e none = refl
+-- and by all of that exactly where the way is black box
+pub view_by-traced : (list : List Strategy) (s : Strategy) (e : Execution) (kept : Option NodeLineage)
+    → is_listed list s ≡ true → IsKeptOf e list kept
+    → traced_by (view_by s e kept) ≡ (if is_black_box s then size_of e.site.out else 0)
+view_by-traced list s e kept listed own =
+    by-ways (λ t. is_listed list t ≡ true
+    → traced_by (view_by t e kept) ≡ (if is_black_box t then size_of e.site.out else 0)) (λ there. refl) (λ there. refl)
+    (λ t stored there.
+    ap traced_by (store-view e list kept t there stored own).1
+    ∙ sym (ap (λ (b : Bool). if b then size_of e.site.out else 0) (by-store e kept t stored).1)) s listed
 
 -- what is told of a step by it is the way
-pub view_by-told : (s : Strategy) (e : Execution) → is_stored s ≡ false → strategy_told (used_of (view_by s e)) ≡ s
-view_by-told strategy.Map e none = refl
-view_by-told strategy.FullOneB e none = cc
-view_by-told strategy.FullOneF e none = cc
-view_by-told strategy.FullManyB e none = cc
-view_by-told strategy.FullManyF e none = cc
-view_by-told strategy.PayOne e none = cc
-view_by-told strategy.PayMany e none = cc
-view_by-told strategy.CompOne e none = cc
-view_by-told strategy.CompMany e none = cc
-view_by-told strategy.BlackBox e none = refl
+pub view_by-told : (list : List Strategy) (s : Strategy) (e : Execution) (kept : Option NodeLineage)
+    → is_listed list s ≡ true → IsKeptOf e list kept → strategy_told (used_of (view_by s e kept)) ≡ s
+view_by-told list s e kept listed own =
+    by-ways (λ t. is_listed list t ≡ true → strategy_told (used_of (view_by t e kept)) ≡ t) (λ there. refl)
+    (λ there. refl)
+    (λ t stored there. ap (λ (v : View). strategy_told (used_of v)) (store-view e list kept t there stored own).1) s
+    listed

@@ -24,6 +24,7 @@ abbrev pub traced_along : Holdings → Command → ℕ
 traced_along c (command.Ask n dir path named) = traced (version_of c n) dir path
 traced_along c (command.Explain n dir path named) = traced (version_of c n) dir path
 traced_along c (command.Array name array) = 0
+traced_along c (command.Csv name array) = 0
 traced_along c (command.Layers name array) = 0
 traced_along c (command.Flow name flow) = 0
 traced_along c (command.Strategy name node list) = 0

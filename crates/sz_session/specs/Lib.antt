@@ -6,5 +6,6 @@ pub mod Serving
 pub mod Statuses
 pub mod Commands
 pub mod Runs
+pub mod Stores
 pub mod Views
 pub mod Laws

@@ -1,8 +1,9 @@
 -- What a session has said, while it goes on and when it ends. Nothing is claimed of bytes that the
 -- source or the station does not tell.
-use Rattle.std.specs.Prelude.{◌≡◌, ℕ, ◌+◌, ◌≤◌, ◌<◌, List, [], ◌∷◌, length, take, drop}
-use Rattle.std.specs.Prelude.{Bool, false, Option, Some, None, ⊤, codes}
-use Rattle.std.specs.Str.{bytes_eq}
+use Rattle.std.specs.Prelude.{◌≡◌, ℕ, ◌+◌, ◌≤◌, ◌<◌, List, [], length, take, drop}
+use Rattle.std.specs.Prelude.{Bool, true, false, Option, Some, None, ⊤, ◌==◌}
+use Rattle.std.specs.List.{filter}
+use Rattle.std.specs.Option.{option_map_or}
 use Rattle.sz_outside.specs.Outside.{Says, SaysPart}
 use Rattle.sz_catalogue.specs.declared.reply.Reply.{Reply}
 use Rattle.sz_catalogue.specs.Holdings.{Holdings, no_holdings}
@@ -11,11 +12,67 @@ use Rattle.sz_catalogue.specs.Seen.{response_of}
 use Rattle.sz_session.specs.Lines.{lines_of}
 use Rattle.sz_session.specs.Transcript.{replies_to, transcript, whole_replies}
 use Rattle.sz_session.specs.Moments.{Moment, moment_before, told_in, moment_after, AreAlike}
+use Rattle.sz_gen.specs.Session.{load_text}
+use Rattle.sz_gen.specs.Summary.{summary_line}
+use Rattle.sz_words.specs.Job.{job_of}
+use Rattle.sz_words.specs.declared.Job.{Job}
+use Rattle.sz_words.specs.declared.JobMode.{JobMode}
+use Rattle.sz_words.specs.declared.JobMode.TheVariants.{Play, Init, Run, Check, Load}
 
--- the words are the one word `play`
+-- ---- what the words ask for
+
+-- The modes that there are: those on a log are still to come.
+abbrev pub is_served : JobMode → Bool
+is_served Play = true
+is_served Init = false
+is_served Run = false
+is_served Check = false
+is_served Load = true
+
+abbrev pub is_play : JobMode → Bool
+is_play Play = true
+is_play Init = false
+is_play Run = false
+is_play Check = false
+is_play Load = false
+
+abbrev pub is_load : JobMode → Bool
+is_load Play = false
+is_load Init = false
+is_load Run = false
+is_load Check = false
+is_load Load = true
+
+-- The words are accepted, and their mode passes a test.
+abbrev pub are_for : (JobMode → Bool) → List (List ℕ) → Bool
+are_for test words = option_map_or (λ (job : Job). test job.mode) (job_of words) false
+
+abbrev pub are_served : List (List ℕ) → Bool
+are_served words = are_for is_served words
+
 abbrev pub are_play : List (List ℕ) → Bool
-are_play (word ∷ []) = bytes_eq word (codes "play")
-are_play _ = false
+are_play words = are_for is_play words
+
+abbrev pub are_load : List (List ℕ) → Bool
+are_load words = are_for is_load words
+
+-- ---- the generated session
+
+-- how many lines end in these bytes
+abbrev pub lines_in : List ℕ → ℕ
+lines_in bytes = length (filter (λ b. b == 10) bytes)
+
+-- The line that sums up the session of a job's seed and side, from nothing held: its number of
+-- lines is that of its replies, and its digest is that of all of them.
+abbrev pub load_line : Job → List ℕ
+load_line job =
+    let replies = transcript no_holdings (load_text job.seed job.side) in
+    summary_line job.seed job.side (lines_in replies) replies
+
+-- Where the words ask for the generated session, its line is such a one.
+abbrev pub IfLoad : Option Job → (List ℕ → Type 0) → Type 0
+IfLoad None IsSuch = ⊤
+IfLoad (Some job) IsSuch = is_load job.mode ≡ true → IsSuch (load_line job)
 
 -- ---- how a session ends
 

@@ -1,11 +1,13 @@
 -- The status that a session ends with, and what it tells.
-use Rattle.std.specs.Prelude.{ℕ, List, Option, Result, Ok, Err, ⊤}
-use Rattle.sz_outside.specs.Outside.{Rose, Stood}
+use Rattle.std.specs.Prelude.{ℕ, List, [], Option, Result, Ok, Err, ⊤}
+use Rattle.sz_outside.specs.Outside.{Rose, Stood, Says, SaysPart}
 use Rattle.sz_session.specs.Serving.{Done, SaidOfRead, SaidInPart, SaidInLines, SaidToLimit}
 use Rattle.sz_session.specs.declared.feed.Halt.{Halt}
 use Rattle.sz_session.specs.declared.feed.Halt.TheVariants as halt
 use Rattle.sz_session.specs.declared.serving.Status.{Status}
 use Rattle.sz_session.specs.declared.serving.Status.TheVariants as status
+use Rattle.sz_words.specs.declared.WordsFault.{WordsFault}
+use Rattle.sz_words.specs.declared.WordsFault.TheVariants as fault
 
 abbrev pub halt_status : Halt → Status
 halt_status halt.SayFault = status.SayFault
@@ -14,6 +16,11 @@ halt_status halt.NoMemory = status.NoMemory
 abbrev pub end_status : Result (Unit {0}) Halt → Status
 end_status (Ok u) = status.Done
 end_status (Err s) = halt_status s
+
+-- words that ask for no job
+abbrev pub words_status : WordsFault → Status
+words_status fault.Usage = status.Usage
+words_status fault.NoMemory = status.NoMemory
 
 -- What was read and said by then, for each status that a session of lines ends with.
 abbrev pub Ends : Status → ℕ → Option (List ℕ) → Option (List ℕ) → Option (List ℕ) → Option (List ℕ)
@@ -36,3 +43,12 @@ AreCounted status.ReadFault reads_before reads says_before says = Rose reads_bef
 AreCounted status.SayFault reads_before reads says_before says = Rose says_before says
 AreCounted status.NoMemory reads_before reads says_before says = ⊤
 AreCounted status.InputLimit reads_before reads says_before says = ⊤
+
+-- What was said by then of its line, for each status that the generated session ends with.
+abbrev pub EndsLoad : Status → List ℕ → Option (List ℕ) → Option (List ℕ) → Type 0
+EndsLoad status.Done line said_before said = Says said_before said line
+EndsLoad status.Usage line said_before said = ⊥
+EndsLoad status.ReadFault line said_before said = ⊥
+EndsLoad status.SayFault line said_before said = SaysPart said_before said line
+EndsLoad status.NoMemory line said_before said = Says said_before said []
+EndsLoad status.InputLimit line said_before said = ⊥

@@ -1,5 +1,5 @@
 -- How the steps of a path are answered: the view of each step's node.
-use Rattle.std.specs.Prelude.{◌≡◌, List, Bool, Some}
+use Rattle.std.specs.Prelude.{◌≡◌, List, [], Bool, Option, Some, None, unwrap_or}
 use Rattle.std.specs.List.{list_all, slice_get}
 use Rattle.sz_spec.specs.declared.modes.Dir.{Dir}
 use Rattle.sz_spec.specs.declared.modes.Strategy.{Strategy}
@@ -7,32 +7,45 @@ use Rattle.sz_spec.specs.declared.modes.Strategy.TheVariants as strategy
 use Rattle.sz_spec.specs.Flows.{Graph}
 use Rattle.sz_spec.specs.Paths.{Step, source_of, is_there}
 use Rattle.sz_flow.specs.Executions.{Execution}
+use Rattle.sz_store.specs.Kept.{NodeLineage}
 use Rattle.sz_query.specs.declared.used.Used.{Used}
 use Rattle.sz_query.specs.declared.used.Used.TheVariants as used
-use Rattle.sz_query.specs.Views.{View, by_map, by_trace}
+use Rattle.sz_query.specs.Views.{View, by_map, by_trace, by_store}
 use Rattle.sz_catalogue.specs.Holdings.{Version}
 use Rattle.sz_catalogue.specs.Changes.{way_of}
 use Rattle.sz_session.specs.Runs.{executions_of}
+use Rattle.sz_session.specs.Stores.{IsKeptOf}
 
--- The view of an execution for each way that a step can go. Stores are not kept yet, and no list
--- has a strategy that keeps one: until then it would be a trace.
-abbrev pub view_by : Strategy → Execution → View
-view_by strategy.Map e = by_map e.site
-view_by strategy.FullOneB e = by_trace e.site e.inputs
-view_by strategy.FullOneF e = by_trace e.site e.inputs
-view_by strategy.FullManyB e = by_trace e.site e.inputs
-view_by strategy.FullManyF e = by_trace e.site e.inputs
-view_by strategy.PayOne e = by_trace e.site e.inputs
-view_by strategy.PayMany e = by_trace e.site e.inputs
-view_by strategy.CompOne e = by_trace e.site e.inputs
-view_by strategy.CompMany e = by_trace e.site e.inputs
-view_by strategy.BlackBox e = by_trace e.site e.inputs
+-- the view of an execution by the store of a strategy, where one is kept; a list that names the
+-- strategy always has one, and where there were none it would be a trace
+abbrev pub view_kept : Strategy → Execution → Option NodeLineage → View
+view_kept s e None = by_trace e.site e.inputs
+view_kept s e (Some kept) = by_store e.site kept s
 
--- the view by which a step is answered: that of the execution of its node, for the way of the step
+-- The view of an execution, with what is kept of it, for each way that a step can go.
+abbrev pub view_by : Strategy → Execution → Option NodeLineage → View
+view_by strategy.Map e kept = by_map e.site
+view_by strategy.FullOneB e kept = view_kept strategy.FullOneB e kept
+view_by strategy.FullOneF e kept = view_kept strategy.FullOneF e kept
+view_by strategy.FullManyB e kept = view_kept strategy.FullManyB e kept
+view_by strategy.FullManyF e kept = view_kept strategy.FullManyF e kept
+view_by strategy.PayOne e kept = view_kept strategy.PayOne e kept
+view_by strategy.PayMany e kept = view_kept strategy.PayMany e kept
+view_by strategy.CompOne e kept = view_kept strategy.CompOne e kept
+view_by strategy.CompMany e kept = view_kept strategy.CompMany e kept
+view_by strategy.BlackBox e kept = by_trace e.site e.inputs
+
+-- the list of a step's node, as it was when the version was started
+abbrev pub list_of : Version → Step → List Strategy
+list_of v s = unwrap_or (slice_get v.lists s.node) []
+
+-- The view by which a step is answered: that of the execution of its node, with what is kept of it
+-- for the node's list, for the way of the step.
 abbrev pub IsViewOf : Version → Dir → Step → View → Type 0
 IsViewOf v dir s view =
     (e : Execution) × (slice_get (executions_of v) s.node ≡ Some e)
-    × (view ≡ view_by (way_of v dir s) e)
+    × (kept : Option NodeLineage) × IsKeptOf e (list_of v s) kept
+    × (view ≡ view_by (way_of v dir s) e kept)
 
 -- the strategy that is told for how a step went
 abbrev pub strategy_told : Used → Strategy

@@ -25,11 +25,6 @@ use sz_outside::{Failed, Gate, Station};
 use sz_script::LINE_LIMIT;
 use sz_spec::Tally;
 
-/// How many workers and askers a session has: they are to come, and nothing calls on them yet.
-const WORKERS: u32 = 1;
-
-const ASKERS: u32 = 1;
-
 /// What is held, and what was read of the line that has not ended.
 #[derive(Drop)]
 pub struct Feed {
@@ -104,11 +99,13 @@ impl From<Stop> for Halt {
 }
 
 impl Feed {
-    /// Nothing was read, and nothing is held.
-    pub fn new(alloc: Global) -> Result<Feed, NoMemory>
+    /// Nothing was read, and nothing is held. The session has so many workers and askers.
+    pub fn new(alloc: Global, workers: u32, askers: u32) -> Result<Feed, NoMemory>
+        requires workers { (1 ≤ workers) × (workers ≤ 64) }
+        requires askers { (1 ≤ askers) × (askers ≤ 64) }
         ensures { IfOk result (λ f. f ≡ moment_before no_holdings) }
     {
-        let session = Session::fresh(alloc, WORKERS, ASKERS)?;
+        let session = Session::fresh(alloc, workers, askers)?;
         Ok(Feed {
             session,
             pending: Vec::new(alloc),

@@ -7,15 +7,16 @@ ghost use Rattle.sz_cells.specs.Extent.{holds};
 ghost use Rattle.sz_cells.specs.Cells.{named_in};
 ghost use Rattle.sz_spec.specs.Paths.{is_joined, source_of, is_there};
 ghost use Rattle.sz_flow.specs.Executions.{execution_of};
-ghost use Rattle.sz_query.specs.Views.{view_of, by_map, by_trace, traced_by};
+ghost use Rattle.sz_query.specs.Views.{view_of, by_map, by_trace, by_store, traced_by};
 ghost use Rattle.sz_query.specs.Answers.{traced_of};
 ghost use Rattle.sz_catalogue.specs.Starts.{step_start, path_start, cell_named};
 ghost use Rattle.sz_catalogue.specs.Rules.{has_named_cell};
 ghost use Rattle.sz_catalogue.specs.Changes.{cells_answered, way_of, traced};
-ghost use Rattle.sz_session.specs.Runs.{IsSoundVersion, executions_of};
-ghost use Rattle.sz_session.specs.Views.{view_by, IsViewOf, strategy_told, are_there};
+ghost use Rattle.sz_session.specs.Runs.{IsSoundVersion};
+ghost use Rattle.sz_session.specs.Stores.{IsTrailOf, lineage_of};
+ghost use Rattle.sz_session.specs.Views.{view_by, view_kept, IsViewOf, strategy_told, are_there};
 
-use crate::runs::RunList;
+use crate::runs::VersionRun;
 use std::alloc::Global;
 use std::sync::Arc;
 use sz_catalogue::HeldVersion;
@@ -24,21 +25,22 @@ use sz_flow::NodeRun;
 use sz_query::{Found, NodeRunRef, NodeView, answer};
 use sz_script::{NamedCell, NamedCells, Path, PathStep};
 use sz_spec::{Array, ArrayList, Dir, Strategy, Tally, way};
+use sz_store::NodeStore;
 
 /// What is found along a path from some named cells, each step by the view of its node for the way
 /// of the step. The tally rises by the output sizes of the steps that are told as traced. Takes
 /// time by these and by the cells that the other steps touch.
 pub(crate) fn find(
     alloc: Global,
-    version: &HeldVersion<RunList>,
-    runs: &[NodeRun],
+    version: &HeldVersion<VersionRun>,
+    run: &VersionRun,
     dir: Dir,
     path: &Path,
     named: &NamedCells,
     tally: &mut Tally,
 ) -> Result<Found, NoMemory>
     requires sound { IsSoundVersion version.now }
-    requires runs { map execution_of runs.now ≡ executions_of version.now }
+    requires run { IsTrailOf version.now run.now }
     requires joined { is_joined dir version.now.flow path.now ≡ true }
     requires named { list_all (has_named_cell (path_start dir version.now path.now)) named.now
         ≡ true }
@@ -52,24 +54,24 @@ pub(crate) fn find(
     ensures kept { OnErr result (tally.new ≡ tally.old) }
 {
     let steps = path.as_slice();
-    let start = start_of(version, runs, dir, steps[0]);
+    let start = start_of(version, run, dir, steps[0]);
     let cells = cells_at(alloc, start, named.as_slice())?;
-    let mut views = views_of(alloc, version, runs, dir, steps)?;
+    let mut views = views_of(alloc, version, run, dir, steps)?;
     let inputs = inputs_of(alloc, steps)?;
     answer(alloc, &mut views, &inputs, dir, &cells, tally)
 }
 
 /// The shape in which a step starts: backward, of its node's output; forward, of its input.
-fn start_of(_version: &HeldVersion<RunList>, runs: &[NodeRun], dir: Dir, step: PathStep) -> Shape
+fn start_of(_version: &HeldVersion<VersionRun>, run: &VersionRun, dir: Dir, step: PathStep) -> Shape
     requires sound { IsSoundVersion _version.now }
-    requires runs { map execution_of runs.now ≡ executions_of _version.now }
+    requires run { IsTrailOf _version.now run.now }
     requires there { is_there (source_of _version.now.flow step) ≡ true }
     ensures { result ≡ step_start dir _version.now step }
 {
-    let run = &runs[step.node as usize];
+    let node = &run.runs()[step.node as usize];
     match dir {
-        Dir::Back => run.at.out(),
-        Dir::Forward => run.at.ins()[step.input as usize],
+        Dir::Back => node.at.out(),
+        Dir::Forward => node.at.ins()[step.input as usize],
     }
 }
 
@@ -112,13 +114,13 @@ fn inputs_of(alloc: Global, path: &[PathStep]) -> Result<Vec<u32>, NoMemory>
 /// The view of each step's node.
 fn views_of(
     alloc: Global,
-    version: &HeldVersion<RunList>,
-    runs: &[NodeRun],
+    version: &HeldVersion<VersionRun>,
+    run: &VersionRun,
     dir: Dir,
     path: &[PathStep],
 ) -> Result<Vec<NodeView>, NoMemory>
     requires sound { IsSoundVersion version.now }
-    requires runs { map execution_of runs.now ≡ executions_of version.now }
+    requires run { IsTrailOf version.now run.now }
     requires there { are_there version.now.flow path.now ≡ true }
     ensures views { IfOk result
         (λ v. AllZip (IsViewOf version.now dir) path.now (map view_of v.items)) }
@@ -127,7 +129,7 @@ fn views_of(
 {
     let mut views = Vec::with_capacity(alloc, path.len())?;
     for step in path {
-        views.push(view_at(alloc, version, runs, dir, *step)?)?;
+        views.push(view_at(alloc, version, run, dir, *step)?)?;
     }
     Ok(views)
 }
@@ -135,27 +137,34 @@ fn views_of(
 /// The view of a step's node, for the way of the step.
 fn view_at(
     alloc: Global,
-    version: &HeldVersion<RunList>,
-    runs: &[NodeRun],
+    version: &HeldVersion<VersionRun>,
+    run: &VersionRun,
     dir: Dir,
     step: PathStep,
 ) -> Result<NodeView, NoMemory>
     requires sound { IsSoundVersion version.now }
-    requires runs { map execution_of runs.now ≡ executions_of version.now }
+    requires run { IsTrailOf version.now run.now }
     requires there { is_there (source_of version.now.flow step) ≡ true }
     ensures view { IfOk result (λ w. IsViewOf version.now dir step (view_of w)) }
     ensures few { IfOk result (λ w. traced_by (view_of w) ≤ 1048576) }
 {
-    let run = &runs[step.node as usize];
-    laws::a_shape_is_within_limits(&run.at.out());
+    let node = &run.runs()[step.node as usize];
+    laws::a_shape_is_within_limits(&node.at.out());
     let lists = version.lists.as_slice();
     let list = &lists[step.node as usize];
-    view_by(alloc, way(list.as_slice(), dir), run)
+    let store = &run.stores()[step.node as usize];
+    view_by(alloc, way(list.as_slice(), dir), node, store)
 }
 
 /// The view of a node's run for a way: what a strategy keeps is looked at by a view of its kind.
-fn view_by(alloc: Global, way: Strategy, run: &NodeRun) -> Result<NodeView, NoMemory>
-    ensures { IfOk result (λ w. view_of w ≡ view_by way (execution_of run.now)) }
+fn view_by(
+    alloc: Global,
+    way: Strategy,
+    run: &NodeRun,
+    store: &Option<Arc<NodeStore>>,
+) -> Result<NodeView, NoMemory>
+    ensures { IfOk result
+        (λ w. view_of w ≡ view_by way (execution_of run.now) (lineage_of store.now)) }
 {
     match way {
         Strategy::Map => map_view(run),
@@ -166,8 +175,28 @@ fn view_by(alloc: Global, way: Strategy, run: &NodeRun) -> Result<NodeView, NoMe
         | Strategy::PayOne
         | Strategy::PayMany
         | Strategy::CompOne
-        | Strategy::CompMany
-        | Strategy::BlackBox => trace_view(alloc, run),
+        | Strategy::CompMany => kept_view(alloc, way, run, store),
+        Strategy::BlackBox => trace_view(alloc, run),
+    }
+}
+
+/// The view by the store of a strategy, where one is kept.
+fn kept_view(
+    alloc: Global,
+    way: Strategy,
+    run: &NodeRun,
+    store: &Option<Arc<NodeStore>>,
+) -> Result<NodeView, NoMemory>
+    ensures { IfOk result
+        (λ w. view_of w ≡ view_kept way (execution_of run.now) (lineage_of store.now)) }
+{
+    match store {
+        Some(store) => Ok(NodeView::Kept {
+            at: Arc::try_clone(&run.at)?,
+            store: Arc::try_clone(store)?,
+            s: way,
+        }),
+        None => trace_view(alloc, run),
     }
 }
 

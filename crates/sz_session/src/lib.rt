@@ -1,13 +1,20 @@
 //! A session: lines in, reply lines out.
 //!
-//! [`serve`] is the program's one call. It reads a source to its end, and for each line that is not
-//! blank it says one reply line to a station, before it reads on. Where source and station tell
+//! [`serve`] is the program's one call: it does what the words of the command line ask for. In mode
+//! play it reads a source to its end, and for each line that is not blank it says one reply line to
+//! a station, before it reads on. Where source and station tell
 //! their bytes, its clauses say what was said by each of its endings: all of the session's
 //! transcript (`done`), the replies of the whole lines that were read (`after_read_fault`,
 //! `after_input_limit`), a first part of the transcript (`after_say_fault`), or the first so many
 //! of its lines (`after_no_memory`). `quiet` says that a session is done only where no fault was
 //! counted, and `completes` that there is no other ending without one. Nothing depends on how many
 //! bytes a read gives.
+//!
+//! In mode load the lines are those of a session that is made from a seed and a side (`sz_gen`), and
+//! what is said is the one line that sums up their replies (`load`); `load_after_say_fault` and
+//! `load_after_no_memory` say what was said of it by the other endings. Words that ask for no mode
+//! that there is end with Usage, or where there was no memory for reading them (`usage`, `refused`),
+//! and then nothing was touched.
 //!
 //! ```text
 //! {"array":"a","cells":[[5]]}                                         1 array a 1
@@ -20,9 +27,10 @@
 //!
 //! The path of a line: `serving` reads chunks, `feed` cuts them into lines, and
 //! [`Session::command`] gives the reply of each: it has the line read and judged, and then taken by
-//! the catalogue (`accept`), started (`starting` computes the values of all nodes, and the version
-//! that is held carries them), answered along its path (`finding`), or shown. `docs/FORMATS.md`
-//! describes lines and replies, `docs/DEFINITIONS.md` reads the definitions aloud.
+//! the catalogue (`accept`), started (`starting` computes the values of all nodes, `building` makes
+//! their stores, and the version that is held carries both), answered along its path (`finding`),
+//! or shown. `docs/FORMATS.md` describes lines and replies, `docs/DEFINITIONS.md` reads the
+//! definitions aloud.
 //!
 //! To whoever changes this crate: what bytes tell as they come, and the moment that they leave, are
 //! functions of `specs/Moments.antt`, and both go by parts. `feed` is at each turn *like* that
@@ -30,17 +38,21 @@
 //! to turn that every whole line so far has its reply said (`Answered` of `specs/Serving.antt`),
 //! and the one function that reads asks for it. All that these rest on of a line's meaning is that
 //! one which is too long is refused for that. How a way is looked at is the one table `view_by` of
-//! `finding` and of `specs/Views.antt`. No list that is held has a strategy that keeps a store
-//! (`AreSound` of `specs/Runs.antt`), so the way that is told is the one that was gone. What is
-//! answered by views of a path's nodes is the composed relation, by `sz_query`'s law; that these
-//! views are those of the nodes is read off the executions, in `proofs/Steps` and
-//! `proofs/PathViews`.
+//! `finding` and of `specs/Views.antt`. What a version carries is its own (`IsTrailOf` of
+//! `specs/Stores.antt`): the executions of its nodes, and stores of each node whose list has a
+//! strategy that keeps one, whole, each of which stands for exactly the relation. So the way that
+//! is told is the one that was gone. When stores are built, `building` says alone. What is answered
+//! by views of a path's nodes is the composed relation, by `sz_query`'s law; that these views are
+//! those of the nodes is read off the executions, in `proofs/Steps` and `proofs/PathViews`, and
+//! that a store stands for the relation off what its pieces made, in `proofs/Whole`.
 #![tactic(auto)]
 
 mod blank;
+mod building;
 mod feed;
 mod finding;
 pub mod laws;
+mod load;
 mod runs;
 mod serving;
 mod session;

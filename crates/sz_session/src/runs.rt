@@ -1,49 +1,67 @@
-//! The runs of a version's nodes, which a version that is held carries.
+//! What a version that is held carries: the runs of its nodes, and their stores.
 
 ghost use Rattle.std.specs.Prelude.{◌≡◌, map};
 ghost use Rattle.sz_flow.specs.Executions.{execution_of};
+ghost use Rattle.sz_session.specs.Stores.{lineage_of};
 
 use std::marker::Model;
+use std::sync::Arc;
 use sz_catalogue::Carried;
 use sz_flow::NodeRun;
+use sz_store::NodeStore;
 
-/// The runs of a version's nodes, in the order of the nodes. Contracts see the executions.
+/// The run of a version: the runs of its nodes, and for each node its stores, in the order of the
+/// nodes. Contracts see the executions, and what the stores keep.
 #[derive(Drop)]
-pub struct RunList {
-    items: Vec<NodeRun>,
+pub struct VersionRun {
+    runs: Vec<NodeRun>,
+    stores: Vec<Option<Arc<NodeStore>>>,
 }
 
-impl Model for RunList {
-    ghost use Rattle.std.specs.Prelude.{List, map};
-    ghost use Rattle.sz_flow.specs.Executions.{Execution, execution_of};
+impl Model for VersionRun {
+    ghost use Rattle.std.specs.Prelude.{map};
+    ghost use Rattle.sz_flow.specs.Executions.{execution_of};
+    ghost use Rattle.sz_session.specs.Stores.{Trail, lineage_of};
 
-    ghost Value = { List Execution };
+    ghost Value = { Trail };
 
-    ghost view = { λ r. map execution_of r.items.items };
+    ghost view = { λ v. record {
+      executions = map execution_of v.runs.items;
+      kept = map lineage_of v.stores.items;
+    } };
 }
 
-impl RunList {
-    /// These runs, in this order.
-    pub fn of(items: Vec<NodeRun>) -> RunList
-        ensures { result ≡ map execution_of items.items }
+impl VersionRun {
+    /// These runs and these stores, in this order.
+    pub fn of(runs: Vec<NodeRun>, stores: Vec<Option<Arc<NodeStore>>>) -> VersionRun
+        ensures { result ≡ record {
+          executions = map execution_of runs.items;
+          kept = map lineage_of stores.items;
+        } }
     {
-        RunList { items }
+        VersionRun { runs, stores }
     }
 
-    /// The runs, in their order.
-    pub fn as_slice(&self) -> &[NodeRun]
-        ensures { map execution_of result.now ≡ self.now }
+    /// The runs of the nodes.
+    pub fn runs(&self) -> &[NodeRun]
+        ensures { map execution_of result.now ≡ self.now.executions }
     {
-        &self.items
+        &self.runs
+    }
+
+    /// The stores of each node.
+    pub fn stores(&self) -> &[Option<Arc<NodeStore>>]
+        ensures { map lineage_of result.now ≡ self.now.kept }
+    {
+        &self.stores
     }
 }
 
-/// The runs belong to the version whose executions they hold.
-impl Carried for RunList {
-    ghost use Rattle.std.specs.Prelude.{◌≡◌};
-    ghost use Rattle.sz_session.specs.Runs.{executions_of};
+/// A run belongs to the version whose executions it holds, with the stores for the version's lists.
+impl Carried for VersionRun {
+    ghost use Rattle.sz_session.specs.Stores.{IsTrailOf};
 
-    ghost belongs = { λ runs v. runs ≡ executions_of v };
+    ghost belongs = { λ run v. IsTrailOf v run };
 
-    ghost stays = { λ runs v h. h };
+    ghost stays = { λ run v h. h };
 }

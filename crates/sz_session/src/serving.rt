@@ -8,16 +8,23 @@ ghost use Rattle.std.specs.Prelude.{◌≡◌, ◌⊎◌, ℕ, ◌<◌, ◌≤�
 ghost use Rattle.std.specs.Prelude.{◌↔◌, true, false, Ok, Err, IfOk, IfErr, OnOk, OnErr, length};
 ghost use Rattle.std.specs.Prelude.{map, string_bytes};
 ghost use Rattle.sz_outside.specs.Outside.{Rose, Stood, Gives, Keeps};
-ghost use Rattle.sz_session.specs.Statuses.{end_status, Ends, AreCounted};
-ghost use Rattle.sz_session.specs.Serving.{are_play, Done, SaidOfRead, SaidToLimit, SaidInPart};
+ghost use Rattle.std.specs.Prelude.{[]};
+ghost use Rattle.sz_outside.specs.Outside.{Says, SaysPart};
+ghost use Rattle.sz_session.specs.Statuses.{end_status, words_status, Ends, EndsLoad, AreCounted};
+ghost use Rattle.sz_session.specs.Serving.{is_served, is_play, is_load, are_served, are_play};
+ghost use Rattle.sz_session.specs.Serving.{are_load, load_line, IfLoad};
+ghost use Rattle.sz_session.specs.Serving.{Done, SaidOfRead, SaidToLimit, SaidInPart};
 ghost use Rattle.sz_session.specs.Serving.{SaidInLines, IsPastLimit, IsWithinLimit, Opening};
 ghost use Rattle.sz_session.specs.Serving.{Answered, AreAll};
+ghost use Rattle.sz_words.specs.Job.{job_of, IsInRange};
 
 use crate::feed::{Feed, Halt};
+use crate::load::load;
 use std::alloc::Global;
 use std::sync::{Arc, Wait};
 use std::thread::Threads;
 use sz_outside::{Failed, Gate, Source, Station};
+use sz_words::{Job, JobMode, WordsFault, read_words};
 
 /// How a call of `serve` ended. The numbers are the program's exit statuses.
 #[derive(Clone, Copy, Debug, PartialEq, Eq)]
@@ -69,38 +76,50 @@ const CHUNK: usize = 65_536;
 /// The most bytes of a session.
 const LIMIT: u64 = 1 << 62;
 
-/// Runs the program: `words` are those of the command line without the program's name. It reads
-/// chunks of at most 65,536 bytes, and before each read every whole line read so far has its reply
-/// said.
+/// Runs the program: `words` are those of the command line without the program's name.
 ///
-/// The gate is called after each accepted ask and explain, when its answer is found. Nothing waits
-/// yet: the leave to do so is for workers that are to come.
+/// - `play` reads the source in chunks of at most 65,536 bytes, and before each read every whole
+///   line read so far has its reply said. The gate is called after each accepted ask and explain,
+///   when its answer is found.
+/// - `load` takes the generated session of the job's seed and side from memory, and says the one
+///   line that sums up its replies. It makes no call on the source. It holds the text and the
+///   replies once, and one line of the text a second time.
+/// - The modes on a log are to come: their words are refused like those that ask for no job.
+///
+/// Nothing waits yet: the leave to do so is for workers that are to come.
 pub fn serve<
     S: Source,
     T: Station,
     G: Gate + 'static,
     R: Threads + Wait + Clone + Send + Sync + 'static,
 >(rt: &R, alloc: Global, words: &[String], source: &mut S, station: &mut T, gate: &Arc<G>) -> Status
-    ensures done { result ≡ Status.Done
+    ensures done { are_play (map string_bytes words.now) ≡ true → result ≡ Status.Done
         → Done (2 ^ 62) (S.left source.old) (S.left source.new)
         (T.said station.old) (T.said station.new) }
-    ensures usage { (result ≡ Status.Usage) ↔ (are_play (map string_bytes words.now) ≡ false) }
+    ensures usage { result ≡ Status.Usage → are_served (map string_bytes words.now) ≡ false }
+    ensures refused { are_served (map string_bytes words.now) ≡ false
+        → (result ≡ Status.Usage) ⊎ (result ≡ Status.NoMemory) }
+    ensures untouched { are_served (map string_bytes words.now) ≡ false
+        → (source.new ≡ source.old) × (station.new ≡ station.old) }
+    ensures unread { are_play (map string_bytes words.now) ≡ false → source.new ≡ source.old }
     ensures quiet { result ≡ Status.Done
         → Stood (S.faults source.old) (S.faults source.new)
         × Stood (T.say_faults station.old) (T.say_faults station.new) }
-    ensures untouched { result ≡ Status.Usage
-        → (source.new ≡ source.old) × (station.new ≡ station.old) }
     ensures read_fault { result ≡ Status.ReadFault
         → Rose (S.faults source.old) (S.faults source.new) }
     ensures say_fault { result ≡ Status.SayFault
         → Rose (T.say_faults station.old) (T.say_faults station.new) }
     ensures input_limit { result ≡ Status.InputLimit → IsPastLimit (2 ^ 62) (S.left source.old) }
+    ensures reads_in_play { (result ≡ Status.ReadFault) ⊎ (result ≡ Status.InputLimit)
+        → are_play (map string_bytes words.now) ≡ true }
     ensures after_read_fault { result ≡ Status.ReadFault
         → SaidOfRead (S.left source.old) (S.left source.new)
         (T.said station.old) (T.said station.new) }
-    ensures after_say_fault { result ≡ Status.SayFault
+    ensures after_say_fault { are_play (map string_bytes words.now) ≡ true
+        → result ≡ Status.SayFault
         → SaidInPart (S.left source.old) (T.said station.old) (T.said station.new) }
-    ensures after_no_memory { result ≡ Status.NoMemory
+    ensures after_no_memory { are_play (map string_bytes words.now) ≡ true
+        → result ≡ Status.NoMemory
         → SaidInLines (S.left source.old) (T.said station.old) (T.said station.new) }
     ensures after_input_limit { result ≡ Status.InputLimit
         → SaidToLimit (2 ^ 62) (S.left source.old) (S.left source.new)
@@ -110,21 +129,63 @@ pub fn serve<
         → ¬ Rose (S.faults source.old) (S.faults source.new)
         → ¬ Rose (T.say_faults station.old) (T.say_faults station.new)
         → (result ≡ Status.Done) ⊎ (result ≡ Status.NoMemory) }
+
+    // The generated session.
+    ensures load { result ≡ Status.Done → IfLoad (job_of (map string_bytes words.now))
+        (λ line. Says (T.said station.old) (T.said station.new) line) }
+    ensures load_after_say_fault { result ≡ Status.SayFault
+        → IfLoad (job_of (map string_bytes words.now))
+        (λ line. SaysPart (T.said station.old) (T.said station.new) line) }
+    ensures load_after_no_memory { are_load (map string_bytes words.now) ≡ true
+        → result ≡ Status.NoMemory → Says (T.said station.old) (T.said station.new) [] }
+    ensures load_completes { are_load (map string_bytes words.now) ≡ true
+        → ¬ Rose (T.say_faults station.old) (T.say_faults station.new)
+        → (result ≡ Status.Done) ⊎ (result ≡ Status.NoMemory) }
 {
-    if is_play(words) {
-        play(rt, alloc, source, station, &**gate, LIMIT)
-    } else {
-        Status::Usage
+    match read_words(alloc, words) {
+        Ok(job) => run_job(rt, alloc, job, source, station, &**gate),
+        Err(fault) => status_of_words(fault),
     }
 }
 
-/// Whether the words are the one word `play`.
-fn is_play(words: &[String]) -> bool
-    ensures { result ≡ are_play (map string_bytes words.now) }
+/// The status of words that ask for no job.
+fn status_of_words(fault: WordsFault) -> Status
+    ensures { result ≡ words_status fault }
 {
-    match words {
-        [word] => word.as_str() == "play",
-        _ => false,
+    match fault {
+        WordsFault::Usage => Status::Usage,
+        WordsFault::NoMemory => Status::NoMemory,
+    }
+}
+
+/// Does what a job asks for.
+fn run_job<S: Source, T: Station, G: Gate, R: Threads + Sync>(
+    rt: &R,
+    alloc: Global,
+    job: Job,
+    source: &mut S,
+    station: &mut T,
+    gate: &G,
+) -> Status
+    requires ranges { IsInRange job }
+    ensures play { is_play job.mode ≡ true
+        → Ends result (2 ^ 62) (S.left source.old) (S.left source.new)
+        (T.said station.old) (T.said station.new) }
+    ensures play_fault { is_play job.mode ≡ true
+        → AreCounted result (S.faults source.old) (S.faults source.new)
+        (T.say_faults station.old) (T.say_faults station.new) }
+    ensures load { is_load job.mode ≡ true
+        → EndsLoad result (load_line job) (T.said station.old) (T.said station.new) }
+    ensures load_fault { is_load job.mode ≡ true
+        → AreCounted result 0 0 (T.say_faults station.old) (T.say_faults station.new) }
+    ensures unread { is_play job.mode ≡ false → source.new ≡ source.old }
+    ensures refused { is_served job.mode ≡ false
+        → (result ≡ Status.Usage) × (station.new ≡ station.old) }
+{
+    match job.mode {
+        JobMode::Play => play(rt, alloc, job, source, station, gate, LIMIT),
+        JobMode::Load => load(rt, alloc, job, station, gate),
+        JobMode::Init | JobMode::Run | JobMode::Check => Status::Usage,
     }
 }
 
@@ -132,12 +193,14 @@ fn is_play(words: &[String]) -> bool
 fn play<S: Source, T: Station, G: Gate, R: Threads + Sync>(
     rt: &R,
     alloc: Global,
+    job: Job,
     source: &mut S,
     station: &mut T,
     gate: &G,
     limit: u64,
 ) -> Status
-    requires { limit ≤ LIMIT }
+    requires limit { limit ≤ LIMIT }
+    requires ranges { IsInRange job }
     ensures ends { Ends result limit (S.left source.old) (S.left source.new)
         (T.said station.old) (T.said station.new) }
     ensures fault { AreCounted result (S.faults source.old) (S.faults source.new)
@@ -146,7 +209,7 @@ fn play<S: Source, T: Station, G: Gate, R: Threads + Sync>(
     let Ok(mut buffer) = vec![in alloc; 0u8; CHUNK] else {
         return Status::NoMemory;
     };
-    let Ok(mut feed) = Feed::new(alloc) else {
+    let Ok(mut feed) = Feed::new(alloc, job.workers, job.askers) else {
         return Status::NoMemory;
     };
     read_all(rt, source, station, gate, &mut buffer, &mut feed, limit)

@@ -1,7 +1,7 @@
 //! A session: what is held, and what a line does to it.
 //!
 //! Contracts see a session as its `Holdings`. Each version that is held carries the runs of its
-//! nodes (`RunList`), so that no value is computed twice.
+//! nodes and their stores (`VersionRun`), so that no value is computed twice.
 
 ghost use Rattle.std.specs.Prelude.{◌≡◌, ◌+◌, ◌*◌, ◌^◌, ◌<◌, ◌≤◌, true, false, None, Err, map};
 ghost use Rattle.std.specs.Prelude.{IfOk, OnOk, OnErr};
@@ -18,7 +18,7 @@ ghost use Rattle.sz_session.specs.Views.{strategy_told};
 
 use crate::blank::is_blank;
 use crate::finding::find;
-use crate::runs::RunList;
+use crate::runs::VersionRun;
 use crate::starting::run_version;
 use std::alloc::Global;
 use std::marker::Model;
@@ -33,10 +33,10 @@ use sz_script::{
 };
 use sz_spec::{Dir, Strategy, Tally};
 
-/// A session: what is held, each version with the runs of its nodes.
+/// A session: what is held, each version with the runs of its nodes and their stores.
 #[derive(Drop)]
 pub struct Session {
-    catalogue: Catalogue<RunList>,
+    catalogue: Catalogue<VersionRun>,
     alloc: Global,
     _workers: u32,
     _askers: u32,
@@ -92,7 +92,8 @@ impl Session {
     /// output sizes of the steps that are told as traced, which says nothing of how a step was
     /// worked out.
     ///
-    /// A start costs the values of its nodes, each computed once. Any other line costs what it
+    /// A start costs the values of its nodes, each computed once, and for each node with a stored
+    /// strategy each piece of its lineage, made once. Any other line costs what it
     /// reads, looks up and answers.
     pub fn command<T: Station, G: Gate, R: Threads + Sync>(
         &mut self,
@@ -162,6 +163,7 @@ impl Session {
     {
         match command {
             Command::Array { name, array } => self.accept(Command::Array { name, array }),
+            Command::Csv { name, array } => self.accept(Command::Csv { name, array }),
             Command::Layers { name, array } => self.accept(Command::Layers { name, array }),
             Command::Flow { name, flow } => self.accept(Command::Flow { name, flow }),
             Command::Strategy { name, node, list } => {
@@ -201,7 +203,8 @@ impl Session {
         Ok(reply)
     }
 
-    /// Starts a version: computes the values of its nodes, and holds it with its runs.
+    /// Starts a version: computes the values of its nodes, and holds it with its runs and its
+    /// stores.
     fn start<R: Threads + Sync>(
         &mut self,
         rt: &R,
@@ -214,14 +217,14 @@ impl Session {
             (λ r. accepted self.old (order.Start name base) ≡ (self.new, response_of r)) }
         ensures kept { OnErr result (self.new ≡ self.old) }
     {
-        let runs = run_version(
+        let run = run_version(
             rt,
             self.alloc,
             &self.catalogue,
             name.as_str(),
             base.as_slice(),
         )?;
-        let reply = self.catalogue.start(name, base.as_slice(), runs)?;
+        let reply = self.catalogue.start(name, base.as_slice(), run)?;
         Ok(reply)
     }
 
@@ -251,8 +254,7 @@ impl Session {
         let Some(held) = self.catalogue.version(version) else {
             unreachable!()
         };
-        let runs = held.kept.as_slice();
-        find(self.alloc, held, runs, dir, path, named, tally)
+        find(self.alloc, held, &held.kept, dir, path, named, tally)
     }
 
     /// By which way each step of a path is answered, and how many cells are traced.
@@ -291,7 +293,7 @@ impl Session {
         let Some(held) = self.catalogue.version(version) else {
             unreachable!()
         };
-        let run = &held.kept.as_slice()[node as usize];
+        let run = &held.kept.runs()[node as usize];
         Ok(Reply::Values {
             array: Arc::try_clone(&run.out)?,
         })

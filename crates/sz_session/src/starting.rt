@@ -1,4 +1,4 @@
-//! The runs of a version that is started.
+//! What a version that is started carries.
 
 ghost use Rattle.std.specs.Prelude.{◌≡◌, All, false, map, None, IfOk};
 ghost use Rattle.std.specs.Arc.{arc_value};
@@ -7,9 +7,11 @@ ghost use Rattle.sz_script.specs.declared.command.Command.TheVariants as order;
 ghost use Rattle.sz_catalogue.specs.Holdings.{arrays_of};
 ghost use Rattle.sz_catalogue.specs.Starts.{bases_of, version_started};
 ghost use Rattle.sz_catalogue.specs.Rules.{judged, has_no_array};
-ghost use Rattle.sz_session.specs.Runs.{IsSoundFlow, executions_of};
+ghost use Rattle.sz_catalogue.specs.Kept.{IsWorkflow};
+ghost use Rattle.sz_session.specs.Stores.{IsTrailOf};
 
-use crate::runs::RunList;
+use crate::building::stores_of;
+use crate::runs::VersionRun;
 use std::alloc::Global;
 use std::sync::Arc;
 use std::thread::Threads;
@@ -19,31 +21,36 @@ use sz_flow::run_all;
 use sz_script::BaseName;
 use sz_spec::Array;
 
-/// The runs of the version that a start makes, each of its values computed once.
+/// What the version that a start makes carries: the runs of its nodes, each value computed once,
+/// and their stores.
 pub(crate) fn run_version<R: Threads + Sync>(
     rt: &R,
     alloc: Global,
-    catalogue: &Catalogue<RunList>,
+    catalogue: &Catalogue<VersionRun>,
     name: &str,
     base: &[BaseName],
-) -> Result<RunList, NoMemory>
-    requires sound { All IsSoundFlow (values_of catalogue.now.flows) }
+) -> Result<VersionRun, NoMemory>
+    requires sound { All IsWorkflow (values_of catalogue.now.flows) }
     requires judged { judged catalogue.now (order.Start name.now base.now) ≡ None }
     ensures { IfOk result
-        (λ r. r ≡ executions_of (version_started catalogue.now name.now base.now)) }
+        (λ r. IsTrailOf (version_started catalogue.now name.now base.now) r) }
 {
     let Some(flow) = catalogue.flow(name) else {
         unreachable!()
     };
+    let Some(lists) = catalogue.lists(name) else {
+        unreachable!()
+    };
     let arrays = arrays_named(alloc, catalogue, base)?;
     let runs = run_all(rt, alloc, flow, &arrays)?;
-    Ok(RunList::of(runs))
+    let stores = stores_of(alloc, &runs, lists.as_slice())?;
+    Ok(VersionRun::of(runs, stores))
 }
 
 /// The base arrays of these names and versions, all of which are held.
 fn arrays_named(
     alloc: Global,
-    catalogue: &Catalogue<RunList>,
+    catalogue: &Catalogue<VersionRun>,
     base: &[BaseName],
 ) -> Result<Vec<Arc<Array>>, NoMemory>
     requires { has_no_array catalogue.now base.now ≡ false }

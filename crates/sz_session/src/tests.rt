@@ -10,6 +10,7 @@ use sz_outside::{MemSource, MemStation, NoGate, Source, SteadySource};
 
 mod gate;
 mod greatest;
+mod load;
 mod rows;
 
 /// The smallest session.

@@ -6,6 +6,7 @@ use std::alloc::Global;
 use std::test::Fail;
 use std::thread::Threads;
 use sz_outside::{MemStation, NoGate, SteadySource};
+use sz_words::{Job, JobMode};
 
 /// Whether a session of at most ten bytes of this text ends so, and says so many replies to lines
 /// that are no JSON.
@@ -18,7 +19,14 @@ fn ends<R: Threads + Sync>(
 ) -> Result<bool, Fail> {
     let mut source = SteadySource::new(text.to_vec(alloc)?, 4);
     let mut station = MemStation::new(alloc, Vec::new(alloc), Vec::new(alloc), Vec::new(alloc))?;
-    let ended = play(rt, alloc, &mut source, &mut station, &NoGate, 10);
+    let job = Job {
+        mode: JobMode::Play,
+        workers: 1,
+        askers: 1,
+        seed: 1,
+        side: 1,
+    };
+    let ended = play(rt, alloc, job, &mut source, &mut station, &NoGate, 10);
     let all = b"1 refused 1\n2 refused 1\n3 refused 1\n4 refused 1\n5 refused 1\n";
     Ok(ended == status && Some(station.said()) == all.get(..replies.saturating_mul(12)))
 }

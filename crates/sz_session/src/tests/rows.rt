@@ -39,6 +39,8 @@ fn sessions_say_their_replies(rt: HostRuntime) -> Result<(), Fail> {
     assert!(rt; says(&rt, alloc, NAMED, NAMED_REPLIES)?, "the row NAMED");
     assert!(rt; says(&rt, alloc, TURNED, TURNED_REPLIES)?, "the row TURNED");
     assert!(rt; says(&rt, alloc, APART, APART_REPLIES)?, "the row APART");
+    assert!(rt; says(&rt, alloc, STORED, STORED_REPLIES)?, "the row STORED");
+    assert!(rt; says(&rt, alloc, LISTED, LISTED_REPLIES)?, "the row LISTED");
     assert!(rt; says(&rt, alloc, UNEVEN, UNEVEN_REPLIES)?, "the row UNEVEN");
     assert!(rt; says(&rt, alloc, b"", b"")?);
     Ok(())
@@ -220,7 +222,7 @@ const REFUSED_REPLIES: &[u8] = b"1 array a 1
 14 refused 9
 15 flow r
 16 refused 18
-17 refused 21
+17 strategy r 0
 ";
 
 /// A cell of layers is named by three numbers.
@@ -343,6 +345,86 @@ const APART_REPLIES: &[u8] = b"1 array a 1
 9 layers 2 2 1 3 3 7 7
 10 array c 1
 11 refused 5
+";
+
+/// Asks are answered from the store of the strategy that a version was started with: by a list that
+/// is looked at in both directions, the same cells, and none is traced.
+const STORED: &[u8] = b"{\"array\":\"m\",\"cells\":[[1,2,3],[4,5,6],[7,8,9]]}
+{\"flow\":\"f\",\"inputs\":1,\"nodes\":[{\"op\":\"convolve\",\
+    \"kernel\":[[0,1,0],[1,1,1],[0,1,0]],\"from\":[{\"i\":0}]}]}
+{\"strategy\":\"f\",\"node\":0,\"list\":[\"full_one_b\"]}
+{\"start\":\"f\",\"base\":[[\"m\",1]]}
+{\"strategy\":\"f\",\"node\":0,\"list\":[\"full_one_f\"]}
+{\"start\":\"f\",\"base\":[[\"m\",1]]}
+{\"explain\":1,\"dir\":\"back\",\"path\":[[0,0]],\"cells\":[[0,0]]}
+{\"await\":1}
+{\"await\":2}
+{\"ask\":1,\"dir\":\"back\",\"path\":[[0,0]],\"cells\":[[0,0]]}
+{\"explain\":1,\"dir\":\"back\",\"path\":[[0,0]],\"cells\":[[0,0]]}
+{\"ask\":2,\"dir\":\"back\",\"path\":[[0,0]],\"cells\":[[0,0]]}
+{\"explain\":2,\"dir\":\"back\",\"path\":[[0,0]],\"cells\":[[0,0]]}
+{\"ask\":1,\"dir\":\"forward\",\"path\":[[0,0]],\"cells\":[[2,0]]}
+{\"explain\":1,\"dir\":\"forward\",\"path\":[[0,0]],\"cells\":[[2,0]]}
+";
+
+const STORED_REPLIES: &[u8] = b"1 array m 1
+2 flow f
+3 strategy f 0
+4 started 1
+5 strategy f 0
+6 started 2
+7 refused 19
+8 done 1
+9 done 2
+10 cells 3 0,0 0,1 1,0
+11 explain full_one_b traced 0
+12 cells 3 0,0 0,1 1,0
+13 explain full_one_f traced 0
+14 cells 3 1,0 2,0 2,1
+15 explain full_one_b traced 0
+";
+
+/// A list that is refused changes nothing, and one that is set after a start nothing of that
+/// version. Each node has its own stores, and each direction its own way.
+const LISTED: &[u8] = b"{\"array\":\"a\",\"cells\":[[1,2],[300,4]]}
+{\"flow\":\"f\",\"inputs\":1,\"nodes\":[{\"op\":\"clean\",\"t\":100,\"from\":[{\"i\":0}]},\
+    {\"op\":\"neg\",\"from\":[{\"n\":0}]}]}
+{\"strategy\":\"f\",\"node\":0,\"list\":[\"comp_one\",\"full_many_f\",\"pay_many\"]}
+{\"strategy\":\"f\",\"node\":1,\"list\":[\"full_many_b\"]}
+{\"strategy\":\"f\",\"node\":0,\"list\":[\"full_one_b\",\"pay_one\",\"full_one_b\"]}
+{\"strategy\":\"f\",\"node\":0,\"list\":[\"map\"]}
+{\"strategy\":\"f\",\"node\":1,\"list\":[\"pay_one\"]}
+{\"strategy\":\"f\",\"node\":2,\"list\":[\"full_one_b\"]}
+{\"start\":\"f\",\"base\":[[\"a\",1]]}
+{\"strategy\":\"f\",\"node\":0,\"list\":[\"blackbox\"]}
+{\"await\":1}
+{\"ask\":1,\"dir\":\"back\",\"path\":[[1,0],[0,0]],\"cells\":[[1,0]]}
+{\"explain\":1,\"dir\":\"back\",\"path\":[[1,0],[0,0]],\"cells\":[[1,0]]}
+{\"ask\":1,\"dir\":\"forward\",\"path\":[[0,0],[1,0]],\"cells\":[[0,0]]}
+{\"explain\":1,\"dir\":\"forward\",\"path\":[[0,0],[1,0]],\"cells\":[[0,0]]}
+{\"start\":\"f\",\"base\":[[\"a\",1]]}
+{\"await\":2}
+{\"explain\":2,\"dir\":\"back\",\"path\":[[1,0],[0,0]],\"cells\":[[1,0]]}
+";
+
+const LISTED_REPLIES: &[u8] = b"1 array a 1
+2 flow f
+3 strategy f 0
+4 strategy f 1
+5 refused 18
+6 refused 18
+7 refused 18
+8 refused 18
+9 started 1
+10 strategy f 0
+11 done 1
+12 cells 4 0,0 0,1 1,0 1,1
+13 explain full_many_b comp_one traced 0
+14 cells 2 0,0 1,0
+15 explain full_many_f full_many_b traced 0
+16 started 2
+17 done 2
+18 explain full_many_b blackbox traced 4
 ";
 
 /// No JSON, blank lines, lines that end in a byte 13, a line of the byte 12 alone, which is not

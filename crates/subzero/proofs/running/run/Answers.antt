@@ -8,8 +8,11 @@ returns-clause-done g c = λ e. c.session-status.ensures.done (status-of _ _ 0 c
 pub returns-clause-quiet : goal.returns-clause-quiet
 returns-clause-quiet g c = λ e. c.session-status.ensures.quiet (status-of _ _ 0 c.end.ensures e)
 
-pub returns-clause-play : goal.returns-clause-play
-returns-clause-play g c = λ e. c.session-status.ensures.play (status-of _ _ 0 c.end.ensures e)
+pub returns-clause-load : goal.returns-clause-load
+returns-clause-load g c = λ e. c.session-status.ensures.load (status-of _ _ 0 c.end.ensures e)
+
+pub returns-clause-served : goal.returns-clause-served
+returns-clause-served g c = λ e. c.session-status.ensures.served (status-of _ _ 0 c.end.ensures e)
 
 pub returns-clause-usage : goal.returns-clause-usage
 returns-clause-usage g c = λ e. c.session-status.ensures.usage (status-of _ _ 1 c.end.ensures e)

@@ -3,16 +3,16 @@ use Rattle.std.proofs.Common.{◌≡◌, ℕ, ◌+◌, List, map, sym, ap, ap₂
 use Rattle.std.proofs.lemmas.Result.{IfOk-weaker, on_ok_weaker}
 use Rattle.sz_cells.specs.Extent.{Extent}
 use Rattle.sz_cells.specs.Cells.{Cells, named_in}
+use Rattle.sz_cells.specs.SetBytes.{IsSetOf}
 use Rattle.sz_spec.specs.Paths.{Step, compose}
 use Rattle.sz_query.specs.Views.{view_of}
 use Rattle.sz_query.specs.Answers.{answered, AreSteps}
-use Rattle.sz_query.proofs.Composed.{answers-composed}
 use Rattle.sz_script.specs.declared.command.NamedCell.{NamedCell}
 use Rattle.sz_catalogue.specs.Holdings.{arrays_of}
 use Rattle.sz_catalogue.specs.Starts.{cell_named, path_start}
 use Rattle.sz_catalogue.specs.Changes.{outputs}
 use Rattle.sz_session.specs.Views.{IsViewOf, strategy_told}
-use Rattle.sz_session.proofs.PathViews.{sound-views, views-of_path, joined-there, views-steps, views-told, views-traced}
+use Rattle.sz_session.proofs.PathViews.{sound-views, views-answer, named-set, joined-there, views-steps, views-told, views-traced}
 use Rattle.sz_session.proofs.PathViews.{joined-parts, views-length, path-starts}
 use Rattle.sz_session.proofs.finding.find.Goals as goal
 
@@ -58,13 +58,15 @@ returns-clause-cells c =
     c.deref.ensures.value ∙ c.in_ok-inputs.ensures ∙ ap (map (λ (s : Step). s.input)) c.as_slice-steps.ensures in
     let start = c.start_of-start.ensures ∙ sym (path-starts v dir path c.index-steps-0.result parts.0
     (rw c.as_slice-steps.ensures at c.index-steps-0.is)) in
+    let from : c.in_ok-cells.cells.extent ≡ path_start dir v path =
+    ap (λ (x : Cells). x.extent) c.in_ok-cells.ensures ∙ start in
+    let whole = subst (λ (x : Cells). IsSetOf x.extent x) (sym c.in_ok-cells.ensures) (named-set _ _) in
     let set = c.in_ok-cells.ensures
     ∙ ap₂ (λ (e : Extent) (ps : List NamedCell). named_in e (map (cell_named e) ps)) start
     c.as_slice.ensures in
     IfOk-weaker c.answer.result _ _
     (λ f p. p ∙ ap (λ (is : List ℕ). answered dir views is c.in_ok-cells.cells) inputs
-    ∙ answers-composed dir v.flow (arrays_of v.base) (outputs v) path views c.in_ok-cells.cells
-    (views-of_path v dir path views sound)
+    ∙ views-answer v dir path views c.in_ok-cells.cells c.requires.sound parts.2 sound from whole
     ∙ ap (λ (x : Cells). compose dir v.flow (arrays_of v.base) (outputs v) path x) set)
     c.answer.ensures.cells
 

@@ -28,7 +28,7 @@ read_all-requires g c =
                     c.deref_mut.ensures.len
                         ∙ c.in-Ok.ensures.len,
                     (
-                      c.requires,
+                      c.requires.limit,
                       (
                         ap (λ (m : Moment). m.number) c.in-Ok-new.ensures,
                         subst P (sym c.in-Ok-new.ensures) (answered-start left said),

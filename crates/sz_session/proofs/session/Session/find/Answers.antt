@@ -5,7 +5,8 @@ use Rattle.sz_spec.specs.Paths.{is_joined}
 use Rattle.sz_catalogue.specs.Holdings.{Holdings, Version}
 use Rattle.sz_catalogue.specs.Rules.{version_of, has_no_version}
 use Rattle.sz_catalogue.specs.Changes.{cells_answered}
-use Rattle.sz_session.specs.Runs.{executions_of, IsSoundVersion}
+use Rattle.sz_session.specs.Runs.{IsSoundVersion}
+use Rattle.sz_session.specs.Stores.{IsTrailOf}
 use Rattle.sz_session.proofs.Keeps.{version-found, version-sound, some-same, not_false}
 use Rattle.sz_session.proofs.session.Session.find.Goals as goal
 
@@ -18,8 +19,9 @@ find-requires-clause-sound c =
     let version = some-same _ _ (found ∙ version-found cat c.args.version held) in
     subst IsSoundVersion (sym version) (version-sound cat c.args.version c.self.invariant.versions held)
 
-pub find-requires-clause-runs : goal.find-requires-clause-runs
-find-requires-clause-runs c = c.as_slice-runs.ensures ∙ c.held.invariant ∙ ap executions_of c.held.view_is
+pub find-requires-clause-run : goal.find-requires-clause-run
+find-requires-clause-run c =
+    subst (λ (v : Version). IsTrailOf v c.held.inside.kept) c.held.view_is c.held.invariant
 
 pub find-requires-clause-joined : goal.find-requires-clause-joined
 find-requires-clause-joined c =

@@ -22,19 +22,19 @@ unreachable-requires c =
     let clash = found ∙ version-found cat c.args.version can.0 in
     cc
 
-pub bounds-as_slice-node : goal.bounds-as_slice-node
-bounds-as_slice-node c =
+pub bounds-runs-node : goal.bounds-runs-node
+bounds-runs-node c =
     let J : Holdings → Type 0 = λ h. judged h (order.Show c.args.version c.args.node) ≡ None in
     let cat = c.self.inside.catalogue in
     let can = can-show cat c.args.version c.args.node (subst J (sym c.self.view_is) c.requires) in
     let found = rw c.in-Some.is at c.version.ensures in
     let version = some-same _ _ (found ∙ version-found cat c.args.version can.0) in
-    let same = c.as_slice.ensures ∙ c.held.invariant ∙ ap executions_of (c.held.view_is ∙ version) in
+    let same = c.runs.ensures ∙ c.held.invariant.0 ∙ ap executions_of (c.held.view_is ∙ version) in
     omega (
       arith,
       can.1,
       ap (λ (es : List Execution). length es) same,
-      length-map c.as_slice.result.now execution_of,
+      length-map c.runs.result.now execution_of,
       executions-length (version_of cat c.args.version),
     )
 
@@ -46,16 +46,16 @@ returns c =
     let can = can-show cat c.args.version c.args.node (subst J (sym c.self.view_is) c.requires) in
     let found = rw c.in-Some.is at c.version.ensures in
     let version = some-same _ _ (found ∙ version-found cat c.args.version can.0) in
-    let same = c.as_slice.ensures ∙ c.held.invariant ∙ ap executions_of (c.held.view_is ∙ version) in
-    let within : c.args.node < length c.as_slice.result.now = omega (
+    let same = c.runs.ensures ∙ c.held.invariant.0 ∙ ap executions_of (c.held.view_is ∙ version) in
+    let within : c.args.node < length c.runs.result.now = omega (
       arith,
       can.1,
       ap (λ (es : List Execution). length es) same,
-      length-map c.as_slice.result.now execution_of,
+      length-map c.runs.result.now execution_of,
       executions-length v,
     ) in
     let at =
-    run-at v c.args.node c.as_slice.result.now c.index-as_slice-node.result same within c.index-as_slice-node.is in
-    let shown = output-at v c.args.node (execution_of c.index-as_slice-node.result) at
+    run-at v c.args.node c.runs.result.now c.index-runs-node.result same within c.index-runs-node.is in
+    let shown = output-at v c.args.node (execution_of c.index-runs-node.result) at
     ∙ sym c.in_ok-try_clone.ensures in
     rw (← c.self.view_is) (ap (λ (g : Grid). (cat, values g)) shown)

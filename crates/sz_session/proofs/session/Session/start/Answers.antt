@@ -1,4 +1,4 @@
--- The version that is started is sound, and its runs are its executions.
+-- The version that is started is sound, and what it carries is its own.
 use Rattle.std.proofs.Common.{◌≡◌, sym, ap, subst}
 use Rattle.std.specs.Prelude.{None}
 use Rattle.sz_script.specs.declared.command.Command.TheVariants as order
@@ -21,7 +21,7 @@ start-requires-clause-judged g c =
 
 pub start-requires-clause-kept : goal.start-requires-clause-kept
 start-requires-clause-kept g c =
-    let made = rw (c.as_str.ensures, c.as_slice.ensures) at c.in_ok-runs.ensures in rw c.as_slice-2.ensures made
+    let made = rw (c.as_str.ensures, c.as_slice.ensures) at c.in_ok-run.ensures in rw c.as_slice-2.ensures made
 
 pub invariant_of-self-2 : goal.invariant_of-self-2
 invariant_of-self-2 g c =

@@ -1,0 +1,53 @@
+-- The generated session: its text is taken in whole and ended, so what was said is its transcript.
+--
+-- The key idea: what a text tells as it is taken in, and what is told at its end by a moment that is like the one after
+-- it, are together the transcript.
+use Rattle.std.proofs.Common.{◌≡◌, ℕ, List, [], ◌++◌, Some, refl, sym, ap, ◌∙◌, subst, inl, inr}
+use Rattle.std.specs.Prelude.{Option, ◌⊎◌}
+use Rattle.std.proofs.lemmas.Option.{same_Some}
+use Rattle.sz_outside.specs.Outside.{Says, Rose}
+use Rattle.sz_catalogue.specs.Holdings.{no_holdings}
+use Rattle.sz_session.specs.Transcript.{transcript}
+use Rattle.sz_session.specs.Moments.{Moment, moment_before, told_in, moment_after, told_at_end}
+use Rattle.sz_session.specs.Serving.{Advances}
+use Rattle.sz_session.specs.Statuses.{EndsLoad, AreCounted}
+use Rattle.sz_session.specs.declared.serving.Status.{Status}
+use Rattle.sz_session.specs.declared.serving.Status.TheVariants as status
+use Rattle.sz_session.proofs.Moments.{transcript-told, told_at_end-alike}
+use Rattle.sz_session.proofs.Turns.{says-then}
+
+-- before the first byte
+abbrev start : Moment
+start = moment_before no_holdings
+
+-- a text that was taken in and ended told its transcript
+pub whole-said : (text : List ℕ) (a b c : Option (List ℕ)) (first m : Moment) → first ≡ start
+    → Advances a b first m text → Says b c (told_at_end m) → Says a c (transcript no_holdings text)
+whole-said text a b c first m is took end =
+    let here : Advances a b start m text = subst (λ (x : Moment). Advances a b x m text) is took in
+    let told : told_in start text ++ told_at_end m ≡ transcript no_holdings text =
+    ap (λ (xs : List ℕ). told_in start text ++ xs) (told_at_end-alike m (moment_after start text) here.alike)
+    ∙ sym (transcript-told no_holdings text) in
+    subst (λ (xs : List ℕ). Says a c xs) told
+    (says-then a b c (told_in start text) (told_at_end m) here.says end)
+
+-- what was said behind nothing is what is there
+pub said-behind_nothing : (old new told : List ℕ) → old ≡ [] → Says (Some old) (Some new) told → new ≡ told
+said-behind_nothing old new told none says = same_Some _ _ says ∙ ap (λ (xs : List ℕ). xs ++ told) none
+
+-- ---- statuses
+
+-- what a status tells, where the session ended with it
+pub load-ends_with : (s t : Status) (line : List ℕ) (a b : Option (List ℕ)) → EndsLoad s line a b → s ≡ t
+    → EndsLoad t line a b
+load-ends_with s t line a b h is = subst (λ (x : Status). EndsLoad x line a b) is h
+
+-- with no fault counted it is done unless memory was refused
+pub load-completes : (s : Status) (line : List ℕ) (a b : Option (List ℕ)) (q q' : ℕ)
+    → EndsLoad s line a b → AreCounted s 0 0 q q' → (Rose q q' → ⊥) → (s ≡ status.Done) ⊎ (s ≡ status.NoMemory)
+load-completes status.Done line a b q q' ends fault no_say = inl refl
+load-completes status.Usage line a b q q' ends fault no_say = absurd ends
+load-completes status.ReadFault line a b q q' ends fault no_say = absurd ends
+load-completes status.SayFault line a b q q' ends fault no_say = absurd (no_say fault)
+load-completes status.NoMemory line a b q q' ends fault no_say = inr refl
+load-completes status.InputLimit line a b q q' ends fault no_say = absurd ends

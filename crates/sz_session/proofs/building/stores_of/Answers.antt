@@ -1,0 +1,90 @@
+-- One node more: its stores are those of its run, for the list at its place.
+use Rattle.std.proofs.Common.{◌≡◌, ◌<◌, ◌≤◌, ◌+◌, ℕ, suc, List, [], ◌∷◌, ◌++◌, map, take, length, refl, sym, ap, ◌∙◌, arith}
+use Rattle.std.proofs.Common.{Some, get_or}
+use Rattle.std.proofs.Math.Seq.{take-suc}
+use Rattle.std.specs.List.{slice_get}
+use Rattle.std.specs.Option.{option_map}
+use Rattle.std.proofs.lemmas.List.{length-map, map-append, take_all}
+use Rattle.std.proofs.lemmas.Option.{slice_get-map, slice_get_read}
+use Rattle.sz_flow.specs.Executions.{execution_of}
+use Rattle.sz_session.specs.Stores.{lineage_of}
+use Rattle.sz_session.proofs.Whole.{listed-at, listed-length, kept-more}
+use Rattle.sz_session.proofs.building.stores_of.Goals as goal
+
+one-taken : {X : Type 0} (xs : List X) (j : ℕ) (x : X) → j < length xs → x ≡ get_or xs j x
+    → take (j + 1) xs ≡ take j xs ++ x ∷ []
+one-taken {X} xs j x below is =
+    let one : j + 1 ≡ suc j = omega arith in
+    ap (λ n. take n xs) one ∙ take-suc xs j x below ∙ ap (λ (y : X). take j xs ++ y ∷ []) (sym is)
+
+pub bounds-lists-node : goal.bounds-lists-node
+bounds-lists-node c =
+    omega (
+      arith,
+      c.loop-node-test.true,
+      c.loop-node.invariant.end,
+      listed-length (map execution_of c.args.runs.now) c.args.lists.now c.requires,
+      length-map c.args.runs.now execution_of,
+    )
+
+pub store_of-requires : goal.store_of-requires
+store_of-requires c =
+    let runs = c.args.runs.now in
+    let lists = c.args.lists.now in
+    let n = c.loop-node.node in
+    let run = c.index-runs-node.result in
+    let few : n < length runs = omega (arith, c.loop-node-test.true, c.loop-node.invariant.end) in
+    let below : n < length lists = omega (
+      arith,
+      few,
+      listed-length (map execution_of runs) lists c.requires,
+      length-map runs execution_of,
+    ) in
+    let here = slice_get-map execution_of runs n
+    ∙ ap (option_map execution_of) (slice_get_read runs (length runs) n run refl few c.index-runs-node.is) in
+    let there = slice_get_read lists (length lists) n c.index-lists-node.result refl below c.index-lists-node.is in
+    rw c.as_slice.ensures
+    (listed-at (map execution_of runs) lists n (execution_of run) c.index-lists-node.result c.requires here there)
+
+pub loop-node-preserved : goal.loop-node-preserved
+loop-node-preserved c =
+    let runs = c.args.runs.now in
+    let lists = c.args.lists.now in
+    let n = c.loop-node.node in
+    let run = c.index-runs-node.result in
+    let list = c.index-lists-node.result in
+    let store = c.in_ok-store_of.field-0 in
+    let few : n < length runs = omega (arith, c.loop-node-test.true, c.loop-node.invariant.end) in
+    let below : n < length lists = omega (
+      arith,
+      few,
+      listed-length (map execution_of runs) lists c.requires,
+      length-map runs execution_of,
+    ) in
+    let own = rw c.as_slice.ensures at c.in_ok-store_of.ensures in
+    let es = ap (λ xs. map execution_of xs) (one-taken runs n run few c.index-runs-node.is)
+    ∙ map-append execution_of (take n runs) (run ∷ []) in
+    let ls = one-taken lists n list below c.index-lists-node.is in
+    let ks = ap (λ xs. map lineage_of xs) c.in_ok-push.ensures.items
+    ∙ map-append lineage_of c.loop-node.stores.items (store ∷ []) in
+    record {
+      end = refl;
+      kept =
+          rw (es, ls, ks)
+          (kept-more (map execution_of (take n runs)) (take n lists) (map lineage_of c.loop-node.stores.items)
+          (execution_of run) list (lineage_of store) c.loop-node.invariant.kept own);
+    }
+
+pub returns : goal.returns
+returns c =
+    let runs = c.args.runs.now in
+    let lists = c.args.lists.now in
+    let n = c.loop-node.node in
+    let whole : length runs ≤ n = omega (arith, c.loop-node-test.false, c.loop-node.invariant.end) in
+    let all : length lists ≤ n = omega (
+      arith,
+      whole,
+      listed-length (map execution_of runs) lists c.requires,
+      length-map runs execution_of,
+    ) in
+    rw (take_all n runs whole, take_all n lists all) at c.loop-node.invariant.kept

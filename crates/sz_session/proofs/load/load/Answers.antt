@@ -1,0 +1,6 @@
+-- Where there was no memory nothing was said.
+use Rattle.sz_session.proofs.Turns.{says-nothing}
+use Rattle.sz_session.proofs.load.load.Goals as goal
+
+pub returns-in_default-clause-ends : goal.returns-in_default-clause-ends
+returns-in_default-clause-ends g c = says-nothing (g.T.Station.said c.args.station.now)

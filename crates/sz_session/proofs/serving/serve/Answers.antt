@@ -1,0 +1,217 @@
+-- What the status of the job tells is told of the words that asked for it; for words that ask for none nothing was
+-- done.
+use Rattle.std.proofs.Common.{List, ℕ, sym, ap, ◌∙◌, refl, inl, inr, true≢false}
+use Rattle.std.specs.Prelude.{Err}
+use Rattle.sz_outside.specs.Outside.{Says, SaysPart}
+use Rattle.sz_words.specs.declared.WordsFault.{WordsFault}
+use Rattle.sz_session.specs.Serving.{is_served, is_play, is_load}
+use Rattle.sz_session.specs.declared.serving.Status.TheVariants as status
+use Rattle.sz_session.proofs.Ends.{ends-with, counted-with, limit-passed, completes, none-in_lines}
+use Rattle.sz_session.proofs.Turns.{says-nothing}
+use Rattle.sz_session.proofs.Loads.{load-ends_with, load-completes}
+use Rattle.sz_session.proofs.Jobs.{for-job, for-none, line-job, served-not, usage-refused, reads-play, quiet-done}
+use Rattle.sz_session.proofs.Jobs.{say-counted, words-not_done, words-not_say_fault, words-not_read, words-usage}
+use Rattle.sz_session.proofs.Jobs.{words-refused, words-not_read_either, words-completes}
+use Rattle.sz_session.proofs.serving.serve.Goals as goal
+
+-- ---- words that ask for a job
+
+pub returns-in-Ok-clause-done : goal.returns-in-Ok-clause-done
+returns-in-Ok-clause-done g c =
+    λ p e.
+    let asked = sym (for-job is_play _ _ c.in-Ok.ensures.ok) ∙ p in
+    ends-with _ status.Done _ _ _ _ _ (c.run_job.ensures.play asked) e
+
+pub returns-in-Ok-clause-usage : goal.returns-in-Ok-clause-usage
+returns-in-Ok-clause-usage g c =
+    λ e. for-job is_served _ _ c.in-Ok.ensures.ok
+    ∙ usage-refused c.in-Ok.job.mode _ _ _ _ _ _ _ c.run_job.ensures.play c.run_job.ensures.load e
+
+pub returns-in-Ok-clause-refused : goal.returns-in-Ok-clause-refused
+returns-in-Ok-clause-refused g c =
+    λ n. inl (c.run_job.ensures.refused (sym (for-job is_served _ _ c.in-Ok.ensures.ok) ∙ n)).0
+
+pub returns-in-Ok-clause-untouched : goal.returns-in-Ok-clause-untouched
+returns-in-Ok-clause-untouched g c =
+    λ n.
+    let to_come = sym (for-job is_served _ _ c.in-Ok.ensures.ok) ∙ n in
+    (c.run_job.ensures.unread (served-not c.in-Ok.job.mode to_come), (c.run_job.ensures.refused to_come).1)
+
+pub returns-in-Ok-clause-unread : goal.returns-in-Ok-clause-unread
+returns-in-Ok-clause-unread g c =
+    λ p. c.run_job.ensures.unread (sym (for-job is_play _ _ c.in-Ok.ensures.ok) ∙ p)
+
+pub returns-in-Ok-clause-quiet : goal.returns-in-Ok-clause-quiet
+returns-in-Ok-clause-quiet g c =
+    λ e. quiet-done c.in-Ok.job.mode _ _ _ _ _ c.run_job.ensures.play_fault c.run_job.ensures.load_fault
+    (λ n. ap g.S.Source.faults (c.run_job.ensures.unread n)) (λ n. (c.run_job.ensures.refused n).0) e
+
+pub returns-in-Ok-clause-read_fault : goal.returns-in-Ok-clause-read_fault
+returns-in-Ok-clause-read_fault g c =
+    λ e. counted-with _ status.ReadFault _ _ _ _ (c.run_job.ensures.play_fault
+    (reads-play c.in-Ok.job.mode _ _ _ _ c.run_job.ensures.load (λ n. (c.run_job.ensures.refused n).0)
+    (inl e))) e
+
+pub returns-in-Ok-clause-say_fault : goal.returns-in-Ok-clause-say_fault
+returns-in-Ok-clause-say_fault g c =
+    λ e. say-counted c.in-Ok.job.mode _ _ _ _ _ c.run_job.ensures.play_fault c.run_job.ensures.load_fault
+    (λ n. (c.run_job.ensures.refused n).0) e
+
+pub returns-in-Ok-clause-input_limit : goal.returns-in-Ok-clause-input_limit
+returns-in-Ok-clause-input_limit g c =
+    λ e. limit-passed _ _ _ _ _ (ends-with _ status.InputLimit _ _ _ _ _ (c.run_job.ensures.play
+    (reads-play c.in-Ok.job.mode _ _ _ _ c.run_job.ensures.load (λ n. (c.run_job.ensures.refused n).0)
+    (inr e))) e)
+
+pub returns-in-Ok-clause-reads_in_play : goal.returns-in-Ok-clause-reads_in_play
+returns-in-Ok-clause-reads_in_play g c =
+    λ e. for-job is_play _ _ c.in-Ok.ensures.ok
+    ∙ reads-play c.in-Ok.job.mode _ _ _ _ c.run_job.ensures.load (λ n. (c.run_job.ensures.refused n).0) e
+
+pub returns-in-Ok-clause-after_read_fault : goal.returns-in-Ok-clause-after_read_fault
+returns-in-Ok-clause-after_read_fault g c =
+    λ e. ends-with _ status.ReadFault _ _ _ _ _ (c.run_job.ensures.play
+    (reads-play c.in-Ok.job.mode _ _ _ _ c.run_job.ensures.load (λ n. (c.run_job.ensures.refused n).0)
+    (inl e))) e
+
+pub returns-in-Ok-clause-after_say_fault : goal.returns-in-Ok-clause-after_say_fault
+returns-in-Ok-clause-after_say_fault g c =
+    λ p e.
+    let asked = sym (for-job is_play _ _ c.in-Ok.ensures.ok) ∙ p in
+    ends-with _ status.SayFault _ _ _ _ _ (c.run_job.ensures.play asked) e
+
+pub returns-in-Ok-clause-after_no_memory : goal.returns-in-Ok-clause-after_no_memory
+returns-in-Ok-clause-after_no_memory g c =
+    λ p e.
+    let asked = sym (for-job is_play _ _ c.in-Ok.ensures.ok) ∙ p in
+    ends-with _ status.NoMemory _ _ _ _ _ (c.run_job.ensures.play asked) e
+
+pub returns-in-Ok-clause-after_input_limit : goal.returns-in-Ok-clause-after_input_limit
+returns-in-Ok-clause-after_input_limit g c =
+    λ e. ends-with _ status.InputLimit _ _ _ _ _ (c.run_job.ensures.play
+    (reads-play c.in-Ok.job.mode _ _ _ _ c.run_job.ensures.load (λ n. (c.run_job.ensures.refused n).0)
+    (inr e))) e
+
+pub returns-in-Ok-clause-completes : goal.returns-in-Ok-clause-completes
+returns-in-Ok-clause-completes g c =
+    λ p within no_read no_say.
+    let asked = (sym (for-job is_play _ _ c.in-Ok.ensures.ok) ∙ p) in
+    let ends = c.run_job.ensures.play asked in
+    completes _ _ _ _ _ _ _ _ _ _ ends (c.run_job.ensures.play_fault asked) within no_read no_say
+
+pub returns-in-Ok-clause-load : goal.returns-in-Ok-clause-load
+returns-in-Ok-clause-load g c =
+    λ e.
+    let said = g.T.Station.said c.args.station.now in
+    let now = g.T.Station.said c.run_job.new.station in
+    line-job (λ (line : List ℕ). Says said now line) _ _ c.in-Ok.ensures.ok
+    (λ asked. load-ends_with _ status.Done _ _ _ (c.run_job.ensures.load asked) e)
+
+pub returns-in-Ok-clause-load_after_say_fault : goal.returns-in-Ok-clause-load_after_say_fault
+returns-in-Ok-clause-load_after_say_fault g c =
+    λ e.
+    let said = g.T.Station.said c.args.station.now in
+    let now = g.T.Station.said c.run_job.new.station in
+    line-job (λ (line : List ℕ). SaysPart said now line) _ _ c.in-Ok.ensures.ok
+    (λ asked. load-ends_with _ status.SayFault _ _ _ (c.run_job.ensures.load asked) e)
+
+pub returns-in-Ok-clause-load_after_no_memory : goal.returns-in-Ok-clause-load_after_no_memory
+returns-in-Ok-clause-load_after_no_memory g c =
+    λ p e.
+    let asked = sym (for-job is_load _ _ c.in-Ok.ensures.ok) ∙ p in
+    load-ends_with _ status.NoMemory _ _ _ (c.run_job.ensures.load asked) e
+
+pub returns-in-Ok-clause-load_completes : goal.returns-in-Ok-clause-load_completes
+returns-in-Ok-clause-load_completes g c =
+    λ p no_say.
+    let asked = (sym (for-job is_load _ _ c.in-Ok.ensures.ok) ∙ p) in
+    load-completes _ _ _ _ _ _ (c.run_job.ensures.load asked) (c.run_job.ensures.load_fault asked) no_say
+
+-- ---- words that ask for none
+
+pub returns-in-Err-clause-done : goal.returns-in-Err-clause-done
+returns-in-Err-clause-done g c =
+    λ p e. absurd (words-not_done c.in-Err.fault (sym c.status_of_words.ensures ∙ e))
+
+pub returns-in-Err-clause-usage : goal.returns-in-Err-clause-usage
+returns-in-Err-clause-usage g c =
+    λ e. for-none is_served _ (c.read_words.ensures.usage (c.in-Err.is ∙ ap (λ (x : WordsFault). Err x)
+    (words-usage c.in-Err.fault (sym c.status_of_words.ensures ∙ e))))
+
+pub returns-in-Err-clause-refused : goal.returns-in-Err-clause-refused
+returns-in-Err-clause-refused g c =
+    λ n. words-refused c.in-Err.fault _ c.status_of_words.ensures
+
+pub returns-in-Err-clause-untouched : goal.returns-in-Err-clause-untouched
+returns-in-Err-clause-untouched g c =
+    λ n. (refl, refl)
+
+pub returns-in-Err-clause-unread : goal.returns-in-Err-clause-unread
+returns-in-Err-clause-unread g c =
+    λ p. refl
+
+pub returns-in-Err-clause-quiet : goal.returns-in-Err-clause-quiet
+returns-in-Err-clause-quiet g c =
+    λ e. absurd (words-not_done c.in-Err.fault (sym c.status_of_words.ensures ∙ e))
+
+pub returns-in-Err-clause-read_fault : goal.returns-in-Err-clause-read_fault
+returns-in-Err-clause-read_fault g c =
+    λ e. absurd (words-not_read c.in-Err.fault (inl (sym c.status_of_words.ensures ∙ e)))
+
+pub returns-in-Err-clause-say_fault : goal.returns-in-Err-clause-say_fault
+returns-in-Err-clause-say_fault g c =
+    λ e. absurd (words-not_say_fault c.in-Err.fault (sym c.status_of_words.ensures ∙ e))
+
+pub returns-in-Err-clause-input_limit : goal.returns-in-Err-clause-input_limit
+returns-in-Err-clause-input_limit g c =
+    λ e. absurd (words-not_read c.in-Err.fault (inr (sym c.status_of_words.ensures ∙ e)))
+
+pub returns-in-Err-clause-reads_in_play : goal.returns-in-Err-clause-reads_in_play
+returns-in-Err-clause-reads_in_play g c =
+    λ e. absurd (words-not_read_either c.in-Err.fault _ c.status_of_words.ensures e)
+
+pub returns-in-Err-clause-after_read_fault : goal.returns-in-Err-clause-after_read_fault
+returns-in-Err-clause-after_read_fault g c =
+    λ e. absurd (words-not_read c.in-Err.fault (inl (sym c.status_of_words.ensures ∙ e)))
+
+pub returns-in-Err-clause-after_say_fault : goal.returns-in-Err-clause-after_say_fault
+returns-in-Err-clause-after_say_fault g c =
+    λ p e. absurd (words-not_say_fault c.in-Err.fault (sym c.status_of_words.ensures ∙ e))
+
+pub returns-in-Err-clause-after_no_memory : goal.returns-in-Err-clause-after_no_memory
+returns-in-Err-clause-after_no_memory g c =
+    λ p e. none-in_lines (g.S.Source.left c.args.source.now) (g.T.Station.said c.args.station.now)
+
+pub returns-in-Err-clause-after_input_limit : goal.returns-in-Err-clause-after_input_limit
+returns-in-Err-clause-after_input_limit g c =
+    λ e. absurd (words-not_read c.in-Err.fault (inr (sym c.status_of_words.ensures ∙ e)))
+
+pub returns-in-Err-clause-completes : goal.returns-in-Err-clause-completes
+returns-in-Err-clause-completes g c =
+    λ p within no_read no_say.
+    let f = c.in-Err.fault in
+    let is = c.status_of_words.ensures in
+    words-completes f _ is (λ e.
+    let usage = c.in-Err.is ∙ ap (λ (x : WordsFault). Err x) (words-usage f (sym is ∙ e)) in
+    true≢false (sym p ∙ for-none is_play _ (c.read_words.ensures.usage usage)))
+
+pub returns-in-Err-clause-load : goal.returns-in-Err-clause-load
+returns-in-Err-clause-load g c =
+    λ e. absurd (words-not_done c.in-Err.fault (sym c.status_of_words.ensures ∙ e))
+
+pub returns-in-Err-clause-load_after_say_fault : goal.returns-in-Err-clause-load_after_say_fault
+returns-in-Err-clause-load_after_say_fault g c =
+    λ e. absurd (words-not_say_fault c.in-Err.fault (sym c.status_of_words.ensures ∙ e))
+
+pub returns-in-Err-clause-load_after_no_memory : goal.returns-in-Err-clause-load_after_no_memory
+returns-in-Err-clause-load_after_no_memory g c =
+    λ p e. says-nothing (g.T.Station.said c.args.station.now)
+
+pub returns-in-Err-clause-load_completes : goal.returns-in-Err-clause-load_completes
+returns-in-Err-clause-load_completes g c =
+    λ p no_say.
+    let f = c.in-Err.fault in
+    let is = c.status_of_words.ensures in
+    words-completes f _ is (λ e.
+    let usage = c.in-Err.is ∙ ap (λ (x : WordsFault). Err x) (words-usage f (sym is ∙ e)) in
+    true≢false (sym p ∙ for-none is_load _ (c.read_words.ensures.usage usage)))
