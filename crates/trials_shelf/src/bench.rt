@@ -12,7 +12,7 @@ use std::sync::{Arc, Wait};
 use std::test::Fail;
 use sz_cells::{CellBits, CellSet, NoMemory, Run, Shape};
 use sz_ops::{piece, prepare};
-use sz_shelf::{Look, Pass, Placed, Shelf};
+use sz_shelf::{Look, Pass, Placed, SealReply, Shelf};
 use sz_spec::{Array, Dir, Op, OpAt, Strategy, Tally};
 
 const LIST: [Strategy; 3] = [Strategy::FullManyB, Strategy::Map, Strategy::FullOneF];
@@ -23,7 +23,7 @@ const LIST: [Strategy; 3] = [Strategy::FullManyB, Strategy::Map, Strategy::FullO
 pub struct Bench {
     at: Arc<OpAt>,
     array: Arc<Array>,
-    pub shelf: Arc<Shelf>,
+    shelf: Arc<Shelf>,
 }
 
 impl Model for Bench {
@@ -141,5 +141,52 @@ impl Bench {
         let _ = &self.at;
         self.shelf
             .look(rt, pass, Strategy::FullManyB, Dir::Back, 0, from, to)
+    }
+
+    /// Seals.
+    pub fn seal<R: Wait>(&self, rt: &R, pass: &mut Pass) -> SealReply
+        requires { place_of pass.old ≡ self.now }
+        ensures { place_of pass.new ≡ place_of pass.old }
+    {
+        self.shelf.seal(rt, pass)
+    }
+
+    /// Whether there is a seal.
+    pub fn sealed_now(&self, pass: &mut Pass) -> bool
+        requires { place_of pass.old ≡ self.now }
+        ensures { place_of pass.new ≡ place_of pass.old }
+    {
+        self.shelf.sealed_now(pass)
+    }
+
+    /// Whether the store is handed out.
+    pub fn is_given<R: Wait>(
+        &self,
+        alloc: Global,
+        rt: &R,
+        pass: &mut Pass,
+    ) -> Result<bool, NoMemory>
+        requires { place_of pass.old ≡ self.now }
+        ensures { place_of pass.new ≡ place_of pass.old }
+    {
+        Ok(self.shelf.store_of(alloc, rt, pass)?.is_some())
+    }
+
+    /// One pass more.
+    pub fn split(&self, pass: &mut Pass) -> Result<Pass, NoMemory>
+        requires { place_of pass.old ≡ self.now }
+        ensures same { place_of pass.new ≡ place_of pass.old }
+        ensures new { IfOk result (λ p. place_of p ≡ self.now) }
+    {
+        self.shelf.split(pass)
+    }
+
+    /// One pass less.
+    pub fn join(&self, into: &mut Pass, from: Pass)
+        requires into { place_of into.old ≡ self.now }
+        requires from { place_of from ≡ self.now }
+        ensures { place_of into.new ≡ place_of into.old }
+    {
+        self.shelf.join(into, from);
     }
 }

@@ -1,4 +1,4 @@
-//! Tests of shelves: what each call answers on a shelf of two pieces, and passes in two threads.
+//! Tests of shelves: what each call answers on a shelf of two pieces.
 //!
 //! A crate is proved once for those above it and once more with its tests. So tests that call public
 //! functions alone stand in a crate that has nothing else.
@@ -8,5 +8,3 @@
 mod bench;
 #[cfg(test)]
 mod rows;
-#[cfg(test)]
-mod threads;

@@ -31,22 +31,14 @@ fn looks<R: Wait>(
     Ok(look == told && to.runs() == cells)
 }
 
-/// Whether the store is handed out.
-fn is_given<R: Wait>(alloc: Global, rt: &R, bench: &Bench, pass: &mut Pass) -> Result<bool, Fail>
-    requires { place_of pass.old ≡ bench.now }
-    ensures { place_of pass.new ≡ place_of pass.old }
-{
-    Ok(bench.shelf.store_of(alloc, rt, pass)?.is_some())
-}
-
 /// Whether both pieces are placed, the later one first, with these answers on the way.
 fn fills<R: Wait>(alloc: Global, rt: &R, bench: &Bench, pass: &mut Pass) -> Result<bool, Fail>
     requires { place_of pass.old ≡ bench.now }
     ensures { place_of pass.new ≡ place_of pass.old }
 {
-    let none = bench.shelf.seal(rt, pass) == SealReply::Missing(0);
+    let none = bench.seal(rt, pass) == SealReply::Missing(0);
     let new = bench.place(alloc, rt, pass, 1)? == Placed::New;
-    let still = bench.shelf.seal(rt, pass) == SealReply::Missing(0);
+    let still = bench.seal(rt, pass) == SealReply::Missing(0);
     let early = looks(
         alloc,
         rt,
@@ -64,16 +56,16 @@ fn fills<R: Wait>(alloc: Global, rt: &R, bench: &Bench, pass: &mut Pass) -> Resu
 fn pieces_are_placed_and_then_sealed(rt: HostRuntime) -> Result<(), Fail> {
     let alloc = rt.alloc();
     let (bench, mut pass) = Bench::new(alloc)?;
-    let mut other = bench.shelf.split(&mut pass)?;
+    let mut other = bench.split(&mut pass)?;
     assert!(rt; fills(alloc, &rt, &bench, &mut pass)?);
     let whole = Look::Unsealed { missing: 2 };
     assert!(rt; looks(alloc, &rt, &bench, &mut pass, whole, &BEFORE)?);
-    assert!(rt; !is_given(alloc, &rt, &bench, &mut pass)?);
-    assert!(rt; !bench.shelf.sealed_now(&mut other));
-    assert_eq!(rt; bench.shelf.seal(&rt, &mut pass), SealReply::Sealed);
+    assert!(rt; !bench.is_given(alloc, &rt, &mut pass)?);
+    assert!(rt; !bench.sealed_now(&mut other));
+    assert_eq!(rt; bench.seal(&rt, &mut pass), SealReply::Sealed);
     assert!(rt; looks(alloc, &rt, &bench, &mut pass, Look::Done, &ADDED)?);
     assert_eq!(rt; bench.place(alloc, &rt, &mut pass, 0)?, Placed::Sealed);
-    assert!(rt; bench.shelf.sealed_now(&mut other));
+    assert!(rt; bench.sealed_now(&mut other));
     Ok(())
 }
 
@@ -82,15 +74,15 @@ fn what_is_handed_out_is_kept(rt: HostRuntime) -> Result<(), Fail> {
     let alloc = rt.alloc();
     let (bench, mut pass) = Bench::new(alloc)?;
     assert!(rt; fills(alloc, &rt, &bench, &mut pass)?);
-    assert_eq!(rt; bench.shelf.seal(&rt, &mut pass), SealReply::Sealed);
-    let mut before = bench.shelf.split(&mut pass)?;
+    assert_eq!(rt; bench.seal(&rt, &mut pass), SealReply::Sealed);
+    let mut before = bench.split(&mut pass)?;
     assert!(rt; pass.kept().is_none());
-    assert!(rt; is_given(alloc, &rt, &bench, &mut pass)?);
+    assert!(rt; bench.is_given(alloc, &rt, &mut pass)?);
     assert!(rt; pass.kept().is_some());
-    let mut after = bench.shelf.split(&mut pass)?;
+    let mut after = bench.split(&mut pass)?;
     assert!(rt; before.kept().is_none() && after.kept().is_some());
     assert!(rt; looks(alloc, &rt, &bench, &mut after, Look::Done, &ADDED)?);
-    bench.shelf.join(&mut before, after);
+    bench.join(&mut before, after);
     assert!(rt; before.kept().is_some());
     Ok(())
 }
