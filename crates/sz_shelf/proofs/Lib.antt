@@ -1,5 +1,6 @@
 -- The lemmas: of what lineages placed one after another stand for, of marks of placed pieces, and of the stores of a
--- tag; then of lists, of the kinds of step, of a turn, of the machine's replies, and of the laws.
+-- tag; then of lists, of the kinds of step, of a turn, of the machine's replies, and of the laws; and of what crosses
+-- threads.
 pub mod Lineages
 pub mod Marks
 pub mod Stores
@@ -10,4 +11,5 @@ mod Turning
 mod Telling
 mod Reading
 mod Effects
+pub mod Crossing
 mod Rows
