@@ -3,7 +3,7 @@
 # given), and prints a table: for clean, convolve (a plus), regions and lookup, each a flow of one node, what the start adds, the peak of
 # memory above that of the session without a store, and what an ask adds, of one cell and of a quarter of the cells, in each direction.
 #
-# What a line adds is the difference of two sessions, each a whole process, the best of five. Of a start the time is told, of asks the
+# What a line adds is the difference of two sessions, each a whole process, the best of three. Of a start the time is told, of asks the
 # time that the processor was at work, the reading of the line taken off. It is no test, but every answer is compared with that by
 # blackbox. It builds the program in this checkout and needs python3. Run it from anywhere.
 set -euo pipefail
@@ -52,7 +52,7 @@ def best(lines):
     with open(work + "/session", "w") as out:
         out.writelines(lines)
     times, works, peak = [], [], 0
-    for _ in range(5):
+    for _ in range(3):
         with open(work + "/session") as source, open(work + "/said", "w") as said:
             start = time.perf_counter()
             playing = subprocess.Popen([program, "play"], stdin=source, stdout=said)
