@@ -1,9 +1,10 @@
 #!/usr/bin/env bash
 # Times `subzero play`, as LLVM builds it, with each strategy that an operator supports, on an image of 512 a side (or of the side that is
-# given), and prints a table: for clean, convolve (a plus), regions and lookup, each a flow of one node, what the start adds, the peak of
-# memory above that of the session without a store, and what an ask adds, of one cell and of a quarter of the cells, in each direction.
+# given), and prints a table: for clean, convolve (a plus), regions and lookup, each a flow of one node, what the start adds, the bytes of
+# memory a cell that its stores take, and what an ask adds, of one cell and of a quarter of the cells, in each direction.
 #
-# What a line adds is the difference of two sessions, each a whole process, the best of three. Of a start the time is told, of asks the
+# The memory is the peak of a session with eight starts less that of one with four, a start and a cell, less the same by blackbox: so the
+# values are not in it, nor the reading of the lines. What a line adds is the difference of two sessions, each a whole process, the best of three. Of a start the time is told, of asks the
 # time that the processor was at work, the reading of the line taken off. It is no test, but every answer is compared with that by
 # blackbox. It builds the program in this checkout and needs python3. Run it from anywhere.
 set -euo pipefail
@@ -65,13 +66,18 @@ def best(lines):
     with open(work + "/said") as said:
         return min(times) * 1e6, min(works) * 1e6, peak, said.read()
 
+# The peak of memory that each start of a session adds, in bytes a cell.
+def kept(node, strategy):
+    lines = session(node, strategy)[:-1]
+    return (best(lines + lines[-1:] * 7)[2] - best(lines + lines[-1:] * 3)[2]) * 1e6 / 4 / side / side
+
 print(f"{side} a side; of an ask: one cell back, forward us; a quarter back, forward us")
 for name, (node, strategies) in nodes.items():
     answers, bare = {}, None
     for strategy in strategies:
         lines = session(node, strategy)
-        took, busy, peak, _ = best(lines)
-        bare = bare or (best(arrays)[0], peak)
+        took, memory = best(lines)[0], kept(node, strategy)
+        bare = bare or (best(arrays)[0], memory)
         shown = []
         for size in some:
             for direction in ("back", "forward"):
@@ -81,6 +87,6 @@ for name, (node, strategies) in nodes.items():
                 shown.append((asked - refused) / number)
                 said = said.split("\n")[6].split(" ", 1)[1]
                 assert answers.setdefault((size, direction), said) == said, (name, strategy, size, direction)
-        print(f"{name:9s} {strategy:12s} start {took - bare[0]:9.0f} us, memory {peak - bare[1]:6.0f} MB, asks"
+        print(f"{name:9s} {strategy:12s} start {took - bare[0]:9.0f} us, memory {memory - bare[1]:5.0f} bytes a cell, asks"
             + "".join(f" {each:10.1f}" for each in shown), flush=True)
 PY
