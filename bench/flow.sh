@@ -35,7 +35,7 @@ whole = [
     {"op": "regions", "t": 2500, "from": [{"n": 1}]},
     {**folded, "from": [{"n": 2}]},
 ]
-stored = [["comp_one"], ["full_many_b", "full_one_f"], ["pay_many"], ["full_one_b", "full_one_f"]]
+stored = [["comp_one"], ["full_many_b", "full_one_f"], ["pay_many", "full_many_f"], ["full_one_b", "full_one_f"]]
 mapped = [{**plus, "from": [{"i": 0}]}, {**folded, "from": [{"n": 0}]}]
 
 def rows_of(side):
