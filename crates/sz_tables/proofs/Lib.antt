@@ -1,5 +1,5 @@
 -- The lemmas on entries under keys, sets and payloads by number, region pairs and payload entries as rows of these,
--- looks, counts of runs and cells, and region pairs that are read.
+-- looks, counts of runs and cells, rectangles round sets, and region pairs that are read.
 pub mod Chained
 pub mod Slices
 pub mod Numbered
@@ -13,4 +13,5 @@ pub mod Entries
 pub mod Scanned
 pub mod MetRuns
 pub mod Counted
+pub mod Rounding
 pub mod ReadPairs

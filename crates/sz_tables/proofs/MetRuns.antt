@@ -1,20 +1,18 @@
 -- Runs against asked cells.
 --
 -- The key idea: the asked indexes rise, so the least of them at or after a run's first tells whether the run has one.
-use Rattle.std.proofs.Common.{inl, inr, true≢false, ◌≡◌, ℕ, zero, suc, ◌+◌, ◌<◌, ◌≤◌, ◌==◌}
-use Rattle.std.proofs.Common.{Bool, true, false, ◌&&◌, ◌||◌, nat_le, List, [], ◌∷◌, Some, None, Option}
-use Rattle.std.proofs.Common.{length, take, drop, get_or, refl, sym, ap, ap₂, subst, ◌∙◌, arith, leb-true, le-leb}
-use Rattle.std.specs.List.{find, list_any, flat_map}
-use Rattle.std.proofs.Math.Bool.{or-false}
-use Rattle.std.proofs.lemmas.Bool.{cases_Bool, cases_lt, lt-leb, leb-false, and_parts, or_cases, or_left, or_right}
-use Rattle.std.proofs.lemmas.Bool.{false_from_ne_true}
+use Rattle.std.proofs.Common.{inl, inr, ◌≡◌, ℕ, zero, suc, ◌+◌, ◌<◌, ◌≤◌, ◌==◌}
+use Rattle.std.proofs.Common.{Bool, true, false, ◌||◌, nat_le, List, [], ◌∷◌, Some, None}
+use Rattle.std.proofs.Common.{length, take, get_or, refl, sym, ap, ap₂, subst, ◌∙◌, arith, le-leb}
+use Rattle.std.specs.List.{find, list_any}
+use Rattle.std.proofs.lemmas.Bool.{cases_Bool, lt-leb, leb-false, or_cases, or_left, or_right}
 use Rattle.std.proofs.lemmas.List.Folds.{list_any_more}
 use Rattle.std.proofs.lemmas.Option.{same_Some}
 use Rattle.sz_cells.specs.declared.Run.{Run}
 use Rattle.sz_cells.specs.Extent.{Extent, size_of, cell_of}
-use Rattle.sz_cells.specs.Cells.{Cells, any_cell, has, next_index, union_of}
+use Rattle.sz_cells.specs.Cells.{Cells, any_cell, has, union_of}
 use Rattle.sz_cells.specs.Rising.{AreRising}
-use Rattle.sz_cells.specs.Runs.{AreRunsFrom, runs_of, indexes_of, is_in, covers, Spells}
+use Rattle.sz_cells.specs.Runs.{AreRunsFrom, runs_of, is_in, covers, Spells}
 use Rattle.sz_cells.specs.SetBytes.{IsSetOf}
 use Rattle.sz_cells.specs.Words.{cells_at}
 use Rattle.sz_cells.proofs.Sets.{has-index}

@@ -2,12 +2,13 @@
 --
 -- The key idea: the runs of a further set stand behind all others, so each old span gives the runs that it gave, and
 -- the new one gives those that were added.
-use Rattle.std.proofs.Common.{◌≡◌, ◌≢◌, ℕ, ◌+◌, ◌<◌, List, [], ◌∷◌, ◌++◌, length, map, get_or}
+use Rattle.std.proofs.Common.{◌≡◌, ◌≢◌, ℕ, ◌+◌, ◌%◌, ◌<◌, List, [], ◌∷◌, ◌++◌, length, map, get_or}
 use Rattle.std.proofs.Common.{slice_range, refl, sym, ap, ap₂, subst, ◌∙◌, inl, inr, arith}
 use Rattle.std.proofs.Common.{length-append, Option, Some, None, unwrap_or}
 use Rattle.std.specs.List.{slice_get, HoldsAt, flat_map}
 use Rattle.std.specs.Option.{IfSome}
 use Rattle.std.proofs.lemmas.List.{map-append, length-map, get_or-map}
+use Rattle.std.proofs.lemmas.Simd.{map-map}
 use Rattle.std.proofs.lemmas.Option.{slice_get_within, slice_get-get_or, unwrap_or-slice_get}
 use Rattle.std.proofs.lemmas.Option.{get_or_from_slice_get}
 use Rattle.std.proofs.lemmas.Bool.{cases_lt}
@@ -19,24 +20,23 @@ use Rattle.sz_cells.specs.Cells.{Cells, no_cells}
 use Rattle.sz_cells.specs.Runs.{AreRunsFrom, runs_of, indexes_of}
 use Rattle.sz_cells.proofs.Runs.{runs_of-spelled}
 use Rattle.sz_tables.specs.declared.spans.Span.{Span}
-use Rattle.sz_tables.specs.Filed.{Filed, Files, IsLastBelow}
+use Rattle.sz_tables.specs.Filed.{Filed, Files, IsLastBelow, IsWidened, rest_under}
 use Rattle.sz_tables.specs.Rows.{set_at}
-use Rattle.sz_tables.specs.Tables.{AreNumbered, spelled, runs_by_number, keys_for, key_of}
+use Rattle.sz_tables.specs.Tables.{AreNumbered, spelled, runs_by_number, filed_by, mix_of}
 use Rattle.sz_tables.proofs.Slices.{IsWithin, cut, cuts-push, different-push}
 
 -- ---- one more set
 
 -- sets are numbered where one more that is new stands behind them, under its key
 pub numbered-push : (e : Extent) (runs more : List Run) (spans : List Span) (s : Span) (index after : Files)
-    (key item : ℕ) → AreNumbered e runs spans index → AreRunsFrom 0 (size_of e) more
+    (key mix : ℕ) → AreNumbered e runs spans index → AreRunsFrom 0 (size_of e) more
     → ((n : ℕ) → slice_get (map (spelled e) (runs_by_number runs spans)) n ≢ Some (spelled e more))
     → s.start ≡ length runs → s.end ≡ length runs + length more
-    → key ≡ key_of (keys_for e) more → after.keys ≡ index.keys
-    → after.entries ≡ index.entries ++ record { key = key; item = item } ∷ []
+    → mix ≡ mix_of more → key ≡ mix % index.keys → after.keys ≡ index.keys
+    → after.entries ≡ index.entries ++ record { key = key; item = mix } ∷ []
     → AreNumbered e (runs ++ more) (spans ++ s ∷ []) after
-numbered-push e runs more spans s index after key item was long new start end under keys entries =
+numbered-push e runs more spans s index after key mix was long new start end mixed under keys entries =
     let pieces = runs_by_number runs spans in
-    let f : Filed = record { key = key; item = item } in
     let grown = cuts-push runs more spans s was.within start end in
     record {
       within = All-push (IsWithin (runs ++ more)) spans s
@@ -45,14 +45,15 @@ numbered-push e runs more spans s index after key item was long new start end un
       longest = rw grown (All-push (AreRunsFrom 0 (size_of e)) pieces more was.longest long);
       different = rw (grown, map-append (spelled e) pieces (more ∷ []))
           (different-push (map (spelled e) pieces) (spelled e more) was.different new);
-      keys = keys ∙ was.keys;
+      keys = omega (arith, keys, was.keys);
       filed = rw (
         grown,
         entries,
-        map-append (λ (x : Filed). x.key) index.entries (f ∷ []),
-        map-append (key_of (keys_for e)) pieces (more ∷ []),
+        keys,
+        map-append (filed_by index.keys) pieces (more ∷ []),
         was.filed,
         under,
+        mixed,
       ) refl;
     }
 
@@ -128,14 +129,11 @@ pub entries-count : (e : Extent) (runs : List Run) (spans : List Span) (index : 
     → AreNumbered e runs spans index → length index.entries ≡ length (map (spelled e) (runs_by_number runs spans))
 entries-count e runs spans index was =
     let pieces = runs_by_number runs spans in
-    sym (length-map index.entries (λ (f : Filed). f.key))
-    ∙ ap length was.filed
-    ∙ length-map pieces (key_of (keys_for e))
-    ∙ sym (length-map pieces (spelled e))
+    ap length was.filed ∙ length-map pieces (filed_by index.keys) ∙ sym (length-map pieces (spelled e))
 
--- the set that runs spell is filed under their key
+-- the set that runs spell is filed under the rest of what these are mixed to
 pub key-at : (e : Extent) (runs more : List Run) (spans : List Span) (index : Files) (key n : ℕ)
-    → AreNumbered e runs spans index → AreRunsFrom 0 (size_of e) more → key ≡ key_of (keys_for e) more
+    → AreNumbered e runs spans index → AreRunsFrom 0 (size_of e) more → key ≡ mix_of more % index.keys
     → slice_get (map (spelled e) (runs_by_number runs spans)) n ≡ Some (spelled e more)
     → HoldsAt (λ f. f.key ≡ key) index.entries n × (n < length index.entries)
 key-at e runs more spans index key n was long under same =
@@ -150,10 +148,31 @@ key-at e runs more spans index key n was long under same =
     ∙ ap (λ (s : Cells). runs_of s.indexes) (sym (get_or-map (spelled e) pieces n [] (spelled e more) many)
     ∙ get_or_from_slice_get sets n (spelled e more) (spelled e more) same)
     ∙ runs_of-spelled 0 (size_of e) more long in (
-      λ d. sym (get_or-map (λ (f : Filed). f.key) index.entries n d 0 filed)
-          ∙ ap (λ (ks : List ℕ). get_or ks n 0) was.filed
-          ∙ get_or-map (key_of (keys_for e)) pieces n [] 0 many
-          ∙ ap (key_of (keys_for e)) piece
+      λ d. ap (λ (es : List Filed). (get_or es n d).key) was.filed
+          ∙ ap (λ (f : Filed). f.key) (get_or-map (filed_by index.keys) pieces n [] d many)
+          ∙ ap (λ (rs : List Run). mix_of rs % index.keys) piece
           ∙ sym under,
       filed,
     )
+
+-- ---- more keys
+
+-- sets stay numbered where their entries are filed anew
+pub numbered-widened : (e : Extent) (runs : List Run) (spans : List Span) (index after : Files)
+    → AreNumbered e runs spans index → IsWidened index after → AreNumbered e runs spans after
+numbered-widened e runs spans index after was wide = record {
+  within = was.within;
+  longest = was.longest;
+  different = was.different;
+  keys = elim wide [
+    | inl same ↦ omega (arith, same.0, was.keys)
+    | inr anew ↦ anew.0
+  ];
+  filed = elim wide [
+    | inl same ↦ rw (same.0, same.1) was.filed
+    | inr anew ↦
+        anew.1
+        ∙ ap (map (rest_under after.keys)) was.filed
+        ∙ map-map (rest_under after.keys) (filed_by index.keys) (runs_by_number runs spans)
+  ];
+}

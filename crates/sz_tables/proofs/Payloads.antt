@@ -2,45 +2,46 @@
 --
 -- The key idea: the bytes of a further payload stand behind all others, so each old span gives the payload that it
 -- gave; and an equal payload has the same key, so the walk over the entries of that key meets it.
-use Rattle.std.proofs.Common.{◌≡◌, ◌≢◌, ℕ, ◌+◌, ◌<◌, List, [], ◌∷◌, ◌++◌, length, get_or}
-use Rattle.std.proofs.Common.{slice_range, refl, sym, ap, ◌∙◌, arith, length-append, Option, Some, unwrap_or}
+use Rattle.std.proofs.Common.{◌≡◌, ◌≢◌, ℕ, ◌+◌, ◌%◌, ◌<◌, List, [], ◌∷◌, ◌++◌, length, map, get_or}
+use Rattle.std.proofs.Common.{slice_range, refl, sym, ap, ◌∙◌, arith, inl, inr, length-append, Option, Some, unwrap_or}
 use Rattle.std.specs.List.{slice_get, HoldsAt}
 use Rattle.std.proofs.lemmas.List.{map-append, length-map, get_or-map}
+use Rattle.std.proofs.lemmas.Simd.{map-map}
 use Rattle.std.proofs.lemmas.Option.{slice_get_within, slice_get-get_or, unwrap_or-slice_get}
 use Rattle.std.proofs.lemmas.Option.{get_or_from_slice_get}
 use Rattle.std.proofs.lemmas.List.Elements.{All-push}
 use Rattle.sz_tables.specs.declared.spans.Span.{Span}
-use Rattle.sz_tables.specs.Filed.{Filed, Files}
+use Rattle.sz_tables.specs.Filed.{Filed, Files, IsWidened, rest_under}
 use Rattle.sz_tables.specs.Tables.{slices_by_number}
-use Rattle.sz_tables.specs.Payloads.{AreKept, payload_at, payload_key}
+use Rattle.sz_tables.specs.Payloads.{AreKept, payload_at, payload_mix, payload_filed}
 use Rattle.sz_tables.proofs.Slices.{IsWithin, cut, cuts-push, different-push}
 
 -- ---- one more payload
 
 -- payloads are kept where one more that is new stands behind them, under its key
-pub kept-push : (bytes more : List ℕ) (spans : List Span) (s : Span) (index after : Files) (key item : ℕ)
+pub kept-push : (bytes more : List ℕ) (spans : List Span) (s : Span) (index after : Files) (key mix : ℕ)
     → AreKept bytes spans index → ((n : ℕ) → slice_get (slices_by_number bytes spans) n ≢ Some more)
     → s.start ≡ length bytes → s.end ≡ length bytes + length more
-    → key ≡ payload_key more → after.keys ≡ index.keys
-    → after.entries ≡ index.entries ++ record { key = key; item = item } ∷ []
+    → mix ≡ payload_mix more → key ≡ mix % index.keys → after.keys ≡ index.keys
+    → after.entries ≡ index.entries ++ record { key = key; item = mix } ∷ []
     → AreKept (bytes ++ more) (spans ++ s ∷ []) after
-kept-push bytes more spans s index after key item was new start end under keys entries =
+kept-push bytes more spans s index after key mix was new start end mixed under keys entries =
     let pieces = slices_by_number bytes spans in
-    let f : Filed = record { key = key; item = item } in
     let grown = cuts-push bytes more spans s was.within start end in
     record {
       within = All-push (IsWithin (bytes ++ more)) spans s
           (λ k d lt. let at = was.within k d lt in (omega arith, omega (arith, length-append bytes more)))
           (omega arith, omega (arith, length-append bytes more));
       different = rw grown (different-push pieces more was.different new);
-      keys = keys ∙ was.keys;
+      keys = omega (arith, keys, was.keys);
       filed = rw (
         grown,
         entries,
-        map-append (λ (x : Filed). x.key) index.entries (f ∷ []),
-        map-append payload_key pieces (more ∷ []),
+        keys,
+        map-append (payload_filed index.keys) pieces (more ∷ []),
         was.filed,
         under,
+        mixed,
       ) refl;
     }
 
@@ -75,22 +76,40 @@ payload-read ps n more same = ap (λ (o : Option (List ℕ)). unwrap_or o []) sa
 pub filed-count : (bytes : List ℕ) (spans : List Span) (index : Files) → AreKept bytes spans index
     → length index.entries ≡ length (slices_by_number bytes spans)
 filed-count bytes spans index was =
-    sym (length-map index.entries (λ (f : Filed). f.key))
-    ∙ ap length was.filed
-    ∙ length-map (slices_by_number bytes spans) payload_key
+    ap length was.filed ∙ length-map (slices_by_number bytes spans) (payload_filed index.keys)
 
--- a payload is filed under its key
+-- a payload is filed under the rest of what it is mixed to
 pub filed-at : (bytes more : List ℕ) (spans : List Span) (index : Files) (key n : ℕ) → AreKept bytes spans index
-    → key ≡ payload_key more → slice_get (slices_by_number bytes spans) n ≡ Some more
+    → key ≡ payload_mix more % index.keys → slice_get (slices_by_number bytes spans) n ≡ Some more
     → HoldsAt (λ f. f.key ≡ key) index.entries n × (n < length index.entries)
 filed-at bytes more spans index key n was under same =
     let pieces = slices_by_number bytes spans in
     let many : n < length pieces = slice_get_within pieces n more same in
     let filed : n < length index.entries = omega (arith, filed-count bytes spans index was) in (
-      λ d. sym (get_or-map (λ (f : Filed). f.key) index.entries n d 0 filed)
-          ∙ ap (λ (ks : List ℕ). get_or ks n 0) was.filed
-          ∙ get_or-map payload_key pieces n [] 0 many
-          ∙ ap payload_key (get_or_from_slice_get pieces n more [] same)
+      λ d. ap (λ (es : List Filed). (get_or es n d).key) was.filed
+          ∙ ap (λ (f : Filed). f.key) (get_or-map (payload_filed index.keys) pieces n [] d many)
+          ∙ ap (λ (p : List ℕ). payload_mix p % index.keys) (get_or_from_slice_get pieces n more [] same)
           ∙ sym under,
       filed,
     )
+
+-- ---- more keys
+
+-- payloads stay kept where their entries are filed anew
+pub kept-widened : (bytes : List ℕ) (spans : List Span) (index after : Files) → AreKept bytes spans index
+    → IsWidened index after → AreKept bytes spans after
+kept-widened bytes spans index after was wide = record {
+  within = was.within;
+  different = was.different;
+  keys = elim wide [
+    | inl same ↦ omega (arith, same.0, was.keys)
+    | inr anew ↦ anew.0
+  ];
+  filed = elim wide [
+    | inl same ↦ rw (same.0, same.1) was.filed
+    | inr anew ↦
+        anew.1
+        ∙ ap (map (rest_under after.keys)) was.filed
+        ∙ map-map (rest_under after.keys) (payload_filed index.keys) (slices_by_number bytes spans)
+  ];
+}

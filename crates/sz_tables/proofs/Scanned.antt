@@ -3,13 +3,13 @@
 -- The key idea: what the first n region pairs add is a test of cells, so a row makes that test one pair wider, and at the
 -- end the test is the image: whether some asked cell has some region pair, or some region pair has some asked cell, is
 -- one.
-use Rattle.std.proofs.Common.{◌≡◌, ℕ, zero, suc, ◌+◌, ◌<◌, Bool, true, false, true≢false, ◌&&◌, ◌||◌}
-use Rattle.std.proofs.Common.{List, [], ◌∷◌, ◌++◌, map, length, take, get_or, Option, Some, None}
-use Rattle.std.proofs.Common.{refl, sym, ap, ap₂, subst, ◌∙◌, arith, inl, inr}
+use Rattle.std.proofs.Common.{◌≡◌, ℕ, zero, suc, ◌+◌, ◌<◌, Bool, true, false, ◌&&◌, ◌||◌}
+use Rattle.std.proofs.Common.{List, [], ◌∷◌, map, length, take, get_or, Option, Some, None}
+use Rattle.std.proofs.Common.{refl, sym, ap, ap₂, ◌∙◌, arith, inl, inr}
 use Rattle.std.specs.Prelude.{unwrap_or, slice_index, IfSome, All}
 use Rattle.std.specs.List.{slice_get, list_any, zip}
-use Rattle.std.proofs.Math.Bool.{or_assoc, or-false}
-use Rattle.std.proofs.lemmas.Bool.{cases_Bool, or_left, or_right}
+use Rattle.std.proofs.Math.Bool.{or-false}
+use Rattle.std.proofs.lemmas.Bool.{cases_Bool, or_right}
 use Rattle.std.proofs.lemmas.List.{take_all, get_or-map, length-map}
 use Rattle.std.proofs.lemmas.List.Folds.{list_any_more}
 use Rattle.std.proofs.lemmas.Option.{unwrap_or-slice_get}
@@ -20,7 +20,7 @@ use Rattle.sz_cells.proofs.Sets.{has-cells_where, cells_where-ext}
 use Rattle.sz_spec.specs.declared.modes.Dir.{Dir}
 use Rattle.sz_spec.specs.declared.modes.Dir.TheVariants.{Back, Forward}
 use Rattle.sz_spec.specs.Values.{no_extent, extent_at}
-use Rattle.sz_spec.specs.Sides.{extent_before, extent_after, image_between}
+use Rattle.sz_spec.specs.Sides.{extent_after, image_between}
 use Rattle.sz_region.specs.Parts.{Pairing}
 use Rattle.sz_region.specs.Stands.{set_of, full_stands}
 use Rattle.sz_region.proofs.Added.{with-none, with-ext, with-more}

@@ -2,7 +2,7 @@
 --
 -- The key idea: what is added stands behind all that there was, so each old span gives the slice that it gave, and the
 -- new one gives what was added.
-use Rattle.std.proofs.Common.{◌≡◌, ◌≢◌, ℕ, ◌+◌, ◌-◌, ◌<◌, ◌≤◌, List, [], ◌∷◌, ◌++◌, length, All}
+use Rattle.std.proofs.Common.{◌≡◌, ◌≢◌, ℕ, zero, suc, min, ◌+◌, ◌-◌, ◌<◌, ◌≤◌, List, [], ◌∷◌, ◌++◌, length, All}
 use Rattle.std.proofs.Common.{take, drop, slice_range, refl, sym, ap, ap₂, ◌∙◌, inl, inr, arith}
 use Rattle.std.proofs.Common.{length-append, Some}
 use Rattle.std.specs.List.{slice_get}
@@ -77,4 +77,26 @@ different-push xs x was new m n y at too =
         | inl low ↦ absurd (met-behind xs x y n m new low (omega arith) too at)
         | inr both ↦ omega arith
       ]
+    ]
+
+-- ---- no more than there is
+
+pub take-short : {X : Type 0} (n : ℕ) (xs : List X) → take (min (length xs) n) xs ≡ take n xs
+take-short n xs =
+    elim (cases_lt n (length xs)) [
+      | inl inside ↦ ap (λ (k : ℕ). take k xs) (omega arith)
+      | inr past ↦ take_all (min (length xs) n) xs (omega arith) ∙ sym (take_all n xs past)
+    ]
+
+drop-all : {X : Type 0} (n : ℕ) (xs : List X) → length xs ≤ n → drop n xs ≡ []
+drop-all zero [] past = refl
+drop-all zero (x ∷ xs) past = absurd (omega arith)
+drop-all (suc n) [] past = refl
+drop-all (suc n) (x ∷ xs) past = drop-all n xs (omega arith)
+
+pub drop-short : {X : Type 0} (n : ℕ) (xs : List X) → drop (min n (length xs)) xs ≡ drop n xs
+drop-short n xs =
+    elim (cases_lt n (length xs)) [
+      | inl inside ↦ ap (λ (k : ℕ). drop k xs) (omega arith)
+      | inr past ↦ drop-all (min n (length xs)) xs (omega arith) ∙ sym (drop-all n xs past)
     ]

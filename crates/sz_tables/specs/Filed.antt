@@ -1,5 +1,6 @@
 -- Entries in the order in which they came, each with a key and an item, and the last one of a key.
-use Rattle.std.specs.Prelude.{◌≡◌, ◌≢◌, ℕ, zero, suc, ◌+◌, ◌^◌, ◌<◌, ◌≤◌, List, length, map, All}
+use Rattle.std.specs.Prelude.{◌≡◌, ◌≢◌, ℕ, zero, suc, ◌+◌, ◌^◌, ◌%◌, ◌<◌, ◌≤◌, List, length, map}
+use Rattle.std.specs.Prelude.{All, ◌⊎◌}
 use Rattle.std.specs.Prelude.{slice_index, slice_index_or, Option, Some, None, MatchOption}
 use Rattle.std.specs.List.{HoldsAt, AllWithin}
 use Rattle.sz_tables.specs.declared.chains.Link.{Link}
@@ -24,6 +25,15 @@ IsLastBelow entries key end found =
     (AllWithin (λ e. e.key ≢ key) entries 0 end)
     (λ n. (n < end) × HoldsAt (λ e. e.key ≡ key) entries n
     × AllWithin (λ e. e.key ≢ key) entries (n + 1) end)
+
+-- an entry with its item, under what is left of the item over so many keys
+abbrev pub rest_under : ℕ → Filed → Filed
+rest_under keys e = record { key = e.item % keys; item = e.item }
+
+-- keys and entries are as they were, or each entry is under the rest of its item over new keys
+abbrev pub IsWidened : Files → Files → Type 0
+IsWidened old new = ((new.keys ≡ old.keys) × (new.entries ≡ old.entries))
+    ⊎ ((0 < new.keys) × (new.entries ≡ map (rest_under new.keys) old.entries))
 
 -- the entry that a link is seen as
 abbrev pub entry_of : Link → Filed

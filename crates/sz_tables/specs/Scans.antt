@@ -1,6 +1,6 @@
 -- What region pairs add to the image of a set of cells, by the two sides of a look: backward it
 -- goes from their output sets to those of an input, forward from these to their output sets.
-use Rattle.std.specs.Prelude.{◌≡◌, ℕ, ◌<◌, List, Bool, true, ◌&&◌, length, IfSome}
+use Rattle.std.specs.Prelude.{◌≡◌, ℕ, List, Bool, true, ◌&&◌, IfSome}
 use Rattle.std.specs.List.{list_any}
 use Rattle.sz_cells.specs.declared.Cell.{Cell}
 use Rattle.sz_cells.specs.Extent.{holds}

@@ -1,5 +1,5 @@
 -- What a store of lineage is seen as: what it was given, and for how much more it has room.
-use Rattle.std.specs.Prelude.{◌≡◌, ℕ, ◌+◌, ◌≤◌, List, [], ◌++◌, map, length, sum_by}
+use Rattle.std.specs.Prelude.{◌≡◌, ℕ, ◌+◌, ◌≤◌, List, map, length, sum_by}
 use Rattle.sz_cells.specs.Cells.{Cells}
 use Rattle.sz_spec.specs.Shapes.{Site}
 use Rattle.sz_region.specs.Parts.{Pairing, Entry}

@@ -1,12 +1,12 @@
 -- Sets of one shape by number, each different set once.
-use Rattle.std.specs.Prelude.{◌≡◌, ℕ, ◌+◌, ◌*◌, ◌/◌, ◌%◌, ◌≤◌, min, fold, map, All}
-use Rattle.std.specs.Prelude.{List, [], ◌∷◌, ◌++◌, length, slice_range, Some, ◌⊎◌}
+use Rattle.std.specs.Prelude.{◌≡◌, ℕ, ◌+◌, ◌-◌, ◌*◌, ◌%◌, ◌<◌, ◌≤◌, max, fold, map, All}
+use Rattle.std.specs.Prelude.{List, [], ◌∷◌, ◌++◌, length, take, drop, slice_range, Some, ◌⊎◌}
 use Rattle.std.specs.List.{slice_get, flat_map}
 use Rattle.sz_cells.specs.declared.Run.{Run}
 use Rattle.sz_cells.specs.Extent.{Extent, size_of}
 use Rattle.sz_cells.specs.Cells.{Cells}
 use Rattle.sz_cells.specs.Runs.{indexes_of, AreRunsFrom}
-use Rattle.sz_tables.specs.Filed.{Files}
+use Rattle.sz_tables.specs.Filed.{Filed, Files}
 use Rattle.sz_tables.specs.declared.spans.Span.{Span}
 
 -- what is seen of a table of sets: the shape, the sets in the order of their numbers, and for how
@@ -37,23 +37,26 @@ slices_by_number {X} xs spans = map (λ s. slice_range xs s.start s.end) spans
 abbrev pub runs_by_number : List Run → List Span → List (List Run)
 runs_by_number runs spans = slices_by_number runs spans
 
--- how many keys there are for sets of a shape, and the key of a set's runs
-abbrev pub keys_for : Extent → ℕ
-keys_for e = size_of e / 8 * 2 + 17
-
+-- what the runs of a set are mixed to: their number, the first 16 of them, and the last 16
 abbrev pub mixed : ℕ → Run → ℕ
 mixed h r = ((h * 31 + r.first) * 31 + r.last) % 4294967296
 
-abbrev pub key_of : ℕ → List Run → ℕ
-key_of keys runs = fold mixed 0 runs % keys
+abbrev pub first_mixed : List Run → ℕ
+first_mixed runs = fold mixed (length runs % 4294967296) (take 16 runs)
+
+abbrev pub mix_of : List Run → ℕ
+mix_of runs = fold mixed (first_mixed runs) (drop (max 16 (length runs - 16)) runs)
+
+-- the entry of a set by its runs, under so many keys
+abbrev pub filed_by : ℕ → List Run → Filed
+filed_by keys runs = record { key = mix_of runs % keys; item = mix_of runs }
 
 -- spans are within the list of runs and give the longest runs of sets, no two of which are one, and
--- each set is filed under the key of its runs
+-- each set is filed by its runs
 pub record AreNumbered (e : Extent) (runs : List Run) (spans : List Span) (index : Files)
     : Type 0 where
   pub within : All (λ s. (s.start ≤ s.end) × (s.end ≤ length runs)) spans
   pub longest : All (AreRunsFrom 0 (size_of e)) (runs_by_number runs spans)
   pub different : AreDifferent (map (spelled e) (runs_by_number runs spans))
-  pub keys : index.keys ≡ keys_for e
-  pub filed : map (λ f. f.key) index.entries
-      ≡ map (key_of (keys_for e)) (runs_by_number runs spans)
+  pub keys : 0 < index.keys
+  pub filed : index.entries ≡ map (filed_by index.keys) (runs_by_number runs spans)

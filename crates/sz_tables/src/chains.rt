@@ -1,9 +1,9 @@
 //! Entries under keys, each entry linked to the one before it of the same key.
 
 ghost use Rattle.std.specs.Prelude.{◌≡◌, ◌<◌, ◌≤◌, ◌+◌, ◌-◌, ◌^◌, [], ◌∷◌, ◌++◌};
-ghost use Rattle.std.specs.Prelude.{length, max, OnOk, OnErr, IfOk};
+ghost use Rattle.std.specs.Prelude.{length, map, max, OnOk, OnErr, IfOk};
 ghost use Rattle.std.specs.List.{HoldsAt};
-ghost use Rattle.sz_tables.specs.Filed.{IsLastBelow, told};
+ghost use Rattle.sz_tables.specs.Filed.{IsLastBelow, IsWidened, rest_under, told};
 
 use std::alloc::Global;
 use std::marker::Model;
@@ -111,6 +111,42 @@ impl Chains {
         Ok(())
     }
 
+    /// Makes room for so many more entries, and where there would be more than four entries for
+    /// each key, also more keys. Then each entry is filed under the rest of its item.
+    ///
+    /// Costs a visit to each entry where there are more keys: all calls together a few visits to
+    /// each.
+    pub fn widen(&mut self, entries: u32) -> Result<(), NoMemory>
+        requires few { length self.old.entries + entries < 2 ^ 32 }
+        ensures ok { OnOk result (entries ≤ self.new.spare) }
+        ensures err { OnErr result (self.old.spare ≤ self.new.spare) }
+        ensures kept { IsWidened self.old self.new }
+    {
+        let count = self.len() + entries;
+        if count / 4 <= self.keys() {
+            return self.reserve(0, entries);
+        }
+        *self = self.filed_anew(count / 4 * 2 + 1, entries)?;
+        Ok(())
+    }
+
+    /// These entries under so many keys, each under the rest of its item, with room for so many
+    /// more.
+    fn filed_anew(&self, keys: u32, more: u32) -> Result<Chains, NoMemory>
+        requires keys { 0 < keys }
+        requires few { length self.now.entries + more < 2 ^ 32 }
+        ensures keys { IfOk result (λ c. c.keys ≡ keys) }
+        ensures entries { IfOk result (λ c. c.entries ≡ map (rest_under keys) self.now.entries) }
+        ensures room { IfOk result (λ c. c.spare ≡ more) }
+    {
+        let mut anew = Chains::new(*self.links.allocator(), keys)?;
+        anew.reserve(0, self.len() + more)?;
+        for link in &self.links {
+            anew.add(link.item % keys, link.item);
+        }
+        Ok(anew)
+    }
+
     /// One key more, under which nothing is filed. Takes no memory.
     pub fn add_key(&mut self)
         requires { 0 < self.old.spare_keys }
@@ -162,6 +198,11 @@ impl Chains {
         ensures { HoldsAt (λ e. e.item ≡ result) self.now.entries number }
     {
         self.links[number as usize].item
+    }
+
+    /// The allocator that the memory is of.
+    pub fn allocator(&self) -> Global {
+        *self.links.allocator()
     }
 
     /// How many keys there are.

@@ -3,10 +3,10 @@
 ghost use Rattle.std.specs.Prelude.{◌≡◌, ◌<◌, ◌≤◌, ◌+◌, ◌-◌, ◌^◌, [], ◌∷◌, ◌++◌};
 ghost use Rattle.std.specs.Prelude.{ℕ, ◌≢◌, MatchOption, vec_len, vec_capacity};
 ghost use Rattle.std.specs.Bool.{Decides};
-ghost use Rattle.std.specs.Prelude.{length, max, OnOk, OnErr, IfOk, Some};
+ghost use Rattle.std.specs.Prelude.{length, fold, max, OnOk, OnErr, IfOk, Some};
 ghost use Rattle.std.specs.List.{slice_get};
 ghost use Rattle.sz_tables.specs.Tables.{AreDifferent, HasAtMostOneMore};
-ghost use Rattle.sz_tables.specs.Payloads.{payload_at, payload_key, payload_keys};
+ghost use Rattle.sz_tables.specs.Payloads.{payload_at, payload_mix, mixed_byte};
 
 use crate::chains::Chains;
 use crate::spans::Span;
@@ -14,15 +14,15 @@ use std::alloc::Global;
 use std::marker::Model;
 use sz_cells::NoMemory;
 
-/// How many keys payloads are filed under.
-const KEYS: u32 = 16_384;
+/// Under how many keys the first payloads are filed.
+const FIRST_KEYS: u32 = 17;
 
 /// Payloads. The bytes of all of them stand in one list.
 #[derive(Drop)]
 pub struct PayloadTable {
     bytes: Vec<u8>,
     spans: Vec<Span>,
-    /// Each payload under a key that its length and its bytes give, so that an equal one is found.
+    /// Each payload under what is left of what it is mixed to, so that an equal one is found.
     index: Chains,
     spare_payloads: u32,
     spare_bytes: usize,
@@ -56,7 +56,7 @@ impl PayloadTable {
         ensures { IfOk result (λ t.
             t ≡ record { payloads = []; spare_payloads = 0; spare_bytes = 0 }) }
     {
-        let index = Chains::new(alloc, KEYS)?;
+        let index = Chains::new(alloc, FIRST_KEYS)?;
         Ok(PayloadTable {
             bytes: Vec::new(alloc),
             spans: Vec::new(alloc),
@@ -96,7 +96,7 @@ impl PayloadTable {
             return Ok(());
         }
         self.spans.reserve(more as usize)?;
-        self.index.reserve(0, more)?;
+        self.index.widen(more)?;
         self.spare_payloads = more;
         Ok(())
     }
@@ -118,7 +118,8 @@ impl PayloadTable {
     /// The number of this payload, which is added where no payload of the table is equal. Takes no
     /// memory.
     ///
-    /// Costs a look at each byte of the payload, and at the payloads whose bytes give the same key.
+    /// Costs a look at some bytes of the payload, at each of them where it was added before, and at
+    /// the payloads that have the same key.
     pub fn add(&mut self, bytes: &[u8]) -> u32
         requires payloads { 0 < self.old.spare_payloads }
         requires bytes { length bytes.now ≤ self.old.spare_bytes }
@@ -127,20 +128,21 @@ impl PayloadTable {
         ensures room { self.old.spare_payloads ≤ self.new.spare_payloads + 1 }
         ensures bytes { self.old.spare_bytes ≤ self.new.spare_bytes + length bytes.now }
     {
-        let key = key_of(bytes);
-        match self.find(bytes, key) {
+        let mix = mix_of(bytes);
+        match self.find(bytes, mix) {
             Some(number) => number,
-            None => self.append(bytes, key),
+            None => self.append(bytes, mix),
         }
     }
 
-    /// The number of the payload of these bytes, whose key this is.
-    fn find(&self, bytes: &[u8], key: u32) -> Option<u32>
-        requires { key ≡ payload_key bytes.now }
+    /// The number of the payload of these bytes, which are mixed to this.
+    fn find(&self, bytes: &[u8], mix: u32) -> Option<u32>
+        requires { mix ≡ payload_mix bytes.now }
         ensures { MatchOption result
             ((n : ℕ) → slice_get self.now.payloads n ≢ Some bytes.now)
             (λ n. slice_get self.now.payloads n ≡ Some bytes.now) }
     {
+        let key = mix % self.index.keys();
         let mut next = self.index.last(key);
         while let Some(number) = next {
             if are_same(self.bytes(number), bytes) {
@@ -153,8 +155,8 @@ impl PayloadTable {
 
     /// Adds the payload of these bytes, which is none of the table's. Its number is the count of
     /// those before it.
-    fn append(&mut self, bytes: &[u8], key: u32) -> u32
-        requires key { key ≡ payload_key bytes.now }
+    fn append(&mut self, bytes: &[u8], mix: u32) -> u32
+        requires mix { mix ≡ payload_mix bytes.now }
         requires new { (n : ℕ) → slice_get self.old.payloads n ≢ Some bytes.now }
         requires payloads { 0 < self.old.spare_payloads }
         requires bytes { length bytes.now ≤ self.old.spare_bytes }
@@ -170,7 +172,8 @@ impl PayloadTable {
         put_bytes(&mut self.bytes, bytes);
         let end = self.bytes.len();
         self.spans.push_reserved(Span { start, end });
-        self.index.add(key, number);
+        let key = mix % self.index.keys();
+        self.index.add(key, mix);
         self.spare_payloads -= 1;
         self.spare_bytes -= bytes.len();
         number
@@ -194,16 +197,27 @@ impl PayloadTable {
     }
 }
 
-/// The key of a payload, below the number of keys.
-fn key_of(bytes: &[u8]) -> u32
-    ensures key { result ≡ payload_key bytes.now }
-    ensures below { result < payload_keys }
+/// What a payload is mixed to: its length, and of many bytes the first and the last of them alone.
+fn mix_of(bytes: &[u8]) -> u32
+    ensures { result ≡ payload_mix bytes.now }
 {
-    let mut mixed = bytes.len() as u64 % 4_294_967_296;
+    let long = bytes.len();
+    let first = mix_more(long as u64 % 4_294_967_296, &bytes[..long.min(32)]);
+    let start = long.saturating_sub(32).max(32).min(long);
+    mix_more(first, &bytes[start..]) as u32
+}
+
+/// What bytes behind others are mixed to.
+fn mix_more(before: u64, bytes: &[u8]) -> u64
+    requires { before < 4294967296 }
+    ensures mix { result ≡ fold mixed_byte before bytes.now }
+    ensures fits { result < 4294967296 }
+{
+    let mut mixed = before;
     for byte in bytes {
         mixed = (mixed * 16_777_619 + u64::from(*byte)) % 4_294_967_296;
     }
-    (mixed % u64::from(KEYS)) as u32
+    mixed
 }
 
 /// Appends bytes for which there is room. Takes no memory.

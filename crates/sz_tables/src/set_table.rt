@@ -3,12 +3,12 @@
 ghost use Rattle.std.specs.Prelude.{◌≡◌, ◌<◌, ◌≤◌, ◌+◌, ◌-◌, ◌^◌, [], ◌∷◌, ◌++◌};
 ghost use Rattle.std.specs.Prelude.{ℕ, ◌≢◌, MatchOption, vec_len, vec_capacity};
 ghost use Rattle.std.specs.Bool.{Decides};
-ghost use Rattle.std.specs.Prelude.{length, max, OnOk, OnErr, IfOk, Some};
+ghost use Rattle.std.specs.Prelude.{length, fold, max, OnOk, OnErr, IfOk, Some};
 ghost use Rattle.std.specs.List.{slice_get};
 ghost use Rattle.sz_cells.specs.Runs.{runs_of, AreRunsFrom, Spells};
 ghost use Rattle.sz_cells.specs.Extent.{size_of};
 ghost use Rattle.sz_tables.specs.Tables.{AreDifferent, HasAtMostOneMore};
-ghost use Rattle.sz_tables.specs.Tables.{spelled, keys_for, key_of};
+ghost use Rattle.sz_tables.specs.Tables.{spelled, mix_of, mixed};
 ghost use Rattle.sz_tables.specs.Rows.{set_at, runs_in};
 
 use crate::chains::Chains;
@@ -17,13 +17,17 @@ use std::alloc::Global;
 use std::marker::Model;
 use sz_cells::{CellSet, NoMemory, Run, Shape};
 
+/// Under how many keys the first sets are filed: an odd number, as each number of keys is, so that
+/// sets whose runs are all even leave no keys unused.
+const FIRST_KEYS: u32 = 17;
+
 /// Sets of one shape. The runs of all sets stand in one list.
 #[derive(Drop)]
 pub struct SetTable {
     shape: Shape,
     runs: Vec<Run>,
     spans: Vec<Span>,
-    /// Each set under a key that its runs give, so that an equal set is found.
+    /// Each set under what is left of what its runs are mixed to, so that an equal set is found.
     index: Chains,
     spare_sets: u32,
     spare_runs: usize,
@@ -57,7 +61,7 @@ impl SetTable {
         ensures { IfOk result (λ t.
             t ≡ record { extent = shape; sets = []; spare_sets = 0; spare_runs = 0 }) }
     {
-        let index = Chains::new(alloc, key_count(shape))?;
+        let index = Chains::new(alloc, FIRST_KEYS)?;
         Ok(SetTable {
             shape,
             runs: Vec::new(alloc),
@@ -97,7 +101,7 @@ impl SetTable {
             return Ok(());
         }
         self.spans.reserve(more as usize)?;
-        self.index.reserve(0, more)?;
+        self.index.widen(more)?;
         self.spare_sets = more;
         Ok(())
     }
@@ -118,7 +122,8 @@ impl SetTable {
 
     /// The number of this set, which is added where no set of the table is equal. Takes no memory.
     ///
-    /// Costs a look at each run of the set, and at the sets whose runs give the same key.
+    /// Costs a look at some runs of the set, at each of them where it was added before, and at the
+    /// sets that have the same key.
     pub fn add(&mut self, set: &CellSet) -> u32
         requires shape { set.now.extent ≡ self.old.extent }
         requires sets { 0 < self.old.spare_sets }
@@ -130,21 +135,22 @@ impl SetTable {
         ensures runs { self.old.spare_runs ≤ self.new.spare_runs + runs_in set.now }
     {
         let runs = set.runs();
-        let key = key_of(runs, key_count(self.shape()));
-        match self.find(runs, key) {
+        let mix = mix_of(runs);
+        match self.find(runs, mix) {
             Some(number) => number,
-            None => self.append(runs, key),
+            None => self.append(runs, mix),
         }
     }
 
-    /// The number of the set that has these runs, whose key this is.
-    fn find(&self, runs: &[Run], key: u32) -> Option<u32>
+    /// The number of the set that has these runs, which are mixed to this.
+    fn find(&self, runs: &[Run], mix: u32) -> Option<u32>
         requires longest { AreRunsFrom 0 (size_of self.now.extent) runs.now }
-        requires key { key ≡ key_of (keys_for self.now.extent) runs.now }
+        requires mix { mix ≡ mix_of runs.now }
         ensures { let set = spelled self.now.extent runs.now in MatchOption result
             ((n : ℕ) → slice_get self.now.sets n ≢ Some set)
             (λ n. slice_get self.now.sets n ≡ Some set) }
     {
+        let key = mix % self.index.keys();
         let mut next = self.index.last(key);
         while let Some(number) = next {
             if are_same(self.runs(number), runs) {
@@ -157,9 +163,9 @@ impl SetTable {
 
     /// Adds the set that has these runs, which is none of the table's. Its number is the count of
     /// those before it.
-    fn append(&mut self, runs: &[Run], key: u32) -> u32
+    fn append(&mut self, runs: &[Run], mix: u32) -> u32
         requires longest { AreRunsFrom 0 (size_of self.old.extent) runs.now }
-        requires key { key ≡ key_of (keys_for self.old.extent) runs.now }
+        requires mix { mix ≡ mix_of runs.now }
         requires new { (n : ℕ)
             → slice_get self.old.sets n ≢ Some (spelled self.old.extent runs.now) }
         requires sets { 0 < self.old.spare_sets }
@@ -176,7 +182,8 @@ impl SetTable {
         put_runs(&mut self.runs, runs);
         let end = self.runs.len();
         self.spans.push_reserved(Span { start, end });
-        self.index.add(key, number);
+        let key = mix % self.index.keys();
+        self.index.add(key, mix);
         self.spare_sets -= 1;
         self.spare_runs -= runs.len();
         number
@@ -210,28 +217,29 @@ impl SetTable {
     }
 }
 
-/// How many keys suit the sets of a shape: an odd number, so that numbers which are all even, or all
-/// multiples of a power of two, do not leave keys unused.
-fn key_count(shape: Shape) -> u32
-    ensures count { result ≡ keys_for shape }
-    ensures some { 0 < result }
+/// What some runs are mixed to: their number, and of many the first and the last of them alone.
+fn mix_of(runs: &[Run]) -> u32
+    ensures { result ≡ mix_of runs.now }
 {
-    shape.size() / 8 * 2 + 17
+    let long = runs.len();
+    let first = mix_more(long as u64 % 4_294_967_296, &runs[..long.min(16)]);
+    let start = long.saturating_sub(16).max(16).min(long);
+    mix_more(first, &runs[start..]) as u32
 }
 
-/// The key of a set's runs, below the number of keys.
-fn key_of(runs: &[Run], keys: u32) -> u32
-    requires { 0 < keys }
-    ensures key { result ≡ key_of keys runs.now }
-    ensures below { result < keys }
+/// What runs behind others are mixed to.
+fn mix_more(before: u64, runs: &[Run]) -> u64
+    requires { before < 4294967296 }
+    ensures mix { result ≡ fold mixed before runs.now }
+    ensures fits { result < 4294967296 }
 {
-    let mut mixed: u64 = 0;
+    let mut mixed = before;
     for run in runs {
         let first = u64::from(run.first);
         let last = u64::from(run.last);
         mixed = ((mixed * 31 + first) * 31 + last) % 4_294_967_296;
     }
-    (mixed % u64::from(keys)) as u32
+    mixed
 }
 
 /// Appends runs for which there is room. Takes no memory.

@@ -1,5 +1,5 @@
 -- Run by run: the one with an asked index ends the look, and where none has one no index is met.
-use Rattle.std.proofs.Common.{◌≡◌, false, List, refl, sym, ap, ◌∙◌, arith}
+use Rattle.std.proofs.Common.{List, sym, ap, ◌∙◌, arith}
 use Rattle.std.specs.List.{list_any}
 use Rattle.std.proofs.lemmas.List.{take_all}
 use Rattle.sz_cells.specs.declared.Run.{Run}

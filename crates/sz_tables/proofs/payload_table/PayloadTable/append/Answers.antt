@@ -1,5 +1,5 @@
 -- The key idea: the bytes of the new payload stand behind all others, and it is filed under their key.
-use Rattle.std.proofs.Common.{◌≡◌, ◌+◌, ◌∙◌, [], ◌∷◌, length, ap, refl, arith, length-append}
+use Rattle.std.proofs.Common.{◌≡◌, ℕ, ◌+◌, ◌%◌, ◌∙◌, [], ◌∷◌, length, ap, refl, arith, length-append}
 use Rattle.sz_tables.specs.Filed.{Files}
 use Rattle.sz_tables.specs.Payloads.{PayloadsByNumber}
 use Rattle.sz_tables.specs.declared.spans.Span.{Span}
@@ -14,6 +14,8 @@ invariant_of-self c =
     let spans = c.self.inside.spans.items in
     let more = c.args.bytes.now in
     let s : Span = record { start = c.len-start.result; end = c.len-end.result } in
+    let key = c.args.mix % c.keys.result in
+    let own = ap (λ (k : ℕ). c.args.mix % k) c.keys.ensures in
     let long = ap length c.put_bytes.ensures.items ∙ length-append bytes more in
     let start : s.start ≡ length bytes = omega (arith, c.len-start.ensures) in
     let end : s.end ≡ length bytes + length more = omega (arith, c.len-end.ensures, long) in
@@ -22,8 +24,8 @@ invariant_of-self c =
     let room = ap (λ (t : PayloadsByNumber). t.spare_bytes) c.self.view_is in
     let spans_long = ap length c.push_reserved.ensures.items ∙ length-append spans (s ∷ []) in (
       rw (c.put_bytes.ensures.items, c.push_reserved.ensures.items)
-          (kept-push bytes more spans s c.self.inside.index c.add.new.self c.args.key c.len-number.result was.0 new
-          start end c.requires.key (ap (λ (f : Files). f.keys) c.add.ensures)
+          (kept-push bytes more spans s c.self.inside.index c.add.new.self key c.args.mix was.0 new
+          start end c.requires.mix own (ap (λ (f : Files). f.keys) c.add.ensures)
           (ap (λ (f : Files). f.entries) c.add.ensures)),
       record {
         few = omega (arith, was.1.few, spans_long, payloads, c.requires.payloads);

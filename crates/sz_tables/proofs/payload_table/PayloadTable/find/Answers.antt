@@ -1,5 +1,5 @@
 -- The key idea: a payload of these bytes is filed under their key, so the walk over the entries of the key meets it.
-use Rattle.std.proofs.Common.{◌≡◌, ◌≢◌, ℕ, ◌<◌, ◌∙◌, length, ap, sym, arith}
+use Rattle.std.proofs.Common.{◌≡◌, ◌≢◌, ℕ, ◌<◌, ◌%◌, ◌∙◌, length, ap, sym, arith}
 use Rattle.std.proofs.lemmas.Bool.{false≢true}
 use Rattle.sz_tables.specs.Payloads.{payload_at}
 use Rattle.sz_tables.proofs.Chained.{entry-within}
@@ -9,29 +9,35 @@ use Rattle.sz_tables.proofs.payload_table.PayloadTable.find.Goals as goal
 
 pub loop-next-init : goal.loop-next-init
 loop-next-init c =
+    let key_now = c.args.mix % c.keys.result in
     let index = c.self.inside.index in
     let spans = c.self.inside.spans.items in
+    let own : key_now ≡ c.args.mix % index.keys = ap (λ (k : ℕ). c.args.mix % k) c.keys.ensures in
+    let key_is = own ∙ ap (λ (m : ℕ). m % index.keys) c.requires in
     record {
       ahead = λ n same.
-          let key = filed-at c.self.inside.bytes.items c.args.bytes.now spans index c.args.key n c.self.invariant.0
-          c.requires (rw (← c.self.view_is) at same) in
-          last-reach index.entries c.args.key _ c.last-next.result n c.last-next.ensures key.0 key.1;
-      filed = last-filed index.entries c.args.key _ c.last-next.result c.last-next.ensures;
+          let key = filed-at c.self.inside.bytes.items c.args.bytes.now spans index key_now n c.self.invariant.0
+          key_is (rw (← c.self.view_is) at same) in
+          last-reach index.entries key_now _ c.last-next.result n c.last-next.ensures key.0 key.1;
+      key = own;
+      filed = last-filed index.entries key_now _ c.last-next.result c.last-next.ensures;
     }
 
 pub bytes-requires : goal.bytes-requires
 bytes-requires c =
+    let key_now = c.args.mix % c.keys.result in
     let index = c.self.inside.index in
     let filed = rw c.in-Some.is at c.loop-next.invariant.filed in
-    let many = entry-within index.entries c.in-Some.number c.args.key filed in
+    let many = entry-within index.entries c.in-Some.number key_now filed in
     let count = filed-count c.self.inside.bytes.items c.self.inside.spans.items index c.self.invariant.0 in
     rw (← c.self.view_is) (omega (arith, many, count))
 
 pub returns-then-are_same : goal.returns-then-are_same
 returns-then-are_same c =
+    let key_now = c.args.mix % c.keys.result in
     let index = c.self.inside.index in
     let filed = rw c.in-Some.is at c.loop-next.invariant.filed in
-    let many = entry-within index.entries c.in-Some.number c.args.key filed in
+    let many = entry-within index.entries c.in-Some.number key_now filed in
     let count = filed-count c.self.inside.bytes.items c.self.inside.spans.items index c.self.invariant.0 in
     let within : c.in-Some.number < length c.args.self.now.payloads =
     rw (← c.self.view_is) (omega (arith, many, count)) in
@@ -40,18 +46,21 @@ returns-then-are_same c =
 
 pub loop-next-preserved : goal.loop-next-preserved
 loop-next-preserved c =
+    let key_now = c.args.mix % c.keys.result in
     let index = c.self.inside.index in
     let spans = c.self.inside.spans.items in
+    let key_is = c.loop-next.invariant.key ∙ ap (λ (m : ℕ). m % index.keys) c.requires in
     record {
       ahead = λ n same.
-          let key = filed-at c.self.inside.bytes.items c.args.bytes.now spans index c.args.key n c.self.invariant.0
-          c.requires (rw (← c.self.view_is) at same) in
+          let key = filed-at c.self.inside.bytes.items c.args.bytes.now spans index key_now n c.self.invariant.0
+          key_is (rw (← c.self.view_is) at same) in
           let ahead = rw c.in-Some.is at c.loop-next.invariant.ahead n same in
           let other : n ≢ c.in-Some.number = λ here.
           false≢true (sym c.if-are_same.false ∙ c.are_same.ensures.1 (c.bytes.ensures
           ∙ ap (λ (k : ℕ). payload_at c.args.self.now.payloads k) (sym here)
           ∙ payload-read c.args.self.now.payloads n c.args.bytes.now same)) in
-          last-reach index.entries c.args.key c.in-Some.number c.before-next.result n c.before-next.ensures key.0
+          last-reach index.entries key_now c.in-Some.number c.before-next.result n c.before-next.ensures key.0
           (omega (arith, ahead));
-      filed = last-filed index.entries c.args.key c.in-Some.number c.before-next.result c.before-next.ensures;
+      key = c.loop-next.invariant.key;
+      filed = last-filed index.entries key_now c.in-Some.number c.before-next.result c.before-next.ensures;
     }

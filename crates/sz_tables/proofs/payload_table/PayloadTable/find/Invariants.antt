@@ -1,5 +1,5 @@
 -- The key idea: the payloads from the reach of the next entry on are others, and that entry is one of the key.
-use Rattle.std.proofs.Common.{◌≡◌, ℕ, ◌<◌, Some}
+use Rattle.std.proofs.Common.{◌≡◌, ℕ, ◌%◌, ◌<◌, Some}
 use Rattle.std.specs.List.{HoldsAt, slice_get}
 use Rattle.std.specs.Option.{IfSome}
 use Rattle.sz_tables.proofs.Numbered.{reach}
@@ -8,6 +8,7 @@ use Rattle.sz_tables.proofs.payload_table.PayloadTable.find.Given as goal
 abbrev pub invariant-loop-next : goal.invariant-loop-next
 invariant-loop-next l = record {
   ahead : (n : ℕ) → slice_get l.self.payloads n ≡ Some l.bytes → n < reach l.next;
+  key : l.key ≡ l.mix % l.self-inside.index.keys;
   filed : IfSome l.next (λ n. HoldsAt (λ e. e.key ≡ l.key) l.self-inside.index.entries n);
 }
 

@@ -1,18 +1,18 @@
 -- The key idea: the sets of the region pair are taken one by one, and the numbers appended; what that means for the
 -- rows is said of any table.
-use Rattle.std.proofs.Common.{◌≡◌, ℕ, ◌+◌, ◌-◌, ◌<◌, ◌≤◌, ◌∙◌, ◌++◌, ◌∷◌, [], List, map, length, take, drop, ap, sym, refl}
+use Rattle.std.proofs.Common.{◌≡◌, ℕ, ◌+◌, ◌-◌, ◌<◌, ◌∙◌, ◌++◌, ◌∷◌, [], List, map, length, take, drop, ap, sym, refl}
 use Rattle.std.proofs.Common.{arith, get_or}
 use Rattle.std.specs.Arc.{arc_value}
 use Rattle.std.specs.List.{sum_by}
 use Rattle.std.specs.Vec.{vec_capacity}
-use Rattle.std.proofs.lemmas.List.{with_items_is, append_assoc, take-append-drop, length_push, length-map}
+use Rattle.std.proofs.lemmas.List.{with_items_is, append_assoc, take-append-drop, length-map}
 use Rattle.std.proofs.lemmas.List.{get_or_default}
 use Rattle.sz_region.specs.Parts.{Pairing}
 use Rattle.sz_cells.specs.Cells.{Cells}
 use Rattle.sz_spec.specs.Values.{no_extent}
 use Rattle.sz_tables.specs.Tables.{SetsByNumber, HasAtMostOneMore}
-use Rattle.sz_tables.specs.Rows.{Takes, TakeEach, IsSound, runs_in, weight_of, empty_sets, set_at, sets_of}
-use Rattle.sz_tables.proofs.Rows.{Adds, pairings-added, added-keeps, added-sound, rows-added, rows-length}
+use Rattle.sz_tables.specs.Rows.{TakeEach, runs_in, weight_of, empty_sets, set_at, sets_of}
+use Rattle.sz_tables.proofs.Rows.{Adds, pairings-added, added-keeps, added-sound, rows-length}
 use Rattle.sz_tables.proofs.Taking.{as-many, read-sets}
 use Rattle.sz_tables.proofs.region_table.RegionTable.add.Goals as goal
 use Rattle.sz_tables.proofs.region_table.RegionTable.add.Goals.{After-runs_of_each}

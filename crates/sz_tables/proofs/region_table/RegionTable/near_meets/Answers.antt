@@ -1,5 +1,4 @@
 -- Each side has its own look.
-use Rattle.std.proofs.Common.{refl}
 use Rattle.sz_tables.proofs.region_table.RegionTable.near_meets.Goals as goal
 
 pub returns-in-Back : goal.returns-in-Back

@@ -1,5 +1,5 @@
 -- The key idea: the runs of the new set stand behind all others, and it is filed under their key.
-use Rattle.std.proofs.Common.{◌≡◌, ◌+◌, ◌∙◌, [], ◌∷◌, length, ap, refl, arith, length-append}
+use Rattle.std.proofs.Common.{◌≡◌, ℕ, ◌+◌, ◌%◌, ◌∙◌, [], ◌∷◌, length, ap, refl, arith, length-append}
 use Rattle.std.proofs.lemmas.List.{map-append}
 use Rattle.sz_tables.specs.Filed.{Files}
 use Rattle.sz_tables.specs.Tables.{SetsByNumber, spelled, runs_by_number}
@@ -15,18 +15,19 @@ invariant_of-self c =
     let spans = c.self.inside.spans.items in
     let more = c.args.runs.now in
     let s : Span = record { start = c.len-start.result; end = c.len-end.result } in
+    let key = c.args.mix % c.keys.result in
+    let own = ap (λ (k : ℕ). c.args.mix % k) c.keys.ensures in
     let long = ap length c.put_runs.ensures.items ∙ length-append runs more in
     let start : s.start ≡ length runs = omega (arith, c.len-start.ensures) in
     let end : s.end ≡ length runs + length more = omega (arith, c.len-end.ensures, long) in
     let longest = rw (← c.self.view_is) at c.requires.longest in
     let new = rw (← c.self.view_is) at c.requires.new in
-    let key = rw (← c.self.view_is) at c.requires.key in
     let sets = ap (λ (t : SetsByNumber). t.spare_sets) c.self.view_is in
     let room = ap (λ (t : SetsByNumber). t.spare_runs) c.self.view_is in
     let spans_long = ap length c.push_reserved.ensures.items ∙ length-append spans (s ∷ []) in (
       rw (c.put_runs.ensures.items, c.push_reserved.ensures.items)
-          (numbered-push c.self.inside.shape runs more spans s c.self.inside.index c.add.new.self c.args.key
-          c.len-number.result was.0 longest new start end key (ap (λ (f : Files). f.keys) c.add.ensures)
+          (numbered-push c.self.inside.shape runs more spans s c.self.inside.index c.add.new.self key
+          c.args.mix was.0 longest new start end c.requires.mix own (ap (λ (f : Files). f.keys) c.add.ensures)
           (ap (λ (f : Files). f.entries) c.add.ensures)),
       record {
         few = omega (arith, was.1.few, spans_long, sets, c.requires.sets);

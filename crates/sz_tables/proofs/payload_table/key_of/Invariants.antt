@@ -1,9 +1,0 @@
--- The key idea: the number so far is what the bytes so far are mixed to, and it fits 32 bits, so no step wraps.
-use Rattle.std.proofs.Common.{◌≡◌, ◌<◌, ◌%◌, take, fold, length}
-use Rattle.sz_tables.specs.Payloads.{mixed_byte}
-use Rattle.sz_tables.proofs.payload_table.key_of.Given as goal
-
-abbrev pub invariant-loop-byte : goal.invariant-loop-byte
-invariant-loop-byte l =
-    (l.mixed < 4294967296)
-    × (l.mixed ≡ fold mixed_byte (length l.bytes % 4294967296) (take l.byte-index l.bytes))

@@ -1,0 +1,31 @@
+-- The key idea: entries that are filed anew are under the rests of the same items.
+use Rattle.std.proofs.Common.{ap, length, arith}
+use Rattle.sz_tables.specs.Tables.{SetsByNumber}
+use Rattle.sz_tables.proofs.Numbered.{numbered-widened, sets-count}
+use Rattle.sz_tables.proofs.set_table.SetTable.reserve_sets.Goals as goal
+
+pub invariant_of-self-in_err-widen : goal.invariant_of-self-in_err-widen
+invariant_of-self-in_err-widen c = (
+  (rw c.reserve.ensures.items (numbered-widened c.self.inside.shape c.self.inside.runs.items c.self.inside.spans.items
+      c.self.inside.index c.widen.new.self c.self.invariant.0 c.widen.ensures.kept)),
+  rw c.reserve.ensures.items (record {
+    few = c.self.invariant.1.few;
+    room = omega (arith, c.self.invariant.1.room, c.reserve.ensures.capacity);
+  }),
+  omega (arith, c.self.invariant.2, c.in_err-widen.ensures.err),
+  c.self.invariant.3,
+)
+
+pub invariant_of-self-2 : goal.invariant_of-self-2
+invariant_of-self-2 c =
+    let seen = ap (λ (t : SetsByNumber). length t.sets) c.self.view_is in
+    let count = sets-count c.self.inside.shape c.self.inside.runs.items c.self.inside.spans.items in (
+      (rw c.reserve.ensures.items (numbered-widened c.self.inside.shape c.self.inside.runs.items c.self.inside.spans.items
+          c.self.inside.index c.widen.new.self c.self.invariant.0 c.widen.ensures.kept)),
+      rw c.reserve.ensures.items (record {
+        few = omega (arith, c.requires, seen, count);
+        room = omega (arith, c.in_ok-reserve.ensures.ok);
+      }),
+      c.in_ok-widen.ensures.ok,
+      c.self.invariant.3,
+    )
