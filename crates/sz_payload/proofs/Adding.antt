@@ -161,7 +161,7 @@ nothing-adds s i from to e payload own at unmet =
     ∙ off (has e.out o))
 
 -- one entry more
-entry-get : (es : List Entry) (n : ℕ) (d : Entry) → n < length es → get_or es n d ≡ entry_at es n
+pub entry-get : (es : List Entry) (n : ℕ) (d : Entry) → n < length es → get_or es n d ≡ entry_at es n
 entry-get [] n d inside = absurd (omega arith)
 entry-get (e ∷ es) zero d inside = refl
 entry-get (e ∷ es) (suc n) d inside = entry-get es n d (omega arith)

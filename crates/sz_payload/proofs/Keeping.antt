@@ -1,8 +1,8 @@
 -- A store's entries, index and room, when an entry more comes behind the others.
-use Rattle.std.proofs.Common.{◌≡◌, ℕ, zero, suc, ◌<◌, ◌≤◌, Bool, true, false, true≢false}
-use Rattle.std.proofs.Common.{List, [], ◌∷◌, ◌++◌, length, take}
-use Rattle.std.proofs.Common.{sym, subst, ◌∙◌, arith, inl, inr}
-use Rattle.std.specs.Prelude.{All}
+use Rattle.std.proofs.Common.{◌≡◌, ℕ, zero, suc, ◌*◌, ◌<◌, ◌≤◌, Bool, true, false, true≢false}
+use Rattle.std.proofs.Common.{List, [], ◌∷◌, ◌++◌, length, take, drop}
+use Rattle.std.proofs.Common.{refl, sym, subst, ◌∙◌, arith, inl, inr}
+use Rattle.std.specs.Prelude.{All, sum_by}
 use Rattle.std.proofs.lemmas.List.Elements.{All-nil, All-cons, All-head, All-tail}
 use Rattle.std.proofs.lemmas.Bool.{false_from_ne_true, or_cases, or_left, or_right}
 use Rattle.sz_cells.specs.declared.Cell.{Cell}
@@ -11,9 +11,12 @@ use Rattle.sz_region.specs.Fits.{AreApart}
 use Rattle.sz_region.specs.Parts.{Entry}
 use Rattle.sz_region.specs.Stands.{has_entry}
 use Rattle.sz_tables.specs.Tables.{HasAtMostOneMore}
+use Rattle.sz_tables.proofs.Counted.{rest-more}
 use Rattle.sz_payload.specs.declared.owner.Owner.{Owner}
-use Rattle.sz_payload.specs.declared.owner.Owner.TheVariants.{One, Many}
-use Rattle.sz_payload.specs.Owned.{room_in}
+use Rattle.sz_payload.specs.declared.owner.Owner.TheVariants.{One, Few, Many}
+use Rattle.sz_tables.specs.Rows.{runs_in}
+use Rattle.sz_tables.specs.Stores.{cells_in}
+use Rattle.sz_payload.specs.Owned.{HasCellRoom, cell_room, room_in}
 
 -- ---- one payload more at most
 
@@ -55,11 +58,47 @@ apart-front (e ∷ es) fs apart = (
 
 pub room-rows : (rows : ℕ) (w : Owner) → room_in rows w ≤ rows
 room-rows rows (One slots) = omega arith
+room-rows rows (Few files) = omega arith
 room-rows rows (Many tree) = omega arith
 
 pub room-one : (rows : ℕ) (w : Owner) → 0 < room_in rows w → 0 < room_in 1 w
 room-one rows (One slots) some = omega arith
+room-one rows (Few files) some = omega arith
 room-one rows (Many tree) some = omega arith
+
+-- room for so many cells in the index, and that for the cells that are left where there is room for their runs
+pub room-cells : (runs cells : ℕ) (w : Owner) → cells ≤ cell_room runs w → HasCellRoom cells w
+room-cells runs cells (One slots) room = tt
+room-cells runs cells (Few files) room = room
+room-cells runs cells (Many tree) room = tt
+
+pub cells-left : (runs cells : ℕ) (w : Owner) → cells ≤ runs * 1048576 → HasCellRoom cells w
+    → cells ≤ cell_room runs w
+cells-left runs cells (One slots) few room = few
+cells-left runs cells (Few files) few room = room
+cells-left runs cells (Many tree) few room = few
+
+-- entries none of whose sets has more cells than its runs can
+few-head : (es : List Entry) (e : Entry) → All (λ x. cells_in x.out ≤ runs_in x.out * 1048576) (e ∷ es)
+    → sum_by (λ x. cells_in x.out) es ≤ sum_by (λ x. runs_in x.out) es * 1048576
+    → sum_by (λ x. cells_in x.out) (e ∷ es) ≤ sum_by (λ x. runs_in x.out) (e ∷ es) * 1048576
+few-head es e all rest =
+    omega (
+      arith,
+      All-head (λ (x : Entry). cells_in x.out ≤ runs_in x.out * 1048576) e es all,
+      rest,
+      rest-more (λ (x : Entry). cells_in x.out) (e ∷ es) 0 e (omega arith, refl),
+      rest-more (λ (x : Entry). runs_in x.out) (e ∷ es) 0 e (omega arith, refl),
+    )
+
+pub few-cells : (i : ℕ) (es : List Entry) → All (λ x. cells_in x.out ≤ runs_in x.out * 1048576) es
+    → sum_by (λ x. cells_in x.out) (drop i es) ≤ sum_by (λ x. runs_in x.out) (drop i es) * 1048576
+few-cells zero [] all = omega arith
+few-cells zero (e ∷ es) all =
+    few-head es e all (few-cells zero es (All-tail (λ (x : Entry). cells_in x.out ≤ runs_in x.out * 1048576) e es all))
+few-cells (suc i) [] all = omega arith
+few-cells (suc i) (e ∷ es) all =
+    few-cells i es (All-tail (λ (x : Entry). cells_in x.out ≤ runs_in x.out * 1048576) e es all)
 
 -- a front part is no longer than it was asked
 pub front-long : {X : Type 0} (n : ℕ) (xs : List X) → length (take n xs) ≤ n

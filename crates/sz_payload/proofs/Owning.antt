@@ -66,7 +66,7 @@ none-there (d ∷ es) o none =
 
 -- ---- owners
 
-long-more : (es : List Entry) (e : Entry) → length (es ++ e ∷ []) ≡ length es + 1
+pub long-more : (es : List Entry) (e : Entry) → length (es ++ e ∷ []) ≡ length es + 1
 long-more [] e = refl
 long-more (d ∷ es) e = omega (arith, long-more es e)
 

@@ -16,12 +16,26 @@ pub(crate) fn runs_of_all(entries: &[Arc<PayEntry>]) -> usize
     ensures runs { result ≡ sum_by (λ e. runs_in e.out) (map (λ a. arc_value a) entries.now) }
     ensures cells { sum_by (λ e. cells_in e.out) (map (λ a. arc_value a) entries.now)
         ≤ result * 1048576 }
+    ensures each { All (λ e. cells_in e.out ≤ runs_in e.out * 1048576)
+        (map (λ a. arc_value a) entries.now) }
 {
     let mut runs = 0;
     for entry in entries {
         runs += runs_of_set(&entry.out);
     }
     runs
+}
+
+/// How many cells the sets of all these entries have.
+pub(crate) fn cells_of_all(entries: &[Arc<PayEntry>]) -> usize
+    requires { length entries.now ≤ most_given }
+    ensures { result ≡ sum_by (λ e. cells_in e.out) (map (λ a. arc_value a) entries.now) }
+{
+    let mut cells = 0;
+    for entry in entries {
+        cells += entry.out.count() as usize;
+    }
+    cells
 }
 
 /// How many bytes the payloads of all these entries have.

@@ -1,56 +1,86 @@
 //! Which entry an output cell is in.
 
-ghost use Rattle.std.specs.Prelude.{◌≡◌, ◌<◌, ◌≤◌, ◌+◌, ◌++◌, ◌∷◌, [], ℕ, List, length, true};
+ghost use Rattle.std.specs.Prelude.{◌≡◌, ◌<◌, ◌≤◌, ◌+◌, ◌*◌, ◌++◌, ◌∷◌, [], ℕ, List, length, true};
 ghost use Rattle.std.specs.Prelude.{false, if◌then◌else◌};
 ghost use Rattle.std.specs.Prelude.{IfOk, OnOk, slice_index, nat_lt};
 ghost use Rattle.std.specs.List.Sorted.{IsNonDecreasingBy, IsPartitionPoint};
 ghost use Rattle.sz_cells.specs.Extent.{size_of, cell_of, Extent};
 ghost use Rattle.sz_cells.specs.Cells.{has};
-ghost use Rattle.sz_cells.specs.Runs.{AreRunsFrom, covers, is_in};
+ghost use Rattle.sz_cells.specs.Runs.{AreRunsFrom, covers, indexes_of, is_in};
 ghost use Rattle.sz_region.specs.Parts.{Entry};
 ghost use Rattle.sz_tables.specs.Entries.{entries, entry_at};
 ghost use Rattle.sz_tables.specs.Filed.{told};
-ghost use Rattle.sz_tables.specs.Stores.{most_given};
-ghost use Rattle.sz_payload.specs.Owned.{IsIndexOf, IsOwnerOf, AreRound, AreSlotsOf};
-ghost use Rattle.sz_payload.specs.Owned.{room_in};
+ghost use Rattle.sz_tables.specs.Stores.{cells_in, most_given};
+ghost use Rattle.sz_payload.specs.Owned.{IsIndexOf, IsOwnerOf, AreFilesOf, AreRound, AreSlotsOf};
+ghost use Rattle.sz_payload.specs.Owned.{HasCellRoom, cell_room, room_in, with_cells};
 
 use std::alloc::Global;
 use sz_cells::{Bounds, CellSet, NoMemory, Run, Shape};
 use sz_rtree::RTree;
-use sz_tables::{EntryTable, bounds_of_set};
+use sz_tables::{Chains, EntryTable, bounds_of_set};
 
 /// An index of entries whose sets are apart.
 #[derive(Drop)]
 pub(crate) enum Owner {
     /// For each output cell the number of its entry and one more, or 0.
     One(Vec<u32>),
+    /// The number of its entry under each cell that is in one, by the rest of the cell's index over
+    /// the number of keys: what is kept while few cells are in an entry.
+    Few(Chains),
     /// A rectangle round the set of each entry.
     Many(RTree),
 }
 
 impl Owner {
-    /// The index of no entry: by rectangles, or by single cells.
+    /// The index of no entry: by rectangles, or by single cells, of which there are few.
     pub(crate) fn new(alloc: Global, shape: Shape, many: bool) -> Result<Owner, NoMemory>
         ensures index { IfOk result (IsIndexOf shape []) }
         ensures room { IfOk result (λ w. room_in 0 w ≡ 0) }
+        ensures cells { IfOk result (λ w. cell_room 0 w ≡ 0) }
     {
         if many {
             Ok(Owner::Many(RTree::new(alloc)?))
         } else {
-            Ok(Owner::One(vec![in alloc; 0u32; shape.size() as usize]?))
+            Ok(Owner::Few(Chains::new(alloc, shape.size() / 512 * 2 + 17)?))
         }
     }
 
-    /// Makes room for so many more entries.
-    pub(crate) fn reserve(&mut self, more: u32) -> Result<(), NoMemory>
+    /// Gives each output cell a slot where more than one in sixteen would be in an entry, and where
+    /// so many cells more are to be.
+    pub(crate) fn widen(&mut self, table: &EntryTable, cells: usize) -> Result<(), NoMemory>
+        ensures { IsIndexOf table.now.out (entries table.now) self.old
+            → IsIndexOf table.now.out (entries table.now) self.new }
+    {
+        let most = table.shape().size() as usize / 16;
+        let crowded = match self {
+            Owner::Few(files) => {
+                if most < (files.len() as usize).saturating_add(cells) {
+                    Some(files.allocator())
+                } else {
+                    None
+                }
+            }
+            _ => None,
+        };
+        if let Some(alloc) = crowded {
+            *self = Owner::One(slots_of(alloc, table)?);
+        }
+        Ok(())
+    }
+
+    /// Makes room for so many more entries, which have so many cells.
+    pub(crate) fn reserve(&mut self, more: u32, cells: usize) -> Result<(), NoMemory>
         requires few { (e : Extent) × (es : List Entry) × IsIndexOf e es self.old
             × (length es + more ≤ most_given) }
         ensures ok { OnOk result ((rows : ℕ) → more ≤ rows → more ≤ room_in rows self.new) }
+        ensures cells { OnOk result ((runs : ℕ) → cells ≤ runs * 1048576
+            → cells ≤ cell_room runs self.new) }
         ensures kept { (e : Extent) (es : List Entry)
             → IsIndexOf e es self.old → IsIndexOf e es self.new }
     {
         match self {
             Owner::One(_) => Ok(()),
+            Owner::Few(files) => reserve_cells(files, cells),
             Owner::Many(tree) => tree.reserve(more),
         }
     }
@@ -61,14 +91,18 @@ impl Owner {
         requires set { set.now.extent ≡ shape }
         requires row { row < most_given }
         requires room { 0 < room_in 1 self.old }
+        requires cells { HasCellRoom (cells_in set.now) self.old }
         ensures index { (es : List Entry) (e : Entry) → e.out ≡ set.now → length es ≡ row
             → IsIndexOf shape es self.old → IsIndexOf shape (es ++ e ∷ []) self.new }
         ensures room { (rows left : ℕ) → rows ≤ left + 1
             → room_in rows self.old ≤ room_in left self.new + 1 }
+        ensures cells { (n : ℕ) → HasCellRoom (cells_in set.now + n) self.old
+            → HasCellRoom n self.new }
     {
         shape.size(); // there are as many slots, no more than a shape has cells
         match self {
             Owner::One(slots) => fill(slots, set.runs(), row + 1),
+            Owner::Few(files) => file_set(files, set, row),
             Owner::Many(tree) => tree.insert(bounds_of_set(set)),
         }
     }
@@ -81,9 +115,81 @@ impl Owner {
     {
         match self {
             Owner::One(slots) => told(slots[index as usize]),
+            Owner::Few(files) => walk(files, table, index),
             Owner::Many(tree) => search(tree, table, index),
         }
     }
+}
+
+/// For each output cell the number of its entry in a table and one more, or 0.
+fn slots_of(alloc: Global, table: &EntryTable) -> Result<Vec<u32>, NoMemory>
+    ensures { IfOk result (λ v. AreSlotsOf table.now.out (entries table.now) v.items) }
+{
+    let mut slots = vec![in alloc; 0u32; table.shape().size() as usize]?;
+    for row in 0..table.len() {
+        fill(&mut slots, table.out_runs(table.set_number(row)), row + 1);
+    }
+    Ok(slots)
+}
+
+/// Makes room for so many more cells in files, or says `NoMemory` where they would be too many to
+/// number.
+fn reserve_cells(files: &mut Chains, cells: usize) -> Result<(), NoMemory>
+    ensures room { OnOk result (cells ≤ files.new.spare) }
+    ensures keys { files.new.keys ≡ files.old.keys }
+    ensures entries { files.new.entries ≡ files.old.entries }
+{
+    files.keys(); // there are less than 2^32
+    let most = (u32::MAX - files.len()) as usize;
+    if most < cells {
+        return Err(NoMemory);
+    }
+    files.reserve(0, cells as u32)
+}
+
+/// Files a number under each cell of a set. Takes no memory.
+fn file_set(files: &mut Chains, set: &CellSet, number: u32)
+    requires keys { 0 < files.old.keys }
+    requires room { cells_in set.now ≤ files.old.spare }
+    ensures { files.new ≡ with_cells files.old set.now.indexes number }
+{
+    set.shape().size(); // no index is past a shape
+    for run in set.runs() {
+        file_run(files, *run, number);
+    }
+}
+
+/// Files a number under each cell of a run.
+fn file_run(files: &mut Chains, run: Run, number: u32)
+    requires keys { 0 < files.old.keys }
+    requires order { run.first ≤ run.last }
+    requires few { run.last < 1048576 }
+    requires room { length (indexes_of run) ≤ files.old.spare }
+    ensures { files.new ≡ with_cells files.old (indexes_of run) number }
+{
+    let keys = files.keys();
+    for index in run.first..run.last + 1 {
+        files.add(index % keys, number);
+    }
+}
+
+/// The number of an entry that has a cell, by the entries that are filed under the rest of its
+/// index.
+fn walk(files: &Chains, table: &EntryTable, index: u32) -> Option<u32>
+    requires files { AreFilesOf table.now.out (entries table.now) files.now }
+    requires cell { index < size_of table.now.out }
+    ensures { IsOwnerOf (entries table.now) (cell_of table.now.out index) result }
+{
+    let key = index % files.keys();
+    let mut next = files.last(key);
+    while let Some(place) = next {
+        let row = files.item(place);
+        if entry_has(table, row, index) {
+            return Some(row);
+        }
+        next = files.before(place, key);
+    }
+    None
 }
 
 /// The number that is kept as one more than it, and none where 0 is kept.

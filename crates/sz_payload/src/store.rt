@@ -1,7 +1,7 @@
 //! Stores of payload and of composite lineage.
 
-ghost use Rattle.std.specs.Prelude.{◌≡◌, ◌<◌, ◌≤◌, ◌+◌, [], ◌∷◌, ◌++◌, length, map, All, true, false};
-ghost use Rattle.std.specs.Prelude.{OnOk, OnErr, IfOk, IfErr, List, ℕ};
+ghost use Rattle.std.specs.Prelude.{◌≡◌, ◌<◌, ◌≤◌, ◌+◌, ◌*◌, [], ◌∷◌, ◌++◌, length, map, All};
+ghost use Rattle.std.specs.Prelude.{OnOk, OnErr, IfOk, IfErr, List, ℕ, true, false};
 ghost use Rattle.std.specs.Arc.{arc_value};
 ghost use Rattle.sz_cells.specs.Cells.{Cells, has, with_those};
 ghost use Rattle.sz_spec.specs.Modes.{has_mapping};
@@ -10,11 +10,12 @@ ghost use Rattle.sz_region.specs.Fits.{AreApart};
 ghost use Rattle.sz_region.specs.PayBytes.{IsPayWord};
 ghost use Rattle.sz_tables.specs.Rows.{runs_in};
 ghost use Rattle.sz_tables.specs.Stores.{IsWithin, room_for_entries, no_room, most_given};
+ghost use Rattle.sz_tables.specs.Stores.{cells_in};
 ghost use Rattle.sz_tables.specs.Tables.{AreDifferent};
 ghost use Rattle.sz_payload.specs.Begins.{AreLawful, BeginsPayloads, SaysNoPayloads};
 ghost use Rattle.sz_payload.specs.Kept.{IsEntryOf, entries_stand, part_of};
 
-use crate::counting::{bytes_of_all, runs_of_all};
+use crate::counting::{bytes_of_all, cells_of_all, runs_of_all};
 use crate::look::Look;
 use crate::owner::Owner;
 use crate::taking::take_lawful;
@@ -38,11 +39,11 @@ pub struct PayStore<M: Mapper> {
 }
 
 impl<M: Mapper> Model for PayStore<M> {
-    ghost use Rattle.std.specs.Prelude.{◌≡◌, ◌*◌};
+    ghost use Rattle.std.specs.Prelude.{◌≡◌};
     ghost use Rattle.std.specs.Arc.{arc_value};
     ghost use Rattle.sz_tables.specs.Entries.{entries};
     ghost use Rattle.sz_payload.specs.Kept.{Keeping};
-    ghost use Rattle.sz_payload.specs.Owned.{room_in, IsHeld};
+    ghost use Rattle.sz_payload.specs.Owned.{cell_room, room_in, IsHeld};
 
     ghost Value = { Keeping };
 
@@ -54,7 +55,7 @@ impl<M: Mapper> Model for PayStore<M> {
         room = record {
           items = room_in s.table.spare_rows s.owner;
           runs = s.table.spare_runs;
-          cells = s.table.spare_runs * 1048576;
+          cells = cell_room s.table.spare_runs s.owner;
           bytes = s.table.spare_bytes;
         };
       };
@@ -66,8 +67,8 @@ impl<M: Mapper> Model for PayStore<M> {
 
 impl<M: Mapper + Drop> PayStore<M> {
     /// A store without an entry: of payload lineage, or where `comp` is true of composite lineage.
-    /// Its entries are found by rectangles where `many` is true, and else by single cells, which
-    /// takes four bytes for each output cell.
+    /// Its entries are found by rectangles where `many` is true, and else by single cells: what
+    /// this takes grows with the cells of the entries, up to four bytes for each output cell.
     pub fn new(
         alloc: Global,
         map: M,
@@ -132,7 +133,9 @@ impl<M: Mapper + Drop> PayStore<M> {
         self.at.out().size(); // a payload is not longer than a set of input 0
         let runs = runs_of_all(entries);
         let bytes = bytes_of_all(entries);
-        self.owner.reserve(more)?;
+        let cells = cells_of_all(entries);
+        self.owner.widen(&self.table, cells)?;
+        self.owner.reserve(more, cells)?;
         self.table.reserve(more, runs, bytes)
     }
 
@@ -171,6 +174,7 @@ impl<M: Mapper + Drop> PayStore<M> {
         ensures site { self.new.store.site ≡ self.old.store.site }
         ensures comp { self.new.comp ≡ self.old.comp }
     {
+        runs_of_all(entries); // a run has no more cells than a shape
         for entry in entries {
             self.add(entry);
         }
@@ -183,6 +187,7 @@ impl<M: Mapper + Drop> PayStore<M> {
         requires apart { AreApart (self.old.store.given ++ entry.now ∷ []) }
         requires items { 0 < self.old.store.room.items }
         requires runs { runs_in entry.now.out ≤ self.old.store.room.runs }
+        requires cells { cells_in entry.now.out ≤ self.old.store.room.cells }
         requires bytes { length entry.now.payload ≤ self.old.store.room.bytes }
         ensures given { self.new.store.given ≡ self.old.store.given ++ entry.now ∷ [] }
         ensures site { self.new.store.site ≡ self.old.store.site }
@@ -190,6 +195,9 @@ impl<M: Mapper + Drop> PayStore<M> {
         ensures items { self.old.store.room.items ≤ self.new.store.room.items + 1 }
         ensures runs { self.old.store.room.runs
             ≤ self.new.store.room.runs + runs_in entry.now.out }
+        ensures cells { (n : ℕ) → n ≤ self.new.store.room.runs * 1048576
+            → cells_in entry.now.out + n ≤ self.old.store.room.cells
+            → n ≤ self.new.store.room.cells }
         ensures bytes { self.old.store.room.bytes
             ≤ self.new.store.room.bytes + length entry.now.payload }
     {

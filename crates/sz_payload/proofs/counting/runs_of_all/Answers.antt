@@ -1,5 +1,7 @@
 -- One entry more.
-use Rattle.std.proofs.Common.{◌≡◌, refl, ap, ◌∙◌, arith, map}
+use Rattle.std.proofs.Common.{◌≡◌, ℕ, refl, ap, ◌∙◌, arith, inl, inr, map, get_or}
+use Rattle.std.proofs.lemmas.Bool.{cases_lt}
+use Rattle.std.proofs.lemmas.List.{get_or_default}
 use Rattle.std.specs.Arc.{arc_value}
 use Rattle.sz_region.specs.Parts.{Entry}
 use Rattle.sz_tables.specs.Rows.{runs_in}
@@ -23,4 +25,13 @@ loop-entry-preserved c =
       runs = omega (arith, c.loop-entry.invariant.runs, runs, more.runs, ap runs_in same);
       few = omega (arith, c.loop-entry.invariant.few, more.few);
       cells = omega (arith, c.loop-entry.invariant.cells, cells, more.cells, ap cells_in same);
+      each = λ n d below inside.
+          elim (cases_lt n i) [
+            | inl low ↦ c.loop-entry.invariant.each n d low inside
+            | inr at ↦
+                let here : n ≡ i = omega arith in
+                let own : get_or es n d ≡ e =
+                ap (λ (k : ℕ). get_or es k d) here ∙ get_or_default es i d e there.0 ∙ there.1 in
+                rw own (omega (arith, more.cells, more.runs, ap cells_in same, ap runs_in same))
+          ];
     }

@@ -1,5 +1,5 @@
 -- The table and the index have one entry more.
-use Rattle.std.proofs.Common.{◌≡◌, ℕ, true, List, [], ◌∷◌, ◌++◌, ap, sym, subst, ◌∙◌}
+use Rattle.std.proofs.Common.{◌≡◌, ℕ, ◌+◌, true, List, [], ◌∷◌, ◌++◌, ap, sym, subst, ◌∙◌, arith}
 use Rattle.std.specs.Arc.{arc_value}
 use Rattle.sz_cells.specs.Extent.{Extent}
 use Rattle.sz_spec.specs.Payloads.{is_payload}
@@ -9,7 +9,8 @@ use Rattle.sz_region.specs.Parts.{Entry}
 use Rattle.sz_tables.specs.Entries.{entries}
 use Rattle.sz_payload.specs.Kept.{Keeping}
 use Rattle.sz_payload.specs.Owned.{IsIndexOf}
-use Rattle.sz_payload.proofs.Keeping.{all-more}
+use Rattle.sz_tables.specs.Stores.{cells_in}
+use Rattle.sz_payload.proofs.Keeping.{all-more, cells-left, room-cells}
 use Rattle.sz_payload.proofs.store.PayStore.add.Goals as goal
 
 pub add-requires-clause-index : goal.add-requires-clause-index
@@ -17,6 +18,21 @@ add-requires-clause-index g c =
     let es = entries c.self.inside.table in
     let shape = c.out-shape.ensures.value ∙ ap (λ (s : Site). s.out) c.deref.ensures in
     (es, subst (λ (e : Extent). IsIndexOf e es c.self.inside.owner) (sym shape) c.self.invariant.0.index)
+
+pub add-requires-clause-cells : goal.add-requires-clause-cells
+add-requires-clause-cells g c =
+    let set = c.deref-2.ensures ∙ ap (λ (x : Entry). x.out) c.entry.view_is in
+    let room = ap (λ (k : Keeping). k.store.room.cells) c.self.view_is in
+    room-cells c.self.inside.table.spare_runs (cells_in c.deref-2.result.now) c.self.inside.owner
+    (omega (arith, c.requires.cells, room, ap cells_in set))
+
+pub returns-clause-cells : goal.returns-clause-cells
+returns-clause-cells g c = λ n few room.
+    let set = c.deref-2.ensures ∙ ap (λ (x : Entry). x.out) c.entry.view_is in
+    let seen = ap (λ (k : Keeping). k.store.room.cells) c.self.view_is in
+    let before = room-cells c.self.inside.table.spare_runs (cells_in c.deref-2.result.now + n) c.self.inside.owner
+    (omega (arith, room, seen, ap cells_in set)) in
+    cells-left c.add-2.new.self.spare_runs n c.add.new.self few (c.add.ensures.cells n before)
 
 pub invariant_of-self : goal.invariant_of-self
 invariant_of-self g c =

@@ -1,6 +1,7 @@
 -- One entry more.
 use Rattle.std.proofs.Common.{◌≡◌, ◌+◌, List, [], ◌∷◌, ◌++◌, length, map, take, drop, append_assoc}
 use Rattle.std.proofs.Common.{refl, ap, sym, subst, ◌∙◌, arith, length-append}
+use Rattle.std.specs.Prelude.{sum_by}
 use Rattle.std.specs.Arc.{arc_value}
 use Rattle.std.proofs.lemmas.List.{take_more, length-map}
 use Rattle.std.proofs.lemmas.List.{take-append-drop}
@@ -10,7 +11,8 @@ use Rattle.sz_spec.specs.Shapes.{Site}
 use Rattle.sz_tables.specs.Rows.{runs_in}
 use Rattle.sz_payload.specs.Kept.{IsEntryOf}
 use Rattle.sz_tables.proofs.Counted.{item-made, rest-more}
-use Rattle.sz_payload.proofs.Keeping.{apart-front, front-long}
+use Rattle.sz_tables.specs.Stores.{cells_in}
+use Rattle.sz_payload.proofs.Keeping.{apart-front, few-cells, front-long}
 use Rattle.sz_payload.proofs.store.PayStore.add_all.Goals as goal
 
 pub add-requires-clause-few : goal.add-requires-clause-few
@@ -82,6 +84,16 @@ add-requires-clause-runs g c =
     c.entry-item.is c.deref.ensures in
     omega (arith, rest-more (λ (x : Entry). runs_in x.out) es i e there, inv.runs)
 
+pub add-requires-clause-cells : goal.add-requires-clause-cells
+add-requires-clause-cells g c =
+    let es : List Entry = map (λ a. arc_value a) c.args.entries.now in
+    let i = c.loop-entry.entry-index in
+    let e = c.deref.result.now in
+    let inv = c.loop-entry.invariant in
+    let there = item-made (λ a. arc_value a) c.args.entries.now es i c.entry-item.result e refl c.loop-entry-test.true
+    c.entry-item.is c.deref.ensures in
+    omega (arith, rest-more (λ (x : Entry). cells_in x.out) es i e there, inv.cells)
+
 pub add-requires-clause-bytes : goal.add-requires-clause-bytes
 add-requires-clause-bytes g c =
     let es : List Entry = map (λ a. arc_value a) c.args.entries.now in
@@ -111,5 +123,14 @@ loop-entry-preserved g c =
       comp = c.add.ensures.comp ∙ inv.comp;
       items = omega (arith, inv.items, c.add.ensures.items);
       runs = omega (arith, rest-more (λ (x : Entry). runs_in x.out) es i e there, inv.runs, c.add.ensures.runs);
+      cells = c.add.ensures.cells (sum_by (λ x. cells_in x.out) (drop (i + 1) es))
+          (omega (
+            arith,
+            few-cells (i + 1) es c.runs_of_all.ensures.each,
+            rest-more (λ (x : Entry). runs_in x.out) es i e there,
+            inv.runs,
+            c.add.ensures.runs,
+          ))
+          (omega (arith, rest-more (λ (x : Entry). cells_in x.out) es i e there, inv.cells));
       bytes = omega (arith, rest-more (λ (x : Entry). length x.payload) es i e there, inv.bytes, c.add.ensures.bytes);
     }

@@ -4,6 +4,7 @@ use Rattle.std.specs.Prelude.{sum_by}
 use Rattle.std.specs.Arc.{arc_value}
 use Rattle.sz_region.specs.Parts.{Entry}
 use Rattle.sz_tables.specs.Rows.{runs_in}
+use Rattle.sz_tables.specs.Stores.{cells_in}
 use Rattle.sz_payload.proofs.store.PayStore.add_all.Given as goal
 
 abbrev pub invariant-loop-entry : goal.invariant-loop-entry
@@ -15,5 +16,6 @@ invariant-loop-entry g l =
       comp : l.self.comp ≡ l.fn.self.comp;
       items : length es ≤ l.self.store.room.items + l.entry-index;
       runs : sum_by (λ e. runs_in e.out) (drop l.entry-index es) ≤ l.self.store.room.runs;
+      cells : sum_by (λ e. cells_in e.out) (drop l.entry-index es) ≤ l.self.store.room.cells;
       bytes : sum_by (λ e. length e.payload) (drop l.entry-index es) ≤ l.self.store.room.bytes;
     }

@@ -2,7 +2,7 @@
 use Rattle.std.proofs.Common.{◌≡◌, ℕ, ◌≤◌, true, false, List, map, ap, sym, subst, ◌∙◌, arith}
 use Rattle.std.specs.Prelude.{All}
 use Rattle.std.specs.Arc.{arc_value}
-use Rattle.sz_cells.specs.Extent.{size_of}
+use Rattle.sz_cells.specs.Extent.{Extent, size_of}
 use Rattle.sz_spec.specs.Modes.{has_mapping}
 use Rattle.sz_spec.specs.Payloads.{is_payload}
 use Rattle.sz_spec.specs.Shapes.{Site}
@@ -11,10 +11,18 @@ use Rattle.sz_region.specs.Fits.{AreApart}
 use Rattle.sz_region.specs.Parts.{Entry}
 use Rattle.sz_tables.specs.Entries.{EntryRows, entries}
 use Rattle.sz_payload.specs.Kept.{Keeping, IsEntryOf}
+use Rattle.sz_payload.specs.declared.owner.Owner.{Owner}
 use Rattle.sz_payload.specs.Owned.{IsIndexOf}
 use Rattle.sz_payload.proofs.Operators.{own-shape}
 use Rattle.sz_payload.proofs.Short.{entries-short}
 use Rattle.sz_payload.proofs.store.PayStore.reserve_all.Goals as goal
+
+-- the index of entries of a table between these shapes, when it is made wider
+widened : (e d : Extent) (es : List Entry) (old new : Owner) → d ≡ e → IsIndexOf e es old
+    → (IsIndexOf d es old → IsIndexOf d es new) → IsIndexOf e es new
+widened e d es old new same index onward =
+    subst (λ (x : Extent). IsIndexOf x es new) same
+    (onward (subst (λ (x : Extent). IsIndexOf x es old) (sym same) index))
 
 pub bytes_of_all-bytes-requires-clause-short : goal.bytes_of_all-bytes-requires-clause-short
 bytes_of_all-bytes-requires-clause-short g c =
@@ -42,7 +50,23 @@ invariant_of-self g c =
         out = held.out;
         lawful = held.lawful;
         apart = held.apart;
-        index = c.reserve.ensures.kept (arc_value c.self.inside.at).out (entries c.self.inside.table) held.index;
+        index = widened (arc_value c.self.inside.at).out c.self.inside.table.out (entries c.self.inside.table)
+            c.self.inside.owner c.widen.new.self held.out held.index c.widen.ensures;
+      },
+      c.self.invariant.1,
+    )
+
+pub invariant_of-self-in_err-reserve : goal.invariant_of-self-in_err-reserve
+invariant_of-self-in_err-reserve g c =
+    let held = c.self.invariant.0 in (
+      record {
+        none = held.none;
+        out = held.out;
+        lawful = held.lawful;
+        apart = held.apart;
+        index = c.reserve.ensures.kept (arc_value c.self.inside.at).out (entries c.self.inside.table)
+            (widened (arc_value c.self.inside.at).out c.self.inside.table.out (entries c.self.inside.table)
+            c.self.inside.owner c.widen.new.self held.out held.index c.widen.ensures);
       },
       c.self.invariant.1,
     )
@@ -60,7 +84,9 @@ invariant_of-self-2 g c =
             (sym (ap (λ (t : EntryRows). t.payloads) kept)) held.lawful;
         apart = subst AreApart (sym same) held.apart;
         index = subst (λ (es : List Entry). IsIndexOf site.out es c.reserve.new.self) (sym same)
-            (c.reserve.ensures.kept site.out (entries c.self.inside.table) held.index);
+            (c.reserve.ensures.kept site.out (entries c.self.inside.table)
+            (widened (arc_value c.self.inside.at).out c.self.inside.table.out (entries c.self.inside.table)
+            c.self.inside.owner c.widen.new.self held.out held.index c.widen.ensures));
       },
       c.self.invariant.1,
     )

@@ -1,0 +1,139 @@
+-- Entries that are filed by the rests of their cells: what filing adds, and that each cell of an entry is met.
+--
+-- The key idea: a cell of an entry is an index of its set, so its number stands behind the files at the index's place.
+use Rattle.std.proofs.Common.{◌≡◌, ◌≢◌, ℕ, zero, suc, ◌+◌, ◌-◌, ◌%◌, ◌<◌, ◌≤◌, ◌==◌, Bool, true, false, true≢false}
+use Rattle.std.proofs.Common.{List, [], ◌∷◌, ◌++◌, map, length, take, get_or, All, Option, Some, None}
+use Rattle.std.proofs.Common.{refl, sym, ap, ap₂, subst, ◌∙◌, arith, inl, inr}
+use Rattle.std.proofs.Common.{append-nil, append_assoc, length-append, eqb-true}
+use Rattle.std.specs.List.{list_any, range_with_len, flat_map, HoldsAt}
+use Rattle.std.proofs.lemmas.Bool.{cases_lt, or_cases}
+use Rattle.std.proofs.lemmas.List.{take_more, map-append, get_or-append-add, length-map, get_or-map}
+use Rattle.std.proofs.lemmas.List.Concat.{flat_map-append}
+use Rattle.std.proofs.Math.ListN.{get_or-append}
+use Rattle.sz_cells.specs.declared.Cell.{Cell}
+use Rattle.sz_cells.specs.declared.Run.{Run}
+use Rattle.sz_cells.specs.Extent.{Extent, size_of, cell_of}
+use Rattle.sz_cells.specs.Cells.{Cells, has}
+use Rattle.sz_cells.specs.Runs.{indexes_of}
+use Rattle.sz_cells.proofs.Sets.{has-index}
+use Rattle.sz_region.specs.Parts.{Entry}
+use Rattle.sz_tables.specs.Entries.{entry_at}
+use Rattle.sz_tables.specs.Filed.{Filed, Files}
+use Rattle.sz_tables.proofs.Chained.{entry-within}
+use Rattle.sz_payload.specs.Owned.{AreFilesOf, IsFiledAt, rests, with_cells}
+use Rattle.sz_payload.proofs.Owning.{entry-kept, entry-last, long-more}
+
+-- ---- cells filed one after another
+
+abbrev made : Files → List Filed → ℕ → Files
+made f es room = record f { entries = es; spare = room }
+
+-- no cell more changes nothing
+pub cells-none : (f : Files) (n : ℕ) → f ≡ with_cells f [] n
+cells-none f n =
+    let same : f.spare ≡ f.spare - 0 = omega arith in
+    ap₂ (made f) (sym (append-nil f.entries)) same
+
+cells-more : (f : Files) (ks more : List ℕ) (n : ℕ)
+    → with_cells (with_cells f ks n) more n ≡ with_cells f (ks ++ more) n
+cells-more f ks more n =
+    let room : f.spare - length ks - length more ≡ f.spare - length (ks ++ more) =
+    omega (arith, length-append ks more) in
+    ap₂ (made f)
+    (append_assoc f.entries (rests f.keys ks n) (rests f.keys more n)
+    ∙ ap (λ (es : List Filed). f.entries ++ es)
+    (sym (map-append (λ (k : ℕ). record { key = k % f.keys; item = n }) ks more)))
+    room
+
+-- a range with one number more
+range-more : (a n j : ℕ) → a + n ≡ j → range_with_len a (n + 1) ≡ range_with_len a n ++ j ∷ []
+range-more a zero j at = let same : a ≡ j = omega arith in ap (λ (k : ℕ). k ∷ []) same
+range-more a (suc n) j at =
+    let more : suc n + 1 ≡ suc (n + 1) = omega arith in
+    rw more (ap (λ (ks : List ℕ). a ∷ ks) (range-more (a + 1) n j (omega arith)))
+
+-- one cell more
+pub cells-next : (f so_far new : Files) (a n k item : ℕ) → so_far ≡ with_cells f (range_with_len a n) item
+    → new ≡ with_cells so_far (k ∷ []) item → a + n ≡ k → new ≡ with_cells f (range_with_len a (n + 1)) item
+cells-next f so_far new a n k item before more at =
+    more
+    ∙ ap (λ (g : Files). with_cells g (k ∷ []) item) before
+    ∙ cells-more f (range_with_len a n) (k ∷ []) item
+    ∙ ap (λ (ks : List ℕ). with_cells f ks item) (sym (range-more a n k at))
+
+-- room is left while fewer cells are filed than there was room for
+pub cells-room : (f so_far : Files) (ks : List ℕ) (item n : ℕ) → so_far ≡ with_cells f ks item
+    → length ks + n ≤ f.spare → n ≤ so_far.spare
+cells-room f so_far ks item n before room = let spare = ap (λ (g : Files). g.spare) before in omega arith
+
+-- one run more
+pub cells-run : (f so_far new : Files) (runs : List Run) (i item : ℕ) (d : Run) → i < length runs
+    → so_far ≡ with_cells f (flat_map indexes_of (take i runs)) item
+    → new ≡ with_cells so_far (indexes_of (get_or runs i d)) item
+    → new ≡ with_cells f (flat_map indexes_of (take (i + 1) runs)) item
+cells-run f so_far new runs i item d inside before more =
+    let all : flat_map indexes_of (take (i + 1) runs) ≡ flat_map indexes_of (take i runs) ++ indexes_of
+    (get_or runs i d) =
+    rw (take_more runs i d inside, flat_map-append indexes_of (take i runs) (get_or runs i d ∷ []))
+    (ap (λ (ks : List ℕ). flat_map indexes_of (take i runs) ++ ks) (append-nil (indexes_of (get_or runs i d)))) in
+    more
+    ∙ ap (λ (g : Files). with_cells g (indexes_of (get_or runs i d)) item) before
+    ∙ cells-more f (flat_map indexes_of (take i runs)) (indexes_of (get_or runs i d)) item
+    ∙ ap (λ (ks : List ℕ). with_cells f ks item) (sym all)
+
+-- ---- one entry more
+
+-- an index that is one of some stands at a place of them
+placed : (ks : List ℕ) (k : ℕ) → list_any (λ x. x == k) ks ≡ true → (p : ℕ) × (p < length ks) × (get_or ks p 0 ≡ k)
+placed [] k some = absurd (true≢false (sym some))
+placed (x ∷ ks) k some =
+    elim (or_cases (x == k) (list_any (λ y. y == k) ks) some) [
+      | inl here ↦ (zero, omega arith, eqb-true x k here)
+      | inr rest ↦ let at = placed ks k rest in (suc at.0, omega (arith, at.1), at.2)
+    ]
+
+all-join : {X : Type 0} (P Q : X → Type 0) (xs ys : List X) → All P xs → ((x : X) → P x → Q x) → All Q ys
+    → All Q (xs ++ ys)
+all-join P Q xs ys all onward more = λ n d below.
+    elim (cases_lt n (length xs)) [
+      | inl low ↦ rw (get_or-append xs ys d n low) (onward (get_or xs n d) (all n d low))
+      | inr high ↦
+          let at : length xs + (n - length xs) ≡ n = omega arith in
+          subst (λ (k : ℕ). Q (get_or (xs ++ ys) k d)) at
+          (rw (get_or-append-add xs ys (n - length xs) d) (more (n - length xs) d (omega (arith, length-append xs ys))))
+    ]
+
+pub files-more : (shape : Extent) (es : List Entry) (e : Entry) (set : Cells) (old new : Files) (row : ℕ)
+    → set.extent ≡ shape → new ≡ with_cells old set.indexes row → e.out ≡ set → length es ≡ row
+    → AreFilesOf shape es old → AreFilesOf shape (es ++ e ∷ []) new
+files-more shape es e set old new row same is at count files =
+    let more = rests old.keys set.indexes row in
+    let f : ℕ → Filed = λ k. record { key = k % old.keys; item = row } in
+    subst (AreFilesOf shape (es ++ e ∷ [])) (sym is) (record {
+      keys = files.keys;
+      items = all-join (λ (x : Filed). x.item < length es) (λ (x : Filed). x.item < length (es ++ e ∷ [])) old.entries more
+          files.items (λ x below. omega (arith, long-more es e))
+          (λ n d below. rw (get_or-map f set.indexes n 0 d (omega (arith, length-map set.indexes f)))
+          (omega (arith, long-more es e)));
+      each = λ n k inside below there.
+          elim (cases_lt n (length es)) [
+            | inl low ↦
+                let was = files.each n k low below
+                (ap (λ (x : Entry). has x.out (cell_of shape k)) (sym (entry-kept es e n low)) ∙ there) in
+                let within = entry-within old.entries was.0 (k % old.keys) (λ d. (was.1 d).0) in
+                (was.0, λ d. rw (get_or-append old.entries more d was.0 within) (was.1 d))
+            | inr high ↦
+                let last : n ≡ length es = omega (arith, long-more es e) in
+                let own : has set (cell_of shape k) ≡ true =
+                ap (λ (s : Cells). has s (cell_of shape k)) (sym at)
+                ∙ ap (λ (x : Entry). has x.out (cell_of shape k)) (sym (entry-last es e n last)) ∙ there in
+                let place = placed set.indexes k (sym (has-index set shape k same below) ∙ own) in (
+                  length old.entries + place.0,
+                  λ d. rw (
+                    get_or-append-add old.entries more place.0 d,
+                    get_or-map f set.indexes place.0 0 d place.1,
+                    place.2,
+                  ) (refl, sym count ∙ sym last),
+                )
+          ];
+    })

@@ -1,0 +1,22 @@
+-- One entry more.
+use Rattle.std.proofs.Common.{◌≡◌, refl, ap, ◌∙◌, arith, map}
+use Rattle.std.specs.Arc.{arc_value}
+use Rattle.sz_region.specs.Parts.{Entry}
+use Rattle.sz_tables.specs.Stores.{cells_in}
+use Rattle.sz_tables.proofs.Counted.{item-made, sum-more}
+use Rattle.sz_payload.proofs.counting.cells_of_all.Goals as goal
+
+pub loop-entry-preserved : goal.loop-entry-preserved
+loop-entry-preserved c =
+    let es = map (λ a. arc_value a) c.args.entries.now in
+    let i = c.loop-entry.entry-index in
+    let e = c.deref.result.now in
+    let there = item-made (λ a. arc_value a) c.args.entries.now es i c.entry-item.result e refl
+    c.loop-entry-test.true c.entry-item.is c.deref.ensures in
+    let cells = sum-more (λ (x : Entry). cells_in x.out) es i e there in
+    let same : c.deref-in-loop-entry.result.now ≡ e.out =
+    c.deref-in-loop-entry.ensures ∙ ap (λ (x : Entry). x.out) c.behind-entry.view_is in
+    record {
+      cells = omega (arith, c.loop-entry.invariant.cells, cells, c.count.ensures, ap cells_in same);
+      few = omega (arith, c.loop-entry.invariant.few, c.count.ensures);
+    }
