@@ -7,4 +7,6 @@
 #[cfg(test)]
 mod entries;
 #[cfg(test)]
+mod pieces;
+#[cfg(test)]
 mod stores;
