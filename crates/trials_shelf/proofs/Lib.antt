@@ -1,1 +1,2 @@
--- No lemma of its own.
+-- A lemma on closures that cross threads.
+mod Crossing

@@ -1,9 +1,12 @@
 //! A shelf of two pieces, and short calls of it.
 
-ghost use Rattle.std.specs.Prelude.{◌≡◌, ◌<◌, IfOk};
+ghost use Rattle.std.specs.Prelude.{◌≡◌, ◌<◌, ◌||◌, true, IfOk, IfSome};
 ghost use Rattle.std.specs.Arc.{arc_value};
 ghost use Rattle.sz_cells.specs.Extent.{flat};
-ghost use Rattle.sz_shelf.specs.Passes.{place_of};
+ghost use Rattle.sz_shelf.specs.Passes.{TookTurn, place_of};
+ghost use Rattle.sz_shelf.specs.Steps.{longer};
+ghost use Rattle.sz_shelf.specs.Tags.{StandsFor};
+ghost use Rattle.sz_shelf.specs.declared.answers.SealReply.TheVariants.{Sealed as SealedNow};
 ghost use Rattle.trials_shelf.specs.Bench.{negation, tag_of};
 
 use std::alloc::Global;
@@ -14,6 +17,7 @@ use sz_cells::{CellBits, CellSet, NoMemory, Run, Shape};
 use sz_ops::{piece, prepare};
 use sz_shelf::{Look, Pass, Placed, SealReply, Shelf};
 use sz_spec::{Array, Dir, Op, OpAt, Strategy, Tally};
+use sz_store::NodeStore;
 
 const LIST: [Strategy; 3] = [Strategy::FullManyB, Strategy::Map, Strategy::FullOneF];
 
@@ -88,6 +92,17 @@ impl Bench {
         Ok((Bench { at, array, shelf }, pass))
     }
 
+    /// Another shelf for the same operator and array, and its first pass.
+    pub fn again(&self, alloc: Global) -> Result<(Bench, Pass), Fail>
+        ensures own { IfOk result (λ b. place_of b.1 ≡ b.0) }
+        ensures tag { IfOk result (λ b. b.0.tag ≡ self.now.tag) }
+    {
+        let at = Arc::try_clone(&self.at)?;
+        let array = Arc::try_clone(&self.array)?;
+        let (shelf, pass) = shelf(alloc, &at, &array)?;
+        Ok((Bench { at, array, shelf }, pass))
+    }
+
     /// Places the lineage of a piece.
     pub fn place<R: Wait>(
         &self,
@@ -116,7 +131,8 @@ impl Bench {
         pass: &mut Pass,
     ) -> Result<(Look, CellSet), NoMemory>
         requires { place_of pass.old ≡ self.now }
-        ensures { place_of pass.new ≡ place_of pass.old }
+        ensures own { place_of pass.new ≡ place_of pass.old }
+        ensures turn { IfOk result (λ _. TookTurn pass.old pass.new) }
     {
         let mut from = CellBits::new(alloc, self.at.out())?;
         from.add_run(Run { first: 3, last: 64 });
@@ -136,7 +152,7 @@ impl Bench {
         requires own { place_of pass.old ≡ self.now }
         requires from { from.now.extent ≡ flat 1 65 }
         requires to { to.old.extent ≡ flat 1 65 }
-        ensures own { place_of pass.new ≡ place_of pass.old }
+        ensures { TookTurn pass.old pass.new }
     {
         let _ = &self.at;
         self.shelf
@@ -146,7 +162,8 @@ impl Bench {
     /// Seals.
     pub fn seal<R: Wait>(&self, rt: &R, pass: &mut Pass) -> SealReply
         requires { place_of pass.old ≡ self.now }
-        ensures { place_of pass.new ≡ place_of pass.old }
+        ensures own { place_of pass.new ≡ place_of pass.old }
+        ensures sealed { result ≡ SealedNow → pass.new.saw ≡ true }
     {
         self.shelf.seal(rt, pass)
     }
@@ -159,23 +176,35 @@ impl Bench {
         self.shelf.sealed_now(pass)
     }
 
-    /// Whether the store is handed out.
-    pub fn is_given<R: Wait>(
+    /// The stores, where they are handed out.
+    pub fn store_of<R: Wait>(
         &self,
         alloc: Global,
         rt: &R,
         pass: &mut Pass,
-    ) -> Result<bool, NoMemory>
+    ) -> Result<Option<Arc<NodeStore>>, NoMemory>
         requires { place_of pass.old ≡ self.now }
-        ensures { place_of pass.new ≡ place_of pass.old }
+        ensures turn { TookTurn pass.old pass.new }
+        ensures stands { IfOk result (λ given. IfSome given
+            (λ a. StandsFor pass.new.tag (arc_value a))) }
     {
-        Ok(self.shelf.store_of(alloc, rt, pass)?.is_some())
+        self.shelf.store_of(alloc, rt, pass)
+    }
+
+    /// Puts other stores in place of these.
+    pub fn swap<R: Wait>(&self, rt: &R, pass: &mut Pass, store: Arc<NodeStore>)
+        requires own { place_of pass.old ≡ self.now }
+        requires saw { pass.old.saw ≡ true }
+        requires stands { StandsFor pass.old.tag (arc_value store) }
+        ensures { TookTurn pass.old pass.new }
+    {
+        self.shelf.swap(rt, pass, store);
     }
 
     /// One pass more.
     pub fn split(&self, pass: &mut Pass) -> Result<Pass, NoMemory>
         requires { place_of pass.old ≡ self.now }
-        ensures same { place_of pass.new ≡ place_of pass.old }
+        ensures same { pass.new ≡ pass.old }
         ensures new { IfOk result (λ p. place_of p ≡ self.now) }
     {
         self.shelf.split(pass)
@@ -185,7 +214,9 @@ impl Bench {
     pub fn join(&self, into: &mut Pass, from: Pass)
         requires into { place_of into.old ≡ self.now }
         requires from { place_of from ≡ self.now }
-        ensures { place_of into.new ≡ place_of into.old }
+        ensures own { place_of into.new ≡ place_of into.old }
+        ensures seen { into.new.seen ≡ longer into.old.seen from.seen }
+        ensures saw { into.new.saw ≡ (into.old.saw || from.saw) }
     {
         self.shelf.join(into, from);
     }

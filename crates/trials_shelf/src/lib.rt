@@ -1,4 +1,5 @@
-//! Tests of shelves: what each call answers on a shelf of two pieces.
+//! Tests of shelves: what each call answers on a shelf of two pieces, that its stores are shared, and
+//! that threads use it side by side.
 //!
 //! A crate is proved once for those above it and once more with its tests. So tests that call public
 //! functions alone stand in a crate that has nothing else.
@@ -8,3 +9,7 @@
 mod bench;
 #[cfg(test)]
 mod rows;
+#[cfg(test)]
+mod stores;
+#[cfg(test)]
+mod threads;

@@ -1,7 +1,7 @@
 //! What each call answers, one after another.
 
-ghost use Rattle.std.specs.Prelude.{◌≡◌};
-ghost use Rattle.sz_shelf.specs.Passes.{place_of};
+ghost use Rattle.std.specs.Prelude.{◌≡◌, IfOk};
+ghost use Rattle.sz_shelf.specs.Passes.{TookTurn, place_of};
 
 use crate::bench::Bench;
 use std::alloc::Global;
@@ -11,12 +11,12 @@ use sz_cells::Run;
 use sz_shelf::{Look, Pass, Placed, SealReply};
 
 /// The target before a look, and once the image is added.
-const BEFORE: [Run; 1] = [Run { first: 0, last: 0 }];
+pub const BEFORE: [Run; 1] = [Run { first: 0, last: 0 }];
 
-const ADDED: [Run; 2] = [Run { first: 0, last: 0 }, Run { first: 3, last: 64 }];
+pub const ADDED: [Run; 2] = [Run { first: 0, last: 0 }, Run { first: 3, last: 64 }];
 
 /// Whether a look tells this, and leaves these runs of cells in its target.
-fn looks<R: Wait>(
+pub fn looks<R: Wait>(
     alloc: Global,
     rt: &R,
     bench: &Bench,
@@ -25,14 +25,15 @@ fn looks<R: Wait>(
     cells: &[Run],
 ) -> Result<bool, Fail>
     requires { place_of pass.old ≡ bench.now }
-    ensures { place_of pass.new ≡ place_of pass.old }
+    ensures own { place_of pass.new ≡ place_of pass.old }
+    ensures turn { IfOk result (λ _. TookTurn pass.old pass.new) }
 {
     let (look, to) = bench.look(alloc, rt, pass)?;
     Ok(look == told && to.runs() == cells)
 }
 
 /// Whether both pieces are placed, the later one first, with these answers on the way.
-fn fills<R: Wait>(alloc: Global, rt: &R, bench: &Bench, pass: &mut Pass) -> Result<bool, Fail>
+pub fn fills<R: Wait>(alloc: Global, rt: &R, bench: &Bench, pass: &mut Pass) -> Result<bool, Fail>
     requires { place_of pass.old ≡ bench.now }
     ensures { place_of pass.new ≡ place_of pass.old }
 {
@@ -60,7 +61,7 @@ fn pieces_are_placed_and_then_sealed(rt: HostRuntime) -> Result<(), Fail> {
     assert!(rt; fills(alloc, &rt, &bench, &mut pass)?);
     let whole = Look::Unsealed { missing: 2 };
     assert!(rt; looks(alloc, &rt, &bench, &mut pass, whole, &BEFORE)?);
-    assert!(rt; !bench.is_given(alloc, &rt, &mut pass)?);
+    assert!(rt; bench.store_of(alloc, &rt, &mut pass)?.is_none());
     assert!(rt; !bench.sealed_now(&mut other));
     assert_eq!(rt; bench.seal(&rt, &mut pass), SealReply::Sealed);
     assert!(rt; looks(alloc, &rt, &bench, &mut pass, Look::Done, &ADDED)?);
@@ -77,7 +78,7 @@ fn what_is_handed_out_is_kept(rt: HostRuntime) -> Result<(), Fail> {
     assert_eq!(rt; bench.seal(&rt, &mut pass), SealReply::Sealed);
     let mut before = bench.split(&mut pass)?;
     assert!(rt; pass.kept().is_none());
-    assert!(rt; bench.is_given(alloc, &rt, &mut pass)?);
+    assert!(rt; bench.store_of(alloc, &rt, &mut pass)?.is_some());
     assert!(rt; pass.kept().is_some());
     let mut after = bench.split(&mut pass)?;
     assert!(rt; before.kept().is_none() && after.kept().is_some());
