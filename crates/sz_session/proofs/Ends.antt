@@ -177,7 +177,7 @@ past-limit limit (Some bytes) left next a b m total count buffer at one so_far g
     )
 
 -- a say failed in a turn
-turn-in_part : (all left next a b c : Option (List ℕ)) (m : Moment) (total count : ℕ) (buffer : List ℕ)
+pub turn-in_part : (all left next a b c : Option (List ℕ)) (m : Moment) (total count : ℕ) (buffer : List ℕ)
     → Answered all left a b m total → Gives left next buffer count → SaysPart b c (told_in m (take count buffer))
     → SaidInPart all a c
 turn-in_part None left next a b c m total count buffer so_far gives part = tt
@@ -203,8 +203,19 @@ turn-in_lines (Some bytes) left next a b c m total count buffer so_far gives fir
     (advances-first a b c start m (take total bytes) (take count buffer)
     (so_far-advances bytes left a b m total so_far) first))
 
+-- between two turns what was said is a first part
+pub answered-in_part : (all left a b c : Option (List ℕ)) (m : Moment) (total : ℕ) → Answered all left a b m total
+    → SaysPart b c [] → SaidInPart all a c
+answered-in_part None left a b c m total so_far part = tt
+answered-in_part (Some bytes) left a b c m total so_far part =
+    let told = told_in start (take total bytes) in
+    let front = transcript-front bytes total in
+    let Q : List ℕ → Type 0 = λ xs. SaysPart a c xs in
+    subst Q front.1 (part-longer a c told front.0 (subst Q (append-nil told)
+    (part-then a b c told [] (so_far-advances bytes left a b m total so_far).says part)))
+
 -- a say failed at the end
-end-in_part : (all left a b c : Option (List ℕ)) (m : Moment) (total : ℕ)
+pub end-in_part : (all left a b c : Option (List ℕ)) (m : Moment) (total : ℕ)
     → Answered all left a b m total → AreAll all total → SaysPart b c (told_at_end m) → SaidInPart all a c
 end-in_part None left a b c m total so_far is_all part = tt
 end-in_part (Some bytes) left a b c m total so_far is_all part =

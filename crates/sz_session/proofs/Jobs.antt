@@ -35,6 +35,11 @@ pub line-job : (IsSuch : List ℕ → Type 0) (words : List (List ℕ)) (job : J
     → (is_load job.mode ≡ true → IsSuch (load_line job)) → IfLoad (job_of words) IsSuch
 line-job IsSuch words job is h = subst (λ (o : Option Job). IfLoad o IsSuch) (sym is) h
 
+-- what holds of each line holds of that one
+pub line-each : (IsSuch : List ℕ → Type 0) (o : Option Job) → ((line : List ℕ) → IsSuch line) → IfLoad o IsSuch
+line-each IsSuch None h = tt
+line-each IsSuch (Some job) h = λ asked. h (load_line job)
+
 -- a mode that is to come is not play
 pub served-not : (m : JobMode) → is_served m ≡ false → is_play m ≡ false
 served-not mode.Play h = h
@@ -42,6 +47,25 @@ served-not mode.Init h = refl
 served-not mode.Run h = refl
 served-not mode.Check h = refl
 served-not mode.Load h = refl
+
+-- a mode that is to come is neither play nor load
+pub come-not_play : (m : JobMode) → (m ≡ mode.Init) ⊎ ((m ≡ mode.Run) ⊎ (m ≡ mode.Check)) → is_play m ≡ false
+come-not_play mode.Play (inl h) = cc
+come-not_play mode.Play (inr (inl h)) = cc
+come-not_play mode.Play (inr (inr h)) = cc
+come-not_play mode.Init h = refl
+come-not_play mode.Run h = refl
+come-not_play mode.Check h = refl
+come-not_play mode.Load h = refl
+
+pub come-not_load : (m : JobMode) → (m ≡ mode.Init) ⊎ ((m ≡ mode.Run) ⊎ (m ≡ mode.Check)) → is_load m ≡ false
+come-not_load mode.Play h = refl
+come-not_load mode.Init h = refl
+come-not_load mode.Run h = refl
+come-not_load mode.Check h = refl
+come-not_load mode.Load (inl h) = cc
+come-not_load mode.Load (inr (inl h)) = cc
+come-not_load mode.Load (inr (inr h)) = cc
 
 -- ---- statuses that are not one
 

@@ -8,6 +8,7 @@ pub mod Keeps
 pub mod Cuts
 pub mod Turns
 pub mod Ends
+pub mod Disks
 pub mod LawsLines
 pub mod LawsSessions
 pub mod Blanks

@@ -13,6 +13,7 @@ ghost use Rattle.sz_session.specs.Lines.{is_blank, is_within_line};
 ghost use Rattle.sz_catalogue.specs.Holdings.{no_holdings};
 ghost use Rattle.sz_session.specs.Moments.{moment_before, cut_after, told_in, told_at_end, Alike};
 ghost use Rattle.sz_session.specs.Serving.{Advances, SaysFirst, line_to_say};
+ghost use Rattle.sz_session.specs.Disks.{OnlySays};
 
 use crate::blank::is_blank;
 use crate::session::{Session, Stop};
@@ -135,6 +136,7 @@ impl Feed {
         ensures fault { result ≡ Err Halt.SayFault
             → Rose (T.say_faults station.old) (T.say_faults station.new) }
         ensures quiet { OnOk result (Stood (T.say_faults station.old) (T.say_faults station.new)) }
+        ensures disk { OnlySays T.Station (told_in self.old chunk.now) station.old station.new }
     {
         let mut start = 0;
         while let Some(at) = newline_from(chunk, start) {
@@ -162,6 +164,7 @@ impl Feed {
         ensures fault { result ≡ Err Halt.SayFault
             → Rose (T.say_faults station.old) (T.say_faults station.new) }
         ensures quiet { OnOk result (Stood (T.say_faults station.old) (T.say_faults station.new)) }
+        ensures disk { OnlySays T.Station (told_at_end self.old) station.old station.new }
     {
         if self.pending.as_slice().is_empty() {
             Ok(())
@@ -202,6 +205,7 @@ impl Feed {
         ensures fault { result ≡ Err Halt.SayFault
             → Rose (T.say_faults station.old) (T.say_faults station.new) }
         ensures quiet { OnOk result (Stood (T.say_faults station.old) (T.say_faults station.new)) }
+        ensures disk { OnlySays T.Station (told_in self.old (10 ∷ [])) station.old station.new }
     {
         let mut tally = Tally::new();
         let reply = self
@@ -231,6 +235,7 @@ fn say<T: Station>(
     ensures fault { result ≡ Err Halt.SayFault
         → Rose (T.say_faults station.old) (T.say_faults station.new) }
     ensures quiet { OnOk result (Stood (T.say_faults station.old) (T.say_faults station.new)) }
+    ensures disk { OnlySays T.Station (line_to_say number reply) station.old station.new }
 {
     let Some(reply) = reply else {
         return Ok(());

@@ -8,6 +8,7 @@ ghost use Rattle.sz_catalogue.specs.Holdings.{no_holdings};
 ghost use Rattle.sz_session.specs.Transcript.{transcript};
 ghost use Rattle.sz_session.specs.Serving.{lines_in, load_line};
 ghost use Rattle.sz_session.specs.Statuses.{EndsLoad, AreCounted};
+ghost use Rattle.sz_session.specs.Disks.{OnlySays};
 ghost use Rattle.sz_words.specs.Job.{IsInRange};
 
 use crate::feed::{Feed, Halt};
@@ -29,6 +30,7 @@ pub(crate) fn load<T: Station, G: Gate, R: Threads + Sync>(
     requires { IsInRange job }
     ensures ends { EndsLoad result (load_line job) (T.said station.old) (T.said station.new) }
     ensures fault { AreCounted result 0 0 (T.say_faults station.old) (T.say_faults station.new) }
+    ensures disk { OnlySays T.Station (load_line job) station.old station.new }
 {
     let Ok(line) = summary(rt, alloc, job, gate) else {
         return Status::NoMemory;

@@ -16,6 +16,7 @@ ghost use Rattle.sz_session.specs.Serving.{are_load, load_line, IfLoad};
 ghost use Rattle.sz_session.specs.Serving.{Done, SaidOfRead, SaidToLimit, SaidInPart};
 ghost use Rattle.sz_session.specs.Serving.{SaidInLines, IsPastLimit, IsWithinLimit, Opening};
 ghost use Rattle.sz_session.specs.Serving.{Answered, AreAll};
+ghost use Rattle.sz_session.specs.Disks.{DiskStays, StaysFinding, OnlySays, FoundInPart};
 ghost use Rattle.sz_words.specs.Job.{job_of, IsInRange};
 
 use crate::feed::{Feed, Halt};
@@ -86,6 +87,9 @@ const LIMIT: u64 = 1 << 62;
 ///   replies once, and one line of the text a second time.
 /// - The modes on a log are to come: their words are refused like those that ask for no job.
 ///
+/// The disk of the station is as before, whatever the status (`disk`). A stop of the machine at any
+/// moment of the call finds a first part of what the mode says (`found_in_play`, `found_in_load`).
+///
 /// Nothing waits yet: the leave to do so is for workers that are to come.
 pub fn serve<
     S: Source,
@@ -129,6 +133,14 @@ pub fn serve<
         → ¬ Rose (S.faults source.old) (S.faults source.new)
         → ¬ Rose (T.say_faults station.old) (T.say_faults station.new)
         → (result ≡ Status.Done) ⊎ (result ≡ Status.NoMemory) }
+
+    // The disk.
+    ensures disk { DiskStays T.Station station.old station.new }
+    ensures found_in_play { are_play (map string_bytes words.now) ≡ true
+        → StaysFinding T.Station (FoundInPart (S.left source.old) (T.said station.old))
+        station.old station.new }
+    ensures found_in_load { IfLoad (job_of (map string_bytes words.now))
+        (λ line. OnlySays T.Station line station.old station.new) }
 
     // The generated session.
     ensures load { result ≡ Status.Done → IfLoad (job_of (map string_bytes words.now))
@@ -181,6 +193,12 @@ fn run_job<S: Source, T: Station, G: Gate, R: Threads + Sync>(
     ensures unread { is_play job.mode ≡ false → source.new ≡ source.old }
     ensures refused { is_served job.mode ≡ false
         → (result ≡ Status.Usage) × (station.new ≡ station.old) }
+    ensures disk { DiskStays T.Station station.old station.new }
+    ensures found_in_play { is_play job.mode ≡ true
+        → StaysFinding T.Station (FoundInPart (S.left source.old) (T.said station.old))
+        station.old station.new }
+    ensures found_in_load { is_load job.mode ≡ true
+        → OnlySays T.Station (load_line job) station.old station.new }
 {
     match job.mode {
         JobMode::Play => play(rt, alloc, job, source, station, gate, LIMIT),
@@ -205,6 +223,8 @@ fn play<S: Source, T: Station, G: Gate, R: Threads + Sync>(
         (T.said station.old) (T.said station.new) }
     ensures fault { AreCounted result (S.faults source.old) (S.faults source.new)
         (T.say_faults station.old) (T.say_faults station.new) }
+    ensures disk { StaysFinding T.Station (FoundInPart (S.left source.old) (T.said station.old))
+        station.old station.new }
 {
     let Ok(mut buffer) = vec![in alloc; 0u8; CHUNK] else {
         return Status::NoMemory;
@@ -236,6 +256,8 @@ fn read_all<S: Source, T: Station, G: Gate, R: Threads + Sync>(
         opening.said (T.said station.new) }
     ensures fault { AreCounted result (S.faults source.old) (S.faults source.new)
         (T.say_faults station.old) (T.say_faults station.new) }
+    ensures disk { StaysFinding T.Station (FoundInPart opening.left opening.said)
+        station.old station.new }
 {
     let mut total = 0u64;
     'chunks: loop {
@@ -278,6 +300,8 @@ fn take_turn<S: Source, T: Station, G: Gate, R: Threads + Sync>(
         (T.say_faults station.old) (T.say_faults station.new)) }
     ensures quiet { OnOk result (Stood (S.faults source.old) (S.faults source.new)
         × Stood (T.say_faults station.old) (T.say_faults station.new)) }
+    ensures disk { StaysFinding T.Station (FoundInPart opening.left opening.said)
+        station.old station.new }
 {
     let count = read_chunk(source, buffer, feed, station, total, limit)?;
     if total == limit && count > 0 {

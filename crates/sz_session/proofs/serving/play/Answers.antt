@@ -1,8 +1,9 @@
 -- The session opens with nothing read and nothing said.
-use Rattle.std.proofs.Common.{subst, sym, ap, ◌∙◌}
+use Rattle.std.proofs.Common.{[], subst, sym, ap, ◌∙◌}
 use Rattle.sz_session.specs.Moments.{Moment}
 use Rattle.sz_session.specs.Serving.{Answered}
 use Rattle.sz_session.proofs.Ends.{answered-start, none-in_lines}
+use Rattle.sz_session.proofs.Disks.{stays-still, start-stays}
 use Rattle.sz_session.proofs.serving.play.Goals as goal
 
 pub read_all-requires : goal.read_all-requires
@@ -46,3 +47,15 @@ read_all-requires g c =
 pub returns-in_default-new-clause-ends : goal.returns-in_default-new-clause-ends
 returns-in_default-new-clause-ends g c =
     none-in_lines (g.S.Source.left c.args.source.now) (g.T.Station.said c.args.station.now)
+
+pub returns-in_default-clause-disk : goal.returns-in_default-clause-disk
+returns-in_default-clause-disk g c =
+    start-stays g.T.Station (g.S.Source.left c.args.source.now) _ _
+    (stays-still g.T.Station [] c.args.station.now (g.met.T.Station.only_now c.args.station.now)
+    (g.met.T.Station.counts_now c.args.station.now))
+
+pub returns-in_default-new-clause-disk : goal.returns-in_default-new-clause-disk
+returns-in_default-new-clause-disk g c =
+    start-stays g.T.Station (g.S.Source.left c.args.source.now) _ _
+    (stays-still g.T.Station [] c.args.station.now (g.met.T.Station.only_now c.args.station.now)
+    (g.met.T.Station.counts_now c.args.station.now))

@@ -2,6 +2,7 @@
 use Rattle.std.proofs.Common.{◌≤◌, ◌+◌, ◌-◌}
 use Rattle.sz_outside.specs.Outside.{Stood}
 use Rattle.sz_session.specs.Serving.{Answered}
+use Rattle.sz_session.specs.Disks.{StaysFinding, FoundInPart}
 use Rattle.sz_session.proofs.serving.read_all.Given as goal
 
 abbrev pub ghost-take_turn : goal.ghost-take_turn
@@ -13,6 +14,7 @@ invariant-chunks g l = record {
   number : l.feed.number ≤ l.total + 1;
   reads : Stood (g.S.Source.faults l.initial.source) (g.S.Source.faults l.source);
   says : Stood (g.T.Station.say_faults l.initial.station) (g.T.Station.say_faults l.station);
+  disk : StaysFinding g.T.Station (FoundInPart g.opening.left g.opening.said) l.initial.station l.station;
   answered : Answered g.opening.left (g.S.Source.left l.source) g.opening.said
       (g.T.Station.said l.station) l.feed l.total;
 }

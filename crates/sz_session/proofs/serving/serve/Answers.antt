@@ -1,17 +1,20 @@
 -- What the status of the job tells is told of the words that asked for it; for words that ask for none nothing was
 -- done.
-use Rattle.std.proofs.Common.{List, ℕ, sym, ap, ◌∙◌, refl, inl, inr, true≢false}
-use Rattle.std.specs.Prelude.{Err}
+use Rattle.std.proofs.Common.{List, [], ℕ, sym, ap, ◌∙◌, refl, inl, inr, true≢false}
+use Rattle.std.specs.Prelude.{Err, map, string_bytes}
 use Rattle.sz_outside.specs.Outside.{Says, SaysPart}
+use Rattle.sz_words.specs.Job.{job_of}
 use Rattle.sz_words.specs.declared.WordsFault.{WordsFault}
 use Rattle.sz_session.specs.Serving.{is_served, is_play, is_load}
+use Rattle.sz_session.specs.Disks.{OnlySays}
 use Rattle.sz_session.specs.declared.serving.Status.TheVariants as status
 use Rattle.sz_session.proofs.Ends.{ends-with, counted-with, limit-passed, completes, none-in_lines}
 use Rattle.sz_session.proofs.Turns.{says-nothing}
 use Rattle.sz_session.proofs.Loads.{load-ends_with, load-completes}
-use Rattle.sz_session.proofs.Jobs.{for-job, for-none, line-job, served-not, usage-refused, reads-play, quiet-done}
-use Rattle.sz_session.proofs.Jobs.{say-counted, words-not_done, words-not_say_fault, words-not_read, words-usage}
-use Rattle.sz_session.proofs.Jobs.{words-refused, words-not_read_either, words-completes}
+use Rattle.sz_session.proofs.Disks.{stays-still, start-stays, disk-stays}
+use Rattle.sz_session.proofs.Jobs.{for-job, for-none, line-job, line-each, served-not, usage-refused, reads-play}
+use Rattle.sz_session.proofs.Jobs.{quiet-done, say-counted, words-not_done, words-not_say_fault, words-not_read}
+use Rattle.sz_session.proofs.Jobs.{words-usage, words-refused, words-not_read_either, words-completes}
 use Rattle.sz_session.proofs.serving.serve.Goals as goal
 
 -- ---- words that ask for a job
@@ -215,3 +218,22 @@ returns-in-Err-clause-load_completes g c =
     words-completes f _ is (λ e.
     let usage = c.in-Err.is ∙ ap (λ (x : WordsFault). Err x) (words-usage f (sym is ∙ e)) in
     true≢false (sym p ∙ for-none is_load _ (c.read_words.ensures.usage usage)))
+
+-- the disk
+pub returns-in-Err-clause-disk : goal.returns-in-Err-clause-disk
+returns-in-Err-clause-disk g c = disk-stays g.T.Station _ _ _
+    (stays-still g.T.Station [] c.args.station.now (g.met.T.Station.only_now c.args.station.now)
+    (g.met.T.Station.counts_now c.args.station.now))
+
+pub returns-in-Err-clause-found_in_play : goal.returns-in-Err-clause-found_in_play
+returns-in-Err-clause-found_in_play g c =
+    λ p. start-stays g.T.Station (g.S.Source.left c.args.source.now) _ _
+    (stays-still g.T.Station [] c.args.station.now (g.met.T.Station.only_now c.args.station.now)
+    (g.met.T.Station.counts_now c.args.station.now))
+
+pub returns-in-Err-clause-found_in_load : goal.returns-in-Err-clause-found_in_load
+returns-in-Err-clause-found_in_load g c =
+    let said = λ (line : List ℕ). OnlySays g.T.Station line c.args.station.now c.args.station.now in
+    line-each said (job_of (map string_bytes c.args.words.now))
+    (λ line. stays-still g.T.Station line c.args.station.now (g.met.T.Station.only_now c.args.station.now)
+    (g.met.T.Station.counts_now c.args.station.now))

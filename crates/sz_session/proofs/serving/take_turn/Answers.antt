@@ -1,9 +1,10 @@
 -- A turn takes in what its one read gave.
-use Rattle.std.proofs.Common.{ap}
+use Rattle.std.proofs.Common.{[], ap}
 use Rattle.std.specs.Prelude.{Result, Err}
 use Rattle.std.proofs.lemmas.Result.{err_from_is_err_and}
 use Rattle.sz_session.specs.declared.feed.Halt.{Halt}
 use Rattle.sz_session.proofs.Ends.{answered-turn, turn-ends}
+use Rattle.sz_session.proofs.Disks.{stays-still, between-stays, turn-stays}
 use Rattle.sz_session.proofs.serving.take_turn.Goals as goal
 
 pub returns-clause-answered : goal.returns-clause-answered
@@ -20,3 +21,27 @@ returns-in_err-take_chunk-clause-ends g c =
     c.requires.1.1.1.1.1.1.1.1.1.1.1 c.in_ok-count.ensures.bytes
     (λ e. c.in_err-take_chunk.ensures.part (ap stopped e))
     (λ e. c.in_err-take_chunk.ensures.first (ap stopped e)))
+
+-- the disk, where no line was answered
+pub returns-in_err-count-clause-disk : goal.returns-in_err-count-clause-disk
+returns-in_err-count-clause-disk g c =
+    between-stays g.T.Station _ _ _ _ _ c.args.feed.now c.args.total c.requires.1.1.1.1.1.1.1.1.1.1.1
+    (stays-still g.T.Station [] c.args.station.now (g.met.T.Station.only_now c.args.station.now)
+    (g.met.T.Station.counts_now c.args.station.now))
+
+pub returns-then-count-gt0-clause-disk : goal.returns-then-count-gt0-clause-disk
+returns-then-count-gt0-clause-disk g c =
+    between-stays g.T.Station _ _ _ _ _ c.args.feed.now c.args.total c.requires.1.1.1.1.1.1.1.1.1.1.1
+    (stays-still g.T.Station [] c.args.station.now (g.met.T.Station.only_now c.args.station.now)
+    (g.met.T.Station.counts_now c.args.station.now))
+
+-- and where some were
+pub returns-in_err-take_chunk-clause-disk : goal.returns-in_err-take_chunk-clause-disk
+returns-in_err-take_chunk-clause-disk g c =
+    turn-stays g.T.Station _ _ _ _ _ _ c.args.feed.now c.args.total c.in_ok-count.count c.read_chunk.new.buffer
+    c.requires.1.1.1.1.1.1.1.1.1.1.1 c.in_ok-count.ensures.bytes c.take_chunk.ensures.disk
+
+pub returns-clause-disk : goal.returns-clause-disk
+returns-clause-disk g c =
+    turn-stays g.T.Station _ _ _ _ _ _ c.args.feed.now c.args.total c.in_ok-count.count c.read_chunk.new.buffer
+    c.requires.1.1.1.1.1.1.1.1.1.1.1 c.in_ok-count.ensures.bytes c.take_chunk.ensures.disk

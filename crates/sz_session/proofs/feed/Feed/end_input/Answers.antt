@@ -5,6 +5,8 @@ use Rattle.std.proofs.lemmas.Result.{on_ok_weaker}
 use Rattle.sz_outside.specs.Outside.{Says, SaysPart}
 use Rattle.sz_session.specs.Moments.{Moment}
 use Rattle.sz_session.proofs.Turns.{told_at_end-line}
+use Rattle.sz_session.specs.Disks.{OnlySays}
+use Rattle.sz_session.proofs.Disks.{stays-still}
 use Rattle.sz_session.proofs.feed.Feed.end_input.Goals as goal
 
 pub returns-else-is_empty-clause-whole : goal.returns-else-is_empty-clause-whole
@@ -26,3 +28,18 @@ returns-else-is_empty-clause-part g c =
     → Type 0 =
     λ told. SaysPart (g.T.Station.said c.args.station.now) (g.T.Station.said c.end_line.new.station) told in
     λ e. subst Q (told_at_end-line c.args.self.now (subst P c.self.view_is some)) (c.end_line.ensures.part e)
+
+-- the disk
+pub returns-then-is_empty-clause-disk : goal.returns-then-is_empty-clause-disk
+returns-then-is_empty-clause-disk g c =
+    stays-still g.T.Station _ c.args.station.now (g.met.T.Station.only_now c.args.station.now)
+    (g.met.T.Station.counts_now c.args.station.now)
+
+pub returns-else-is_empty-clause-disk : goal.returns-else-is_empty-clause-disk
+returns-else-is_empty-clause-disk g c =
+    let P : Moment → Type 0 = λ m. 0 < length m.pending in
+    let some : 0 < length c.self.inside.pending.items = grind (arith, nat_tests) in
+    let Q : List ℕ
+    → Type 0 =
+    λ told. OnlySays g.T.Station told c.args.station.now c.end_line.new.station in
+    subst Q (told_at_end-line c.args.self.now (subst P c.self.view_is some)) c.end_line.ensures.disk

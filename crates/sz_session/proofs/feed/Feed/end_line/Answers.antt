@@ -1,6 +1,7 @@
 -- The line was answered as it orders, and that was said, or a part of it.
 use Rattle.std.proofs.lemmas.Result.{err_from_is_err_and}
 use Rattle.sz_session.proofs.Turns.{advances-line, told-line}
+use Rattle.sz_session.proofs.Disks.{stays-still}
 use Rattle.sz_session.proofs.feed.Feed.end_line.Goals as goal
 
 pub returns-clause-line : goal.returns-clause-line
@@ -32,3 +33,9 @@ returns-in_err-say-clause-part g c =
       }) _ _ replies,
     )
     part
+
+-- where the line was not done, nothing was
+pub returns-in_err-reply-clause-disk : goal.returns-in_err-reply-clause-disk
+returns-in_err-reply-clause-disk g c =
+    rw c.command.ensures.station (stays-still g.T.Station _ c.args.station.now
+    (g.met.T.Station.only_now c.args.station.now) (g.met.T.Station.counts_now c.args.station.now))

@@ -8,6 +8,7 @@ use Rattle.sz_session.specs.Moments.{told_in}
 use Rattle.sz_session.specs.Serving.{Advances}
 use Rattle.sz_session.proofs.Turns.{advances-nothing, advances-then, advances-part, part-more, first-front, says-quiet}
 use Rattle.sz_session.proofs.Turns.{take-line}
+use Rattle.sz_session.proofs.Disks.{stays-still, only-front, only-line}
 use Rattle.sz_session.proofs.feed.Feed.take_chunk.Goals as goal
 
 pub loop-at-init : goal.loop-at-init
@@ -15,6 +16,8 @@ loop-at-init g c = record {
   within = omega arith;
   advances = advances-nothing (g.T.Station.said c.args.station.now) c.args.self.now;
   number = omega arith;
+  disk = stays-still g.T.Station _ c.args.station.now (g.met.T.Station.only_now c.args.station.now)
+      (g.met.T.Station.counts_now c.args.station.now);
   quiet = refl;
 }
 
@@ -34,6 +37,9 @@ loop-at-preserved g c =
       within = omega (arith, found.1);
       advances = subst Q (take-line c.args.chunk.now c.loop-at.start c.in-Some.at found.0 found.1 found.2) so_far;
       number = omega (arith, found.0, grown, c.in_ok-end_line.ensures.next, c.loop-at.invariant.number);
+      disk = only-line g.T.Station c.args.station.now c.loop-at.station c.end_line.new.station c.args.self.now
+          c.loop-at.self c.extend.new.self c.args.chunk.now c.loop-at.start c.in-Some.at found.0 found.1 found.2
+          c.loop-at.invariant.disk c.loop-at.invariant.advances pending c.end_line.ensures.disk;
       quiet = c.in_ok-end_line.ensures.quiet ∙ c.loop-at.invariant.quiet;
     }
 
@@ -83,3 +89,22 @@ returns-in_err-end_line-clause-part g c =
     (part-more _ _ c.args.self.now (take (c.in-Some.at + 1) c.args.chunk.now) (drop (c.in-Some.at + 1) c.args.chunk.now)
     (subst Q (take-line c.args.chunk.now c.loop-at.start c.in-Some.at found.0 found.1 found.2)
     (advances-part _ _ _ _ _ _ (10 ∷ []) front (c.in_err-end_line.ensures.part e)))))
+
+-- the disk, where each line that ended so far was answered
+pub returns-in_err-extend-clause-disk : goal.returns-in_err-extend-clause-disk
+returns-in_err-extend-clause-disk g c =
+    only-front g.T.Station _ _ c.args.self.now c.args.chunk.now c.loop-at.start c.loop-at.invariant.disk
+
+pub returns-clause-disk : goal.returns-clause-disk
+returns-clause-disk g c =
+    only-front g.T.Station _ _ c.args.self.now c.args.chunk.now c.loop-at.start c.loop-at.invariant.disk
+
+-- and where one was not
+pub returns-in_err-end_line-clause-disk : goal.returns-in_err-end_line-clause-disk
+returns-in_err-end_line-clause-disk g c =
+    let found = c.in-Some.ensures in
+    let pending = c.in_ok-extend.ensures.takes (g.T.Station.said c.loop-at.station) in
+    only-front g.T.Station _ _ c.args.self.now c.args.chunk.now (c.in-Some.at + 1)
+    (only-line g.T.Station c.args.station.now c.loop-at.station c.end_line.new.station c.args.self.now
+    c.loop-at.self c.extend.new.self c.args.chunk.now c.loop-at.start c.in-Some.at found.0 found.1 found.2
+    c.loop-at.invariant.disk c.loop-at.invariant.advances pending c.end_line.ensures.disk)

@@ -1,7 +1,9 @@
 -- The bytes up to where the next line begins were taken in.
 use Rattle.std.proofs.Common.{◌≤◌, ◌+◌, ◌-◌, length, take}
 use Rattle.sz_outside.specs.Outside.{Stood}
+use Rattle.sz_session.specs.Moments.{told_in}
 use Rattle.sz_session.specs.Serving.{Advances}
+use Rattle.sz_session.specs.Disks.{OnlySays}
 use Rattle.sz_session.proofs.feed.Feed.take_chunk.Given as goal
 
 abbrev pub invariant-loop-at : goal.invariant-loop-at
@@ -10,6 +12,7 @@ invariant-loop-at g l = record {
   advances : Advances (g.T.Station.said l.initial.station) (g.T.Station.said l.station) l.initial.self l.self
       (take l.start l.chunk);
   number : l.self.number ≤ l.initial.self.number + l.start;
+  disk : OnlySays g.T.Station (told_in l.initial.self (take l.start l.chunk)) l.initial.station l.station;
   quiet : Stood (g.T.Station.say_faults l.initial.station) (g.T.Station.say_faults l.station);
 }
 
