@@ -8,8 +8,8 @@
 # them, and the rest is what the whole has beside them: the start of the process, and what the parts took more or less by themselves.
 #
 # The second is of the whole by workers and askers: its time, the work of the processor, the peak of memory, and the peak for each byte
-# of the values held, at 16 bytes a cell. A star stands behind what is past the aim: 0.6 s on four processors at a side of 512, and 15
-# bytes for each byte of the values.
+# of the values held, at 16 bytes a cell. A star stands behind what is past the aim at a side of 512: 0.6 s by four workers, on four
+# processors, and 15 bytes for each byte of the values.
 #
 # The third says what each side takes for each of its held cells, and how that is to the side before it: 1 where a load is linear.
 #
@@ -181,7 +181,8 @@ for side in sides:
         first = first or whole
         values = held(side) * 16
         wholes.append([str(side), str(workers), str(askers), f"{whole[0]:.1f}" + "*" * (side == 512 and workers == 4 and whole[0] > 600),
-                       f"{whole[1]:.1f}", f"{whole[2] / 1e6:.1f}", f"{values / 1e6:.1f}", f"{whole[2] / values:.1f}" + "*" * (whole[2] > 15 * values)])
+                       f"{whole[1]:.1f}", f"{whole[2] / 1e6:.1f}", f"{values / 1e6:.1f}",
+                       f"{whole[2] / values:.1f}" + "*" * (side == 512 and whole[2] > 15 * values)])
     each = [making, less(steps["read"], empty), less(steps["values"], steps["read"]), less(steps["stores"], steps["values"]),
             less(steps["asks"], steps["stores"]), summing]
     rest = [first[at] - sum(part[at] for part in each) for at in (0, 1)]
