@@ -11,7 +11,8 @@
 # of the values held, at 16 bytes a cell. A star stands behind what is past the aim at a side of 512: 0.6 s by four workers, on four
 # processors, and 15 bytes for each byte of the values.
 #
-# The third says what each side takes for each of its held cells, and how that is to the side before it: 1 where a load is linear.
+# The third says what each side takes for each of its held cells, by 1 worker and 1 asker, and how that is to the side before it: 1 where
+# a load is linear.
 #
 # The fourth is of one line of 1,048,576 cells, as csv and as array: the time, the work of the processor and the peak of memory of a
 # session that has it alone, less those of one with no line, a cell; and the bytes of the line.
@@ -163,7 +164,8 @@ def less(more, fewer):
 
 parts = [["side", "text", "reading", "values", "stores", "33 asks", "digest", "the rest", "whole"]]
 wholes = [["side", "workers", "askers", "time ms", "work ms", "peak MB", "values MB", "bytes for a byte of values"]]
-linear, per_cell = [["side", "held cells", "ns a cell", "to that before", "bytes a cell", "to that before"]], None
+linear = [["side", "held cells", "ns a cell", "to that before", "ns of work a cell", "to that before", "bytes a cell", "to that before"]]
+per_cell = None
 for side in sides:
     apart(write_sessions, side)
     empty = best(["play"])
@@ -187,10 +189,10 @@ for side in sides:
             less(steps["asks"], steps["stores"]), summing]
     rest = [first[at] - sum(part[at] for part in each) for at in (0, 1)]
     parts.append([str(side), *map(both, each), both(rest), both(first)])
-    here = first[0] * 1e6 / held(side), first[2] / held(side)
-    before, per_cell = per_cell, here
-    ratios = [f"{now / then:.2f}" for now, then in zip(here, before)] if before else ["", ""]
-    linear.append([str(side), str(held(side)), f"{here[0]:.0f}", ratios[0], f"{here[1]:.0f}", ratios[1]])
+    here = [each / held(side) for each in (first[0] * 1e6, first[1] * 1e6, first[2])]
+    ratios = [f"{now / then:.2f}" for now, then in zip(here, per_cell)] if per_cell else [""] * len(here)
+    linear.append([str(side), str(held(side)), *(word for now, ratio in zip(here, ratios) for word in (f"{now:.0f}", ratio))])
+    per_cell = here
 
 print("the parts of a load, by 1 worker and 1 asker: ms of time (ms of work)")
 table(parts)
