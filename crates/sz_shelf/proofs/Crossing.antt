@@ -36,7 +36,7 @@ use Rattle.sz_shelf.specs.contracts.shelf.Shelf as Shelf
 
 -- ---- the table's own, at every type
 
-seat_send : (S V : RattleType) → IsSend S → IsSend (Seat.the_row S V)
+pub seat_send : (S V : RattleType) → IsSend S → IsSend (Seat.the_row S V)
 seat_send S V s = record {
   owned =
       λ d vs.
@@ -44,7 +44,7 @@ seat_send S V s = record {
   leaving = λ k f vs. tt;
 }
 
-shared_send : (S V K P : RattleType) (g : Ghosts P.Denot S.Denot V.Denot K.Denot) → IsSend S
+pub shared_send : (S V K P : RattleType) (g : Ghosts P.Denot S.Denot V.Denot K.Denot) → IsSend S
     → IsSend (Shared.the_row S V K P g)
 shared_send S V K P g s = record {
   owned =
@@ -55,7 +55,7 @@ shared_send S V K P g s = record {
   leaving = λ k f vs. tt;
 }
 
-shared_sync : (S V K P : RattleType) (g : Ghosts P.Denot S.Denot V.Denot K.Denot) → IsSend S
+pub shared_sync : (S V K P : RattleType) (g : Ghosts P.Denot S.Denot V.Denot K.Denot) → IsSend S
     → IsSync (Shared.the_row S V K P g)
 shared_sync S V K P g s =
     let fields : IsSync (Struct (shape (Shared.the_type S V K P g))) = search sendable depth 20 in
@@ -155,11 +155,11 @@ shelved_send = search (stored_send, sendable, crosses, fields) depth 300 fits 10
 pub pass_send : IsSend Pass.the_row
 pass_send = search (shelved_send, store_send, store_sync, seat_send, sendable, crosses, fields) depth 40
 
-lease_send : (T A : RattleType) (g : alloc.Ghosts A.Denot) → IsSend A → Frees g g.dealloc_token
+pub lease_send : (T A : RattleType) (g : alloc.Ghosts A.Denot) → IsSend A → Frees g g.dealloc_token
     → IsSend (SendLease.the_row T A g)
 lease_send T A g s f = right_send T A g f
 
-lease_sync : (T A : RattleType) (g : alloc.Ghosts A.Denot) → IsSend A → Frees g g.dealloc_token
+pub lease_sync : (T A : RattleType) (g : alloc.Ghosts A.Denot) → IsSend A → Frees g g.dealloc_token
     → IsSync (SendLease.the_row T A g)
 lease_sync T A g s f = record {
   shared = λ d b o ν q. part_keyless (SendLease.the_row T A g) (right_send T A g f) q d b o;

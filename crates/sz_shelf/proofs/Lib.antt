@@ -4,7 +4,7 @@
 pub mod Lineages
 pub mod Marks
 pub mod Stores
-mod Lists
+pub mod Lists
 mod Moves
 mod Slots
 mod Turning

@@ -1,0 +1,29 @@
+-- The piece is seen, whatever the place told; and the tally rose by what was looked at.
+use Rattle.std.proofs.Common.{◌≡◌, ◌<◌, ℕ, true, ap, ◌∙◌, subst, arith}
+use Rattle.std.specs.Prelude.{Ok}
+use Rattle.sz_spec.specs.Pieces.{pieces_of}
+use Rattle.sz_shelf.specs.Tags.{tag_pieces}
+use Rattle.sz_shelf.specs.Places.{Place}
+use Rattle.sz_shelf.specs.Contents.{is_in}
+use Rattle.sz_pool.proofs.Turns.{grows-turn, seen-placed, told-by}
+use Rattle.sz_pool.proofs.maker.Maker.place.Goals as goal
+
+pub returns : goal.returns
+returns g c =
+    let p = c.args.pass.now in
+    let q = c.place.new.pass in
+    let lineage = c.in_ok-lineage.lineage in
+    let done = c.in_ok-place.ensures in
+    let piece : lineage.piece ≡ c.args.k = c.in_ok-lineage.ensures.piece in
+    let n : tag_pieces p.tag ≡ pieces_of c.args.self.now.at.now.out =
+    ap (λ (z : Place). tag_pieces z.tag) c.requires.own ∙ ap tag_pieces c.args.self.now.tag in
+    let inside : lineage.piece < tag_pieces p.tag = omega (arith, piece, n, c.requires.piece) in record {
+      grows = grows-turn p q done.turn done.kept;
+      turns = done.turn.turns;
+      seen =
+          subst (λ (j : ℕ). is_in q.seen j ≡ true) piece
+          (seen-placed (tag_pieces p.tag) lineage.piece c.in_ok-place.field-0 q.found q.seen q.found_sealed q.saw
+          done.answer (λ e. done.new (ap Ok e)) (λ other. done.other (λ e. other (ap told-by e))) done.saw
+          done.turn.whole inside);
+      ticks = omega (arith, c.add.ensures, c.in_ok-lineage.ensures.ticks, c.new-looked.ensures);
+    }

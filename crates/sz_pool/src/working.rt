@@ -1,0 +1,94 @@
+//! Work on a task: claim after claim, and a seal.
+
+ghost use Rattle.std.specs.Prelude.{◌≡◌, ◌+◌, ◌<◌, ◌≤◌, ◌^◌, length, true, All, IfOk};
+ghost use Rattle.std.specs.Arc.{arc_value};
+ghost use Rattle.sz_cells.specs.Extent.{size_of};
+ghost use Rattle.sz_spec.specs.Pieces.{pieces_of};
+ghost use Rattle.sz_core.specs.Events.{seal_reply, after_seal};
+ghost use Rattle.sz_shelf.specs.Contents.{is_in};
+ghost use Rattle.sz_shelf.specs.Machine.{found_shelf, left_shelf, told_of_seal};
+ghost use Rattle.sz_pool.specs.Effort.{cells_of};
+ghost use Rattle.sz_pool.specs.Growing.{Grows, GrowsBy, AreReached, claimed_since};
+ghost use Rattle.sz_pool.specs.Replies.{IsReplyOf};
+ghost use Rattle.sz_pool.specs.Tries.{HasTriedAll, refused_after};
+ghost use Rattle.sz_pool.specs.Tasks.{IsSameTask};
+
+use crate::task::Task;
+use crate::trying::{Tried, try_piece};
+use std::alloc::Global;
+use std::sync::Wait;
+use sz_cells::NoMemory;
+use sz_outside::Gate;
+use sz_shelf::SealReply;
+use sz_spec::{Tally, pieces_of};
+
+/// Claims each piece of a task, and for each that it wins calls the gate, makes it and places it.
+/// Its last turn is a seal, whose reply it gives. A piece that is refused for memory is left
+/// undone, the others are still claimed and made, and the answer is then `NoMemory`, with no seal.
+///
+/// Each piece costs one claim, and each that is won one turn and a look at its 64 cells.
+pub fn work<G: Gate, R: Wait>(
+    alloc: Global,
+    rt: &R,
+    task: &mut Task,
+    gate: &G,
+    tally: &mut Tally,
+) -> Result<SealReply, NoMemory>
+    requires room { tally.old + 1048576 < 2 ^ 63 }
+    ensures same { IsSameTask task.old task.new }
+    ensures pass { Grows task.old.pass task.new.pass }
+    ensures claims { GrowsBy (pieces_of (arc_value task.old.at).out) task.old.claim_pass
+        task.new.claim_pass }
+    ensures reached { AreReached (pieces_of (arc_value task.old.at).out) task.new.claim_pass }
+    ensures placed { let won = claimed_since task.old.claim_pass task.new.claim_pass in
+        IfOk result (λ _. All (λ k. is_in task.new.pass.seen k ≡ true) won) }
+    ensures turns { let won = claimed_since task.old.claim_pass task.new.claim_pass in
+        IfOk result (λ _. task.new.pass.turns ≡ task.old.pass.turns + length won + 1) }
+    ensures ticks { let won = claimed_since task.old.claim_pass task.new.claim_pass in
+        IfOk result (λ _. tally.new ≡ tally.old + cells_of (arc_value task.old.at).out won) }
+    ensures rises { tally.old ≤ tally.new }
+    ensures most { let won = claimed_since task.old.claim_pass task.new.claim_pass in
+        tally.new ≤ tally.old + cells_of (arc_value task.old.at).out won }
+    ensures reply { IfOk result (λ r. IsReplyOf task.new.pass r) }
+    ensures last { IfOk result (λ r. told_of_seal r ≡ seal_reply (found_shelf task.new.pass)) }
+    ensures left { IfOk result
+        (λ _. left_shelf task.new.pass ≡ after_seal (found_shelf task.new.pass)) }
+{
+    let _ = task.at.out().size(); // at most 1,048,576
+    if try_pieces(alloc, rt, task, gate, tally) {
+        return Err(NoMemory);
+    }
+    Ok(task.shelf.seal(rt, &mut task.pass))
+}
+
+/// Tries each piece of a task. Whether one was refused for memory.
+fn try_pieces<G: Gate, R: Wait>(
+    alloc: Global,
+    rt: &R,
+    task: &mut Task,
+    gate: &G,
+    tally: &mut Tally,
+) -> bool
+    requires room { tally.old + size_of (arc_value task.old.at).out < 2 ^ 63 }
+    ensures same { IsSameTask task.old task.new }
+    ensures tried { let out = (arc_value task.old.at).out in
+        HasTriedAll out (pieces_of out) result task.old.claim_pass task.new.claim_pass
+        task.old.pass task.new.pass tally.old tally.new }
+{
+    let mut refused = false;
+    for k in 0..pieces_of(task.at.out()) {
+        let tried = try_piece(alloc, rt, task, gate, k, tally);
+        refused = refused_after(refused, tried);
+    }
+    refused
+}
+
+/// Whether a piece was refused, once this came of one more.
+fn refused_after(refused: bool, tried: Tried) -> bool
+    ensures { result ≡ refused_after refused tried }
+{
+    match tried {
+        Tried::Refused => true,
+        _ => refused,
+    }
+}
