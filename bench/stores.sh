@@ -1,24 +1,30 @@
 #!/usr/bin/env bash
-# Times the stores of full lineage, as LLVM builds them, on arrays of 256 and of 1,024 a side (or of the sides that are given), and prints
-# a table a side. Its rows: a convolution 3 by 3 (a plus) and 9 by 9 (every second weight 0), a transposition, a sum of two arrays, and the
-# connected regions of drawn numbers from 500 on, of one block and of a chessboard. Two more rows have region pairs made for the purpose:
+# Times the stores of a node, as LLVM builds them, on arrays of 256 and of 1,024 a side (or of the sides that are given), and prints tables a
+# side. The rows of full lineage: a convolution 3 by 3 (a plus) and 9 by 9 (every second weight 0), a transposition, a sum of two arrays, and
+# the connected regions of drawn numbers from 500 on, of one block and of a chessboard. Two more rows have region pairs made for the purpose:
 # each piece of 64 cells beside one set, which has every second cell of each row, and one region pair of all cells.
+#
+# The rows of payload and composite lineage: `clean` of drawn numbers, of which every second cell is hot, and one in a thousand; `lookup` in a
+# table that every second cell has a column of; and connected regions, drawn and of one block.
 #
 # First what the operator takes by itself: the lineages of all pieces, each dropped at once, and a trace of one cell and of a quarter of
 # the cells, backward and forward. Then for each of the four kinds of store:
 #
 #   build     to reserve the room of each piece and to add it, without the making of its lineage; and its ratio to that
 #   a cell    bytes of memory: the peak of a process that builds the store, less that of one that makes the lineages alone, a cell
+#   an entry  the same, an entry. Where one cell in a thousand is hot, both are a sixteenth of what sixteen stores take, since some hundred
+#             thousand bytes of a process are no store's
 #   one, quarter
-#             an image of one cell, and of a quarter of the cells, in both directions; and its ratio to the trace of the same
+#             an image of one cell, and of a quarter of the cells, in both directions, over the first input; and its ratio to the trace
 #   bytes     how many the store is written in, a cell; the times to write and to read them, and the ratio of reading to building
 #
 # Behind a number that is past its aim stands a star: building within 6 times the making of the lineages; an image of one cell by the
-# indexed side within 100 microseconds, and of a quarter of the cells within 5 times its trace; 900 bytes a cell; reading within the time
-# of building. All times are in microseconds, the best of a few, each measure a process of its own. An image that has another count of
-# cells than its trace is told. It is no test. It needs python3, works in a folder of its own, and takes what was built in this checkout.
+# indexed side within 100 microseconds, and of a quarter of the cells within 5 times its trace; 900 bytes a cell; 200 bytes an entry of
+# composite lineage where one cell in a thousand is hot; reading within the time of building. All times are in microseconds, the best of a
+# few, each measure a process of its own. An image that has another count of cells than its trace is told. It is no test. It needs python3,
+# works in a folder of its own, and takes what was built in this checkout.
 #
-#     bench/stores.sh [SIDE..]      STORES_ROWS='plus nine' bench/stores.sh 256 for some rows alone
+#     bench/stores.sh [SIDE..]      STORES_ROWS='plus nine' STORES_ENTRIES='hot' bench/stores.sh 256 for some rows alone
 set -euo pipefail
 root=$(cd "$(dirname "$0")/.." && pwd)
 work=$(mktemp -d)
@@ -26,12 +32,13 @@ trap 'rm -rf "$work"' EXIT
 here=$work/crates/stores
 mkdir -p "$here/src" "$here/specs" "$here/proofs"
 cp "$root/HANDLES" "$work/"
-for name in sz_cells sz_spec sz_region sz_rtree sz_ops_local sz_ops_move sz_ops_window sz_ops_region sz_ops sz_tables sz_full_one sz_full_many; do
+for name in sz_cells sz_spec sz_region sz_rtree sz_ops_local sz_ops_move sz_ops_window sz_ops_region sz_ops sz_tables sz_full_one sz_full_many \
+    sz_payload sz_store; do
     mkdir -p "$work/crates/$name"
     (cd "$root/crates" && tar cf - --exclude=must-fail "$name") | tar xf - -C "$work/crates"
     grep -E "^$name:" "$root/crates.txt" >>"$work/crates.txt"
 done
-echo 'stores: sz_cells sz_spec sz_region sz_ops sz_tables sz_full_one sz_full_many anyhow' >>"$work/crates.txt"
+echo 'stores: sz_cells sz_spec sz_region sz_ops sz_tables sz_full_one sz_full_many sz_payload sz_store anyhow' >>"$work/crates.txt"
 cat >"$here/specs/Lib.antt" <<'ANTT'
 pub mod Keeping
 ANTT
@@ -49,6 +56,26 @@ ANTT
 cat >"$here/proofs/Lib.antt" <<'ANTT'
 pub mod Pairs
 pub mod Sites
+pub mod Lists
+ANTT
+cat >"$here/proofs/Lists.antt" <<'ANTT'
+-- A strategy is in the list of it alone.
+use Rattle.std.proofs.Common.{◌≡◌, true, [], ◌∷◌, refl}
+use Rattle.sz_spec.specs.declared.modes.Strategy.{Strategy}
+use Rattle.sz_spec.specs.declared.modes.Strategy.TheVariants as strategy
+use Rattle.sz_spec.specs.Modes.{is_listed}
+
+pub listed_alone : (t : Strategy) → is_listed (t ∷ []) t ≡ true
+listed_alone strategy.Map = refl
+listed_alone strategy.FullOneB = refl
+listed_alone strategy.FullOneF = refl
+listed_alone strategy.FullManyB = refl
+listed_alone strategy.FullManyF = refl
+listed_alone strategy.PayOne = refl
+listed_alone strategy.PayMany = refl
+listed_alone strategy.CompOne = refl
+listed_alone strategy.CompMany = refl
+listed_alone strategy.BlackBox = refl
 ANTT
 cat >"$here/proofs/Pairs.antt" <<'ANTT'
 -- The region pairs of a lineage that fits have the shapes of the operator.
@@ -100,6 +127,19 @@ abbrev pub invariant-loop-$variable : goal.invariant-loop-$variable
 invariant-loop-$variable l = l.bits.extent ≡ l.${whole}shape
 ANTT
 done
+mkdir -p "$here/proofs/nodes/build_entries"
+cat >"$here/proofs/nodes/build_entries/Invariants.antt" <<'ANTT'
+-- The store is one of the operator, by the strategy alone.
+use Rattle.std.proofs.Common.{◌≡◌, [], ◌∷◌}
+use Rattle.std.specs.Arc.{arc_value}
+use Rattle.stores.proofs.nodes.build_entries.Given as goal
+
+abbrev pub invariant-loop-k : goal.invariant-loop-k
+invariant-loop-k l = record {
+  site : l.store.site ≡ arc_value l.at;
+  list : l.store.list ≡ l.strategy ∷ [];
+}
+ANTT
 mkdir -p "$here/proofs/measures/build"
 cat >"$here/proofs/measures/build/Invariants.antt" <<'ANTT'
 -- The store is one of the operator, and has been given no more region pairs than were counted.
@@ -440,16 +480,16 @@ use sz_cells::{Cell, CellBits, Run, Shape};
 use sz_ops::{Aid, trace};
 use sz_spec::{Array, Dir, OpAt, Tally};
 
-const TURNS: u32 = 5;
+pub const TURNS: u32 = 5;
 
 /// No more turns are taken after one that took so long.
-const LONG: u64 = 300_000_000;
+pub const LONG: u64 = 300_000_000;
 
 /// The most region pairs that a store is given: 2^30.
 const MOST: u32 = 1_073_741_824;
 
 /// Nanoseconds since a moment.
-fn since(rt: &HostRuntime, start: Instant) -> Option<u64> {
+pub fn since(rt: &HostRuntime, start: Instant) -> Option<u64> {
     let time = start.elapsed(rt).ok()?;
     u64::try_from(time.as_nanos()).ok()
 }
@@ -513,7 +553,7 @@ pub fn build(
 }
 
 /// The shape from which a look starts.
-fn near(at: &OpAt, dir: Dir) -> Shape
+pub fn near(at: &OpAt, dir: Dir) -> Shape
     requires { 0 < length at.now.ins }
     ensures { result ≡ near_side dir at.now 0 }
 {
@@ -524,7 +564,7 @@ fn near(at: &OpAt, dir: Dir) -> Shape
 }
 
 /// The shape to which a look leads.
-fn far(at: &OpAt, dir: Dir) -> Shape
+pub fn far(at: &OpAt, dir: Dir) -> Shape
     requires { 0 < length at.now.ins }
     ensures { result ≡ far_side dir at.now 0 }
 {
@@ -536,7 +576,7 @@ fn far(at: &OpAt, dir: Dir) -> Shape
 
 /// The set of one cell in the middle of a shape, or of the quarter of its cells that is above and
 /// left of it.
-fn asked(alloc: Global, shape: Shape, quarter: bool) -> Option<CellBits>
+pub fn asked(alloc: Global, shape: Shape, quarter: bool) -> Option<CellBits>
     ensures { IfSome result (λ b. b.extent ≡ shape) }
 {
     let mut bits = CellBits::new(alloc, shape).ok()?;
@@ -571,13 +611,13 @@ fn add_half(bits: &mut CellBits, row: u32)
 
 /// How a look is made.
 #[derive(Clone, Copy)]
-struct Look {
-    name: &'static str,
-    dir: Dir,
-    quarter: bool,
+pub struct Look {
+    pub name: &'static str,
+    pub dir: Dir,
+    pub quarter: bool,
 }
 
-const LOOKS: [Look; 4] = [
+pub const LOOKS: [Look; 4] = [
     Look {
         name: "one_back",
         dir: Dir::Back,
@@ -630,12 +670,12 @@ fn ask(rt: &HostRuntime, at: &OpAt, kept: &Kept, look: Look) -> Option<()>
     say_look(rt, look.name, best, cells)
 }
 
-fn count_in(alloc: Global, bits: &CellBits) -> Option<u32> {
+pub fn count_in(alloc: Global, bits: &CellBits) -> Option<u32> {
     let set = bits.to_set(alloc).ok()?;
     Some(set.count())
 }
 
-fn say_look(rt: &HostRuntime, name: &str, time: u64, cells: u32) -> Option<()> {
+pub fn say_look(rt: &HostRuntime, name: &str, time: u64, cells: u32) -> Option<()> {
     println!(rt; "{name} {time}").ok()?;
     println!(rt; "{name}_cells {cells}").ok()
 }
@@ -688,6 +728,208 @@ pub fn write(rt: &HostRuntime, at: &Arc<OpAt>, kept: &Kept, kind: Kind) -> Optio
     Some(())
 }
 RT
+cat >"$here/src/nodes.rt" <<'RT'
+//! What is measured of the stores of payload and of composite lineage, as a node has them. All times
+//! are in nanoseconds.
+
+ghost use Rattle.std.specs.Prelude.{◌≡◌, ◌<◌, ◌+◌, ◌^◌, [], ◌∷◌, length, map, true, IfSome};
+ghost use Rattle.std.specs.Arc.{arc_value};
+ghost use Rattle.sz_spec.specs.Modes.{is_stored, supports};
+ghost use Rattle.sz_spec.specs.Pieces.{pieces_of};
+ghost use Rattle.sz_spec.specs.Values.{extents_of};
+ghost use Rattle.sz_ops.specs.Aids.{aid_of};
+ghost use Rattle.sz_region.specs.Fits.{Fits};
+ghost use Rattle.sz_region.specs.Images.{measure_of};
+
+use crate::measures::{LONG, LOOKS, Look, TURNS, asked, count_in, far, near, say, say_look, since};
+use std::sync::Arc;
+use std::time::Instant;
+use sz_cells::CellBits;
+use sz_ops::{Aid, piece};
+use sz_region::PieceLineage;
+use sz_spec::{Array, OpAt, Strategy, Tally, pieces_of};
+use sz_store::NodeStore;
+
+/// The lineage of a piece, for a store of a strategy.
+fn lineage_for(
+    rt: &HostRuntime,
+    at: &OpAt,
+    inputs: &[Arc<Array>],
+    aid: &Aid,
+    strategy: Strategy,
+    k: u32,
+) -> Option<PieceLineage>
+    requires inputs { extents_of (map (λ a. arc_value a) inputs.now) ≡ at.now.ins }
+    requires aid { aid.now ≡ aid_of at.now.op (map (λ a. arc_value a) inputs.now) }
+    requires piece { k < pieces_of at.now.out }
+    requires supported { supports at.now.op strategy ≡ true }
+    ensures piece { IfSome result (λ p. p.piece ≡ k) }
+    ensures fits { IfSome result
+        (λ p. Fits (measure_of at.now (map (λ a. arc_value a) inputs.now)) (strategy ∷ []) k p) }
+{
+    at.out().size(); // no more cells than a shape has are counted
+    let mut tally = Tally::new();
+    piece(rt.alloc(), at, inputs, aid, k, &[strategy], &mut tally).ok()
+}
+
+/// Makes the lineages of all pieces, and drops each at once.
+pub fn make_entries(
+    rt: &HostRuntime,
+    at: &OpAt,
+    inputs: &[Arc<Array>],
+    aid: &Aid,
+    strategy: Strategy,
+) -> Option<()>
+    requires inputs { extents_of (map (λ a. arc_value a) inputs.now) ≡ at.now.ins }
+    requires aid { aid.now ≡ aid_of at.now.op (map (λ a. arc_value a) inputs.now) }
+    requires supported { supports at.now.op strategy ≡ true }
+{
+    let start = Instant::now(rt).ok()?;
+    let mut count = 0u64;
+    for k in 0..pieces_of(at.out()) {
+        let lineage = lineage_for(rt, at, inputs, aid, strategy, k)?;
+        let entries = lineage.pays().len() as u64;
+        count = count.saturating_add(entries);
+        count = count.saturating_add(lineage.comps().len() as u64);
+    }
+    say(rt, "make", since(rt, start)?)?;
+    say(rt, "pairs", count)
+}
+
+/// Builds the store of a strategy from the lineages of all pieces.
+pub fn build_entries(
+    rt: &HostRuntime,
+    at: &Arc<OpAt>,
+    inputs: &[Arc<Array>],
+    aid: &Aid,
+    strategy: Strategy,
+) -> Option<NodeStore>
+    requires inputs { extents_of (map (λ a. arc_value a) inputs.now) ≡ (arc_value at.now).ins }
+    requires aid { aid.now ≡ aid_of (arc_value at.now).op (map (λ a. arc_value a) inputs.now) }
+    requires supported { supports (arc_value at.now).op strategy ≡ true }
+    ensures site { IfSome result (λ s. s.site ≡ arc_value at.now) }
+    ensures list { IfSome result (λ s. s.list ≡ strategy ∷ []) }
+{
+    let mut store = NodeStore::new(rt.alloc(), Arc::try_clone(at).ok()?, &[strategy]).ok()?;
+    let mut time = 0u64;
+    for k in 0..pieces_of(at.out()) {
+        let spent = place_piece(rt, at, inputs, aid, strategy, k, &mut store)?;
+        time = time.saturating_add(spent);
+    }
+    say(rt, "build", time)?;
+    Some(store)
+}
+
+/// Builds sixteen stores, and holds them together.
+pub fn hold_entries(
+    rt: &HostRuntime,
+    at: &Arc<OpAt>,
+    inputs: &[Arc<Array>],
+    aid: &Aid,
+    strategy: Strategy,
+) -> Option<()>
+    requires inputs { extents_of (map (λ a. arc_value a) inputs.now) ≡ (arc_value at.now).ins }
+    requires aid { aid.now ≡ aid_of (arc_value at.now).op (map (λ a. arc_value a) inputs.now) }
+    requires supported { supports (arc_value at.now).op strategy ≡ true }
+{
+    let mut stores = Vec::new(rt.alloc());
+    for _ in 0..16 {
+        stores
+            .push(build_entries(rt, at, inputs, aid, strategy)?)
+            .ok()?;
+    }
+    drop(stores);
+    Some(())
+}
+
+/// Makes the lineage of a piece, and places it: how long the placing takes.
+fn place_piece(
+    rt: &HostRuntime,
+    at: &OpAt,
+    inputs: &[Arc<Array>],
+    aid: &Aid,
+    strategy: Strategy,
+    k: u32,
+    store: &mut NodeStore,
+) -> Option<u64>
+    requires inputs { extents_of (map (λ a. arc_value a) inputs.now) ≡ at.now.ins }
+    requires aid { aid.now ≡ aid_of at.now.op (map (λ a. arc_value a) inputs.now) }
+    requires piece { k < pieces_of at.now.out }
+    requires supported { supports at.now.op strategy ≡ true }
+    requires site { store.old.site ≡ at.now }
+    requires list { store.old.list ≡ strategy ∷ [] }
+    ensures site { store.new.site ≡ store.old.site }
+    ensures list { store.new.list ≡ store.old.list }
+{
+    let lineage = lineage_for(rt, at, inputs, aid, strategy, k)?;
+    let start = Instant::now(rt).ok()?;
+    store.place(&lineage).ok()?;
+    since(rt, start)
+}
+
+/// The best of some times of an image by the store, and how many cells it has.
+pub fn ask_entries(rt: &HostRuntime, at: &OpAt, store: &NodeStore, strategy: Strategy) -> Option<()>
+    requires site { store.now.site ≡ at.now }
+    requires list { store.now.list ≡ strategy ∷ [] }
+    requires stored { is_stored strategy ≡ true }
+    requires input { 0 < length at.now.ins }
+{
+    for look in LOOKS.iter() {
+        ask_entry(rt, at, store, strategy, *look)?;
+    }
+    Some(())
+}
+
+#[tactic(auto, using(crate::proofs::Lists::listed_alone))]
+fn ask_entry(
+    rt: &HostRuntime,
+    at: &OpAt,
+    store: &NodeStore,
+    strategy: Strategy,
+    look: Look,
+) -> Option<()>
+    requires site { store.now.site ≡ at.now }
+    requires list { store.now.list ≡ strategy ∷ [] }
+    requires stored { is_stored strategy ≡ true }
+    requires input { 0 < length at.now.ins }
+{
+    let from = asked(rt.alloc(), near(at, look.dir), look.quarter)?;
+    let mut best = u64::MAX;
+    let mut cells = 0;
+    for _ in 0..TURNS {
+        if best < LONG || cells == 0 {
+            let mut to = CellBits::new(rt.alloc(), far(at, look.dir)).ok()?;
+            let start = Instant::now(rt).ok()?;
+            store.image(strategy, look.dir, 0, &from, &mut to);
+            best = best.min(since(rt, start)?);
+            cells = count_in(rt.alloc(), &to)?;
+        }
+    }
+    say_look(rt, look.name, best, cells)
+}
+
+/// The bytes of the store, written, and read once more.
+pub fn write_entries(
+    rt: &HostRuntime,
+    at: &Arc<OpAt>,
+    store: &NodeStore,
+    strategy: Strategy,
+) -> Option<()>
+    requires supported { supports (arc_value at.now).op strategy ≡ true }
+{
+    let mut bytes = Vec::new(rt.alloc());
+    let start = Instant::now(rt).ok()?;
+    store.put_bytes(&mut bytes).ok()?;
+    say(rt, "write", since(rt, start)?)?;
+    say(rt, "bytes", bytes.len() as u64)?;
+    let at = Arc::try_clone(at).ok()?;
+    let start = Instant::now(rt).ok()?;
+    let (read, _) = NodeStore::take_bytes(rt.alloc(), at, &[strategy], &bytes, 0).ok()?;
+    say(rt, "read", since(rt, start)?)?;
+    drop(read);
+    Some(())
+}
+RT
 cat >"$here/src/main.rt" <<'RT'
 //! `stores ROW SIDE WHAT [KIND]` measures one thing of one row, in a process of its own.
 #![tactic(auto)]
@@ -696,22 +938,25 @@ ghost use Rattle.std.specs.Prelude.{◌≡◌, ◌<◌, length, map, true};
 ghost use Rattle.std.specs.Arc.{arc_value};
 ghost use Rattle.sz_spec.specs.Values.{extents_of};
 ghost use Rattle.sz_spec.specs.Shapes.{arity, has_right_parameters};
+ghost use Rattle.sz_ops.specs.Aids.{aid_of};
 
 mod arrays;
 mod kept;
 mod measures;
+mod nodes;
 mod pieces;
 
 use crate::arrays::{Picture, drawn, owner, placed};
 use crate::kept::Kind;
 use crate::measures::{ask_all, build, make, trace_all, write};
+use crate::nodes::{ask_entries, build_entries, hold_entries, make_entries, write_entries};
 use crate::pieces::{Source, cells_of};
 use std::env;
 use std::env::Args;
 use std::sync::Arc;
 use sz_cells::Shape;
-use sz_ops::prepare;
-use sz_spec::{Array, Dir, Kernel, Op, OpAt};
+use sz_ops::{Aid, prepare};
+use sz_spec::{Array, Dir, Kernel, Op, OpAt, Strategy, supports};
 
 /// What is measured.
 #[derive(Clone, Copy)]
@@ -724,6 +969,40 @@ enum What {
     Ask(Kind),
     /// And written and read.
     Write(Kind),
+    /// The same of a store of payload or composite lineage.
+    Entries(Step, Strategy),
+}
+
+/// What is done with a store of payload or composite lineage.
+#[derive(Clone, Copy)]
+enum Step {
+    Make,
+    Build,
+    /// Sixteen stores are built, and held together.
+    Hold,
+    Ask,
+    Write,
+}
+
+fn strategy_of(word: &str) -> Option<Strategy> {
+    match word {
+        "pay_one" => Some(Strategy::PayOne),
+        "pay_many" => Some(Strategy::PayMany),
+        "comp_one" => Some(Strategy::CompOne),
+        "comp_many" => Some(Strategy::CompMany),
+        _ => None,
+    }
+}
+
+fn step_of(what: &str) -> Option<Step> {
+    match what {
+        "make" => Some(Step::Make),
+        "build" => Some(Step::Build),
+        "hold" => Some(Step::Hold),
+        "ask" => Some(Step::Ask),
+        "write" => Some(Step::Write),
+        _ => None,
+    }
 }
 
 fn kind_of(word: &str) -> Option<Kind> {
@@ -738,6 +1017,9 @@ fn kind_of(word: &str) -> Option<Kind> {
 }
 
 fn what_of(what: &str, kind: &str) -> Option<What> {
+    if let Some(strategy) = strategy_of(kind) {
+        return Some(What::Entries(step_of(what)?, strategy));
+    }
     match what {
         "make" => Some(What::Make),
         "trace" => Some(What::Trace),
@@ -777,6 +1059,44 @@ fn measure(
         What::Write(kind) => {
             let kept = build(rt, &at, inputs, &aid, &source, kind)?;
             write(rt, &at, &kept, kind)
+        }
+        What::Entries(step, strategy) => {
+            measure_entries(rt, &at, inputs, &aid, step, strategy)
+        }
+    }
+}
+
+/// Measures the store of a strategy, of payload or composite lineage.
+fn measure_entries(
+    rt: &HostRuntime,
+    at: &Arc<OpAt>,
+    inputs: &[Arc<Array>],
+    aid: &Aid,
+    step: Step,
+    strategy: Strategy,
+) -> Option<()>
+    requires inputs { extents_of (map (λ a. arc_value a) inputs.now) ≡ (arc_value at.now).ins }
+    requires aid { aid.now ≡ aid_of (arc_value at.now).op (map (λ a. arc_value a) inputs.now) }
+    requires input { 0 < length (arc_value at.now).ins }
+{
+    if !supports(at.op(), strategy) || !strategy.is_stored() {
+        return None;
+    }
+    match step {
+        Step::Make => make_entries(rt, at, inputs, aid, strategy),
+        Step::Build => {
+            let store = build_entries(rt, at, inputs, aid, strategy)?;
+            drop(store);
+            Some(())
+        }
+        Step::Hold => hold_entries(rt, at, inputs, aid, strategy),
+        Step::Ask => {
+            let store = build_entries(rt, at, inputs, aid, strategy)?;
+            ask_entries(rt, at, &store, strategy)
+        }
+        Step::Write => {
+            let store = build_entries(rt, at, inputs, aid, strategy)?;
+            write_entries(rt, at, &store, strategy)
         }
     }
 }
@@ -822,6 +1142,21 @@ fn convolved(rt: &HostRuntime, shape: Shape, side: u32, what: What) -> Option<()
     measure(rt, at, &inputs, Source::Operator, what)
 }
 
+fn cleaned(rt: &HostRuntime, shape: Shape, t: i64, what: What) -> Option<()> {
+    let input = drawn(rt.alloc(), shape, Picture::Drawn)?;
+    one(rt, Op::Clean { t }, &input, Source::Operator, what)
+}
+
+/// A table of 500 columns, of which every second number drawn names one.
+fn looked_up(rt: &HostRuntime, shape: Shape, what: What) -> Option<()> {
+    let input = drawn(rt.alloc(), shape, Picture::Drawn)?;
+    let table = drawn(rt.alloc(), Shape::make(1, 500)?, Picture::Drawn)?;
+    let inputs = [owner(&input)?, owner(&table)?];
+    let ins = vec![in rt.alloc(); input.shape(), table.shape()].ok()?;
+    let at = placed(Op::Lookup, ins)?;
+    measure(rt, at, &inputs, Source::Operator, what)
+}
+
 fn regions(rt: &HostRuntime, shape: Shape, picture: Picture, t: i64, what: What) -> Option<()> {
     let input = drawn(rt.alloc(), shape, picture)?;
     one(rt, Op::Regions { t }, &input, Source::Operator, what)
@@ -849,6 +1184,9 @@ fn run(rt: &HostRuntime, row: &str, side: u32, what: What) -> Option<()> {
         "drawn" => regions(rt, shape, Picture::Drawn, 500, what),
         "block" => regions(rt, shape, Picture::Block, 5, what),
         "chessboard" => regions(rt, shape, Picture::Chessboard, 5, what),
+        "clean" => cleaned(rt, shape, 500, what),
+        "hot" => cleaned(rt, shape, 999, what),
+        "lookup" => looked_up(rt, shape, what),
         "pairs" => made(rt, shape, false, what),
         "whole" => made(rt, shape, true, what),
         _ => None,
@@ -888,12 +1226,18 @@ import os, resource, subprocess, sys, tempfile
 
 program = sys.argv[1]
 sides = [int(word) for word in sys.argv[2:]] or [256, 1024]
+full = ["full_one_b", "full_one_f", "full_many_b", "full_many_f"]
+by_strategy = ["pay_one", "pay_many", "comp_one", "comp_many"]
 rows = {
     "plus": "convolve 3 by 3", "nine": "convolve 9 by 9", "transpose": "transpose", "add": "add", "drawn": "regions, drawn",
     "block": "regions, one block", "chessboard": "regions, chessboard", "pairs": "pairs with one set", "whole": "one pair of all cells",
 }
-wanted = os.environ.get("STORES_ROWS", "").split() or list(rows)
-kinds = ["full_one_b", "full_one_f", "full_many_b", "full_many_f"]
+by_entries = {
+    "clean": "clean, every second cell hot", "hot": "clean, one cell in a thousand hot", "lookup": "lookup, every second cell in the table",
+    "drawn": "regions, drawn", "block": "regions, one block",
+}
+asked_rows, asked_entries = (os.environ.get(name, "").split() for name in ("STORES_ROWS", "STORES_ENTRIES"))
+wanted, wanted_entries = (asked_rows, asked_entries) if asked_rows or asked_entries else (list(rows), list(by_entries))
 seconds = int(os.environ.get("STORES_SECONDS", "300"))
 memory = int(os.environ.get("STORES_GIGABYTES", "12")) << 30
 looks = [("one_back", "b"), ("one_forward", "f"), ("quarter_back", "b"), ("quarter_forward", "f")]
@@ -940,38 +1284,86 @@ def table(lines):
         print("  ".join(word.ljust(width) if at == 0 else word.rjust(width) for at, (word, width) in enumerate(zip(line, widths))).rstrip())
 
 
-head = ["", "build (to make)", "a cell", "one back", "one forward", "quarter back (to trace)", "quarter forward (to trace)", "ns a pair",
-        "bytes a cell", "write", "read (to build)"]
+looks_head = ["one back", "one forward", "quarter back (to trace)", "quarter forward (to trace)"]
+bytes_head = ["bytes a cell", "write", "read (to build)"]
+head = ["", "build (to make)", "a cell", *looks_head, "ns a pair", *bytes_head]
+entries_head = ["", "entries", "made", "build (to make)", "a cell", "an entry", *looks_head, *bytes_head]
+
+
+def made(row, side, kind):
+    runs = [measure(row, side, "make", kind) for _ in range(3)]
+    return least(runs, "make"), least(runs, "peak"), least(runs, "pairs")
+
+
+# What a trace takes of each look, and how many cells it finds.
+def traces(row, side):
+    traced = measure(row, side, "trace", "-") if row not in ("pairs", "whole") else None
+    return traced or {}
+
+
+# The times of the looks of a store, and what is told of those that find other cells than the trace.
+def looked(row, kind, asked, traced, indexed):
+    words, faults = [], []
+    for look, side_asked in looks:
+        time, one = asked.get(look), look.startswith("one")
+        ours = side_asked in indexed
+        words.append(told(time, None if one else traced.get(look), 5 if ours else None, 100_000 if one and ours else None))
+        if time is not None and look in traced and asked[look + "_cells"] != traced[look + "_cells"]:
+            faults.append(f"{kind} {look}: {asked[look + '_cells']} cells, and {traced[look + '_cells']} traced")
+    return words, faults
+
+
+def measured(row, side, kind):
+    built, asked, written = (measure(row, side, what, kind) for what in ("build", "ask", "write"))
+    return built, asked or {}, written or {}, least([built, asked, written], "build")
+
+
+def written_words(written, build, cells):
+    size = "-" if "bytes" not in written else f"{written['bytes'] / cells:,.1f}"
+    return [size, told(written.get("write")), told(written.get("read"), build, 1)]
 
 
 def measure_row(row, side):
     cells = side * side
-    made = [measure(row, side, "make", "-") for _ in range(3)]
-    make, base, pairs = least(made, "make"), least(made, "peak"), least(made, "pairs")
-    traced = measure(row, side, "trace", "-") if row not in ("pairs", "whole") else None
-    traced = traced or {}
+    make, base, pairs = made(row, side, "-")
+    traced = traces(row, side)
     print(f"{rows[row]}: {pairs} region pairs, made in {told(make)} us; traces " + ", ".join(told(traced.get(look)) for look, _ in looks) + " us")
     lines, faults = [head], []
-    for kind in kinds:
-        built, asked, written = (measure(row, side, what, kind) for what in ("build", "ask", "write"))
-        build = least([built, asked, written], "build")
-        asked, written = asked or {}, written or {}
-        line = [kind, told(build, make, 6)]
+    for kind in full:
+        built, asked, written, build = measured(row, side, kind)
         more = (built["peak"] - base) / cells if built and base else None
-        line.append("-" if more is None else f"{more:,.0f}" + "*" * (more > 900))
-        across = None
-        for look, side_asked in looks:
-            time, indexed = asked.get(look), kind.endswith(side_asked)
-            one = look.startswith("one")
-            line.append(told(time, None if one else traced.get(look), 5 if indexed else None, 100_000 if one and indexed else None))
-            if one and not indexed and time and pairs:
-                across = time / pairs
-            if time is not None and look in traced and asked[look + "_cells"] != traced[look + "_cells"]:
-                faults.append(f"{kind} {look}: {asked[look + '_cells']} cells, and {traced[look + '_cells']} traced")
-        line.append("-" if across is None else f"{across:,.1f}")
-        line.append("-" if "bytes" not in written else f"{written['bytes'] / cells:,.1f}")
-        line += [told(written.get("write")), told(written.get("read"), build, 1)]
-        lines.append(line)
+        words, wrong = looked(row, kind, asked, traced, kind[-1])
+        across = asked.get("one_forward" if kind.endswith("b") else "one_back")
+        lines.append([
+            kind, told(build, make, 6), "-" if more is None else f"{more:,.0f}" + "*" * (more > 900), *words,
+            f"{across / pairs:,.1f}" if across and pairs else "-", *written_words(written, build, cells),
+        ])
+        faults += wrong
+    table(lines)
+    for fault in faults:
+        print(fault)
+    print(flush=True)
+
+
+def measure_entries(row, side):
+    cells = side * side
+    traced = traces(row, side)
+    print(f"{by_entries[row]}; traces " + ", ".join(told(traced.get(look)) for look, _ in looks) + " us")
+    lines, faults = [entries_head], []
+    for kind in by_strategy:
+        make, base, count = made(row, side, kind)
+        built, asked, written, build = measured(row, side, kind)
+        more = built["peak"] - base if built and base else None
+        if row == "hot":
+            held = least([measure(row, side, "hold", kind) for _ in range(3)], "peak")
+            more = (held - base) / 16 if held and base else None
+        words, wrong = looked(row, kind, asked, traced, "bf")
+        lines.append([
+            kind, str(count), told(make), told(build, make, 6), "-" if more is None else f"{more / cells:,.1f}",
+            "-" if more is None or not count else f"{more / count:,.0f}" + "*" * (row == "hot" and kind.startswith("comp") and more > 200 * count),
+            *words, *written_words(written, build, cells),
+        ])
+        faults += wrong
     table(lines)
     for fault in faults:
         print(fault)
@@ -983,4 +1375,6 @@ for side in sides:
     print()
     for row in wanted:
         measure_row(row, side)
+    for row in wanted_entries:
+        measure_entries(row, side)
 PY
