@@ -128,11 +128,13 @@ many_sync = search (at_send, at_sync, regions_sync, tree_sync, sendable, crosses
 
 kept_send : IsSend KeptStore.the_row
 kept_send =
-    search (one_send, many_send, at_send, at_sync, entries_send, tree_send, sendable, crosses, fields) depth 60 fits 5000
+    search (one_send, many_send, at_send, at_sync, entries_send, tree_send, chains_send, sendable, crosses, fields)
+    depth 60 fits 5000
 
 kept_sync : IsSync KeptStore.the_row
 kept_sync =
-    search (one_sync, many_sync, at_send, at_sync, entries_sync, tree_sync, sendable, crosses, fields) depth 60 fits 5000
+    search (one_sync, many_sync, at_send, at_sync, entries_sync, tree_sync, chains_sync, sendable, crosses, fields)
+    depth 60 fits 5000
 
 listed_send : IsSend ListedStore.the_row
 listed_send = search (kept_send, sendable, crosses, fields) depth 60 fits 5000
