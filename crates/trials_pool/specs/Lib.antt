@@ -1,2 +1,0 @@
--- What the tests' contracts name.
-pub mod Bench
