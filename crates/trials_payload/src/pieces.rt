@@ -140,11 +140,58 @@ fn is_right(alloc: Global, store: &NodeStore, strategy: Strategy) -> Result<bool
     let forward = Dir::Forward;
     Ok(
         finds(alloc, store, strategy, back, 3, Run { first: 2, last: 4 })?
-            && finds(alloc, store, strategy, back, 64, Run { first: 63, last: 64 })?
-            && finds(alloc, store, strategy, back, 10, Run { first: 10, last: 10 })?
-            && finds(alloc, store, strategy, forward, 2, Run { first: 2, last: 3 })?
-            && finds(alloc, store, strategy, forward, 63, Run { first: 63, last: 64 })?
-            && finds(alloc, store, strategy, forward, 10, Run { first: 10, last: 10 })?,
+            && finds(
+                alloc,
+                store,
+                strategy,
+                back,
+                64,
+                Run {
+                    first: 63,
+                    last: 64,
+                },
+            )?
+            && finds(
+                alloc,
+                store,
+                strategy,
+                back,
+                10,
+                Run {
+                    first: 10,
+                    last: 10,
+                },
+            )?
+            && finds(
+                alloc,
+                store,
+                strategy,
+                forward,
+                2,
+                Run { first: 2, last: 3 },
+            )?
+            && finds(
+                alloc,
+                store,
+                strategy,
+                forward,
+                63,
+                Run {
+                    first: 63,
+                    last: 64,
+                },
+            )?
+            && finds(
+                alloc,
+                store,
+                strategy,
+                forward,
+                10,
+                Run {
+                    first: 10,
+                    last: 10,
+                },
+            )?,
     )
 }
 
