@@ -7,6 +7,4 @@
 #[cfg(test)]
 mod entries;
 #[cfg(test)]
-mod pieces;
-#[cfg(test)]
 mod stores;
