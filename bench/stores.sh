@@ -12,17 +12,16 @@
 #
 #   build     to reserve the room of each piece and to add it, without the making of its lineage; and its ratio to that
 #   a cell    bytes of memory: the peak of a process that builds the store, less that of one that makes the lineages alone, a cell
-#   an entry  the same, an entry. Where one cell in a thousand is hot, both are a sixteenth of what sixteen stores take, since some hundred
-#             thousand bytes of a process are no store's
+#   an entry  the same, an entry: of little meaning where there are few, since some hundred thousand bytes of a process are no store's
 #   one, quarter
 #             an image of one cell, and of a quarter of the cells, in both directions, over the first input; and its ratio to the trace
 #   bytes     how many the store is written in, a cell; the times to write and to read them, and the ratio of reading to building
 #
 # Behind a number that is past its aim stands a star: building within 6 times the making of the lineages; an image of one cell by the
-# indexed side within 100 microseconds, and of a quarter of the cells within 5 times its trace; 900 bytes a cell; 200 bytes an entry of
-# composite lineage where one cell in a thousand is hot; reading within the time of building. All times are in microseconds, the best of a
-# few, each measure a process of its own. An image that has another count of cells than its trace is told. It is no test. It needs python3,
-# works in a folder of its own, and takes what was built in this checkout.
+# indexed side within 100 microseconds, and of a quarter of the cells within 5 times its trace; 900 bytes a cell of full lineage; reading
+# within the time of building. All times are in microseconds, the best of a few, each measure a process of its own. An image that has
+# another count of cells than its trace is told. It is no test. It needs python3, works in a folder of its own, and takes what was built in
+# this checkout.
 #
 #     bench/stores.sh [SIDE..]      STORES_ROWS='plus nine' STORES_ENTRIES='hot' bench/stores.sh 256 for some rows alone
 set -euo pipefail
@@ -820,28 +819,6 @@ pub fn build_entries(
     Some(store)
 }
 
-/// Builds sixteen stores, and holds them together.
-pub fn hold_entries(
-    rt: &HostRuntime,
-    at: &Arc<OpAt>,
-    inputs: &[Arc<Array>],
-    aid: &Aid,
-    strategy: Strategy,
-) -> Option<()>
-    requires inputs { extents_of (map (λ a. arc_value a) inputs.now) ≡ (arc_value at.now).ins }
-    requires aid { aid.now ≡ aid_of (arc_value at.now).op (map (λ a. arc_value a) inputs.now) }
-    requires supported { supports (arc_value at.now).op strategy ≡ true }
-{
-    let mut stores = Vec::new(rt.alloc());
-    for _ in 0..16 {
-        stores
-            .push(build_entries(rt, at, inputs, aid, strategy)?)
-            .ok()?;
-    }
-    drop(stores);
-    Some(())
-}
-
 /// Makes the lineage of a piece, and places it: how long the placing takes.
 fn place_piece(
     rt: &HostRuntime,
@@ -949,7 +926,7 @@ mod pieces;
 use crate::arrays::{Picture, drawn, owner, placed};
 use crate::kept::Kind;
 use crate::measures::{ask_all, build, make, trace_all, write};
-use crate::nodes::{ask_entries, build_entries, hold_entries, make_entries, write_entries};
+use crate::nodes::{ask_entries, build_entries, make_entries, write_entries};
 use crate::pieces::{Source, cells_of};
 use std::env;
 use std::env::Args;
@@ -978,8 +955,6 @@ enum What {
 enum Step {
     Make,
     Build,
-    /// Sixteen stores are built, and held together.
-    Hold,
     Ask,
     Write,
 }
@@ -998,7 +973,6 @@ fn step_of(what: &str) -> Option<Step> {
     match what {
         "make" => Some(Step::Make),
         "build" => Some(Step::Build),
-        "hold" => Some(Step::Hold),
         "ask" => Some(Step::Ask),
         "write" => Some(Step::Write),
         _ => None,
@@ -1089,7 +1063,6 @@ fn measure_entries(
             drop(store);
             Some(())
         }
-        Step::Hold => hold_entries(rt, at, inputs, aid, strategy),
         Step::Ask => {
             let store = build_entries(rt, at, inputs, aid, strategy)?;
             ask_entries(rt, at, &store, strategy)
@@ -1355,12 +1328,11 @@ def measure_entries(row, side):
         built, asked, written, build = measured(row, side, kind)
         more = built["peak"] - base if built and base else None
         if row == "hot":
-            held = least([measure(row, side, "hold", kind) for _ in range(3)], "peak")
-            more = (held - base) / 16 if held and base else None
+            more = least([built, *(measure(row, side, "build", kind) for _ in range(6))], "peak") - base
         words, wrong = looked(row, kind, asked, traced, "bf")
         lines.append([
             kind, str(count), told(make), told(build, make, 6), "-" if more is None else f"{more / cells:,.1f}",
-            "-" if more is None or not count else f"{more / count:,.0f}" + "*" * (row == "hot" and kind.startswith("comp") and more > 200 * count),
+            "-" if more is None or not count else f"{more / count:,.0f}",
             *words, *written_words(written, build, cells),
         ])
         faults += wrong
