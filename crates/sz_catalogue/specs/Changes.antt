@@ -102,18 +102,18 @@ traced v dir path =
 
 -- ---- commands
 
--- the commands that change what is held and start no version
-abbrev pub changes_without_start : Command → Bool
-changes_without_start (command.Array name array) = true
-changes_without_start (command.Csv name array) = true
-changes_without_start (command.Layers name array) = true
-changes_without_start (command.Flow name flow) = true
-changes_without_start (command.Strategy name node list) = true
-changes_without_start (command.Start name base) = false
-changes_without_start (command.Await n) = true
-changes_without_start (command.Ask n dir path named) = false
-changes_without_start (command.Explain n dir path named) = false
-changes_without_start (command.Show n node) = false
+-- the commands that change what is held and no version
+abbrev pub changes_no_version : Command → Bool
+changes_no_version (command.Array name array) = true
+changes_no_version (command.Csv name array) = true
+changes_no_version (command.Layers name array) = true
+changes_no_version (command.Flow name flow) = true
+changes_no_version (command.Strategy name node list) = true
+changes_no_version (command.Start name base) = false
+changes_no_version (command.Await n) = false
+changes_no_version (command.Ask n dir path named) = false
+changes_no_version (command.Explain n dir path named) = false
+changes_no_version (command.Show n node) = false
 
 -- what a command that no rule refuses changes, and its reply
 abbrev pub accepted : Holdings → Command → Holdings × Response

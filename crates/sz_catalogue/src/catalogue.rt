@@ -12,7 +12,7 @@ ghost use Rattle.sz_spec.specs.FlowShapes.{output_shapes};
 ghost use Rattle.sz_script.specs.declared.command.Command.TheVariants as command;
 ghost use Rattle.sz_script.specs.declared.refusal.Refusal.TheVariants as rule;
 ghost use Rattle.sz_script.specs.Right.{is_right};
-ghost use Rattle.sz_catalogue.specs.Holdings.{no_holdings, array_version, flow_named};
+ghost use Rattle.sz_catalogue.specs.Holdings.{no_holdings, array_version, flow_named, next_number};
 ghost use Rattle.sz_catalogue.specs.Holdings.{version_numbered, shapes_of, cells_of, output_cells};
 ghost use Rattle.sz_catalogue.specs.Starts.{bases_of};
 ghost use Rattle.sz_catalogue.specs.Rules as rules;
@@ -130,6 +130,14 @@ impl<K: Carried> Catalogue<K> {
             Some(run) => Some(run.version()),
             None => None,
         }
+    }
+
+    /// The number of the version that is started next. Logarithmic in the versions, and takes no
+    /// memory.
+    pub fn next_number(&self) -> u64
+        ensures { result ≡ next_number self.now }
+    {
+        self.versions.next_number()
     }
 
     /// Whether a further version is held whose outputs have so many cells. Takes no memory.

@@ -1,9 +1,10 @@
 //! What a session holds: arrays and flows by name, and versions by number.
 //!
 //! A [`Catalogue`] judges a command, takes one that no rule refuses, and is read by name and by
-//! number. A start is a call of its own, since with each version something is kept that belongs to
-//! it: whoever holds the catalogue says what ([`Carried`]). [`reply_text`] writes the line of a
-//! [`Reply`].
+//! number. With each version something is kept that belongs to it: whoever holds the catalogue says
+//! what ([`Carried`]). So a start and an await are calls of their own, that are given what is kept
+//! from then on, and [`Catalogue::exchange`] hands out what is kept and takes another in its place.
+//! [`reply_text`] writes the line of a [`Reply`].
 //!
 //! ```
 //! let mut held = Catalogue::new(alloc);
@@ -21,7 +22,7 @@
 //! To whoever changes this crate: a version keeps the shapes of its outputs and no values. So what
 //! is judged is found from shapes alone, and the count of the cells held is that of the arrays and
 //! of these shapes (`specs/Kept.antt`). A further command is a line in `rules_of`, in
-//! `accepted` and in `changes_without_start`, a function in `catalogue/judging.rt`, and one in
+//! `accepted` and in `changes_no_version`, a function in `catalogue/judging.rt`, and one in
 //! `catalogue/accepting.rt` where it changes what is held.
 #![tactic(auto)]
 

@@ -16,6 +16,7 @@ use crate::lists::{BaseArrays, StrategyLists};
 use crate::paths::source_of;
 use std::alloc::Global;
 use std::marker::Model;
+use std::mem;
 use std::sync::Arc;
 use sz_cells::{NoMemory, Shape};
 use sz_script::{Name, PathStep};
@@ -65,11 +66,22 @@ impl<K: Carried> HeldVersion<K> {
         &self.kept
     }
 
-    /// Notes that the version was awaited.
-    fn note_await(&mut self)
+    /// What is kept with the version, with this in its place.
+    fn exchange(&mut self, kept: K) -> K
+        requires { K.belongs kept self.old }
+        ensures same { self.new ≡ self.old }
+        ensures belongs { K.belongs result self.old }
+    {
+        mem::replace(&mut self.kept, kept)
+    }
+
+    /// Notes that the version was awaited, with what is kept with it from then on.
+    fn note_await(&mut self, kept: K)
+        requires { K.belongs kept (record self.old { awaited = true }) }
         ensures { self.new ≡ record self.old { awaited = true } }
     {
         self.awaited = true;
+        self.kept = kept;
     }
 }
 
@@ -196,10 +208,20 @@ impl<K: Carried> Run<K> {
         only.array.shape()
     }
 
-    /// Notes that the version was awaited.
-    pub fn note_await(&mut self)
+    /// What is kept with the version, with this in its place.
+    pub fn exchange(&mut self, kept: K) -> K
+        requires { K.belongs kept self.old }
+        ensures same { self.new ≡ self.old }
+        ensures belongs { K.belongs result self.old }
+    {
+        self.version.exchange(kept)
+    }
+
+    /// Notes that the version was awaited, with what is kept with it from then on.
+    pub fn note_await(&mut self, kept: K)
+        requires { K.belongs kept (record self.old { awaited = true }) }
         ensures { self.new ≡ record self.old { awaited = true } }
     {
-        self.version.note_await();
+        self.version.note_await(kept);
     }
 }

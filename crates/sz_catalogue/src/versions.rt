@@ -73,9 +73,30 @@ impl<K: Carried> HeldVersions<K> {
         Ok(())
     }
 
-    /// Notes that a version that is held was awaited. Logarithmic in the versions.
-    pub fn note_await(&mut self, number: u32)
-        requires { is_some (lookup (is_at (nat_cmp number)) self.old) ≡ true }
+    /// What is kept with a version that is held, with this in its place. Logarithmic in the
+    /// versions.
+    pub fn exchange(&mut self, number: u32, kept: K) -> K
+        requires held { is_some (lookup (is_at (nat_cmp number)) self.old) ≡ true }
+        requires belongs { K.belongs kept
+            (unwrap_or (lookup (is_at (nat_cmp number)) self.old) no_version) }
+        ensures same { self.new ≡ self.old }
+        ensures belongs { K.belongs result
+            (unwrap_or (lookup (is_at (nat_cmp number)) self.old) no_version) }
+    {
+        let Some(run) = self.by_number.get_mut(&number) else {
+            unreachable!()
+        };
+        run.exchange(kept)
+    }
+
+    /// Notes that a version that is held was awaited, with what is kept with it from then on.
+    /// Logarithmic in the versions.
+    pub fn note_await(&mut self, number: u32, kept: K)
+        requires held { is_some (lookup (is_at (nat_cmp number)) self.old) ≡ true }
+        requires belongs { K.belongs kept
+            (record (unwrap_or (lookup (is_at (nat_cmp number)) self.old) no_version) {
+              awaited = true;
+            }) }
         ensures { self.new ≡ set_value (is_at (nat_cmp number)) self.old
             (record (unwrap_or (lookup (is_at (nat_cmp number)) self.old) no_version) {
               awaited = true;
@@ -84,6 +105,6 @@ impl<K: Carried> HeldVersions<K> {
         let Some(run) = self.by_number.get_mut(&number) else {
             return;
         };
-        run.note_await();
+        run.note_await(kept);
     }
 }

@@ -1,6 +1,6 @@
 //! What commands that no rule refuses change.
-ghost use Rattle.std.specs.Prelude.{◌≡◌, ◌≤◌, true, is_some, [], ◌++◌, length, Some, None, All};
-ghost use Rattle.std.specs.Prelude.{option_map, IfOk, OnOk, OnErr};
+ghost use Rattle.std.specs.Prelude.{◌≡◌, ◌≤◌, true, false, is_some, [], ◌++◌, length, Some, None};
+ghost use Rattle.std.specs.Prelude.{All, option_map, IfOk, OnOk, OnErr};
 ghost use Rattle.std.specs.List.{cons_option};
 ghost use Rattle.std.specs.Result.{result_err};
 ghost use Rattle.sz_spec.specs.Flows.{is_well_formed};
@@ -10,8 +10,9 @@ ghost use Rattle.sz_script.specs.Right.{is_right};
 ghost use Rattle.sz_catalogue.specs.Holdings.{array_version, flow_named, version_numbered};
 ghost use Rattle.sz_catalogue.specs.Holdings.{shapes_of, output_cells};
 ghost use Rattle.sz_catalogue.specs.Starts.{base_of, bases_of, workflow_of, version_started};
-ghost use Rattle.sz_catalogue.specs.Rules.{judged, has_room, are_lists_for};
-ghost use Rattle.sz_catalogue.specs.Changes.{accepted, changes_without_start, with_version};
+ghost use Rattle.sz_catalogue.specs.Rules.{judged, has_room, are_lists_for, has_no_version};
+ghost use Rattle.sz_catalogue.specs.Rules.{version_of};
+ghost use Rattle.sz_catalogue.specs.Changes.{accepted, changes_no_version, with_version};
 ghost use Rattle.sz_catalogue.specs.Seen.{response_of};
 
 use super::Catalogue;
@@ -27,14 +28,14 @@ use sz_script::{BaseName, Command, Name, StrategyList};
 use sz_spec::{Array, Flow};
 
 impl<K: Carried> Catalogue<K> {
-    /// Takes a command that changes what is held, starts no version and is refused by no rule.
+    /// Takes a command that changes what is held but no version, and is refused by no rule.
     /// Without memory nothing is changed.
     ///
     /// Takes time in the command, and in the logarithm of what is held.
     pub fn accept(&mut self, command: Command) -> Result<Reply, NoMemory>
         requires right { is_right command ≡ true }
         requires judged { judged self.old command ≡ None }
-        requires changes { changes_without_start command ≡ true }
+        requires changes { changes_no_version command ≡ true }
         ensures ok { IfOk result (λ r. (self.new, response_of r) ≡ accepted self.old command) }
         ensures err { OnErr result (self.new ≡ self.old) }
     {
@@ -44,8 +45,8 @@ impl<K: Carried> Catalogue<K> {
             Command::Layers { name, array } => self.hold_array(name, array),
             Command::Flow { name, flow } => self.hold_flow(name, flow),
             Command::Strategy { name, node, list } => Ok(self.set_list(name, node, list)),
-            Command::Await { version } => Ok(self.await_version(version)),
             Command::Start { .. } => unreachable!(),
+            Command::Await { .. } => unreachable!(),
             Command::Ask { .. } => unreachable!(),
             Command::Explain { .. } => unreachable!(),
             Command::Show { .. } => unreachable!(),
@@ -167,13 +168,30 @@ impl<K: Carried> Catalogue<K> {
         Ok(())
     }
 
-    /// Notes that a version was awaited.
-    fn await_version(&mut self, number: u32) -> Reply
-        requires { judged self.old (command.Await number) ≡ None }
+    /// Notes that a version was awaited, where no rule refuses the await, with what is kept with it
+    /// from then on.
+    ///
+    /// Takes time in the logarithm of what is held, and no memory.
+    pub fn await_version(&mut self, number: u32, kept: K) -> Reply
+        requires judged { judged self.old (command.Await number) ≡ None }
+        requires belongs { K.belongs kept
+            (record (version_of self.old number) { awaited = true }) }
         ensures { (self.new, response_of result) ≡ accepted self.old (command.Await number) }
     {
-        self.versions.note_await(number);
+        self.versions.note_await(number, kept);
         Reply::Done { version: number }
+    }
+
+    /// What is kept with the version of a number, with this in its place.
+    ///
+    /// Takes time in the logarithm of what is held, and no memory.
+    pub fn exchange(&mut self, number: u32, kept: K) -> K
+        requires held { has_no_version self.old number ≡ false }
+        requires belongs { K.belongs kept (version_of self.old number) }
+        ensures same { self.new ≡ self.old }
+        ensures belongs { K.belongs result (version_of self.old number) }
+    {
+        self.versions.exchange(number, kept)
     }
 
     /// Holds a version that is awaited, under a number: at least 1, and not held. The flow and the

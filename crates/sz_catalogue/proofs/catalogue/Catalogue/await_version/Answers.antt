@@ -13,7 +13,7 @@ invariant_of-self g c =
       flows = c.self.inside.flows;
       versions = c.self.inside.versions;
     } in
-    let taken = ap (λ (h : Holdings). judged h (command.Await c.args.number)) c.self.view_is ∙ c.requires in
+    let taken = ap (λ (h : Holdings). judged h (command.Await c.args.number)) c.self.view_is ∙ c.requires.judged in
     rw c.note_await.ensures (record {
       counted = c.self.invariant.counted ∙ sym (await-cells held c.args.number taken);
       few_cells = c.self.invariant.few_cells;
