@@ -13,14 +13,24 @@ use std::alloc::Global;
 use std::sync::Arc;
 use std::test::Fail;
 use sz_catalogue::{
-    BaseArray, BaseArrays, Catalogue, HeldVersion, Reply, StrategyLists, reply_text,
+    BaseArray, BaseArrays, Carried, Catalogue, HeldVersion, Reply, StrategyLists, reply_text,
 };
 use sz_cells::{Cell, CellSet, NoMemory, Shape};
 use sz_script::{Command, LineFault, Name, StrategyList, read_line};
 use sz_spec::{Array, Flow, Node, Strategy, output_shapes};
 
-/// A catalogue that keeps nothing with its versions.
-type Held = Catalogue<()>;
+/// What is kept with a version here: a number, which belongs to any version.
+#[derive(Drop)]
+struct Mark {
+    number: u32,
+}
+
+impl Carried for Mark {
+    ghost belongs = { λ kept v. Unit {0} };
+}
+
+/// A catalogue that keeps a number with each of its versions.
+type Held = Catalogue<Mark>;
 
 /// Reads a line, judges its command and takes it. A reply to a line that changes nothing is that it
 /// is done.
@@ -52,8 +62,8 @@ fn accept(held: &mut Held, command: Command) -> Result<Reply, NoMemory>
         Command::Strategy { name, node, list } => {
             held.accept(Command::Strategy { name, node, list })
         }
-        Command::Start { name, base } => held.start(name, base.as_slice(), ()),
-        Command::Await { version } => held.accept(Command::Await { version }),
+        Command::Start { name, base } => held.start(name, base.as_slice(), Mark { number: 1 }),
+        Command::Await { version } => Ok(held.await_version(version, Mark { number: 2 })),
         Command::Ask { .. } => Ok(Reply::Done { version: 0 }),
         Command::Explain { .. } => Ok(Reply::Done { version: 0 }),
         Command::Show { .. } => Ok(Reply::Done { version: 0 }),
@@ -129,7 +139,7 @@ fn with_flow(alloc: Global) -> Result<Held, Fail> {
 }
 
 /// The version of the flow `f` of one node on the first array of `a`, by black box and awaited.
-fn version_of(alloc: Global, flow: Arc<Flow>, array: Arc<Array>) -> Result<HeldVersion<()>, Fail>
+fn version_of(alloc: Global, flow: Arc<Flow>, array: Arc<Array>) -> Result<HeldVersion<Mark>, Fail>
     ensures name { IfOk result (λ v. v.flow_name ≡ codes "f") }
     ensures flow { IfOk result (λ v. v.flow ≡ arc_value flow) }
     ensures base { IfOk result
@@ -149,7 +159,7 @@ fn version_of(alloc: Global, flow: Arc<Flow>, array: Arc<Array>) -> Result<HeldV
         base: BaseArrays::of(vec![in alloc; array]?),
         lists: StrategyLists::of(vec![in alloc; list]?),
         awaited: true,
-        kept: (),
+        kept: Mark { number: 0 },
     })
 }
 
@@ -189,7 +199,7 @@ fn cells_of(shapes: &[Shape]) -> u64
 
 /// How many cells the outputs of a version have, where its flow has one node and takes one base
 /// array, and the shapes fit.
-fn output_cells(alloc: Global, version: &HeldVersion<()>) -> Result<u64, Fail>
+fn output_cells(alloc: Global, version: &HeldVersion<Mark>) -> Result<u64, Fail>
     requires base { length version.now.base ≡ 1 }
     requires lists { version.now.lists ≡ (strategy.BlackBox ∷ []) ∷ [] }
     ensures count { OnOk result (length version.now.base ≡ version.now.flow.inputs) }
@@ -223,7 +233,7 @@ fn add(alloc: Global, held: &mut Held, number: u32) -> Result<(), Fail> {
 }
 
 /// Whether a version is the one that is added.
-fn is_added(version: Option<&HeldVersion<()>>) -> bool {
+fn is_added(version: Option<&HeldVersion<Mark>>) -> bool {
     let Some(version) = version else {
         return false;
     };
@@ -263,16 +273,30 @@ fn finds(held: &Held) -> bool {
         && !held.has_room(4_194_303)
 }
 
+/// The number that was kept with a version, with another in its place.
+fn exchanged(held: &mut Held, version: u32, number: u32) -> Option<u32> {
+    if held.version(version).is_none() {
+        return None;
+    }
+    Some(held.exchange(version, Mark { number }).number)
+}
+
+/// Whether the number that the await gave is handed out, and then the one that was put in its place.
+fn exchanges(held: &mut Held) -> bool {
+    exchanged(held, 1, 3) == Some(2) && exchanged(held, 1, 4) == Some(3)
+}
+
 /// Whether the next number is behind the greatest.
 fn counts_on(alloc: Global, held: &mut Held) -> Result<bool, Fail> {
     let start = br#"{"start":"f","base":[["a",1]]}"#;
     add(alloc, held, 7)?;
     let is_held = is_added(held.version(7));
+    let is_next = held.next_number() == 8;
     let next = says(alloc, held, start, "7 started 8\n")?;
     add(alloc, held, 4_294_967_294)?;
     let last = says(alloc, held, start, "7 started 4294967295\n")?;
     let none = says(alloc, held, start, "7 refused 14\n")?;
-    Ok(is_held && next && last && none)
+    Ok(is_held && is_next && next && last && none)
 }
 
 #[test]
@@ -281,6 +305,7 @@ fn a_session_is_held(rt: HostRuntime) -> Result<(), Fail> {
     let mut held = with_flow(alloc)?;
     assert!(rt; runs(alloc, &mut held)?);
     assert!(rt; finds(&held));
+    assert!(rt; exchanges(&mut held));
     assert!(rt; counts_on(alloc, &mut held)?);
     Ok(())
 }
