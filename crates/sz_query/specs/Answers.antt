@@ -4,7 +4,7 @@ use Rattle.sz_cells.specs.Extent.{Extent}
 use Rattle.sz_cells.specs.Cells.{Cells}
 use Rattle.sz_spec.specs.declared.modes.Dir.{Dir}
 use Rattle.sz_spec.specs.Sides.{near_side, far_side}
-use Rattle.sz_query.specs.Views.{View, view_site, IsUsable, traced_by, image_by}
+use Rattle.sz_query.specs.Views.{View, view_site, IsUsable, traced_by, most_traced_by, image_by}
 
 -- the set that is left when each view, with its input's number, has taken the set to its image
 abbrev pub answered : Dir → List View → List ℕ → Cells → Cells
@@ -17,6 +17,11 @@ answered dir (v ∷ views) (i ∷ inputs) set =
 abbrev pub traced_of : List View → ℕ
 traced_of [] = 0
 traced_of (v ∷ views) = traced_by v + traced_of views
+
+-- how much may be traced, before the steps are taken
+abbrev pub most_traced_of : List View → ℕ
+most_traced_of [] = 0
+most_traced_of (v ∷ views) = most_traced_by v + most_traced_of views
 
 -- a step can be taken from a set of this shape: the input is one of the operator's, the shape is
 -- that from which the step starts, and the view can be used

@@ -1,6 +1,6 @@
 -- What a reader may take for granted of answers. Each law is proved of the definitions.
-use Rattle.std.specs.Prelude.{◌≡◌, ℕ, ◌<◌, List, [], ◌∷◌, ◌++◌, map, length, true, Some}
-use Rattle.std.specs.Prelude.{option_map}
+use Rattle.std.specs.Prelude.{◌≡◌, ℕ, ◌<◌, ◌≤◌, List, [], ◌∷◌, ◌++◌, map, length, Bool, true}
+use Rattle.std.specs.Prelude.{false, Some, option_map}
 use Rattle.std.specs.List.{All, AllZip, slice_get}
 use Rattle.sz_cells.specs.Cells.{Cells}
 use Rattle.sz_cells.specs.SetBytes.{IsSetOf}
@@ -15,7 +15,9 @@ use Rattle.sz_spec.specs.Paths.{Step, are_joined, inputs_of, extent_of, start_ex
 use Rattle.sz_region.specs.Images.{measure_of}
 use Rattle.sz_region.specs.Laws.{IsTheRelation}
 use Rattle.sz_store.specs.Kept.{holding_for, holding_stands}
-use Rattle.sz_query.specs.Views.{View, by_map, by_store, by_trace, view_site, IsUsable, image_by}
+use Rattle.sz_query.specs.Views.{View, by_map, by_store, by_shelf, by_growth, by_trace, view_site}
+use Rattle.sz_query.specs.Views.{IsUsable, used_of, traced_by, most_traced_by, image_by}
+use Rattle.sz_query.specs.Turns.{IsAsked}
 use Rattle.sz_query.specs.Answers.{answered, AreSteps}
 
 -- views taken in two parts: the set is taken along the first, and what that gives along the second
@@ -26,11 +28,14 @@ AnswersGoByParts = (dir : Dir) (views more : List View) (inputs rest : List ℕ)
     ≡ answered dir more rest (answered dir views inputs set)
 
 -- what makes a view stand for the relation of its operator over these inputs: the operator has a
--- mapping, the store stands for exactly the relation, or the arrays that are traced are these
+-- mapping, the store stands for exactly the relation, the shelf is for these arrays, or those that
+-- are traced are these
 abbrev pub IsFaithful : View → List Grid → Type 0
 IsFaithful (by_map s) inputs = has_mapping s.op ≡ true
 IsFaithful (by_store s kept t) inputs =
     IsTheRelation (measure_of s inputs) (holding_stands s (holding_for t kept.stores))
+IsFaithful (by_shelf s z p t) inputs = p.tag.inputs ≡ inputs
+IsFaithful (by_growth s own z p t) inputs = own ≡ inputs
 IsFaithful (by_trace s own) inputs = own ≡ inputs
 
 -- a view is one of a node of a flow, of which the base arrays and the outputs are given
@@ -56,6 +61,8 @@ pub record IsTaken (dir : Dir) (s : Site) (i : ℕ) (set : Cells) : Type 0 where
 abbrev pub Asks : Dir → View → ℕ → Cells → Type 0
 Asks dir (by_map s) i set = Unit {0}
 Asks dir (by_store s kept t) i set = IsTaken dir s i set
+Asks dir (by_shelf s z p t) i set = Unit {0}
+Asks dir (by_growth s own z p t) i set = Unit {0}
 Asks dir (by_trace s own) i set = Unit {0}
 
 -- what each view asks of the set to which those before it take a set
@@ -89,3 +96,27 @@ JoinedPathsAreSteps = (dir : Dir) (flow : Graph) (base outputs : List Grid) (s :
     → AreOfPath flow base outputs (s ∷ path) views → All IsUsable views
     → AreSteps dir views (map (λ (t : Step). t.input) (s ∷ path))
     (start_extent dir flow base outputs s)
+
+-- whether how a step goes is told only once it is taken
+abbrev pub may_change : View → Bool
+may_change (by_map s) = false
+may_change (by_store s kept t) = false
+may_change (by_shelf s z p t) = false
+may_change (by_growth s own z p t) = true
+may_change (by_trace s own) = false
+
+-- A view that was asked stays one of its operator, which can be used where it could be and gives
+-- each set its image as before. It tells no more cells as traced than it told and than might be;
+-- and but for a view of a shelf that may grow, it tells the same.
+pub record StaysAsked (v w : View) : Type 0 where
+  pub site : view_site w ≡ view_site v
+  pub ready : IsUsable v → IsUsable w
+  pub image : (dir : Dir) (i : ℕ) (set : Cells) → image_by dir w i set ≡ image_by dir v i set
+  pub most : traced_by w ≤ most_traced_by v
+  pub fewer : traced_by w ≤ traced_by v
+  pub traced : may_change v ≡ false → traced_by w ≡ traced_by v
+  pub used : may_change v ≡ false → used_of w ≡ used_of v
+
+-- so it is of every view
+abbrev pub AskedViewsStay : Type 0
+AskedViewsStay = (v w : View) → IsAsked v w → StaysAsked v w

@@ -1,4 +1,5 @@
 pub mod Views
+pub mod Turns
 pub mod Answers
 pub mod Sides
 pub mod Laws

@@ -2,7 +2,7 @@
 //! body, and its contract is the law.
 
 ghost use Rattle.sz_query.specs.Laws.{AnswersGoByParts, AnswersAreTheComposedRelation};
-ghost use Rattle.sz_query.specs.Laws.{JoinedPathsAreSteps, StepsHaveWhatViewsAsk};
+ghost use Rattle.sz_query.specs.Laws.{JoinedPathsAreSteps, StepsHaveWhatViewsAsk, AskedViewsStay};
 
 /// The answer by views in two parts is the answer by the second part from that by the first.
 pub fn answers_go_by_parts()
@@ -25,4 +25,10 @@ pub fn joined_paths_are_steps()
 /// Where steps can be taken from a set, each view has what it asks of the set that it takes.
 pub fn steps_have_what_views_ask()
     ensures { StepsHaveWhatViewsAsk }
+{}
+
+/// A view whose step was taken is one of the same operator, and gives each set its image as before.
+/// Where it is not one of a shelf that may grow, it tells of its step what it told.
+pub fn asked_views_stay()
+    ensures { AskedViewsStay }
 {}

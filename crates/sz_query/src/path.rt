@@ -1,13 +1,16 @@
 //! The answer along a path.
 
 ghost use Rattle.std.specs.Prelude.{◌≡◌, ◌+◌, ◌<◌, ◌^◌, map, IfOk, OnOk, OnErr};
+ghost use Rattle.std.specs.List.{AllZip};
 ghost use Rattle.sz_query.specs.Views.{view_of, used_of};
-ghost use Rattle.sz_query.specs.Answers.{answered, traced_of, AreSteps, IsPath};
+ghost use Rattle.sz_query.specs.Turns.{IsAsked, MayBeAsked};
+ghost use Rattle.sz_query.specs.Answers.{answered, traced_of, most_traced_of, AreSteps, IsPath};
 
-use crate::steps::{bits_of, sides_of, take_steps, used_by};
+use crate::steps::{bits_of, sides_of, take_steps};
 use crate::used::UsedList;
 use crate::views::NodeView;
 use std::alloc::Global;
+use std::sync::Wait;
 use sz_cells::{CellSet, NoMemory};
 use sz_spec::{Dir, Tally};
 
@@ -25,14 +28,16 @@ pub struct Found {
 /// The cells that a set of cells leads to along a path: through each view, with the number of one
 /// of its inputs, in the order of the lists.
 ///
-/// Takes a bitmap for each step at the start and memory for the result at the end; in between it
-/// takes none with `Mapped` and `Kept` views alone, and else what tracing takes. A step by a
-/// mapping costs by the cells that it touches, one by a store by what the store finds of them, one
-/// that is traced by the cells of its output. The tally rises by the output sizes of the steps that
-/// are told as traced, which says nothing of how a step was worked out. At `NoMemory` the tally is
-/// as before.
-pub fn answer(
+/// Takes a bitmap for each step and room to tell of it at the start, and memory for the result at
+/// the end; in between it takes none with `Mapped`, `Stored` and `Kept` views alone, and else what
+/// tracing takes. A step by a mapping costs by the cells that it touches, one by a store by what the
+/// store finds of them, one that is traced by the cells of its output. A `Stored` and a `Building`
+/// view take one turn each at their shelf, and wait for it. The tally rises by the output sizes of
+/// the steps that are told as traced, which says nothing of how a step was worked out. At `NoMemory`
+/// the tally is as before, and the views up to some one have taken their turns.
+pub fn answer<R: Wait>(
     alloc: Global,
+    rt: &R,
     views: &mut [NodeView],
     inputs: &[u32],
     dir: Dir,
@@ -41,23 +46,27 @@ pub fn answer(
 ) -> Result<Found, NoMemory>
     requires path { IsPath (map view_of views.old) }
     requires steps { AreSteps dir (map view_of views.old) inputs.now cells.now.extent }
-    requires room { tally.old + traced_of (map view_of views.old) < 2 ^ 63 }
+    requires room { tally.old + most_traced_of (map view_of views.old) < 2 ^ 63 }
     ensures cells { IfOk result
         (λ f. f.cells ≡ answered dir (map view_of views.old) inputs.now cells.now) }
-    ensures used { IfOk result (λ f. f.used ≡ map used_of (map view_of views.old)) }
-    ensures traced { IfOk result (λ f. f.traced ≡ traced_of (map view_of views.old)) }
+    ensures used { IfOk result (λ f. f.used ≡ map used_of (map view_of views.new)) }
+    ensures traced { IfOk result (λ f. f.traced ≡ traced_of (map view_of views.new)) }
     ensures ticks { OnOk result
-        (tally.new ≡ tally.old + traced_of (map view_of views.old)) }
+        (tally.new ≡ tally.old + traced_of (map view_of views.new)) }
     ensures no_memory { OnErr result (tally.new ≡ tally.old) }
-    ensures views { views.new ≡ views.old }
+    ensures asked { OnOk result (AllZip IsAsked (map view_of views.old) (map view_of views.new)) }
+    ensures tried { OnErr result
+        (AllZip MayBeAsked (map view_of views.old) (map view_of views.new)) }
 {
     let mut sides = sides_of(alloc, views, inputs, dir, cells)?;
     let mut set = bits_of(alloc, cells)?;
     let mut count = Tally::new();
-    take_steps(alloc, views, inputs, dir, &mut set, &mut sides, &mut count)?;
+    let used = take_steps(
+        alloc, rt, views, inputs, dir, &mut set, &mut sides, &mut count,
+    )?;
     let found = Found {
         cells: set.to_set(alloc)?,
-        used: used_by(alloc, views)?,
+        used,
         traced: count.count(),
     };
     tally.add(count);

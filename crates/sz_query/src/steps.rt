@@ -1,13 +1,16 @@
 //! The steps of a path, one after the other.
 
-ghost use Rattle.std.specs.Prelude.{◌≡◌, ◌+◌, ◌<◌, ◌^◌, map, IfOk, OnOk};
+ghost use Rattle.std.specs.Prelude.{◌≡◌, ◌+◌, ◌<◌, ◌^◌, map, IfOk, OnOk, OnErr};
+ghost use Rattle.std.specs.List.{AllZip};
 ghost use Rattle.sz_query.specs.Views.{view_of, used_of};
-ghost use Rattle.sz_query.specs.Answers.{answered, traced_of, AreSteps};
+ghost use Rattle.sz_query.specs.Turns.{IsAsked, MayBeAsked};
+ghost use Rattle.sz_query.specs.Answers.{answered, traced_of, most_traced_of, AreSteps};
 ghost use Rattle.sz_query.specs.Sides.{empty_sides};
 
 use crate::used::UsedList;
 use crate::views::NodeView;
 use std::alloc::Global;
+use std::sync::Wait;
 use sz_cells::{CellBits, CellSet, NoMemory};
 use sz_spec::{Dir, Tally};
 
@@ -39,40 +42,37 @@ pub(crate) fn bits_of(alloc: Global, cells: &CellSet) -> Result<CellBits, NoMemo
     Ok(bits)
 }
 
-/// Takes a set through all steps. `set` is the answer at last; each of `sides` is used once. After
-/// `NoMemory`, none of them is of use, nor is the tally.
-pub(crate) fn take_steps(
+/// Takes a set through all steps, and tells how each went. `set` is the answer at last; each of
+/// `sides` is used once. After `NoMemory`, none of them is of use, nor is the tally.
+pub(crate) fn take_steps<R: Wait>(
     alloc: Global,
-    views: &[NodeView],
+    rt: &R,
+    views: &mut [NodeView],
     inputs: &[u32],
     dir: Dir,
     set: &mut CellBits,
     sides: &mut [CellBits],
     tally: &mut Tally,
-) -> Result<(), NoMemory>
-    requires steps { AreSteps dir (map view_of views.now) inputs.now set.old.extent }
-    requires sides { sides.old ≡ empty_sides dir (map view_of views.now) inputs.now }
-    requires room { tally.old + traced_of (map view_of views.now) < 2 ^ 63 }
+) -> Result<UsedList, NoMemory>
+    requires steps { AreSteps dir (map view_of views.old) inputs.now set.old.extent }
+    requires sides { sides.old ≡ empty_sides dir (map view_of views.old) inputs.now }
+    requires room { tally.old + most_traced_of (map view_of views.old) < 2 ^ 63 }
     ensures set { OnOk result
-        (set.new ≡ answered dir (map view_of views.now) inputs.now set.old) }
+        (set.new ≡ answered dir (map view_of views.old) inputs.now set.old) }
+    ensures used { IfOk result (λ u. u ≡ map used_of (map view_of views.new)) }
     ensures ticks { OnOk result
-        (tally.new ≡ tally.old + traced_of (map view_of views.now)) }
+        (tally.new ≡ tally.old + traced_of (map view_of views.new)) }
+    ensures asked { OnOk result (AllZip IsAsked (map view_of views.old) (map view_of views.new)) }
+    ensures tried { OnErr result
+        (AllZip MayBeAsked (map view_of views.old) (map view_of views.new)) }
 {
+    let mut used = Vec::with_capacity(alloc, views.len())?;
     for index in 0..views.len() {
         let side = &mut sides[index];
-        views[index].step_into(alloc, dir, inputs[index], set, side, tally)?;
+        let view = &mut views[index];
+        let how = view.step_into(alloc, rt, dir, inputs[index], set, side, tally)?;
+        used.push(how)?;
         std::mem::swap(set, side);
     }
-    Ok(())
-}
-
-/// How each step goes.
-pub(crate) fn used_by(alloc: Global, views: &[NodeView]) -> Result<UsedList, NoMemory>
-    ensures { IfOk result (λ u. u ≡ map used_of (map view_of views.now)) }
-{
-    let mut items = Vec::with_capacity(alloc, views.len())?;
-    for index in 0..views.len() {
-        items.push(views[index].used())?;
-    }
-    Ok(UsedList::of(items))
+    Ok(UsedList::of(used))
 }
