@@ -25,7 +25,8 @@ use Rattle.sz_spec.proofs.Images.{back-ext, forward-ext}
 use Rattle.sz_spec.proofs.PayloadLineage.{extent-of_input, related-mapped}
 use Rattle.sz_region.proofs.Added.{own-at}
 use Rattle.sz_store.specs.Kept.{holding_for, holding_stands}
-use Rattle.sz_query.specs.Views.{View, by_map, by_store, by_trace, view_site, relation_of, image_by}
+use Rattle.sz_query.specs.Views.{View, by_map, by_store, by_shelf, by_growth, by_trace, view_site, relation_of}
+use Rattle.sz_query.specs.Views.{image_by}
 use Rattle.sz_query.specs.Answers.{answered, IsStep, AreSteps}
 use Rattle.sz_query.specs.Laws.{AnswersGoByParts, IsFaithful, IsOfNode, Asks, AskAlong, StepsHaveWhatViewsAsk}
 use Rattle.sz_query.specs.Laws.{AnswersAreTheComposedRelation}
@@ -60,6 +61,8 @@ step-asked dir (by_store s kept t) i set step is = record {
   input = step.input;
   of_shape = subst (λ (e : Extent). IsSetOf e set) step.near is;
 }
+step-asked dir (by_shelf s z p t) i set step is = tt
+step-asked dir (by_growth s own z p t) i set step is = tt
 step-asked dir (by_trace s own) i set step is = tt
 
 -- and so has each step of a path
@@ -105,6 +108,10 @@ faithful dir (by_map s) inputs i set ins told asked =
 faithful dir (by_store s kept t) inputs i set ins told asked =
     agreed-image dir s i (holding_stands s (holding_for t kept.stores) i) (related s.op inputs i) set
     (λ o x out within. told i o x asked.input out within) asked.of_shape
+faithful dir (by_shelf s z p t) inputs i set ins told asked =
+    ap (λ (arrays : List Grid). image_in dir s i (related s.op arrays i) set) told
+faithful dir (by_growth s own z p t) inputs i set ins told asked =
+    ap (λ (arrays : List Grid). image_in dir s i (related s.op arrays i) set) told
 faithful dir (by_trace s own) inputs i set ins told asked =
     ap (λ (arrays : List Grid). image_in dir s i (related s.op arrays i) set) told
 

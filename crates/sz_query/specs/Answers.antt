@@ -4,7 +4,8 @@ use Rattle.sz_cells.specs.Extent.{Extent}
 use Rattle.sz_cells.specs.Cells.{Cells}
 use Rattle.sz_spec.specs.declared.modes.Dir.{Dir}
 use Rattle.sz_spec.specs.Sides.{near_side, far_side}
-use Rattle.sz_query.specs.Views.{View, view_site, IsUsable, traced_by, most_traced_by, image_by}
+use Rattle.sz_query.specs.Views.{View, view_site, IsUsable, traced_by, most_traced_by}
+use Rattle.sz_query.specs.Views.{image_by}
 
 -- the set that is left when each view, with its input's number, has taken the set to its image
 abbrev pub answered : Dir → List View → List ℕ → Cells → Cells

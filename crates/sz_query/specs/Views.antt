@@ -57,9 +57,9 @@ pub record HasStore (s : Site) (kept : NodeLineage) (t : Strategy) : Type 0 wher
   pub stored : is_stored t ≡ true
   pub listed : is_listed kept.list t ≡ true
 
--- A strategy's store can be looked at on a shelf that is sealed: the pass is one of this shelf, which
--- is of this operator at these shapes, the pass saw the seal, and the strategy is one of the shelf's
--- list that keeps a store.
+-- A strategy's store can be looked at on a shelf that is sealed: the pass is one of this shelf,
+-- which is of this operator at these shapes, the pass saw the seal, and the strategy is one of the
+-- shelf's list that keeps a store.
 pub record HasShelf (s : Site) (z : Place) (p : Onlooker) (t : Strategy) : Type 0 where
   pub own : place_of p ≡ z
   pub site : p.tag.site ≡ s
@@ -95,8 +95,8 @@ relation_of (by_shelf s z p t) i o x = related s.op p.tag.inputs i o x
 relation_of (by_growth s inputs z p t) i o x = related s.op inputs i o x
 relation_of (by_trace s inputs) i o x = related s.op inputs i o x
 
--- How a step goes that uses the view. By a shelf that may grow it is told once the step is taken: by
--- the strategy where its pass then saw the seal, and else as traced.
+-- How a step goes that uses the view. By a shelf that may grow it is told once the step is taken:
+-- by the strategy where its pass then saw the seal, and else as traced.
 abbrev pub used_of : View → Used
 used_of (by_map s) = used.By strategy.Map
 used_of (by_store s kept t) = used.By t

@@ -30,11 +30,11 @@ pub struct Found {
 ///
 /// Takes a bitmap for each step and room to tell of it at the start, and memory for the result at
 /// the end; in between it takes none with `Mapped`, `Stored` and `Kept` views alone, and else what
-/// tracing takes. A step by a mapping costs by the cells that it touches, one by a store by what the
-/// store finds of them, one that is traced by the cells of its output. A `Stored` and a `Building`
-/// view take one turn each at their shelf, and wait for it. The tally rises by the output sizes of
-/// the steps that are told as traced, which says nothing of how a step was worked out. At `NoMemory`
-/// the tally is as before, and the views up to some one have taken their turns.
+/// tracing takes. A step by a mapping costs by the cells that it touches, one by a store by what
+/// the store finds of them, one that is traced by the cells of its output. A `Stored` and a
+/// `Building` view take one turn each at their shelf, and wait for it. The tally rises by the
+/// output sizes of the steps that are told as traced, which says nothing of how a step was worked
+/// out. At `NoMemory` the tally is as before, and the views up to some one have taken their turns.
 pub fn answer<R: Wait>(
     alloc: Global,
     rt: &R,

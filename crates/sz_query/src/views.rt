@@ -44,8 +44,8 @@ pub enum NodeView {
         store: Arc<NodeStore>,
         s: Strategy,
     },
-    /// The store of a strategy on the node's shelf where a look finds a seal, and else the operator,
-    /// run again over its inputs.
+    /// The store of a strategy on the node's shelf where a look finds a seal, and else the
+    /// operator, run again over its inputs.
     Building {
         run: NodeRunRef,
         shelf: Arc<Shelf>,
@@ -90,10 +90,11 @@ impl NodeView {
         }
     }
 
-    /// Takes a set of cells through one step, into a bitmap that is empty yet, and tells how it went.
-    /// A mapping costs by the cells of the set and of its image, a store by what it finds of them,
-    /// and a trace looks at each output cell once and counts them. A view of a shelf takes one turn
-    /// there. Only a trace takes memory. After `NoMemory`, `to` and the tally are of no use.
+    /// Takes a set of cells through one step, into a bitmap that is empty yet, and tells how it
+    /// went. A mapping costs by the cells of the set and of its image, a store by what it finds of
+    /// them, and a trace looks at each output cell once and counts them. A view of a shelf takes
+    /// one turn there. Only a trace takes memory. After `NoMemory`, `to` and the tally are of no
+    /// use.
     pub(crate) fn step_into<R: Wait>(
         &mut self,
         alloc: Global,

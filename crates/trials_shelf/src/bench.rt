@@ -7,6 +7,7 @@ ghost use Rattle.sz_shelf.specs.Passes.{TookTurn, place_of};
 ghost use Rattle.sz_shelf.specs.Steps.{longer};
 ghost use Rattle.sz_shelf.specs.Tags.{StandsFor};
 ghost use Rattle.sz_shelf.specs.declared.answers.SealReply.TheVariants.{Sealed as SealedNow};
+ghost use Rattle.sz_query.specs.Views.{view_of, view_site, most_traced_by, IsUsable};
 ghost use Rattle.trials_shelf.specs.Bench.{negation, tag_of};
 
 use std::alloc::Global;
@@ -15,8 +16,9 @@ use std::sync::{Arc, Wait};
 use std::test::Fail;
 use sz_cells::{CellBits, CellSet, NoMemory, Run, Shape};
 use sz_ops::{piece, prepare};
+use sz_query::{NodeRunRef, NodeView};
 use sz_shelf::{Look, Pass, Placed, SealReply, Shelf};
-use sz_spec::{Array, Dir, Op, OpAt, Strategy, Tally};
+use sz_spec::{Array, ArrayList, Dir, Op, OpAt, Strategy, Tally};
 use sz_store::NodeStore;
 
 const LIST: [Strategy; 3] = [Strategy::FullManyB, Strategy::Map, Strategy::FullOneF];
@@ -44,7 +46,7 @@ impl Model for Bench {
 }
 
 /// The shape of input and output.
-fn row() -> Result<Shape, Fail>
+pub fn row() -> Result<Shape, Fail>
     ensures { IfOk result (λ s. s ≡ flat 1 65) }
 {
     Ok(Shape::make(1, 65).ok_or("a row of 65 is a shape")?)
@@ -199,6 +201,40 @@ impl Bench {
         ensures { TookTurn pass.old pass.new }
     {
         self.shelf.swap(rt, pass, store);
+    }
+
+    /// A view of the shelf while it may grow, by the store by sets.
+    pub fn building(&self, alloc: Global, pass: Pass) -> Result<NodeView, Fail>
+        requires { place_of pass ≡ self.now }
+        ensures ready { IfOk result (λ v. IsUsable (view_of v)) }
+        ensures site { IfOk result (λ v. view_site (view_of v) ≡ negation) }
+        ensures most { IfOk result (λ v. most_traced_by (view_of v) < 66) }
+    {
+        Ok(NodeView::Building {
+            run: NodeRunRef {
+                at: Arc::try_clone(&self.at)?,
+                inputs: ArrayList::of(vec![in alloc; Arc::try_clone(&self.array)?]?),
+            },
+            shelf: Arc::try_clone(&self.shelf)?,
+            pass,
+            s: Strategy::FullManyB,
+        })
+    }
+
+    /// A view of the sealed shelf, by the same store.
+    pub fn stored(&self, pass: Pass) -> Result<NodeView, Fail>
+        requires own { place_of pass ≡ self.now }
+        requires saw { pass.saw ≡ true }
+        ensures ready { IfOk result (λ v. IsUsable (view_of v)) }
+        ensures site { IfOk result (λ v. view_site (view_of v) ≡ negation) }
+        ensures most { IfOk result (λ v. most_traced_by (view_of v) < 66) }
+    {
+        Ok(NodeView::Stored {
+            at: Arc::try_clone(&self.at)?,
+            shelf: Arc::try_clone(&self.shelf)?,
+            pass,
+            s: Strategy::FullManyB,
+        })
     }
 
     /// One pass more.

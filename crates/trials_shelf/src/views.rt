@@ -1,0 +1,87 @@
+//! Views of a shelf: a step by one of a shelf that is filled is told as traced before the seal and
+//! by the strategy after it, and finds the same cells.
+
+ghost use Rattle.std.specs.Prelude.{◌≡◌, ◌<◌, true, IfOk};
+ghost use Rattle.sz_cells.specs.Extent.{flat};
+ghost use Rattle.sz_query.specs.Views.{view_of, view_site, most_traced_by, IsUsable};
+ghost use Rattle.sz_shelf.specs.Passes.{place_of};
+ghost use Rattle.trials_shelf.specs.Bench.{negation};
+
+use crate::bench::{Bench, row};
+use crate::rows::fills;
+use std::alloc::Global;
+use std::sync::Wait;
+use std::test::Fail;
+use sz_cells::{Cell, CellSet, Run};
+use sz_query::{NodeView, Used, answer};
+use sz_shelf::{Pass, SealReply};
+use sz_spec::{Dir, Strategy, Tally};
+
+/// Two cells of the output, in one piece each.
+fn ends(alloc: Global) -> Result<CellSet, Fail>
+    ensures { IfOk result (λ s. s.extent ≡ flat 1 65) }
+{
+    let shape = row()?;
+    let (first, last) = (Cell { row: 0, col: 1 }, Cell { row: 0, col: 64 });
+    if !shape.holds(first) || !shape.holds(last) {
+        return Err("the row has 65 cells".into());
+    }
+    Ok(CellSet::from_cells(alloc, shape, &[first, last])?)
+}
+
+/// Whether a step from these cells by a view leads back to their places, and is told so.
+fn is_told<R: Wait>(
+    alloc: Global,
+    rt: &R,
+    view: NodeView,
+    used: Used,
+    traced: u64,
+) -> Result<bool, Fail>
+    requires ready { IsUsable (view_of view) }
+    requires site { view_site (view_of view) ≡ negation }
+    requires room { most_traced_by (view_of view) < 66 }
+{
+    let cells = ends(alloc)?;
+    let mut tally = Tally::new();
+    let found = answer(alloc, rt, &mut [view], &[0], Dir::Back, &cells, &mut tally)?;
+    let places = [Run { first: 1, last: 1 }, Run { first: 64, last: 64 }];
+    Ok(
+        found.cells.runs() == places.as_slice()
+            && found.used.as_slice() == [used].as_slice()
+            && found.traced == traced
+            && tally.count() == traced,
+    )
+}
+
+/// Whether a step by a view of a shelf that may grow is told so.
+fn building_is_told<R: Wait>(
+    alloc: Global,
+    rt: &R,
+    bench: &Bench,
+    pass: &mut Pass,
+    used: Used,
+    traced: u64,
+) -> Result<bool, Fail>
+    requires { place_of pass.old ≡ bench.now }
+    ensures { pass.new ≡ pass.old }
+{
+    let own = bench.split(pass)?;
+    is_told(alloc, rt, bench.building(alloc, own)?, used, traced)
+}
+
+#[test]
+fn a_growing_shelf_is_told_by_the_strategy_from_its_seal_on(rt: HostRuntime) -> Result<(), Fail> {
+    let alloc = rt.alloc();
+    let (bench, mut pass) = Bench::new(alloc)?;
+    let kept = Used::By(Strategy::FullManyB);
+    assert!(rt; building_is_told(alloc, &rt, &bench, &mut pass, Used::Traced, 65)?);
+    assert!(rt; fills(alloc, &rt, &bench, &mut pass)?);
+    assert!(rt; building_is_told(alloc, &rt, &bench, &mut pass, Used::Traced, 65)?);
+    match bench.seal(&rt, &mut pass) {
+        SealReply::Sealed => {}
+        SealReply::Missing(_) => return Err("the shelf is filled".into()),
+    }
+    assert!(rt; building_is_told(alloc, &rt, &bench, &mut pass, kept, 0)?);
+    assert!(rt; is_told(alloc, &rt, bench.stored(pass)?, kept, 0)?);
+    Ok(())
+}
