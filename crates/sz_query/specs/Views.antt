@@ -69,12 +69,12 @@ pub record HasShelf (s : Site) (z : Place) (p : Onlooker) (t : Strategy) : Type 
 
 -- The same of a shelf that may not be sealed yet, beside the arrays over which the operator is
 -- traced until then: they are the shelf's own, of the operator's shapes.
-pub record HasGrowth (s : Site) (inputs : List Grid) (z : Place) (p : Onlooker) (t : Strategy)
+pub record HasGrowth (s : Site) (arrays : List Grid) (z : Place) (p : Onlooker) (t : Strategy)
     : Type 0 where
   pub own : place_of p ≡ z
   pub site : p.tag.site ≡ s
-  pub inputs : p.tag.inputs ≡ inputs
-  pub fits : extents_of inputs ≡ s.ins
+  pub inputs : p.tag.inputs ≡ arrays
+  pub fits : extents_of arrays ≡ s.ins
   pub listed : is_listed p.tag.list t ≡ true
   pub stored : is_stored t ≡ true
 

@@ -11,14 +11,14 @@ use Rattle.sz_query.proofs.Images.{written}
 use Rattle.sz_query.proofs.views.NodeView.step_into.Goals as goal
 
 pub returns-in-Mapped-clause-to : goal.returns-in-Mapped-clause-to
-returns-in-Mapped-clause-to c =
+returns-in-Mapped-clause-to g c =
     let same : view_of c.args.self.now ≡ by_map c.deref.result.now =
     ap view_of c.in-Mapped.is ∙ ap by_map (sym c.deref.ensures) in
     written c.args.dir (view_of c.args.self.now) (by_map c.deref.result.now) c.args.input c.args.from.now c.args.to.now
     c.image_by_map.new.to same c.requires.to c.image_by_map.ensures
 
 pub returns-in-Kept-clause-to : goal.returns-in-Kept-clause-to
-returns-in-Kept-clause-to c =
+returns-in-Kept-clause-to g c =
     let kept = c.deref-in-Kept.result.now in
     let at = arc_value c.in-Kept.at in
     let told : view_of c.args.self.now ≡ by_store at kept c.in-Kept.s =
@@ -27,13 +27,3 @@ returns-in-Kept-clause-to c =
     let same = told ∙ ap (λ (x : Site). by_store x kept c.in-Kept.s) (sym ready.site) in
     written c.args.dir (view_of c.args.self.now) (by_store kept.site kept c.in-Kept.s) c.args.input
     c.args.from.now c.args.to.now c.image.new.to same c.requires.to c.image.ensures
-
-pub returns-in-Traced-clause-to : goal.returns-in-Traced-clause-to
-returns-in-Traced-clause-to c =
-    let arrays = map (λ (a : Arc Grid Global). arc_value a) c.as_slice-arrays.result.now in
-    let same : view_of c.args.self.now ≡ by_trace c.deref-in-Traced.result.now arrays =
-    ap view_of c.in-Traced.is ∙ ap₂ by_trace (sym c.deref-in-Traced.ensures) (sym c.as_slice-arrays.ensures) in
-    let into = by_trace c.deref-in-Traced.result.now arrays in
-    on_ok_weaker c.trace.result
-    (written c.args.dir (view_of c.args.self.now) into c.args.input c.args.from.now c.args.to.now
-    c.trace.new.to same c.requires.to) c.trace.ensures.to
