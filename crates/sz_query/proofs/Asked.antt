@@ -1,7 +1,7 @@
 -- What follows of a view that was asked: of one by a shelf only the pass is another, of the same shelf, which still saw
 -- what it saw. So the operator, its relation and what the view needs are as before, and no more is told as traced.
 use Rattle.std.proofs.Common.{◌≡◌, ℕ, ◌≤◌, Bool, true, false, true≢false, List, [], ◌∷◌, refl, sym, ap, subst, ◌∙◌}
-use Rattle.std.proofs.Common.{arith, inl, inr, if◌then◌else◌}
+use Rattle.std.proofs.Common.{arith, inl, inr, if◌then◌else◌, Result, Ok, Err, OnErr}
 use Rattle.std.specs.List.{AllZip}
 use Rattle.sz_cells.specs.Extent.{size_of}
 use Rattle.sz_cells.specs.Cells.{Cells}
@@ -131,3 +131,8 @@ most-asked [] (w ∷ news) asked = absurd asked
 most-asked (v ∷ views) [] asked = absurd asked
 most-asked (v ∷ views) (w ∷ news) asked =
     let here = asked-stay v w asked.0 in omega (arith, here.most, most-asked views news asked.1)
+
+-- what holds in any case holds where there was no memory
+pub on-err : {A E : Type 0} {P : Type 0} (r : Result A E) → P → OnErr r P
+on-err (Ok x) h = tt
+on-err (Err e) h = h

@@ -7,7 +7,7 @@ use Rattle.sz_query.proofs.OnWay.{steps-inputs, sides-length}
 use Rattle.sz_query.proofs.steps.take_steps.Goals as goal
 
 pub bounds-sides-index : goal.bounds-sides-index
-bounds-sides-index c =
+bounds-sides-index g c =
     let views = map view_of c.args.views.now in
     let inputs = c.args.inputs.now in
     let same = steps-inputs c.args.dir views inputs c.args.set.now.extent c.requires.steps in
@@ -21,3 +21,15 @@ bounds-sides-index c =
       c.loop-index-test.true,
       c.loop-index.invariant.0,
     )
+
+pub returns-in_err-used-clause-tried : goal.returns-in_err-used-clause-tried
+returns-in_err-used-clause-tried g c = ?
+
+pub returns-in_err-how-clause-tried : goal.returns-in_err-how-clause-tried
+returns-in_err-how-clause-tried g c = ?
+
+pub returns-in_err-push-clause-tried : goal.returns-in_err-push-clause-tried
+returns-in_err-push-clause-tried g c = ?
+
+pub loop-index-preserved : goal.loop-index-preserved
+loop-index-preserved g c = ?

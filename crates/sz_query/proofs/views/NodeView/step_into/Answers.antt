@@ -1,12 +1,10 @@
--- What either view writes into an empty bitmap is its image.
-use Rattle.std.proofs.Common.{◌≡◌, ap, ap₂, map, sym, subst, ◌∙◌, Global}
+-- What a view of any kind writes into an empty bitmap is its image.
+use Rattle.std.proofs.Common.{◌≡◌, List, ap, ap₂, sym, subst, ◌∙◌, OnOk}
 use Rattle.std.specs.Arc.{arc_value}
-use Rattle.std.specs.declared.sync.Arc.{Arc}
-use Rattle.std.proofs.lemmas.Result.{on_ok_weaker}
 use Rattle.sz_spec.specs.Values.{Grid}
 use Rattle.sz_spec.specs.Shapes.{Site}
 use Rattle.sz_store.specs.Kept.{NodeLineage}
-use Rattle.sz_query.specs.Views.{view_of, by_map, by_store, by_trace, IsUsable}
+use Rattle.sz_query.specs.Views.{View, view_of, by_map, by_store, by_shelf, by_growth, by_trace, IsUsable, image_by}
 use Rattle.sz_query.proofs.Images.{written}
 use Rattle.sz_query.proofs.views.NodeView.step_into.Goals as goal
 
@@ -16,6 +14,18 @@ returns-in-Mapped-clause-to g c =
     ap view_of c.in-Mapped.is ∙ ap by_map (sym c.deref.ensures) in
     written c.args.dir (view_of c.args.self.now) (by_map c.deref.result.now) c.args.input c.args.from.now c.args.to.now
     c.image_by_map.new.to same c.requires.to c.image_by_map.ensures
+
+pub returns-in-Stored-clause-to : goal.returns-in-Stored-clause-to
+returns-in-Stored-clause-to g c =
+    let p = c.in-Stored.pass in
+    let z = arc_value c.in-Stored.shelf in
+    let told : view_of c.args.self.now ≡ by_shelf (arc_value c.in-Stored.at) z p c.in-Stored.s =
+    ap view_of c.in-Stored.is in
+    let ready : IsUsable (by_shelf (arc_value c.in-Stored.at) z p c.in-Stored.s) =
+    subst IsUsable told c.requires.ready in
+    let same = told ∙ ap (λ (x : Site). by_shelf x z p c.in-Stored.s) (sym ready.site) in
+    written c.args.dir (view_of c.args.self.now) (by_shelf p.tag.site z p c.in-Stored.s) c.args.input
+    c.args.from.now c.args.to.now c.look.new.to same c.requires.to (c.look.ensures.done (c.look.ensures.never ready.saw))
 
 pub returns-in-Kept-clause-to : goal.returns-in-Kept-clause-to
 returns-in-Kept-clause-to g c =
@@ -27,3 +37,34 @@ returns-in-Kept-clause-to g c =
     let same = told ∙ ap (λ (x : Site). by_store x kept c.in-Kept.s) (sym ready.site) in
     written c.args.dir (view_of c.args.self.now) (by_store kept.site kept c.in-Kept.s) c.args.input
     c.args.from.now c.args.to.now c.image.new.to same c.requires.to c.image.ensures
+
+pub returns-then-eq-clause-to : goal.returns-then-eq-clause-to
+returns-then-eq-clause-to g c =
+    let p = c.in-Building.pass in
+    let s = c.in-Building.s in
+    let z = arc_value c.in-Building.shelf in
+    let at = arc_value c.in-Building.run'.at in
+    let told : view_of c.args.self.now ≡ by_growth at c.in-Building.run'.inputs z p s = ap view_of c.in-Building.is in
+    let ready : IsUsable (by_growth at c.in-Building.run'.inputs z p s) = subst IsUsable told c.requires.ready in
+    let same = told
+    ∙ ap₂ (λ (x : Site) (arrays : List Grid). by_growth x arrays z p s) (sym ready.site) (sym ready.inputs) in
+    let h1 = c.eq.ensures in let h2 = c.if-eq.true in let h3 = c.if-eq.ensures in
+    written c.args.dir (view_of c.args.self.now) (by_growth p.tag.site p.tag.inputs z p s) c.args.input
+    c.args.from.now c.args.to.now c.look-look.new.to same c.requires.to (c.look-look.ensures.done ?)
+
+pub returns-else-eq-clause-to : goal.returns-else-eq-clause-to
+returns-else-eq-clause-to g c =
+    let run = c.in-Building.run' in
+    let told : view_of c.args.self.now
+    ≡ by_growth (arc_value run.at) run.inputs (arc_value c.in-Building.shelf) c.in-Building.pass c.in-Building.s =
+    ap view_of c.in-Building.is in
+    subst (λ (v : View). OnOk c.trace_into.result
+    (c.trace_into.new.to ≡ image_by c.args.dir v c.args.input c.args.from.now)) (sym told) c.trace_into.ensures.to
+
+pub returns-in-Traced-clause-to : goal.returns-in-Traced-clause-to
+returns-in-Traced-clause-to g c =
+    let run = c.in-Traced.run' in
+    let told : view_of c.args.self.now ≡ by_trace (arc_value run.at) run.inputs = ap view_of c.in-Traced.is in
+    subst (λ (v : View). OnOk c.trace_into-in-Traced.result
+    (c.trace_into-in-Traced.new.to ≡ image_by c.args.dir v c.args.input c.args.from.now)) (sym told)
+    c.trace_into-in-Traced.ensures.to
