@@ -134,11 +134,10 @@ impl NodeView {
                 pass,
                 s,
             } => {
-                let look = shelf.look(rt, pass, *s, dir, input, from, to);
-                if look == Look::Done {
-                    return Ok(Used::By(*s));
+                match shelf.look(rt, pass, *s, dir, input, from, to) {
+                    Look::Done => Ok(Used::By(*s)),
+                    Look::Unsealed { .. } => { run.trace_into(alloc, dir, input, from, to, tally) }
                 }
-                run.trace_into(alloc, dir, input, from, to, tally)
             }
             NodeView::Traced { run } => run.trace_into(alloc, dir, input, from, to, tally),
         }

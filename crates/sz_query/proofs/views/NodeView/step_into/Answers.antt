@@ -38,8 +38,8 @@ returns-in-Kept-clause-to g c =
     written c.args.dir (view_of c.args.self.now) (by_store kept.site kept c.in-Kept.s) c.args.input
     c.args.from.now c.args.to.now c.image.new.to same c.requires.to c.image.ensures
 
-pub returns-then-eq-clause-to : goal.returns-then-eq-clause-to
-returns-then-eq-clause-to g c =
+pub returns-in-Done-clause-to : goal.returns-in-Done-clause-to
+returns-in-Done-clause-to g c =
     let p = c.in-Building.pass in
     let s = c.in-Building.s in
     let z = arc_value c.in-Building.shelf in
@@ -48,12 +48,11 @@ returns-then-eq-clause-to g c =
     let ready : IsUsable (by_growth at c.in-Building.run'.inputs z p s) = subst IsUsable told c.requires.ready in
     let same = told
     ∙ ap₂ (λ (x : Site) (arrays : List Grid). by_growth x arrays z p s) (sym ready.site) (sym ready.inputs) in
-    let h1 = c.eq.ensures in let h2 = c.if-eq.true in let h3 = c.if-eq.ensures in
     written c.args.dir (view_of c.args.self.now) (by_growth p.tag.site p.tag.inputs z p s) c.args.input
-    c.args.from.now c.args.to.now c.look-look.new.to same c.requires.to (c.look-look.ensures.done ?)
+    c.args.from.now c.args.to.now c.look-in-Building.new.to same c.requires.to (c.look-in-Building.ensures.done c.in-Done.is)
 
-pub returns-else-eq-clause-to : goal.returns-else-eq-clause-to
-returns-else-eq-clause-to g c =
+pub returns-in-Unsealed-clause-to : goal.returns-in-Unsealed-clause-to
+returns-in-Unsealed-clause-to g c =
     let run = c.in-Building.run' in
     let told : view_of c.args.self.now
     ≡ by_growth (arc_value run.at) run.inputs (arc_value c.in-Building.shelf) c.in-Building.pass c.in-Building.s =
