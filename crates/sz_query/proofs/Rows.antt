@@ -15,8 +15,13 @@ use Rattle.sz_spec.specs.Shapes.{Site}
 use Rattle.sz_region.specs.Parts.{Pairing}
 use Rattle.sz_store.specs.Kept.{NodeLineage, regions}
 use Rattle.sz_query.specs.declared.used.Used.TheVariants as used
-use Rattle.sz_query.specs.Views.{View, by_map, by_store, by_trace, used_of, traced_by, IsUsable}
-use Rattle.sz_query.specs.Answers.{answered, traced_of, AreSteps}
+use Rattle.atomic_table.specs.Seated.{TableId}
+use Rattle.sz_shelf.specs.Tags.{Tag}
+use Rattle.sz_shelf.specs.Places.{Place}
+use Rattle.sz_shelf.specs.Passes.{Onlooker, place_of, newcomer}
+use Rattle.sz_query.specs.Views.{View, by_map, by_store, by_shelf, by_growth, by_trace, used_of, traced_by, IsUsable}
+use Rattle.sz_query.specs.Turns.{IsAsked}
+use Rattle.sz_query.specs.Answers.{answered, traced_of, most_traced_of, AreSteps}
 
 abbrev at : Extent → List ℕ → Cells
 at e indexes = record { extent = e; indexes = indexes }
@@ -202,3 +207,86 @@ kept-no_store ready = true≢false (sym ready.stored)
 
 pub kept-not_listed : IsUsable (by_store opposite kept strategy.FullManyB) → ⊥
 kept-not_listed ready = true≢false (sym ready.listed)
+
+-- ---- by shelves
+
+-- a shelf of the negation of two cells, of which a pass has seen nothing, and the same once it saw the seal
+abbrev pair : Grid
+pair = grid two (Some (pos 3) ∷ Some (pos 4) ∷ [])
+
+abbrev shelf_at : TableId → Place
+shelf_at z = record {
+  table = z;
+  tag = record { site = opposite; inputs = pair ∷ []; list = strategy.FullOneB ∷ strategy.Map ∷ [] };
+}
+
+abbrev fresh : TableId → Onlooker
+fresh z = newcomer (shelf_at z)
+
+abbrev sealed : TableId → Onlooker
+sealed z = record (fresh z) { saw = true }
+
+abbrev growing : TableId → View
+growing z = by_growth opposite (pair ∷ []) (shelf_at z) (fresh z) strategy.FullOneB
+
+abbrev grown : TableId → View
+grown z = by_growth opposite (pair ∷ []) (shelf_at z) (sealed z) strategy.FullOneB
+
+abbrev stored : TableId → View
+stored z = by_shelf opposite (shelf_at z) (sealed z) strategy.FullOneB
+
+-- each gives a set its image, whatever the pass saw
+pub shelf-back : (z : TableId) → answered Back (stored z ∷ growing z ∷ []) (0 ∷ 0 ∷ []) (at two (1 ∷ []))
+    ≡ at two (1 ∷ [])
+shelf-back z = refl
+
+pub shelf-forward : (z : TableId) → answered Forward (grown z ∷ stored z ∷ []) (0 ∷ 0 ∷ []) (at two (0 ∷ []))
+    ≡ at two (0 ∷ [])
+shelf-forward z = refl
+
+-- how they are told: by the strategy where the pass saw the seal, and else as traced, if it may be traced
+pub shelf-uses : (z : TableId) → map used_of (growing z ∷ grown z ∷ stored z ∷ [])
+    ≡ used.Traced ∷ used.By strategy.FullOneB ∷ used.By strategy.FullOneB ∷ []
+shelf-uses z = refl
+
+pub shelf-counts : (z : TableId) → (traced_of (growing z ∷ grown z ∷ stored z ∷ turned ∷ []) ≡ 2)
+    × (most_traced_of (growing z ∷ grown z ∷ stored z ∷ traced_turned ∷ kept_back ∷ []) ≡ 10)
+shelf-counts z = (refl, refl)
+
+-- views that can be used, and such that can not: a shelf of which the pass saw no seal, a strategy that is not in the
+-- shelf's list, one that keeps no store, the pass of a shelf for other arrays
+pub growing-ready : (z : TableId) → IsUsable (growing z)
+growing-ready z = record { own = refl; site = refl; inputs = refl; fits = refl; listed = refl; stored = refl }
+
+pub stored-ready : (z : TableId) → IsUsable (stored z)
+stored-ready z = record { own = refl; site = refl; saw = refl; listed = refl; stored = refl }
+
+pub stored-unsealed : (z : TableId) → IsUsable (by_shelf opposite (shelf_at z) (fresh z) strategy.FullOneB) → ⊥
+stored-unsealed z ready = true≢false (sym ready.saw)
+
+pub growing-not_listed : (z : TableId)
+    → IsUsable (by_growth opposite (pair ∷ []) (shelf_at z) (fresh z) strategy.FullOneF) → ⊥
+growing-not_listed z ready = true≢false (sym ready.listed)
+
+pub growing-no_store : (z : TableId)
+    → IsUsable (by_growth opposite (pair ∷ []) (shelf_at z) (fresh z) strategy.Map) → ⊥
+growing-no_store z ready = true≢false (sym ready.stored)
+
+pub growing-other_arrays : (z : TableId)
+    → IsUsable (by_growth opposite [] (shelf_at z) (fresh z) strategy.FullOneB) → ⊥
+growing-other_arrays z ready = absurd (omega (arith, ap (λ (gs : List Grid). length gs) ready.inputs))
+
+-- how many turns the pass of a view made
+abbrev turns_of : View → ℕ
+turns_of (by_map s) = 0
+turns_of (by_store s kept t) = 0
+turns_of (by_shelf s z p t) = p.turns
+turns_of (by_growth s inputs z p t) = p.turns
+turns_of (by_trace s inputs) = 0
+
+-- a view that is asked stays one of its kind: that by a mapping the same, and one by a shelf has its turn
+pub asked-mapping : IsAsked turned turned
+asked-mapping = refl
+
+pub asked-no_turn : (z : TableId) → IsAsked (growing z) (growing z) → ⊥
+asked-no_turn z asked = absurd (omega (arith, asked.1.turn.turns, ap turns_of asked.2))
