@@ -14,11 +14,10 @@ use Rattle.sz_spec.specs.Values.{Grid}
 use Rattle.sz_spec.specs.Shapes.{Site}
 use Rattle.sz_region.specs.Parts.{Pairing}
 use Rattle.sz_store.specs.Kept.{NodeLineage, regions}
-use Rattle.sz_query.specs.declared.used.Used.TheVariants as used
 use Rattle.atomic_table.specs.Seated.{TableId}
-use Rattle.sz_shelf.specs.Tags.{Tag}
 use Rattle.sz_shelf.specs.Places.{Place}
-use Rattle.sz_shelf.specs.Passes.{Onlooker, place_of, newcomer}
+use Rattle.sz_shelf.specs.Passes.{Onlooker, newcomer}
+use Rattle.sz_query.specs.declared.used.Used.TheVariants as used
 use Rattle.sz_query.specs.Views.{View, by_map, by_store, by_shelf, by_growth, by_trace, used_of, traced_by, IsUsable}
 use Rattle.sz_query.specs.Turns.{IsAsked}
 use Rattle.sz_query.specs.Answers.{answered, traced_of, most_traced_of, AreSteps}

@@ -132,7 +132,15 @@ fn a_transposed_cell_comes_from_its_place(rt: HostRuntime) -> Result<(), Fail> {
         at: transpose(alloc)?,
     };
     let mut tally = Tally::new();
-    let found = answer(alloc, &rt, &mut [mapped], &[0], Dir::Back, &cells, &mut tally)?;
+    let found = answer(
+        alloc,
+        &rt,
+        &mut [mapped],
+        &[0],
+        Dir::Back,
+        &cells,
+        &mut tally,
+    )?;
     assert_eq!(rt; found.cells.runs(), [Run { first: 2, last: 2 }].as_slice());
     assert_eq!(rt; found.traced, 0);
     assert_eq!(rt; tally.count(), 0);
@@ -152,7 +160,15 @@ fn a_cell_of_a_table_leads_to_those_that_it_matches(rt: HostRuntime) -> Result<(
         },
     };
     let mut tally = Tally::new();
-    let found = answer(alloc, &rt, &mut [traced], &[1], Dir::Forward, &cells, &mut tally)?;
+    let found = answer(
+        alloc,
+        &rt,
+        &mut [traced],
+        &[1],
+        Dir::Forward,
+        &cells,
+        &mut tally,
+    )?;
     assert_eq!(rt; found.cells.runs(), [Run { first: 0, last: 1 }].as_slice());
     assert_eq!(rt; found.traced, 3);
     Ok(())

@@ -44,7 +44,13 @@ fn is_told<R: Wait>(
     let cells = ends(alloc)?;
     let mut tally = Tally::new();
     let found = answer(alloc, rt, &mut [view], &[0], Dir::Back, &cells, &mut tally)?;
-    let places = [Run { first: 1, last: 1 }, Run { first: 64, last: 64 }];
+    let places = [
+        Run { first: 1, last: 1 },
+        Run {
+            first: 64,
+            last: 64,
+        },
+    ];
     Ok(
         found.cells.runs() == places.as_slice()
             && found.used.as_slice() == [used].as_slice()

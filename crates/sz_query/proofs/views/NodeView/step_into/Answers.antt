@@ -25,7 +25,8 @@ returns-in-Stored-clause-to g c =
     subst IsUsable told c.requires.ready in
     let same = told ∙ ap (λ (x : Site). by_shelf x z p c.in-Stored.s) (sym ready.site) in
     written c.args.dir (view_of c.args.self.now) (by_shelf p.tag.site z p c.in-Stored.s) c.args.input
-    c.args.from.now c.args.to.now c.look.new.to same c.requires.to (c.look.ensures.done (c.look.ensures.never ready.saw))
+    c.args.from.now c.args.to.now c.look.new.to same c.requires.to
+    (c.look.ensures.done (c.look.ensures.never ready.saw))
 
 pub returns-in-Kept-clause-to : goal.returns-in-Kept-clause-to
 returns-in-Kept-clause-to g c =
@@ -49,7 +50,8 @@ returns-in-Done-clause-to g c =
     let same = told
     ∙ ap₂ (λ (x : Site) (arrays : List Grid). by_growth x arrays z p s) (sym ready.site) (sym ready.inputs) in
     written c.args.dir (view_of c.args.self.now) (by_growth p.tag.site p.tag.inputs z p s) c.args.input
-    c.args.from.now c.args.to.now c.look-in-Building.new.to same c.requires.to (c.look-in-Building.ensures.done c.in-Done.is)
+    c.args.from.now c.args.to.now c.look-in-Building.new.to same c.requires.to
+    (c.look-in-Building.ensures.done c.in-Done.is)
 
 pub returns-in-Unsealed-clause-to : goal.returns-in-Unsealed-clause-to
 returns-in-Unsealed-clause-to g c =
