@@ -1,7 +1,7 @@
 -- Transposing strip by strip.
 --
--- The key idea: a strip has the rows of the output from one row on to before another one of the same layer, so it is
--- what comes behind the values so far.
+-- The key idea: a strip has the rows of the output from one row on to before another one of the same layer, so its rows
+-- are what comes behind the values so far.
 use Rattle.std.proofs.Common.{◌≡◌, ◌≢◌, ℕ, ◌+◌, ◌-◌, ◌*◌, ◌/◌, ◌%◌, ◌<◌, ◌≤◌, true, None, List, Option, length}
 use Rattle.std.proofs.Common.{◌++◌, get_or, take, sym, ap, ap₂, subst, ◌∙◌, arith}
 use Rattle.std.specs.Prelude.{ℤ}
@@ -110,53 +110,49 @@ turned-value s inputs layer c r is work right narrow low =
     ∙ ap (λ (n : ℕ). index_of e (cell_in e layer n (row_in s.out o))) at.0
     ∙ ap (λ (n : ℕ). index_of e (cell_in e layer r n)) at.1)
 
--- by the sides as they are read
-read-value : (s : Site) (inputs : List Grid) (h w layer c r : ℕ) → h ≡ height_of (extent_at s.ins 0)
-    → w ≡ (extent_at s.ins 0).cols → s.op ≡ Transpose → IsAtWork s inputs
-    → is_extent (extent_at s.ins 0) ≡ true → c < w → r < h
-    → value_of s.op inputs (cell_of s.out ((layer * w + c) * h + r))
-    ≡ get_or (input_at inputs 0).values ((layer * h + r) * w + c) None
-read-value s inputs h w layer c r high narrow is work right short low =
-    rw (high, narrow) (turned-value s inputs layer c r is work right (rw (← narrow) short) (rw (← high) low))
+-- ---- one row more
 
--- ---- one strip more
+-- a strip by the sides as they are read
+pub strip-sides : (cells strip : List (Option ℤ)) (pitch h h' w w' row wide : ℕ) → h ≡ h' → w ≡ w'
+    → IsStrip cells strip pitch w (row / w * h * w + row % w) wide h
+    → IsStrip cells strip pitch w' (row / w' * h' * w' + row % w') wide h'
+strip-sides cells strip pitch h h' w w' row wide high narrow has =
+    subst (λ (n : ℕ). IsStrip cells strip pitch n (row / n * h' * n + row % n) wide h') narrow
+    (subst (λ (n : ℕ). IsStrip cells strip pitch w (row / w * n * w + row % w) wide n) high has)
 
-strip-place : (layer w col row j h r k : ℕ) → layer * w + col ≡ row → j * h + r ≡ k
-    → (layer * w + (col + j)) * h + r ≡ row * h + k
-strip-place layer w col row j h r k at whole =
-    let split : (layer * w + (col + j)) * h + r ≡ (layer * w + col) * h + (j * h + r) = grind arith in
-    split ∙ ap₂ (λ (a b : ℕ). a * h + b) at whole
+strip-place : (layer w col row j h k : ℕ) → layer * w + col ≡ row → (layer * w + (col + j)) * h + k ≡ (row + j) * h + k
+strip-place layer w col row j h k at =
+    let split : (layer * w + (col + j)) * h + k ≡ ((layer * w + col) + j) * h + k = grind arith in
+    split ∙ ap (λ (n : ℕ). (n + j) * h + k) at
 
-pub strip-next : (s : Site) (inputs : List Grid) (strip so_far : List (Option ℤ)) (h w row wide : ℕ)
-    → s.op ≡ Transpose → IsAtWork s inputs → is_extent (extent_at s.ins 0) ≡ true
-    → h ≡ height_of (extent_at s.ins 0) → w ≡ (extent_at s.ins 0).cols → 0 < h → 0 < w
-    → wide ≤ w - row % w → wide * h ≤ length strip
-    → IsStrip (input_at inputs 0).values strip h w (row / w * h * w + row % w) wide h
-    → so_far ≡ values_before s inputs (row * h)
-    → so_far ++ take (wide * h) strip ≡ values_before s inputs ((row + wide) * h)
-strip-next s inputs strip so_far h w row wide is work right high narrow some wider within room has made =
+pub row-next : (s : Site) (inputs : List Grid) (strip so_far xs : List (Option ℤ)) (pitch row wide j : ℕ)
+    → s.op ≡ Transpose → IsAtWork s inputs → is_extent (extent_at s.ins 0) ≡ true → 0 < (extent_at s.ins 0).cols
+    → wide ≤ (extent_at s.ins 0).cols - row % (extent_at s.ins 0).cols → j < wide
+    → IsStrip (input_at inputs 0).values strip pitch (extent_at s.ins 0).cols
+    (row / (extent_at s.ins 0).cols * height_of (extent_at s.ins 0) * (extent_at s.ins 0).cols
+    + row % (extent_at s.ins 0).cols) wide (height_of (extent_at s.ins 0))
+    → length xs ≡ height_of (extent_at s.ins 0)
+    → ((k : ℕ) → k < height_of (extent_at s.ins 0) → get_or xs k None ≡ get_or strip (j * pitch + k) None)
+    → so_far ≡ values_before s inputs ((row + j) * height_of (extent_at s.ins 0))
+    → so_far ++ xs ≡ values_before s inputs ((row + (j + 1)) * height_of (extent_at s.ins 0))
+row-next s inputs strip so_far xs pitch row wide j is work right wider within under has long each made =
     let g = input_at inputs 0 in
+    let e = extent_at s.ins 0 in
+    let h = height_of e in
+    let w = e.cols in
     let layer = row / w in
     let col = row % w in
     let at : layer * w + col ≡ row = div-add-mod' row w in
     let inside : col < w = mod_below row w wider in
-    let long : length (take (wide * h) strip) ≡ wide * h = length-take-le (wide * h) strip room in
-    let sum : row * h + wide * h ≡ (row + wide) * h = grind arith in
-    values-append s inputs (row * h) (wide * h) so_far (take (wide * h) strip) made long
-    (λ k below.
-    let j = k / h in
-    let r = k % h in
-    let low : r < h = mod_below k h some in
-    let under : j < wide = div_below k h wide some below in
-    let whole : j * h + r ≡ k = div-add-mod' k h in
-    let source : (layer * h * w + col) + r * w + j ≡ (layer * h + r) * w + (col + j) = grind arith in
-    let goes : (layer * w + (col + j)) * h + r ≡ row * h + k = strip-place layer w col row j h r k at whole in
     let short : col + j < w = omega (arith, under, within, inside) in
-    let value = read-value s inputs h w layer (col + j) r high narrow is work right short low in
-    get_or-take (wide * h) strip k None below
-    ∙ ap (λ (n : ℕ). get_or strip n None) (sym whole)
-    ∙ has j r under low
+    let sum : (row + j) * h + h ≡ (row + (j + 1)) * h = grind arith in
+    values-append s inputs ((row + j) * h) h so_far xs made long
+    (λ k low.
+    let source : (layer * h * w + col) + k * w + j ≡ (layer * h + k) * w + (col + j) = grind arith in
+    let goes : (layer * w + (col + j)) * h + k ≡ (row + j) * h + k = strip-place layer w col row j h k at in
+    each k low
+    ∙ has j k under low
     ∙ ap (λ (n : ℕ). get_or g.values n None) source
-    ∙ sym value
+    ∙ sym (turned-value s inputs layer (col + j) k is work right short low)
     ∙ ap (λ (n : ℕ). value_of s.op inputs (cell_of s.out n)) goes)
     ∙ ap (values_before s inputs) sum

@@ -107,9 +107,9 @@ impl<'a> Slicing<'a> {
 }
 
 /// So many values from one on.
-fn part(cells: &[Value], from: usize, count: usize) -> &[Value]
+pub(crate) fn part(cells: &[Value], from: usize, count: usize) -> &[Value]
     requires within { from + count ≤ length cells.now }
-    requires small { length cells.now ≤ 1048576 }
+    requires small { length cells.now ≤ 33554432 }
     ensures long { length result.now ≡ count }
     ensures each { (k : ℕ) → k < count
         → slice_index_or result.now k None ≡ slice_index_or cells.now (from + k) None }

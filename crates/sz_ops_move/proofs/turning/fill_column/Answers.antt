@@ -7,7 +7,7 @@ use Rattle.sz_ops_move.proofs.turning.fill_column.Goals as goal
 pub loop-j-preserved : goal.loop-j-preserved
 loop-j-preserved c =
     let inv = c.loop-j.invariant in
-    let h = c.args.height in
+    let h = c.args.pitch in
     let r = c.args.row in
     let j = c.loop-j.j in
     let strip = c.loop-j.strip in

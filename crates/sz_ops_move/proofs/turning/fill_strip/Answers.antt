@@ -6,9 +6,9 @@ use Rattle.sz_ops_move.proofs.turning.fill_strip.Goals as goal
 
 pub loop-row-preserved : goal.loop-row-preserved
 loop-row-preserved c = λ j r under low.
-    let h = c.args.height in
+    let h = c.args.pitch in
     let row = c.loop-row.row in
-    let short : r < h = omega (arith, low, c.loop-row-test.true) in
+    let short : r < h = omega (arith, low, c.loop-row-test.true, c.requires.pitch) in
     elim (eqb_tells r row) [
       | inl at ↦
           ap (λ (n : ℕ). get_or c.fill_column.new.strip (j * h + n) None) at.1

@@ -1,12 +1,13 @@
--- A strip lies in one layer, and is what comes behind the values so far.
-use Rattle.std.proofs.Common.{◌≡◌, ◌+◌, ◌<◌, ◌≤◌, ◌*◌, ◌/◌, ◌%◌, List, Option, map, length, ap, subst, ◌∙◌, arith}
+-- A strip lies in one layer, and its rows are what comes behind the values so far.
+use Rattle.std.proofs.Common.{◌≡◌, ◌+◌, ◌-◌, ◌<◌, ◌≤◌, ◌*◌, ◌/◌, ◌%◌, ℕ, List, Option, map, length, ap, subst, ◌∙◌}
+use Rattle.std.proofs.Common.{sym, arith}
 use Rattle.std.specs.Prelude.{ℤ}
-use Rattle.std.proofs.Math.Nat.{mul-le-mul_right}
 use Rattle.std.specs.Arc.{arc_value}
-use Rattle.sz_cells.specs.Extent.{size_of}
-use Rattle.sz_spec.specs.Values.{Grid, extent_at}
+use Rattle.sz_cells.specs.Extent.{size_of, height_of}
+use Rattle.sz_spec.specs.Values.{Grid, extent_at, input_at}
+use Rattle.sz_region.specs.Walks.{values_before}
 use Rattle.sz_ops_move.specs.Turning.{IsStrip}
-use Rattle.sz_ops_move.proofs.Turned.{within, row-within, strip-next}
+use Rattle.sz_ops_move.proofs.Turned.{within, row-within, strip-sides}
 use Rattle.sz_ops_move.proofs.turning.turned.Goals as goal
 
 pub fill_strip-requires-clause-within : goal.fill_strip-requires-clause-within
@@ -62,30 +63,52 @@ overflow_add-first c =
       );
     }
 
+pub append_rows-requires-clause-low : goal.append_rows-requires-clause-low
+append_rows-requires-clause-low c =
+    let e = extent_at c.args.at.now.ins 0 in
+    let k = c.sides_of-height.ensures in
+    subst (λ (n : ℕ). c.loop-row.row < e.layers * n) k.cols (omega (arith, c.loop-row-test.true, k.rows))
+
+pub append_rows-requires-clause-within : goal.append_rows-requires-clause-within
+append_rows-requires-clause-within c =
+    subst (λ (n : ℕ). c.wide_at-wide.result ≤ n - c.loop-row.row % n) c.sides_of-height.ensures.cols
+    c.wide_at-wide.ensures.within
+
+pub append_rows-requires-clause-strip : goal.append_rows-requires-clause-strip
+append_rows-requires-clause-strip c =
+    let e = extent_at c.args.at.now.ins 0 in
+    let k = c.sides_of-height.ensures in
+    let h = c.sides_of-height.result.0 in
+    let w = c.sides_of-height.result.1 in
+    let row = c.loop-row.row in
+    let wide = c.wide_at-wide.result in
+    let values = c.cells-cells.ensures.values ∙ ap (λ (g : Grid). g.values) c.input_of.ensures.value in
+    let strip = subst
+    (λ (xs : List (Option ℤ)). IsStrip xs c.fill_strip.new.strip (h + 4) w (row / w * h * w + row % w) wide h) values
+    c.fill_strip.ensures in
+    strip-sides (input_at (map (λ a. arc_value a) c.args.inputs.now) 0).values c.fill_strip.new.strip (h + 4) h
+    (height_of e) w e.cols row wide k.height k.cols strip
+
+pub append_rows-requires-clause-made : goal.append_rows-requires-clause-made
+append_rows-requires-clause-made c =
+    c.loop-row.invariant.made
+    ∙ ap (λ (n : ℕ). values_before c.args.at.now (map (λ a. arc_value a) c.args.inputs.now) (c.loop-row.row * n))
+    c.sides_of-height.ensures.height
+
 pub loop-row-preserved : goal.loop-row-preserved
 loop-row-preserved c =
     let inv = c.loop-row.invariant in
     let s = c.args.at.now in
     let e = extent_at s.ins 0 in
     let k = c.sides_of-height.ensures in
-    let h = c.sides_of-height.result.0 in
     let w = c.sides_of-height.result.1 in
     let row = c.loop-row.row in
     let wide = c.wide_at-wide.result in
     let below : row < e.layers * w = omega (arith, c.loop-row-test.true, k.rows) in
-    let long : length c.fill_strip.new.strip ≡ 16 * h = c.fill_strip.auto.strip ∙ inv.strip in
-    let room : wide * h ≤ length c.fill_strip.new.strip =
-    omega (arith, long, mul-le-mul_right h c.wide_at-wide.ensures.most) in
     let ends = row-within e.layers w row wide k.wide below c.wide_at-wide.ensures.within in
-    let values = c.cells-cells.ensures.values ∙ ap (λ (g : Grid). g.values) c.input_of.ensures.value in
-    let strip = subst
-    (λ (xs : List (Option ℤ)). IsStrip xs c.fill_strip.new.strip h w (row / w * h * w + row % w) wide h) values
-    c.fill_strip.ensures in
     record {
-      strip = long;
-      made = c.in_ok-extend_from_slice.ensures.items
-          ∙ strip-next s (map (λ a. arc_value a) c.args.inputs.now) c.fill_strip.new.strip c.loop-row.turned.items h w row
-          wide c.requires.op c.requires.right k.right k.height k.cols k.tall k.wide c.wide_at-wide.ensures.within room
-          strip inv.made;
+      strip = c.fill_strip.auto.strip ∙ inv.strip;
+      made = c.in_ok-append_rows.ensures
+          ∙ ap (λ (n : ℕ). values_before s (map (λ a. arc_value a) c.args.inputs.now) ((row + wide) * n)) (sym k.height);
       low = omega (arith, ends, k.rows);
     }

@@ -6,7 +6,7 @@ use Rattle.sz_ops_move.proofs.turning.turned.Given as goal
 
 abbrev pub invariant-loop-row : goal.invariant-loop-row
 invariant-loop-row l = record {
-  strip : length l.strip ≡ 16 * l.height;
+  strip : length l.strip ≡ 16 * l.pitch;
   made : l.turned.items ≡ values_before l.at (map (λ a. arc_value a) l.inputs) (l.row * l.height);
   low : l.row ≤ l.rows;
 }
