@@ -11,7 +11,7 @@ use Rattle.sz_spec.specs.declared.op.Op.TheVariants.{Neg}
 use Rattle.sz_spec.specs.declared.op.Op.TheVariants.{Convolve}
 use Rattle.sz_spec.specs.declared.op.Op.TheVariants.{Clean}
 use Rattle.sz_spec.specs.declared.shapes.ShapeFault.{ShapeFault}
-use Rattle.sz_spec.specs.Values.{Grid, no_extent, extent_at, extents_of, input_at}
+use Rattle.sz_spec.specs.Values.{Grid, no_extent, extent_at, input_at}
 use Rattle.sz_spec.specs.Shapes.{Site, IsSite, arity, shape_of}
 use Rattle.sz_spec.specs.Weights.{Weights}
 use Rattle.sz_spec.specs.Operators.Convolve.{is_convolved}

@@ -5,7 +5,7 @@
 use Rattle.std.proofs.Common.{◌≡◌, ℕ, zero, suc, ◌+◌, ◌-◌, ◌*◌, ◌/◌, ◌%◌, ◌^◌, ◌<◌, ◌≤◌, Bool, true, false}
 use Rattle.std.proofs.Common.{◌&&◌, nat_le, nat_lt, Option, Some, None, List, [], ◌∷◌, ◌++◌, map, get_or}
 use Rattle.std.proofs.Common.{refl, sym, ap, ap₂, ◌∙◌, arith, inl, inr, ◌⊎◌, lt-ltb, le-leb, leb-true}
-use Rattle.std.specs.Prelude.{ℤ, pos, ◌+ℤ◌, not, if◌then◌else◌, option_and_then}
+use Rattle.std.specs.Prelude.{ℤ, pos, ◌==◌, ◌+ℤ◌, not, if◌then◌else◌, option_and_then}
 use Rattle.std.specs.List.{range_with_len, filter}
 use Rattle.std.proofs.Math.Nat.{mul-le-mul_right}
 use Rattle.std.proofs.lemmas.Bool.{cases_Bool, and_from, and_parts}
@@ -208,6 +208,24 @@ kernel-sides w h =
     let wide = and_parts _ _ both.1 in
     (leb-true _ _ tall.1, leb-true _ _ wide.1)
 
+-- and at least one column
+pub kernel-some : (w : Weights) → is_kernel w ≡ true → 0 < w.cols
+kernel-some w h =
+    let whole = and_parts _ _ h in
+    let sides = and_parts _ _ whole.0 in
+    let both = and_parts _ _ sides.0 in
+    let odd : (w.cols % 2 == 1) ≡ true = (and_parts (w.cols % 2 == 1) (nat_le w.cols 9) both.1).0 in
+    grind (arith, nat_tests, odd)
+
+-- so a cell has at least one column of the kernel on a cell of its row
+pub reach-some : (e : Extent) (w : Weights) (o : Cell) (reach : Window) → is_extent e ≡ true → holds e o ≡ true
+    → is_kernel w ≡ true → reach ≡ reach_of e w o → reach.left < reach.right
+reach-some e w o reach right held kernel is =
+    let here = own-place e o right held in
+    let some = kernel-some w kernel in
+    let low : (reach_of e w o).left < (reach_of e w o).right = omega (arith, here.2, some) in
+    rw is low
+
 -- where the cell under a tap of the reach is
 pub record IsUnder (e : Extent) (w : Weights) (o : Cell) (row col : ℕ) : Type 0 where
   pub above : w.rows / 2 ≤ o.row + row
@@ -311,12 +329,8 @@ are-few e w o row col rows cols wide right kernel under same_rows same_cols same
     })
 
 -- what a tap of the reach adds, as it is read
-pub part-read : (g : Grid) (w : Weights) (o : Cell) (row col rows cols wide : ℕ) (cells : List (Option ℤ)) (weight : ℤ)
-    → IsUnder g.extent w o row col → rows ≡ w.rows → cols ≡ w.cols → wide ≡ g.extent.cols → cells ≡ g.values
-    → weight ≡ (tap_at w (row * cols + col)).weight
-    → times weight (get_or cells (((o.row + row) - rows / 2) * wide + ((o.col + col) - cols / 2)) None)
-    ≡ part_of g w o (row * w.cols + col)
-part-read g w o row col rows cols wide cells weight under same_rows same_cols same_wide values is =
-    let told : weight ≡ (tap_at w (row * w.cols + col)).weight =
-    is ∙ ap (λ (n : ℕ). (tap_at w (row * n + col)).weight) same_cols in
-    rw (told, same_rows, same_cols, same_wide, values) (part-in g w o row col under)
+pub part-read : (g : Grid) (w : Weights) (o : Cell) (row col : ℕ) (weight : ℤ) (value : Option ℤ)
+    → IsUnder g.extent w o row col → weight ≡ (tap_at w (row * w.cols + col)).weight
+    → value ≡ get_or g.values (((o.row + row) - w.rows / 2) * g.extent.cols + ((o.col + col) - w.cols / 2)) None
+    → times weight value ≡ part_of g w o (row * w.cols + col)
+part-read g w o row col weight value under is at = rw (is, at) (part-in g w o row col under)

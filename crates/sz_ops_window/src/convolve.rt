@@ -1,16 +1,16 @@
 //! Convolve: the weighted sum of the cells under a kernel.
 
 ghost use Rattle.std.specs.Prelude.{◌≡◌, ◌≤◌, ◌<◌, ◌+◌, ◌-◌, ◌*◌, ◌/◌, true, IfSome};
-ghost use Rattle.std.specs.Prelude.{map, IfOk};
+ghost use Rattle.std.specs.Prelude.{ℕ, None, length, map, pos, slice_index_or, IfOk};
 ghost use Rattle.std.specs.Arc.{arc_value};
 ghost use Rattle.sz_cells.specs.Extent.{holds, is_extent};
 ghost use Rattle.sz_spec.specs.declared.op.Op.TheVariants.{Convolve};
 ghost use Rattle.sz_spec.specs.Values.{fit};
 ghost use Rattle.sz_spec.specs.Work.{IsAtWork};
 ghost use Rattle.sz_spec.specs.Evaluation.{output_of};
-ghost use Rattle.sz_spec.specs.Weights.{is_weight, is_kernel};
+ghost use Rattle.sz_spec.specs.Weights.{is_weight, is_kernel, tap_at};
 ghost use Rattle.sz_spec.specs.Operators.Convolve.{convolved_at};
-ghost use Rattle.sz_ops_window.specs.Sums.{times, part_of, sum_from, reach_of, IsWithin};
+ghost use Rattle.sz_ops_window.specs.Sums.{times, sum_from, reach_of, IsWithin};
 
 use crate::mask::{Mask, a_mask_is_a_kernel};
 use crate::under::{add_under, meets_under, same_shape, set_under};
@@ -139,7 +139,8 @@ fn sum_of_rows(mask: &Mask<'_>, array: &Array, out: Cell, reach: Window) -> Opti
     Some(sum)
 }
 
-/// The sum under one row of the kernel, of which all columns of the reach lie on cells.
+/// The sum under one row of the kernel, of which all columns of the reach lie on cells. These lie
+/// side by side, as their weights do: where they begin is found once a row.
 fn sum_of_row(mask: &Mask<'_>, array: &Array, out: Cell, reach: Window, row: u32) -> Option<i128>
     requires out { holds array.now.extent out ≡ true }
     requires shape { is_extent array.now.extent ≡ true }
@@ -151,40 +152,69 @@ fn sum_of_row(mask: &Mask<'_>, array: &Array, out: Cell, reach: Window, row: u32
         ≡ sum_from array.now mask.now out (row * mask.now.cols) mask.now.cols }
     ensures bound { IfSome result (λ z. IsWithin 9 z) }
 {
+    let weights = weights_of_row(mask, row);
+    let values = values_under(mask, array, out, reach, row);
     let mut sum = 0;
     for col in reach.left..reach.right {
-        sum += part(mask, array, out, reach, row, col)?;
+        sum += times(weights[col as usize], values[(col - reach.left) as usize])?;
     }
     Some(sum)
 }
 
-/// What one tap of the reach adds: its weight times the value of the cell under it.
-fn part(
+/// The weights of one row of the kernel.
+fn weights_of_row<'a>(mask: &Mask<'a>, row: u32) -> &'a [i64]
+    requires { row < mask.now.rows }
+    ensures long { length result.now ≡ mask.now.cols }
+    ensures each { (col : ℕ) → col < mask.now.cols
+        → slice_index_or result.now col (pos 0) ≡ (tap_at mask.now (row * mask.now.cols + col)).weight }
+    ensures small { (col : ℕ) → col < mask.now.cols
+        → is_weight (slice_index_or result.now col (pos 0)) ≡ true }
+{
+    let first = (row * mask.cols) as usize;
+    &mask.weights[first..first + mask.cols as usize]
+}
+
+/// The values of the cells under one row of the kernel, as far as the reach goes.
+fn values_under<'a>(
     mask: &Mask<'_>,
-    array: &Array,
+    array: &'a Array,
     out: Cell,
     reach: Window,
     row: u32,
-    col: u32,
-) -> Option<i128>
+) -> &'a [Value]
     requires out { holds array.now.extent out ≡ true }
     requires reach { reach ≡ reach_of array.now.extent mask.now out }
     requires top { reach.top ≤ row }
     requires bottom { row < reach.bottom }
-    requires left { reach.left ≤ col }
-    requires right { col < reach.right }
-    ensures value { result ≡ part_of array.now mask.now out (row * mask.now.cols + col) }
-    ensures bound { IfSome result (λ z. IsWithin 1 z) }
+    ensures long { length result.now ≡ reach.right - reach.left }
+    ensures each { (col : ℕ) → reach.left ≤ col → col < reach.right
+        → slice_index_or result.now (col - reach.left) None
+        ≡ slice_index_or array.now.values (((out.row + row) - mask.now.rows / 2)
+        * array.now.extent.cols + ((out.col + col) - mask.now.cols / 2)) None }
 {
     let shape = array.shape();
     a_shape_is_within_limits(&shape);
     let rows = mask.rows / 2;
     let cols = mask.cols / 2;
     let row_under = out.row + row - rows;
-    let col_under = out.col + col - cols;
-    let index = row_under * shape.cols + col_under;
-    let weight = mask.weight(row * mask.cols + col);
-    times(weight, array.cells()[index as usize])
+    let col_under = out.col + reach.left - cols;
+    let from = row_under * shape.cols + col_under;
+    part(
+        array.cells(),
+        from as usize,
+        (reach.right - reach.left) as usize,
+    )
+}
+
+/// So many values from one on.
+fn part(cells: &[Value], from: usize, count: usize) -> &[Value]
+    requires within { from + count ≤ length cells.now }
+    requires small { length cells.now ≤ 1048576 }
+    ensures long { length result.now ≡ count }
+    ensures each { (k : ℕ) → k < count
+        → slice_index_or result.now k None ≡ slice_index_or cells.now (from + k) None }
+{
+    &cells[from..from + count]
 }
 
 /// A weight times a value, and 0 where the weight is 0.
