@@ -2,3 +2,4 @@ pub mod Places
 pub mod WindowCells
 pub mod Blocks
 pub mod Arithmetic
+pub mod Fits

@@ -64,7 +64,7 @@ impl OfOne for Raised {
     ghost made = { λ s a. fit (a +ℤ s.k) };
 
     fn of(&self, a: i64) -> Value {
-        fit(i128::from(a) + i128::from(self.k))
+        add(a, self.k)
     }
 }
 
@@ -105,7 +105,7 @@ impl OfTwo for Sum {
     ghost made = { λ _ a b. fit (a +ℤ b) };
 
     fn of(&self, a: i64, b: i64) -> Value {
-        fit(i128::from(a) + i128::from(b))
+        add(a, b)
     }
 }
 
@@ -117,7 +117,7 @@ impl OfTwo for Difference {
     ghost made = { λ _ a b. fit (a -ℤ b) };
 
     fn of(&self, a: i64, b: i64) -> Value {
-        fit(i128::from(a) - i128::from(b))
+        subtract(a, b)
     }
 }
 
@@ -230,6 +230,22 @@ fn clip(a: i64, lo: i64, hi: i64) -> i64
     } else {
         a
     }
+}
+
+/// The sum of two numbers as a value: empty where it is no i64.
+#[tactic(auto, using(crate::proofs::Fits::checked_fit))]
+fn add(a: i64, b: i64) -> Value
+    ensures { result ≡ fit (a +ℤ b) }
+{
+    a.checked_add(b)
+}
+
+/// The first number less the second, as a value: empty where it is no i64.
+#[tactic(auto, using(crate::proofs::Fits::checked_fit))]
+fn subtract(a: i64, b: i64) -> Value
+    ensures { result ≡ fit (a -ℤ b) }
+{
+    a.checked_sub(b)
 }
 
 /// A whole number as a value: empty where it is no i64.
