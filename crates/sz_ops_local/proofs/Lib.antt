@@ -3,3 +3,4 @@ pub mod WindowCells
 pub mod Blocks
 pub mod Arithmetic
 pub mod Fits
+pub mod Made

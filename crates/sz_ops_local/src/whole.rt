@@ -87,19 +87,12 @@ fn of_both<F: OfTwo>(
 fn ones<F: OfOne>(alloc: Global, f: &F, first: &[Value]) -> Result<Vec<Value>, NoMemory>
     ensures { IfOk result (λ v. v.items ≡ map (with_number (F.made f.now)) first.now) }
 {
-    let values = first
-        .iter()
-        .map(
-            |a: &Value| -> Value
-                ensures { result ≡ with_number (F.made f.entry.now) a.now }
-            {
-                match *a {
-                    Some(a) => f.of(a),
-                    None => None,
-                }
-            },
-        )
-        .collect(alloc)?;
+    let count = first.len();
+    let mut values = Vec::new(alloc);
+    values.reserve(count)?;
+    for k in 0..count {
+        values.push_reserved(made_of_one(f, first[k]));
+    }
     Ok(values)
 }
 
@@ -113,13 +106,31 @@ fn twos<F: OfTwo>(
     ensures { IfOk result (λ v. v.items
         ≡ map (λ p. with_numbers (F.made f.now) p.0 p.1) (zip first.now second.now)) }
 {
-    let values = first
-        .iter()
-        .zip(second)
-        .map(|pair: (&Value, &Value)| match (*pair.0, *pair.1) {
-            (Some(a), Some(b)) => f.of(a, b),
-            _ => None,
-        })
-        .collect(alloc)?;
+    let count = first.len().min(second.len());
+    let mut values = Vec::new(alloc);
+    values.reserve(count)?;
+    for k in 0..count {
+        values.push_reserved(made_of_two(f, first[k], second[k]));
+    }
     Ok(values)
+}
+
+/// What is made of a value: nothing where there is no number.
+fn made_of_one<F: OfOne>(f: &F, value: Value) -> Value
+    ensures { result ≡ with_number (F.made f.now) value }
+{
+    match value {
+        Some(a) => f.of(a),
+        None => None,
+    }
+}
+
+/// What is made of two values: nothing where one is no number.
+fn made_of_two<F: OfTwo>(f: &F, value: Value, other: Value) -> Value
+    ensures { result ≡ with_numbers (F.made f.now) value other }
+{
+    match (value, other) {
+        (Some(a), Some(b)) => f.of(a, b),
+        _ => None,
+    }
 }
