@@ -59,13 +59,13 @@ sum-next g w o start before n total a b parts first second =
 
 -- ---- the columns of a row
 
-pub cols-next : (g : Grid) (w : Weights) (o : Cell) (row left col : ℕ) (a b : ℤ) → left ≤ col
-    → Some a ≡ sum_from g w o (row * w.cols + left) (col - left) → Some b ≡ part_of g w o (row * w.cols + col)
-    → Some (a +ℤ b) ≡ sum_from g w o (row * w.cols + left) ((col + 1) - left)
-cols-next g w o row left col a b low so_far this =
-    let at : (row * w.cols + left) + (col - left) ≡ row * w.cols + col = omega arith in
-    sum-next g w o (row * w.cols + left) (col - left) 1 ((col + 1) - left) a b (omega arith) so_far
-    (this ∙ sym (sum-one g w o (row * w.cols + col)) ∙ ap (λ (n : ℕ). sum_from g w o n 1) (sym at))
+pub cols-next : (g : Grid) (w : Weights) (o : Cell) (row left k : ℕ) (a b : ℤ)
+    → Some a ≡ sum_from g w o (row * w.cols + left) k → Some b ≡ part_of g w o (row * w.cols + (left + k))
+    → Some (a +ℤ b) ≡ sum_from g w o (row * w.cols + left) (k + 1)
+cols-next g w o row left k a b so_far this =
+    let at : (row * w.cols + left) + k ≡ row * w.cols + (left + k) = omega arith in
+    sum-next g w o (row * w.cols + left) k 1 (k + 1) a b (omega arith) so_far
+    (this ∙ sym (sum-one g w o (row * w.cols + (left + k))) ∙ ap (λ (n : ℕ). sum_from g w o n 1) (sym at))
 
 -- a row is its columns in reach
 pub row-reach : (g : Grid) (w : Weights) (o : Cell) (reach : Window) (row : ℕ) → is_extent g.extent ≡ true

@@ -152,26 +152,28 @@ fn sum_of_row(mask: &Mask<'_>, array: &Array, out: Cell, reach: Window, row: u32
         ≡ sum_from array.now mask.now out (row * mask.now.cols) mask.now.cols }
     ensures bound { IfSome result (λ z. IsWithin 9 z) }
 {
-    let weights = weights_of_row(mask, row);
+    let weights = weights_of_row(mask, reach, row);
     let values = values_under(mask, array, out, reach, row);
     let mut sum = 0;
-    for col in reach.left..reach.right {
-        sum += times(weights[col as usize], values[(col - reach.left) as usize])?;
+    for k in 0..weights.len() {
+        sum += times(weights[k], values[k])?;
     }
     Some(sum)
 }
 
-/// The weights of one row of the kernel.
-fn weights_of_row<'a>(mask: &Mask<'a>, row: u32) -> &'a [i64]
-    requires { row < mask.now.rows }
-    ensures long { length result.now ≡ mask.now.cols }
-    ensures each { (col : ℕ) → col < mask.now.cols
-        → slice_index_or result.now col (pos 0) ≡ (tap_at mask.now (row * mask.now.cols + col)).weight }
-    ensures small { (col : ℕ) → col < mask.now.cols
-        → is_weight (slice_index_or result.now col (pos 0)) ≡ true }
+/// The weights of one row of the kernel, as far as the reach goes.
+fn weights_of_row<'a>(mask: &Mask<'a>, reach: Window, row: u32) -> &'a [i64]
+    requires row { row < mask.now.rows }
+    requires cols { reach.left ≤ reach.right }
+    requires right { reach.right ≤ mask.now.cols }
+    ensures long { length result.now ≡ reach.right - reach.left }
+    ensures each { (k : ℕ) → k < reach.right - reach.left → slice_index_or result.now k (pos 0)
+        ≡ (tap_at mask.now (row * mask.now.cols + (reach.left + k))).weight }
+    ensures small { (k : ℕ) → k < reach.right - reach.left
+        → is_weight (slice_index_or result.now k (pos 0)) ≡ true }
 {
-    let first = (row * mask.cols) as usize;
-    &mask.weights[first..first + mask.cols as usize]
+    let first = (row * mask.cols + reach.left) as usize;
+    &mask.weights[first..first + (reach.right - reach.left) as usize]
 }
 
 /// The values of the cells under one row of the kernel, as far as the reach goes.
@@ -187,10 +189,9 @@ fn values_under<'a>(
     requires top { reach.top ≤ row }
     requires bottom { row < reach.bottom }
     ensures long { length result.now ≡ reach.right - reach.left }
-    ensures each { (col : ℕ) → reach.left ≤ col → col < reach.right
-        → slice_index_or result.now (col - reach.left) None
+    ensures each { (k : ℕ) → k < reach.right - reach.left → slice_index_or result.now k None
         ≡ slice_index_or array.now.values (((out.row + row) - mask.now.rows / 2)
-        * array.now.extent.cols + ((out.col + col) - mask.now.cols / 2)) None }
+        * array.now.extent.cols + ((out.col + (reach.left + k)) - mask.now.cols / 2)) None }
 {
     let shape = array.shape();
     a_shape_is_within_limits(&shape);

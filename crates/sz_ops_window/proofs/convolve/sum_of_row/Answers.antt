@@ -15,32 +15,49 @@ use Rattle.sz_ops_window.proofs.convolve.sum_of_row.Goals as goal
 -- what the tap of the column adds
 told : (c : After-times)
     → c.times.result ≡ part_of c.args.array.now c.args.mask.now c.args.out
-    (c.args.row * c.args.mask.now.cols + c.loop-col.col)
+    (c.args.row * c.args.mask.now.cols + (c.args.reach.left + c.loop-k.k))
 told c =
     let g = c.args.array.now in
     let w = c.args.mask.now in
-    let col = c.loop-col.col in
+    let k = c.loop-k.k in
     let lies = given-lies g.extent w c.args.out c.args.reach c.requires.shape c.requires.out c.requires.kernel
     c.requires.reach in
-    let weight = get_or c.weights_of_row-weights.result.now col (pos 0) in
+    let weight = get_or c.weights_of_row-weights.result.now k (pos 0) in
     let same : to_z w64 (of_z w64 weight) ≡ weight = to_z-of_z w64 weight (search rules) in
-    let low : col < w.cols = omega (arith, lies.right, c.loop-col-test.true) in
+    let low : k < c.args.reach.right - c.args.reach.left =
+    omega (arith, c.weights_of_row-weights.ensures.long, c.loop-k-test.true) in
     (rw same at c.times.ensures.value)
-    ∙ part-read g w c.args.out c.args.row col weight
-    (get_or c.values_under-values.result.now (col - c.args.reach.left) None)
-    (under-reach g.extent w c.args.out c.args.reach c.args.row col c.requires.shape c.requires.out c.requires.reach
-    c.requires.top c.requires.bottom c.loop-col.auto.col c.loop-col-test.true)
-    (c.weights_of_row-weights.ensures.each col low)
-    (c.values_under-values.ensures.each col c.loop-col.auto.col c.loop-col-test.true)
+    ∙ part-read g w c.args.out c.args.row (c.args.reach.left + k) weight
+    (get_or c.values_under-values.result.now k None)
+    (under-reach g.extent w c.args.out c.args.reach c.args.row (c.args.reach.left + k) c.requires.shape c.requires.out
+    c.requires.reach c.requires.top c.requires.bottom (omega arith) (omega (arith, low)))
+    (c.weights_of_row-weights.ensures.each k low) (c.values_under-values.ensures.each k low)
+
+pub weights_of_row-weights-requires-clause-row : goal.weights_of_row-weights-requires-clause-row
+weights_of_row-weights-requires-clause-row c =
+    let lies = given-lies c.args.array.now.extent c.args.mask.now c.args.out c.args.reach c.requires.shape
+    c.requires.out c.requires.kernel c.requires.reach in
+    omega (arith, lies.bottom, c.requires.bottom)
+
+pub weights_of_row-weights-requires-clause-cols : goal.weights_of_row-weights-requires-clause-cols
+weights_of_row-weights-requires-clause-cols c =
+    let lies = given-lies c.args.array.now.extent c.args.mask.now c.args.out c.args.reach c.requires.shape
+    c.requires.out c.requires.kernel c.requires.reach in
+    lies.cols
+
+pub weights_of_row-weights-requires-clause-right : goal.weights_of_row-weights-requires-clause-right
+weights_of_row-weights-requires-clause-right c =
+    let lies = given-lies c.args.array.now.extent c.args.mask.now c.args.out c.args.reach c.requires.shape
+    c.requires.out c.requires.kernel c.requires.reach in
+    lies.right
 
 pub times-requires : goal.times-requires
 times-requires c =
-    let lies = given-lies c.args.array.now.extent c.args.mask.now c.args.out c.args.reach c.requires.shape
-    c.requires.out c.requires.kernel c.requires.reach in
-    let weight = get_or c.weights_of_row-weights.result.now c.loop-col.col (pos 0) in
+    let weight = get_or c.weights_of_row-weights.result.now c.loop-k.k (pos 0) in
     let same : to_z w64 (of_z w64 weight) ≡ weight = to_z-of_z w64 weight (search rules) in
     ap is_weight same
-    ∙ c.weights_of_row-weights.ensures.small c.loop-col.col (omega (arith, lies.right, c.loop-col-test.true))
+    ∙ c.weights_of_row-weights.ensures.small c.loop-k.k
+    (omega (arith, c.weights_of_row-weights.ensures.long, c.loop-k-test.true))
 
 pub returns-in_err-sum-clause-sum : goal.returns-in_err-sum-clause-sum
 returns-in_err-sum-clause-sum c =
@@ -49,25 +66,27 @@ returns-in_err-sum-clause-sum c =
     let lies = given-lies g.extent w c.args.out c.args.reach c.requires.shape c.requires.out c.requires.kernel
     c.requires.reach in
     c.from_residual.ensures
-    ∙ sym (row-none g w c.args.out c.args.row c.loop-col.col (omega (arith, lies.right, c.loop-col-test.true))
+    ∙ sym (row-none g w c.args.out c.args.row (c.args.reach.left + c.loop-k.k)
+    (omega (arith, lies.right, c.weights_of_row-weights.ensures.long, c.loop-k-test.true))
     (sym (told (goal.at.returns-in_err-sum-clause-sum c).After-times) ∙ c.in_err-sum.was))
 
-pub loop-col-preserved : goal.loop-col-preserved
-loop-col-preserved c =
+pub loop-k-preserved : goal.loop-k-preserved
+loop-k-preserved c =
     let g = c.args.array.now in
     let w = c.args.mask.now in
+    let k = c.loop-k.k in
     let lies = given-lies g.extent w c.args.out c.args.reach c.requires.shape c.requires.out c.requires.kernel
     c.requires.reach in
     let sides = kernel-sides w c.requires.kernel in
-    let s = to_z w128 c.loop-col.sum-bits in
+    let s = to_z w128 c.loop-k.sum-bits in
     let b = c.in_ok-sum.field-0 in
-    let small : IsWithin (c.loop-col.col + 1) (s +ℤ b) =
-    within-plus c.loop-col.col 1 s b c.loop-col.invariant.1 c.in_ok-sum.ensures.bound in
-    let few : c.loop-col.col + 1 ≤ 1000 = omega (arith, lies.right, c.loop-col-test.true, sides.1) in
+    let small : IsWithin (k + 1) (s +ℤ b) = within-plus k 1 s b c.loop-k.invariant.1 c.in_ok-sum.ensures.bound in
+    let few : k + 1 ≤ 1000 =
+    omega (arith, lies.right, c.weights_of_row-weights.ensures.long, c.loop-k-test.true, sides.1) in
     rw (told-sum s b (fits-within 1 b (omega arith) c.in_ok-sum.ensures.bound)
-    (fits-within (c.loop-col.col + 1) (s +ℤ b) few small)) (
-      cols-next g w c.args.out c.args.row c.args.reach.left c.loop-col.col s b c.loop-col.auto.col
-          c.loop-col.invariant.0 (sym c.in_ok-sum.was ∙ told (goal.at.loop-col-preserved c).After-times),
+    (fits-within (k + 1) (s +ℤ b) few small)) (
+      cols-next g w c.args.out c.args.row c.args.reach.left k s b c.loop-k.invariant.0
+          (sym c.in_ok-sum.was ∙ told (goal.at.loop-k-preserved c).After-times),
       small,
     )
 
@@ -77,10 +96,10 @@ returns-clause-sum c =
     let w = c.args.mask.now in
     let lies = given-lies g.extent w c.args.out c.args.reach c.requires.shape c.requires.out c.requires.kernel
     c.requires.reach in
-    let last : c.loop-col.col ≡ c.args.reach.right =
-    omega (arith, c.loop-col.auto.col-end lies.cols, c.loop-col-test.false) in
-    c.loop-col.invariant.0
-    ∙ ap (λ (n : ℕ). sum_from g w c.args.out (c.args.row * w.cols + c.args.reach.left) (n - c.args.reach.left)) last
+    let last : c.loop-k.k ≡ c.args.reach.right - c.args.reach.left =
+    omega (arith, c.loop-k.auto.k-end, c.loop-k-test.false, c.weights_of_row-weights.ensures.long) in
+    c.loop-k.invariant.0
+    ∙ ap (λ (n : ℕ). sum_from g w c.args.out (c.args.row * w.cols + c.args.reach.left) n) last
     ∙ row-reach g w c.args.out c.args.reach c.args.row c.requires.shape c.requires.out c.requires.kernel
     c.requires.reach (omega (arith, lies.bottom, c.requires.bottom))
 
@@ -91,5 +110,6 @@ returns-clause-bound c =
     let lies = given-lies g.extent w c.args.out c.args.reach c.requires.shape c.requires.out c.requires.kernel
     c.requires.reach in
     let sides = kernel-sides w c.requires.kernel in
-    within-more c.loop-col.col 9 (to_z w128 c.loop-col.sum-bits)
-    (omega (arith, lies.right, sides.1, c.loop-col.auto.col-end lies.cols)) c.loop-col.invariant.1
+    within-more c.loop-k.k 9 (to_z w128 c.loop-k.sum-bits)
+    (omega (arith, lies.right, sides.1, c.loop-k.auto.k-end, c.weights_of_row-weights.ensures.long))
+    c.loop-k.invariant.1

@@ -67,16 +67,15 @@ part-requires-clause-within c =
     omega (arith, end.index, low.before, some at, c.cells.ensures.count)
 
 pub returns-clause-each : goal.returns-clause-each
-returns-clause-each c = λ col left end.
+returns-clause-each c = λ k low.
     let at = (goal.at.returns-clause-each c).After-mask in
-    let low = first at in
+    let begins = first at in
     let rows = ap (λ (v : Weights). v.rows) c.mask.view_is in
     let cols = ap (λ (v : Weights). v.cols) c.mask.view_is in
     let wide = ap (λ (d : Extent). d.cols) (c.shape.view_is ∙ c.shape-shape.ensures) in
-    let k = col - c.args.reach.left in
     let start = ((c.args.out.row + c.args.row) - c.mask.inside.rows / 2) * c.shape.inside.cols in
     let along : start + ((c.args.out.col + c.args.reach.left) - c.mask.inside.cols / 2) + k
-    ≡ start + ((c.args.out.col + col) - c.mask.inside.cols / 2) = omega (arith, low.before, left) in
-    c.part.ensures.each k (omega (arith, left, end))
+    ≡ start + ((c.args.out.col + (c.args.reach.left + k)) - c.mask.inside.cols / 2) = omega (arith, begins.before) in
+    c.part.ensures.each k low
     ∙ ap (λ (n : ℕ). get_or c.cells.result.now n None) along
     ∙ (rw (rows, cols, wide, c.cells.ensures.values) refl)
