@@ -1,5 +1,5 @@
 -- Each value is made of that at its place.
-use Rattle.std.proofs.Common.{◌≡◌, ◌+◌, length, ◌∙◌, arith, None, refl}
+use Rattle.std.proofs.Common.{◌≡◌, length, ◌∙◌, arith, None}
 use Rattle.sz_spec.specs.Values.{with_number}
 use Rattle.sz_ops_local.proofs.Made.{made-next, made-all}
 use Rattle.sz_ops_local.proofs.whole.ones.Goals as goal

@@ -1,5 +1,5 @@
 -- Each value is made of those two at its place.
-use Rattle.std.proofs.Common.{◌≡◌, ◌+◌, ◌<◌, min, length, sym, ap, ◌∙◌, arith, None, Option}
+use Rattle.std.proofs.Common.{◌≡◌, ◌<◌, min, length, sym, ap, ◌∙◌, arith, None, Option}
 use Rattle.std.specs.Prelude.{ℤ}
 use Rattle.std.specs.List.{zip}
 use Rattle.std.proofs.lemmas.Slice.Zip.{length-zip}
