@@ -1,15 +1,14 @@
 -- What slice copies row by row, and what lookup reads from its table.
 --
 -- The key idea: the cells of one row of a slice lie side by side in the input.
-use Rattle.std.proofs.Common.{◌≡◌, ℕ, ◌+◌, ◌-◌, ◌*◌, ◌/◌, ◌%◌, ◌<◌, ◌≤◌, true, Option, Some, None, List, map, length}
-use Rattle.std.proofs.Common.{◌++◌, get_or, take, drop, refl, sym, ap, ap₂, subst, ◌∙◌, arith}
-use Rattle.std.specs.Prelude.{ℤ, option_and_then, Result, Ok}
+use Rattle.std.proofs.Common.{◌≡◌, ℕ, ◌+◌, ◌*◌, ◌<◌, ◌≤◌, true, Option, Some, None, List, map, length}
+use Rattle.std.proofs.Common.{◌++◌, get_or, refl, sym, ap, ap₂, ◌∙◌, arith}
+use Rattle.std.specs.Prelude.{ℤ, option_and_then, Ok}
 use Rattle.std.proofs.Math.Nat.{mul-le-mul_right}
 use Rattle.std.proofs.lemmas.Nat.{div-mul-add, mod-mul-add}
 use Rattle.std.proofs.lemmas.Option.{unwrap_or-slice_get}
 use Rattle.sz_cells.specs.declared.Cell.{Cell}
 use Rattle.sz_cells.specs.Extent.{Extent, holds, layer_of, row_in, cell_of, cell_in, index_of, size_of, height_of}
-use Rattle.sz_cells.specs.Extent.{is_extent}
 use Rattle.sz_cells.proofs.Sets.{row-held}
 use Rattle.sz_spec.specs.declared.op.Op.{Op}
 use Rattle.sz_spec.specs.declared.op.Op.TheVariants.{Lookup, Slice}

@@ -3,15 +3,12 @@
 -- The key idea: a strip has the rows of the output from one row on to before another one of the same layer, so its rows
 -- are what comes behind the values so far.
 use Rattle.std.proofs.Common.{◌≡◌, ◌≢◌, ℕ, ◌+◌, ◌-◌, ◌*◌, ◌/◌, ◌%◌, ◌<◌, ◌≤◌, true, None, List, Option, length}
-use Rattle.std.proofs.Common.{◌++◌, get_or, take, sym, ap, ap₂, subst, ◌∙◌, arith}
+use Rattle.std.proofs.Common.{◌++◌, get_or, sym, ap, ap₂, subst, ◌∙◌, arith}
 use Rattle.std.specs.Prelude.{ℤ}
 use Rattle.std.proofs.Math.Nat.{mul-le-mul_right}
 use Rattle.std.proofs.lemmas.Nat.{div-mul-add, mod-mul-add, div-add-mod', div_below, mod_below}
-use Rattle.std.proofs.Common.{length-take-le}
-use Rattle.std.proofs.lemmas.List.{get_or-take}
 use Rattle.std.proofs.lemmas.Option.{unwrap_or-slice_get}
-use Rattle.sz_cells.specs.declared.Cell.{Cell}
-use Rattle.sz_cells.specs.Extent.{Extent, height_of, is_extent, layer_of, row_in, cell_of, cell_in, index_of, size_of}
+use Rattle.sz_cells.specs.Extent.{Extent, height_of, is_extent, layer_of, row_in, cell_of, cell_in, index_of}
 use Rattle.sz_spec.specs.declared.op.Op.{Op}
 use Rattle.sz_spec.specs.declared.op.Op.TheVariants.{Transpose}
 use Rattle.sz_spec.specs.Values.{Grid, extent_at, input_at}

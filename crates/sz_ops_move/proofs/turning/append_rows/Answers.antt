@@ -1,8 +1,7 @@
 -- Each row of the strip is a row of the output.
-use Rattle.std.proofs.Common.{◌≡◌, ◌+◌, ◌-◌, ◌*◌, ◌<◌, ◌≤◌, ℕ, map, subst, sym, ap, ◌∙◌, arith}
+use Rattle.std.proofs.Common.{◌+◌, ◌<◌, ◌≤◌, ℕ, map, subst, ◌∙◌, arith}
 use Rattle.std.proofs.Math.Nat.{mul-le-mul_right}
 use Rattle.std.specs.Arc.{arc_value}
-use Rattle.sz_cells.specs.Extent.{height_of}
 use Rattle.sz_spec.specs.Values.{extent_at}
 use Rattle.sz_ops_move.proofs.Turned.{row-next}
 use Rattle.sz_ops_move.proofs.turning.append_rows.Goals as goal

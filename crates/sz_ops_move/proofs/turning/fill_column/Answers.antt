@@ -1,5 +1,5 @@
 -- A place that is written is of the column, and each place of it is written once.
-use Rattle.std.proofs.Common.{◌≡◌, ◌≢◌, ◌<◌, ◌*◌, ◌+◌, ℕ, arith, ◌∙◌, None, get_or-set_other, get_or-set_same, get_or}
+use Rattle.std.proofs.Common.{◌≢◌, ◌<◌, ◌*◌, ◌+◌, arith, ◌∙◌, None, get_or-set_other, get_or-set_same, get_or}
 use Rattle.std.proofs.Common.{below_more, length}
 use Rattle.sz_ops_move.proofs.Turned.{apart-rows, apart-cols, in-rows}
 use Rattle.sz_ops_move.proofs.turning.fill_column.Goals as goal

@@ -1,5 +1,5 @@
 -- A row more is in the strip, and those before it stay: they are in other columns of it.
-use Rattle.std.proofs.Common.{◌≡◌, ◌≢◌, ◌<◌, ◌*◌, ◌+◌, ◌%◌, ℕ, arith, ap, sym, ◌∙◌, None, get_or, inl, inr}
+use Rattle.std.proofs.Common.{◌<◌, ◌*◌, ◌+◌, ℕ, arith, ap, sym, ◌∙◌, None, get_or, inl, inr}
 use Rattle.std.proofs.lemmas.Bool.Decides.{eqb_tells}
 use Rattle.sz_ops_move.proofs.Turned.{column-of}
 use Rattle.sz_ops_move.proofs.turning.fill_strip.Goals as goal

@@ -109,6 +109,7 @@ loop-row-preserved c =
     record {
       strip = c.fill_strip.auto.strip ∙ inv.strip;
       made = c.in_ok-append_rows.ensures
-          ∙ ap (λ (n : ℕ). values_before s (map (λ a. arc_value a) c.args.inputs.now) ((row + wide) * n)) (sym k.height);
+          ∙ ap (λ (n : ℕ). values_before s (map (λ a. arc_value a) c.args.inputs.now) ((row + wide) * n))
+          (sym k.height);
       low = omega (arith, ends, k.rows);
     }

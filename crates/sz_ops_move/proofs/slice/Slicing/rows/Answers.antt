@@ -1,8 +1,7 @@
 -- The cells of a row of the output lie in a row of the input.
-use Rattle.std.proofs.Common.{◌≡◌, ◌+◌, ◌<◌, ◌≤◌, ℕ, List, Option, None, get_or, length, map, sym, ap, ◌∙◌, arith}
+use Rattle.std.proofs.Common.{◌≡◌, ◌+◌, List, Option, None, get_or, length, map, ap, ◌∙◌, arith}
 use Rattle.std.specs.Prelude.{ℤ}
 use Rattle.std.specs.Arc.{arc_value}
-use Rattle.sz_cells.specs.declared.Cell.{Cell}
 use Rattle.sz_cells.specs.Extent.{Extent, index_of, size_of}
 use Rattle.sz_spec.specs.Values.{Grid, extent_at, input_at}
 use Rattle.sz_ops_move.proofs.Copied.{start_of, sliced-within, sliced-next}
