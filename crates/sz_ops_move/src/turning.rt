@@ -136,9 +136,10 @@ fn fill_column(
     ensures others { (k : ℕ) → k % pitch ≢ row
         → slice_index_or strip.new k None ≡ slice_index_or strip.old k None }
 {
+    let mut to = row;
     for j in 0..wide {
-        let to = j * pitch + row;
         strip[to] = cells[from + j];
+        to += pitch;
     }
 }
 
