@@ -39,7 +39,7 @@ use Rattle.sz_catalogue.specs.Rules as rules
 use Rattle.sz_catalogue.specs.Rules.{judged, first_of, version_of}
 use Rattle.sz_catalogue.specs.Kept.{IsWorkflow}
 use Rattle.sz_catalogue.specs.Changes.{accepted, with_flow, with_list, with_strategies, with_version}
-use Rattle.sz_catalogue.specs.Changes.{with_await, changes_without_start}
+use Rattle.sz_catalogue.specs.Changes.{with_await, changes_no_version}
 use Rattle.sz_catalogue.proofs.NodeLists.{firsts-right, set-right}
 use Rattle.sz_catalogue.proofs.Bases.{bases-length}
 use Rattle.sz_session.specs.Runs.{IsSoundVersion, AreSound}
@@ -129,7 +129,7 @@ version-sound c n all held =
     let P : Option Version → Type 0 = λ o. IfSome o IsSoundVersion in
     subst P (version-found c n held) (IfSome-lookup_from_All IsSoundVersion (is_at (nat_cmp n)) c.versions all)
 
-keeps-await : (c : Holdings) (n : ℕ) → AreSound c
+pub keeps-await : (c : Holdings) (n : ℕ) → AreSound c
     → judged c (order.Await n) ≡ None → AreSound (with_await c n)
 keeps-await c n k none =
     let held = rule-fails (rules.has_no_version c n) refusal.NoSuchVersion [] none in
@@ -152,9 +152,9 @@ keeps-await c n k none =
       versions = All-values-set_value (is_at (nat_cmp n)) IsSoundVersion c.versions w k.versions new;
     }
 
--- what is held stays sound where no version is started
+-- what is held stays sound where no version is started or awaited
 pub keeps-accepted : (c : Holdings) (command : Command) → AreSound c
-    → is_right command ≡ true → judged c command ≡ None → changes_without_start command ≡ true
+    → is_right command ≡ true → judged c command ≡ None → changes_no_version command ≡ true
     → AreSound (accepted c command).0
 keeps-accepted c (order.Array name array) k right none kind = record {
   flows = k.flows;
@@ -173,7 +173,7 @@ keeps-accepted c (order.Flow name flow) k right none kind =
 keeps-accepted c (order.Strategy name node list) k right none kind =
     keeps-strategies c name node list k none
 keeps-accepted c (order.Start name base) k right none kind = cc
-keeps-accepted c (order.Await n) k right none kind = keeps-await c n k none
+keeps-accepted c (order.Await n) k right none kind = cc
 keeps-accepted c (order.Ask n dir path named) k right none kind = cc
 keeps-accepted c (order.Explain n dir path named) k right none kind = cc
 keeps-accepted c (order.Show n node) k right none kind = cc

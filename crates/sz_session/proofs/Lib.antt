@@ -2,7 +2,7 @@
 pub mod Ways
 pub mod Steps
 pub mod PathViews
-pub mod Whole
+pub mod Keeping
 pub mod Kept
 pub mod Keeps
 pub mod Cuts

@@ -28,9 +28,10 @@ use Rattle.sz_spec.specs.Flows.{Graph}
 use Rattle.sz_spec.specs.Paths.{Step, source_of, is_there, follows, are_joined, is_joined, inputs_of, compose}
 use Rattle.sz_spec.specs.Sides.{near_side, far_side}
 use Rattle.sz_flow.specs.Executions.{Execution}
-use Rattle.sz_store.specs.Kept.{NodeLineage}
-use Rattle.sz_query.specs.Views.{View, by_map, by_trace, view_site, IsUsable, used_of, traced_by}
-use Rattle.sz_query.specs.Answers.{answered, traced_of, IsStep, AreSteps}
+use Rattle.sz_query.specs.Views.{by_map, by_store, by_shelf, by_growth, by_trace}
+use Rattle.sz_query.specs.Views.{View, view_site, IsUsable, used_of, traced_by, most_traced_by}
+use Rattle.sz_query.specs.Turns.{IsAsked}
+use Rattle.sz_query.specs.Answers.{answered, traced_of, most_traced_of, IsStep, AreSteps}
 use Rattle.sz_query.specs.Laws.{IsFaithful, IsOfNode, AreOfPath}
 use Rattle.sz_query.proofs.Composed.{answers-composed, steps-asked}
 use Rattle.sz_catalogue.specs.Holdings.{Version, arrays_of}
@@ -38,10 +39,11 @@ use Rattle.sz_catalogue.specs.Starts as starts
 use Rattle.sz_catalogue.specs.Rules.{are_distinct, is_list_for, are_lists_for}
 use Rattle.sz_catalogue.specs.Changes.{outputs, way_of, is_black_box, traced}
 use Rattle.sz_session.specs.Runs.{IsSoundVersion}
-use Rattle.sz_session.specs.Stores.{IsKeptOf}
+use Rattle.sz_session.specs.Stores.{Keeping, IsKeptOf}
+use Rattle.sz_session.specs.Commands.{sizes_along, most_traced}
 use Rattle.sz_session.specs.Views.{view_by, list_of, IsViewOf, strategy_told, are_there}
 use Rattle.sz_session.proofs.Ways.{way-is_listed, way-supported, view_by-site, view_by-usable, view_by-faithful}
-use Rattle.sz_session.proofs.Ways.{view_by-traced, view_by-told}
+use Rattle.sz_session.proofs.Ways.{view_by-stays, view_by-traced, view_by-told, view_by-few, view_by-least}
 use Rattle.sz_session.proofs.Steps.{IsStepOf, step-of, step-input, step-out, step-starts, step-leads}
 
 -- ---- the lists of a version's nodes
@@ -97,8 +99,8 @@ pub record IsSoundView (v : Version) (dir : Dir) (s : Step) (w : View) : Type 0 
   pub execution : Execution
   pub step : IsStepOf v s execution
   pub list : HasList v dir s execution.site.op
-  pub kept : Option NodeLineage
-  pub own : IsKeptOf execution (list_of v s) kept
+  pub kept : Keeping
+  pub own : IsKeptOf v.awaited execution (list_of v s) kept
   pub is : w ≡ view_by (way_of v dir s) execution kept
 
 pub sound-view : (v : Version) (dir : Dir) (s : Step) (w : View) → IsSoundVersion v
@@ -126,7 +128,7 @@ sound-ready v dir s w h =
     let ins : extents_of e.inputs ≡ e.site.ins =
     ap (λ (x : Execution). extents_of x.inputs) h.step.is ∙ sym (ap (λ (x : Execution). x.site.ins) h.step.is) in
     subst IsUsable (sym h.is)
-    (view_by-usable (list_of v s) (way_of v dir s) e h.kept h.list.listed h.list.supported ins h.own)
+    (view_by-usable v.awaited (list_of v s) (way_of v dir s) e h.kept h.list.listed h.list.supported ins h.own)
 
 sound-faithful : (v : Version) (dir : Dir) (s : Step) (w : View) → IsSoundView v dir s w
     → IsFaithful w (inputs_of v.flow (arrays_of v.base) (outputs v) s.node)
@@ -135,7 +137,7 @@ sound-faithful v dir s w h =
     let gs = inputs_of v.flow (arrays_of v.base) (outputs v) s.node in
     let own : e.inputs ≡ gs = ap (λ (x : Execution). x.inputs) h.step.is in
     subst (λ (x : View). IsFaithful x gs) (sym h.is)
-    (view_by-faithful (list_of v s) (way_of v dir s) e h.kept gs h.list.listed h.list.supported own h.own)
+    (view_by-faithful v.awaited (list_of v s) (way_of v dir s) e h.kept gs h.list.listed h.list.supported own h.own)
 
 -- it is one of the step's node
 pub sound-of_node : (v : Version) (dir : Dir) (s : Step) (w : View) → IsSoundView v dir s w
@@ -240,45 +242,152 @@ views-answer v dir path views set sound joined zip is all =
     (steps-asked dir views (map (λ (s : Step). s.input) path) set
     (views-steps v dir path views set.extent sound joined zip is) all)
 
--- what is told of the steps is their ways
-pub views-told : (v : Version) (dir : Dir) (path : List Step) (views : List View) → AreSound v dir path views
-    → map strategy_told (map used_of views) ≡ map (way_of v dir) path
-views-told v dir [] [] zip = refl
-views-told v dir [] (w ∷ views) zip = absurd zip
-views-told v dir (s ∷ path) [] zip = absurd zip
-views-told v dir (s ∷ path) (w ∷ views) zip =
-    let h = zip.0 in
-    ap₂ (λ (x : Strategy) (xs : List Strategy). x ∷ xs)
-    (ap (λ (x : View). strategy_told (used_of x)) h.is
-    ∙ view_by-told (list_of v s) (way_of v dir s) h.execution h.kept h.list.listed h.own)
-    (views-told v dir path views zip.1)
+-- ---- once they were asked
 
--- what a step traces: the output of its node where its way is black box
-step-traced : (v : Version) (dir : Dir) (s : Step) (w : View) → IsSoundVersion v → IsSoundView v dir s w
-    → traced_by w ≡ (if is_black_box (way_of v dir s) then size_of (extent_at (starts.outputs_of v) s.node) else 0)
-step-traced v dir s w sound h =
+-- what is traced of a view that was asked is no more than was allowed for
+asked-most : (w x : View) → IsAsked w x → traced_by x ≤ most_traced_by w
+asked-most (by_map s) x asked = omega (arith, ap traced_by asked)
+asked-most (by_store s kept t) x asked = omega (arith, ap traced_by asked)
+asked-most (by_shelf s z p t) x asked = omega (arith, ap traced_by asked.2)
+asked-most (by_growth s inputs z p t) x asked = at asked.0.saw (ap traced_by asked.2) where
+  at : (b : Bool) → traced_by x ≡ (if b then 0 else size_of s.out) → traced_by x ≤ size_of s.out
+  at true is = omega (arith, is)
+  at false is = omega (arith, is)
+asked-most (by_trace s inputs) x asked = omega (arith, ap traced_by asked)
+
+-- what a step's node has to tell where its way is black box
+abbrev black : Version → Dir → Step → ℕ
+black v dir s = if is_black_box (way_of v dir s) then size_of (extent_at (starts.outputs_of v) s.node) else 0
+
+-- of a version that is awaited, the view of a step is told by the way, and is traced where that is black box
+step-told : (v : Version) (dir : Dir) (s : Step) (w x : View) → v.awaited ≡ true → IsSoundView v dir s w → IsAsked w x
+    → (strategy_told (used_of x) ≡ way_of v dir s)
+    × (traced_by x ≡ (if is_black_box (way_of v dir s) then size_of (view_site w).out else 0))
+step-told v dir s w x awaited h asked =
     let e = h.execution in
     let way = way_of v dir s in
-    let shape : e.site.out ≡ extent_at (starts.outputs_of v) s.node = step-starts v s e Back sound h.step in
-    ap traced_by h.is ∙ view_by-traced (list_of v s) way e h.kept h.list.listed h.own
-    ∙ ap (λ (x : Extent). if is_black_box way then size_of x else 0) shape
+    let own = subst (λ (b : Bool). IsKeptOf b e (list_of v s) h.kept) awaited h.own in
+    let same = view_by-stays (list_of v s) way e h.kept x h.list.listed own
+    (subst (λ (y : View). IsAsked y x) h.is asked) in
+    let site = sound-site v dir s w h in (
+      ap (λ (y : View). strategy_told (used_of y)) same
+          ∙ view_by-told (list_of v s) way e h.kept h.list.listed own,
+      ap traced_by same ∙ view_by-traced (list_of v s) way e h.kept h.list.listed own
+          ∙ ap (λ (y : Site). if is_black_box way then size_of y.out else 0) (sym site),
+    )
 
--- and all of them
-pub views-traced : (v : Version) (dir : Dir) (path : List Step) (views : List View) → IsSoundVersion v
-    → AreSound v dir path views → traced_of views ≡ traced v dir path
-views-traced v dir [] [] sound zip = refl
-views-traced v dir [] (w ∷ views) sound zip = absurd zip
-views-traced v dir (s ∷ path) [] sound zip = absurd zip
-views-traced v dir (s ∷ path) (w ∷ views) sound zip =
-    ap₂ ◌+◌ (step-traced v dir s w sound zip.0) (views-traced v dir path views sound zip.1)
-    ∙ at (is_black_box (way_of v dir s)) where
-      at : (b : Bool) → (if b then size_of (extent_at (starts.outputs_of v) s.node) else 0) + traced v dir path
-          ≡ sum_by (λ (t : Step). size_of (extent_at (starts.outputs_of v) t.node))
-          (cond b (s ∷ filter (λ t. is_black_box (way_of v dir t)) path)
-          (filter (λ t. is_black_box (way_of v dir t)) path))
-      at true = sym (sum_by-cons (λ (t : Step). size_of (extent_at (starts.outputs_of v) t.node)) s
-          (filter (λ t. is_black_box (way_of v dir t)) path))
-      at false = omega arith
+-- the output of the step's node
+step-size : (v : Version) (dir : Dir) (s : Step) (w : View) → IsSoundVersion v → IsSoundView v dir s w
+    → (view_site w).out ≡ extent_at (starts.outputs_of v) s.node
+step-size v dir s w sound h =
+    ap (λ (y : Site). y.out) (sound-site v dir s w h) ∙ step-starts v s h.execution Back sound h.step
+
+step-traced : (v : Version) (dir : Dir) (s : Step) (w x : View) → IsSoundVersion v → v.awaited ≡ true
+    → IsSoundView v dir s w → IsAsked w x → traced_by x ≡ black v dir s
+step-traced v dir s w x sound awaited h asked =
+    (step-told v dir s w x awaited h asked).1
+    ∙ ap (λ (y : Extent). if is_black_box (way_of v dir s) then size_of y else 0) (step-size v dir s w sound h)
+
+step-least : (v : Version) (dir : Dir) (s : Step) (w x : View) → IsSoundVersion v → IsSoundView v dir s w
+    → IsAsked w x → black v dir s ≤ traced_by x
+step-least v dir s w x sound h asked =
+    let e = h.execution in
+    let least = view_by-least (way_of v dir s) e h.kept x (subst (λ (y : View). IsAsked y x) h.is asked) in
+    let out : e.site.out ≡ extent_at (starts.outputs_of v) s.node = step-starts v s e Back sound h.step in
+    let same = ap (λ (y : Extent). if is_black_box (way_of v dir s) then size_of y else 0) out in
+    omega (arith, least, same)
+
+step-most : (v : Version) (dir : Dir) (s : Step) (w x : View) → IsSoundVersion v → IsSoundView v dir s w
+    → IsAsked w x → traced_by x ≤ size_of (extent_at (starts.outputs_of v) s.node)
+step-most v dir s w x sound h asked =
+    let e = h.execution in
+    let out : e.site.out ≡ extent_at (starts.outputs_of v) s.node = step-starts v s e Back sound h.step in
+    omega (
+      arith,
+      asked-most w x asked,
+      ap most_traced_by h.is,
+      view_by-few (way_of v dir s) e h.kept,
+      ap size_of out,
+    )
+
+-- along a path
+pub views-told : (v : Version) (dir : Dir) (path : List Step) (views asked : List View) → v.awaited ≡ true
+    → AreSound v dir path views → AllZip IsAsked views asked
+    → map strategy_told (map used_of asked) ≡ map (way_of v dir) path
+views-told v dir [] [] [] awaited zip all = refl
+views-told v dir [] [] (x ∷ asked) awaited zip all = absurd all
+views-told v dir [] (w ∷ views) asked awaited zip all = absurd zip
+views-told v dir (s ∷ path) [] asked awaited zip all = absurd zip
+views-told v dir (s ∷ path) (w ∷ views) [] awaited zip all = absurd all
+views-told v dir (s ∷ path) (w ∷ views) (x ∷ asked) awaited zip all =
+    ap₂ (λ (y : Strategy) (ys : List Strategy). y ∷ ys) (step-told v dir s w x awaited zip.0 all.0).0
+    (views-told v dir path views asked awaited zip.1 all.1)
+
+-- what is black box along a path, with a step more
+black-more : (v : Version) (dir : Dir) (s : Step) (path : List Step)
+    → black v dir s + traced v dir path ≡ traced v dir (s ∷ path)
+black-more v dir s path = at (is_black_box (way_of v dir s)) where
+  at : (b : Bool) → (if b then size_of (extent_at (starts.outputs_of v) s.node) else 0) + traced v dir path
+      ≡ sum_by (λ (t : Step). size_of (extent_at (starts.outputs_of v) t.node))
+      (cond b (s ∷ filter (λ t. is_black_box (way_of v dir t)) path)
+      (filter (λ t. is_black_box (way_of v dir t)) path))
+  at true = sym (sum_by-cons (λ (t : Step). size_of (extent_at (starts.outputs_of v) t.node)) s
+      (filter (λ t. is_black_box (way_of v dir t)) path))
+  at false = omega arith
+
+pub views-traced : (v : Version) (dir : Dir) (path : List Step) (views asked : List View) → IsSoundVersion v
+    → v.awaited ≡ true → AreSound v dir path views → AllZip IsAsked views asked
+    → traced_of asked ≡ traced v dir path
+views-traced v dir [] [] [] sound awaited zip all = refl
+views-traced v dir [] [] (x ∷ asked) sound awaited zip all = absurd all
+views-traced v dir [] (w ∷ views) asked sound awaited zip all = absurd zip
+views-traced v dir (s ∷ path) [] asked sound awaited zip all = absurd zip
+views-traced v dir (s ∷ path) (w ∷ views) [] sound awaited zip all = absurd all
+views-traced v dir (s ∷ path) (w ∷ views) (x ∷ asked) sound awaited zip all =
+    ap₂ ◌+◌ (step-traced v dir s w x sound awaited zip.0 all.0)
+    (views-traced v dir path views asked sound awaited zip.1 all.1)
+    ∙ black-more v dir s path
+
+pub views-least : (v : Version) (dir : Dir) (path : List Step) (views asked : List View) → IsSoundVersion v
+    → AreSound v dir path views → AllZip IsAsked views asked → traced v dir path ≤ traced_of asked
+views-least v dir [] [] [] sound zip all = omega arith
+views-least v dir [] [] (x ∷ asked) sound zip all = absurd all
+views-least v dir [] (w ∷ views) asked sound zip all = absurd zip
+views-least v dir (s ∷ path) [] asked sound zip all = absurd zip
+views-least v dir (s ∷ path) (w ∷ views) [] sound zip all = absurd all
+views-least v dir (s ∷ path) (w ∷ views) (x ∷ asked) sound zip all =
+    omega (
+      arith,
+      step-least v dir s w x sound zip.0 all.0,
+      views-least v dir path views asked sound zip.1 all.1,
+      black-more v dir s path,
+    )
+
+pub views-most : (v : Version) (dir : Dir) (path : List Step) (views asked : List View) → IsSoundVersion v
+    → AreSound v dir path views → AllZip IsAsked views asked → traced_of asked ≤ sizes_along v path
+views-most v dir [] [] [] sound zip all = omega arith
+views-most v dir [] [] (x ∷ asked) sound zip all = absurd all
+views-most v dir [] (w ∷ views) asked sound zip all = absurd zip
+views-most v dir (s ∷ path) [] asked sound zip all = absurd zip
+views-most v dir (s ∷ path) (w ∷ views) [] sound zip all = absurd all
+views-most v dir (s ∷ path) (w ∷ views) (x ∷ asked) sound zip all =
+    omega (
+      arith,
+      step-most v dir s w x sound zip.0 all.0,
+      views-most v dir path views asked sound zip.1 all.1,
+      sum_by-cons (λ (t : Step). size_of (extent_at (starts.outputs_of v) t.node)) s path,
+    )
+
+-- so what is traced in all is within what is said of it
+pub views-within : (v : Version) (dir : Dir) (path : List Step) (views asked : List View) → IsSoundVersion v
+    → AreSound v dir path views → AllZip IsAsked views asked → traced_of asked ≤ most_traced v dir path
+views-within v dir path views asked sound zip all =
+    at v.awaited (λ awaited. views-traced v dir path views asked sound awaited zip all)
+    (views-most v dir path views asked sound zip all) where
+      at : (b : Bool) → (b ≡ true → traced_of asked ≡ traced v dir path) → traced_of asked ≤ sizes_along v path
+          → traced_of asked ≤ (if b then traced v dir path else sizes_along v path)
+      at true exact most = omega (arith, exact refl)
+      at false exact most = most
 
 -- ---- what is asked of a path and its views
 
@@ -318,6 +427,7 @@ first-there flow (t ∷ path) s some is there =
     ∙ (and_parts (is_there (source_of flow t)) (are_there flow path) there).0
 
 -- one more view
-pub traced-more : (views : List View) (w : View) → traced_of (views ++ w ∷ []) ≡ traced_of views + traced_by w
+pub traced-more : (views : List View) (w : View)
+    → most_traced_of (views ++ w ∷ []) ≡ most_traced_of views + most_traced_by w
 traced-more [] w = omega arith
 traced-more (x ∷ views) w = omega (arith, traced-more views w)

@@ -3,7 +3,7 @@
 -- The key idea: a way by a list is in the list, so what the list's strategies are, it is; and where it keeps a store,
 -- one is kept for the list.
 use Rattle.std.proofs.Common.{◌≡◌, ◌<◌, List, [], ◌∷◌, map, length, Bool, true, false, refl, sym, ap, ◌∙◌, subst}
-use Rattle.std.proofs.Common.{Option, Some, None, true≢false}
+use Rattle.std.proofs.Common.{true≢false}
 use Rattle.std.proofs.Common.{◌≤◌, eqb-true, inl, inr, arith}
 use Rattle.std.specs.Prelude.{◌==◌, ◌||◌, if◌then◌else◌}
 use Rattle.std.specs.List.{All, list_all, list_any}
@@ -20,11 +20,13 @@ use Rattle.sz_spec.proofs.Ways.{number-apart, listed-is_in, way-listed}
 use Rattle.sz_flow.specs.Executions.{Execution}
 use Rattle.sz_region.specs.Images.{measure_of}
 use Rattle.sz_region.specs.Laws.{IsTheRelation}
-use Rattle.sz_store.specs.Kept.{Holding, Keep, NodeLineage, stored_in, holding_for, holding_stands}
-use Rattle.sz_query.specs.Views.{View, by_store, view_site, HasStore, IsUsable, traced_by, used_of}
+use Rattle.sz_store.specs.Kept.{Holding, Keep, stored_in, holding_for, holding_stands}
+use Rattle.sz_query.specs.Views.{View, view_site, IsUsable, traced_by, most_traced_by, used_of}
+use Rattle.sz_query.specs.Turns.{IsAsked}
 use Rattle.sz_query.specs.Laws.{IsFaithful}
 use Rattle.sz_catalogue.specs.Changes.{is_black_box}
-use Rattle.sz_session.specs.Stores.{AreStoresFor, IsKeptOf}
+use Rattle.sz_shelf.specs.Tags.{Tag}
+use Rattle.sz_session.specs.Stores.{Keeping, nothing, growing, whole, IsKeptOf}
 use Rattle.sz_session.specs.Views.{view_kept, view_by, strategy_told}
 
 -- the strategy at the front of a list is the one that is looked for, or that is further on
@@ -96,13 +98,11 @@ holding-is P t (f ∷ keeps) all listed =
           (sym (ap (λ (b : Bool). b || is_listed (map (λ g. g.strategy) keeps) t) other) ∙ listed))
     ]
 
--- of a list that has a stored strategy stores are kept
-store-kept : (e : Execution) (list : List Strategy) (kept : Option NodeLineage) (t : Strategy)
-    → is_listed list t ≡ true → is_stored t ≡ true → IsKeptOf e list kept
-    → (k : NodeLineage) × (kept ≡ Some k) × AreStoresFor e list k
-store-kept e list None t listed stored own =
-    absurd (true≢false (sym stored ∙ listed-fails is_stored list t own listed))
-store-kept e list (Some k) t listed stored own = (k, refl, own.1)
+-- of a list that has a stored strategy something is kept, once its version is awaited
+nothing-kept : (P : Type 0) (e : Execution) (list : List Strategy) (t : Strategy) → is_listed list t ≡ true
+    → is_stored t ≡ true → IsKeptOf true e list nothing → P
+nothing-kept P e list t listed stored own =
+    absurd (true≢false (sym stored ∙ listed-fails is_stored list t (own refl) listed))
 
 -- ---- the view for each way
 
@@ -121,7 +121,7 @@ by-ways P map black stored strategy.CompMany = stored strategy.CompMany refl
 by-ways P map black stored strategy.BlackBox = black
 
 -- what is so of the views by a store is so of the view for a stored strategy, which is not black box
-by-store : (e : Execution) (kept : Option NodeLineage) (t : Strategy) → is_stored t ≡ true
+by-store : (e : Execution) (kept : Keeping) (t : Strategy) → is_stored t ≡ true
     → (view_by t e kept ≡ view_kept t e kept) × (is_black_box t ≡ false)
 by-store e kept strategy.Map stored = cc
 by-store e kept strategy.FullOneB stored = (refl, refl)
@@ -134,81 +134,129 @@ by-store e kept strategy.CompOne stored = (refl, refl)
 by-store e kept strategy.CompMany stored = (refl, refl)
 by-store e kept strategy.BlackBox stored = cc
 
--- the view for a stored strategy of the list
-store-view : (e : Execution) (list : List Strategy) (kept : Option NodeLineage) (t : Strategy)
-    → is_listed list t ≡ true → is_stored t ≡ true → IsKeptOf e list kept
-    → (k : NodeLineage) × (view_by t e kept ≡ by_store e.site k t) × AreStoresFor e list k
-store-view e list kept t listed stored own =
-    let k = store-kept e list kept t listed stored own in
-    (k.0, (by-store e kept t stored).0 ∙ ap (view_kept t e) k.1, k.2)
-
 -- its operator is that of the execution
-pub view_by-site : (s : Strategy) (e : Execution) (kept : Option NodeLineage) → view_site (view_by s e kept) ≡ e.site
+pub view_by-site : (s : Strategy) (e : Execution) (kept : Keeping) → view_site (view_by s e kept) ≡ e.site
 view_by-site s e kept =
     by-ways (λ t. view_site (view_by t e kept) ≡ e.site) refl refl
     (λ t stored. ap view_site (by-store e kept t stored).0 ∙ at t kept) s where
-      at : (t : Strategy) (k : Option NodeLineage) → view_site (view_kept t e k) ≡ e.site
-      at t None = refl
-      at t (Some k) = refl
+      at : (t : Strategy) (k : Keeping) → view_site (view_kept t e k) ≡ e.site
+      at t nothing = refl
+      at t (growing z p) = refl
+      at t (whole k) = refl
 
--- it can be used where the way is a supported one of the list, for which stores are kept
-pub view_by-usable : (list : List Strategy) (s : Strategy) (e : Execution) (kept : Option NodeLineage)
+-- it can be used where the way is a supported one of the list, for which this is kept
+pub view_by-usable : (b : Bool) (list : List Strategy) (s : Strategy) (e : Execution) (kept : Keeping)
     → is_listed list s ≡ true → supports e.site.op s ≡ true → extents_of e.inputs ≡ e.site.ins
-    → IsKeptOf e list kept → IsUsable (view_by s e kept)
-view_by-usable list s e kept listed supported ins own =
+    → IsKeptOf b e list kept → IsUsable (view_by s e kept)
+view_by-usable b list s e kept listed supported ins own =
     by-ways (λ t. is_listed list t ≡ true → supports e.site.op t ≡ true → IsUsable (view_by t e kept))
     (λ there mapped. mapped) (λ there any. ins)
-    (λ t stored there any.
-    let k = store-view e list kept t there stored own in
-    let store : HasStore e.site k.0 t = record {
-      site = k.2.site;
-      whole = k.2.whole;
-      stored = stored;
-      listed = ap (λ (ts : List Strategy). is_listed ts t) k.2.listed ∙ there;
-    } in
-    subst IsUsable (sym k.1) store) s listed supported
+    (λ t stored there any. subst IsUsable (sym (by-store e kept t stored).0) (at t stored there kept own)) s listed
+    supported where
+      at : (t : Strategy) → is_stored t ≡ true → is_listed list t ≡ true → (k : Keeping) → IsKeptOf b e list k
+          → IsUsable (view_kept t e k)
+      at t stored there nothing own = ins
+      at t stored there (growing z p) own = record {
+        own = own.2.own;
+        site = ap (λ (x : Tag). x.site) own.2.tag;
+        inputs = ap (λ (x : Tag). x.inputs) own.2.tag;
+        fits = ins;
+        listed = ap (λ (x : Tag). is_listed x.list t) own.2.tag ∙ there;
+        stored = stored;
+      }
+      at t stored there (whole k) own = record {
+        site = own.1.site;
+        whole = own.1.whole;
+        stored = stored;
+        listed = ap (λ (ts : List Strategy). is_listed ts t) own.1.list ∙ there;
+      }
 
 -- and then it stands for the relation of its operator
-pub view_by-faithful : (list : List Strategy) (s : Strategy) (e : Execution) (kept : Option NodeLineage)
-    (gs : List Grid) → is_listed list s ≡ true → supports e.site.op s ≡ true → e.inputs ≡ gs → IsKeptOf e list kept
+pub view_by-faithful : (b : Bool) (list : List Strategy) (s : Strategy) (e : Execution) (kept : Keeping)
+    (gs : List Grid) → is_listed list s ≡ true → supports e.site.op s ≡ true → e.inputs ≡ gs → IsKeptOf b e list kept
     → IsFaithful (view_by s e kept) gs
-view_by-faithful list s e kept gs listed supported same own =
+view_by-faithful b list s e kept gs listed supported same own =
     by-ways (λ t. is_listed list t ≡ true → supports e.site.op t ≡ true → IsFaithful (view_by t e kept) gs)
     (λ there mapped. mapped) (λ there any. same)
-    (λ t stored there any.
-    let k = store-view e list kept t there stored own in
-    let R : List Grid → Holding → Type 0 = λ xs h. IsTheRelation (measure_of e.site xs) (holding_stands e.site h) in
-    let found = ap (λ (ts : List Strategy). is_listed ts t) k.2.stored ∙ listed-stored t list stored there in
-    subst (λ v. IsFaithful v gs) (sym k.1)
-    (subst (λ (xs : List Grid). R xs (holding_for t k.0.stores)) same
-    (holding-is (R e.inputs) t k.0.stores k.2.each found))) s listed supported
+    (λ t stored there any. subst (λ v. IsFaithful v gs) (sym (by-store e kept t stored).0) (at t stored there kept own))
+    s listed supported where
+      R : List Grid → Holding → Type 0
+      R xs h = IsTheRelation (measure_of e.site xs) (holding_stands e.site h)
+
+      at : (t : Strategy) → is_stored t ≡ true → is_listed list t ≡ true → (k : Keeping) → IsKeptOf b e list k
+          → IsFaithful (view_kept t e k) gs
+      at t stored there nothing own = same
+      at t stored there (growing z p) own = same
+      at t stored there (whole k) own =
+          let found = ap (λ (ts : List Strategy). is_listed ts t) own.1.stored ∙ listed-stored t list stored there in
+          subst (λ (xs : List Grid). R xs (holding_for t k.stores)) same
+          (holding-is (R e.inputs) t k.stores own.1.exact found)
 
 -- it is told as traced by no more than its output
-pub view_by-few : (s : Strategy) (e : Execution) (kept : Option NodeLineage)
-    → traced_by (view_by s e kept) ≤ size_of e.site.out
+pub view_by-few : (s : Strategy) (e : Execution) (kept : Keeping)
+    → most_traced_by (view_by s e kept) ≤ size_of e.site.out
 view_by-few s e kept =
-    by-ways (λ t. traced_by (view_by t e kept) ≤ size_of e.site.out) (omega arith) (omega arith)
-    (λ t stored. omega (arith, ap traced_by (by-store e kept t stored).0, at t kept)) s where
-      at : (t : Strategy) (k : Option NodeLineage) → traced_by (view_kept t e k) ≤ size_of e.site.out
-      at t None = omega arith
-      at t (Some k) = omega arith
+    by-ways (λ t. most_traced_by (view_by t e kept) ≤ size_of e.site.out) (omega arith) (omega arith)
+    (λ t stored. omega (arith, ap most_traced_by (by-store e kept t stored).0, at t kept)) s where
+      at : (t : Strategy) (k : Keeping) → most_traced_by (view_kept t e k) ≤ size_of e.site.out
+      at t nothing = omega arith
+      at t (growing z p) = omega arith
+      at t (whole k) = omega arith
 
--- and by all of that exactly where the way is black box
-pub view_by-traced : (list : List Strategy) (s : Strategy) (e : Execution) (kept : Option NodeLineage)
-    → is_listed list s ≡ true → IsKeptOf e list kept
+-- ---- the view once it was asked
+
+-- of a version that is awaited it is as before
+pub view_by-stays : (list : List Strategy) (s : Strategy) (e : Execution) (kept : Keeping) (w : View)
+    → is_listed list s ≡ true → IsKeptOf true e list kept → IsAsked (view_by s e kept) w → w ≡ view_by s e kept
+view_by-stays list s e kept w listed own asked =
+    by-ways (λ t. is_listed list t ≡ true → IsAsked (view_by t e kept) w → w ≡ view_by t e kept)
+    (λ there h. h) (λ there h. h)
+    (λ t stored there h.
+    subst (λ v. IsAsked v w → w ≡ v) (sym (by-store e kept t stored).0) (at t stored there kept own) h) s listed
+    asked where
+      at : (t : Strategy) → is_stored t ≡ true → is_listed list t ≡ true → (k : Keeping) → IsKeptOf true e list k
+          → IsAsked (view_kept t e k) w → w ≡ view_kept t e k
+      at t stored there nothing own h = nothing-kept (w ≡ view_kept t e nothing) e list t there stored own
+      at t stored there (growing z p) own h = absurd (true≢false own.0)
+      at t stored there (whole k) own h = h
+
+-- and is told as traced by all of its output exactly where the way is black box
+pub view_by-traced : (list : List Strategy) (s : Strategy) (e : Execution) (kept : Keeping)
+    → is_listed list s ≡ true → IsKeptOf true e list kept
     → traced_by (view_by s e kept) ≡ (if is_black_box s then size_of e.site.out else 0)
 view_by-traced list s e kept listed own =
     by-ways (λ t. is_listed list t ≡ true
     → traced_by (view_by t e kept) ≡ (if is_black_box t then size_of e.site.out else 0)) (λ there. refl) (λ there. refl)
     (λ t stored there.
-    ap traced_by (store-view e list kept t there stored own).1
-    ∙ sym (ap (λ (b : Bool). if b then size_of e.site.out else 0) (by-store e kept t stored).1)) s listed
+    ap traced_by (by-store e kept t stored).0 ∙ at t stored there kept own
+    ∙ sym (ap (λ (b : Bool). if b then size_of e.site.out else 0) (by-store e kept t stored).1)) s listed where
+      at : (t : Strategy) → is_stored t ≡ true → is_listed list t ≡ true → (k : Keeping) → IsKeptOf true e list k
+          → traced_by (view_kept t e k) ≡ 0
+      at t stored there nothing own = nothing-kept (traced_by (view_kept t e nothing) ≡ 0) e list t there stored own
+      at t stored there (growing z p) own = absurd (true≢false own.0)
+      at t stored there (whole k) own = refl
 
 -- what is told of a step by it is the way
-pub view_by-told : (list : List Strategy) (s : Strategy) (e : Execution) (kept : Option NodeLineage)
-    → is_listed list s ≡ true → IsKeptOf e list kept → strategy_told (used_of (view_by s e kept)) ≡ s
+pub view_by-told : (list : List Strategy) (s : Strategy) (e : Execution) (kept : Keeping)
+    → is_listed list s ≡ true → IsKeptOf true e list kept → strategy_told (used_of (view_by s e kept)) ≡ s
 view_by-told list s e kept listed own =
     by-ways (λ t. is_listed list t ≡ true → strategy_told (used_of (view_by t e kept)) ≡ t) (λ there. refl)
     (λ there. refl)
-    (λ t stored there. ap (λ (v : View). strategy_told (used_of v)) (store-view e list kept t there stored own).1) s
-    listed
+    (λ t stored there.
+    ap (λ (v : View). strategy_told (used_of v)) (by-store e kept t stored).0 ∙ at t stored there kept own) s
+    listed where
+      at : (t : Strategy) → is_stored t ≡ true → is_listed list t ≡ true → (k : Keeping) → IsKeptOf true e list k
+          → strategy_told (used_of (view_kept t e k)) ≡ t
+      at t stored there nothing own =
+          nothing-kept (strategy_told (used_of (view_kept t e nothing)) ≡ t) e list t there stored own
+      at t stored there (growing z p) own = absurd (true≢false own.0)
+      at t stored there (whole k) own = refl
+
+-- whether or not the version is awaited, where the way is black box it is told as traced by all of its output
+pub view_by-least : (s : Strategy) (e : Execution) (kept : Keeping) (w : View) → IsAsked (view_by s e kept) w
+    → (if is_black_box s then size_of e.site.out else 0) ≤ traced_by w
+view_by-least s e kept w asked =
+    by-ways (λ t. IsAsked (view_by t e kept) w → (if is_black_box t then size_of e.site.out else 0) ≤ traced_by w)
+    (λ h. omega arith) (λ h. omega (arith, ap traced_by h))
+    (λ t stored h.
+    omega (arith, ap (λ (b : Bool). if b then size_of e.site.out else 0) (by-store e kept t stored).1)) s asked

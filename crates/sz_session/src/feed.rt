@@ -19,6 +19,7 @@ use crate::blank::is_blank;
 use crate::session::{Session, Stop};
 use std::alloc::{AllocError, Global};
 use std::marker::Model;
+use std::sync::Wait;
 use std::thread::Threads;
 use sz_catalogue::{Reply, reply_text};
 use sz_cells::NoMemory;
@@ -115,9 +116,14 @@ impl Feed {
         })
     }
 
+    /// The session whose lines it takes in.
+    pub(crate) fn session(&self) -> &Session {
+        &self.session
+    }
+
     /// Takes in a chunk of what the source gave, and says the replies of the lines that end in it.
     /// Beside what its lines take, it takes time in the length of the chunk.
-    pub fn take_chunk<T: Station, G: Gate, R: Threads + Sync>(
+    pub fn take_chunk<T: Station, G: Gate, R: Threads + Wait + Sync>(
         &mut self,
         rt: &R,
         chunk: &[u8],
@@ -148,7 +154,7 @@ impl Feed {
     }
 
     /// Ends the input: the line that has not ended is answered where it has bytes.
-    pub fn end_input<T: Station, G: Gate, R: Threads + Sync>(
+    pub fn end_input<T: Station, G: Gate, R: Threads + Wait + Sync>(
         &mut self,
         rt: &R,
         station: &mut T,
@@ -188,7 +194,7 @@ impl Feed {
     }
 
     /// Ends the line that has not ended: says its reply where it has one, and begins the next line.
-    fn end_line<T: Station, G: Gate, R: Threads + Sync>(
+    fn end_line<T: Station, G: Gate, R: Threads + Wait + Sync>(
         &mut self,
         rt: &R,
         station: &mut T,

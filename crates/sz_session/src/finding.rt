@@ -3,62 +3,71 @@
 ghost use Rattle.std.specs.Prelude.{◌≡◌, ◌+◌, ◌*◌, ◌^◌, ◌<◌, ◌≤◌, true, length, map, IfOk};
 ghost use Rattle.std.specs.Prelude.{OnOk, OnErr};
 ghost use Rattle.std.specs.List.{AllZip, list_all};
+ghost use Rattle.std.specs.Arc.{arc_value};
 ghost use Rattle.sz_cells.specs.Extent.{holds};
 ghost use Rattle.sz_cells.specs.Cells.{named_in};
 ghost use Rattle.sz_spec.specs.Paths.{is_joined, source_of, is_there};
 ghost use Rattle.sz_flow.specs.Executions.{execution_of};
-ghost use Rattle.sz_query.specs.Views.{view_of, by_map, by_trace, by_store, traced_by};
-ghost use Rattle.sz_query.specs.Answers.{traced_of};
+ghost use Rattle.sz_shelf.specs.Passes.{place_of};
+ghost use Rattle.sz_query.specs.Views.{view_of, by_map, by_trace, by_growth, most_traced_by};
+ghost use Rattle.sz_query.specs.Answers.{most_traced_of};
 ghost use Rattle.sz_catalogue.specs.Starts.{step_start, path_start, cell_named};
 ghost use Rattle.sz_catalogue.specs.Rules.{has_named_cell};
 ghost use Rattle.sz_catalogue.specs.Changes.{cells_answered, way_of, traced};
 ghost use Rattle.sz_session.specs.Runs.{IsSoundVersion};
-ghost use Rattle.sz_session.specs.Stores.{IsTrailOf, lineage_of};
+ghost use Rattle.sz_session.specs.Stores.{IsTrailOf, IsOwn, keeping_of};
 ghost use Rattle.sz_session.specs.Views.{view_by, view_kept, IsViewOf, strategy_told, are_there};
+ghost use Rattle.sz_session.specs.Views.{split_off};
+ghost use Rattle.sz_session.specs.Commands.{most_traced};
 
-use crate::runs::VersionRun;
+use crate::runs::{NodeStores, VersionRun};
 use std::alloc::Global;
-use std::sync::Arc;
+use std::sync::{Arc, Wait};
 use sz_catalogue::HeldVersion;
 use sz_cells::{Cell, CellSet, NoMemory, Shape, laws};
 use sz_flow::NodeRun;
 use sz_query::{Found, NodeRunRef, NodeView, answer};
 use sz_script::{NamedCell, NamedCells, Path, PathStep};
+use sz_shelf::{Pass, Shelf};
 use sz_spec::{Array, ArrayList, Dir, Strategy, Tally, way};
-use sz_store::NodeStore;
 
 /// What is found along a path from some named cells, each step by the view of its node for the way
-/// of the step. The tally rises by the output sizes of the steps that are told as traced. Takes
-/// time by these and by the cells that the other steps touch.
-pub(crate) fn find(
+/// of the step. The tally rises by the output sizes of the steps that are told as traced: where the
+/// version is awaited of those whose way is black box, else of these at least. Takes time by these
+/// and by the cells that the other steps touch. The run is lent, so that passes may be split off.
+pub(crate) fn find<R: Wait>(
     alloc: Global,
+    rt: &R,
     version: &HeldVersion<VersionRun>,
-    run: &VersionRun,
+    run: &mut VersionRun,
     dir: Dir,
     path: &Path,
     named: &NamedCells,
     tally: &mut Tally,
 ) -> Result<Found, NoMemory>
     requires sound { IsSoundVersion version.now }
-    requires run { IsTrailOf version.now run.now }
+    requires run { IsTrailOf version.now run.old }
     requires joined { is_joined dir version.now.flow path.now ≡ true }
     requires named { list_all (has_named_cell (path_start dir version.now path.now)) named.now
         ≡ true }
     requires room { tally.old + 32 * 1048576 < 2 ^ 63 }
     ensures cells { IfOk result
         (λ f. f.cells ≡ cells_answered version.now dir path.now named.now) }
-    ensures ways { IfOk result
+    ensures ways { version.now.awaited ≡ true → IfOk result
         (λ f. map strategy_told f.used ≡ map (way_of version.now dir) path.now) }
-    ensures traced { IfOk result (λ f. f.traced ≡ traced version.now dir path.now) }
-    ensures ticks { OnOk result (tally.new ≡ tally.old + traced version.now dir path.now) }
+    ensures traced { version.now.awaited ≡ true → IfOk result
+        (λ f. f.traced ≡ traced version.now dir path.now) }
+    ensures least { OnOk result (tally.old + traced version.now dir path.now ≤ tally.new) }
+    ensures most { OnOk result (tally.new ≤ tally.old + most_traced version.now dir path.now) }
     ensures kept { OnErr result (tally.new ≡ tally.old) }
+    ensures same { run.new ≡ run.old }
 {
     let steps = path.as_slice();
     let start = start_of(version, run, dir, steps[0]);
     let cells = cells_at(alloc, start, named.as_slice())?;
     let mut views = views_of(alloc, version, run, dir, steps)?;
     let inputs = inputs_of(alloc, steps)?;
-    answer(alloc, &mut views, &inputs, dir, &cells, tally)
+    answer(alloc, rt, &mut views, &inputs, dir, &cells, tally)
 }
 
 /// The shape in which a step starts: backward, of its node's output; forward, of its input.
@@ -115,17 +124,18 @@ fn inputs_of(alloc: Global, path: &[PathStep]) -> Result<Vec<u32>, NoMemory>
 fn views_of(
     alloc: Global,
     version: &HeldVersion<VersionRun>,
-    run: &VersionRun,
+    run: &mut VersionRun,
     dir: Dir,
     path: &[PathStep],
 ) -> Result<Vec<NodeView>, NoMemory>
     requires sound { IsSoundVersion version.now }
-    requires run { IsTrailOf version.now run.now }
+    requires run { IsTrailOf version.now run.old }
     requires there { are_there version.now.flow path.now ≡ true }
     ensures views { IfOk result
         (λ v. AllZip (IsViewOf version.now dir) path.now (map view_of v.items)) }
     ensures few { IfOk result
-        (λ v. traced_of (map view_of v.items) ≤ length path.now * 1048576) }
+        (λ v. most_traced_of (map view_of v.items) ≤ length path.now * 1048576) }
+    ensures same { run.new ≡ run.old }
 {
     let mut views = Vec::with_capacity(alloc, path.len())?;
     for step in path {
@@ -138,22 +148,23 @@ fn views_of(
 fn view_at(
     alloc: Global,
     version: &HeldVersion<VersionRun>,
-    run: &VersionRun,
+    run: &mut VersionRun,
     dir: Dir,
     step: PathStep,
 ) -> Result<NodeView, NoMemory>
     requires sound { IsSoundVersion version.now }
-    requires run { IsTrailOf version.now run.now }
+    requires run { IsTrailOf version.now run.old }
     requires there { is_there (source_of version.now.flow step) ≡ true }
     ensures view { IfOk result (λ w. IsViewOf version.now dir step (view_of w)) }
-    ensures few { IfOk result (λ w. traced_by (view_of w) ≤ 1048576) }
+    ensures few { IfOk result (λ w. most_traced_by (view_of w) ≤ 1048576) }
+    ensures same { run.new ≡ run.old }
 {
-    let node = &run.runs()[step.node as usize];
-    laws::a_shape_is_within_limits(&node.at.out());
     let lists = version.lists.as_slice();
-    let list = &lists[step.node as usize];
-    let store = &run.stores()[step.node as usize];
-    view_by(alloc, way(list.as_slice(), dir), node, store)
+    let way = way(lists[step.node as usize].as_slice(), dir);
+    let node = &run.runs[step.node as usize];
+    laws::a_shape_is_within_limits(&node.at.out());
+    let stores = &mut run.stores[step.node as usize];
+    view_by(alloc, way, node, stores)
 }
 
 /// The view of a node's run for a way: what a strategy keeps is looked at by a view of its kind.
@@ -161,10 +172,12 @@ fn view_by(
     alloc: Global,
     way: Strategy,
     run: &NodeRun,
-    store: &Option<Arc<NodeStore>>,
+    stores: &mut NodeStores,
 ) -> Result<NodeView, NoMemory>
-    ensures { IfOk result
-        (λ w. view_of w ≡ view_by way (execution_of run.now) (lineage_of store.now)) }
+    requires { IsOwn (keeping_of stores.old) }
+    ensures view { IfOk result
+        (λ w. view_of w ≡ view_by way (execution_of run.now) (keeping_of stores.old)) }
+    ensures same { keeping_of stores.new ≡ keeping_of stores.old }
 {
     match way {
         Strategy::Map => map_view(run),
@@ -175,29 +188,54 @@ fn view_by(
         | Strategy::PayOne
         | Strategy::PayMany
         | Strategy::CompOne
-        | Strategy::CompMany => kept_view(alloc, way, run, store),
+        | Strategy::CompMany => kept_view(alloc, way, run, stores),
         Strategy::BlackBox => trace_view(alloc, run),
     }
 }
 
-/// The view by the store of a strategy, where one is kept.
+/// The view by what a strategy keeps: by its store, by its shelf while that grows, and where nothing
+/// is kept by a trace.
 fn kept_view(
     alloc: Global,
     way: Strategy,
     run: &NodeRun,
-    store: &Option<Arc<NodeStore>>,
+    stores: &mut NodeStores,
 ) -> Result<NodeView, NoMemory>
-    ensures { IfOk result
-        (λ w. view_of w ≡ view_kept way (execution_of run.now) (lineage_of store.now)) }
+    requires { IsOwn (keeping_of stores.old) }
+    ensures view { IfOk result
+        (λ w. view_of w ≡ view_kept way (execution_of run.now) (keeping_of stores.old)) }
+    ensures same { keeping_of stores.new ≡ keeping_of stores.old }
 {
-    match store {
-        Some(store) => Ok(NodeView::Kept {
+    match stores {
+        NodeStores::Nothing => trace_view(alloc, run),
+        NodeStores::Growing { shelf, pass } => growing_view(alloc, way, run, shelf, pass),
+        NodeStores::Whole { store } => Ok(NodeView::Kept {
             at: Arc::try_clone(&run.at)?,
             store: Arc::try_clone(store)?,
             s: way,
         }),
-        None => trace_view(alloc, run),
     }
+}
+
+/// The view by a shelf on which a strategy's store grows, with a pass that is split off.
+fn growing_view(
+    alloc: Global,
+    way: Strategy,
+    run: &NodeRun,
+    shelf: &Arc<Shelf>,
+    pass: &mut Pass,
+) -> Result<NodeView, NoMemory>
+    requires { place_of pass.old ≡ arc_value shelf.now }
+    ensures view { IfOk result (λ w. view_of w ≡ by_growth (execution_of run.now).site
+        (execution_of run.now).inputs (arc_value shelf.now) (split_off pass.old) way) }
+    ensures same { pass.new ≡ pass.old }
+{
+    Ok(NodeView::Building {
+        run: run_ref(alloc, run)?,
+        shelf: Arc::try_clone(shelf)?,
+        pass: shelf.split(pass)?,
+        s: way,
+    })
 }
 
 /// The view by the mapping of cells.
@@ -213,11 +251,19 @@ fn trace_view(alloc: Global, run: &NodeRun) -> Result<NodeView, NoMemory>
     ensures { IfOk result (λ w. view_of w
         ≡ by_trace (execution_of run.now).site (execution_of run.now).inputs) }
 {
+    Ok(NodeView::Traced {
+        run: run_ref(alloc, run)?,
+    })
+}
+
+/// The operator of a run, with the arrays that it took.
+fn run_ref(alloc: Global, run: &NodeRun) -> Result<NodeRunRef, NoMemory>
+    ensures at { IfOk result (λ r. arc_value r.at ≡ (execution_of run.now).site) }
+    ensures inputs { IfOk result (λ r. r.inputs ≡ (execution_of run.now).inputs) }
+{
     let at = Arc::try_clone(&run.at)?;
     let inputs = share(alloc, &run.inputs)?;
-    Ok(NodeView::Traced {
-        run: NodeRunRef { at, inputs },
-    })
+    Ok(NodeRunRef { at, inputs })
 }
 
 /// The same arrays, shared once more.

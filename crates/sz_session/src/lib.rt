@@ -56,7 +56,9 @@ mod load;
 mod runs;
 mod serving;
 mod session;
+mod staff;
 mod starting;
+mod tasks;
 
 pub use serving::{Status, serve};
 pub use session::{Session, Stop};

@@ -6,6 +6,7 @@ ghost use Rattle.std.specs.Prelude.{◌≡◌, [], None, Some, ⊤, IfOk};
 ghost use Rattle.sz_outside.specs.Counts.{count_after};
 ghost use Rattle.sz_catalogue.specs.Holdings.{no_holdings};
 ghost use Rattle.sz_session.specs.Transcript.{transcript};
+ghost use Rattle.sz_session.specs.Moments.{moment_before};
 ghost use Rattle.sz_session.specs.Serving.{lines_in, load_line};
 ghost use Rattle.sz_session.specs.Statuses.{EndsLoad, AreCounted};
 ghost use Rattle.sz_session.specs.Disks.{OnlySays};
@@ -13,20 +14,20 @@ ghost use Rattle.sz_words.specs.Job.{IsInRange};
 
 use crate::feed::{Feed, Halt};
 use crate::serving::Status;
+use crate::staff::Staff;
 use std::alloc::Global;
+use std::sync::{Arc, Wait};
 use std::thread::Threads;
 use sz_gen::{NoMemory, session_text, summary_text};
 use sz_outside::{Failed, Gate, Station};
 use sz_words::Job;
 
 /// Says the line that sums up the session of the job's seed and side.
-pub(crate) fn load<T: Station, G: Gate, R: Threads + Sync>(
-    rt: &R,
-    alloc: Global,
-    job: Job,
-    station: &mut T,
-    gate: &G,
-) -> Status
+pub(crate) fn load<
+    T: Station,
+    G: Gate + 'static,
+    R: Threads + Wait + Clone + Send + Sync + 'static,
+>(rt: &R, alloc: Global, job: Job, station: &mut T, gate: &Arc<G>) -> Status
     requires { IsInRange job }
     ensures ends { EndsLoad result (load_line job) (T.said station.old) (T.said station.new) }
     ensures fault { AreCounted result 0 0 (T.say_faults station.old) (T.say_faults station.new) }
@@ -43,11 +44,11 @@ pub(crate) fn load<T: Station, G: Gate, R: Threads + Sync>(
 
 /// The line that sums up the session. The text is held until its replies are found, and they until
 /// the line is made. It halts only where there is no memory.
-fn summary<G: Gate, R: Threads + Sync>(
+fn summary<G: Gate + 'static, R: Threads + Wait + Clone + Send + Sync + 'static>(
     rt: &R,
     alloc: Global,
     job: Job,
-    gate: &G,
+    gate: &Arc<G>,
 ) -> Result<Vec<u8>, Halt>
     requires { IsInRange job }
     ensures { IfOk result (λ line. line.items ≡ load_line job) }
@@ -70,18 +71,36 @@ impl From<NoMemory> for Halt {
     }
 }
 
-/// All that a session from nothing says of a text.
-fn replies_to<G: Gate, R: Threads + Sync>(
+/// All that a session from nothing says of a text, with workers beside it.
+fn replies_to<G: Gate + 'static, R: Threads + Wait + Clone + Send + Sync + 'static>(
     rt: &R,
     alloc: Global,
     job: Job,
     text: &[u8],
-    gate: &G,
+    gate: &Arc<G>,
 ) -> Result<Vec<u8>, Halt>
     requires { IsInRange job }
     ensures { IfOk result (λ replies. replies.items ≡ transcript no_holdings text.now) }
 {
-    let mut feed = Feed::new(alloc, job.workers, job.askers)?;
+    let feed = Feed::new(alloc, job.workers, job.askers)?;
+    let staff = Staff::of(alloc, rt, feed.session(), gate, job.workers);
+    let replies = told_by(rt, alloc, feed, text, &**gate);
+    staff.join(rt);
+    replies
+}
+
+/// All that a feed says of a text. It lets the feed go, so that workers end.
+fn told_by<G: Gate, R: Threads + Wait + Sync>(
+    rt: &R,
+    alloc: Global,
+    feed: Feed,
+    text: &[u8],
+    gate: &G,
+) -> Result<Vec<u8>, Halt>
+    requires { feed ≡ moment_before no_holdings }
+    ensures { IfOk result (λ replies. replies.items ≡ transcript no_holdings text.now) }
+{
+    let mut feed = feed;
     let mut replies = Replies::new(alloc);
     feed.take_chunk(rt, text, &mut replies, gate)?;
     feed.end_input(rt, &mut replies, gate)?;

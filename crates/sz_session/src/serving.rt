@@ -21,6 +21,7 @@ ghost use Rattle.sz_words.specs.Job.{job_of, IsInRange};
 
 use crate::feed::{Feed, Halt};
 use crate::load::load;
+use crate::staff::Staff;
 use std::alloc::Global;
 use std::sync::{Arc, Wait};
 use std::thread::Threads;
@@ -90,7 +91,8 @@ const LIMIT: u64 = 1 << 62;
 /// The disk of the station is as before, whatever the status (`disk`). A stop of the machine at any
 /// moment of the call finds a first part of what the mode says (`found_in_play`, `found_in_load`).
 ///
-/// Nothing waits yet: the leave to do so is for workers that are to come.
+/// As many threads as the words say work on what a start hands out, beside the lines; they are
+/// joined before the call returns. Nothing that is said depends on them.
 pub fn serve<
     S: Source,
     T: Station,
@@ -155,7 +157,7 @@ pub fn serve<
         → (result ≡ Status.Done) ⊎ (result ≡ Status.NoMemory) }
 {
     match read_words(alloc, words) {
-        Ok(job) => run_job(rt, alloc, job, source, station, &**gate),
+        Ok(job) => run_job(rt, alloc, job, source, station, gate),
         Err(fault) => status_of_words(fault),
     }
 }
@@ -171,14 +173,12 @@ fn status_of_words(fault: WordsFault) -> Status
 }
 
 /// Does what a job asks for.
-fn run_job<S: Source, T: Station, G: Gate, R: Threads + Sync>(
-    rt: &R,
-    alloc: Global,
-    job: Job,
-    source: &mut S,
-    station: &mut T,
-    gate: &G,
-) -> Status
+fn run_job<
+    S: Source,
+    T: Station,
+    G: Gate + 'static,
+    R: Threads + Wait + Clone + Send + Sync + 'static,
+>(rt: &R, alloc: Global, job: Job, source: &mut S, station: &mut T, gate: &Arc<G>) -> Status
     requires ranges { IsInRange job }
     ensures play { is_play job.mode ≡ true
         → Ends result (2 ^ 62) (S.left source.old) (S.left source.new)
@@ -207,14 +207,19 @@ fn run_job<S: Source, T: Station, G: Gate, R: Threads + Sync>(
     }
 }
 
-/// Reads the source to its end, or to a limit, and answers its lines.
-fn play<S: Source, T: Station, G: Gate, R: Threads + Sync>(
+/// Reads the source to its end, or to a limit, and answers its lines, with workers beside it.
+fn play<
+    S: Source,
+    T: Station,
+    G: Gate + 'static,
+    R: Threads + Wait + Clone + Send + Sync + 'static,
+>(
     rt: &R,
     alloc: Global,
     job: Job,
     source: &mut S,
     station: &mut T,
-    gate: &G,
+    gate: &Arc<G>,
     limit: u64,
 ) -> Status
     requires limit { limit ≤ LIMIT }
@@ -229,15 +234,45 @@ fn play<S: Source, T: Station, G: Gate, R: Threads + Sync>(
     let Ok(mut buffer) = vec![in alloc; 0u8; CHUNK] else {
         return Status::NoMemory;
     };
-    let Ok(mut feed) = Feed::new(alloc, job.workers, job.askers) else {
+    let Ok(feed) = Feed::new(alloc, job.workers, job.askers) else {
         return Status::NoMemory;
     };
-    read_all(rt, source, station, gate, &mut buffer, &mut feed, limit)
+    let staff = Staff::of(alloc, rt, feed.session(), gate, job.workers);
+    let status = answer_all(rt, source, station, &**gate, &mut buffer, feed, limit);
+    staff.join(rt);
+    status
+}
+
+/// Takes turn after turn with a feed, and lets it go, so that workers end.
+fn answer_all<S: Source, T: Station, G: Gate, R: Threads + Wait + Sync>(
+    rt: &R,
+    source: &mut S,
+    station: &mut T,
+    gate: &G,
+    buffer: &mut [u8],
+    feed: Feed,
+    limit: u64,
+) -> Status
+    ghost opening: { Opening }
+    requires room { length buffer.old ≡ CHUNK }
+    requires limit { limit ≤ LIMIT }
+    requires number { feed.number ≡ 1 }
+    requires answered { Answered opening.left (S.left source.old)
+        opening.said (T.said station.old) feed 0 }
+    ensures ends { Ends result limit opening.left (S.left source.new)
+        opening.said (T.said station.new) }
+    ensures fault { AreCounted result (S.faults source.old) (S.faults source.new)
+        (T.say_faults station.old) (T.say_faults station.new) }
+    ensures disk { StaysFinding T.Station (FoundInPart opening.left opening.said)
+        station.old station.new }
+{
+    let mut feed = feed;
+    read_all(rt, source, station, gate, buffer, &mut feed, limit)
 }
 
 /// Takes turn after turn, until no byte is left. Each takes at least one byte, and at the limit the
 /// next one tells whether there are more.
-fn read_all<S: Source, T: Station, G: Gate, R: Threads + Sync>(
+fn read_all<S: Source, T: Station, G: Gate, R: Threads + Wait + Sync>(
     rt: &R,
     source: &mut S,
     station: &mut T,
@@ -271,7 +306,7 @@ fn read_all<S: Source, T: Station, G: Gate, R: Threads + Sync>(
 
 /// One turn: reads at most a chunk, and says the replies of the lines that end in it. Gives how
 /// many bytes were read, or the status that the session ends with.
-fn take_turn<S: Source, T: Station, G: Gate, R: Threads + Sync>(
+fn take_turn<S: Source, T: Station, G: Gate, R: Threads + Wait + Sync>(
     rt: &R,
     source: &mut S,
     station: &mut T,

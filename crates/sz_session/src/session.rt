@@ -11,34 +11,41 @@ ghost use Rattle.sz_catalogue.specs.Holdings.{no_holdings};
 ghost use Rattle.sz_catalogue.specs.Rules.{judged, version_of, has_no_version, is_not_joined};
 ghost use Rattle.sz_catalogue.specs.Rules.{is_out_of_range};
 ghost use Rattle.sz_catalogue.specs.Changes.{accepted, after_command, cells_answered, way_of};
-ghost use Rattle.sz_catalogue.specs.Changes.{traced, changes_without_start};
+ghost use Rattle.sz_catalogue.specs.Changes.{traced, changes_no_version};
 ghost use Rattle.sz_catalogue.specs.Seen.{response_of};
 ghost use Rattle.sz_session.specs.Commands.{Responds, traced_for_line, traced_for, traced_along};
+ghost use Rattle.sz_session.specs.Commands.{most_for_line, most_for, most_along, most_traced};
+ghost use Rattle.sz_session.specs.Stores.{IsTrailOf};
 ghost use Rattle.sz_session.specs.Views.{strategy_told};
 
 use crate::blank::is_blank;
+use crate::building::ended;
 use crate::finding::find;
 use crate::runs::VersionRun;
 use crate::starting::run_version;
+use crate::tasks::Hands;
 use std::alloc::Global;
 use std::marker::Model;
-use std::sync::Arc;
+use std::sync::{Arc, Wait};
 use std::thread::Threads;
 use sz_catalogue::{Catalogue, Reply};
 use sz_cells::NoMemory;
 use sz_outside::{Gate, Station};
+use sz_pool::{Receiver, Task, one_more, tasks};
 use sz_query::{Found, Used};
 use sz_script::{
     BaseList, Command, LineFault, Name, NamedCells, Path, StrategyList, laws, read_line,
 };
 use sz_spec::{Dir, Strategy, Tally};
 
-/// A session: what is held, each version with the runs of its nodes and their stores.
+/// A session: what is held, each version with the runs of its nodes and what is kept of them, and
+/// the channel through which tasks go to workers.
 #[derive(Drop)]
 pub struct Session {
     catalogue: Catalogue<VersionRun>,
     alloc: Global,
-    _workers: u32,
+    hands: Hands,
+    tasks: Receiver<Task>,
     _askers: u32,
 }
 
@@ -72,19 +79,27 @@ impl From<NoMemory> for Stop {
 }
 
 impl Session {
-    /// A session that holds nothing, with so many workers and askers. They are to come: nothing
-    /// calls on them yet.
+    /// A session that holds nothing, with so many workers and askers. The askers are to come:
+    /// nothing calls on them yet.
     pub fn fresh(alloc: Global, workers: u32, askers: u32) -> Result<Session, NoMemory>
         requires workers { (1 ≤ workers) × (workers ≤ 64) }
         requires askers { (1 ≤ askers) × (askers ≤ 64) }
         ensures { IfOk result (λ s. s ≡ no_holdings) }
     {
+        let (to, tasks) = tasks(alloc)?;
         Ok(Session {
             catalogue: Catalogue::new(alloc),
             alloc,
-            _workers: workers,
+            hands: Hands { to, workers },
+            tasks,
             _askers: askers,
         })
+    }
+
+    /// One receiving end more of the channel to which a start sends its tasks. It closes once the
+    /// session is let go.
+    pub fn tasks(&self) -> Result<Receiver<Task>, NoMemory> {
+        one_more(&self.tasks)
     }
 
     /// Does what a line orders, and gives its reply; a blank line has none. The gate is called once
@@ -92,10 +107,10 @@ impl Session {
     /// output sizes of the steps that are told as traced, which says nothing of how a step was
     /// worked out.
     ///
-    /// A start costs the values of its nodes, each computed once, and for each node with a stored
-    /// strategy each piece of its lineage, made once. Any other line costs what it
-    /// reads, looks up and answers.
-    pub fn command<T: Station, G: Gate, R: Threads + Sync>(
+    /// A start costs the values of its nodes, each computed once, and a shelf with tasks for each
+    /// node with a stored strategy. An await costs the pieces of lineage that workers left undone.
+    /// Any other line costs what it reads, looks up and answers.
+    pub fn command<T: Station, G: Gate, R: Threads + Wait + Sync>(
         &mut self,
         rt: &R,
         line: &[u8],
@@ -106,7 +121,9 @@ impl Session {
     ) -> Result<Option<Reply>, Stop>
         requires { tally.old + 32 * 1048576 < 2 ^ 63 }
         ensures reply { IfOk result (λ r. Responds self.old line.now self.new r) }
-        ensures tally { OnOk result (tally.new ≡ tally.old + traced_for_line self.old line.now) }
+        ensures least { OnOk result
+            (tally.old + traced_for_line self.old line.now ≤ tally.new) }
+        ensures most { OnOk result (tally.new ≤ tally.old + most_for_line self.old line.now) }
         ensures stop { OnErr result (result ≡ Err Stop.NoMemory) }
         ensures kept { OnErr result (self.new ≡ self.old) }
         ensures station { _station.new ≡ _station.old }
@@ -123,7 +140,7 @@ impl Session {
     }
 
     /// Judges a command, and takes it where no rule refuses it.
-    fn judge<G: Gate, R: Threads + Sync>(
+    fn judge<G: Gate, R: Threads + Wait + Sync>(
         &mut self,
         rt: &R,
         command: Command,
@@ -135,7 +152,8 @@ impl Session {
         requires room { tally.old + 32 * 1048576 < 2 ^ 63 }
         ensures reply { IfOk result
             (λ r. after_command self.old command ≡ (self.new, response_of r)) }
-        ensures tally { OnOk result (tally.new ≡ tally.old + traced_for self.old command) }
+        ensures least { OnOk result (tally.old + traced_for self.old command ≤ tally.new) }
+        ensures most { OnOk result (tally.new ≤ tally.old + most_for self.old command) }
         ensures kept { OnErr result (self.new ≡ self.old) }
     {
         match self.catalogue.judge(self.alloc, &command) {
@@ -146,7 +164,7 @@ impl Session {
     }
 
     /// Takes a command that no rule refuses.
-    fn take<G: Gate, R: Threads + Sync>(
+    fn take<G: Gate, R: Threads + Wait + Sync>(
         &mut self,
         rt: &R,
         command: Command,
@@ -158,7 +176,8 @@ impl Session {
         requires judged { judged self.old command ≡ None }
         requires room { tally.old + 32 * 1048576 < 2 ^ 63 }
         ensures reply { IfOk result (λ r. accepted self.old command ≡ (self.new, response_of r)) }
-        ensures tally { OnOk result (tally.new ≡ tally.old + traced_along self.old command) }
+        ensures least { OnOk result (tally.old + traced_along self.old command ≤ tally.new) }
+        ensures most { OnOk result (tally.new ≤ tally.old + most_along self.old command) }
         ensures kept { OnErr result (self.new ≡ self.old) }
     {
         match command {
@@ -170,14 +189,14 @@ impl Session {
                 self.accept(Command::Strategy { name, node, list })
             }
             Command::Start { name, base } => self.start(rt, name, base),
-            Command::Await { version } => self.accept(Command::Await { version }),
+            Command::Await { version } => self.await_version(rt, version),
             Command::Ask {
                 version,
                 dir,
                 path,
                 cells,
             } => {
-                let found = self.find(version, dir, &path, &cells, tally)?;
+                let found = self.find(rt, version, dir, &path, &cells, tally)?;
                 gate.after_ask(number);
                 Ok(Reply::Cells { cells: found.cells })
             }
@@ -186,16 +205,16 @@ impl Session {
                 dir,
                 path,
                 cells,
-            } => self.explain(version, dir, &path, &cells, number, gate, tally),
+            } => self.explain(rt, version, dir, &path, &cells, number, gate, tally),
             Command::Show { version, node } => self.show(version, node),
         }
     }
 
-    /// Takes a command that changes what is held and starts no version.
+    /// Takes a command that changes what is held and no version.
     fn accept(&mut self, command: Command) -> Result<Reply, NoMemory>
         requires right { is_right command ≡ true }
         requires judged { judged self.old command ≡ None }
-        requires kind { changes_without_start command ≡ true }
+        requires kind { changes_no_version command ≡ true }
         ensures reply { IfOk result (λ r. accepted self.old command ≡ (self.new, response_of r)) }
         ensures kept { OnErr result (self.new ≡ self.old) }
     {
@@ -203,9 +222,9 @@ impl Session {
         Ok(reply)
     }
 
-    /// Starts a version: computes the values of its nodes, and holds it with its runs and its
-    /// stores.
-    fn start<R: Threads + Sync>(
+    /// Starts a version: computes the values of its nodes, hands out tasks for their stores, and
+    /// holds it with its runs and its shelves.
+    fn start<R: Threads + Wait + Sync>(
         &mut self,
         rt: &R,
         name: Name,
@@ -221,6 +240,7 @@ impl Session {
             rt,
             self.alloc,
             &self.catalogue,
+            &self.hands,
             name.as_str(),
             base.as_slice(),
         )?;
@@ -228,38 +248,118 @@ impl Session {
         Ok(reply)
     }
 
+    /// Awaits a version: makes what is missing of its stores, takes them off their shelves, and notes
+    /// the await.
+    fn await_version<R: Wait>(&mut self, rt: &R, version: u32) -> Result<Reply, NoMemory>
+        requires judged { judged self.old (order.Await version) ≡ None }
+        ensures reply { IfOk result
+            (λ r. accepted self.old (order.Await version) ≡ (self.new, response_of r)) }
+        ensures kept { OnErr result (self.new ≡ self.old) }
+    {
+        let run = self.take_out(version)?;
+        let Some(held) = self.catalogue.version(version) else {
+            unreachable!()
+        };
+        let run = ended(self.alloc, rt, run, held.lists.as_slice())?;
+        Ok(self.catalogue.await_version(version, run))
+    }
+
+    /// What a version carries, to be worked on. One that stands in for it is held meanwhile.
+    fn take_out(&mut self, version: u32) -> Result<VersionRun, NoMemory>
+        requires { has_no_version self.old version ≡ false }
+        ensures own { IfOk result (λ run. IsTrailOf (version_of self.old version) run) }
+        ensures same { self.new ≡ self.old }
+    {
+        let Some(held) = self.catalogue.version(version) else {
+            unreachable!()
+        };
+        let other = held.kept().stand_in(self.alloc)?;
+        Ok(self.catalogue.exchange(version, other))
+    }
+
+    /// Puts back what a version carries.
+    fn put_back(&mut self, version: u32, run: VersionRun)
+        requires held { has_no_version self.old version ≡ false }
+        requires own { IsTrailOf (version_of self.old version) run }
+        ensures { self.new ≡ self.old }
+    {
+        self.catalogue.exchange(version, run);
+    }
+
     /// What is found along a path of a version, for an ask or explain that no rule refuses.
-    fn find(
-        &self,
+    fn find<R: Wait>(
+        &mut self,
+        rt: &R,
         version: u32,
         dir: Dir,
         path: &Path,
         named: &NamedCells,
         tally: &mut Tally,
     ) -> Result<Found, NoMemory>
+        requires version { has_no_version self.old version ≡ false }
+        requires joined { is_not_joined self.old version dir path.now ≡ false }
+        requires range { is_out_of_range self.old version dir path.now named.now ≡ false }
+        requires room { tally.old + 32 * 1048576 < 2 ^ 63 }
+        ensures cells { IfOk result
+            (λ f. f.cells ≡ cells_answered (version_of self.old version) dir path.now named.now) }
+        ensures ways { (version_of self.old version).awaited ≡ true
+            → IfOk result (λ f. map strategy_told f.used
+            ≡ map (way_of (version_of self.old version) dir) path.now) }
+        ensures traced { (version_of self.old version).awaited ≡ true
+            → IfOk result (λ f. f.traced ≡ traced (version_of self.old version) dir path.now) }
+        ensures least { OnOk result
+            (tally.old + traced (version_of self.old version) dir path.now ≤ tally.new) }
+        ensures most { OnOk result
+            (tally.new ≤ tally.old + most_traced (version_of self.old version) dir path.now) }
+        ensures kept { OnErr result (tally.new ≡ tally.old) }
+        ensures same { self.new ≡ self.old }
+    {
+        let mut run = self.take_out(version)?;
+        let found = self.find_by(rt, version, &mut run, dir, path, named, tally);
+        self.put_back(version, run);
+        found
+    }
+
+    /// What is found along a path of a version, by what it carries.
+    fn find_by<R: Wait>(
+        &self,
+        rt: &R,
+        version: u32,
+        run: &mut VersionRun,
+        dir: Dir,
+        path: &Path,
+        named: &NamedCells,
+        tally: &mut Tally,
+    ) -> Result<Found, NoMemory>
         requires version { has_no_version self.now version ≡ false }
+        requires own { IsTrailOf (version_of self.now version) run.old }
         requires joined { is_not_joined self.now version dir path.now ≡ false }
         requires range { is_out_of_range self.now version dir path.now named.now ≡ false }
         requires room { tally.old + 32 * 1048576 < 2 ^ 63 }
         ensures cells { IfOk result
             (λ f. f.cells ≡ cells_answered (version_of self.now version) dir path.now named.now) }
-        ensures ways { IfOk result (λ f. map strategy_told f.used
+        ensures ways { (version_of self.now version).awaited ≡ true
+            → IfOk result (λ f. map strategy_told f.used
             ≡ map (way_of (version_of self.now version) dir) path.now) }
-        ensures traced { IfOk result
-            (λ f. f.traced ≡ traced (version_of self.now version) dir path.now) }
-        ensures ticks { OnOk result
-            (tally.new ≡ tally.old + traced (version_of self.now version) dir path.now) }
+        ensures traced { (version_of self.now version).awaited ≡ true
+            → IfOk result (λ f. f.traced ≡ traced (version_of self.now version) dir path.now) }
+        ensures least { OnOk result
+            (tally.old + traced (version_of self.now version) dir path.now ≤ tally.new) }
+        ensures most { OnOk result
+            (tally.new ≤ tally.old + most_traced (version_of self.now version) dir path.now) }
         ensures kept { OnErr result (tally.new ≡ tally.old) }
+        ensures same { run.new ≡ run.old }
     {
         let Some(held) = self.catalogue.version(version) else {
             unreachable!()
         };
-        find(self.alloc, held, &held.kept, dir, path, named, tally)
+        find(self.alloc, rt, held, run, dir, path, named, tally)
     }
 
     /// By which way each step of a path is answered, and how many cells are traced.
-    fn explain<G: Gate>(
-        &self,
+    fn explain<G: Gate, R: Wait>(
+        &mut self,
+        rt: &R,
         version: u32,
         dir: Dir,
         path: &Path,
@@ -268,14 +368,17 @@ impl Session {
         gate: &G,
         tally: &mut Tally,
     ) -> Result<Reply, NoMemory>
-        requires judged { judged self.now (order.Explain version dir path.now named.now) ≡ None }
+        requires judged { judged self.old (order.Explain version dir path.now named.now) ≡ None }
         requires room { tally.old + 32 * 1048576 < 2 ^ 63 }
-        ensures reply { IfOk result (λ r. accepted self.now
-            (order.Explain version dir path.now named.now) ≡ (self.now, response_of r)) }
-        ensures tally { OnOk result
-            (tally.new ≡ tally.old + traced (version_of self.now version) dir path.now) }
+        ensures reply { IfOk result (λ r. accepted self.old
+            (order.Explain version dir path.now named.now) ≡ (self.new, response_of r)) }
+        ensures least { OnOk result
+            (tally.old + traced (version_of self.old version) dir path.now ≤ tally.new) }
+        ensures most { OnOk result
+            (tally.new ≤ tally.old + most_traced (version_of self.old version) dir path.now) }
+        ensures same { self.new ≡ self.old }
     {
-        let found = self.find(version, dir, path, named, tally)?;
+        let found = self.find(rt, version, dir, path, named, tally)?;
         let used = strategies_told(self.alloc, found.used.as_slice())?;
         gate.after_ask(line);
         Ok(Reply::Explain {

@@ -10,10 +10,11 @@ ghost use Rattle.sz_catalogue.specs.Rules.{judged, has_no_array};
 ghost use Rattle.sz_catalogue.specs.Kept.{IsWorkflow};
 ghost use Rattle.sz_session.specs.Stores.{IsTrailOf};
 
-use crate::building::stores_of;
+use crate::building::begun;
 use crate::runs::VersionRun;
+use crate::tasks::Hands;
 use std::alloc::Global;
-use std::sync::Arc;
+use std::sync::{Arc, Wait};
 use std::thread::Threads;
 use sz_catalogue::Catalogue;
 use sz_cells::NoMemory;
@@ -22,11 +23,12 @@ use sz_script::BaseName;
 use sz_spec::Array;
 
 /// What the version that a start makes carries: the runs of its nodes, each value computed once,
-/// and their stores.
-pub(crate) fn run_version<R: Threads + Sync>(
+/// and a shelf for each node with a stored strategy, of which tasks are handed out.
+pub(crate) fn run_version<R: Threads + Wait + Sync>(
     rt: &R,
     alloc: Global,
     catalogue: &Catalogue<VersionRun>,
+    hands: &Hands,
     name: &str,
     base: &[BaseName],
 ) -> Result<VersionRun, NoMemory>
@@ -43,8 +45,11 @@ pub(crate) fn run_version<R: Threads + Sync>(
     };
     let arrays = arrays_named(alloc, catalogue, base)?;
     let runs = run_all(rt, alloc, flow, &arrays)?;
-    let stores = stores_of(alloc, &runs, lists.as_slice())?;
-    Ok(VersionRun::of(runs, stores))
+    let stores = begun(alloc, &runs, lists.as_slice())?;
+    let mut run = VersionRun::of(alloc, runs, stores)?;
+    let number = catalogue.next_number() as u32;
+    hands.hand_out(alloc, rt, number, lists.as_slice(), &mut run);
+    Ok(run)
 }
 
 /// The base arrays of these names and versions, all of which are held.

@@ -8,6 +8,7 @@ use std::test::Fail;
 use std::thread::Threads;
 use sz_outside::{MemSource, MemStation, NoGate, Source, SteadySource};
 
+mod beside;
 mod gate;
 mod greatest;
 mod load;

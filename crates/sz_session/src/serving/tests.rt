@@ -3,6 +3,7 @@ ghost use Rattle.std.specs.Prelude.{◌≤◌};
 
 use super::{Status, play};
 use std::alloc::Global;
+use std::sync::{Arc, Wait};
 use std::test::Fail;
 use std::thread::Threads;
 use sz_outside::{MemStation, NoGate, SteadySource};
@@ -10,7 +11,7 @@ use sz_words::{Job, JobMode};
 
 /// Whether a session of at most ten bytes of this text ends so, and says so many replies to lines
 /// that are no JSON.
-fn ends<R: Threads + Sync>(
+fn ends<R: Threads + Wait + Clone + Send + Sync + 'static>(
     rt: &R,
     alloc: Global,
     text: &[u8],
@@ -26,7 +27,8 @@ fn ends<R: Threads + Sync>(
         seed: 1,
         side: 1,
     };
-    let ended = play(rt, alloc, job, &mut source, &mut station, &NoGate, 10);
+    let gate = Arc::new(alloc, NoGate)?;
+    let ended = play(rt, alloc, job, &mut source, &mut station, &gate, 10);
     let all = b"1 refused 1\n2 refused 1\n3 refused 1\n4 refused 1\n5 refused 1\n";
     Ok(ended == status && Some(station.said()) == all.get(..replies.saturating_mul(12)))
 }

@@ -5,7 +5,7 @@ use Rattle.std.proofs.lemmas.Slice.Zip.{all_zipped_more}
 use Rattle.sz_spec.specs.Paths.{Step}
 use Rattle.sz_query.specs.declared.views.NodeView.{NodeView}
 use Rattle.sz_query.specs.Views.{view_of}
-use Rattle.sz_query.specs.Answers.{traced_of}
+use Rattle.sz_query.specs.Answers.{most_traced_of}
 use Rattle.sz_session.specs.Views.{IsViewOf}
 use Rattle.sz_session.proofs.PathViews.{traced-more}
 use Rattle.sz_session.proofs.finding.views_of.Goals as goal
@@ -31,6 +31,7 @@ loop-step-preserved c =
         c.loop-step.invariant.few,
         c.in_ok-view_at.ensures.few,
         traced-more (map view_of c.loop-step.views.items) (view_of c.in_ok-view_at.field-0),
-        ap traced_of views,
+        ap most_traced_of views,
       );
+      same = c.view_at.ensures.same ∙ c.loop-step.invariant.same;
     }

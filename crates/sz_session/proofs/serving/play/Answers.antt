@@ -6,8 +6,8 @@ use Rattle.sz_session.proofs.Ends.{answered-start, none-in_lines}
 use Rattle.sz_session.proofs.Disks.{stays-still, start-stays}
 use Rattle.sz_session.proofs.serving.play.Goals as goal
 
-pub read_all-requires : goal.read_all-requires
-read_all-requires g c =
+pub answer_all-status-requires : goal.answer_all-status-requires
+answer_all-status-requires g c =
     let left = g.S.Source.left c.args.source.now in
     let said = g.T.Station.said c.args.station.now in
     let P : Moment → Type 0 = λ m. Answered left left said said m 0 in

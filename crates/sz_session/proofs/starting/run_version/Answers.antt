@@ -10,7 +10,7 @@ use Rattle.sz_catalogue.specs.Starts.{bases_of, workflow_of}
 use Rattle.sz_catalogue.proofs.Bases.{bases-length}
 use Rattle.sz_session.proofs.Steps.{base-shapes}
 use Rattle.sz_session.proofs.Keeps.{can-start, flow-sound, flow-graph, flow-lists}
-use Rattle.sz_session.proofs.Whole.{lists-listed}
+use Rattle.sz_session.proofs.Keeping.{lists-listed}
 use Rattle.sz_session.proofs.starting.run_version.Goals as goal
 
 pub run_all-requires-clause-well_formed : goal.run_all-requires-clause-well_formed
@@ -41,8 +41,8 @@ run_all-requires-clause-fits g c =
     λ κs lives. (can.fits.0, rw (graph, arrays, base-shapes (bases_of cat c.args.base.now)) can.fits.1)
 
 -- the executions, and the lists, are those of the version that is started
-pub stores_of-requires : goal.stores_of-requires
-stores_of-requires g c =
+pub begun-requires : goal.begun-requires
+begun-requires g c =
     let cat = c.args.catalogue.now in
     let can = can-start cat c.args.name.now c.args.base.now c.requires.judged in
     let w = workflow_of cat c.args.name.now in

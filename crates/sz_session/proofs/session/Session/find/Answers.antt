@@ -1,47 +1,47 @@
--- The version is held, and its runs belong to it.
-use Rattle.std.proofs.Common.{◌≡◌, false, sym, ap, ◌∙◌, subst}
-use Rattle.std.proofs.lemmas.Result.{IfOk-weaker}
-use Rattle.sz_spec.specs.Paths.{is_joined}
-use Rattle.sz_catalogue.specs.Holdings.{Holdings, Version}
-use Rattle.sz_catalogue.specs.Rules.{version_of, has_no_version}
-use Rattle.sz_catalogue.specs.Changes.{cells_answered}
-use Rattle.sz_session.specs.Runs.{IsSoundVersion}
-use Rattle.sz_session.specs.Stores.{IsTrailOf}
-use Rattle.sz_session.proofs.Keeps.{version-found, version-sound, some-same, not_false}
+-- What is held stays the same while the run is out.
+use Rattle.std.proofs.Common.{◌≡◌, ◌+◌, ◌≤◌, map, false, sym, ap, ◌∙◌, subst}
+use Rattle.std.proofs.lemmas.Result.{IfOk-weaker, on_ok_weaker}
+use Rattle.sz_catalogue.specs.Holdings.{Holdings}
+use Rattle.sz_catalogue.specs.Rules.{version_of, is_out_of_range}
+use Rattle.sz_catalogue.specs.Changes.{cells_answered, way_of, traced}
+use Rattle.sz_session.specs.Commands.{most_traced}
 use Rattle.sz_session.proofs.session.Session.find.Goals as goal
 
-pub find-requires-clause-sound : goal.find-requires-clause-sound
-find-requires-clause-sound c =
-    let cat = c.self.inside.catalogue in
-    let H : Holdings → Type 0 = λ h. has_no_version h c.args.version ≡ false in
-    let held = subst H (sym c.self.view_is) c.requires.version in
-    let found = rw c.in-Some.is at c.version.ensures in
-    let version = some-same _ _ (found ∙ version-found cat c.args.version held) in
-    subst IsSoundVersion (sym version) (version-sound cat c.args.version c.self.invariant.versions held)
-
-pub find-requires-clause-run : goal.find-requires-clause-run
-find-requires-clause-run c =
-    subst (λ (v : Version). IsTrailOf v c.held.inside.kept) c.held.view_is c.held.invariant
-
-pub find-requires-clause-joined : goal.find-requires-clause-joined
-find-requires-clause-joined c =
-    let cat = c.self.inside.catalogue in
-    let H : Holdings → Type 0 = λ h. has_no_version h c.args.version ≡ false in
-    let held = subst H (sym c.self.view_is) c.requires.version in
-    let found = rw c.in-Some.is at c.version.ensures in
-    let version = some-same _ _ (found ∙ version-found cat c.args.version held) in
-    ap (λ (v : Version). is_joined c.args.dir v.flow c.args.path.now) (version
-    ∙ ap (λ (h : Holdings). version_of h c.args.version) c.self.view_is)
-    ∙ not_false _ c.requires.joined
+pub find_by-found-requires-clause-range : goal.find_by-found-requires-clause-range
+find_by-found-requires-clause-range g c =
+    let R : Holdings → Type 0 =
+    λ h. is_out_of_range h c.args.version c.args.dir c.args.path.now c.args.named.now ≡ false in
+    subst R (sym c.take_out.ensures.same) c.requires.range
 
 pub returns-clause-cells : goal.returns-clause-cells
-returns-clause-cells c =
-    let cat = c.self.inside.catalogue in
-    let H : Holdings → Type 0 = λ h. has_no_version h c.args.version ≡ false in
-    let held = subst H (sym c.self.view_is) c.requires.version in
-    let found = rw c.in-Some.is at c.version.ensures in
-    let version = some-same _ _ (found ∙ version-found cat c.args.version held)
-    ∙ ap (λ (h : Holdings). version_of h c.args.version) c.self.view_is in
-    IfOk-weaker c.find.result _ _
-    (λ f p. p ∙ ap (λ (v : Version). cells_answered v c.args.dir c.args.path.now c.args.named.now) version)
-    c.find.ensures.cells
+returns-clause-cells g c =
+    IfOk-weaker c.find_by-found.result _ _
+    (λ f p. p ∙ ap (λ (h : Holdings).
+    cells_answered (version_of h c.args.version) c.args.dir c.args.path.now c.args.named.now) c.take_out.ensures.same)
+    c.find_by-found.ensures.cells
+
+pub returns-clause-ways : goal.returns-clause-ways
+returns-clause-ways g c =
+    let same = c.take_out.ensures.same in
+    λ awaited. IfOk-weaker c.find_by-found.result _ _
+    (λ f p. p ∙ ap (λ (h : Holdings). map (way_of (version_of h c.args.version) c.args.dir) c.args.path.now) same)
+    (c.find_by-found.ensures.ways (ap (λ (h : Holdings). (version_of h c.args.version).awaited) same ∙ awaited))
+
+pub returns-clause-traced : goal.returns-clause-traced
+returns-clause-traced g c =
+    let same = c.take_out.ensures.same in
+    λ awaited. IfOk-weaker c.find_by-found.result _ _
+    (λ f p. p ∙ ap (λ (h : Holdings). traced (version_of h c.args.version) c.args.dir c.args.path.now) same)
+    (c.find_by-found.ensures.traced (ap (λ (h : Holdings). (version_of h c.args.version).awaited) same ∙ awaited))
+
+pub returns-clause-least : goal.returns-clause-least
+returns-clause-least g c =
+    let P : Holdings → Type 0 =
+    λ h. c.args.tally.now + traced (version_of h c.args.version) c.args.dir c.args.path.now ≤ c.find_by-found.new.tally in
+    on_ok_weaker c.find_by-found.result (subst P c.take_out.ensures.same) c.find_by-found.ensures.least
+
+pub returns-clause-most : goal.returns-clause-most
+returns-clause-most g c =
+    let P : Holdings → Type 0 =
+    λ h. c.find_by-found.new.tally ≤ c.args.tally.now + most_traced (version_of h c.args.version) c.args.dir c.args.path.now in
+    on_ok_weaker c.find_by-found.result (subst P c.take_out.ensures.same) c.find_by-found.ensures.most

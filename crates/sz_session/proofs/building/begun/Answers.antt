@@ -1,21 +1,14 @@
--- One node more: its stores are those of its run, for the list at its place.
+-- One node more: what is kept of it is kept of its run, for the list at its place.
 use Rattle.std.proofs.Common.{◌≡◌, ◌<◌, ◌≤◌, ◌+◌, ℕ, suc, List, [], ◌∷◌, ◌++◌, map, take, length, refl, sym, ap, ◌∙◌, arith}
-use Rattle.std.proofs.Common.{Some, get_or}
-use Rattle.std.proofs.Math.Seq.{take-suc}
+use Rattle.std.proofs.Common.{Some, get_or, false}
 use Rattle.std.specs.List.{slice_get}
 use Rattle.std.specs.Option.{option_map}
 use Rattle.std.proofs.lemmas.List.{length-map, map-append, take_all}
 use Rattle.std.proofs.lemmas.Option.{slice_get-map, slice_get_read}
 use Rattle.sz_flow.specs.Executions.{execution_of}
-use Rattle.sz_session.specs.Stores.{lineage_of}
-use Rattle.sz_session.proofs.Whole.{listed-at, listed-length, kept-more}
-use Rattle.sz_session.proofs.building.stores_of.Goals as goal
-
-one-taken : {X : Type 0} (xs : List X) (j : ℕ) (x : X) → j < length xs → x ≡ get_or xs j x
-    → take (j + 1) xs ≡ take j xs ++ x ∷ []
-one-taken {X} xs j x below is =
-    let one : j + 1 ≡ suc j = omega arith in
-    ap (λ n. take n xs) one ∙ take-suc xs j x below ∙ ap (λ (y : X). take j xs ++ y ∷ []) (sym is)
+use Rattle.sz_session.specs.Stores.{keeping_of}
+use Rattle.sz_session.proofs.Keeping.{one-taken, listed-at, listed-length, kept-more}
+use Rattle.sz_session.proofs.building.begun.Goals as goal
 
 pub bounds-lists-node : goal.bounds-lists-node
 bounds-lists-node c =
@@ -27,8 +20,8 @@ bounds-lists-node c =
       length-map c.args.runs.now execution_of,
     )
 
-pub store_of-requires : goal.store_of-requires
-store_of-requires c =
+pub begin-requires : goal.begin-requires
+begin-requires c =
     let runs = c.args.runs.now in
     let lists = c.args.lists.now in
     let n = c.loop-node.node in
@@ -53,7 +46,7 @@ loop-node-preserved c =
     let n = c.loop-node.node in
     let run = c.index-runs-node.result in
     let list = c.index-lists-node.result in
-    let store = c.in_ok-store_of.field-0 in
+    let store = c.in_ok-begin.field-0 in
     let few : n < length runs = omega (arith, c.loop-node-test.true, c.loop-node.invariant.end) in
     let below : n < length lists = omega (
       arith,
@@ -61,18 +54,18 @@ loop-node-preserved c =
       listed-length (map execution_of runs) lists c.requires,
       length-map runs execution_of,
     ) in
-    let own = rw c.as_slice.ensures at c.in_ok-store_of.ensures in
+    let own = rw c.as_slice.ensures at c.in_ok-begin.ensures in
     let es = ap (λ xs. map execution_of xs) (one-taken runs n run few c.index-runs-node.is)
     ∙ map-append execution_of (take n runs) (run ∷ []) in
     let ls = one-taken lists n list below c.index-lists-node.is in
-    let ks = ap (λ xs. map lineage_of xs) c.in_ok-push.ensures.items
-    ∙ map-append lineage_of c.loop-node.stores.items (store ∷ []) in
+    let ks = ap (λ xs. map keeping_of xs) c.in_ok-push.ensures.items
+    ∙ map-append keeping_of c.loop-node.stores.items (store ∷ []) in
     record {
       end = refl;
       kept =
           rw (es, ls, ks)
-          (kept-more (map execution_of (take n runs)) (take n lists) (map lineage_of c.loop-node.stores.items)
-          (execution_of run) list (lineage_of store) c.loop-node.invariant.kept own);
+          (kept-more false (map execution_of (take n runs)) (take n lists) (map keeping_of c.loop-node.stores.items)
+          (execution_of run) list (keeping_of store) c.loop-node.invariant.kept own);
     }
 
 pub returns : goal.returns

@@ -3,7 +3,7 @@ use Rattle.std.proofs.Common.{Some}
 use Rattle.sz_catalogue.specs.Holdings.{no_holdings}
 use Rattle.sz_session.specs.Transcript.{transcript}
 use Rattle.sz_session.proofs.Loads.{whole-said, said-behind_nothing}
-use Rattle.sz_session.proofs.load.replies_to.Goals as goal
+use Rattle.sz_session.proofs.load.told_by.Goals as goal
 
 pub returns : goal.returns
 returns g c =
@@ -11,5 +11,5 @@ returns g c =
     let taken = c.take_chunk.new.station.bytes.items in
     let all = c.end_input.new.station.bytes.items in
     said-behind_nothing first all (transcript no_holdings c.args.text.now) c.new-replies.ensures
-    (whole-said c.args.text.now (Some first) (Some taken) (Some all) c.in_ok-feed.feed c.take_chunk.new.self
-    c.in_ok-feed.ensures c.in_ok-take_chunk.ensures.chunk c.in_ok-end_input.ensures.whole)
+    (whole-said c.args.text.now (Some first) (Some taken) (Some all) c.args.feed c.take_chunk.new.self
+    c.requires c.in_ok-take_chunk.ensures.chunk c.in_ok-end_input.ensures.whole)

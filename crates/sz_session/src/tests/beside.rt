@@ -1,0 +1,179 @@
+//! Workers beside asks: no clause can see them, so these tests do.
+
+use crate::{Session, Status, serve};
+use std::alloc::Global;
+use std::sync::atomic::{AtomicU64, Ordering};
+use std::sync::{Arc, Wait};
+use std::test::Fail;
+use std::thread::Threads;
+use sz_outside::{Gate, MemStation, NoGate, SteadySource};
+use sz_pool::employ;
+use sz_spec::Tally;
+
+/// For how many turns something is waited for.
+const LIMIT: u64 = 1_000_000_000;
+
+/// A gate that holds each piece until an ask was answered, and each answered ask until a piece was
+/// taken up. It counts how often the one or the other did not come.
+#[derive(Drop)]
+struct Holding {
+    pieces: AtomicU64,
+    asks: AtomicU64,
+    missed: AtomicU64,
+}
+
+impl Holding {
+    /// Waits until one was counted.
+    fn wait_for(&self, count: &AtomicU64) {
+        for _ in 0..LIMIT {
+            if count.load(Ordering::SeqCst) != 0 {
+                return;
+            }
+        }
+        self.missed.fetch_add(1, Ordering::SeqCst);
+    }
+}
+
+impl Gate for Holding {
+    fn at_piece(&self, _version: u32, _node: u32, _piece: u32) {
+        self.pieces.fetch_add(1, Ordering::SeqCst);
+        self.wait_for(&self.asks);
+    }
+
+    fn after_ask(&self, _line: u64) {
+        self.wait_for(&self.pieces);
+        self.asks.fetch_add(1, Ordering::SeqCst);
+    }
+}
+
+/// The store of one node is asked for while it is built, and once it stands.
+const TEXT: &[u8] = b"{\"array\":\"a\",\"cells\":[[5]]}
+{\"flow\":\"f\",\"inputs\":1,\"nodes\":[{\"op\":\"neg\",\"from\":[{\"i\":0}]}]}
+{\"strategy\":\"f\",\"node\":0,\"list\":[\"full_one_b\"]}
+{\"start\":\"f\",\"base\":[[\"a\",1]]}
+{\"ask\":1,\"dir\":\"back\",\"path\":[[0,0]],\"cells\":[[0,0]]}
+{\"await\":1}
+{\"explain\":1,\"dir\":\"back\",\"path\":[[0,0]],\"cells\":[[0,0]]}
+";
+
+/// The replies.
+const REPLIES: &[u8] = b"1 array a 1
+2 flow f
+3 strategy f 0
+4 started 1
+5 cells 1 0,0
+6 done 1
+7 explain full_one_b traced 0
+";
+
+/// A worker takes up the piece before the ask behind the start is answered, and that ask is answered
+/// while the piece is held.
+#[test]
+fn a_worker_is_at_its_piece_while_an_ask_is_answered(rt: HostRuntime) -> Result<(), Fail> {
+    let alloc = rt.alloc();
+    let words = vec![in alloc; String::from_str(alloc, "play")?]?;
+    let holding = Holding {
+        pieces: AtomicU64::new(0),
+        asks: AtomicU64::new(0),
+        missed: AtomicU64::new(0),
+    };
+    let gate = Arc::new(alloc, holding)?;
+    let mut source = SteadySource::new(TEXT.to_vec(alloc)?, 65_536);
+    let mut station = MemStation::new(alloc, Vec::new(alloc), Vec::new(alloc), Vec::new(alloc))?;
+    let status = serve(&rt, alloc, &words, &mut source, &mut station, &gate);
+    assert_eq!(rt; status, Status::Done);
+    assert_eq!(rt; station.said(), REPLIES);
+    assert_eq!(rt; gate.missed.load(Ordering::SeqCst), 0);
+    assert_eq!(rt; gate.pieces.load(Ordering::SeqCst), 1);
+    Ok(())
+}
+
+/// How many of the lines come before the ask.
+const BEFORE_ASK: usize = 4;
+
+/// For how many asks it is waited that one is answered by the store.
+const MOST_ASKS: u32 = 1_000_000;
+
+/// Gives the lines up to the ask to a session, and then the ask again and again, until it is
+/// answered by the store. Whether that came.
+fn is_answered_by_the_store<R: Threads + Wait + Sync>(
+    rt: &R,
+    alloc: Global,
+    session: &mut Session,
+) -> Result<bool, Fail> {
+    let mut station = MemStation::new(alloc, Vec::new(alloc), Vec::new(alloc), Vec::new(alloc))?;
+    let mut lines = TEXT.split(|byte| *byte == b'\n');
+    for _ in 0..BEFORE_ASK {
+        let line = lines.next().unwrap_or(&[]);
+        if !is_taken(rt, session, line, &mut station) {
+            return Ok(false);
+        }
+    }
+    let ask = lines.next().unwrap_or(&[]);
+    for _ in 0..MOST_ASKS {
+        let mut tally = Tally::new();
+        if session
+            .command(rt, ask, 5, &mut station, &NoGate, &mut tally)
+            .is_err()
+        {
+            return Ok(false);
+        }
+        if tally.count() == 0 {
+            return Ok(true);
+        }
+    }
+    Ok(false)
+}
+
+/// Whether a session does what a line orders.
+fn is_taken<R: Threads + Wait + Sync>(
+    rt: &R,
+    session: &mut Session,
+    line: &[u8],
+    station: &mut MemStation,
+) -> bool {
+    let mut tally = Tally::new();
+    session
+        .command(rt, line, 1, station, &NoGate, &mut tally)
+        .is_ok()
+}
+
+/// An ask of a version that is not awaited is answered by the store, once a worker has built it.
+#[test]
+fn an_ask_before_the_await_is_answered_by_the_store_at_last(rt: HostRuntime) -> Result<(), Fail> {
+    let alloc = rt.alloc();
+    let gate = Arc::new(alloc, NoGate)?;
+    let mut session = Session::fresh(alloc, 1, 1)?;
+    let tasks = session.tasks()?;
+    let worker = employ(alloc, &rt, &gate, &tasks)?;
+    assert!(rt; is_answered_by_the_store(&rt, alloc, &mut session)?);
+    drop(session);
+    drop(tasks);
+    worker.join(&rt);
+    Ok(())
+}
+
+/// With any number of workers the same is said.
+#[test]
+fn any_number_of_workers_says_the_same(rt: HostRuntime) -> Result<(), Fail> {
+    let alloc = rt.alloc();
+    for workers in ["1", "2", "4", "64"] {
+        let words = vec![in alloc;
+            String::from_str(alloc, "play")?,
+            String::from_str(alloc, "--workers")?,
+            String::from_str(alloc, workers)?,
+        ]?;
+        let gate = Arc::new(alloc, NoGate)?;
+        let mut source = SteadySource::new(TEXT.to_vec(alloc)?, 65_536);
+        let mut station = MemStation::new(
+            alloc,
+            Vec::new(alloc),
+            Vec::new(alloc),
+            Vec::new(alloc),
+        )?;
+        let status = serve(&rt, alloc, &words, &mut source, &mut station, &gate);
+        assert_eq!(rt; status, Status::Done);
+        assert_eq!(rt; station.said(), REPLIES);
+    }
+    Ok(())
+}
