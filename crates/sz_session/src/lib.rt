@@ -8,7 +8,9 @@
 //! `after_input_limit`), a first part of the transcript (`after_say_fault`), or the first so many
 //! of its lines (`after_no_memory`). `quiet` says that a session is done only where no fault was
 //! counted, and `completes` that there is no other ending without one. Nothing depends on how many
-//! bytes a read gives.
+//! bytes a read gives, nor on how many workers there are or what they do. The disk of the station is
+//! as before, whatever the status (`disk`), and a stop at any moment of the call finds a first part
+//! of what is said (`found_in_play`, `found_in_load`).
 //!
 //! In mode load the lines are those of a session that is made from a seed and a side (`sz_gen`), and
 //! what is said is the one line that sums up their replies (`load`); `load_after_say_fault` and
@@ -28,9 +30,10 @@
 //! The path of a line: `serving` reads chunks, `feed` cuts them into lines, and
 //! [`Session::command`] gives the reply of each: it has the line read and judged, and then taken by
 //! the catalogue (`accept`), started (`starting` computes the values of all nodes, `building` makes
-//! their stores, and the version that is held carries both), answered along its path (`finding`),
-//! or shown. `docs/FORMATS.md` describes lines and replies, `docs/DEFINITIONS.md` reads the
-//! definitions aloud.
+//! their shelves, `tasks` hands these out to workers, and the version that is held carries the runs
+//! and the shelves), awaited (`building` finishes the shelves and takes the stores off), answered
+//! along its path (`finding`), or shown. `staff` is the threads. `docs/FORMATS.md` describes lines
+//! and replies, `docs/DEFINITIONS.md` reads the definitions aloud.
 //!
 //! To whoever changes this crate: what bytes tell as they come, and the moment that they leave, are
 //! functions of `specs/Moments.antt`, and both go by parts. `feed` is at each turn *like* that
@@ -39,12 +42,16 @@
 //! and the one function that reads asks for it. All that these rest on of a line's meaning is that
 //! one which is too long is refused for that. How a way is looked at is the one table `view_by` of
 //! `finding` and of `specs/Views.antt`. What a version carries is its own (`IsTrailOf` of
-//! `specs/Stores.antt`): the executions of its nodes, and stores of each node whose list has a
-//! strategy that keeps one, whole, each of which stands for exactly the relation. So the way that
-//! is told is the one that was gone. When stores are built, `building` says alone. What is answered
-//! by views of a path's nodes is the composed relation, by `sz_query`'s law; that these views are
-//! those of the nodes is read off the executions, in `proofs/Steps` and `proofs/PathViews`, and
-//! that a store stands for the relation off what its pieces made, in `proofs/Whole`.
+//! `specs/Stores.antt`): the executions of its nodes, and of each node whose list has a strategy
+//! that keeps a store, while the version is not awaited, nothing, a shelf of it or its stores; once
+//! it is awaited, its stores, whole, of the list at the start, each of which stands for exactly the
+//! relation. A call that works on it takes it out of the catalogue and leaves one that stands in,
+//! which belongs to the version too (`take_out`, `put_back`). When stores are built, `building` says
+//! alone. What is answered by views of a path's nodes is the composed relation, by `sz_query`'s law;
+//! that these views are those of the nodes is read off the executions, in `proofs/Steps` and
+//! `proofs/PathViews`: whether a view of a shelf was told as traced is its look's answer, so before
+//! an await the tally is known from below and above, and once it is awaited exactly. That what is
+//! taken off a shelf stands for the relation is a clause of `sz_shelf`.
 #![tactic(auto)]
 
 mod blank;

@@ -14,7 +14,8 @@ use sz_spec::Tally;
 const LIMIT: u64 = 1_000_000_000;
 
 /// A gate that holds each piece until an ask was answered, and each answered ask until a piece was
-/// taken up. It counts how often the one or the other did not come.
+/// taken up. It counts how often the one or the other did not come, and pieces of others than node 0
+/// of version 1 and its piece 0.
 #[derive(Drop)]
 struct Holding {
     pieces: AtomicU64,
@@ -35,7 +36,10 @@ impl Holding {
 }
 
 impl Gate for Holding {
-    fn at_piece(&self, _version: u32, _node: u32, _piece: u32) {
+    fn at_piece(&self, version: u32, node: u32, piece: u32) {
+        if version != 1 || node != 0 || piece != 0 {
+            self.missed.fetch_add(1, Ordering::SeqCst);
+        }
         self.pieces.fetch_add(1, Ordering::SeqCst);
         self.wait_for(&self.asks);
     }
