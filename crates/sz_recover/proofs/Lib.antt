@@ -1,0 +1,3 @@
+-- The lemmas of the bodies, and rows that the definitions compute.
+pub mod Nodes
+pub mod Rows
