@@ -1,3 +1,4 @@
 -- The lemmas of the bodies, and rows that the definitions compute.
 pub mod Nodes
+pub mod Reading
 pub mod Rows

@@ -13,6 +13,7 @@
 //! that its version has, so what a body says is told over the operators at their shapes (`sites_of`).
 #![tactic(auto)]
 
+pub mod laws;
 mod writing;
 
 pub use writing::version_body;

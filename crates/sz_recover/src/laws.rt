@@ -1,0 +1,9 @@
+//! What may be taken for granted of the bodies. Each function is a law: its clause says it, and it
+//! does nothing.
+ghost use Rattle.sz_recover.specs.Laws.{OneBodyAtMost};
+
+/// Some bytes are the body of at most one version with its stores: what is written is read again,
+/// and in no other way.
+pub fn bodies_are_read_in_one_way()
+    ensures { OneBodyAtMost }
+{}
