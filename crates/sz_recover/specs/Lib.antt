@@ -1,4 +1,5 @@
--- What a group of a version says, which stores it has, and that it is read in one way.
+-- What a group of a version says, which stores it has, which bodies are lawful, and the laws.
 pub mod Bodies
 pub mod Fitting
+pub mod Lawful
 pub mod Laws
