@@ -2,21 +2,19 @@
 --
 -- The key idea: each node is told of whatever bytes follow it, so the nodes before a number and the next one stand in
 -- the same bytes, and join where the first end.
-use Rattle.std.proofs.Common.{◌≡◌, ℕ, zero, suc, ◌+◌, ◌<◌, ◌≤◌, List, [], ◌∷◌, ◌++◌, length, map, take, drop, refl, sym, ap, ap₂}
-use Rattle.std.proofs.Common.{subst, ◌∙◌, arith, append_assoc, length-append, Some, None, true, false, true≢false, Option, get_or}
-use Rattle.std.specs.List.{slice_get, filter}
-use Rattle.std.specs.Prelude.{All}
+use Rattle.std.proofs.Common.{◌≡◌, ℕ, zero, suc, ◌+◌, ◌<◌, List, [], ◌∷◌, ◌++◌, length, take, drop, refl, sym, ap, ap₂}
+use Rattle.std.proofs.Common.{subst, ◌∙◌, arith, append_assoc, length-append, Some, None, true, false}
+use Rattle.std.proofs.Common.{true≢false, Option, get_or}
+use Rattle.std.specs.List.{slice_get}
 use Rattle.std.proofs.Math.Seq.{drop-append_seam, take-suc}
-use Rattle.std.proofs.lemmas.List.{append-nil}
-use Rattle.sz_cells.specs.SetBytes.{four_bytes}
 use Rattle.sz_spec.specs.declared.modes.Strategy.{Strategy}
 use Rattle.sz_spec.specs.Shapes.{Site}
 use Rattle.sz_spec.specs.Modes.{is_stored}
-use Rattle.sz_region.specs.Counted.{counted, IsAt}
-use Rattle.sz_store.specs.Kept.{NodeLineage, Keep, stored_in}
+use Rattle.sz_region.specs.Counted.{IsAt}
+use Rattle.sz_store.specs.Kept.{NodeLineage, stored_in}
 use Rattle.sz_store.specs.Words.{BeginEach}
 use Rattle.sz_catalogue.specs.Rules.{names_a_store}
-use Rattle.sz_recover.specs.Bodies.{NodePart, VersionBody, name_bytes, base_bytes, head_bytes, list_bytes, BeginNodes, IsShort, IsBodyOf}
+use Rattle.sz_recover.specs.Bodies.{NodePart, VersionBody, head_bytes, list_bytes, BeginNodes, IsShort, IsBodyOf}
 use Rattle.sz_recover.specs.Fitting.{FitsNode, FitNodes, part_of, parts_of}
 
 -- ---- lists

@@ -2,8 +2,8 @@
 --
 -- The key idea: no word of a part begins another one of the same part. So two readings of the same bytes agree part by
 -- part, and each part ends at the same place in both.
-use Rattle.std.proofs.Common.{◌≡◌, ℕ, suc, ◌+◌, ◌<◌, ◌≤◌, ◌^◌, List, [], ◌∷◌, ◌++◌, length, map, drop, get_or, refl, sym, ap, ap₂}
-use Rattle.std.proofs.Common.{subst, ◌∙◌, arith, append_assoc, length-append, length-drop, Option, Some, None, true}
+use Rattle.std.proofs.Common.{◌≡◌, ℕ, ◌≤◌, List, [], ◌∷◌, ◌++◌, length, map, drop, get_or, refl, sym, ap, ap₂}
+use Rattle.std.proofs.Common.{subst, ◌∙◌, arith, append_assoc, length-drop}
 use Rattle.std.specs.Prelude.{All}
 use Rattle.std.proofs.lemmas.List.Elements.{All-head, All-tail}
 use Rattle.std.proofs.lemmas.List.{length-map}
@@ -13,14 +13,14 @@ use Rattle.sz_spec.specs.declared.modes.Strategy.{Strategy}
 use Rattle.sz_spec.specs.declared.modes.Strategy.TheVariants as strategy
 use Rattle.sz_spec.specs.Shapes.{Site}
 use Rattle.sz_spec.specs.Modes.{number_of}
-use Rattle.sz_region.specs.Counted.{counted, IsAt}
+use Rattle.sz_region.specs.Counted.{counted}
 use Rattle.sz_region.proofs.Spans.{IsPrefixFree, number-free, counted-free}
 use Rattle.sz_store.specs.Kept.{Keep, stored_in}
 use Rattle.sz_store.specs.Words.{BeginEach}
-use Rattle.sz_store.proofs.Reading.{stores-one, each-within}
+use Rattle.sz_store.proofs.Reading.{stores-one}
 use Rattle.sz_script.specs.declared.command.BaseName.{BaseName}
 use Rattle.sz_recover.specs.Bodies.{NodePart, VersionBody, name_bytes, base_bytes, head_bytes, list_bytes, BeginNodes}
-use Rattle.sz_recover.specs.Bodies.{IsShortName, IsShortBase, IsShort, IsBodyOf}
+use Rattle.sz_recover.specs.Bodies.{IsShortName, IsShortBase, IsShort}
 use Rattle.sz_recover.specs.Laws.{IsRightSite, OneBodyAtMost}
 
 -- ---- parts that do not begin one another
@@ -101,7 +101,8 @@ nodes-one (s ∷ sites) bytes at next other (x ∷ xs) (y ∷ ys) right first se
     place-same bytes second.0 first.0 second.3.within first.3.within (sym list.1) in
     let again : BeginEach s (stored_in x.list) bytes first.0 second.1 y.stores =
     subst (λ (n : ℕ). BeginEach s (stored_in x.list) bytes n second.1 y.stores) mid
-    (subst (λ (ts : List Strategy). BeginEach s (stored_in ts) bytes second.0 second.1 y.stores) (sym list.0) second.4) in
+    (subst (λ (ts : List Strategy). BeginEach s (stored_in ts) bytes second.0 second.1 y.stores) (sym list.0)
+    second.4) in
     let stores = stores-one s (stored_in x.list) bytes first.0 first.1 second.1 x.stores y.stores
     (All-head IsRightSite s sites right) first.4 again in
     let rest = nodes-one sites bytes first.1 next other xs ys (All-tail IsRightSite s sites right) first.5
@@ -133,7 +134,8 @@ head-same a b x y short small same =
     ∙ ap (λ (xs : List ℕ). m ++ xs) (append_assoc c k z)) in
     let number = number-free a.number b.number (from_name a x) (from_name b y) short.number small.number
     (sym (split a x) ∙ same ∙ split b y) in
-    let name = name-free a.flow_name b.flow_name (from_base a x) (from_base b y) short.flow_name small.flow_name number.1 in
+    let name = name-free a.flow_name b.flow_name (from_base a x) (from_base b y) short.flow_name small.flow_name
+    number.1 in
     let base = counted-free IsShortBase base_bytes base-free a.base b.base (behind a x) (behind b y)
     (short.bases, short.few_bases) (small.bases, small.few_bases) name.1 in
     let count = number-free (length a.nodes) (length b.nodes) x y short.few_nodes small.few_nodes base.1 in

@@ -2,18 +2,15 @@
 --
 -- The key idea: on written-out bytes every definition is a computation, so a row that holds is its own proof, and a row
 -- that does not holds two different values equal.
-use Rattle.std.proofs.Common.{◌≡◌, ℕ, List, [], ◌∷◌, ◌++◌, refl, sym, length, arith, true, false, true≢false, Some, None, ◌<◌}
-use Rattle.std.specs.Prelude.{All}
+use Rattle.std.proofs.Common.{◌≡◌, ℕ, List, [], ◌∷◌, ◌++◌, refl, sym, length, arith, true, true≢false, Some, None, ◌<◌}
 use Rattle.std.proofs.lemmas.List.Elements.{All-cons, All-nil}
 use Rattle.sz_cells.specs.Extent.{Extent, flat}
 use Rattle.sz_cells.specs.Cells.{Cells}
-use Rattle.sz_cells.specs.SetBytes.{four_bytes}
 use Rattle.sz_spec.specs.declared.op.Op.TheVariants.{Neg}
-use Rattle.sz_spec.specs.declared.modes.Strategy.{Strategy}
 use Rattle.sz_spec.specs.declared.modes.Strategy.TheVariants as strategy
 use Rattle.sz_spec.specs.Shapes.{Site}
 use Rattle.sz_region.specs.Parts.{Pairing}
-use Rattle.sz_region.specs.FullBytes.{Listed, IsListed, AreNamesOf, BeginsRegions}
+use Rattle.sz_region.specs.FullBytes.{Listed, IsListed, BeginsRegions}
 use Rattle.sz_store.specs.Kept.{Keep, regions, NodeLineage, no_lineage}
 use Rattle.sz_script.specs.declared.command.BaseName.{BaseName}
 use Rattle.sz_recover.specs.Bodies.{NodePart, VersionBody, head_bytes, list_bytes, IsShortBase, IsBodyOf}
@@ -53,8 +50,8 @@ head = 0 ∷ 0 ∷ 0 ∷ 1 ∷ 1 ∷ 102 ∷ 0 ∷ 0 ∷ 0 ∷ 1 ∷ 1 ∷ 97 �
 -- 00000002  00 00000001 00000000 00000000  01 00000001 00000000 00000000  00000001  00000000 00000001
 abbrev pub store : List ℕ
 store =
-    0 ∷ 0 ∷ 0 ∷ 2 ∷ 0 ∷ 0 ∷ 0 ∷ 0 ∷ 1 ∷ 0 ∷ 0 ∷ 0 ∷ 0 ∷ 0 ∷ 0 ∷ 0 ∷ 0 ∷ 1 ∷ 0 ∷ 0 ∷ 0 ∷ 1 ∷ 0 ∷ 0 ∷ 0 ∷ 0 ∷ 0 ∷ 0 ∷ 0 ∷ 0
-    ∷ 0 ∷ 0 ∷ 0 ∷ 1 ∷ 0 ∷ 0 ∷ 0 ∷ 0 ∷ 0 ∷ 0 ∷ 0 ∷ 1 ∷ []
+    0 ∷ 0 ∷ 0 ∷ 2 ∷ 0 ∷ 0 ∷ 0 ∷ 0 ∷ 1 ∷ 0 ∷ 0 ∷ 0 ∷ 0 ∷ 0 ∷ 0 ∷ 0 ∷ 0 ∷ 1 ∷ 0 ∷ 0 ∷ 0 ∷ 1 ∷ 0 ∷ 0 ∷ 0 ∷ 0 ∷ 0 ∷ 0 ∷ 0
+    ∷ 0 ∷ 0 ∷ 0 ∷ 0 ∷ 1 ∷ 0 ∷ 0 ∷ 0 ∷ 0 ∷ 0 ∷ 0 ∷ 0 ∷ 1 ∷ []
 
 -- behind the head 01 02, the list
 abbrev pub bytes : List ℕ
@@ -73,7 +70,9 @@ abbrev pub table : List Listed
 table = record { array = 0; set = set } ∷ record { array = 1; set = set } ∷ []
 
 listed : (array : ℕ) → array ≡ 0 → IsListed cell (cell ∷ []) (record { array = array; set = set })
-listed array is = rw is (record { array = omega arith; set = record { extent = refl; rising = ((omega arith), (omega arith), tt) } })
+listed array is =
+    rw is
+    (record { array = omega arith; set = record { extent = refl; rising = ((omega arith), (omega arith), tt) } })
 
 listed-one : IsListed cell (cell ∷ []) (record { array = 1; set = set })
 listed-one = record { array = omega arith; set = record { extent = refl; rising = ((omega arith), (omega arith), tt) } }
@@ -86,7 +85,8 @@ store-begins = record {
   is_word =
       record {
         each =
-            All-cons (IsListed cell (cell ∷ [])) (record { array = 0; set = set }) (record { array = 1; set = set } ∷ [])
+            All-cons (IsListed cell (cell ∷ [])) (record { array = 0; set = set })
+            (record { array = 1; set = set } ∷ [])
             (listed 0 refl)
             (All-cons (IsListed cell (cell ∷ [])) (record { array = 1; set = set }) [] listed-one
             (All-nil (IsListed cell (cell ∷ []))));
@@ -115,9 +115,14 @@ body-spelled = record {
       };
   place = 20;
   head = record { spelled = refl; within = omega arith };
-  nodes =
-      (22, 64, omega arith, record { spelled = refl; within = omega arith }, (64, omega arith, refl, store-begins, refl),
-      refl);
+  nodes = (
+    22,
+    64,
+    omega arith,
+    record { spelled = refl; within = omega arith },
+    (64, omega arith, refl, store-begins, refl),
+    refl,
+  );
 }
 
 -- without the node's operator at its shapes they are none

@@ -2,27 +2,25 @@
 --
 -- The key idea: by the names that it says, the body finds the flow and the base arrays of the version. So it says that
 -- version, and each condition on what it says is one on the version.
-use Rattle.std.proofs.Common.{◌≡◌, ℕ, List, [], ◌∷◌, map, length, refl, sym, ap, ap₂, subst, ◌∙◌, true, false, not, ◌&&◌, ◌==◌}
+use Rattle.std.proofs.Common.{◌≡◌, ℕ, List, [], ◌∷◌, map, length, refl, sym, ap, ap₂, subst, ◌∙◌, true, false, not}
 use Rattle.std.proofs.Common.{Option, Some, None, option_map, unwrap_or, is_some, is_none, eq-eqb}
-use Rattle.std.specs.Prelude.{All, ◌||◌}
-use Rattle.std.specs.List.{filter_map, list_any}
+use Rattle.std.specs.Prelude.{All}
 use Rattle.std.specs.Result.{result_err}
 use Rattle.std.proofs.lemmas.List.{length-map}
 use Rattle.std.proofs.lemmas.List.Elements.{All-head, All-tail}
 use Rattle.sz_spec.specs.declared.modes.Strategy.{Strategy}
 use Rattle.sz_spec.specs.Shapes.{Site}
 use Rattle.sz_spec.specs.Flows.{Graph}
-use Rattle.sz_spec.specs.Values.{Grid}
 use Rattle.sz_spec.specs.FlowShapes.{output_shapes}
 use Rattle.sz_store.specs.Kept.{NodeLineage}
-use Rattle.sz_script.specs.declared.command.BaseName.{BaseName}
-use Rattle.sz_catalogue.specs.Holdings.{Workflow, Base, Version, Holdings, array_version, flow_named, shapes_of, no_workflow}
+use Rattle.sz_catalogue.specs.Holdings.{Workflow, Base, Version, Holdings, array_version, flow_named, shapes_of}
+use Rattle.sz_catalogue.specs.Holdings.{no_workflow}
 use Rattle.sz_catalogue.specs.Holdings.{output_cells}
-use Rattle.sz_catalogue.specs.Starts.{workflow_of, bases_of, base_of}
+use Rattle.sz_catalogue.specs.Starts.{workflow_of, bases_of}
 use Rattle.sz_catalogue.specs.Rules as rules
-use Rattle.sz_recover.specs.Bodies.{NodePart, VersionBody, IsBodyOf}
-use Rattle.sz_recover.specs.Fitting.{FitNodes, Fit, sites_of, parts_of, named_base, body_of}
-use Rattle.sz_recover.specs.Lawful.{version_said, IsLawful, CanBeAdded}
+use Rattle.sz_recover.specs.Bodies.{NodePart, IsBodyOf}
+use Rattle.sz_recover.specs.Fitting.{FitNodes, sites_of, parts_of, named_base, body_of}
+use Rattle.sz_recover.specs.Lawful.{version_said}
 use Rattle.sz_recover.specs.Laws.{WrittenBodiesAreLawful}
 
 -- each base array is the one that is held
@@ -79,7 +77,8 @@ written-lawful c n v stores bytes can fit spelled =
             (length-map v.base named_base ∙ can.count ∙ sym (ap (λ (g : Graph). g.inputs) found.0)));
         shapes =
             ap (λ (o : Option ℕ). not (is_some o))
-            (ap₂ (λ (g : Graph) (bs : List Base). result_err (output_shapes g (shapes_of bs))) found.0 bases ∙ can.fits);
+            (ap₂ (λ (g : Graph) (bs : List Base). result_err (output_shapes g (shapes_of bs))) found.0 bases
+            ∙ can.fits);
         room = ap (λ (x : Version). rules.has_room c (output_cells x)) said ∙ can.room;
         lists =
             ap₂ (λ (g : Graph) (ls : List (List Strategy)). rules.are_lists_for g.nodes ls) found.0 lists ∙ can.lists;

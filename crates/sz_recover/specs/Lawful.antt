@@ -1,5 +1,5 @@
 -- Which bodies are lawful over what is held: each condition is a test with its name.
-use Rattle.std.specs.Prelude.{◌≡◌, ℕ, ◌≤◌, List, map, length, Bool, true, not, ◌&&◌, ◌==◌, nat_le}
+use Rattle.std.specs.Prelude.{◌≡◌, ℕ, List, map, length, Bool, true, not, ◌&&◌, nat_le}
 use Rattle.std.specs.Prelude.{Some, None, option_map, All}
 use Rattle.std.specs.Result.{result_err}
 use Rattle.sz_spec.specs.FlowShapes.{output_shapes}

@@ -1,15 +1,14 @@
 //! Writing the body of a version.
 
-ghost use Rattle.std.specs.Prelude.{◌≡◌, ◌<◌, ◌≤◌, ◌^◌, ◌++◌, ◌∷◌, ℕ, List, [], length, map, false};
-ghost use Rattle.std.specs.Prelude.{All, IfOk, OnOk};
-ghost use Rattle.std.specs.Prelude.{option_map};
+ghost use Rattle.std.specs.Prelude.{◌≡◌, ◌<◌, ◌^◌, ◌++◌, ◌∷◌, ℕ, List, [], length, map, false};
+ghost use Rattle.std.specs.Prelude.{All, IfOk, OnOk, option_map};
 ghost use Rattle.std.specs.Arc.{arc_value};
 ghost use Rattle.sz_cells.specs.SetBytes.{four_bytes};
 ghost use Rattle.sz_spec.specs.Shapes.{Site};
 ghost use Rattle.sz_spec.specs.Modes.{number_of};
 ghost use Rattle.sz_region.specs.Counted.{counted};
 ghost use Rattle.sz_catalogue.specs.Rules.{has_no_version, version_of};
-ghost use Rattle.sz_recover.specs.Bodies.{name_bytes, base_bytes, head_bytes, list_bytes};
+ghost use Rattle.sz_recover.specs.Bodies.{name_bytes, base_bytes, list_bytes};
 ghost use Rattle.sz_recover.specs.Bodies.{BeginNodes, IsShortName, IsShortBase, IsBodyOf};
 ghost use Rattle.sz_recover.specs.Fitting.{sites_of, FitsNode, FitNodes, Fit, lineages};
 ghost use Rattle.sz_recover.specs.Fitting.{part_of, parts_of, named_base, body_of};
@@ -127,8 +126,8 @@ fn put_nodes(
     ensures short { OnOk result (All (λ x. length x.list < 256)
         (parts_of lists.now (lineages stores.now))) }
     ensures front { OnOk result ((more : List ℕ) × (to.new.items ≡ to.old.items ++ more)) }
-    ensures nodes { OnOk result ((sites : List Site) → FitNodes sites lists.now (lineages stores.now)
-        → BeginNodes sites to.new.items (length to.old.items) (length to.new.items)
+    ensures nodes { OnOk result ((sites : List Site)
+        → FitNodes sites lists.now (lineages stores.now) → BeginNodes sites to.new.items (length to.old.items) (length to.new.items)
         (parts_of lists.now (lineages stores.now))) }
 {
     for node in 0..stores.len() {

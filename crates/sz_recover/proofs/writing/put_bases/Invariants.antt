@@ -11,5 +11,5 @@ invariant-loop-only l = record {
   short : All IsShortBase (map named_base (take l.only-index l.base));
   bytes :
       l.to.items ≡ l.fn.to.items ++ (four_bytes (length l.base)
-          ++ flat_map base_bytes (map named_base (take l.only-index l.base)));
+      ++ flat_map base_bytes (map named_base (take l.only-index l.base)));
 }

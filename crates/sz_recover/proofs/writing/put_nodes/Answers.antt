@@ -1,13 +1,11 @@
 -- One node more stands behind the others.
-use Rattle.std.proofs.Common.{◌≡◌, ◌<◌, ◌≤◌, ◌+◌, ℕ, suc, List, [], ◌∷◌, ◌++◌, map, take, length, refl, sym, ap, ap₂, subst, ◌∙◌}
-use Rattle.std.proofs.Common.{arith, append_assoc, All, Some, Option, option_map}
-use Rattle.std.specs.List.{slice_get}
+use Rattle.std.proofs.Common.{◌≡◌, ◌<◌, ◌≤◌, ◌+◌, ℕ, suc, List, [], ◌∷◌, ◌++◌, take, length, refl, sym, ap, subst, ◌∙◌}
+use Rattle.std.proofs.Common.{arith, append_assoc, All, option_map}
 use Rattle.std.specs.Arc.{arc_value}
 use Rattle.std.proofs.lemmas.List.{length-map, take_all, append-nil}
 use Rattle.std.proofs.lemmas.List.Elements.{All-append, All-cons, All-nil}
 use Rattle.std.proofs.lemmas.Option.{slice_get-map, slice_get_read}
 use Rattle.sz_spec.specs.Shapes.{Site}
-use Rattle.sz_spec.specs.declared.modes.Strategy.{Strategy}
 use Rattle.sz_recover.specs.Bodies.{NodePart, BeginNodes}
 use Rattle.sz_recover.specs.Fitting.{FitNodes, lineages, part_of, parts_of}
 use Rattle.sz_recover.proofs.Nodes.{fit-length, node-next, nodes-append, NextNode}
@@ -56,10 +54,11 @@ loop-node-preserved c =
           (subst (All short) (sym parts)
           (All-append short (parts_of (take n lists) (take n (lineages stores))) (part_of list kept ∷ []) inv.short
           (All-cons short (part_of list kept) [] put.short (All-nil short))));
-      front =
-          (inv.front.0 ++ put.front.0,
-          put.front.1 ∙ ap (λ (xs : List ℕ). xs ++ put.front.0) inv.front.1
-          ∙ append_assoc old inv.front.0 put.front.0);
+      front = (
+        inv.front.0 ++ put.front.0,
+        put.front.1 ∙ ap (λ (xs : List ℕ). xs ++ put.front.0) inv.front.1
+            ∙ append_assoc old inv.front.0 put.front.0,
+      );
       nodes =
           λ sites fit rest.
           let r = next sites fit in
@@ -75,7 +74,8 @@ loop-node-preserved c =
           rw one
           (subst (λ (xs : List Site). BeginNodes xs (new ++ rest) (length old) (length new)
           (parts_of (take (suc n) lists) (take (suc n) (lineages stores)))) (sym r.taken)
-          (subst (BeginNodes (take n sites ++ r.site ∷ []) (new ++ rest) (length old) (length new)) (sym r.parts) both));
+          (subst (BeginNodes (take n sites ++ r.site ∷ []) (new ++ rest) (length old) (length new)) (sym r.parts)
+          both));
     }
 
 pub returns-clause-short : goal.returns-clause-short

@@ -7,7 +7,7 @@ use Rattle.sz_spec.specs.declared.modes.Strategy.{Strategy}
 use Rattle.sz_region.specs.Counted.{counted}
 use Rattle.sz_catalogue.specs.Holdings.{Base, Version, no_version}
 use Rattle.sz_catalogue.specs.Rules.{version_of}
-use Rattle.sz_recover.specs.Bodies.{VersionBody, name_bytes, base_bytes, head_bytes, BeginNodes, IsShortName, IsShort, IsBodyOf}
+use Rattle.sz_recover.specs.Bodies.{VersionBody, name_bytes, base_bytes, IsShort, IsBodyOf}
 use Rattle.sz_recover.specs.Fitting.{sites_of, FitNodes, Fit, lineages, parts_of, named_base, body_of}
 use Rattle.sz_recover.proofs.Nodes.{fit-length, four-parts, body-whole}
 use Rattle.sz_recover.proofs.writing.version_body.Goals as goal
@@ -43,11 +43,14 @@ returns g c =
     (c.in_ok-put_count.ensures.bytes
     ∙ ap (λ (k : ℕ). c.put_bases.new.to.items ++ four_bytes k) (sym count)) in
     let front = c.in_ok-put_nodes.ensures.front in
-    let few : length b.nodes < 4294967296 = subst (λ (k : ℕ). k < 4294967296) (sym count) c.in_ok-put_count.ensures.few in
+    let few : length b.nodes < 4294967296 =
+    subst (λ (k : ℕ). k < 4294967296) (sym count) c.in_ok-put_count.ensures.few in
     let short : IsShort b = record {
       number = c.ranges.version.fits;
       flow_name = c.in_ok-put_name.ensures.short;
-      few_bases = subst (λ (k : ℕ). k < 4294967296) (sym (length-map c.as_slice.result.now named_base)) c.in_ok-put_bases.ensures.few;
+      few_bases =
+          subst (λ (k : ℕ). k < 4294967296) (sym (length-map c.as_slice.result.now named_base))
+          c.in_ok-put_bases.ensures.few;
       bases = c.in_ok-put_bases.ensures.short;
       few_nodes = few;
       lists = c.in_ok-put_nodes.ensures.short;
