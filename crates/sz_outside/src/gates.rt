@@ -1,7 +1,7 @@
 //! The places at which a test may hold up a worker or an asker.
 
 /// Is called where a test may want to wait or to look. The program passes one that does nothing. A
-/// session calls it after asks; pieces are for the workers that are to come.
+/// session calls it after asks, and a worker before each piece that it takes up.
 ///
 /// It is `Send` and `Sync`, since threads share it, and `Drop`, since a thread's body must be able
 /// to let go of the gate that it holds.
