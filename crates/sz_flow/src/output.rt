@@ -43,9 +43,10 @@ pub(crate) fn output_of<R: Threads + Sync>(
 }
 
 /// Whether the values of an operator with so many output cells are computed side by side. It
-/// settles the cost alone: it pays for an operator that reads many cells for each value.
+/// settles the cost alone: it pays for an operator that reads many cells for each value, and has
+/// no faster way of its own to all of them.
 pub(crate) fn is_side_by_side(op: &Op, size: u32) -> bool {
-    size >= SIDE_BY_SIDE_FROM && matches!(op, Op::Convolve { .. } | Op::Clean { .. })
+    size >= SIDE_BY_SIDE_FROM && matches!(op, Op::Clean { .. })
 }
 
 /// An operator's values at all cells of its output, computed side by side. Each is written at its

@@ -5,4 +5,5 @@ pub mod Inputs
 pub mod Least
 pub mod Sums
 pub mod Walks
+pub mod Sweeps
 mod Rows

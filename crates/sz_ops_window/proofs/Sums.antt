@@ -113,7 +113,7 @@ part-out : (g : Grid) (w : Weights) (o : Cell) (n : ℕ) → is_in_range g.exten
 part-out g w o n out =
     elim (cases_Bool (is_zero (tap_at w n).weight)) [ inl t ↦ rw t refl | inr f ↦ rw (f, out) refl ]
 
-row-out : (g : Grid) (w : Weights) (o : Cell) (row col : ℕ) → row < w.rows → col < w.cols
+pub row-out : (g : Grid) (w : Weights) (o : Cell) (row col : ℕ) → row < w.rows → col < w.cols
     → ((row < (reach_of g.extent w o).top) ⊎ ((reach_of g.extent w o).bottom ≤ row))
     → part_of g w o (row * w.cols + col) ≡ Some (pos 0)
 row-out g w o row col tall wide out =
@@ -121,7 +121,7 @@ row-out g w o row col tall wide out =
     (by-sides g.extent w o (row * w.cols + col) row col (tap-row w row col wide) (tap-col w row col wide) tall wide
     ∙ (elim out [ inl above ↦ grind (arith, nat_tests, above) | inr below ↦ grind (arith, nat_tests, below) ]))
 
-col-out : (g : Grid) (w : Weights) (o : Cell) (row col : ℕ) → row < w.rows → col < w.cols
+pub col-out : (g : Grid) (w : Weights) (o : Cell) (row col : ℕ) → row < w.rows → col < w.cols
     → ((col < (reach_of g.extent w o).left) ⊎ ((reach_of g.extent w o).right ≤ col))
     → part_of g w o (row * w.cols + col) ≡ Some (pos 0)
 col-out g w o row col tall wide out =
@@ -184,14 +184,14 @@ reach-lies e w o right held kernel =
     }
 
 -- a place is within its rows and columns
-in-size : (row cols col rows : ℕ) → row < rows → col < cols → row * cols + col < rows * cols
+pub in-size : (row cols col rows : ℕ) → row < rows → col < cols → row * cols + col < rows * cols
 in-size row cols col rows tall wide =
     let below : row + 1 ≤ rows = omega arith in
     let whole : (row + 1) * cols ≤ rows * cols = mul-le-mul_right cols below in
     omega (arith, whole)
 
 -- a layer is within the rows
-rows-within : (e : Extent) (o : Cell) → layer_of e o < e.layers → AreSmall e
+pub rows-within : (e : Extent) (o : Cell) → layer_of e o < e.layers → AreSmall e
     → layer_of e o * height_of e + height_of e ≤ e.rows
 rows-within e o here small =
     let below : layer_of e o + 1 ≤ e.layers = omega (arith, here) in

@@ -20,7 +20,7 @@ use Rattle.sz_ops_window.proofs.Sums.{IsReach, reach-lies}
 
 -- ---- how large a sum is
 
-abs-plus : (a b : ℤ) → unsigned_abs (a +ℤ b) ≤ unsigned_abs a + unsigned_abs b
+pub abs-plus : (a b : ℤ) → unsigned_abs (a +ℤ b) ≤ unsigned_abs a + unsigned_abs b
 abs-plus a b = grind (arith, ints)
 
 pub within-plus : (m n : ℕ) (a b : ℤ) → IsWithin m a → IsWithin n b → IsWithin (m + n) (a +ℤ b)

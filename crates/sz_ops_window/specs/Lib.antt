@@ -2,3 +2,4 @@ pub mod Windowed
 pub mod Taps
 pub mod Sums
 pub mod Least
+pub mod Sweeps

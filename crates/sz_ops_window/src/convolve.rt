@@ -13,13 +13,14 @@ ghost use Rattle.sz_spec.specs.Operators.Convolve.{convolved_at};
 ghost use Rattle.sz_ops_window.specs.Sums.{times, sum_from, reach_of, IsWithin};
 
 use crate::mask::{Mask, a_mask_is_a_kernel};
+use crate::sweep::values;
 use crate::under::{add_under, meets_under, same_shape, set_under};
 use crate::window::Window;
 use std::alloc::Global;
 use std::sync::Arc;
 use sz_cells::laws::a_shape_is_within_limits;
 use sz_cells::{Cell, CellBits, CellSet, NoMemory, Shape};
-use sz_region::{Mapped, Mapping, input_of, run_by};
+use sz_region::{Mapping, input_of, output_with};
 use sz_spec::{Array, Dir, Kernel, OpAt, Value};
 
 /// A convolution between its shapes.
@@ -65,13 +66,14 @@ impl<'a> Mapping for Convolution<'a> {
 }
 
 impl<'a> Convolution<'a> {
-    /// The output over these inputs, cell by cell.
+    /// The output over these inputs.
     pub fn run(self, alloc: Global, inputs: &[Arc<Array>]) -> Result<Array, NoMemory>
         requires { IsAtWork self.at.now (map (λ a. arc_value a) inputs.now) }
         ensures { IfOk result (λ a. a
             ≡ output_of self.entry.at.now.op (map (λ a. arc_value a) inputs.now)) }
     {
-        run_by(alloc, &Mapped { of: self, inputs })
+        let cells = values(alloc, self.at, &self.mask(), inputs)?;
+        Ok(output_with(self.at, inputs, cells))
     }
 }
 
@@ -107,7 +109,7 @@ fn fit(number: i128) -> Value
 }
 
 /// The rows and columns of the kernel that lie on cells of the layer.
-fn reach_of(shape: Shape, mask: &Mask<'_>, out: Cell) -> Window
+pub(crate) fn reach_of(shape: Shape, mask: &Mask<'_>, out: Cell) -> Window
     requires { holds shape out ≡ true }
     ensures { result ≡ reach_of shape mask.now out }
 {

@@ -15,6 +15,7 @@
 mod clean;
 mod convolve;
 mod mask;
+mod sweep;
 mod under;
 mod window;
 
