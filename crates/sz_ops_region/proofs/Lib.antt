@@ -5,4 +5,6 @@ pub mod Stretches
 pub mod Sets
 pub mod Labels
 pub mod Tracing
-pub mod Firsts
+pub mod Roots
+pub mod Linked
+pub mod Settled

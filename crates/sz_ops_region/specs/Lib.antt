@@ -6,4 +6,5 @@ pub mod Sides
 pub mod Sets
 pub mod Parts
 pub mod Tracing
-pub mod Labels
+pub mod Links
+pub mod Linking

@@ -18,10 +18,16 @@
 //! high cells by a flood fill, `run_lists` makes the runs of each number from the stretches of one
 //! mark, `aid` keeps a set of each, and `walk` traces. A component of one cell has no number: of it
 //! the mark of its cell is all that is kept.
+//!
+//! The path of the output, for which no set is made: `links` has the links between cells, by which
+//! those that are united get one root, `linking` unites the high cells that are neighbours, and
+//! `output` writes the label of each cell by its root.
 #![tactic(auto)]
 
 mod aid;
 mod fill;
+mod linking;
+mod links;
 mod marks;
 mod output;
 mod run_lists;

@@ -144,7 +144,7 @@ fn first_word(value: Value, t: i64) -> u32
 }
 
 /// Whether a value is high.
-fn is_high(value: Value, t: i64) -> bool
+pub(crate) fn is_high(value: Value, t: i64) -> bool
     ensures { result ≡ is_at_least t value }
 {
     match value {

@@ -1,12 +1,15 @@
--- The labels so far, and for each number that of its first cell so far.
-use Rattle.std.proofs.Common.{◌≡◌, length}
-use Rattle.sz_ops_region.specs.Labels.{labels_below, AreFirsts}
+-- The words so far are the labels of their cells, and the labels are those of their roots.
+use Rattle.std.proofs.Common.{◌≡◌, ℕ, Some, length, map}
+use Rattle.std.specs.Prelude.{pos}
+use Rattle.std.specs.List.{range_with_len}
+use Rattle.sz_ops_region.specs.Links.{AreRoots, label_by}
+use Rattle.sz_ops_region.proofs.Settled.{AreSettled}
 use Rattle.sz_ops_region.proofs.output.labels_of.Given as goal
 
 abbrev pub invariant-loop-index : goal.invariant-loop-index
 invariant-loop-index l = record {
-  end : l.index-end ≡ length l.marks;
-  long : length l.firsts.items ≡ l.count;
-  firsts : AreFirsts l.marks l.index l.firsts.items;
-  made : l.cells.items ≡ labels_below l.marks l.index;
+  end : l.index-end ≡ length l.words;
+  settled : AreSettled l.fn.words l.words l.index;
+  made : (root : ℕ → ℕ) → AreRoots l.fn.words root → l.cells.items
+      ≡ map (λ k. Some (pos (label_by l.fn.words root k))) (range_with_len 0 l.index);
 }
