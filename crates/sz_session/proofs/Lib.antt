@@ -2,6 +2,11 @@
 pub mod Ways
 pub mod Steps
 pub mod PathViews
+pub mod Inquiries
+pub mod Asks
+pub mod Given
+pub mod Waiting
+mod Crossing
 pub mod Keeping
 pub mod Kept
 pub mod Keeps

@@ -245,7 +245,7 @@ views-answer v dir path views set sound joined zip is all =
 -- ---- once they were asked
 
 -- what is traced of a view that was asked is no more than was allowed for
-asked-most : (w x : View) → IsAsked w x → traced_by x ≤ most_traced_by w
+pub asked-most : (w x : View) → IsAsked w x → traced_by x ≤ most_traced_by w
 asked-most (by_map s) x asked = omega (arith, ap traced_by asked)
 asked-most (by_store s kept t) x asked = omega (arith, ap traced_by asked)
 asked-most (by_shelf s z p t) x asked = omega (arith, ap traced_by asked.2)

@@ -95,7 +95,7 @@ first-part a b c n lines p =
 -- ---- two turns
 
 -- what bytes tell, and then what further ones tell a moment that is like the one after them
-tells-then : (l m : Moment) (xs ys : List ℕ) → AreAlike m (moment_after l xs)
+pub tells-then : (l m : Moment) (xs ys : List ℕ) → AreAlike m (moment_after l xs)
     → told_in l xs ++ told_in m ys ≡ told_in l (xs ++ ys)
 tells-then l m xs ys h =
     ap (λ (zs : List ℕ). told_in l xs ++ zs) (told_in-alike m (moment_after l xs) ys h)
@@ -218,7 +218,7 @@ left-line c next line None replies = rw replies.0 (sym replies.1)
 left-line c next line (Some r) replies = rw (replies.0, replies.1) refl
 
 -- the lines that end in a byte 10
-line-only : (m : Moment) → cut_after m (10 ∷ []) ≡ record { whole = m.pending ∷ []; last = [] }
+pub line-only : (m : Moment) → cut_after m (10 ∷ []) ≡ record { whole = m.pending ∷ []; last = [] }
 line-only m = ap (λ (line : List ℕ). record { whole = line ∷ []; last = [] }) (append-nil m.pending)
 
 -- the end of a line tells its reply, where it has one

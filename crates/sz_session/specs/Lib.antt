@@ -9,4 +9,8 @@ pub mod Commands
 pub mod Runs
 pub mod Stores
 pub mod Views
+pub mod Searches
+pub mod Asks
+pub mod Given
+pub mod Waiting
 pub mod Laws

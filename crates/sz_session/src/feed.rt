@@ -8,15 +8,22 @@
 ghost use Rattle.std.specs.Prelude.{◌≡◌, ℕ, List, Option, ◌<◌, ◌≤◌, ◌+◌, ◌-◌, ◌^◌};
 ghost use Rattle.std.specs.Prelude.{◌++◌, [], ◌∷◌, Err, IfOk, OnOk, OnErr, MatchOption, length};
 ghost use Rattle.std.specs.Prelude.{drop, take, slice_index, true, false};
+ghost use Rattle.std.specs.List.{AllByRecursion};
 ghost use Rattle.sz_outside.specs.Outside.{Rose, Stood, Says, SaysPart};
 ghost use Rattle.sz_session.specs.Lines.{is_blank, is_within_line};
+ghost use Rattle.sz_script.specs.Right.{is_right};
 ghost use Rattle.sz_catalogue.specs.Holdings.{no_holdings};
 ghost use Rattle.sz_session.specs.Moments.{moment_before, cut_after, told_in, told_at_end, Alike};
 ghost use Rattle.sz_session.specs.Serving.{Advances, SaysFirst, line_to_say};
+ghost use Rattle.sz_session.specs.Asks.{IsAskLine, asks_text};
+ghost use Rattle.sz_session.specs.Given.{Gives, IsRight};
+ghost use Rattle.sz_session.specs.Waiting.{Lags, SaysBy, told_text};
+ghost use Rattle.sz_session.specs.declared.session.Given.TheVariants as given;
 ghost use Rattle.sz_session.specs.Disks.{OnlySays};
 
+use crate::asking::AskLine;
 use crate::blank::is_blank;
-use crate::session::{Session, Stop};
+use crate::session::{Given, Session};
 use std::alloc::{AllocError, Global};
 use std::marker::Model;
 use std::sync::Wait;
@@ -24,7 +31,7 @@ use std::thread::Threads;
 use sz_catalogue::{Reply, reply_text};
 use sz_cells::NoMemory;
 use sz_outside::{Failed, Gate, Station};
-use sz_script::LINE_LIMIT;
+use sz_script::{Command, LINE_LIMIT};
 use sz_spec::Tally;
 
 /// What is held, and what was read of the line that has not ended.
@@ -89,17 +96,6 @@ impl From<NoMemory> for Halt {
     }
 }
 
-impl From<Stop> for Halt {
-    ghost use Rattle.std.specs.Prelude.{◌≡◌};
-    ghost use Rattle.sz_session.specs.declared.feed.Halt.TheVariants as halt;
-
-    ghost from_gives = { λ _ e. e ≡ halt.NoMemory };
-
-    fn from(_stop: Stop) -> Halt {
-        Halt::NoMemory
-    }
-}
-
 impl Feed {
     /// Nothing was read, and nothing is held. The session has so many workers and askers.
     pub fn new(alloc: Global, workers: u32, askers: u32) -> Result<Feed, NoMemory>
@@ -122,7 +118,9 @@ impl Feed {
     }
 
     /// Takes in a chunk of what the source gave, and says the replies of the lines that end in it.
-    /// Beside what its lines take, it takes time in the length of the chunk.
+    /// Beside what its lines take, it takes time in the length of the chunk. Where the session has
+    /// several askers, asks that stand behind one another are answered at the same time, as many at
+    /// once as there are askers.
     pub fn take_chunk<T: Station, G: Gate, R: Threads + Wait + Sync>(
         &mut self,
         rt: &R,
@@ -144,13 +142,15 @@ impl Feed {
         ensures quiet { OnOk result (Stood (T.say_faults station.old) (T.say_faults station.new)) }
         ensures disk { OnlySays T.Station (told_in self.old chunk.now) station.old station.new }
     {
+        let mut waiting = Vec::new(self.alloc);
         let mut start = 0;
         while let Some(at) = newline_from(chunk, start) {
             self.extend(&chunk[start..at])?;
-            self.end_line(rt, station, gate)?;
+            self.take_line(rt, &mut waiting, station, gate)?;
             start = at + 1;
         }
-        self.extend(&chunk[start..])
+        self.extend(&chunk[start..])?;
+        self.say_waiting(rt, &mut waiting, station, gate)
     }
 
     /// Ends the input: the line that has not ended is answered where it has bytes.
@@ -186,6 +186,7 @@ impl Feed {
         ensures takes { OnOk result (
             (said : Option (List ℕ)) → Advances said said self.old self.new bytes.now) }
         ensures number { self.new.number ≡ self.old.number }
+        ensures held { self.new.held ≡ self.old.held }
         ensures err { OnErr result (result ≡ Err Halt.NoMemory) }
     {
         let kept = bytes_to_keep(&self.pending, bytes);
@@ -213,15 +214,190 @@ impl Feed {
         ensures quiet { OnOk result (Stood (T.say_faults station.old) (T.say_faults station.new)) }
         ensures disk { OnlySays T.Station (told_in self.old (10 ∷ [])) station.old station.new }
     {
+        let given = self.session.read(&self.pending)?;
+        self.end_with(rt, given, station, gate)
+    }
+
+    /// Ends the line that has not ended, which gives this.
+    fn end_with<T: Station, G: Gate, R: Threads + Wait + Sync>(
+        &mut self,
+        rt: &R,
+        given: Given,
+        station: &mut T,
+        gate: &G,
+    ) -> Result<(), Halt>
+        requires number { self.old.number + 1 < 2 ^ 64 }
+        requires gives { Gives self.old.pending given }
+        requires right { IsRight given }
+        ensures line { OnOk result (
+            Advances (T.said station.old) (T.said station.new) self.old self.new (10 ∷ [])) }
+        ensures part { result ≡ Err Halt.SayFault
+            → SaysPart (T.said station.old) (T.said station.new) (told_in self.old (10 ∷ [])) }
+        ensures nothing { result ≡ Err Halt.NoMemory
+            → Says (T.said station.old) (T.said station.new) [] }
+        ensures next { OnOk result (self.new.number ≡ self.old.number + 1) }
+        ensures fault { result ≡ Err Halt.SayFault
+            → Rose (T.say_faults station.old) (T.say_faults station.new) }
+        ensures quiet { OnOk result (Stood (T.say_faults station.old) (T.say_faults station.new)) }
+        ensures disk { OnlySays T.Station (told_in self.old (10 ∷ [])) station.old station.new }
+    {
         let mut tally = Tally::new();
         let reply = self
             .session
-            .command(rt, &self.pending, self.number, station, gate, &mut tally)?;
+            .take_given(rt, given, self.number, gate, &mut tally)?;
         say(self.alloc, self.number, reply, station)?;
-        self.pending.clear();
-        self.number += 1;
+        self.next_line();
         Ok(())
     }
+
+    /// Begins the next line.
+    fn next_line(&mut self)
+        requires { self.old.number + 1 < 2 ^ 64 }
+        ensures { self.new ≡ record self.old { pending = []; number = self.old.number + 1 } }
+    {
+        self.pending.clear();
+        self.number += 1;
+    }
+
+    /// Ends the line that has not ended, behind asks that wait. An ask waits too, where there are
+    /// several askers; before any other line, and where as many wait as there are askers, the replies
+    /// of those that wait are said.
+    fn take_line<T: Station, G: Gate, R: Threads + Wait + Sync>(
+        &mut self,
+        rt: &R,
+        waiting: &mut Vec<AskLine>,
+        station: &mut T,
+        gate: &G,
+    ) -> Result<(), Halt>
+        requires number { self.old.number + 1 < 2 ^ 64 }
+        requires asks { AllByRecursion IsAskLine waiting.old.items }
+        requires few { length waiting.old.items ≤ 64 }
+        ensures lags { OnOk result (Lags (T.said station.old) (T.said station.new)
+            self.old self.new waiting.old.items waiting.new.items) }
+        ensures says { SaysBy result (T.said station.old) (T.said station.new)
+            (asks_text self.old.held waiting.old.items) (told_in self.old (10 ∷ [])) }
+        ensures next { OnOk result (self.new.number ≡ self.old.number + 1) }
+        ensures asks { OnOk result (AllByRecursion IsAskLine waiting.new.items) }
+        ensures few { OnOk result (length waiting.new.items ≤ 64) }
+        ensures fault { result ≡ Err Halt.SayFault
+            → Rose (T.say_faults station.old) (T.say_faults station.new) }
+        ensures quiet { OnOk result (Stood (T.say_faults station.old) (T.say_faults station.new)) }
+        ensures disk { OnlySays T.Station
+            (asks_text self.old.held waiting.old.items ++ told_in self.old (10 ∷ []))
+            station.old station.new }
+    {
+        let given = self.session.read(&self.pending)?;
+        match given {
+            Given::Ask(ask) if self.session.has_askers() => {
+                self.take_ask(rt, ask, waiting, station, gate)
+            }
+            given => {
+                self.say_waiting(rt, waiting, station, gate)?;
+                self.end_with(rt, given, station, gate)
+            }
+        }
+    }
+
+    /// Ends the line that has not ended, which gives an ask: it waits behind others, whose replies are
+    /// said first where there are as many as askers.
+    fn take_ask<T: Station, G: Gate, R: Threads + Wait + Sync>(
+        &mut self,
+        rt: &R,
+        ask: Command,
+        waiting: &mut Vec<AskLine>,
+        station: &mut T,
+        gate: &G,
+    ) -> Result<(), Halt>
+        requires number { self.old.number + 1 < 2 ^ 64 }
+        requires gives { Gives self.old.pending (given.Ask ask) }
+        requires right { is_right ask ≡ true }
+        requires asks { AllByRecursion IsAskLine waiting.old.items }
+        requires few { length waiting.old.items ≤ 64 }
+        ensures lags { OnOk result (Lags (T.said station.old) (T.said station.new)
+            self.old self.new waiting.old.items waiting.new.items) }
+        ensures says { SaysBy result (T.said station.old) (T.said station.new)
+            (asks_text self.old.held waiting.old.items) (told_in self.old (10 ∷ [])) }
+        ensures next { OnOk result (self.new.number ≡ self.old.number + 1) }
+        ensures asks { OnOk result (AllByRecursion IsAskLine waiting.new.items) }
+        ensures few { OnOk result (length waiting.new.items ≤ 64) }
+        ensures fault { result ≡ Err Halt.SayFault
+            → Rose (T.say_faults station.old) (T.say_faults station.new) }
+        ensures quiet { OnOk result (Stood (T.say_faults station.old) (T.say_faults station.new)) }
+        ensures disk { OnlySays T.Station
+            (asks_text self.old.held waiting.old.items ++ told_in self.old (10 ∷ []))
+            station.old station.new }
+    {
+        if !self.session.is_full(waiting.len()) {
+            return Ok(self.wait(ask, waiting)?);
+        }
+        self.say_waiting(rt, waiting, station, gate)?;
+        Ok(self.wait(ask, waiting)?)
+    }
+
+    /// Has the line that has not ended, which gives an ask, wait, and begins the next line.
+    fn wait(&mut self, ask: Command, waiting: &mut Vec<AskLine>) -> Result<(), NoMemory>
+        requires { self.old.number + 1 < 2 ^ 64 }
+        ensures waits { OnOk result (waiting.new.items
+            ≡ waiting.old.items ++ record { number = self.old.number; ask = ask } ∷ []) }
+        ensures next { OnOk result
+            (self.new ≡ record self.old { pending = []; number = self.old.number + 1 }) }
+    {
+        waiting.push(AskLine {
+            number: self.number,
+            ask,
+        })?;
+        self.next_line();
+        Ok(())
+    }
+
+    /// Has the asks that wait answered, and says their replies, in their order: all of them, or where
+    /// memory is refused none. Where no ask waits nothing is done.
+    fn say_waiting<T: Station, G: Gate, R: Threads + Wait + Sync>(
+        &mut self,
+        rt: &R,
+        waiting: &mut Vec<AskLine>,
+        station: &mut T,
+        gate: &G,
+    ) -> Result<(), Halt>
+        requires asks { AllByRecursion IsAskLine waiting.old.items }
+        requires few { length waiting.old.items ≤ 64 }
+        ensures said { OnOk result (Says (T.said station.old) (T.said station.new)
+            (asks_text self.old.held waiting.old.items)) }
+        ensures part { result ≡ Err Halt.SayFault → SaysPart (T.said station.old)
+            (T.said station.new) (asks_text self.old.held waiting.old.items) }
+        ensures nothing { result ≡ Err Halt.NoMemory
+            → Says (T.said station.old) (T.said station.new) [] }
+        ensures none { OnOk result (waiting.new.items ≡ []) }
+        ensures same { self.new ≡ self.old }
+        ensures fault { result ≡ Err Halt.SayFault
+            → Rose (T.say_faults station.old) (T.say_faults station.new) }
+        ensures quiet { OnOk result (Stood (T.say_faults station.old) (T.say_faults station.new)) }
+        ensures disk { OnlySays T.Station (asks_text self.old.held waiting.old.items)
+            station.old station.new }
+    {
+        if waiting.is_empty() {
+            return Ok(());
+        }
+        let mut tally = Tally::new();
+        let replies = self.session.asks(rt, waiting, gate, &mut tally)?;
+        let text = reply_texts(self.alloc, waiting, &replies)?;
+        station.say(&text)?;
+        waiting.clear();
+        Ok(())
+    }
+}
+
+/// The reply lines of these replies to these lines.
+fn reply_texts(alloc: Global, lines: &[AskLine], replies: &[Reply]) -> Result<Vec<u8>, NoMemory>
+    requires { length replies.now ≡ length lines.now }
+    ensures { IfOk result (λ t. t.items ≡ told_text lines.now replies.now) }
+{
+    let mut text = Vec::new(alloc);
+    for place in 0..lines.len() {
+        let line = reply_text(alloc, lines[place].number, &replies[place])?;
+        text.extend_from_slice(&line)?;
+    }
+    Ok(text)
 }
 
 /// Says the reply of the line of this number, where it has one: all of it, or where memory is

@@ -1,7 +1,6 @@
-//! What is found along a path of a version.
+//! What is asked along a path of a version.
 
-ghost use Rattle.std.specs.Prelude.{◌≡◌, ◌+◌, ◌*◌, ◌^◌, ◌<◌, ◌≤◌, true, length, map, IfOk};
-ghost use Rattle.std.specs.Prelude.{OnOk, OnErr};
+ghost use Rattle.std.specs.Prelude.{◌≡◌, ◌*◌, ◌≤◌, true, length, map, IfOk};
 ghost use Rattle.std.specs.List.{AllZip, list_all};
 ghost use Rattle.std.specs.Arc.{arc_value};
 ghost use Rattle.sz_cells.specs.Extent.{holds};
@@ -13,61 +12,53 @@ ghost use Rattle.sz_query.specs.Views.{view_of, by_map, by_trace, by_growth, mos
 ghost use Rattle.sz_query.specs.Answers.{most_traced_of};
 ghost use Rattle.sz_catalogue.specs.Starts.{step_start, path_start, cell_named};
 ghost use Rattle.sz_catalogue.specs.Rules.{has_named_cell};
-ghost use Rattle.sz_catalogue.specs.Changes.{cells_answered, way_of, traced};
 ghost use Rattle.sz_session.specs.Runs.{IsSoundVersion};
 ghost use Rattle.sz_session.specs.Stores.{IsTrailOf, IsOwn, keeping_of};
-ghost use Rattle.sz_session.specs.Views.{view_by, view_kept, IsViewOf, strategy_told, are_there};
-ghost use Rattle.sz_session.specs.Views.{split_off};
-ghost use Rattle.sz_session.specs.Commands.{most_traced};
+ghost use Rattle.sz_session.specs.Views.{view_by, view_kept, IsViewOf, are_there, split_off};
+ghost use Rattle.sz_session.specs.Searches.{IsSearchOf};
 
+use crate::inquiry::Inquiry;
 use crate::runs::{NodeStores, VersionRun};
 use std::alloc::Global;
-use std::sync::{Arc, Wait};
+use std::sync::Arc;
 use sz_catalogue::HeldVersion;
 use sz_cells::{Cell, CellSet, NoMemory, Shape, laws};
 use sz_flow::NodeRun;
-use sz_query::{Found, NodeRunRef, NodeView, answer};
+use sz_query::{NodeRunRef, NodeView};
 use sz_script::{NamedCell, NamedCells, Path, PathStep};
 use sz_shelf::{Pass, Shelf};
-use sz_spec::{Array, ArrayList, Dir, Strategy, Tally, way};
+use sz_spec::{Array, ArrayList, Dir, Strategy, way};
 
-/// What is found along a path from some named cells, each step by the view of its node for the way
-/// of the step. The tally rises by the output sizes of the steps that are told as traced: where the
-/// version is awaited of those whose way is black box, else of these at least. Takes time by these
-/// and by the cells that the other steps touch. The run is lent, so that passes may be split off.
-pub(crate) fn find<R: Wait>(
+/// What is asked along a path from some named cells, each step by the view of its node for the way
+/// of the step. It shares what the run holds, and a view of a shelf has a pass that is split off, for
+/// which the run is lent.
+pub(crate) fn inquiry_along(
     alloc: Global,
-    rt: &R,
     version: &HeldVersion<VersionRun>,
     run: &mut VersionRun,
     dir: Dir,
     path: &Path,
     named: &NamedCells,
-    tally: &mut Tally,
-) -> Result<Found, NoMemory>
+) -> Result<Inquiry, NoMemory>
     requires sound { IsSoundVersion version.now }
     requires run { IsTrailOf version.now run.old }
     requires joined { is_joined dir version.now.flow path.now ≡ true }
     requires named { list_all (has_named_cell (path_start dir version.now path.now)) named.now
         ≡ true }
-    requires room { tally.old + 32 * 1048576 < 2 ^ 63 }
-    ensures cells { IfOk result
-        (λ f. f.cells ≡ cells_answered version.now dir path.now named.now) }
-    ensures ways { version.now.awaited ≡ true → IfOk result
-        (λ f. map strategy_told f.used ≡ map (way_of version.now dir) path.now) }
-    ensures traced { version.now.awaited ≡ true → IfOk result
-        (λ f. f.traced ≡ traced version.now dir path.now) }
-    ensures least { OnOk result (tally.old + traced version.now dir path.now ≤ tally.new) }
-    ensures most { OnOk result (tally.new ≤ tally.old + most_traced version.now dir path.now) }
-    ensures kept { OnErr result (tally.new ≡ tally.old) }
+    ensures search { IfOk result (λ s. IsSearchOf version.now dir path.now named.now s) }
     ensures same { run.new ≡ run.old }
 {
     let steps = path.as_slice();
     let start = start_of(version, run, dir, steps[0]);
     let cells = cells_at(alloc, start, named.as_slice())?;
-    let mut views = views_of(alloc, version, run, dir, steps)?;
+    let views = views_of(alloc, version, run, dir, steps)?;
     let inputs = inputs_of(alloc, steps)?;
-    answer(alloc, rt, &mut views, &inputs, dir, &cells, tally)
+    Ok(Inquiry {
+        dir,
+        views,
+        inputs,
+        cells,
+    })
 }
 
 /// The shape in which a step starts: backward, of its node's output; forward, of its input.

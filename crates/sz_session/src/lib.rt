@@ -54,10 +54,12 @@
 //! taken off a shelf stands for the relation is a clause of `sz_shelf`.
 #![tactic(auto)]
 
+mod asking;
 mod blank;
 mod building;
 mod feed;
 mod finding;
+mod inquiry;
 pub mod laws;
 mod load;
 mod runs;
@@ -67,8 +69,6 @@ mod staff;
 mod starting;
 mod tasks;
 
+pub use asking::AskLine;
 pub use serving::{Status, serve};
 pub use session::{Session, Stop};
-
-#[cfg(test)]
-mod tests;

@@ -4,7 +4,8 @@
 //! nodes and their stores (`VersionRun`), so that no value is computed twice.
 
 ghost use Rattle.std.specs.Prelude.{◌≡◌, ◌+◌, ◌*◌, ◌^◌, ◌<◌, ◌≤◌, true, false, None, Err, map};
-ghost use Rattle.std.specs.Prelude.{IfOk, OnOk, OnErr};
+ghost use Rattle.std.specs.Prelude.{IfOk, OnOk, OnErr, length, if◌then◌else◌};
+ghost use Rattle.std.specs.List.{AllZip, AllByRecursion};
 ghost use Rattle.sz_script.specs.Right.{is_right};
 ghost use Rattle.sz_script.specs.declared.command.Command.TheVariants as order;
 ghost use Rattle.sz_catalogue.specs.Holdings.{no_holdings};
@@ -17,10 +18,17 @@ ghost use Rattle.sz_session.specs.Commands.{Responds, traced_for_line, traced_fo
 ghost use Rattle.sz_session.specs.Commands.{most_for_line, most_for, most_along, most_traced};
 ghost use Rattle.sz_session.specs.Stores.{IsTrailOf};
 ghost use Rattle.sz_session.specs.Views.{strategy_told};
+ghost use Rattle.sz_session.specs.Searches.{IsSearchOf};
+ghost use Rattle.sz_session.specs.Asks.{is_ask, IsAskLine, IsBegun, ask_reply};
+ghost use Rattle.sz_session.specs.Asks.{traced_for_asks, most_for_asks};
+ghost use Rattle.sz_session.specs.Given.{Gives, IsRight, Takes, traced_for_given, most_for_given};
+ghost use Rattle.sz_session.specs.declared.session.Given.TheVariants as given;
 
+use crate::asking::{AskLine, Asked, Askers, work_out};
 use crate::blank::is_blank;
 use crate::building::ended;
-use crate::finding::find;
+use crate::finding::inquiry_along;
+use crate::inquiry::Inquiry;
 use crate::runs::VersionRun;
 use crate::starting::run_version;
 use crate::tasks::Hands;
@@ -34,7 +42,7 @@ use sz_outside::{Gate, Station};
 use sz_pool::{Receiver, Task, one_more, tasks};
 use sz_query::{Found, Used};
 use sz_script::{
-    BaseList, Command, LineFault, Name, NamedCells, Path, StrategyList, laws, read_line,
+    BaseList, Command, LineFault, Name, NamedCells, Path, Refusal, StrategyList, laws, read_line,
 };
 use sz_spec::{Dir, Strategy, Tally};
 
@@ -46,7 +54,7 @@ pub struct Session {
     alloc: Global,
     hands: Hands,
     tasks: Receiver<Task>,
-    _askers: u32,
+    askers: Askers,
 }
 
 impl Model for Session {
@@ -78,9 +86,21 @@ impl From<NoMemory> for Stop {
     }
 }
 
+/// What a line gives.
+#[derive(Drop)]
+pub enum Given {
+    /// It is blank.
+    Nothing,
+    /// It is read as no command.
+    Refused(Refusal),
+    /// It orders an ask.
+    Ask(Command),
+    /// It orders anything else.
+    Other(Command),
+}
+
 impl Session {
-    /// A session that holds nothing, with so many workers and askers. The askers are to come:
-    /// nothing calls on them yet.
+    /// A session that holds nothing, with so many workers, and askers for `asks`.
     pub fn fresh(alloc: Global, workers: u32, askers: u32) -> Result<Session, NoMemory>
         requires workers { (1 ≤ workers) × (workers ≤ 64) }
         requires askers { (1 ≤ askers) × (askers ≤ 64) }
@@ -92,7 +112,7 @@ impl Session {
             alloc,
             hands: Hands { to, workers },
             tasks,
-            _askers: askers,
+            askers: Askers::of(askers),
         })
     }
 
@@ -128,15 +148,133 @@ impl Session {
         ensures kept { OnErr result (self.new ≡ self.old) }
         ensures station { _station.new ≡ _station.old }
     {
+        let given = self.read(line)?;
+        Ok(self.take_given(rt, given, number, gate, tally)?)
+    }
+
+    /// What a line gives. Costs what reading it costs.
+    pub(crate) fn read(&self, line: &[u8]) -> Result<Given, NoMemory>
+        ensures gives { IfOk result (λ g. Gives line.now g) }
+        ensures right { IfOk result (λ g. IsRight g) }
+    {
         if is_blank(line) {
-            return Ok(None);
+            return Ok(Given::Nothing);
         }
         laws::commands_are_right();
         match read_line(self.alloc, line) {
-            Ok(command) => Ok(Some(self.judge(rt, command, number, gate, tally)?)),
-            Err(LineFault::Refused(refusal)) => Ok(Some(Reply::Refused(refusal))),
-            Err(LineFault::NoMemory) => Err(Stop::NoMemory),
+            Ok(command) => Ok(sorted(command)),
+            Err(LineFault::Refused(rule)) => Ok(Given::Refused(rule)),
+            Err(LineFault::NoMemory) => Err(NoMemory),
         }
+    }
+
+    /// Does what a line gives, and gives its reply, as `command` does.
+    pub(crate) fn take_given<G: Gate, R: Threads + Wait + Sync>(
+        &mut self,
+        rt: &R,
+        given: Given,
+        number: u64,
+        gate: &G,
+        tally: &mut Tally,
+    ) -> Result<Option<Reply>, NoMemory>
+        requires right { IsRight given }
+        requires room { tally.old + 32 * 1048576 < 2 ^ 63 }
+        ensures reply { IfOk result (λ r. Takes self.old given self.new r) }
+        ensures least { OnOk result (tally.old + traced_for_given self.old given ≤ tally.new) }
+        ensures most { OnOk result (tally.new ≤ tally.old + most_for_given self.old given) }
+        ensures kept { OnErr result (self.new ≡ self.old) }
+    {
+        match given {
+            Given::Nothing => Ok(None),
+            Given::Refused(rule) => Ok(Some(Reply::Refused(rule))),
+            Given::Ask(command) => Ok(Some(self.judge(rt, command, number, gate, tally)?)),
+            Given::Other(command) => Ok(Some(self.judge(rt, command, number, gate, tally)?)),
+        }
+    }
+
+    /// Whether asks are answered beside one another: there are several askers.
+    pub(crate) fn has_askers(&self) -> bool {
+        self.askers.count() > 1
+    }
+
+    /// Whether as many asks wait as there are askers.
+    pub(crate) fn is_full(&self, waiting: usize) -> bool
+        ensures { result ≡ false → waiting < 64 }
+    {
+        waiting >= self.askers.count()
+    }
+
+    /// The replies to asks, in their order: as many are answered at the same time as there are
+    /// askers. The gate is called once for each that is accepted, when its answer is found, in the
+    /// thread that found it. What is held stays, also where there is no memory.
+    pub fn asks<G: Gate, R: Threads + Wait + Sync>(
+        &mut self,
+        rt: &R,
+        lines: &[AskLine],
+        gate: &G,
+        tally: &mut Tally,
+    ) -> Result<Vec<Reply>, NoMemory>
+        requires asks { AllByRecursion IsAskLine lines.now }
+        requires room { tally.old + length lines.now * 33554432 < 2 ^ 63 }
+        ensures replies { IfOk result
+            (λ rs. map response_of rs.items ≡ map (ask_reply self.old) lines.now) }
+        ensures least { OnOk result
+            (tally.old + traced_for_asks self.old lines.now ≤ tally.new) }
+        ensures most { OnOk result (tally.new ≤ tally.old + most_for_asks self.old lines.now) }
+        ensures same { self.new ≡ self.old }
+    {
+        let mut all = self.begin_each(lines)?;
+        work_out(self.alloc, rt, gate, self.askers, &mut all);
+        self.replies_to(lines, all, self.alloc, tally)
+    }
+
+    /// Each ask, judged, and looked up where no rule refuses it.
+    fn begin_each(&mut self, lines: &[AskLine]) -> Result<Vec<Asked>, NoMemory>
+        requires asks { AllByRecursion IsAskLine lines.now }
+        ensures begun { IfOk result (λ all. AllZip (IsBegun self.old) lines.now all.items) }
+        ensures same { self.new ≡ self.old }
+    {
+        let mut all = Vec::with_capacity(self.alloc, lines.len())?;
+        for line in lines {
+            all.push(self.begin(line)?)?;
+        }
+        Ok(all)
+    }
+
+    /// An ask, judged, and looked up where no rule refuses it.
+    fn begin(&mut self, line: &AskLine) -> Result<Asked, NoMemory>
+        requires ask { IsAskLine line.now }
+        ensures begun { IfOk result (λ a. IsBegun self.old line.now a) }
+        ensures same { self.new ≡ self.old }
+    {
+        match self.catalogue.judge(self.alloc, &line.ask) {
+            Ok(()) => self.open(line),
+            Err(LineFault::Refused(rule)) => Ok(Asked::Refused { rule }),
+            Err(LineFault::NoMemory) => Err(NoMemory),
+        }
+    }
+
+    /// An ask that no rule refuses, looked up.
+    fn open(&mut self, line: &AskLine) -> Result<Asked, NoMemory>
+        requires ask { IsAskLine line.now }
+        requires judged { judged self.old line.now.ask ≡ None }
+        ensures begun { IfOk result (λ a. IsBegun self.old line.now a) }
+        ensures same { self.new ≡ self.old }
+    {
+        let Command::Ask {
+            version,
+            dir,
+            path,
+            cells,
+        } = &line.ask
+        else {
+            unreachable!()
+        };
+        let inquiry = self.inquiry(*version, *dir, path, cells)?;
+        Ok(Asked::Open {
+            number: line.number,
+            inquiry,
+        })
     }
 
     /// Judges a command, and takes it where no rule refuses it.
@@ -314,46 +452,52 @@ impl Session {
         ensures kept { OnErr result (tally.new ≡ tally.old) }
         ensures same { self.new ≡ self.old }
     {
-        let mut run = self.take_out(version)?;
-        let found = self.find_by(rt, version, &mut run, dir, path, named, tally);
-        self.put_back(version, run);
-        found
+        let inquiry = self.inquiry(version, dir, path, named)?;
+        inquiry.answer(self.alloc, rt, tally)
     }
 
-    /// What is found along a path of a version, by what it carries.
-    fn find_by<R: Wait>(
+    /// What is asked along a path of a version, for an ask or explain that no rule refuses.
+    fn inquiry(
+        &mut self,
+        version: u32,
+        dir: Dir,
+        path: &Path,
+        named: &NamedCells,
+    ) -> Result<Inquiry, NoMemory>
+        requires version { has_no_version self.old version ≡ false }
+        requires joined { is_not_joined self.old version dir path.now ≡ false }
+        requires range { is_out_of_range self.old version dir path.now named.now ≡ false }
+        ensures search { IfOk result
+            (λ s. IsSearchOf (version_of self.old version) dir path.now named.now s) }
+        ensures same { self.new ≡ self.old }
+    {
+        let mut run = self.take_out(version)?;
+        let inquiry = self.inquiry_by(version, &mut run, dir, path, named);
+        self.put_back(version, run);
+        inquiry
+    }
+
+    /// What is asked along a path of a version, by what it carries.
+    fn inquiry_by(
         &self,
-        rt: &R,
         version: u32,
         run: &mut VersionRun,
         dir: Dir,
         path: &Path,
         named: &NamedCells,
-        tally: &mut Tally,
-    ) -> Result<Found, NoMemory>
+    ) -> Result<Inquiry, NoMemory>
         requires version { has_no_version self.now version ≡ false }
         requires own { IsTrailOf (version_of self.now version) run.old }
         requires joined { is_not_joined self.now version dir path.now ≡ false }
         requires range { is_out_of_range self.now version dir path.now named.now ≡ false }
-        requires room { tally.old + 32 * 1048576 < 2 ^ 63 }
-        ensures cells { IfOk result
-            (λ f. f.cells ≡ cells_answered (version_of self.now version) dir path.now named.now) }
-        ensures ways { (version_of self.now version).awaited ≡ true
-            → IfOk result (λ f. map strategy_told f.used
-            ≡ map (way_of (version_of self.now version) dir) path.now) }
-        ensures traced { (version_of self.now version).awaited ≡ true
-            → IfOk result (λ f. f.traced ≡ traced (version_of self.now version) dir path.now) }
-        ensures least { OnOk result
-            (tally.old + traced (version_of self.now version) dir path.now ≤ tally.new) }
-        ensures most { OnOk result
-            (tally.new ≤ tally.old + most_traced (version_of self.now version) dir path.now) }
-        ensures kept { OnErr result (tally.new ≡ tally.old) }
+        ensures search { IfOk result
+            (λ s. IsSearchOf (version_of self.now version) dir path.now named.now s) }
         ensures same { run.new ≡ run.old }
     {
         let Some(held) = self.catalogue.version(version) else {
             unreachable!()
         };
-        find(self.alloc, rt, held, run, dir, path, named, tally)
+        inquiry_along(self.alloc, held, run, dir, path, named)
     }
 
     /// By which way each step of a path is answered, and how many cells are traced.
@@ -400,6 +544,26 @@ impl Session {
         Ok(Reply::Values {
             array: Arc::try_clone(&run.out)?,
         })
+    }
+}
+
+/// What a line gives that is read as a command.
+fn sorted(command: Command) -> Given
+    ensures { result ≡ (if is_ask command then given.Ask command else given.Other command) }
+{
+    match command {
+        Command::Ask {
+            version,
+            dir,
+            path,
+            cells,
+        } => Given::Ask(Command::Ask {
+            version,
+            dir,
+            path,
+            cells,
+        }),
+        other => Given::Other(other),
     }
 }
 

@@ -1,20 +1,26 @@
 -- Each turn takes in the bytes up to a byte 10 and that byte: the turns so far and this one are the chunk's front.
-use Rattle.std.proofs.Common.{ℕ, ◌+◌, List, [], ◌∷◌, ◌++◌, take, drop}
-use Rattle.std.proofs.Common.{refl, subst, ap, ◌∙◌, arith}
+use Rattle.std.proofs.Common.{◌≡◌, ℕ, ◌+◌, ◌-◌, List, [], ◌∷◌, ◌++◌, take, drop, length}
+use Rattle.std.proofs.Common.{refl, subst, ap, sym, ◌∙◌, arith}
 use Rattle.std.proofs.lemmas.List.{take-append-drop, take_rest}
 use Rattle.std.proofs.lemmas.Result.{on_ok_weaker, err_from_is_err_and}
 use Rattle.sz_outside.specs.Outside.{SaysPart}
-use Rattle.sz_session.specs.Moments.{told_in}
-use Rattle.sz_session.specs.Serving.{Advances}
-use Rattle.sz_session.proofs.Turns.{advances-nothing, advances-then, advances-part, part-more, first-front, says-quiet}
-use Rattle.sz_session.proofs.Turns.{take-line}
-use Rattle.sz_session.proofs.Disks.{stays-still, only-front, only-line}
+use Rattle.sz_session.specs.Moments.{Moment, told_in, cut_after}
+use Rattle.sz_session.specs.Serving.{Advances, SaysFirst}
+use Rattle.sz_session.specs.Disks.{OnlySays}
+use Rattle.sz_session.specs.Waiting.{Waits}
+use Rattle.sz_session.proofs.Turns.{part-more, take-line}
+use Rattle.sz_session.proofs.Disks.{stays-still, only-front}
+use Rattle.sz_session.proofs.Waiting.{waits-nothing, waits-more, waits-line, waits-said, waits-part, waits-some, first-line}
+use Rattle.sz_session.proofs.Waiting.{first-taken, first-quiet, says-part, says-whole, only-waiting, only-rest}
 use Rattle.sz_session.proofs.feed.Feed.take_chunk.Goals as goal
 
 pub loop-at-init : goal.loop-at-init
 loop-at-init g c = record {
   within = omega arith;
-  advances = advances-nothing (g.T.Station.said c.args.station.now) c.args.self.now;
+  waits = waits-nothing (g.T.Station.said c.args.station.now) c.args.self.now c.new-waiting.result.items
+      c.new-waiting.ensures.items;
+  asks = rw c.new-waiting.ensures.items tt;
+  few = omega (arith, ap length c.new-waiting.ensures.items);
   number = omega arith;
   disk = stays-still g.T.Station _ c.args.station.now (g.met.T.Station.only_now c.args.station.now)
       (g.met.T.Station.counts_now c.args.station.now);
@@ -24,87 +30,148 @@ loop-at-init g c = record {
 pub loop-at-preserved : goal.loop-at-preserved
 loop-at-preserved g c =
     let found = c.in-Some.ensures in
-    let pending = c.in_ok-extend.ensures.takes (g.T.Station.said c.loop-at.station) in
-    let so_far =
-    advances-then _ _ _ _ _ _ _ _
-    (advances-then _ _ _ _ _ _ _ _ c.loop-at.invariant.advances pending) c.in_ok-end_line.ensures.line in
-    let Q : List ℕ
-    → Type 0 =
-    λ bytes. Advances (g.T.Station.said c.args.station.now)
-    (g.T.Station.said c.end_line.new.station) c.args.self.now c.end_line.new.self bytes in
+    let xs = c.args.chunk.now in
+    let s = g.T.Station.said c.args.station.now in
+    let t = g.T.Station.said c.loop-at.station in
+    let u = g.T.Station.said c.take_line.new.station in
+    let waited = waits-more s t c.args.self.now c.loop-at.self c.extend.new.self (take c.loop-at.start xs)
+    (take (c.in-Some.at - c.loop-at.start) (drop c.loop-at.start xs)) c.loop-at.waiting.items
+    c.loop-at.invariant.waits c.in_ok-extend.ensures.takes c.extend.ensures.held in
+    let next = waits-line s t u c.args.self.now c.extend.new.self c.take_line.new.self _ c.loop-at.waiting.items
+    c.take_line.new.waiting.items waited c.in_ok-take_line.ensures.lags c.in_ok-take_line.ensures.says in
+    let Q : List ℕ → Type 0 = λ bytes. Waits s u c.args.self.now c.take_line.new.self bytes c.take_line.new.waiting.items in
     let grown = c.in_ok-extend.ensures.number in
     record {
       within = omega (arith, found.1);
-      advances = subst Q (take-line c.args.chunk.now c.loop-at.start c.in-Some.at found.0 found.1 found.2) so_far;
-      number = omega (arith, found.0, grown, c.in_ok-end_line.ensures.next, c.loop-at.invariant.number);
-      disk = only-line g.T.Station c.args.station.now c.loop-at.station c.end_line.new.station c.args.self.now
-          c.loop-at.self c.extend.new.self c.args.chunk.now c.loop-at.start c.in-Some.at found.0 found.1 found.2
-          c.loop-at.invariant.disk c.loop-at.invariant.advances pending c.end_line.ensures.disk;
-      quiet = c.in_ok-end_line.ensures.quiet ∙ c.loop-at.invariant.quiet;
+      waits = subst Q (take-line xs c.loop-at.start c.in-Some.at found.0 found.1 found.2) next;
+      asks = c.in_ok-take_line.ensures.asks;
+      few = c.in_ok-take_line.ensures.few;
+      number = omega (arith, found.0, grown, c.in_ok-take_line.ensures.next, c.loop-at.invariant.number);
+      disk = only-waiting g.T.Station c.args.station.now c.loop-at.station c.take_line.new.station c.args.self.now
+          c.loop-at.self c.extend.new.self xs c.loop-at.start c.in-Some.at c.loop-at.waiting.items found.0 found.1
+          found.2 c.loop-at.invariant.disk waited c.take_line.ensures.disk;
+      quiet = c.in_ok-take_line.ensures.quiet ∙ c.loop-at.invariant.quiet;
     }
 
--- what is left of the chunk is of the line that has not ended
-pub returns-clause-chunk : goal.returns-clause-chunk
-returns-clause-chunk g c =
-    let Q : List ℕ
-    → Type 0 =
-    λ bytes. Advances (g.T.Station.said c.args.station.now)
-    (g.T.Station.said c.loop-at.station) c.args.self.now c.extend-2.new.self bytes in
-    let whole =
-    ap (λ (ys : List ℕ). take c.loop-at.start c.args.chunk.now ++ ys)
-    (take_rest c.args.chunk.now c.loop-at.start)
-    ∙ take-append-drop c.loop-at.start c.args.chunk.now in
-    on_ok_weaker c.extend-2.result
-    (λ takes. subst Q whole
-    (advances-then _ _ _ _ _ _ _ _ c.loop-at.invariant.advances (takes (g.T.Station.said c.loop-at.station))))
-    c.extend-2.ensures.takes
-
--- where memory is refused, every line that ended so far was answered
+-- where memory is refused, every line that ended so far was answered, but for asks that wait
 pub returns-in_err-extend-clause-first : goal.returns-in_err-extend-clause-first
 returns-in_err-extend-clause-first g c =
-    λ e. first-front _ _ c.args.self.now c.args.chunk.now c.loop-at.start c.loop-at.invariant.advances.says
+    λ e. first-taken _ _ c.args.self.now c.args.chunk.now c.loop-at.start c.loop-at.invariant.waits.first
 
-pub returns-clause-first : goal.returns-clause-first
-returns-clause-first g c =
-    λ e. first-front _ _ c.args.self.now c.args.chunk.now c.loop-at.start c.loop-at.invariant.advances.says
+pub returns-in_err-extend-2-clause-first : goal.returns-in_err-extend-2-clause-first
+returns-in_err-extend-2-clause-first g c =
+    λ e. first-taken _ _ c.args.self.now c.args.chunk.now c.loop-at.start c.loop-at.invariant.waits.first
 
-pub returns-in_err-end_line-clause-first : goal.returns-in_err-end_line-clause-first
-returns-in_err-end_line-clause-first g c =
-    let p = err_from_is_err_and c.from_residual-in_err-end_line.result c.from_residual-in_err-end_line.ensures.1 in
-    rw (p.1, p.2) (λ e. first-front _ _ c.args.self.now c.args.chunk.now c.loop-at.start
-    (says-quiet _ _ _ _ c.loop-at.invariant.advances.says (c.in_err-end_line.ensures.nothing e)))
-
--- where a say fails, a first part of the next reply was said
-pub returns-in_err-end_line-clause-part : goal.returns-in_err-end_line-clause-part
-returns-in_err-end_line-clause-part g c =
+pub returns-in_err-take_line-clause-first : goal.returns-in_err-take_line-clause-first
+returns-in_err-take_line-clause-first g c =
     let found = c.in-Some.ensures in
-    let p = err_from_is_err_and c.from_residual-in_err-end_line.result c.from_residual-in_err-end_line.ensures.1 in
-    let pending = c.in_ok-extend.ensures.takes (g.T.Station.said c.loop-at.station) in
-    let front = advances-then _ _ _ _ _ _ _ _ c.loop-at.invariant.advances pending in
-    let Q : List ℕ
-    → Type 0 =
-    λ bytes. SaysPart (g.T.Station.said c.args.station.now) (g.T.Station.said c.end_line.new.station)
-    (told_in c.args.self.now bytes) in
-    rw (p.1, p.2) (λ e. subst Q (take-append-drop (c.in-Some.at + 1) c.args.chunk.now)
-    (part-more _ _ c.args.self.now (take (c.in-Some.at + 1) c.args.chunk.now) (drop (c.in-Some.at + 1) c.args.chunk.now)
-    (subst Q (take-line c.args.chunk.now c.loop-at.start c.in-Some.at found.0 found.1 found.2)
-    (advances-part _ _ _ _ _ _ (10 ∷ []) front (c.in_err-end_line.ensures.part e)))))
+    let xs = c.args.chunk.now in
+    let s = g.T.Station.said c.args.station.now in
+    let t = g.T.Station.said c.loop-at.station in
+    let u = g.T.Station.said c.take_line.new.station in
+    let waited = waits-more s t c.args.self.now c.loop-at.self c.extend.new.self (take c.loop-at.start xs)
+    (take (c.in-Some.at - c.loop-at.start) (drop c.loop-at.start xs)) c.loop-at.waiting.items
+    c.loop-at.invariant.waits c.in_ok-extend.ensures.takes c.extend.ensures.held in
+    let Q : List ℕ → Type 0 = λ bytes.
+    SaysFirst s u c.args.self.now.held c.args.self.now.number (cut_after c.args.self.now bytes).whole in
+    let p = err_from_is_err_and c.from_residual-in_err-take_line.result c.from_residual-in_err-take_line.ensures.1 in
+    rw (p.1, p.2) (λ e. first-taken s u c.args.self.now xs (c.in-Some.at + 1)
+    (subst Q (take-line xs c.loop-at.start c.in-Some.at found.0 found.1 found.2)
+    (first-line s t u c.args.self.now c.extend.new.self _ c.loop-at.waiting.items waited
+    (says-whole _ _ _ _ _ c.in_err-take_line.ensures.says e))))
 
--- the disk, where each line that ended so far was answered
+-- where a say fails, a first part of what was to be said next was said
+pub returns-in_err-take_line-clause-part : goal.returns-in_err-take_line-clause-part
+returns-in_err-take_line-clause-part g c =
+    let found = c.in-Some.ensures in
+    let xs = c.args.chunk.now in
+    let s = g.T.Station.said c.args.station.now in
+    let t = g.T.Station.said c.loop-at.station in
+    let u = g.T.Station.said c.take_line.new.station in
+    let waited = waits-more s t c.args.self.now c.loop-at.self c.extend.new.self (take c.loop-at.start xs)
+    (take (c.in-Some.at - c.loop-at.start) (drop c.loop-at.start xs)) c.loop-at.waiting.items
+    c.loop-at.invariant.waits c.in_ok-extend.ensures.takes c.extend.ensures.held in
+    let Q : List ℕ → Type 0 = λ bytes. SaysPart s u (told_in c.args.self.now bytes) in
+    let p = err_from_is_err_and c.from_residual-in_err-take_line.result c.from_residual-in_err-take_line.ensures.1 in
+    rw (p.1, p.2) (λ e. subst Q (take-append-drop (c.in-Some.at + 1) xs)
+    (part-more s u c.args.self.now (take (c.in-Some.at + 1) xs) (drop (c.in-Some.at + 1) xs)
+    (subst Q (take-line xs c.loop-at.start c.in-Some.at found.0 found.1 found.2)
+    (waits-part s t u c.args.self.now c.extend.new.self _ (10 ∷ []) c.loop-at.waiting.items waited
+    (says-part _ _ _ _ _ c.in_err-take_line.ensures.says e)))))
+
+-- the disk
 pub returns-in_err-extend-clause-disk : goal.returns-in_err-extend-clause-disk
 returns-in_err-extend-clause-disk g c =
     only-front g.T.Station _ _ c.args.self.now c.args.chunk.now c.loop-at.start c.loop-at.invariant.disk
 
-pub returns-clause-disk : goal.returns-clause-disk
-returns-clause-disk g c =
+pub returns-in_err-extend-2-clause-disk : goal.returns-in_err-extend-2-clause-disk
+returns-in_err-extend-2-clause-disk g c =
     only-front g.T.Station _ _ c.args.self.now c.args.chunk.now c.loop-at.start c.loop-at.invariant.disk
 
--- and where one was not
-pub returns-in_err-end_line-clause-disk : goal.returns-in_err-end_line-clause-disk
-returns-in_err-end_line-clause-disk g c =
+pub returns-in_err-take_line-clause-disk : goal.returns-in_err-take_line-clause-disk
+returns-in_err-take_line-clause-disk g c =
     let found = c.in-Some.ensures in
-    let pending = c.in_ok-extend.ensures.takes (g.T.Station.said c.loop-at.station) in
-    only-front g.T.Station _ _ c.args.self.now c.args.chunk.now (c.in-Some.at + 1)
-    (only-line g.T.Station c.args.station.now c.loop-at.station c.end_line.new.station c.args.self.now
-    c.loop-at.self c.extend.new.self c.args.chunk.now c.loop-at.start c.in-Some.at found.0 found.1 found.2
-    c.loop-at.invariant.disk c.loop-at.invariant.advances pending c.end_line.ensures.disk)
+    let xs = c.args.chunk.now in
+    let waited = waits-more (g.T.Station.said c.args.station.now) (g.T.Station.said c.loop-at.station) c.args.self.now
+    c.loop-at.self c.extend.new.self (take c.loop-at.start xs)
+    (take (c.in-Some.at - c.loop-at.start) (drop c.loop-at.start xs)) c.loop-at.waiting.items
+    c.loop-at.invariant.waits c.in_ok-extend.ensures.takes c.extend.ensures.held in
+    only-front g.T.Station _ _ c.args.self.now xs (c.in-Some.at + 1)
+    (only-waiting g.T.Station c.args.station.now c.loop-at.station c.take_line.new.station c.args.self.now c.loop-at.self
+    c.extend.new.self xs c.loop-at.start c.in-Some.at c.loop-at.waiting.items found.0 found.1 found.2
+    c.loop-at.invariant.disk waited c.take_line.ensures.disk)
+
+-- what is left of the chunk is of the line that has not ended, and what waits is said
+pub returns-clause-chunk : goal.returns-clause-chunk
+returns-clause-chunk g c =
+    let xs = c.args.chunk.now in
+    let s = g.T.Station.said c.args.station.now in
+    let t = g.T.Station.said c.loop-at.station in
+    let u = g.T.Station.said c.say_waiting.new.station in
+    let whole = ap (λ (ys : List ℕ). take c.loop-at.start xs ++ ys) (take_rest xs c.loop-at.start)
+    ∙ take-append-drop c.loop-at.start xs in
+    let waited = waits-more s t c.args.self.now c.loop-at.self c.extend-2.new.self (take c.loop-at.start xs) _
+    c.loop-at.waiting.items c.loop-at.invariant.waits c.in_ok-extend-2.ensures.takes c.extend-2.ensures.held in
+    let Q : List ℕ → Type 0 = λ bytes. Advances s u c.args.self.now c.extend-2.new.self bytes in
+    let M : Moment → Type 0 = λ m. Advances s u c.args.self.now m xs in
+    on_ok_weaker c.say_waiting.result
+    (λ says. subst M (sym c.say_waiting.ensures.same)
+    (subst Q whole (waits-said s t u c.args.self.now c.extend-2.new.self _ c.loop-at.waiting.items waited says)))
+    c.say_waiting.ensures.said
+
+pub returns-clause-part : goal.returns-clause-part
+returns-clause-part g c =
+    let xs = c.args.chunk.now in
+    let s = g.T.Station.said c.args.station.now in
+    let t = g.T.Station.said c.loop-at.station in
+    let u = g.T.Station.said c.say_waiting.new.station in
+    let whole = ap (λ (ys : List ℕ). take c.loop-at.start xs ++ ys) (take_rest xs c.loop-at.start)
+    ∙ take-append-drop c.loop-at.start xs in
+    let waited = waits-more s t c.args.self.now c.loop-at.self c.extend-2.new.self (take c.loop-at.start xs) _
+    c.loop-at.waiting.items c.loop-at.invariant.waits c.in_ok-extend-2.ensures.takes c.extend-2.ensures.held in
+    let Q : List ℕ → Type 0 = λ bytes. SaysPart s u (told_in c.args.self.now bytes) in
+    λ e. subst Q whole
+    (waits-some s t u c.args.self.now c.extend-2.new.self _ c.loop-at.waiting.items waited (c.say_waiting.ensures.part e))
+
+pub returns-clause-first : goal.returns-clause-first
+returns-clause-first g c =
+    let s = g.T.Station.said c.args.station.now in
+    let t = g.T.Station.said c.loop-at.station in
+    let u = g.T.Station.said c.say_waiting.new.station in
+    λ e. first-taken s u c.args.self.now c.args.chunk.now c.loop-at.start
+    (first-quiet s t u c.args.self.now _ c.loop-at.invariant.waits.first (c.say_waiting.ensures.nothing e))
+
+pub returns-clause-disk : goal.returns-clause-disk
+returns-clause-disk g c =
+    let xs = c.args.chunk.now in
+    let whole = ap (λ (ys : List ℕ). take c.loop-at.start xs ++ ys) (take_rest xs c.loop-at.start)
+    ∙ take-append-drop c.loop-at.start xs in
+    let waited = waits-more (g.T.Station.said c.args.station.now) (g.T.Station.said c.loop-at.station) c.args.self.now
+    c.loop-at.self c.extend-2.new.self (take c.loop-at.start xs) _ c.loop-at.waiting.items c.loop-at.invariant.waits
+    c.in_ok-extend-2.ensures.takes c.extend-2.ensures.held in
+    let Q : List ℕ → Type 0 = λ bytes.
+    OnlySays g.T.Station (told_in c.args.self.now bytes) c.args.station.now c.say_waiting.new.station in
+    subst Q whole
+    (only-rest g.T.Station c.args.station.now c.loop-at.station c.say_waiting.new.station c.args.self.now
+    c.extend-2.new.self (take c.loop-at.start xs) _ c.loop-at.waiting.items c.loop-at.invariant.disk waited
+    c.say_waiting.ensures.disk)

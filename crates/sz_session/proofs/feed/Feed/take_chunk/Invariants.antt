@@ -1,16 +1,20 @@
 -- The bytes up to where the next line begins were taken in.
 use Rattle.std.proofs.Common.{◌≤◌, ◌+◌, ◌-◌, length, take}
+use Rattle.std.specs.List.{AllByRecursion}
 use Rattle.sz_outside.specs.Outside.{Stood}
 use Rattle.sz_session.specs.Moments.{told_in}
-use Rattle.sz_session.specs.Serving.{Advances}
+use Rattle.sz_session.specs.Asks.{IsAskLine}
+use Rattle.sz_session.specs.Waiting.{Waits}
 use Rattle.sz_session.specs.Disks.{OnlySays}
 use Rattle.sz_session.proofs.feed.Feed.take_chunk.Given as goal
 
 abbrev pub invariant-loop-at : goal.invariant-loop-at
 invariant-loop-at g l = record {
   within : l.start ≤ length l.chunk;
-  advances : Advances (g.T.Station.said l.initial.station) (g.T.Station.said l.station) l.initial.self l.self
-      (take l.start l.chunk);
+  waits : Waits (g.T.Station.said l.initial.station) (g.T.Station.said l.station) l.initial.self l.self
+      (take l.start l.chunk) l.waiting.items;
+  asks : AllByRecursion IsAskLine l.waiting.items;
+  few : length l.waiting.items ≤ 64;
   number : l.self.number ≤ l.initial.self.number + l.start;
   disk : OnlySays g.T.Station (told_in l.initial.self (take l.start l.chunk)) l.initial.station l.station;
   quiet : Stood (g.T.Station.say_faults l.initial.station) (g.T.Station.say_faults l.station);

@@ -1,18 +1,12 @@
 //! Whole sessions: each row is a text, and the replies that are said of it.
 ghost use Rattle.std.specs.Prelude.{◌≤◌};
 
-use crate::{Status, serve};
 use std::alloc::Global;
 use std::sync::{Arc, Wait};
 use std::test::Fail;
 use std::thread::Threads;
 use sz_outside::{MemSource, MemStation, NoGate, Source, SteadySource};
-
-mod beside;
-mod gate;
-mod greatest;
-mod load;
-mod rows;
+use sz_session::{Status, serve};
 
 /// The smallest session.
 const TEXT: &[u8] = b"{\"array\":\"a\",\"cells\":[[5]]}
@@ -27,14 +21,14 @@ const REPLIES: &[u8] = b"1 array a 1\n2 flow f\n3 started 1\n4 done 1\n5 cells 1
 
 /// How a session ended, and what was said by then.
 #[derive(Debug, Drop)]
-struct Outcome {
+pub struct Outcome {
     status: Status,
     said: Vec<u8>,
 }
 
 impl Outcome {
     /// Whether it was done, and said these replies.
-    fn is_done(&self, replies: &[u8]) -> bool {
+    pub fn is_done(&self, replies: &[u8]) -> bool {
         self.status == Status::Done && self.said.as_slice() == replies
     }
 
@@ -46,7 +40,7 @@ impl Outcome {
 
 /// Plays a session of this text, of which a read gives at most so many bytes. The reads and the
 /// says of these numbers fail.
-fn session<R: Threads + Wait + Clone + Send + Sync + 'static>(
+pub fn session<R: Threads + Wait + Clone + Send + Sync + 'static>(
     rt: &R,
     alloc: Global,
     text: Vec<u8>,

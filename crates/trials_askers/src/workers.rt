@@ -1,6 +1,5 @@
 //! Workers beside asks: no clause can see them, so these tests do.
 
-use crate::{Session, Status, serve};
 use std::alloc::Global;
 use std::sync::atomic::{AtomicU64, Ordering};
 use std::sync::{Arc, Wait};
@@ -8,6 +7,7 @@ use std::test::Fail;
 use std::thread::Threads;
 use sz_outside::{Gate, MemStation, NoGate, SteadySource};
 use sz_pool::employ;
+use sz_session::{Session, Status, serve};
 use sz_spec::Tally;
 
 /// For how many turns something is waited for.

@@ -1,10 +1,10 @@
 //! Generated sessions: one line, the same of each number of workers and each time.
-use crate::{Status, serve};
 use std::alloc::Global;
 use std::sync::{Arc, Wait};
 use std::test::Fail;
 use std::thread::Threads;
 use sz_outside::{MemStation, NoGate, SteadySource};
+use sz_session::{Status, serve};
 
 /// How `serve` ends with these words, and what is said. The says of these numbers fail.
 fn ends<R: Threads + Wait + Clone + Send + Sync + 'static>(

@@ -1,11 +1,11 @@
 //! The gate is called once for each ask and explain that is accepted, with the number of its line:
 //! no clause can see the call.
 
-use crate::{Status, serve};
 use std::sync::Arc;
 use std::sync::atomic::{AtomicU64, Ordering};
 use std::test::Fail;
 use sz_outside::{Gate, MemStation, SteadySource};
+use sz_session::{Status, serve};
 
 /// A gate that counts its calls after asks, and adds up the squares of their lines' numbers.
 #[derive(Drop)]

@@ -1,0 +1,51 @@
+-- A line that does not wait is told once those that wait before it are.
+use Rattle.std.proofs.Common.{◌≡◌, List, ℕ, [], ◌∷◌, Err, OnOk, subst, sym}
+use Rattle.std.proofs.lemmas.Result.{err_from_is_err_and, on_ok_weaker}
+use Rattle.sz_outside.specs.Outside.{Says, SaysPart}
+use Rattle.sz_session.specs.Moments.{Moment, told_in}
+use Rattle.sz_session.specs.Asks.{asks_text}
+use Rattle.sz_session.specs.Disks.{OnlySays}
+use Rattle.sz_session.specs.Waiting.{SaysBy}
+use Rattle.sz_session.proofs.Disks.{stays-still, only-longer}
+use Rattle.sz_session.proofs.Waiting.{says-waited, says-line, only-both}
+use Rattle.sz_session.proofs.feed.Feed.take_line.Goals as goal
+
+pub returns-in_err-given-clause-disk : goal.returns-in_err-given-clause-disk
+returns-in_err-given-clause-disk g c =
+    stays-still g.T.Station _ c.args.station.now (g.met.T.Station.only_now c.args.station.now)
+    (g.met.T.Station.counts_now c.args.station.now)
+
+-- where those that wait could not be answered
+pub returns-in_err-say_waiting-in_default-clause-says : goal.returns-in_err-say_waiting-in_default-clause-says
+returns-in_err-say_waiting-in_default-clause-says g c =
+    let p = err_from_is_err_and c.from_residual-in_err-say_waiting-in_default.result
+    c.from_residual-in_err-say_waiting-in_default.ensures.1 in
+    rw (p.1, p.2)
+    (says-waited _ _ _ _ _ c.in_err-say_waiting-in_default.ensures.part c.in_err-say_waiting-in_default.ensures.nothing)
+
+pub returns-in_err-say_waiting-in_default-clause-disk : goal.returns-in_err-say_waiting-in_default-clause-disk
+returns-in_err-say_waiting-in_default-clause-disk g c =
+    only-longer g.T.Station c.args.station.now c.say_waiting.new.station (asks_text c.args.self.now.held c.args.waiting.now.items)
+    (told_in c.args.self.now (10 ∷ [])) c.say_waiting.ensures.disk
+
+pub returns-in_ok-say_waiting-in_default-clause-says : goal.returns-in_ok-say_waiting-in_default-clause-says
+returns-in_ok-say_waiting-in_default-clause-says g c =
+    let s = g.T.Station.said c.args.station.now in
+    let t = g.T.Station.said c.say_waiting.new.station in
+    let u = g.T.Station.said c.end_with.new.station in
+    let asks = asks_text c.args.self.now.held c.args.waiting.now.items in
+    let P : Moment → Type 0 = λ m. SaysBy c.end_with.result s u asks (told_in m (10 ∷ [])) in
+    subst P c.say_waiting.ensures.same
+    (says-line c.end_with.result s t u asks (told_in c.say_waiting.new.self (10 ∷ []))
+    c.in_ok-say_waiting-in_default.ensures.said
+    (on_ok_weaker c.end_with.result (λ line. line.says) c.end_with.ensures.line) c.end_with.ensures.part
+    c.end_with.ensures.nothing)
+
+pub returns-in_ok-say_waiting-in_default-clause-disk : goal.returns-in_ok-say_waiting-in_default-clause-disk
+returns-in_ok-say_waiting-in_default-clause-disk g c =
+    let asks = asks_text c.args.self.now.held c.args.waiting.now.items in
+    let P : Moment → Type 0 =
+    λ m. OnlySays g.T.Station (told_in m (10 ∷ [])) c.say_waiting.new.station c.end_with.new.station in
+    only-both g.T.Station c.args.station.now c.say_waiting.new.station c.end_with.new.station asks
+    (told_in c.args.self.now (10 ∷ [])) c.say_waiting.ensures.disk c.in_ok-say_waiting-in_default.ensures.said
+    (subst P c.say_waiting.ensures.same c.end_with.ensures.disk)

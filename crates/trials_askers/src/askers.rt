@@ -1,0 +1,221 @@
+//! Asks beside one another.
+
+ghost use Rattle.std.specs.Prelude.{IfOk, IfSome};
+ghost use Rattle.sz_session.specs.Asks.{IsAskLine};
+
+use std::alloc::Global;
+use std::sync::atomic::{AtomicU64, Ordering};
+use std::sync::{Arc, Wait};
+use std::test::Fail;
+use std::thread::Threads;
+use sz_catalogue::{Reply, reply_text};
+use sz_outside::{Gate, MemStation, NoGate, SteadySource};
+use sz_script::{Command, laws, read_line};
+use sz_session::{AskLine, Session, Status, serve};
+use sz_spec::Tally;
+
+/// For how many turns something is waited for.
+const LIMIT: u64 = 1_000_000_000;
+
+/// A gate that holds each answered ask until a second one was answered, and counts those for which
+/// none came.
+#[derive(Drop)]
+struct Meeting {
+    asks: AtomicU64,
+    missed: AtomicU64,
+}
+
+impl Gate for Meeting {
+    fn at_piece(&self, _version: u32, _node: u32, _piece: u32) {}
+
+    fn after_ask(&self, _line: u64) {
+        self.asks.fetch_add(1, Ordering::SeqCst);
+        for _ in 0..LIMIT {
+            if self.asks.load(Ordering::SeqCst) > 1 {
+                return;
+            }
+        }
+        self.missed.fetch_add(1, Ordering::SeqCst);
+    }
+}
+
+/// Asks behind one another, among them some that are refused, with other lines between them.
+const TEXT: &[u8] = b"{\"array\":\"a\",\"cells\":[[5,6],[7,8]]}
+{\"flow\":\"f\",\"inputs\":1,\"nodes\":[{\"op\":\"transpose\",\"from\":[{\"i\":0}]}]}
+{\"strategy\":\"f\",\"node\":0,\"list\":[\"full_one_b\"]}
+{\"start\":\"f\",\"base\":[[\"a\",1]]}
+{\"await\":1}
+{\"ask\":1,\"dir\":\"back\",\"path\":[[0,0]],\"cells\":[[0,1]]}
+{\"ask\":1,\"dir\":\"forward\",\"path\":[[0,0]],\"cells\":[[1,0]]}
+{\"ask\":2,\"dir\":\"back\",\"path\":[[0,0]],\"cells\":[[0,0]]}
+{\"ask\":1,\"dir\":\"back\",\"path\":[[0,0],[0,0]],\"cells\":[[0,0]]}
+
+{\"ask\":1,\"dir\":\"back\",\"path\":[[0,0]],\"cells\":[[2,0]]}
+{\"ask\":1,\"dir\":\"back\",\"path\":[[0,0]],\"cells\":[]}
+{\"explain\":1,\"dir\":\"back\",\"path\":[[0,0]],\"cells\":[[0,0]]}
+{\"ask\":1,\"dir\":\"back\",\"path\":[[0,0]],\"cells\":[[0,0],[1,0]]}
+{\"show\":1,\"node\":0}
+{\"start\":\"f\",\"base\":[[\"a\",1]]}
+{\"ask\":2,\"dir\":\"back\",\"path\":[[0,0]],\"cells\":[[1,0]]}
+{\"ask\":2,\"dir\":\"forward\",\"path\":[[0,0]],\"cells\":[[1,1]]}
+{
+{\"ask\":2,\"dir\":\"back\",\"path\":[[0,0]],\"cells\":[[1,1]]}";
+
+/// The replies.
+const REPLIES: &[u8] = b"1 array a 1
+2 flow f
+3 strategy f 0
+4 started 1
+5 done 1
+6 cells 1 1,0
+7 cells 1 0,1
+8 refused 15
+9 refused 16
+11 refused 17
+12 cells 0
+13 explain full_one_b traced 0
+14 cells 2 0,0 0,1
+15 values 2 2 5 7 6 8
+16 started 2
+17 cells 1 0,1
+18 cells 1 1,1
+19 refused 1
+20 cells 1 1,1
+";
+
+/// How a session of the text ends with so many askers, and what is said.
+fn played<G: Gate + 'static, R: Threads + Wait + Clone + Send + Sync + 'static>(
+    rt: &R,
+    alloc: Global,
+    askers: &str,
+    chunk: u32,
+    gate: &Arc<G>,
+) -> Result<(Status, Vec<u8>), Fail> {
+    let words = vec![in alloc;
+        String::from_str(alloc, "play")?,
+        String::from_str(alloc, "--askers")?,
+        String::from_str(alloc, askers)?,
+    ]?;
+    let mut source = SteadySource::new(TEXT.to_vec(alloc)?, chunk);
+    let mut station = MemStation::new(alloc, Vec::new(alloc), Vec::new(alloc), Vec::new(alloc))?;
+    let status = serve(rt, alloc, &words, &mut source, &mut station, gate);
+    Ok((status, station.said().to_vec(alloc)?))
+}
+
+/// With any number of askers, and reads of any size, the same is said.
+#[test]
+fn any_number_of_askers_says_the_same(rt: HostRuntime) -> Result<(), Fail> {
+    let alloc = rt.alloc();
+    let gate = Arc::new(alloc, NoGate)?;
+    for askers in ["1", "2", "4", "64"] {
+        for chunk in [7u32, 200, 65_536] {
+            let (status, said) = played(&rt, alloc, askers, chunk, &gate)?;
+            assert_eq!(rt; status, Status::Done);
+            assert_eq!(rt; said.as_slice(), REPLIES);
+        }
+    }
+    Ok(())
+}
+
+/// Two asks are answered at the same time: each is held until the other was answered too.
+#[test]
+fn two_asks_are_answered_at_the_same_time(rt: HostRuntime) -> Result<(), Fail> {
+    let alloc = rt.alloc();
+    let meeting = Meeting {
+        asks: AtomicU64::new(0),
+        missed: AtomicU64::new(0),
+    };
+    let gate = Arc::new(alloc, meeting)?;
+    let (status, said) = played(&rt, alloc, "2", 65_536, &gate)?;
+    assert_eq!(rt; status, Status::Done);
+    assert_eq!(rt; said.as_slice(), REPLIES);
+    assert_eq!(rt; gate.missed.load(Ordering::SeqCst), 0);
+    Ok(())
+}
+
+/// The ask that a line orders, with a number, where it orders one.
+fn ask_line(alloc: Global, number: u64, line: &[u8]) -> Result<Option<AskLine>, Fail>
+    ensures { IfOk result (λ o. IfSome o (λ l. IsAskLine l)) }
+{
+    laws::commands_are_right();
+    match read_line(alloc, line) {
+        Ok(
+            Command::Ask {
+                version,
+                dir,
+                path,
+                cells,
+            },
+        ) => Ok(Some(AskLine {
+            number,
+            ask: Command::Ask {
+                version,
+                dir,
+                path,
+                cells,
+            },
+        })),
+        _ => Ok(None),
+    }
+}
+
+/// Two asks of a version whose one step is traced, and two that rules refuse.
+const ASKS: [&[u8]; 4] = [
+    b"{\"ask\":1,\"dir\":\"back\",\"path\":[[0,0]],\"cells\":[[0,1]]}",
+    b"{\"ask\":1,\"dir\":\"forward\",\"path\":[[0,0]],\"cells\":[[1,0]]}",
+    b"{\"ask\":2,\"dir\":\"back\",\"path\":[[0,0]],\"cells\":[[0,0]]}",
+    b"{\"ask\":1,\"dir\":\"back\",\"path\":[[0,0],[0,0]],\"cells\":[[0,0]]}",
+];
+
+/// The lines before them.
+const BEFORE: [&[u8]; 5] = [
+    b"{\"array\":\"a\",\"cells\":[[5,6],[7,8]]}",
+    b"{\"flow\":\"f\",\"inputs\":1,\"nodes\":[{\"op\":\"transpose\",\"from\":[{\"i\":0}]}]}",
+    b"{\"strategy\":\"f\",\"node\":0,\"list\":[\"blackbox\"]}",
+    b"{\"start\":\"f\",\"base\":[[\"a\",1]]}",
+    b"{\"await\":1}",
+];
+
+/// The replies to the asks, which are told in their order.
+const ASK_REPLIES: &[u8] = b"6 cells 1 1,0\n7 cells 1 0,1\n8 refused 15\n9 refused 16\n";
+
+/// The reply lines of some replies, the first of which is line 6.
+fn lines_of(alloc: Global, replies: &[Reply]) -> Result<Vec<u8>, Fail> {
+    let mut text = Vec::new(alloc);
+    let mut number = 6u64;
+    for reply in replies {
+        text.extend_from_slice(&reply_text(alloc, number, reply)?)?;
+        number = number.saturating_add(1);
+    }
+    Ok(text)
+}
+
+/// Asks that are given together are replied to in their order, and the tally rises by what each
+/// traces: 4 cells for each of two.
+#[test]
+fn asks_have_their_replies_in_order(rt: HostRuntime) -> Result<(), Fail> {
+    let alloc = rt.alloc();
+    let mut session = Session::fresh(alloc, 1, 3)?;
+    let mut station = MemStation::new(alloc, Vec::new(alloc), Vec::new(alloc), Vec::new(alloc))?;
+    for line in BEFORE {
+        let mut tally = Tally::new();
+        let taken = session.command(&rt, line, 1, &mut station, &NoGate, &mut tally);
+        assert!(rt; taken.is_ok());
+    }
+    let [first, second, third, fourth] = ASKS;
+    let (Some(first), Some(second), Some(third), Some(fourth)) = (
+        ask_line(alloc, 6, first)?,
+        ask_line(alloc, 7, second)?,
+        ask_line(alloc, 8, third)?,
+        ask_line(alloc, 9, fourth)?,
+    ) else {
+        assert!(rt; false, "a line is no ask");
+        return Ok(());
+    };
+    let lines = [first, second, third, fourth];
+    let mut tally = Tally::new();
+    let replies = session.asks(&rt, &lines, &NoGate, &mut tally)?;
+    assert_eq!(rt; lines_of(alloc, &replies)?.as_slice(), ASK_REPLIES);
+    assert_eq!(rt; tally.count(), 8);
+    Ok(())
+}
