@@ -9,11 +9,13 @@ use Rattle.std.proofs.lemmas.List.{append-nil, take-append-drop}
 use Rattle.sz_outside.specs.Outside.{Says, SaysPart, Gives}
 use Rattle.sz_outside.specs.Disk.{Told, Passes, Follows, Same, Said, SaidPart}
 use Rattle.sz_outside.specs.declared.stations.Station.{Ghosts}
+use Rattle.sz_log.specs.Steps.{MakesIfFree}
 use Rattle.sz_catalogue.specs.Holdings.{no_holdings}
 use Rattle.sz_session.specs.Transcript.{transcript}
 use Rattle.sz_session.specs.Moments.{Moment, told_in, told_at_end}
 use Rattle.sz_session.specs.Serving.{Advances, Answered, AreAll, SaidInPart}
-use Rattle.sz_session.specs.Disks.{StaysFinding, DiskStays, OnlySays, FoundInPart}
+use Rattle.sz_session.specs.Making.{ready_line}
+use Rattle.sz_session.specs.Disks.{StaysFinding, DiskStays, OnlySays, FoundInPart, StopsMaking}
 use Rattle.sz_session.proofs.Turns.{part-longer, part-more, advances-then, advances-part, take-line}
 use Rattle.sz_session.proofs.Ends.{turn-in_part, end-in_part, answered-in_part}
 
@@ -48,6 +50,21 @@ pass-finds {n} {m} {past} {since} {A} {B} F G more p = record {
   within = λ image said left. ((p.within image said left).0, more said (p.within image said left).1);
   images = p.images;
 }
+
+-- a pass that changes no image makes no other log than the making may
+pass-makes : {n m : ℕ} {past since : Since} {A B : Images} {F : List ℕ → Type 0}
+    → Passes n m past since A B Same F → Passes n m past since A B MakesIfFree F
+pass-makes {n} {m} {past} {since} {A} {B} {F} p =
+    let made : (image : List ℕ) → Follows Same A image → Follows MakesIfFree A image =
+    λ image (old, was, is). (old, was, inl is) in
+    record {
+      later = p.later;
+      joined = p.joined;
+      kept = p.kept;
+      earlier = p.earlier;
+      within = λ image said left. (made image (p.within image said left).0, (p.within image said left).1);
+      images = λ image left. made image (p.images image left);
+    }
 
 -- one pass behind another
 pass-then : {n m k : ℕ} {past half since : Since} {A B C : Images} (F : List ℕ → Type 0)
@@ -151,6 +168,19 @@ stays-said {X} T bytes a b disk stops = record {
       (λ passes. pass-finds (SaidPart (T.said a) bytes) _ (λ found part. part-part (T.said a) bytes found part) passes)
       stops;
 }
+
+-- ---- the making of a log
+
+-- where no call is made nothing is made either
+pub making-still : {X : Type 0} (T : Ghosts X) (a : X)
+    → ((image found : List ℕ) → Told (T.disk a)
+    (T.left_since a (T.moment a) image found → T.may_leave a image × Said (T.said a) found))
+    → ((t : ℕ) (image found : List ℕ) → Told (T.disk a)
+    (t ≤ T.moment a → T.may_leave a image → Said (T.said a) found → T.left_since a t image found))
+    → StopsMaking T a a
+making-still {X} T a only counts =
+    told-more (T.disk a) _ _
+    (λ passes. pass-makes passes) (stays-still T ready_line a only counts).stops
 
 -- ---- lines
 

@@ -306,6 +306,9 @@ completes status.Done limit all left a b r r' q q' ends fault within no_read no_
 completes status.Usage limit all left a b r r' q q' ends fault within no_read no_say = absurd ends
 completes status.ReadFault limit all left a b r r' q q' ends fault within no_read no_say = absurd (no_read fault)
 completes status.SayFault limit all left a b r r' q q' ends fault within no_read no_say = absurd (no_say fault)
+completes status.DiskFault limit all left a b r r' q q' ends fault within no_read no_say = absurd ends
+completes status.NotALog limit all left a b r r' q q' ends fault within no_read no_say = absurd ends
+completes status.AlreadyALog limit all left a b r r' q q' ends fault within no_read no_say = absurd ends
 completes status.NoMemory limit all left a b r r' q q' ends fault within no_read no_say = inr refl
 completes status.InputLimit limit all left a b r r' q q' ends fault within no_read no_say =
     absurd (over all within ends) where

@@ -19,6 +19,7 @@ pub mod LawsSessions
 pub mod Blanks
 pub mod Moments
 pub mod Loads
+pub mod Makings
 pub mod Jobs
 mod RowsServing
 mod SessionRows

@@ -1,5 +1,5 @@
 -- Worked rows of what a session tells in the middle and by its endings: each is found by computing.
-use Rattle.std.specs.Prelude.{◌≡◌, ℕ, List, [], ◌∷◌, ◌++◌, codes, Option, None, Some}
+use Rattle.std.specs.Prelude.{◌≡◌, ℕ, List, [], ◌∷◌, ◌++◌, codes, Option, None, Some, drop, replicate}
 use Rattle.std.specs.Fmt.{digits}
 use Rattle.std.specs.Str.{is_utf8, chars}
 use Rattle.std.proofs.Common.{refl, arith}
@@ -9,6 +9,10 @@ use Rattle.sz_catalogue.specs.Holdings.{no_holdings}
 use Rattle.sz_session.specs.Moments.{Moment, moment_before, told_in, moment_after, told_at_end}
 use Rattle.sz_session.specs.Serving.{Done, SaidOfRead, SaidToLimit, SaidInPart, SaidInLines, IsWithinLimit}
 use Rattle.sz_session.specs.Serving.{IsPastLimit}
+use Rattle.sz_log.specs.Log.{empty_log, header}
+use Rattle.sz_log.specs.declared.LogFault.{LogFault}
+use Rattle.sz_log.specs.declared.LogFault.TheVariants as log
+use Rattle.sz_session.specs.Making.{ready_line, HasBar, IsFree, IfBarred}
 
 -- ---- the cut
 
@@ -103,3 +107,31 @@ within-untold h = h
 
 past-four : IsPastLimit 4 (Some text)
 past-four = omega arith
+
+-- ---- the making of a log
+
+ready : ready_line ≡ 108 ∷ 111 ∷ 103 ∷ 32 ∷ 114 ∷ 101 ∷ 97 ∷ 100 ∷ 121 ∷ 10 ∷ []
+ready = refl
+
+free-untold : IsFree None → ⊥
+free-untold h = h
+
+free-empty : IsFree (Some [])
+free-empty = refl
+
+-- the title behind a closed gate
+free-closed : IsFree (Some (0 ∷ drop 1 empty_log))
+free-closed = refl
+
+-- one byte more than a stop of the making leaves
+bar-longer : HasBar (Some (replicate 18 7)) (Some log.NotALog)
+bar-longer = refl
+
+free-not_longer : IsFree (Some (replicate 18 7)) → ⊥
+free-not_longer h = cc
+
+bar-header : HasBar (Some header) (Some log.AlreadyALog)
+bar-header = refl
+
+bar-header_only : (IsSuch : LogFault → Type 0) → IfBarred (Some header) IsSuch → IsSuch log.AlreadyALog
+bar-header_only IsSuch each = each log.AlreadyALog refl

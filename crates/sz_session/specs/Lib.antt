@@ -3,6 +3,7 @@ pub mod Lines
 pub mod Transcript
 pub mod Moments
 pub mod Serving
+pub mod Making
 pub mod Disks
 pub mod Statuses
 pub mod Commands

@@ -21,10 +21,10 @@ use Rattle.sz_words.specs.declared.JobMode.TheVariants.{Play, Init, Run, Check, 
 
 -- ---- what the words ask for
 
--- The modes that there are: those on a log are still to come.
+-- The modes that there are: a session on a log, and the check of one, are still to come.
 abbrev pub is_served : JobMode → Bool
 is_served Play = true
-is_served Init = false
+is_served Init = true
 is_served Run = false
 is_served Check = false
 is_served Load = true
@@ -35,6 +35,13 @@ is_play Init = false
 is_play Run = false
 is_play Check = false
 is_play Load = false
+
+abbrev pub is_init : JobMode → Bool
+is_init Play = false
+is_init Init = true
+is_init Run = false
+is_init Check = false
+is_init Load = false
 
 abbrev pub is_load : JobMode → Bool
 is_load Play = false
@@ -52,6 +59,9 @@ are_served words = are_for is_served words
 
 abbrev pub are_play : List (List ℕ) → Bool
 are_play words = are_for is_play words
+
+abbrev pub are_init : List (List ℕ) → Bool
+are_init words = are_for is_init words
 
 abbrev pub are_load : List (List ℕ) → Bool
 are_load words = are_for is_load words

@@ -1,7 +1,11 @@
 -- The status that a session ends with, and what it tells.
-use Rattle.std.specs.Prelude.{ℕ, List, [], Option, Result, Ok, Err, ⊤}
+use Rattle.std.specs.Prelude.{ℕ, Bool, true, false, List, [], Option, Result, Ok, Err, ⊤}
 use Rattle.sz_outside.specs.Outside.{Rose, Stood, Says, SaysPart}
+use Rattle.sz_outside.specs.declared.stations.Station.{Ghosts}
+use Rattle.sz_log.specs.declared.LogFault.{LogFault}
+use Rattle.sz_log.specs.declared.LogFault.TheVariants as log
 use Rattle.sz_session.specs.Serving.{Done, SaidOfRead, SaidInPart, SaidInLines, SaidToLimit}
+use Rattle.sz_session.specs.Making.{ready_line, HasMade, IsSpared, IsSilent}
 use Rattle.sz_session.specs.declared.feed.Halt.{Halt}
 use Rattle.sz_session.specs.declared.feed.Halt.TheVariants as halt
 use Rattle.sz_session.specs.declared.serving.Status.{Status}
@@ -22,6 +26,19 @@ abbrev pub words_status : WordsFault → Status
 words_status fault.Usage = status.Usage
 words_status fault.NoMemory = status.NoMemory
 
+-- a disk that was not made a log
+abbrev pub log_status : LogFault → Status
+log_status log.Failed = status.DiskFault
+log_status log.NotALog = status.NotALog
+log_status log.AlreadyALog = status.AlreadyALog
+
+-- the statuses that come of the disk alone
+abbrev pub is_of_disk : Status → Bool
+is_of_disk status.DiskFault = true
+is_of_disk status.NotALog = true
+is_of_disk status.AlreadyALog = true
+is_of_disk _ = false
+
 -- What was read and said by then, for each status that a session of lines ends with.
 abbrev pub Ends : Status → ℕ → Option (List ℕ) → Option (List ℕ) → Option (List ℕ) → Option (List ℕ)
     → Type 0
@@ -29,6 +46,9 @@ Ends status.Done limit before left said_before said = Done limit before left sai
 Ends status.Usage limit before left said_before said = ⊥
 Ends status.ReadFault limit before left said_before said = SaidOfRead before left said_before said
 Ends status.SayFault limit before left said_before said = SaidInPart before said_before said
+Ends status.DiskFault limit before left said_before said = ⊥
+Ends status.NotALog limit before left said_before said = ⊥
+Ends status.AlreadyALog limit before left said_before said = ⊥
 Ends status.NoMemory limit before left said_before said = SaidInLines before said_before said
 Ends status.InputLimit limit before left said_before said =
     SaidToLimit limit before left said_before said
@@ -41,6 +61,9 @@ AreCounted status.Done reads_before reads says_before says =
 AreCounted status.Usage reads_before reads says_before says = ⊥
 AreCounted status.ReadFault reads_before reads says_before says = Rose reads_before reads
 AreCounted status.SayFault reads_before reads says_before says = Rose says_before says
+AreCounted status.DiskFault reads_before reads says_before says = ⊥
+AreCounted status.NotALog reads_before reads says_before says = ⊥
+AreCounted status.AlreadyALog reads_before reads says_before says = ⊥
 AreCounted status.NoMemory reads_before reads says_before says = ⊤
 AreCounted status.InputLimit reads_before reads says_before says = ⊤
 
@@ -50,5 +73,24 @@ EndsLoad status.Done line said_before said = Says said_before said line
 EndsLoad status.Usage line said_before said = ⊥
 EndsLoad status.ReadFault line said_before said = ⊥
 EndsLoad status.SayFault line said_before said = SaysPart said_before said line
+EndsLoad status.DiskFault line said_before said = ⊥
+EndsLoad status.NotALog line said_before said = ⊥
+EndsLoad status.AlreadyALog line said_before said = ⊥
 EndsLoad status.NoMemory line said_before said = Says said_before said []
 EndsLoad status.InputLimit line said_before said = ⊥
+
+-- What was said by then, and what the disk was made, for each status that the making of a log ends
+-- with.
+abbrev pub EndsInit : {X : Type 0} → Ghosts X → Status → X → X → Type 0
+EndsInit T status.Done old new = HasMade T old new × Says (T.said old) (T.said new) ready_line
+    × Stood (T.say_faults old) (T.say_faults new)
+EndsInit T status.Usage old new = ⊥
+EndsInit T status.ReadFault old new = ⊥
+EndsInit T status.SayFault old new = HasMade T old new
+    × SaysPart (T.said old) (T.said new) ready_line × Rose (T.say_faults old) (T.say_faults new)
+EndsInit T status.DiskFault old new = IsSilent T old new
+    × Rose (T.disk_faults old) (T.disk_faults new)
+EndsInit T status.NotALog old new = IsSilent T old new × IsSpared T log.NotALog old new
+EndsInit T status.AlreadyALog old new = IsSilent T old new × IsSpared T log.AlreadyALog old new
+EndsInit T status.NoMemory old new = ⊥
+EndsInit T status.InputLimit old new = ⊥

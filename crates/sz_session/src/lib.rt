@@ -12,6 +12,10 @@
 //! as before, whatever the status (`disk`), and a stop at any moment of the call finds a first part
 //! of what is said (`found_in_play`, `found_in_load`).
 //!
+//! In mode init the disk is made the empty log, and one line says so (`made`, `ready`), or it stays
+//! as it is, since it is a log already or too long (`barred`); a stop at any moment leaves the old
+//! bytes, at most 17 bytes that are no log, or the empty log (`found_in_init`).
+//!
 //! In mode load the lines are those of a session that is made from a seed and a side (`sz_gen`), and
 //! what is said is the one line that sums up their replies (`load`); `load_after_say_fault` and
 //! `load_after_no_memory` say what was said of it by the other endings. Words that ask for no mode
@@ -62,6 +66,7 @@ mod finding;
 mod inquiry;
 pub mod laws;
 mod load;
+mod making;
 mod runs;
 mod serving;
 mod session;

@@ -10,21 +10,28 @@ ghost use Rattle.std.specs.Prelude.{map, string_bytes};
 ghost use Rattle.sz_outside.specs.Outside.{Rose, Stood, Gives, Keeps};
 ghost use Rattle.std.specs.Prelude.{[]};
 ghost use Rattle.sz_outside.specs.Outside.{Says, SaysPart};
-ghost use Rattle.sz_session.specs.Statuses.{end_status, words_status, Ends, EndsLoad, AreCounted};
-ghost use Rattle.sz_session.specs.Serving.{is_served, is_play, is_load, are_served, are_play};
-ghost use Rattle.sz_session.specs.Serving.{are_load, load_line, IfLoad};
+ghost use Rattle.sz_session.specs.Statuses.{end_status, words_status, log_status, is_of_disk};
+ghost use Rattle.sz_session.specs.Statuses.{Ends, EndsLoad, EndsInit, AreCounted};
+ghost use Rattle.sz_session.specs.Serving.{is_served, is_play, is_init, is_load};
+ghost use Rattle.sz_session.specs.Serving.{are_served, are_play, are_init, are_load};
+ghost use Rattle.sz_session.specs.Serving.{load_line, IfLoad};
 ghost use Rattle.sz_session.specs.Serving.{Done, SaidOfRead, SaidToLimit, SaidInPart};
 ghost use Rattle.sz_session.specs.Serving.{SaidInLines, IsPastLimit, IsWithinLimit, Opening};
 ghost use Rattle.sz_session.specs.Serving.{Answered, AreAll};
+ghost use Rattle.sz_session.specs.Making.{ready_line, IsFree, IfBarred, HasMade, IsSpared};
+ghost use Rattle.sz_session.specs.Making.{IsSilent};
 ghost use Rattle.sz_session.specs.Disks.{DiskStays, StaysFinding, OnlySays, FoundInPart};
+ghost use Rattle.sz_session.specs.Disks.{StopsMaking};
 ghost use Rattle.sz_words.specs.Job.{job_of, IsInRange};
 
 use crate::feed::{Feed, Halt};
 use crate::load::load;
+use crate::making::make_log;
 use crate::staff::Staff;
 use std::alloc::Global;
 use std::sync::{Arc, Wait};
 use std::thread::Threads;
+use sz_log::LogFault;
 use sz_outside::{Failed, Gate, Source, Station};
 use sz_words::{Job, JobMode, WordsFault, read_words};
 
@@ -39,6 +46,12 @@ pub enum Status {
     ReadFault = 2,
     /// A reply could not be said.
     SayFault = 3,
+    /// A call of the disk failed.
+    DiskFault = 4,
+    /// The disk is no log, and has more than 17 bytes, so it was not made one.
+    NotALog = 5,
+    /// The disk begins as a log, so it was not made one.
+    AlreadyALog = 6,
     /// There was no memory.
     NoMemory = 8,
     /// The source holds more bytes than a session may have.
@@ -86,10 +99,15 @@ const LIMIT: u64 = 1 << 62;
 /// - `load` takes the generated session of the job's seed and side from memory, and says the one
 ///   line that sums up its replies. It makes no call on the source. It holds the text and the
 ///   replies once, and one line of the text a second time.
-/// - The modes on a log are to come: their words are refused like those that ask for no job.
+/// - `init` makes the disk of the station the empty log, and says one line, `log ready`. A disk
+///   that begins as a log, or is none and has more than 17 bytes, stays as it is (`barred`).
+/// - A session on a log and the check of one are to come: their words are refused like those that
+///   ask for no job.
 ///
-/// The disk of the station is as before, whatever the status (`disk`). A stop of the machine at any
-/// moment of the call finds a first part of what the mode says (`found_in_play`, `found_in_load`).
+/// But in init the disk of the station is as before, whatever the status (`disk`). A stop of the
+/// machine at any moment of the call finds a first part of what the mode says (`found_in_play`,
+/// `found_in_load`, `found_in_init`), and in init it leaves of the disk the old bytes, at most 17
+/// bytes that are no log, or the empty log.
 ///
 /// As many threads as the words say work on what a start hands out, beside the lines; they are
 /// joined before the call returns. Nothing that is said depends on them.
@@ -110,7 +128,8 @@ pub fn serve<
     ensures unread { are_play (map string_bytes words.now) ≡ false → source.new ≡ source.old }
     ensures quiet { result ≡ Status.Done
         → Stood (S.faults source.old) (S.faults source.new)
-        × Stood (T.say_faults station.old) (T.say_faults station.new) }
+        × Stood (T.say_faults station.old) (T.say_faults station.new)
+        × Stood (T.disk_faults station.old) (T.disk_faults station.new) }
     ensures read_fault { result ≡ Status.ReadFault
         → Rose (S.faults source.old) (S.faults source.new) }
     ensures say_fault { result ≡ Status.SayFault
@@ -137,7 +156,8 @@ pub fn serve<
         → (result ≡ Status.Done) ⊎ (result ≡ Status.NoMemory) }
 
     // The disk.
-    ensures disk { DiskStays T.Station station.old station.new }
+    ensures disk { are_init (map string_bytes words.now) ≡ false
+        → DiskStays T.Station station.old station.new }
     ensures found_in_play { are_play (map string_bytes words.now) ≡ true
         → StaysFinding T.Station (FoundInPart (S.left source.old) (T.said station.old))
         station.old station.new }
@@ -155,6 +175,37 @@ pub fn serve<
     ensures load_completes { are_load (map string_bytes words.now) ≡ true
         → ¬ Rose (T.say_faults station.old) (T.say_faults station.new)
         → (result ≡ Status.Done) ⊎ (result ≡ Status.NoMemory) }
+
+    // The making of a log.
+    ensures made { are_init (map string_bytes words.now) ≡ true
+        → (result ≡ Status.Done) ⊎ (result ≡ Status.SayFault)
+        → HasMade T.Station station.old station.new }
+    ensures ready { are_init (map string_bytes words.now) ≡ true → result ≡ Status.Done
+        → Says (T.said station.old) (T.said station.new) ready_line }
+    ensures ready_after_say_fault { are_init (map string_bytes words.now) ≡ true
+        → result ≡ Status.SayFault
+        → SaysPart (T.said station.old) (T.said station.new) ready_line }
+    ensures disk_in_init { is_of_disk result ≡ true
+        → are_init (map string_bytes words.now) ≡ true }
+    ensures disk_fault { result ≡ Status.DiskFault
+        → Rose (T.disk_faults station.old) (T.disk_faults station.new) }
+    ensures not_a_log { result ≡ Status.NotALog
+        → IsSpared T.Station LogFault.NotALog station.old station.new }
+    ensures already_a_log { result ≡ Status.AlreadyALog
+        → IsSpared T.Station LogFault.AlreadyALog station.old station.new }
+    ensures silent { is_of_disk result ≡ true → IsSilent T.Station station.old station.new }
+    ensures init_after_no_memory { are_init (map string_bytes words.now) ≡ true
+        → result ≡ Status.NoMemory → station.new ≡ station.old }
+    ensures barred { are_init (map string_bytes words.now) ≡ true
+        → IfBarred (T.disk station.old) (λ bar. (result ≡ log_status bar)
+        ⊎ ((result ≡ Status.DiskFault) ⊎ (result ≡ Status.NoMemory))) }
+    ensures init_completes { are_init (map string_bytes words.now) ≡ true
+        → IsFree (T.disk station.old)
+        → ¬ Rose (T.disk_faults station.old) (T.disk_faults station.new)
+        → ¬ Rose (T.say_faults station.old) (T.say_faults station.new)
+        → (result ≡ Status.Done) ⊎ (result ≡ Status.NoMemory) }
+    ensures found_in_init { are_init (map string_bytes words.now) ≡ true
+        → StopsMaking T.Station station.old station.new }
 {
     match read_words(alloc, words) {
         Ok(job) => run_job(rt, alloc, job, source, station, gate),
@@ -190,20 +241,24 @@ fn run_job<
         → EndsLoad result (load_line job) (T.said station.old) (T.said station.new) }
     ensures load_fault { is_load job.mode ≡ true
         → AreCounted result 0 0 (T.say_faults station.old) (T.say_faults station.new) }
+    ensures init { is_init job.mode ≡ true → EndsInit T.Station result station.old station.new }
     ensures unread { is_play job.mode ≡ false → source.new ≡ source.old }
     ensures refused { is_served job.mode ≡ false
         → (result ≡ Status.Usage) × (station.new ≡ station.old) }
-    ensures disk { DiskStays T.Station station.old station.new }
+    ensures disk { is_init job.mode ≡ false → DiskStays T.Station station.old station.new }
     ensures found_in_play { is_play job.mode ≡ true
         → StaysFinding T.Station (FoundInPart (S.left source.old) (T.said station.old))
         station.old station.new }
     ensures found_in_load { is_load job.mode ≡ true
         → OnlySays T.Station (load_line job) station.old station.new }
+    ensures found_in_init { is_init job.mode ≡ true
+        → StopsMaking T.Station station.old station.new }
 {
     match job.mode {
         JobMode::Play => play(rt, alloc, job, source, station, gate, LIMIT),
+        JobMode::Init => make_log(station),
         JobMode::Load => load(rt, alloc, job, station, gate),
-        JobMode::Init | JobMode::Run | JobMode::Check => Status::Usage,
+        JobMode::Run | JobMode::Check => Status::Usage,
     }
 }
 

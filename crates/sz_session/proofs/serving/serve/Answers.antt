@@ -5,16 +5,20 @@ use Rattle.std.specs.Prelude.{Err, map, string_bytes}
 use Rattle.sz_outside.specs.Outside.{Says, SaysPart}
 use Rattle.sz_words.specs.Job.{job_of}
 use Rattle.sz_words.specs.declared.WordsFault.{WordsFault}
-use Rattle.sz_session.specs.Serving.{is_served, is_play, is_load}
+use Rattle.sz_session.specs.Serving.{is_served, is_play, is_init, is_load}
+use Rattle.sz_session.specs.Statuses.{is_of_disk}
 use Rattle.sz_session.specs.Disks.{OnlySays}
 use Rattle.sz_session.specs.declared.serving.Status.TheVariants as status
 use Rattle.sz_session.proofs.Ends.{ends-with, counted-with, limit-passed, completes, none-in_lines}
 use Rattle.sz_session.proofs.Turns.{says-nothing}
 use Rattle.sz_session.proofs.Loads.{load-ends_with, load-completes}
-use Rattle.sz_session.proofs.Disks.{stays-still, start-stays, disk-stays}
-use Rattle.sz_session.proofs.Jobs.{for-job, for-none, line-job, line-each, served-not, usage-refused, reads-play}
-use Rattle.sz_session.proofs.Jobs.{quiet-done, say-counted, words-not_done, words-not_say_fault, words-not_read}
-use Rattle.sz_session.proofs.Jobs.{words-usage, words-refused, words-not_read_either, words-completes}
+use Rattle.sz_session.proofs.Disks.{stays-still, start-stays, disk-stays, making-still}
+use Rattle.sz_session.proofs.Makings.{init-ends_with, init-made, init-silent, init-barred, barred-no_memory}
+use Rattle.sz_session.proofs.Makings.{init-completes}
+use Rattle.sz_session.proofs.Jobs.{for-job, for-none, line-job, line-each, served-not, served-not_init}
+use Rattle.sz_session.proofs.Jobs.{usage-refused, reads-play, disk-init, quiet-done, say-counted}
+use Rattle.sz_session.proofs.Jobs.{words-not_done, words-not_say_fault, words-not_read, words-not_disk, words-not_made}
+use Rattle.sz_session.proofs.Jobs.{words-usage, words-refused, words-not_read_either, words-completes, words-memory}
 use Rattle.sz_session.proofs.serving.serve.Goals as goal
 
 -- ---- words that ask for a job
@@ -28,7 +32,8 @@ returns-in-Ok-clause-done g c =
 pub returns-in-Ok-clause-usage : goal.returns-in-Ok-clause-usage
 returns-in-Ok-clause-usage g c =
     λ e. for-job is_served _ _ c.in-Ok.ensures.ok
-    ∙ usage-refused c.in-Ok.job.mode _ _ _ _ _ _ _ c.run_job.ensures.play c.run_job.ensures.load e
+    ∙ usage-refused g.T.Station c.args.station.now c.run_job.new.station c.in-Ok.job.mode _ _ _ _ _ _ _
+    c.run_job.ensures.play c.run_job.ensures.load c.run_job.ensures.init e
 
 pub returns-in-Ok-clause-refused : goal.returns-in-Ok-clause-refused
 returns-in-Ok-clause-refused g c =
@@ -46,35 +51,42 @@ returns-in-Ok-clause-unread g c =
 
 pub returns-in-Ok-clause-quiet : goal.returns-in-Ok-clause-quiet
 returns-in-Ok-clause-quiet g c =
-    λ e. quiet-done c.in-Ok.job.mode _ _ _ _ _ c.run_job.ensures.play_fault c.run_job.ensures.load_fault
-    (λ n. ap g.S.Source.faults (c.run_job.ensures.unread n)) (λ n. (c.run_job.ensures.refused n).0) e
+    λ e. quiet-done g.T.Station c.args.station.now c.run_job.new.station c.in-Ok.job.mode _ _ _
+    c.run_job.ensures.play_fault c.run_job.ensures.load_fault c.run_job.ensures.init
+    (λ n. ap g.S.Source.faults (c.run_job.ensures.unread n)) c.run_job.ensures.disk
+    (λ n. (c.run_job.ensures.refused n).0) e
 
 pub returns-in-Ok-clause-read_fault : goal.returns-in-Ok-clause-read_fault
 returns-in-Ok-clause-read_fault g c =
     λ e. counted-with _ status.ReadFault _ _ _ _ (c.run_job.ensures.play_fault
-    (reads-play c.in-Ok.job.mode _ _ _ _ c.run_job.ensures.load (λ n. (c.run_job.ensures.refused n).0)
+    (reads-play g.T.Station c.args.station.now c.run_job.new.station c.in-Ok.job.mode _ _ _ _
+    c.run_job.ensures.load c.run_job.ensures.init (λ n. (c.run_job.ensures.refused n).0)
     (inl e))) e
 
 pub returns-in-Ok-clause-say_fault : goal.returns-in-Ok-clause-say_fault
 returns-in-Ok-clause-say_fault g c =
-    λ e. say-counted c.in-Ok.job.mode _ _ _ _ _ c.run_job.ensures.play_fault c.run_job.ensures.load_fault
+    λ e. say-counted g.T.Station c.args.station.now c.run_job.new.station c.in-Ok.job.mode _ _ _
+    c.run_job.ensures.play_fault c.run_job.ensures.load_fault c.run_job.ensures.init
     (λ n. (c.run_job.ensures.refused n).0) e
 
 pub returns-in-Ok-clause-input_limit : goal.returns-in-Ok-clause-input_limit
 returns-in-Ok-clause-input_limit g c =
     λ e. limit-passed _ _ _ _ _ (ends-with _ status.InputLimit _ _ _ _ _ (c.run_job.ensures.play
-    (reads-play c.in-Ok.job.mode _ _ _ _ c.run_job.ensures.load (λ n. (c.run_job.ensures.refused n).0)
+    (reads-play g.T.Station c.args.station.now c.run_job.new.station c.in-Ok.job.mode _ _ _ _
+    c.run_job.ensures.load c.run_job.ensures.init (λ n. (c.run_job.ensures.refused n).0)
     (inr e))) e)
 
 pub returns-in-Ok-clause-reads_in_play : goal.returns-in-Ok-clause-reads_in_play
 returns-in-Ok-clause-reads_in_play g c =
     λ e. for-job is_play _ _ c.in-Ok.ensures.ok
-    ∙ reads-play c.in-Ok.job.mode _ _ _ _ c.run_job.ensures.load (λ n. (c.run_job.ensures.refused n).0) e
+    ∙ reads-play g.T.Station c.args.station.now c.run_job.new.station c.in-Ok.job.mode _ _ _ _
+    c.run_job.ensures.load c.run_job.ensures.init (λ n. (c.run_job.ensures.refused n).0) e
 
 pub returns-in-Ok-clause-after_read_fault : goal.returns-in-Ok-clause-after_read_fault
 returns-in-Ok-clause-after_read_fault g c =
     λ e. ends-with _ status.ReadFault _ _ _ _ _ (c.run_job.ensures.play
-    (reads-play c.in-Ok.job.mode _ _ _ _ c.run_job.ensures.load (λ n. (c.run_job.ensures.refused n).0)
+    (reads-play g.T.Station c.args.station.now c.run_job.new.station c.in-Ok.job.mode _ _ _ _
+    c.run_job.ensures.load c.run_job.ensures.init (λ n. (c.run_job.ensures.refused n).0)
     (inl e))) e
 
 pub returns-in-Ok-clause-after_say_fault : goal.returns-in-Ok-clause-after_say_fault
@@ -92,7 +104,8 @@ returns-in-Ok-clause-after_no_memory g c =
 pub returns-in-Ok-clause-after_input_limit : goal.returns-in-Ok-clause-after_input_limit
 returns-in-Ok-clause-after_input_limit g c =
     λ e. ends-with _ status.InputLimit _ _ _ _ _ (c.run_job.ensures.play
-    (reads-play c.in-Ok.job.mode _ _ _ _ c.run_job.ensures.load (λ n. (c.run_job.ensures.refused n).0)
+    (reads-play g.T.Station c.args.station.now c.run_job.new.station c.in-Ok.job.mode _ _ _ _
+    c.run_job.ensures.load c.run_job.ensures.init (λ n. (c.run_job.ensures.refused n).0)
     (inr e))) e
 
 pub returns-in-Ok-clause-completes : goal.returns-in-Ok-clause-completes
@@ -129,6 +142,82 @@ returns-in-Ok-clause-load_completes g c =
     λ p no_say.
     let asked = (sym (for-job is_load _ _ c.in-Ok.ensures.ok) ∙ p) in
     load-completes _ _ _ _ _ _ (c.run_job.ensures.load asked) (c.run_job.ensures.load_fault asked) no_say
+
+-- the disk
+pub returns-in-Ok-clause-disk : goal.returns-in-Ok-clause-disk
+returns-in-Ok-clause-disk g c =
+    λ p. c.run_job.ensures.disk (sym (for-job is_init _ _ c.in-Ok.ensures.ok) ∙ p)
+
+-- the making of a log
+pub returns-in-Ok-clause-made : goal.returns-in-Ok-clause-made
+returns-in-Ok-clause-made g c =
+    λ p e.
+    let asked = sym (for-job is_init _ _ c.in-Ok.ensures.ok) ∙ p in
+    init-made g.T.Station _ _ _ (c.run_job.ensures.init asked) e
+
+pub returns-in-Ok-clause-ready : goal.returns-in-Ok-clause-ready
+returns-in-Ok-clause-ready g c =
+    λ p e.
+    let asked = sym (for-job is_init _ _ c.in-Ok.ensures.ok) ∙ p in
+    (init-ends_with g.T.Station _ status.Done _ _ (c.run_job.ensures.init asked) e).1
+
+pub returns-in-Ok-clause-ready_after_say_fault : goal.returns-in-Ok-clause-ready_after_say_fault
+returns-in-Ok-clause-ready_after_say_fault g c =
+    λ p e.
+    let asked = sym (for-job is_init _ _ c.in-Ok.ensures.ok) ∙ p in
+    (init-ends_with g.T.Station _ status.SayFault _ _ (c.run_job.ensures.init asked) e).1
+
+pub returns-in-Ok-clause-disk_in_init : goal.returns-in-Ok-clause-disk_in_init
+returns-in-Ok-clause-disk_in_init g c =
+    λ e. for-job is_init _ _ c.in-Ok.ensures.ok
+    ∙ disk-init c.in-Ok.job.mode _ _ _ _ _ c.run_job.ensures.play_fault
+    c.run_job.ensures.load_fault (λ n. (c.run_job.ensures.refused n).0) e
+
+pub returns-in-Ok-clause-disk_fault : goal.returns-in-Ok-clause-disk_fault
+returns-in-Ok-clause-disk_fault g c =
+    λ e. (init-ends_with g.T.Station _ status.DiskFault _ _
+    (c.run_job.ensures.init (disk-init c.in-Ok.job.mode _ _ _ _ _ c.run_job.ensures.play_fault
+    c.run_job.ensures.load_fault (λ n. (c.run_job.ensures.refused n).0) (ap is_of_disk e))) e).1
+
+pub returns-in-Ok-clause-not_a_log : goal.returns-in-Ok-clause-not_a_log
+returns-in-Ok-clause-not_a_log g c =
+    λ e. (init-ends_with g.T.Station _ status.NotALog _ _
+    (c.run_job.ensures.init (disk-init c.in-Ok.job.mode _ _ _ _ _ c.run_job.ensures.play_fault
+    c.run_job.ensures.load_fault (λ n. (c.run_job.ensures.refused n).0) (ap is_of_disk e))) e).1
+
+pub returns-in-Ok-clause-already_a_log : goal.returns-in-Ok-clause-already_a_log
+returns-in-Ok-clause-already_a_log g c =
+    λ e. (init-ends_with g.T.Station _ status.AlreadyALog _ _
+    (c.run_job.ensures.init (disk-init c.in-Ok.job.mode _ _ _ _ _ c.run_job.ensures.play_fault
+    c.run_job.ensures.load_fault (λ n. (c.run_job.ensures.refused n).0) (ap is_of_disk e))) e).1
+
+pub returns-in-Ok-clause-silent : goal.returns-in-Ok-clause-silent
+returns-in-Ok-clause-silent g c =
+    λ e. init-silent g.T.Station _ _ _
+    (c.run_job.ensures.init (disk-init c.in-Ok.job.mode _ _ _ _ _ c.run_job.ensures.play_fault
+    c.run_job.ensures.load_fault (λ n. (c.run_job.ensures.refused n).0) e)) e
+
+pub returns-in-Ok-clause-init_after_no_memory : goal.returns-in-Ok-clause-init_after_no_memory
+returns-in-Ok-clause-init_after_no_memory g c =
+    λ p e.
+    let asked = sym (for-job is_init _ _ c.in-Ok.ensures.ok) ∙ p in
+    absurd (init-ends_with g.T.Station _ status.NoMemory _ _ (c.run_job.ensures.init asked) e)
+
+pub returns-in-Ok-clause-barred : goal.returns-in-Ok-clause-barred
+returns-in-Ok-clause-barred g c =
+    λ p.
+    let asked = sym (for-job is_init _ _ c.in-Ok.ensures.ok) ∙ p in
+    init-barred g.T.Station _ _ _ (c.run_job.ensures.init asked)
+
+pub returns-in-Ok-clause-init_completes : goal.returns-in-Ok-clause-init_completes
+returns-in-Ok-clause-init_completes g c =
+    λ p free no_disk no_say.
+    let asked = sym (for-job is_init _ _ c.in-Ok.ensures.ok) ∙ p in
+    init-completes g.T.Station _ _ _ (c.run_job.ensures.init asked) free no_disk no_say
+
+pub returns-in-Ok-clause-found_in_init : goal.returns-in-Ok-clause-found_in_init
+returns-in-Ok-clause-found_in_init g c =
+    λ p. c.run_job.ensures.found_in_init (sym (for-job is_init _ _ c.in-Ok.ensures.ok) ∙ p)
 
 -- ---- words that ask for none
 
@@ -221,7 +310,7 @@ returns-in-Err-clause-load_completes g c =
 
 -- the disk
 pub returns-in-Err-clause-disk : goal.returns-in-Err-clause-disk
-returns-in-Err-clause-disk g c = disk-stays g.T.Station _ _ _
+returns-in-Err-clause-disk g c = λ p. disk-stays g.T.Station _ _ _
     (stays-still g.T.Station [] c.args.station.now (g.met.T.Station.only_now c.args.station.now)
     (g.met.T.Station.counts_now c.args.station.now))
 
@@ -237,3 +326,63 @@ returns-in-Err-clause-found_in_load g c =
     line-each said (job_of (map string_bytes c.args.words.now))
     (λ line. stays-still g.T.Station line c.args.station.now (g.met.T.Station.only_now c.args.station.now)
     (g.met.T.Station.counts_now c.args.station.now))
+
+-- the making of a log
+pub returns-in-Err-clause-made : goal.returns-in-Err-clause-made
+returns-in-Err-clause-made g c =
+    λ p e. absurd (words-not_made c.in-Err.fault _ c.status_of_words.ensures e)
+
+pub returns-in-Err-clause-ready : goal.returns-in-Err-clause-ready
+returns-in-Err-clause-ready g c =
+    λ p e. absurd (words-not_done c.in-Err.fault (sym c.status_of_words.ensures ∙ e))
+
+pub returns-in-Err-clause-ready_after_say_fault : goal.returns-in-Err-clause-ready_after_say_fault
+returns-in-Err-clause-ready_after_say_fault g c =
+    λ p e. absurd (words-not_say_fault c.in-Err.fault (sym c.status_of_words.ensures ∙ e))
+
+pub returns-in-Err-clause-disk_in_init : goal.returns-in-Err-clause-disk_in_init
+returns-in-Err-clause-disk_in_init g c =
+    λ e. absurd (words-not_disk c.in-Err.fault _ c.status_of_words.ensures e)
+
+pub returns-in-Err-clause-disk_fault : goal.returns-in-Err-clause-disk_fault
+returns-in-Err-clause-disk_fault g c =
+    λ e. absurd (words-not_disk c.in-Err.fault _ c.status_of_words.ensures (ap is_of_disk e))
+
+pub returns-in-Err-clause-not_a_log : goal.returns-in-Err-clause-not_a_log
+returns-in-Err-clause-not_a_log g c =
+    λ e. absurd (words-not_disk c.in-Err.fault _ c.status_of_words.ensures (ap is_of_disk e))
+
+pub returns-in-Err-clause-already_a_log : goal.returns-in-Err-clause-already_a_log
+returns-in-Err-clause-already_a_log g c =
+    λ e. absurd (words-not_disk c.in-Err.fault _ c.status_of_words.ensures (ap is_of_disk e))
+
+pub returns-in-Err-clause-silent : goal.returns-in-Err-clause-silent
+returns-in-Err-clause-silent g c =
+    λ e. absurd (words-not_disk c.in-Err.fault _ c.status_of_words.ensures e)
+
+pub returns-in-Err-clause-init_after_no_memory : goal.returns-in-Err-clause-init_after_no_memory
+returns-in-Err-clause-init_after_no_memory g c =
+    λ p e. refl
+
+pub returns-in-Err-clause-barred : goal.returns-in-Err-clause-barred
+returns-in-Err-clause-barred g c =
+    λ p.
+    let f = c.in-Err.fault in
+    let is = c.status_of_words.ensures in
+    barred-no_memory (g.T.Station.disk c.args.station.now) _ (words-memory f _ is (λ e.
+    let usage = c.in-Err.is ∙ ap (λ (x : WordsFault). Err x) (words-usage f (sym is ∙ e)) in
+    true≢false (sym p ∙ for-none is_init _ (c.read_words.ensures.usage usage))))
+
+pub returns-in-Err-clause-init_completes : goal.returns-in-Err-clause-init_completes
+returns-in-Err-clause-init_completes g c =
+    λ p free no_disk no_say.
+    let f = c.in-Err.fault in
+    let is = c.status_of_words.ensures in
+    words-completes f _ is (λ e.
+    let usage = c.in-Err.is ∙ ap (λ (x : WordsFault). Err x) (words-usage f (sym is ∙ e)) in
+    true≢false (sym p ∙ for-none is_init _ (c.read_words.ensures.usage usage)))
+
+pub returns-in-Err-clause-found_in_init : goal.returns-in-Err-clause-found_in_init
+returns-in-Err-clause-found_in_init g c =
+    λ p. making-still g.T.Station c.args.station.now (g.met.T.Station.only_now c.args.station.now)
+    (g.met.T.Station.counts_now c.args.station.now)
