@@ -1,11 +1,8 @@
 -- Asks beside one another: what is so of each when it is begun, worked on and replied to.
-use Rattle.std.proofs.Common.{◌≡◌, ℕ, suc, zero, ◌+◌, ◌<◌, ◌≤◌, List, [], ◌∷◌, ◌++◌, map, take, length, true, false}
+use Rattle.std.proofs.Common.{◌≡◌, ℕ, suc, zero, ◌<◌, List, [], ◌∷◌, ◌++◌, length, true}
 use Rattle.std.proofs.Common.{None, Some, Option, refl, sym, ap, ◌∙◌, subst, arith, get_or}
 use Rattle.std.specs.Prelude.{slice_set}
 use Rattle.std.specs.List.{AllZip, AllByRecursion}
-use Rattle.sz_spec.specs.declared.modes.Dir.{Dir}
-use Rattle.sz_spec.specs.Paths.{Step}
-use Rattle.sz_script.specs.declared.command.NamedCell.{NamedCell}
 use Rattle.sz_script.specs.declared.command.Command.{Command}
 use Rattle.sz_script.specs.declared.command.Command.TheVariants as command
 use Rattle.sz_script.specs.declared.refusal.Refusal.{Refusal}

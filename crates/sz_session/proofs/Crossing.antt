@@ -1,7 +1,6 @@
 -- An ask moves between threads.
 --
 -- The key idea: a type may cross where its fields may, so an ask follows from the views that it owns.
-use denote.RattleType.{RattleType}
 use denote.Param.Send.{IsSend, IsSync, sendable}
 use Rattle.std.proofs.Crossing.{crosses}
 use Rattle.sz_cells.specs.contracts.cell_set.CellSet as CellSet

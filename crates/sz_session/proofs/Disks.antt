@@ -6,14 +6,14 @@
 use Rattle.std.proofs.Common.{◌≡◌, ℕ, ◌+◌, ◌-◌, ◌≤◌, ◌<◌, List, [], ◌∷◌, ◌++◌, length, take, drop, get_or}
 use Rattle.std.proofs.Common.{Option, None, Some, refl, sym, ap, ◌∙◌, subst, inl, inr, ⊎_elim, arith}
 use Rattle.std.proofs.lemmas.List.{append-nil, take-append-drop}
-use Rattle.sz_outside.specs.Outside.{Says, SaysPart, Gives}
+use Rattle.sz_outside.specs.Outside.{SaysPart, Gives}
 use Rattle.sz_outside.specs.Disk.{Told, Passes, Follows, Same, Said, SaidPart}
 use Rattle.sz_outside.specs.declared.stations.Station.{Ghosts}
 use Rattle.sz_log.specs.Steps.{MakesIfFree}
 use Rattle.sz_catalogue.specs.Holdings.{no_holdings}
 use Rattle.sz_session.specs.Transcript.{transcript}
 use Rattle.sz_session.specs.Moments.{Moment, told_in, told_at_end}
-use Rattle.sz_session.specs.Serving.{Advances, Answered, AreAll, SaidInPart}
+use Rattle.sz_session.specs.Serving.{Advances, Answered, AreAll}
 use Rattle.sz_session.specs.Making.{ready_line}
 use Rattle.sz_session.specs.Disks.{StaysFinding, DiskStays, OnlySays, FoundInPart, StopsMaking}
 use Rattle.sz_session.proofs.Turns.{part-longer, part-more, advances-then, advances-part, take-line}

@@ -1,14 +1,13 @@
 -- What answers a search along a path of a version.
 --
 -- The key idea: the views of the search are those of the path's steps, so the lemmas on these say what is found by them.
-use Rattle.std.proofs.Common.{◌≡◌, ℕ, ◌+◌, ◌≤◌, List, [], ◌∷◌, map, true, refl, sym, ap, ◌∙◌, subst, arith}
+use Rattle.std.proofs.Common.{◌≡◌, ℕ, ◌≤◌, List, [], ◌∷◌, map, true, sym, ap, ◌∙◌, subst, arith}
 use Rattle.std.proofs.Common.{Result, Ok, Err, IfOk, OnOk}
 use Rattle.std.specs.List.{AllZip}
-use Rattle.sz_cells.specs.Extent.{Extent}
 use Rattle.sz_cells.specs.Cells.{Cells, named_in}
 use Rattle.sz_cells.specs.SetBytes.{IsSetOf}
 use Rattle.sz_spec.specs.declared.modes.Dir.{Dir}
-use Rattle.sz_spec.specs.Paths.{Step, compose, are_joined}
+use Rattle.sz_spec.specs.Paths.{Step, compose}
 use Rattle.sz_script.specs.declared.command.NamedCell.{NamedCell}
 use Rattle.sz_query.specs.declared.path.Found.{Found}
 use Rattle.sz_query.specs.Views.{View}

@@ -2,26 +2,21 @@
 --
 -- The key idea: a command puts at most one flow or one version in, or changes one. What is put in is sound since no
 -- rule refused the command.
-use Rattle.std.proofs.Common.{◌≡◌, ℕ, suc, zero, ◌+◌, ◌<◌, List, [], ◌∷◌, map, length, Bool, true, false, not, refl}
-use Rattle.std.proofs.Common.{sym, ap, ap₂, ◌∙◌, subst, arith, Option, Some, None, unwrap_or, Ok, Err, eqb-true}
-use Rattle.std.specs.Prelude.{All, Result, ◌^◌, ◌&&◌, ◌||◌, nat_lt, nat_le, is_none, is_some, slice_set}
-use Rattle.std.specs.Prelude.{if◌then◌else◌}
+use Rattle.std.proofs.Common.{◌≡◌, ℕ, ◌<◌, List, [], ◌∷◌, length, Bool, true, false, not, refl}
+use Rattle.std.proofs.Common.{sym, ap, ◌∙◌, subst, arith, Option, Some, None, unwrap_or, Ok, Err, eqb-true}
+use Rattle.std.specs.Prelude.{All, Result, ◌^◌, ◌||◌, nat_lt, nat_le, is_none, is_some}
 use Rattle.std.specs.Option.{IfSome, option_map}
 use Rattle.std.specs.Result.{result_err}
 use Rattle.std.specs.List.{list_all}
 use Rattle.std.specs.Ordering.{nat_cmp}
 use Rattle.std.specs.Cmp.Lexicographic.{slice_cmp}
-use Rattle.std.specs.Map.{lookup, keys_of, values_of}
-use Rattle.std.specs.BTreeMap.{is_at, insert_entry}
+use Rattle.std.specs.Map.{values_of}
+use Rattle.std.specs.BTreeMap.{is_at}
 use Rattle.std.proofs.lemmas.Bool.{and_parts}
 use Rattle.std.proofs.lemmas.Bool.Decides.{nat_tests}
-use Rattle.std.proofs.lemmas.Map.Made.{lookup-map_values}
 use Rattle.std.proofs.lemmas.Map.Views.{IfSome-lookup_from_All, All-values-set_value, All-values-insert_entry}
 use Rattle.sz_cells.specs.Extent.{Extent}
-use Rattle.sz_spec.specs.declared.flow.Node.{Node}
 use Rattle.sz_spec.specs.declared.modes.Strategy.{Strategy}
-use Rattle.sz_spec.specs.declared.modes.Strategy.TheVariants as strategy
-use Rattle.sz_spec.specs.Modes.{has_mapping}
 use Rattle.sz_spec.specs.Flows.{Graph, is_well_formed}
 use Rattle.sz_spec.specs.FlowShapes.{output_shapes}
 use Rattle.sz_script.specs.declared.command.BaseName.{BaseName}
@@ -31,10 +26,9 @@ use Rattle.sz_script.specs.declared.refusal.Refusal.{Refusal}
 use Rattle.sz_script.specs.declared.refusal.Refusal.TheVariants as refusal
 use Rattle.sz_script.specs.Names.{is_name}
 use Rattle.sz_script.specs.Right.{is_right, names_in, fault_in}
-use Rattle.sz_flow.specs.Executions.{Execution}
 use Rattle.sz_catalogue.specs.Holdings.{Workflow, Version, Holdings, flow_named, version_numbered, no_workflow}
-use Rattle.sz_catalogue.specs.Holdings.{no_version, next_number, shapes_of, greatest}
-use Rattle.sz_catalogue.specs.Starts.{first_list, first_lists, workflow_of, bases_of, version_started}
+use Rattle.sz_catalogue.specs.Holdings.{no_version, next_number, shapes_of}
+use Rattle.sz_catalogue.specs.Starts.{first_lists, workflow_of, bases_of, version_started}
 use Rattle.sz_catalogue.specs.Rules as rules
 use Rattle.sz_catalogue.specs.Rules.{judged, first_of, version_of}
 use Rattle.sz_catalogue.specs.Kept.{IsWorkflow}

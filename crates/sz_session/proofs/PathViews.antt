@@ -3,7 +3,7 @@
 -- The key idea: the view of a step is one of the execution of its node, so all that an answer along the path asks of
 -- the views, and all that it gives, is read off the executions step by step.
 use Rattle.std.proofs.Common.{◌≡◌, ℕ, suc, zero, ◌+◌, ◌<◌, ◌≤◌, List, [], ◌∷◌, ◌++◌, map, length, Bool, true}
-use Rattle.std.proofs.Common.{false, not}
+use Rattle.std.proofs.Common.{false}
 use Rattle.std.proofs.Common.{refl, sym, ap, ap₂, ◌∙◌, subst, arith, Option, Some, unwrap_or, cond, get_or}
 use Rattle.std.specs.Prelude.{◌&&◌, nat_lt, nat_le, sum_by, filter, if◌then◌else◌}
 use Rattle.std.specs.List.{AllZip, list_all, list_any, slice_get}
@@ -22,7 +22,7 @@ use Rattle.sz_spec.specs.declared.modes.Dir.{Dir}
 use Rattle.sz_spec.specs.declared.modes.Dir.TheVariants.{Back}
 use Rattle.sz_spec.specs.declared.modes.Strategy.{Strategy}
 use Rattle.sz_spec.specs.Modes.{supports, is_listed, way}
-use Rattle.sz_spec.specs.Values.{Grid, extent_at, extents_of}
+use Rattle.sz_spec.specs.Values.{extent_at, extents_of}
 use Rattle.sz_spec.specs.Shapes.{Site}
 use Rattle.sz_spec.specs.Flows.{Graph}
 use Rattle.sz_spec.specs.Paths.{Step, source_of, is_there, follows, are_joined, is_joined, inputs_of, compose}

@@ -2,28 +2,27 @@
 --
 -- The key idea: what waits is told of by its own text, so a feed behind which asks wait is one that has advanced, once
 -- that text is said too. An ask changes nothing that is held, so the texts do not depend on when they are worked out.
-use Rattle.std.proofs.Common.{◌≡◌, ℕ, ◌+◌, ◌-◌, ◌<◌, ◌≤◌, List, [], ◌∷◌, ◌++◌, ◌⊎◌, length, get_or, take, drop, map}
+use Rattle.std.proofs.Common.{◌≡◌, ℕ, ◌+◌, ◌-◌, ◌<◌, ◌≤◌, List, [], ◌∷◌, ◌++◌, length, get_or, take, drop, map}
 use Rattle.std.proofs.Common.{Option, None, Some, Result, Ok, Err, OnOk, true, false, refl, sym, ap, ap₂, ◌∙◌, subst}
 use Rattle.std.proofs.Common.{⊎_elim, inl, inr, arith}
-use Rattle.std.proofs.Common.{append_assoc, suc}
-use Rattle.std.proofs.lemmas.List.{append-nil, append_cancel_left, take-append-drop, length-map}
+use Rattle.std.proofs.Common.{append_assoc}
+use Rattle.std.proofs.lemmas.List.{append-nil, append_cancel_left, take-append-drop}
 use Rattle.std.proofs.lemmas.List.Concat.{flat_map-cons}
 use Rattle.std.proofs.lemmas.Grind.{flat_map-append}
 use Rattle.sz_outside.specs.Outside.{Says, SaysPart}
 use Rattle.sz_outside.specs.declared.stations.Station.{Ghosts}
 use Rattle.sz_script.specs.declared.command.Command.{Command}
-use Rattle.sz_script.specs.declared.command.Command.TheVariants as command
 use Rattle.sz_script.specs.Reading.{reading}
 use Rattle.sz_catalogue.specs.declared.reply.Reply.{Reply}
 use Rattle.sz_catalogue.specs.Holdings.{Holdings}
-use Rattle.sz_catalogue.specs.Changes.{after_line, after_command}
+use Rattle.sz_catalogue.specs.Changes.{after_command}
 use Rattle.sz_catalogue.specs.Responses.{Response, reply_line}
 use Rattle.sz_catalogue.specs.Seen.{response_of}
 use Rattle.sz_session.specs.Lines.{Cut, is_blank}
 use Rattle.sz_session.specs.Transcript.{replies_to, after_lines}
-use Rattle.sz_session.specs.Moments.{Moment, cut_after, told_in, moment_of, moment_after, AreAlike}
+use Rattle.sz_session.specs.Moments.{Moment, cut_after, told_in, moment_of, moment_after}
 use Rattle.sz_session.specs.Serving.{Advances, SaysFirst}
-use Rattle.sz_session.specs.Disks.{StaysFinding, OnlySays}
+use Rattle.sz_session.specs.Disks.{OnlySays}
 use Rattle.sz_session.specs.Asks.{is_ask, ask_reply, asks_text}
 use Rattle.sz_session.specs.Waiting.{told_text, Lags, SaysWhole, SaysBy, Waits}
 use Rattle.sz_session.specs.declared.feed.Halt.{Halt}
@@ -31,7 +30,7 @@ use Rattle.sz_session.specs.declared.feed.Halt.TheVariants as halt
 use Rattle.sz_session.specs.declared.asking.AskLine.{AskLine}
 use Rattle.sz_session.proofs.Asks.{ask-stays}
 use Rattle.sz_session.proofs.Moments.{cut_after-parts, are_alike-same}
-use Rattle.sz_session.proofs.Turns.{says-nothing, says-then, says-quiet, part-then, part-longer, first-longer, tells-then}
+use Rattle.sz_session.proofs.Turns.{says-then, says-quiet, part-then, part-longer, first-longer, tells-then}
 use Rattle.sz_session.proofs.Turns.{advances-then, advances-nothing, first-whole, first-front, line-only, take-line}
 use Rattle.sz_session.proofs.Disks.{stays-both, stays-finding, only-more, only-longer}
 

@@ -1,7 +1,7 @@
 -- An ask moves to another thread, and at each place it was worked on. Part by part, since what the call asks is of the
 -- same parts under another name.
 use denote.Param.Send.{param_send}
-use Rattle.std.proofs.Common.{◌≡◌, subst}
+use Rattle.std.proofs.Common.{subst}
 use Rattle.std.specs.Prelude.{get_or}
 use Rattle.sz_session.specs.Asks.{IsWorked}
 use Rattle.sz_session.specs.declared.asking.Asked.{Asked}

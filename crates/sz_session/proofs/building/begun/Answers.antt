@@ -1,7 +1,6 @@
 -- One node more: what is kept of it is kept of its run, for the list at its place.
-use Rattle.std.proofs.Common.{◌≡◌, ◌<◌, ◌≤◌, ◌+◌, ℕ, suc, List, [], ◌∷◌, ◌++◌, map, take, length, refl, sym, ap, ◌∙◌, arith}
-use Rattle.std.proofs.Common.{Some, get_or, false}
-use Rattle.std.specs.List.{slice_get}
+use Rattle.std.proofs.Common.{◌<◌, ◌≤◌, [], ◌∷◌, map, take, length, refl, ap, ◌∙◌, arith}
+use Rattle.std.proofs.Common.{false}
 use Rattle.std.specs.Option.{option_map}
 use Rattle.std.proofs.lemmas.List.{length-map, map-append, take_all}
 use Rattle.std.proofs.lemmas.Option.{slice_get-map, slice_get_read}

@@ -1,6 +1,5 @@
 -- The views are those of the path's nodes, so each step can be taken, and no more is traced than 32 outputs have.
-use Rattle.std.proofs.Common.{◌≡◌, ℕ, ◌+◌, ◌*◌, ◌≤◌, List, map, refl, sym, ap, ap₂, ◌∙◌, subst, arith, length}
-use Rattle.std.specs.List.{AllZip}
+use Rattle.std.proofs.Common.{◌≡◌, ℕ, List, map, refl, sym, ap, ap₂, ◌∙◌, subst, arith}
 use Rattle.sz_cells.specs.Extent.{Extent}
 use Rattle.sz_cells.specs.Cells.{Cells, named_in}
 use Rattle.sz_spec.specs.Paths.{Step}

@@ -1,5 +1,5 @@
 -- The run of the step's node holds the node's execution, and its list says the way.
-use Rattle.std.proofs.Common.{◌≡◌, ◌<◌, List, [], map, length, true, refl, sym, ap, ap₂, ◌∙◌, subst, arith, Some}
+use Rattle.std.proofs.Common.{◌≡◌, ◌<◌, List, [], map, length, true, refl, sym, ap, ◌∙◌, subst, arith, Some}
 use Rattle.std.proofs.Common.{Option, unwrap_or}
 use Rattle.std.specs.Arc.{arc_value}
 use Rattle.std.specs.List.{slice_get}
@@ -17,7 +17,7 @@ use Rattle.sz_query.specs.Views.{most_traced_by}
 use Rattle.sz_catalogue.specs.Holdings.{Version}
 use Rattle.sz_catalogue.specs.Changes.{way_of}
 use Rattle.sz_session.specs.Runs.{executions_of}
-use Rattle.sz_session.specs.Stores.{Keeping, Trail, IsKeptOf, IsOwn, keeping_of}
+use Rattle.sz_session.specs.Stores.{Keeping, Trail, IsKeptOf, keeping_of}
 use Rattle.sz_session.specs.Views.{view_by, list_of}
 use Rattle.sz_session.proofs.Keeping.{kept-at, kept-length, kept-own}
 use Rattle.sz_session.proofs.Keeps.{some-same}

@@ -15,7 +15,7 @@ use Rattle.sz_session.proofs.Loads.{load-ends_with, load-completes}
 use Rattle.sz_session.proofs.Disks.{stays-still, start-stays, disk-stays, making-still}
 use Rattle.sz_session.proofs.Makings.{init-ends_with, init-made, init-silent, init-barred, barred-no_memory}
 use Rattle.sz_session.proofs.Makings.{init-completes}
-use Rattle.sz_session.proofs.Jobs.{for-job, for-none, line-job, line-each, served-not, served-not_init}
+use Rattle.sz_session.proofs.Jobs.{for-job, for-none, line-job, line-each, served-not}
 use Rattle.sz_session.proofs.Jobs.{usage-refused, reads-play, disk-init, quiet-done, say-counted}
 use Rattle.sz_session.proofs.Jobs.{words-not_done, words-not_say_fault, words-not_read, words-not_disk, words-not_made}
 use Rattle.sz_session.proofs.Jobs.{words-usage, words-refused, words-not_read_either, words-completes, words-memory}

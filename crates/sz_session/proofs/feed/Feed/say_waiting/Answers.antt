@@ -1,5 +1,5 @@
 -- What is said is the text of the asks that wait.
-use Rattle.std.proofs.Common.{◌≡◌, List, ℕ, ap, subst}
+use Rattle.std.proofs.Common.{List, ℕ, ap, subst}
 use Rattle.sz_outside.specs.Outside.{Says, SaysPart}
 use Rattle.sz_session.specs.Moments.{Moment}
 use Rattle.sz_session.specs.Disks.{OnlySays}

@@ -1,5 +1,5 @@
 -- An ask that waits tells its reply once it is said, behind those before it.
-use Rattle.std.proofs.Common.{◌≡◌, List, ℕ, [], ◌∷◌}
+use Rattle.std.proofs.Common.{[], ◌∷◌}
 use Rattle.std.proofs.lemmas.Result.{err_from_is_err_and}
 use Rattle.sz_session.specs.Moments.{told_in}
 use Rattle.sz_session.specs.Asks.{asks_text}

@@ -1,7 +1,6 @@
 -- A line that does not wait is told once those that wait before it are.
-use Rattle.std.proofs.Common.{◌≡◌, List, ℕ, [], ◌∷◌, Err, OnOk, subst, sym}
+use Rattle.std.proofs.Common.{[], ◌∷◌, subst}
 use Rattle.std.proofs.lemmas.Result.{err_from_is_err_and, on_ok_weaker}
-use Rattle.sz_outside.specs.Outside.{Says, SaysPart}
 use Rattle.sz_session.specs.Moments.{Moment, told_in}
 use Rattle.sz_session.specs.Asks.{asks_text}
 use Rattle.sz_session.specs.Disks.{OnlySays}

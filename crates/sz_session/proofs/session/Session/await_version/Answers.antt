@@ -1,7 +1,6 @@
 -- What the version carries is made whole for its lists, so it is what an awaited version carries.
-use Rattle.std.proofs.Common.{◌≡◌, List, [], true, false, sym, ap, ◌∙◌, subst}
+use Rattle.std.proofs.Common.{◌≡◌, [], true, false, sym, ap, ◌∙◌, subst}
 use Rattle.std.specs.Prelude.{None}
-use Rattle.sz_spec.specs.declared.modes.Strategy.{Strategy}
 use Rattle.sz_script.specs.declared.command.Command.TheVariants as order
 use Rattle.sz_script.specs.declared.refusal.Refusal.TheVariants as refusal
 use Rattle.sz_catalogue.specs.Holdings.{Holdings, Version, arrays_of}

@@ -1,5 +1,5 @@
 -- What answers the inquiry is what is found along the path.
-use Rattle.std.proofs.Common.{◌≡◌, ◌+◌, arith, ap, ◌∙◌}
+use Rattle.std.proofs.Common.{arith}
 use Rattle.std.proofs.lemmas.Result.{IfOk-weaker}
 use Rattle.sz_catalogue.specs.Rules.{version_of}
 use Rattle.sz_session.proofs.Inquiries.{found-cells, found-ways, found-traced, found-least, found-most, on-found, if-both}

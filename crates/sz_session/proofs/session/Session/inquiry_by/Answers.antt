@@ -1,5 +1,5 @@
 -- The version is held, and is sound.
-use Rattle.std.proofs.Common.{◌≡◌, true, false, sym, ap, ◌∙◌, subst}
+use Rattle.std.proofs.Common.{◌≡◌, false, sym, ap, ◌∙◌, subst}
 use Rattle.std.proofs.lemmas.Result.{IfOk-weaker}
 use Rattle.sz_spec.specs.Paths.{is_joined}
 use Rattle.sz_catalogue.specs.Holdings.{Holdings, Version}

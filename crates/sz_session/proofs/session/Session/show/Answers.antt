@@ -5,7 +5,7 @@ use Rattle.std.proofs.lemmas.List.{length-map}
 use Rattle.sz_spec.specs.Values.{Grid}
 use Rattle.sz_script.specs.declared.command.Command.TheVariants as order
 use Rattle.sz_flow.specs.Executions.{Execution, execution_of}
-use Rattle.sz_catalogue.specs.Holdings.{Holdings, Version}
+use Rattle.sz_catalogue.specs.Holdings.{Holdings}
 use Rattle.sz_catalogue.specs.Responses.{values}
 use Rattle.sz_catalogue.specs.Rules.{judged, version_of}
 use Rattle.sz_session.specs.Runs.{executions_of}

@@ -5,7 +5,6 @@ use Rattle.sz_script.specs.declared.command.Command.TheVariants as order
 use Rattle.sz_catalogue.specs.Holdings.{Holdings}
 use Rattle.sz_catalogue.specs.Responses.{Response}
 use Rattle.sz_catalogue.specs.Rules.{judged}
-use Rattle.sz_session.specs.Runs.{AreSound}
 use Rattle.sz_session.proofs.Keeps.{can-start, keeps-start}
 use Rattle.sz_session.proofs.session.Session.start.Goals as goal
 

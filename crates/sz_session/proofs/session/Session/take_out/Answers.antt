@@ -1,8 +1,8 @@
 -- What stands in belongs to the version that is held.
-use Rattle.std.proofs.Common.{◌≡◌, false, sym, ap, ◌∙◌, subst}
+use Rattle.std.proofs.Common.{◌≡◌, false, sym, ◌∙◌, subst}
 use Rattle.sz_catalogue.specs.Holdings.{Holdings, Version}
 use Rattle.sz_catalogue.specs.Rules.{version_of, has_no_version}
-use Rattle.sz_session.specs.Stores.{Trail, IsTrailOf, settled_trail}
+use Rattle.sz_session.specs.Stores.{Trail, IsTrailOf}
 use Rattle.sz_session.proofs.Keeping.{trail-settled}
 use Rattle.sz_session.proofs.Keeps.{version-found, some-same}
 use Rattle.sz_session.proofs.session.Session.take_out.Goals as goal

@@ -1,12 +1,11 @@
 -- What is kept of a node is the same once its tasks are handed out, so all that is kept is.
-use Rattle.std.proofs.Common.{◌≡◌, ◌<◌, ℕ, List, map, length, refl, sym, ap, ap₂, ◌∙◌, arith, subst, Some, false}
+use Rattle.std.proofs.Common.{◌≡◌, ◌<◌, List, length, refl, sym, ap, ap₂, ◌∙◌, arith, subst, Some, false}
 use Rattle.std.specs.Arc.{arc_value}
 use Rattle.std.specs.List.{slice_get}
 use Rattle.std.specs.Option.{option_map}
 use Rattle.std.proofs.Math.Seq.{map-set_same}
 use Rattle.std.proofs.lemmas.List.{length-map}
-use Rattle.std.proofs.lemmas.Option.{slice_get-map, slice_get_read, slice_get_within}
-use Rattle.sz_spec.specs.declared.modes.Strategy.{Strategy}
+use Rattle.std.proofs.lemmas.Option.{slice_get-map, slice_get_read}
 use Rattle.sz_flow.specs.Executions.{Execution, execution_of}
 use Rattle.sz_session.specs.Stores.{Keeping, Trail, IsKeptOf, keeping_of}
 use Rattle.sz_session.proofs.Keeping.{kept-at, kept-length}

@@ -1,5 +1,5 @@
 -- What is kept is a shelf of the run, whose pass splits and stays as it is.
-use Rattle.std.proofs.Common.{◌≡◌, false, refl, sym, ap, ◌∙◌, subst}
+use Rattle.std.proofs.Common.{false, refl, sym, ap, ◌∙◌, subst}
 use Rattle.std.specs.Arc.{arc_value}
 use Rattle.sz_claims.specs.Claims.{Claimant}
 use Rattle.sz_flow.specs.Executions.{execution_of}
