@@ -1,6 +1,6 @@
 -- The words of the command line, and what they ask for.
-use Rattle.std.specs.Prelude.{◌≡◌, ◌≢◌, ℕ, List, true, false, map, take, drop, Result, Ok, Err, ⊤}
-use Rattle.std.specs.Prelude.{string_bytes}
+use Rattle.std.specs.Prelude.{◌≡◌, ◌≢◌, ℕ, Bool, List, true, false, map, take, drop, Option, None}
+use Rattle.std.specs.Prelude.{Result, Ok, Err, ⊤, string_bytes}
 use Rattle.std.specs.IoError.{error_kind}
 use Rattle.std.specs.Vec.Iter.{into_iter_items, into_iter_len}
 use Rattle.std.specs.declared.alloc.Global.{Global}
@@ -8,8 +8,9 @@ use Rattle.std.specs.declared.string.String.{String}
 use Rattle.std.specs.declared.vec.IntoIter.{IntoIter}
 use Rattle.std.specs.declared.io.Error.{Error}
 use Rattle.std.specs.declared.io.ErrorKind.TheVariants.{OutOfMemory}
-use Rattle.sz_session.specs.Serving.{are_served, are_play, IfLoad}
+use Rattle.sz_session.specs.Serving.{are_served, are_play, are_init, IfLoad}
 use Rattle.sz_words.specs.Job.{job_of}
+use Rattle.sz_words.specs.Place.{place_of}
 
 -- What the command line gives: its words, of which the first is the program's name.
 abbrev pub Args : Type 0
@@ -23,6 +24,17 @@ words_in args = drop 1 (take (into_iter_len args) (into_iter_items args))
 abbrev pub ArePlay : Result Args Error → Type 0
 ArePlay (Ok args) = are_play (map string_bytes (words_in args)) ≡ true
 ArePlay (Err fault) = ⊥
+
+-- They could be had, and ask for the making of a log.
+abbrev pub AreInit : Result Args Error → Type 0
+AreInit (Ok args) = are_init (map string_bytes (words_in args)) ≡ true
+AreInit (Err fault) = ⊥
+
+-- The file of the log that they name, as its path's bytes, and whether it is made where it is not
+-- there; none where they name none or could not be had.
+abbrev pub place_named : Result Args Error → Option (List ℕ × Bool)
+place_named (Ok args) = place_of (map string_bytes (words_in args))
+place_named (Err fault) = None
 
 -- They could be had, and ask for a mode that there is.
 abbrev pub AreServed : Result Args Error → Type 0

@@ -8,8 +8,8 @@ use std::io::Eprint;
 use std::process::ExitCode;
 use sz_session::Status;
 
-/// What is printed where the words are refused: the modes that there are.
-const USAGE: &str = "usage: subzero play|load [--workers N] [--askers N] [--seed N] [--side N]";
+/// What is printed where the words are refused.
+const USAGE: &str = "usage: subzero MODE [PLACE] [--workers N] [--askers N] [--seed N] [--side N]";
 
 /// Prints the status's line, where it has one, and gives its number. That the line cannot be
 /// printed changes nothing: the number still tells how the session ended.
@@ -40,6 +40,9 @@ pub(crate) fn ending_of(status: Status) -> Ending
         Status::Usage => (1, USAGE),
         Status::ReadFault => (2, "subzero: reading the session failed"),
         Status::SayFault => (3, "subzero: writing a reply failed"),
+        Status::DiskFault => (4, "subzero: the log's file failed"),
+        Status::NotALog => (5, "subzero: not a log"),
+        Status::AlreadyALog => (6, "subzero: already a log"),
         Status::NoMemory => (8, "subzero: out of memory"),
         Status::InputLimit => (9, "subzero: the session is too long"),
     };

@@ -4,7 +4,8 @@ ghost use Rattle.std.specs.Prelude.{◌≡◌, ◌^◌};
 ghost use Rattle.std.specs.Process.{exit_status};
 ghost use Rattle.sz_outside.specs.Outside.{Rose, Stood, Says};
 ghost use Rattle.sz_session.specs.Serving.{Done, IsPastLimit};
-ghost use Rattle.subzero.specs.Words.{ArePlay, AreServed, AreOther, IfLoadAsked};
+ghost use Rattle.sz_session.specs.Making.{ready_line, HasMade, IsSpared};
+ghost use Rattle.subzero.specs.Words.{ArePlay, AreInit, AreServed, AreOther, IfLoadAsked};
 
 use crate::ending::end;
 use crate::words::{status_of_fault, words_of};
@@ -14,13 +15,15 @@ use std::io::{self, Eprint};
 use std::process::ExitCode;
 use std::sync::{Arc, Wait};
 use std::thread::Threads;
+use sz_log::LogFault;
 use sz_outside::{NoGate, Source, Station};
 use sz_session::{Status, serve};
 
 /// Runs the program over any source and any station, and gives the exit number; the line of the
 /// status is printed on standard error. 0 comes only where the words ask for a mode that there is,
 /// and no fault was counted: in play the session was read to its end, and all of its transcript was
-/// said; in load the line that sums up the generated session was said.
+/// said; in load the line that sums up the generated session was said; in init the disk is the
+/// empty log, and one line says so.
 pub(crate) fn run<
     S: Source,
     T: Station,
@@ -33,7 +36,8 @@ pub(crate) fn run<
         (λ line. Says (T.said station.old) (T.said station.new) line) }
     ensures quiet { exit_status result ≡ 0
         → Stood (S.faults source.old) (S.faults source.new)
-        × Stood (T.say_faults station.old) (T.say_faults station.new) }
+        × Stood (T.say_faults station.old) (T.say_faults station.new)
+        × Stood (T.disk_faults station.old) (T.disk_faults station.new) }
     ensures served { exit_status result ≡ 0 → AreServed args }
     ensures usage { exit_status result ≡ 1 → AreOther args }
     ensures untouched { exit_status result ≡ 1
@@ -42,6 +46,15 @@ pub(crate) fn run<
         → Rose (S.faults source.old) (S.faults source.new) }
     ensures say_fault { exit_status result ≡ 3
         → Rose (T.say_faults station.old) (T.say_faults station.new) }
+    ensures made { exit_status result ≡ 0 → AreInit args
+        → HasMade T.Station station.old station.new
+        × Says (T.said station.old) (T.said station.new) ready_line }
+    ensures disk_fault { exit_status result ≡ 4
+        → Rose (T.disk_faults station.old) (T.disk_faults station.new) }
+    ensures not_a_log { exit_status result ≡ 5 → AreInit args
+        × IsSpared T.Station LogFault.NotALog station.old station.new }
+    ensures already_a_log { exit_status result ≡ 6 → AreInit args
+        × IsSpared T.Station LogFault.AlreadyALog station.old station.new }
     ensures input_limit { exit_status result ≡ 9 → IsPastLimit (2 ^ 62) (S.left source.old) }
 {
     let status = session(rt, alloc, args, source, station);
@@ -63,7 +76,8 @@ fn session<S: Source, T: Station, R: Threads + Wait + Clone + Send + Sync + 'sta
         (λ line. Says (T.said station.old) (T.said station.new) line) }
     ensures quiet { result ≡ Status.Done
         → Stood (S.faults source.old) (S.faults source.new)
-        × Stood (T.say_faults station.old) (T.say_faults station.new) }
+        × Stood (T.say_faults station.old) (T.say_faults station.new)
+        × Stood (T.disk_faults station.old) (T.disk_faults station.new) }
     ensures served { result ≡ Status.Done → AreServed args }
     ensures usage { result ≡ Status.Usage → AreOther args }
     ensures untouched { result ≡ Status.Usage
@@ -72,6 +86,15 @@ fn session<S: Source, T: Station, R: Threads + Wait + Clone + Send + Sync + 'sta
         → Rose (S.faults source.old) (S.faults source.new) }
     ensures say_fault { result ≡ Status.SayFault
         → Rose (T.say_faults station.old) (T.say_faults station.new) }
+    ensures made { result ≡ Status.Done → AreInit args
+        → HasMade T.Station station.old station.new
+        × Says (T.said station.old) (T.said station.new) ready_line }
+    ensures disk_fault { result ≡ Status.DiskFault
+        → Rose (T.disk_faults station.old) (T.disk_faults station.new) }
+    ensures not_a_log { result ≡ Status.NotALog → AreInit args
+        × IsSpared T.Station LogFault.NotALog station.old station.new }
+    ensures already_a_log { result ≡ Status.AlreadyALog → AreInit args
+        × IsSpared T.Station LogFault.AlreadyALog station.old station.new }
     ensures input_limit { result ≡ Status.InputLimit → IsPastLimit (2 ^ 62) (S.left source.old) }
 {
     let args = match args {

@@ -25,11 +25,14 @@ fn each_status_has_its_number_and_its_line(rt: HostRuntime) {
         has_ending(
             Status::Usage,
             1,
-            "usage: subzero play|load [--workers N] [--askers N] [--seed N] [--side N]"
+            "usage: subzero MODE [PLACE] [--workers N] [--askers N] [--seed N] [--side N]"
         )
     );
     assert!(rt; has_ending(Status::ReadFault, 2, "subzero: reading the session failed"));
     assert!(rt; has_ending(Status::SayFault, 3, "subzero: writing a reply failed"));
+    assert!(rt; has_ending(Status::DiskFault, 4, "subzero: the log's file failed"));
+    assert!(rt; has_ending(Status::NotALog, 5, "subzero: not a log"));
+    assert!(rt; has_ending(Status::AlreadyALog, 6, "subzero: already a log"));
     assert!(rt; has_ending(Status::NoMemory, 8, "subzero: out of memory"));
     assert!(rt; has_ending(Status::InputLimit, 9, "subzero: the session is too long"));
     assert_eq!(rt;

@@ -26,5 +26,17 @@ returns-clause-read_fault g c = λ e. c.session-status.ensures.read_fault (statu
 pub returns-clause-say_fault : goal.returns-clause-say_fault
 returns-clause-say_fault g c = λ e. c.session-status.ensures.say_fault (status-of _ _ 3 c.end.ensures e)
 
+pub returns-clause-made : goal.returns-clause-made
+returns-clause-made g c = λ e. c.session-status.ensures.made (status-of _ _ 0 c.end.ensures e)
+
+pub returns-clause-disk_fault : goal.returns-clause-disk_fault
+returns-clause-disk_fault g c = λ e. c.session-status.ensures.disk_fault (status-of _ _ 4 c.end.ensures e)
+
+pub returns-clause-not_a_log : goal.returns-clause-not_a_log
+returns-clause-not_a_log g c = λ e. c.session-status.ensures.not_a_log (status-of _ _ 5 c.end.ensures e)
+
+pub returns-clause-already_a_log : goal.returns-clause-already_a_log
+returns-clause-already_a_log g c = λ e. c.session-status.ensures.already_a_log (status-of _ _ 6 c.end.ensures e)
+
 pub returns-clause-input_limit : goal.returns-clause-input_limit
 returns-clause-input_limit g c = λ e. c.session-status.ensures.input_limit (status-of _ _ 9 c.end.ensures e)
