@@ -1,6 +1,6 @@
 //! Asks beside one another.
 
-ghost use Rattle.std.specs.Prelude.{IfOk, IfSome};
+ghost use Rattle.std.specs.Prelude.{◌≡◌, ◌≤◌, IfOk, IfSome};
 ghost use Rattle.sz_session.specs.Asks.{IsAskLine};
 
 use std::alloc::Global;
@@ -90,7 +90,9 @@ fn played<G: Gate + 'static, R: Threads + Wait + Clone + Send + Sync + 'static>(
     askers: &str,
     chunk: u32,
     gate: &Arc<G>,
-) -> Result<(Status, Vec<u8>), Fail> {
+) -> Result<(Status, Vec<u8>), Fail>
+    requires { 1 ≤ chunk }
+{
     let words = vec![in alloc;
         String::from_str(alloc, "play")?,
         String::from_str(alloc, "--askers")?,
@@ -109,7 +111,7 @@ fn any_number_of_askers_says_the_same(rt: HostRuntime) -> Result<(), Fail> {
     let gate = Arc::new(alloc, NoGate)?;
     for askers in ["1", "2", "4", "64"] {
         for chunk in [7u32, 200, 65_536] {
-            let (status, said) = played(&rt, alloc, askers, chunk, &gate)?;
+            let (status, said) = played(&rt, alloc, askers, chunk.max(1), &gate)?;
             assert_eq!(rt; status, Status::Done);
             assert_eq!(rt; said.as_slice(), REPLIES);
         }
@@ -160,12 +162,13 @@ fn ask_line(alloc: Global, number: u64, line: &[u8]) -> Result<Option<AskLine>, 
 }
 
 /// Two asks of a version whose one step is traced, and two that rules refuse.
-const ASKS: [&[u8]; 4] = [
-    b"{\"ask\":1,\"dir\":\"back\",\"path\":[[0,0]],\"cells\":[[0,1]]}",
-    b"{\"ask\":1,\"dir\":\"forward\",\"path\":[[0,0]],\"cells\":[[1,0]]}",
-    b"{\"ask\":2,\"dir\":\"back\",\"path\":[[0,0]],\"cells\":[[0,0]]}",
-    b"{\"ask\":1,\"dir\":\"back\",\"path\":[[0,0],[0,0]],\"cells\":[[0,0]]}",
-];
+const TRACED: &[u8] = b"{\"ask\":1,\"dir\":\"back\",\"path\":[[0,0]],\"cells\":[[0,1]]}";
+
+const TURNED: &[u8] = b"{\"ask\":1,\"dir\":\"forward\",\"path\":[[0,0]],\"cells\":[[1,0]]}";
+
+const NOT_THERE: &[u8] = b"{\"ask\":2,\"dir\":\"back\",\"path\":[[0,0]],\"cells\":[[0,0]]}";
+
+const NOT_JOINED: &[u8] = b"{\"ask\":1,\"dir\":\"back\",\"path\":[[0,0],[0,0]],\"cells\":[[0,0]]}";
 
 /// The lines before them.
 const BEFORE: [&[u8]; 5] = [
@@ -176,8 +179,57 @@ const BEFORE: [&[u8]; 5] = [
     b"{\"await\":1}",
 ];
 
-/// The replies to the asks, which are told in their order.
-const ASK_REPLIES: &[u8] = b"6 cells 1 1,0\n7 cells 1 0,1\n8 refused 15\n9 refused 16\n";
+/// Whether a session takes the lines before the asks.
+fn is_begun<R: Threads + Wait + Sync>(
+    rt: &R,
+    alloc: Global,
+    session: &mut Session,
+) -> Result<bool, Fail> {
+    let mut station = MemStation::new(alloc, Vec::new(alloc), Vec::new(alloc), Vec::new(alloc))?;
+    for line in BEFORE {
+        let mut tally = Tally::new();
+        let taken = session.command(rt, line, 1, &mut station, &NoGate, &mut tally);
+        if taken.is_err() {
+            return Ok(false);
+        }
+    }
+    Ok(true)
+}
+
+/// The reply lines to two asks that are given together, as lines 6 and 7, and how many cells are
+/// told as traced for them.
+fn told_to_two<R: Threads + Wait + Sync>(
+    rt: &R,
+    alloc: Global,
+    session: &mut Session,
+    first: &[u8],
+    second: &[u8],
+) -> Result<(Vec<u8>, u64), Fail> {
+    let mut tally = Tally::new();
+    let replies = replies_to_two(rt, alloc, session, first, second, &mut tally)?;
+    Ok((lines_of(alloc, &replies)?, tally.count()))
+}
+
+/// The replies to two asks that are given together; none where a line is no ask.
+fn replies_to_two<R: Threads + Wait + Sync>(
+    rt: &R,
+    alloc: Global,
+    session: &mut Session,
+    first: &[u8],
+    second: &[u8],
+    tally: &mut Tally,
+) -> Result<Vec<Reply>, Fail>
+    requires { tally.old ≡ 0 }
+{
+    let Some(first) = ask_line(alloc, 6, first)? else {
+        return Ok(Vec::new(alloc));
+    };
+    let Some(second) = ask_line(alloc, 7, second)? else {
+        return Ok(Vec::new(alloc));
+    };
+    let lines = [first, second];
+    Ok(session.asks(rt, &lines, &NoGate, tally)?)
+}
 
 /// The reply lines of some replies, the first of which is line 6.
 fn lines_of(alloc: Global, replies: &[Reply]) -> Result<Vec<u8>, Fail> {
@@ -191,31 +243,20 @@ fn lines_of(alloc: Global, replies: &[Reply]) -> Result<Vec<u8>, Fail> {
 }
 
 /// Asks that are given together are replied to in their order, and the tally rises by what each
-/// traces: 4 cells for each of two.
+/// traces: 4 cells for each of two, and none for those that rules refuse.
 #[test]
 fn asks_have_their_replies_in_order(rt: HostRuntime) -> Result<(), Fail> {
     let alloc = rt.alloc();
     let mut session = Session::fresh(alloc, 1, 3)?;
-    let mut station = MemStation::new(alloc, Vec::new(alloc), Vec::new(alloc), Vec::new(alloc))?;
-    for line in BEFORE {
-        let mut tally = Tally::new();
-        let taken = session.command(&rt, line, 1, &mut station, &NoGate, &mut tally);
-        assert!(rt; taken.is_ok());
-    }
-    let [first, second, third, fourth] = ASKS;
-    let (Some(first), Some(second), Some(third), Some(fourth)) = (
-        ask_line(alloc, 6, first)?,
-        ask_line(alloc, 7, second)?,
-        ask_line(alloc, 8, third)?,
-        ask_line(alloc, 9, fourth)?,
-    ) else {
-        assert!(rt; false, "a line is no ask");
-        return Ok(());
-    };
-    let lines = [first, second, third, fourth];
-    let mut tally = Tally::new();
-    let replies = session.asks(&rt, &lines, &NoGate, &mut tally)?;
-    assert_eq!(rt; lines_of(alloc, &replies)?.as_slice(), ASK_REPLIES);
-    assert_eq!(rt; tally.count(), 8);
+    assert!(rt; is_begun(&rt, alloc, &mut session)?);
+    let (told, traced) = told_to_two(&rt, alloc, &mut session, TRACED, TURNED)?;
+    assert_eq!(rt;
+        told.as_slice(),
+        b"6 cells 1 1,0\n7 cells 1 0,1\n".as_slice()
+    );
+    assert_eq!(rt; traced, 8);
+    let (told, traced) = told_to_two(&rt, alloc, &mut session, NOT_THERE, NOT_JOINED)?;
+    assert_eq!(rt; told.as_slice(), b"6 refused 15\n7 refused 16\n".as_slice());
+    assert_eq!(rt; traced, 0);
     Ok(())
 }
