@@ -2,7 +2,8 @@
 --
 -- The key idea: on written-out bytes every definition is a computation, so a row that holds is its own proof, and a row
 -- that does not holds two different values equal.
-use Rattle.std.proofs.Common.{◌≡◌, ℕ, List, [], ◌∷◌, ◌++◌, refl, sym, length, arith, true, true≢false, Some, None, ◌<◌}
+use Rattle.std.proofs.Common.{◌≡◌, ℕ, List, [], ◌∷◌, ◌++◌, refl, sym, length, arith}
+use Rattle.std.proofs.Common.{true, false, true≢false, Some, None, ◌<◌}
 use Rattle.std.proofs.lemmas.List.Elements.{All-cons, All-nil}
 use Rattle.sz_cells.specs.Extent.{Extent, flat}
 use Rattle.sz_cells.specs.Cells.{Cells}
@@ -15,6 +16,7 @@ use Rattle.sz_store.specs.Kept.{Keep, regions, NodeLineage, no_lineage}
 use Rattle.sz_script.specs.declared.command.BaseName.{BaseName}
 use Rattle.sz_recover.specs.Bodies.{NodePart, VersionBody, head_bytes, list_bytes, IsShortBase, IsBodyOf}
 use Rattle.sz_recover.specs.Fitting.{FitsNode, FitNodes}
+use Rattle.sz_recover.specs.Lawful.{has_names}
 
 -- ---- version 1 of the flow `f` on version 1 of the array `a`, of one cell: one node `neg` with the list of
 -- `full_one_b`, whose store has one region pair, the output's cell with the input's
@@ -128,6 +130,24 @@ body-spelled = record {
 -- without the node's operator at its shapes they are none
 pub no-sites : IsBodyOf [] body bytes → ⊥
 no-sites is = is.nodes
+
+-- ---- names
+
+pub names-held : has_names body ≡ true
+names-held = refl
+
+-- an upper-case letter, a byte that is no text, no byte at all, and a base array's name
+pub flow-no_name : has_names (record body { flow_name = 70 ∷ [] }) ≡ false
+flow-no_name = refl
+
+pub flow-no_text : has_names (record body { flow_name = 102 ∷ 128 ∷ [] }) ≡ false
+flow-no_text = refl
+
+pub flow-empty : has_names (record body { flow_name = [] }) ≡ false
+flow-empty = refl
+
+pub base-no_name : has_names (record body { base = base ∷ record { name = 45 ∷ []; version = 1 } ∷ [] }) ≡ false
+base-no_name = refl
 
 -- ---- which stores fit
 

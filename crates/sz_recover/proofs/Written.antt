@@ -5,14 +5,18 @@
 use Rattle.std.proofs.Common.{◌≡◌, ℕ, List, [], ◌∷◌, map, length, refl, sym, ap, ap₂, subst, ◌∙◌, true, false, not}
 use Rattle.std.proofs.Common.{Option, Some, None, option_map, unwrap_or, is_some, is_none, eq-eqb}
 use Rattle.std.specs.Prelude.{All}
+use Rattle.std.specs.List.{list_all}
 use Rattle.std.specs.Result.{result_err}
 use Rattle.std.proofs.lemmas.List.{length-map}
+use Rattle.std.proofs.lemmas.Simd.{map-map}
 use Rattle.std.proofs.lemmas.List.Elements.{All-head, All-tail}
 use Rattle.sz_spec.specs.declared.modes.Strategy.{Strategy}
 use Rattle.sz_spec.specs.Shapes.{Site}
 use Rattle.sz_spec.specs.Flows.{Graph}
 use Rattle.sz_spec.specs.FlowShapes.{output_shapes}
 use Rattle.sz_store.specs.Kept.{NodeLineage}
+use Rattle.sz_script.specs.Names.{is_name}
+use Rattle.sz_script.specs.declared.command.BaseName.{BaseName}
 use Rattle.sz_catalogue.specs.Holdings.{Workflow, Base, Version, Holdings, array_version, flow_named, shapes_of}
 use Rattle.sz_catalogue.specs.Holdings.{no_workflow}
 use Rattle.sz_catalogue.specs.Holdings.{output_cells}
@@ -28,13 +32,13 @@ abbrev pub AreHeld : Holdings → List Base → Type 0
 AreHeld c base = All (λ (b : Base). array_version c b.name b.version ≡ Some b.array) base
 
 -- a flow that is found under a name
-flow-found : (o : Option Workflow) (flow : Graph) → option_map (λ w. w.graph) o ≡ Some flow
+pub flow-found : (o : Option Workflow) (flow : Graph) → option_map (λ w. w.graph) o ≡ Some flow
     → ((unwrap_or o no_workflow).graph ≡ flow) × (is_none o ≡ false)
 flow-found None flow is = cc
 flow-found (Some w) flow is = (cc, refl)
 
 -- the base arrays are found by their names
-bases-found : (c : Holdings) (base : List Base) → AreHeld c base → bases_of c (map named_base base) ≡ base
+pub bases-found : (c : Holdings) (base : List Base) → AreHeld c base → bases_of c (map named_base base) ≡ base
 bases-found c [] held = refl
 bases-found c (b ∷ base) held =
     rw (All-head (λ (x : Base). array_version c x.name x.version ≡ Some x.array) b base held)
@@ -48,7 +52,7 @@ none-missing c (b ∷ base) held =
     (none-missing c base (All-tail (λ (x : Base). array_version c x.name x.version ≡ Some x.array) b base held))
 
 -- the lists are those of the nodes
-lists-said : (sites : List Site) (lists : List (List Strategy)) (stores : List (Option NodeLineage))
+pub lists-said : (sites : List Site) (lists : List (List Strategy)) (stores : List (Option NodeLineage))
     → FitNodes sites lists stores → map (λ (x : NodePart). x.list) (parts_of lists stores) ≡ lists
 lists-said [] [] [] fit = refl
 lists-said [] [] (k ∷ stores) fit = absurd fit
@@ -57,6 +61,14 @@ lists-said (s ∷ sites) [] stores fit = absurd fit
 lists-said (s ∷ sites) (l ∷ lists) [] fit = absurd fit
 lists-said (s ∷ sites) (l ∷ lists) (k ∷ stores) fit =
     ap (λ (ls : List (List Strategy)). l ∷ ls) (lists-said sites lists stores fit.1)
+
+-- the names that the body says are those of the version
+names-said : (name : List ℕ) (base : List Base)
+    → list_all is_name (name ∷ map (λ (b : Base). b.name) base) ≡ true
+    → list_all is_name (name ∷ map (λ (b : BaseName). b.name) (map named_base base)) ≡ true
+names-said name base is =
+    subst (λ (names : List (List ℕ)). list_all is_name (name ∷ names) ≡ true)
+    (sym (map-map (λ (b : BaseName). b.name) named_base base)) is
 
 pub written-lawful : WrittenBodiesAreLawful
 written-lawful c n v stores bytes can fit spelled =
@@ -69,6 +81,7 @@ written-lawful c n v stores bytes can fit spelled =
     ∙ ap (λ (ls : List (List Strategy)). record v { lists = ls; awaited = true }) lists in (
       record {
         number = rw (can.some, can.new) refl;
+        names = names-said v.flow_name v.base can.names;
         flow = ap not found.1;
         bases = ap not (none-missing c v.base can.base);
         each =

@@ -3,3 +3,4 @@ pub mod Bodies
 pub mod Fitting
 pub mod Lawful
 pub mod Laws
+pub mod Taking

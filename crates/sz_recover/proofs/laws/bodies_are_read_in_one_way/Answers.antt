@@ -1,5 +1,5 @@
 -- Part by part, what the bytes begin with is said in one way only.
-use Rattle.sz_recover.proofs.Reading.{bodies-one}
+use Rattle.sz_recover.proofs.OneWay.{bodies-one}
 use Rattle.sz_recover.proofs.laws.bodies_are_read_in_one_way.Goals as goal
 
 pub returns : goal.returns

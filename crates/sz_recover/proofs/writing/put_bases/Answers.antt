@@ -9,7 +9,7 @@ use Rattle.sz_cells.specs.SetBytes.{four_bytes}
 use Rattle.sz_script.specs.declared.command.BaseName.{BaseName}
 use Rattle.sz_recover.specs.Bodies.{base_bytes, IsShortBase}
 use Rattle.sz_recover.specs.Fitting.{named_base}
-use Rattle.sz_recover.proofs.Nodes.{one-taken}
+use Rattle.sz_recover.proofs.NodesPut.{one-taken}
 use Rattle.sz_recover.proofs.writing.put_bases.Goals as goal
 
 pub loop-only-preserved : goal.loop-only-preserved

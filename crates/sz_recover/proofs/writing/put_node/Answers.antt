@@ -2,7 +2,7 @@
 use Rattle.std.proofs.Common.{◌≡◌, List, ◌++◌, subst}
 use Rattle.sz_spec.specs.declared.modes.Strategy.{Strategy}
 use Rattle.sz_recover.specs.Bodies.{list_bytes}
-use Rattle.sz_recover.proofs.Nodes.{no-stores}
+use Rattle.sz_recover.proofs.NodesPut.{no-stores}
 use Rattle.sz_recover.proofs.writing.put_node.Goals as goal
 
 pub returns-in-None-clause-node : goal.returns-in-None-clause-node

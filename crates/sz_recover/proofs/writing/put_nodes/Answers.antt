@@ -8,7 +8,7 @@ use Rattle.std.proofs.lemmas.Option.{slice_get-map, slice_get_read}
 use Rattle.sz_spec.specs.Shapes.{Site}
 use Rattle.sz_recover.specs.Bodies.{NodePart, BeginNodes}
 use Rattle.sz_recover.specs.Fitting.{FitNodes, lineages, part_of, parts_of}
-use Rattle.sz_recover.proofs.Nodes.{fit-length, node-next, nodes-append, NextNode}
+use Rattle.sz_recover.proofs.NodesPut.{fit-length, node-next, nodes-append, NextNode}
 use Rattle.sz_recover.proofs.writing.put_nodes.Goals as goal
 
 pub bounds-lists-node : goal.bounds-lists-node

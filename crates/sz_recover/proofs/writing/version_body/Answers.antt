@@ -9,7 +9,7 @@ use Rattle.sz_catalogue.specs.Holdings.{Base, Version, no_version}
 use Rattle.sz_catalogue.specs.Rules.{version_of}
 use Rattle.sz_recover.specs.Bodies.{VersionBody, name_bytes, base_bytes, IsShort, IsBodyOf}
 use Rattle.sz_recover.specs.Fitting.{sites_of, FitNodes, Fit, lineages, parts_of, named_base, body_of}
-use Rattle.sz_recover.proofs.Nodes.{fit-length, four-parts, body-whole}
+use Rattle.sz_recover.proofs.NodesPut.{fit-length, four-parts, body-whole}
 use Rattle.sz_recover.proofs.writing.version_body.Goals as goal
 
 pub returns : goal.returns

@@ -26,7 +26,7 @@ use Rattle.sz_recover.specs.Laws.{IsRightSite, OneBodyAtMost}
 -- ---- parts that do not begin one another
 
 -- a byte for a length, and so many bytes
-bytes-same : (xs ys a b : List ℕ) → (length xs ∷ xs) ++ a ≡ (length ys ∷ ys) ++ b → (xs ≡ ys) × (a ≡ b)
+pub bytes-same : (xs ys a b : List ℕ) → (length xs ∷ xs) ++ a ≡ (length ys ∷ ys) ++ b → (xs ≡ ys) × (a ≡ b)
 bytes-same xs ys a b same =
     let long : length xs ≡ length ys = ap (λ (zs : List ℕ). get_or zs 0 0) same in
     let rest : xs ++ a ≡ ys ++ b = ap (λ (zs : List ℕ). drop 1 zs) same in
@@ -51,7 +51,7 @@ strategy_of n = get_or
     ∷ strategy.PayOne ∷ strategy.PayMany ∷ strategy.CompOne ∷ strategy.CompMany ∷ strategy.BlackBox ∷ [])
     n strategy.Map
 
-of-number : (s : Strategy) → strategy_of (number_of s) ≡ s
+pub of-number : (s : Strategy) → strategy_of (number_of s) ≡ s
 of-number strategy.Map = refl
 of-number strategy.FullOneB = refl
 of-number strategy.FullOneF = refl
@@ -63,11 +63,11 @@ of-number strategy.CompOne = refl
 of-number strategy.CompMany = refl
 of-number strategy.BlackBox = refl
 
-of-numbers : (xs : List Strategy) → map strategy_of (map number_of xs) ≡ xs
+pub of-numbers : (xs : List Strategy) → map strategy_of (map number_of xs) ≡ xs
 of-numbers [] = refl
 of-numbers (x ∷ xs) = ap₂ (λ (s : Strategy) (ss : List Strategy). s ∷ ss) (of-number x) (of-numbers xs)
 
-list-same : (xs ys : List Strategy) (a b : List ℕ) → list_bytes xs ++ a ≡ list_bytes ys ++ b → (xs ≡ ys) × (a ≡ b)
+pub list-same : (xs ys : List Strategy) (a b : List ℕ) → list_bytes xs ++ a ≡ list_bytes ys ++ b → (xs ≡ ys) × (a ≡ b)
 list-same xs ys a b same =
     let long : length xs ≡ length ys = ap (λ (zs : List ℕ). get_or zs 0 0) same in
     let rest : map number_of xs ++ a ≡ map number_of ys ++ b = ap (λ (zs : List ℕ). drop 1 zs) same in
@@ -78,7 +78,7 @@ list-same xs ys a b same =
 -- ---- places
 
 -- the same bytes are left at one place only
-place-same : (bytes : List ℕ) (p q : ℕ) → p ≤ length bytes → q ≤ length bytes → drop p bytes ≡ drop q bytes → p ≡ q
+pub place-same : (bytes : List ℕ) (p q : ℕ) → p ≤ length bytes → q ≤ length bytes → drop p bytes ≡ drop q bytes → p ≡ q
 place-same bytes p q low high same =
     omega (arith, low, high, ap length same, length-drop p bytes, length-drop q bytes)
 
