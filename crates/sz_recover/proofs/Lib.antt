@@ -7,3 +7,6 @@ pub mod HeadParts
 pub mod Sequence
 pub mod Whole
 pub mod Shapes
+pub mod Acting
+pub mod Opened
+pub mod RowsLogs

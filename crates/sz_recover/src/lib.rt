@@ -24,13 +24,17 @@
 //! in `specs/Lawful`, and is known where the part that it is on is read.
 #![tactic(auto)]
 
+mod groups;
 mod heads;
 pub mod laws;
 mod lists;
 mod nodes;
+mod opening;
 mod parts;
 mod reading;
 mod writing;
 
+pub use groups::{Blank, KeptVersion};
+pub use opening::{RecoverFault, Recovered, catalogue_of};
 pub use reading::{TakeFault, TakenVersion, take_version_body};
 pub use writing::version_body;

@@ -1,0 +1,213 @@
+-- What a log holds: its groups act on what is held, one after another, from nothing on.
+--
+-- A group of kind 1 is a line that holds an array, one of kind 2 a line that holds a flow, and one
+-- of kind 3 a line that sets strategies: it acts as that line does. A group of kind 4 is the body
+-- of a version, which it adds awaited, with its stores. Any other group is bad.
+use Rattle.std.specs.Prelude.{◌≡◌, ◌⊎◌, ℕ, ◌+◌, ◌<◌, List, [], ◌∷◌, ◌++◌, length, Bool, true, false}
+use Rattle.std.specs.Prelude.{◌&&◌, ◌==◌, if◌then◌else◌, Option, Some, None, is_none, ⊤}
+use Rattle.std.specs.Prelude.{Result, Ok, Err}
+use Rattle.sz_outside.specs.Disk.{bytes_at}
+use Rattle.sz_log.specs.Log.{Entry, begins_as_log}
+use Rattle.sz_log.specs.Laws.{Reads}
+use Rattle.sz_log.specs.Places.{group_on, StandsAt}
+use Rattle.sz_log.specs.Steps.{place_behind}
+use Rattle.sz_log.specs.declared.groups.Group.TheVariants as group
+use Rattle.sz_script.specs.Reading.{reading}
+use Rattle.sz_script.specs.declared.command.Command.{Command}
+use Rattle.sz_script.specs.declared.command.Command.TheVariants as command
+use Rattle.sz_script.specs.declared.refusal.Refusal.{Refusal}
+use Rattle.sz_store.specs.Kept.{NodeLineage}
+use Rattle.sz_catalogue.specs.Holdings.{Version, Holdings, no_holdings}
+use Rattle.sz_catalogue.specs.Rules.{judged}
+use Rattle.sz_catalogue.specs.Changes.{accepted, with_version}
+use Rattle.sz_recover.specs.Fitting.{Fit, body_of}
+use Rattle.sz_recover.specs.Lawful.{IsLawful, version_said}
+use Rattle.sz_recover.specs.declared.opening.RecoverFault.{RecoverFault}
+use Rattle.sz_recover.specs.declared.opening.RecoverFault.TheVariants as fault
+use Rattle.sz_recover.specs.declared.opening.Next.{Next}
+use Rattle.sz_recover.specs.declared.opening.Next.TheVariants as found
+
+-- ---- what a group does
+
+-- a line of a command stands in groups of this kind
+abbrev pub is_of_kind : ℕ → Command → Bool
+is_of_kind kind (command.Array name array) = kind == 1
+is_of_kind kind (command.Csv name array) = kind == 1
+is_of_kind kind (command.Layers name array) = kind == 1
+is_of_kind kind (command.Flow name flow) = kind == 2
+is_of_kind kind (command.Strategy name node list) = kind == 3
+is_of_kind kind (command.Start name base) = false
+is_of_kind kind (command.Await n) = false
+is_of_kind kind (command.Ask n dir path named) = false
+is_of_kind kind (command.Explain n dir path named) = false
+is_of_kind kind (command.Show n node) = false
+
+-- what is held behind a line of a kind: nothing where it is no command of the kind, or is refused
+abbrev pub held_by : Holdings → ℕ → Result Command Refusal → Option Holdings
+held_by c kind (Err rule) = None
+held_by c kind (Ok order) = if is_of_kind kind order && is_none (judged c order)
+    then Some (accepted c order).0 else None
+
+abbrev pub held_behind : Holdings → Entry → Option Holdings
+held_behind c e = held_by c e.kind (reading e.body)
+
+-- a version with its stores, by its number
+pub record Kept : Type 0 where
+  pub number : ℕ
+  pub stores : List (Option NodeLineage)
+
+-- the group is a line, which is taken; no stores are kept of it
+pub record ActsAsLine (c : Holdings) (e : Entry) (d : Holdings) (kept : List Kept) : Type 0 where
+  pub held : held_behind c e ≡ Some d
+  pub none : kept ≡ []
+
+-- the group is the lawful body of a version with these stores, which is added
+pub record ActsAsVersion (c : Holdings) (e : Entry) (d : Holdings) (kept : List Kept) : Type 0 where
+  pub kind : e.kind ≡ 4
+  pub one : Kept
+  pub version : Version
+  pub fit : Fit version one.stores
+  pub lawful : IsLawful c (body_of one.number version one.stores) e.body
+  pub said : version ≡ version_said c (body_of one.number version one.stores)
+  pub held : d ≡ with_version c one.number version
+  pub kept_is : kept ≡ one ∷ []
+
+-- what is held before a group and behind it, and the stores that are kept of it
+abbrev pub Acts : Holdings → Entry → Holdings → List Kept → Type 0
+Acts c e d kept = ActsAsLine c e d kept ⊎ ActsAsVersion c e d kept
+
+abbrev pub IsBad : Holdings → Entry → Type 0
+IsBad c e = (d : Holdings) (kept : List Kept) → Acts c e d kept → ⊥
+
+-- the same of groups one after another
+abbrev pub ActEach : Holdings → List Entry → Holdings → List Kept → Type 0
+ActEach c [] d kept = (d ≡ c) × (kept ≡ [])
+ActEach c (e ∷ es) d kept = (mid : Holdings) × (first : List Kept) × (rest : List Kept)
+    × Acts c e mid first × ActEach mid es d rest × (kept ≡ first ++ rest)
+
+-- ---- well-made logs
+
+-- The disk begins as a log, and its groups are read up to a closed gate at a place; each acts on
+-- what those before it leave, and in the end this is held, and these stores are kept.
+pub record IsWellMade (disk : List ℕ) (at : ℕ) (c : Holdings) (kept : List Kept) : Type 0 where
+  pub header : begins_as_log disk ≡ true
+  pub entries : List Entry
+  pub read : Reads disk 16 entries at
+  pub acts : ActEach no_holdings entries c kept
+
+-- the group stands at a place of the disk
+abbrev pub Stands : List ℕ → ℕ → Entry → Type 0
+Stands disk at e =
+    (group_on disk at ≡ group.Whole e.kind (at + 10) (length e.body) (place_behind at e))
+    × (bytes_at disk (at + 10) (length e.body) ≡ e.body)
+
+-- from a place on these groups stand one behind another, up to a place
+abbrev pub StandEach : List ℕ → ℕ → List Entry → ℕ → Type 0
+StandEach disk at [] end = at ≡ end
+StandEach disk at (e ∷ es) end = Stands disk at e × StandEach disk (place_behind at e) es end
+
+-- a bad group stands at a place: there is no gate, or no whole group behind an open one, or one that
+-- is bad over what is held
+abbrev pub IsBadAt : List ℕ → ℕ → Holdings → Type 0
+IsBadAt disk at c =
+    (group_on disk at ≡ group.Bad) ⊎ ((e : Entry) × Stands disk at e × IsBad c e)
+
+-- how far a log goes well: it begins as a log, and from byte 16 up to a place groups stand that act
+-- one after another
+pub record GoesWell (disk : List ℕ) (at : ℕ) (c : Holdings) (kept : List Kept) : Type 0 where
+  pub header : begins_as_log disk ≡ true
+  pub entries : List Entry
+  pub stand : StandEach disk 16 entries at
+  pub acts : ActEach no_holdings entries c kept
+
+-- The first bad group of a log stands at a place: the log goes well up to there.
+pub record IsFirstBad (disk : List ℕ) (at : ℕ) : Type 0 where
+  pub c : Holdings
+  pub kept : List Kept
+  pub before : GoesWell disk at c kept
+  pub bad : IsBadAt disk at c
+
+-- ---- what opening tells, where the disk is told
+
+-- it is well made
+abbrev pub IsMade : Option (List ℕ) → ℕ → Holdings → List Kept → Type 0
+IsMade None at c kept = ⊤
+IsMade (Some disk) at c kept = IsWellMade disk at c kept
+
+-- it does not begin as a log
+abbrev pub IsNoLog : Option (List ℕ) → Type 0
+IsNoLog None = ⊤
+IsNoLog (Some disk) = begins_as_log disk ≡ false
+
+-- its first bad group stands at a place
+abbrev pub IsBroken : Option (List ℕ) → ℕ → Type 0
+IsBroken None at = ⊤
+IsBroken (Some disk) at = IsFirstBad disk at
+
+-- why it was not opened: it is no log, or its first bad group stands at this place; of a call that
+-- failed and of want of memory nothing is said of the bytes
+abbrev pub SaysWhy : Option (List ℕ) → RecoverFault → Type 0
+SaysWhy disk fault.Failed = ⊤
+SaysWhy disk fault.NotALog = IsNoLog disk
+SaysWhy disk (fault.BadLog at) = IsBroken disk at
+SaysWhy disk fault.NoMemory = ⊤
+
+-- no call of the disk failed
+abbrev pub has_read : {X : Type 0} → Result X RecoverFault → Bool
+has_read (Ok x) = true
+has_read (Err fault.Failed) = false
+has_read (Err fault.NotALog) = true
+has_read (Err (fault.BadLog at)) = true
+has_read (Err fault.NoMemory) = true
+
+-- the log goes well up to a place
+abbrev pub IsSoFar : Option (List ℕ) → ℕ → Holdings → List Kept → Type 0
+IsSoFar None at c kept = ⊤
+IsSoFar (Some disk) at c kept = GoesWell disk at c kept
+
+-- a group of this kind and with this body stands at a place, and behind it the next gate
+abbrev pub IsEntryAt : Option (List ℕ) → ℕ → ℕ → List ℕ → ℕ → Type 0
+IsEntryAt None at kind body next = ⊤
+IsEntryAt (Some disk) at kind body next =
+    let e : Entry = record { kind = kind; body = body } in
+    Stands disk at e × (next ≡ place_behind at e)
+
+-- what stands next
+abbrev pub IsNext : Option (List ℕ) → ℕ → Next → Type 0
+IsNext disk at found.End = StandsAt disk at group.Closed
+IsNext disk at found.Bad = StandsAt disk at group.Bad
+IsNext disk at (found.Entry kind body next) = IsEntryAt disk at kind body.items next
+
+-- the next gate stands further on
+abbrev pub IsFurther : ℕ → Next → Type 0
+IsFurther at found.End = ⊤
+IsFurther at found.Bad = ⊤
+IsFurther at (found.Entry kind body next) = at < next
+
+-- what is read next acts, and behind it is the next place; or nothing changes at a closed gate
+abbrev pub TakesNext : Option (List ℕ) → ℕ → Option ℕ → Holdings → Holdings → List Kept → List Kept
+    → Type 0
+TakesNext None at next c d kept all = ⊤
+TakesNext (Some disk) at None c d kept all =
+    (group_on disk at ≡ group.Closed) × (d ≡ c) × (all ≡ kept)
+TakesNext (Some disk) at (Some next) c d kept all = (e : Entry) × Stands disk at e
+    × (next ≡ place_behind at e) × (more : List Kept) × Acts c e d more × (all ≡ kept ++ more)
+
+-- a bad group stands at this place
+abbrev pub IsBadOn : Option (List ℕ) → ℕ → Holdings → ℕ → Type 0
+IsBadOn None at c place = ⊤
+IsBadOn (Some disk) at c place = (place ≡ at) × IsBadAt disk at c
+
+-- why it is not taken: it is bad there
+abbrev pub SaysBad : Option (List ℕ) → ℕ → Holdings → RecoverFault → Type 0
+SaysBad disk at c fault.Failed = ⊤
+SaysBad disk at c fault.NotALog = ⊥
+SaysBad disk at c (fault.BadLog place) = IsBadOn disk at c place
+SaysBad disk at c fault.NoMemory = ⊤
+
+-- a fault that says nothing of the bytes
+abbrev pub IsPlain : RecoverFault → Type 0
+IsPlain fault.Failed = ⊤
+IsPlain fault.NotALog = ⊥
+IsPlain (fault.BadLog place) = ⊥
+IsPlain fault.NoMemory = ⊤

@@ -1,0 +1,148 @@
+//! What a group of a log does: the line that it has acts as that line does, and a version is added.
+
+ghost use Rattle.std.specs.Prelude.{◌≡◌, ◌++◌, List, Some, None, true, IfErr, OnOk};
+ghost use Rattle.sz_log.specs.Log.{Entry};
+ghost use Rattle.sz_recover.specs.Logs.{Kept, Acts, ActsAsVersion, IsBad, held_behind};
+ghost use Rattle.sz_recover.specs.Logs.{is_of_kind};
+ghost use Rattle.sz_recover.specs.Taking.{IfBad, NoneIsLawful};
+
+use crate::reading::{TakeFault, take_version_body};
+use std::alloc::Global;
+use std::marker::Model;
+use std::sync::Arc;
+use sz_catalogue::{Carried, Catalogue, HeldVersion};
+use sz_script::laws::commands_are_right;
+use sz_script::{Command, LineFault, read_line};
+use sz_store::NodeStore;
+
+/// What can be kept with a version before anything is made of it.
+pub trait Blank: Carried {
+    ghost use Rattle.std.specs.Prelude.{◌≡◌, true};
+    ghost use Rattle.sz_catalogue.specs.Holdings.{Version};
+
+    /// What belongs to any version that was awaited.
+    fn blank() -> Self
+        ensures { (v : Version) → v.awaited ≡ true → Self.belongs result v };
+}
+
+impl Blank for () {
+    fn blank() {}
+}
+
+/// A version that a log has, with its stores: for each node those of its list, where that has a
+/// strategy that keeps one.
+#[derive(Drop)]
+pub struct KeptVersion {
+    pub version: u32,
+    pub nodes: Vec<Option<Arc<NodeStore>>>,
+}
+
+impl Model for KeptVersion {
+    ghost use Rattle.sz_recover.specs.Fitting.{lineages};
+    ghost use Rattle.sz_recover.specs.Logs.{Kept};
+
+    ghost Value = { Kept };
+
+    ghost view = { λ k. record { number = k.version; stores = lineages k.nodes.items } };
+}
+
+/// The kind of the groups that have a version.
+const VERSION_KIND: u8 = 4;
+
+/// Takes a group of a kind with a body over what is held, and keeps the stores of a version. `Bad`
+/// exactly where the group is bad there.
+pub(crate) fn act<K: Blank>(
+    alloc: Global,
+    catalogue: &mut Catalogue<K>,
+    kept: &mut Vec<KeptVersion>,
+    kind: u8,
+    body: &[u8],
+) -> Result<(), TakeFault>
+    ensures ok { let e : Entry = record { kind = kind; body = body.now } in OnOk result (
+        (more : List Kept) × Acts catalogue.old e catalogue.new more
+        × (kept.new.items ≡ kept.old.items ++ more)) }
+    ensures err { let e : Entry = record { kind = kind; body = body.now } in
+        IfErr result (λ f. IfBad f (IsBad catalogue.old e)) }
+{
+    if kind == VERSION_KIND {
+        return act_as_version(alloc, catalogue, kept, body);
+    }
+    act_as_line(alloc, catalogue, kind, body)
+}
+
+/// Takes the line of a group of a kind.
+fn act_as_line<K: Blank>(
+    alloc: Global,
+    catalogue: &mut Catalogue<K>,
+    kind: u8,
+    body: &[u8],
+) -> Result<(), TakeFault>
+    ensures ok { let e : Entry = record { kind = kind; body = body.now } in
+        OnOk result (held_behind catalogue.old e ≡ Some catalogue.new) }
+    ensures err { let e : Entry = record { kind = kind; body = body.now } in
+        IfErr result (λ f. IfBad f (held_behind catalogue.old e ≡ None)) }
+{
+    commands_are_right();
+    let command = match read_line(alloc, body) {
+        Ok(command) => command,
+        Err(LineFault::Refused(_)) => return Err(TakeFault::Bad),
+        Err(LineFault::NoMemory) => return Err(TakeFault::NoMemory),
+    };
+    if !is_of_kind(kind, &command) {
+        return Err(TakeFault::Bad);
+    }
+    match catalogue.judge(alloc, &command) {
+        Ok(()) => {}
+        Err(LineFault::Refused(_)) => return Err(TakeFault::Bad),
+        Err(LineFault::NoMemory) => return Err(TakeFault::NoMemory),
+    }
+    let _reply = catalogue.accept(command)?;
+    Ok(())
+}
+
+/// Whether a line of a command stands in groups of this kind.
+fn is_of_kind(kind: u8, command: &Command) -> bool
+    ensures { result ≡ is_of_kind kind command.now }
+{
+    match command {
+        Command::Array { .. } => kind == 1,
+        Command::Csv { .. } => kind == 1,
+        Command::Layers { .. } => kind == 1,
+        Command::Flow { .. } => kind == 2,
+        Command::Strategy { .. } => kind == 3,
+        Command::Start { .. } => false,
+        Command::Await { .. } => false,
+        Command::Ask { .. } => false,
+        Command::Explain { .. } => false,
+        Command::Show { .. } => false,
+    }
+}
+
+/// Adds the version of a body, and keeps its stores.
+fn act_as_version<K: Blank>(
+    alloc: Global,
+    catalogue: &mut Catalogue<K>,
+    kept: &mut Vec<KeptVersion>,
+    body: &[u8],
+) -> Result<(), TakeFault>
+    ensures ok { let e : Entry = record { kind = 4; body = body.now } in OnOk result (
+        (more : List Kept) × ActsAsVersion catalogue.old e catalogue.new more
+        × (kept.new.items ≡ kept.old.items ++ more)) }
+    ensures err { IfErr result (λ f. IfBad f (NoneIsLawful catalogue.old body.now)) }
+{
+    let taken = take_version_body(alloc, catalogue, body)?;
+    let version = HeldVersion {
+        flow_name: taken.flow_name,
+        flow: taken.flow,
+        base: taken.base,
+        lists: taken.lists,
+        awaited: true,
+        kept: K::blank(),
+    };
+    catalogue.add_version(taken.number, version)?;
+    kept.push(KeptVersion {
+        version: taken.number,
+        nodes: taken.stores,
+    })?;
+    Ok(())
+}

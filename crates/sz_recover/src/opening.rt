@@ -1,0 +1,219 @@
+//! Opening a log: its groups are read one after another, and act on what is held.
+
+ghost use Rattle.std.specs.Prelude.{◌≡◌, ◌<◌, [], IfOk, IfErr, IfSome};
+ghost use Rattle.sz_outside.specs.Counts.{faults_after};
+ghost use Rattle.sz_outside.specs.Disk.{Told, Passes, Same, Said};
+ghost use Rattle.sz_catalogue.specs.Holdings.{no_holdings};
+ghost use Rattle.sz_recover.specs.Logs.{IsMade, SaysWhy, TakesNext, SaysBad, IsNext, IsFurther};
+ghost use Rattle.sz_recover.specs.Logs.{IsPlain, has_read};
+
+use crate::groups::{Blank, KeptVersion, act};
+use crate::reading::TakeFault;
+use std::alloc::{AllocError, AllocFailed, Global};
+use sz_catalogue::{Carried, Catalogue};
+use sz_log::{Group, LogEnd, group_at, is_log};
+use sz_outside::{Failed, Station};
+
+/// What a log holds: the catalogue that its groups make, the place of its first closed gate, and
+/// the stores of its versions, in the order of the log.
+#[derive(Drop)]
+pub struct Recovered<K: Carried> {
+    pub catalogue: Catalogue<K>,
+    pub end: LogEnd,
+    pub stores: Vec<KeptVersion>,
+}
+
+/// Why a log was not opened.
+#[derive(Clone, Copy, Debug, Drop, PartialEq, Eq)]
+pub enum RecoverFault {
+    /// A call of the disk failed.
+    Failed,
+    /// The disk does not begin as a log.
+    NotALog,
+    /// The log is not well made: its first bad group stands at this place, or should.
+    BadLog { at: u64 },
+    /// There was no memory.
+    NoMemory,
+}
+
+impl From<Failed> for RecoverFault {
+    ghost use Rattle.std.specs.Prelude.{◌≡◌};
+    ghost use Rattle.sz_recover.specs.declared.opening.RecoverFault.TheVariants as fault;
+
+    ghost from_gives = { λ _ e. e ≡ fault.Failed };
+
+    fn from(_failed: Failed) -> RecoverFault {
+        RecoverFault::Failed
+    }
+}
+
+impl From<AllocError> for RecoverFault {
+    ghost use Rattle.std.specs.Prelude.{◌≡◌};
+    ghost use Rattle.sz_recover.specs.declared.opening.RecoverFault.TheVariants.{NoMemory};
+
+    ghost from_gives = { λ _ e. e ≡ NoMemory };
+
+    fn from(_error: AllocError) -> RecoverFault {
+        RecoverFault::NoMemory
+    }
+}
+
+impl<T: Drop> From<AllocFailed<T>> for RecoverFault {
+    ghost use Rattle.std.specs.Prelude.{◌≡◌};
+    ghost use Rattle.sz_recover.specs.declared.opening.RecoverFault.TheVariants.{NoMemory};
+
+    ghost from_gives = { λ _ e. e ≡ NoMemory };
+
+    fn from(_error: AllocFailed<T>) -> RecoverFault {
+        RecoverFault::NoMemory
+    }
+}
+
+/// The catalogue that the groups of a well-made log make, with where its first closed gate stands
+/// and the stores of its versions. Each byte of the log is read once.
+///
+/// Takes time in the bytes of the log, and for each group time in the logarithm of what is held;
+/// and memory in what is held, in the stores, and in the longest group.
+pub fn catalogue_of<T: Station, K: Blank>(
+    alloc: Global,
+    station: &mut T,
+) -> Result<Recovered<K>, RecoverFault>
+    ensures made { IfOk result
+        (λ r. IsMade (T.disk station.old) r.end.at r.catalogue r.stores.items) }
+    ensures why { IfErr result (λ e. SaysWhy (T.disk station.old) e) }
+    ensures counted { T.disk_faults station.new
+        ≡ faults_after (T.disk_faults station.old) (has_read result) }
+    ensures disk { T.disk station.new ≡ T.disk station.old }
+    ensures output { (T.said station.new ≡ T.said station.old)
+        × (T.say_faults station.new ≡ T.say_faults station.old) }
+    ensures stops { Told (T.disk station.old) (
+        Passes (T.moment station.old) (T.moment station.new)
+        (T.left_since station.old) (T.left_since station.new)
+        (T.may_leave station.old) (T.may_leave station.new) Same (Said (T.said station.old))) }
+{
+    let mut catalogue = Catalogue::new(alloc);
+    let mut stores = Vec::new(alloc);
+    match act_each(alloc, station, &mut catalogue, &mut stores) {
+        Ok(at) => Ok(Recovered {
+            catalogue,
+            end: LogEnd { at },
+            stores,
+        }),
+        Err(fault) => Err(fault),
+    }
+}
+
+/// Takes the groups of a log, from nothing on, and gives the place of the first closed gate.
+fn act_each<T: Station, K: Blank>(
+    alloc: Global,
+    station: &mut T,
+    catalogue: &mut Catalogue<K>,
+    kept: &mut Vec<KeptVersion>,
+) -> Result<u64, RecoverFault>
+    requires nothing { catalogue.old ≡ no_holdings }
+    requires none { kept.old.items ≡ [] }
+    ensures made { IfOk result
+        (λ at. IsMade (T.disk station.old) at catalogue.new kept.new.items) }
+    ensures why { IfErr result (λ e. SaysWhy (T.disk station.old) e) }
+    ensures counted { T.disk_faults station.new
+        ≡ faults_after (T.disk_faults station.old) (has_read result) }
+    ensures disk { T.disk station.new ≡ T.disk station.old }
+    ensures output { (T.said station.new ≡ T.said station.old)
+        × (T.say_faults station.new ≡ T.say_faults station.old) }
+    ensures stops { Told (T.disk station.old) (
+        Passes (T.moment station.old) (T.moment station.new)
+        (T.left_since station.old) (T.left_since station.new)
+        (T.may_leave station.old) (T.may_leave station.new) Same (Said (T.said station.old))) }
+{
+    if !is_log(station)? {
+        return Err(RecoverFault::NotALog);
+    }
+    let mut at = 16;
+    while let Some(next) = take_next(alloc, station, catalogue, kept, at)? {
+        at = next;
+    }
+    Ok(at)
+}
+
+/// Takes the group that stands at a place, and gives the place of the next gate; nothing at a closed
+/// gate.
+fn take_next<T: Station, K: Blank>(
+    alloc: Global,
+    station: &mut T,
+    catalogue: &mut Catalogue<K>,
+    kept: &mut Vec<KeptVersion>,
+    at: u64,
+) -> Result<Option<u64>, RecoverFault>
+    ensures ok { IfOk result (λ next. TakesNext (T.disk station.old) at next
+        catalogue.old catalogue.new kept.old.items kept.new.items) }
+    ensures further { IfOk result (λ n. IfSome n (λ next. at < next)) }
+    ensures bad { IfErr result (λ e. SaysBad (T.disk station.old) at catalogue.old e) }
+    ensures counted { T.disk_faults station.new
+        ≡ faults_after (T.disk_faults station.old) (has_read result) }
+    ensures disk { T.disk station.new ≡ T.disk station.old }
+    ensures output { (T.said station.new ≡ T.said station.old)
+        × (T.say_faults station.new ≡ T.say_faults station.old) }
+    ensures stops { Told (T.disk station.old) (
+        Passes (T.moment station.old) (T.moment station.new)
+        (T.left_since station.old) (T.left_since station.new)
+        (T.may_leave station.old) (T.may_leave station.new) Same (Said (T.said station.old))) }
+{
+    match next_group(alloc, station, at) {
+        Ok(Next::End) => Ok(None),
+        Ok(Next::Bad) => Err(RecoverFault::BadLog { at }),
+        Ok(Next::Entry { kind, body, next }) => match act(alloc, catalogue, kept, kind, &body) {
+            Ok(()) => Ok(Some(next)),
+            Err(TakeFault::Bad) => Err(RecoverFault::BadLog { at }),
+            Err(TakeFault::NoMemory) => Err(RecoverFault::NoMemory),
+        },
+        Err(fault) => Err(fault),
+    }
+}
+
+/// What is read next of a log.
+#[derive(Drop)]
+enum Next {
+    /// A closed gate.
+    End,
+    /// No gate, or an open gate without a whole group behind it.
+    Bad,
+    /// A group: its kind, its body, and the place of the next gate.
+    Entry { kind: u8, body: Vec<u8>, next: u64 },
+}
+
+/// What is read at a place.
+fn next_group<T: Station>(alloc: Global, station: &mut T, at: u64) -> Result<Next, RecoverFault>
+    ensures next { IfOk result (λ n. IsNext (T.disk station.old) at n) }
+    ensures further { IfOk result (λ n. IsFurther at n) }
+    ensures plain { IfErr result (λ e. IsPlain e) }
+    ensures counted { T.disk_faults station.new
+        ≡ faults_after (T.disk_faults station.old) (has_read result) }
+    ensures disk { T.disk station.new ≡ T.disk station.old }
+    ensures output { (T.said station.new ≡ T.said station.old)
+        × (T.say_faults station.new ≡ T.say_faults station.old) }
+    ensures stops { Told (T.disk station.old) (
+        Passes (T.moment station.old) (T.moment station.new)
+        (T.left_since station.old) (T.left_since station.new)
+        (T.may_leave station.old) (T.may_leave station.new) Same (Said (T.said station.old))) }
+{
+    match group_at(station, at)? {
+        Group::Closed => Ok(Next::End),
+        Group::Bad => Ok(Next::Bad),
+        Group::Whole {
+            kind,
+            body: place,
+            length,
+            next,
+        } => {
+            let mut body = vec![in alloc; 0; length as usize]?;
+            let count = station.read_at(place, &mut body)?;
+            if count != body.len() {
+                return Ok(Next::Bad); // a disk that is told has the whole group
+            }
+            if next <= at {
+                return Ok(Next::Bad); // nor does it end before it begins
+            }
+            Ok(Next::Entry { kind, body, next })
+        }
+    }
+}
