@@ -1,19 +1,19 @@
 -- What a group does to what is held.
 --
 -- The key idea: a group of kind 4 is no line, and any other group is no version, so it acts in one way at most.
-use Rattle.std.proofs.Common.{◌≡◌, ◌≢◌, ℕ, List, [], refl, sym, ap, ◌∙◌, inl, inr, true, false, true≢false, Bool, ◌&&◌}
-use Rattle.std.proofs.Common.{Option, Some, None, is_none}
+use Rattle.std.proofs.Common.{◌≡◌, ℕ, List, [], refl, sym, ap, ◌∙◌, inl, inr, true, false, true≢false}
+use Rattle.std.proofs.Common.{Option, Some, None}
 use Rattle.std.specs.Prelude.{Result, Ok, Err}
 use Rattle.sz_log.specs.Log.{Entry}
 use Rattle.sz_script.specs.Reading.{reading}
 use Rattle.sz_script.specs.declared.command.Command.{Command}
 use Rattle.sz_script.specs.declared.command.Command.TheVariants as command
 use Rattle.sz_script.specs.declared.refusal.Refusal.{Refusal}
-use Rattle.sz_catalogue.specs.Holdings.{Version, Holdings}
+use Rattle.sz_catalogue.specs.Holdings.{Holdings}
 use Rattle.sz_catalogue.specs.Rules.{judged}
 use Rattle.sz_catalogue.specs.Changes.{accepted, changes_no_version}
 use Rattle.sz_recover.specs.Fitting.{body_of}
-use Rattle.sz_recover.specs.Logs.{Kept, Acts, IsBad, ActsAsLine, ActsAsVersion, held_by, held_behind, is_of_kind}
+use Rattle.sz_recover.specs.Logs.{Acts, IsBad, held_by, held_behind, is_of_kind}
 use Rattle.sz_recover.specs.Taking.{NoneIsLawful}
 
 abbrev pub entry_of : ℕ → List ℕ → Entry

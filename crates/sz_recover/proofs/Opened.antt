@@ -2,22 +2,22 @@
 --
 -- The key idea: the groups so far stand in front and act on nothing, so one more that stands behind them and acts on
 -- what they leave makes one list of groups with them.
-use Rattle.std.proofs.Common.{◌≡◌, ℕ, ◌+◌, ◌<◌, ◌≤◌, List, [], ◌∷◌, ◌++◌, length, take, drop, refl, sym, ap, ap₂, subst, ◌∙◌}
-use Rattle.std.proofs.Common.{arith, append_assoc, append-nil, inl, inr, true, false, Bool, ◌&&◌, ◌==◌, if◌then◌else◌, min}
-use Rattle.std.proofs.Common.{Option, Some, None, length-take, length-drop, nat_le, ◌≢◌}
+use Rattle.std.proofs.Common.{◌≡◌, ℕ, ◌+◌, ◌≤◌, List, [], ◌∷◌, ◌++◌, length, take, drop, refl, sym, ap, ap₂, subst, ◌∙◌}
+use Rattle.std.proofs.Common.{arith, append_assoc, append-nil, inr, true, false, Bool, ◌&&◌, ◌==◌, if◌then◌else◌}
+use Rattle.std.proofs.Common.{Option, Some, None, length-take, length-drop, nat_le}
 use Rattle.std.specs.Int.{w64, from_be_bytes}
 use Rattle.std.proofs.lemmas.Bool.{and_parts, leb-true}
 use Rattle.std.proofs.lemmas.List.{take_all}
 use Rattle.sz_outside.specs.Disk.{bytes_at, GivesAt}
 use Rattle.sz_log.specs.Log.{Entry, is_kind, begins_as_log}
 use Rattle.sz_log.specs.Laws.{Reads}
-use Rattle.sz_log.specs.Places.{group_on, group_in, opened, opened_with, StandsAt}
+use Rattle.sz_log.specs.Places.{group_on, group_in, opened, StandsAt}
 use Rattle.sz_log.specs.Steps.{place_behind}
 use Rattle.sz_log.specs.declared.groups.Group.{Group}
 use Rattle.sz_log.specs.declared.groups.Group.TheVariants as group
 use Rattle.sz_catalogue.specs.Holdings.{Holdings, no_holdings}
-use Rattle.sz_recover.specs.Logs.{Kept, Acts, ActEach, Stands, StandEach, GoesWell, IsBadAt, IsFirstBad, IsWellMade}
-use Rattle.sz_recover.specs.Logs.{IsMade, IsNoLog, IsBroken, IsSoFar, IsEntryAt, IsBadOn, TakesNext, IsBad}
+use Rattle.sz_recover.specs.Logs.{Kept, Acts, ActEach, Stands, StandEach, GoesWell, IsBadAt}
+use Rattle.sz_recover.specs.Logs.{IsMade, IsBroken, IsSoFar, IsEntryAt, IsBadOn, TakesNext, IsBad}
 use Rattle.sz_recover.proofs.Acting.{entry_of}
 
 -- ---- one more group

@@ -1,5 +1,8 @@
-//! Versions in a log: the body of a group says which version it is, and has its stores.
+//! What a log holds: its groups act on a catalogue, and the body of a version's group says which
+//! version it is, and has its stores.
 //!
+//! - [`catalogue_of`] opens a log: it gives the catalogue that its groups make, where its first
+//!   closed gate stands, and the stores of its versions; or the place of its first bad group.
 //! - [`version_body`] writes the body of a version that is held.
 //! - [`take_version_body`] reads the version that a body says, with its stores, over what is held.
 //!   What it gives can be added to the catalogue.
@@ -8,7 +11,11 @@
 //! let body = version_body(alloc, &catalogue, version, &stores)?;
 //! // over a catalogue that holds its flow and its base arrays, and no version of its number
 //! let taken = take_version_body(alloc, &other, &body)?;   // taken.number == version
+//! let opened: Recovered<()> = catalogue_of(alloc, &mut station)?;
 //! ```
+//!
+//! `specs/Logs` says what each kind of group does (`Acts`), which logs are well made
+//! (`IsWellMade`), and which is the first bad group (`IsFirstBad`).
 //!
 //! `IsBodyOf` of `specs/Bodies` is what a body is; `Fit` of `specs/Fitting` is which stores fit a
 //! version, and `body_of` what its body says.

@@ -1,7 +1,7 @@
 -- A group of kind 4 is bad where its body is lawful for no version; a line keeps no stores.
-use Rattle.std.proofs.Common.{◌≡◌, ℕ, List, [], ◌++◌, sym, subst, append-nil, Some}
+use Rattle.std.proofs.Common.{◌≡◌, ℕ, [], sym, subst, append-nil, Some}
 use Rattle.std.proofs.lemmas.Result.{IfErr-weaker, on_ok_weaker}
-use Rattle.sz_recover.specs.Logs.{Kept, Acts, IsBad, held_behind}
+use Rattle.sz_recover.specs.Logs.{IsBad, held_behind}
 use Rattle.sz_recover.specs.Taking.{IfBad, NoneIsLawful}
 use Rattle.sz_recover.proofs.Acting.{entry_of, line-acts, version-bad}
 use Rattle.sz_recover.proofs.HeadParts.{if_bad-weaker}

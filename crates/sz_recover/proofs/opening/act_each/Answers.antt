@@ -1,5 +1,5 @@
 -- One more group acts, and at a closed gate the log is well made.
-use Rattle.std.proofs.Common.{◌≡◌, ℕ, List, Option, Some, None, subst, ◌∙◌}
+use Rattle.std.proofs.Common.{ℕ, List, Option, Some, None, subst, ◌∙◌}
 use Rattle.sz_log.proofs.Moments.{told, all_told}
 use Rattle.sz_log.proofs.Makes.{looks_twice}
 use Rattle.sz_recover.specs.Logs.{TakesNext}

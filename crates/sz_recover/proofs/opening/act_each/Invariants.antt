@@ -1,5 +1,5 @@
 -- The disk is as before, and the log goes well up to the place.
-use Rattle.std.proofs.Common.{◌≡◌, ◌-◌, ℕ}
+use Rattle.std.proofs.Common.{◌≡◌, ◌-◌}
 use Rattle.sz_outside.specs.Disk.{Told, Passes, Same, Said}
 use Rattle.sz_recover.specs.Logs.{IsSoFar}
 use Rattle.sz_recover.proofs.opening.act_each.Given as goal

@@ -1,5 +1,5 @@
 -- A whole group is read wholly, and ends behind its gate.
-use Rattle.std.proofs.Common.{◌≡◌, ℕ, List, ◌++◌, length, drop, sym, subst, ◌∙◌, arith}
+use Rattle.std.proofs.Common.{◌≡◌, ℕ, List, length, drop, sym, subst, ◌∙◌, arith}
 use Rattle.sz_outside.specs.Disk.{GivesAt}
 use Rattle.sz_log.specs.Places.{StandsAt}
 use Rattle.sz_log.specs.declared.groups.Group.{Group}

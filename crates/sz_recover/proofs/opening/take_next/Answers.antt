@@ -1,5 +1,5 @@
 -- The group that stands there is bad over what is held.
-use Rattle.std.proofs.Common.{◌≡◌, ℕ, List, subst}
+use Rattle.std.proofs.Common.{ℕ, List, subst}
 use Rattle.sz_recover.specs.declared.reading.TakeFault.{TakeFault}
 use Rattle.sz_recover.specs.declared.opening.Next.{Next}
 use Rattle.sz_recover.specs.Logs.{IsNext, IsEntryAt, IsBad}
