@@ -3,9 +3,9 @@
 -- The key idea: on written-out bytes every definition is a computation, so a row that holds is its own proof, and
 -- a row that does not holds two different values equal.
 use Rattle.std.proofs.Common.{◌≡◌, ℕ, true, false, None, Some, List, [], ◌∷◌, ◌++◌, refl, length, take, drop}
-use Rattle.std.proofs.Common.{set, replicate, arith}
+use Rattle.std.proofs.Common.{set, replicate, arith, ap, get_or}
 use Rattle.sz_log.specs.Log.{Entry, IsLog, empty_log, header, begins_as_log, bar_to, log_bytes}
-use Rattle.sz_log.specs.Places.{group_on}
+use Rattle.sz_log.specs.Places.{group_on, SpellsLength}
 use Rattle.sz_log.specs.Steps.{IsShort, place_behind}
 use Rattle.sz_log.specs.Laws.{Reads}
 use Rattle.sz_log.specs.declared.LogFault.TheVariants as fault
@@ -53,6 +53,13 @@ log-gate = refl
 
 pub log-end : group_on log 54 ≡ Bad
 log-end = refl
+
+-- its length of 27 is spelled by eight bytes from byte 18 on, and no other length is
+pub log-spells : SpellsLength log 16 (Whole 1 26 27 53)
+log-spells = refl
+
+pub log-spells-none : SpellsLength log 16 (Whole 1 26 26 52) → ⊥
+log-spells-none is = let last : 27 ≡ 26 = ap (λ (l : List ℕ). get_or l 7 0) is in omega (arith, last)
 
 -- cut to 40 bytes it is bad at 16, and cut to 53 bytes at 53
 pub cut_within : group_on (take 40 log) 16 ≡ Bad

@@ -1,7 +1,8 @@
 -- What stands at a place of a disk.
 use Rattle.std.specs.Prelude.{◌≡◌, ℕ, ◌+◌, ◌==◌, nat_le, Bool, ◌&&◌, if◌then◌else◌, ⊤}
 use Rattle.std.specs.Prelude.{Option, None, Some, List, [], ◌∷◌, length, take, drop}
-use Rattle.std.specs.Int.{w64, from_be_bytes}
+use Rattle.std.specs.Int.{w64, from_be_bytes, to_be_bytes}
+use Rattle.sz_outside.specs.Disk.{bytes_at}
 use Rattle.sz_log.specs.Log.{is_kind, begins_as_log}
 use Rattle.sz_log.specs.declared.groups.Group.{Group}
 use Rattle.sz_log.specs.declared.groups.Group.TheVariants.{Closed, Whole, Bad}
@@ -30,6 +31,17 @@ group_on disk at = group_in at (drop at disk)
 abbrev pub StandsAt : Option (List ℕ) → ℕ → Group → Type 0
 StandsAt None at group = ⊤
 StandsAt (Some disk) at group = group ≡ group_on disk at
+
+-- Where a whole group stands, its length stands as eight bytes are written.
+abbrev pub SpellsLength : List ℕ → ℕ → Group → Type 0
+SpellsLength disk at Closed = ⊤
+SpellsLength disk at (Whole kind body len next) = bytes_at disk (at + 2) 8 ≡ to_be_bytes w64 len
+SpellsLength disk at Bad = ⊤
+
+-- The same where the disk is told.
+abbrev pub SpellsAt : Option (List ℕ) → ℕ → Group → Type 0
+SpellsAt None at group = ⊤
+SpellsAt (Some disk) at group = SpellsLength disk at group
 
 -- Whether the disk begins as a log, where it is told.
 abbrev pub SaysWhether : Option (List ℕ) → Bool → Type 0

@@ -3,7 +3,8 @@ ghost use Rattle.std.specs.Prelude.{◌≡◌, ◌==◌, ◌<◌, ◌+◌, ◌^�
 ghost use Rattle.sz_outside.specs.Counts.{faults_after};
 ghost use Rattle.sz_outside.specs.Disk.{Told, Passes, Same, Said, bytes_at};
 ghost use Rattle.sz_log.specs.Log.{is_kind};
-ghost use Rattle.sz_log.specs.Places.{StandsAt, SaysWhether, group_on, opened_with};
+ghost use Rattle.sz_log.specs.Places.{StandsAt, SpellsAt, SpellsLength, SaysWhether};
+ghost use Rattle.sz_log.specs.Places.{group_on, opened_with};
 
 use sz_outside::{Failed, Station};
 
@@ -60,6 +61,7 @@ pub fn is_log<T: Station>(station: &mut T) -> Result<bool, Failed>
 /// What stands at a place of the disk. Takes no memory.
 pub fn group_at<T: Station>(station: &mut T, at: u64) -> Result<Group, Failed>
     ensures group { IfOk result (λ group. StandsAt (T.disk station.old) at group) }
+    ensures spelled { IfOk result (λ group. SpellsAt (T.disk station.old) at group) }
     ensures counted { T.disk_faults station.new
         ≡ faults_after (T.disk_faults station.old) (is_ok result) }
     ensures disk { T.disk station.new ≡ T.disk station.old }
@@ -79,8 +81,10 @@ pub fn group_at<T: Station>(station: &mut T, at: u64) -> Result<Group, Failed>
 /// What stands at a place of a disk of this size, by the first ten bytes from there on, or as many
 /// as there are.
 fn group_of(at: u64, head: &[u8], size: u64) -> Group
-    ensures { (disk : List ℕ) → size ≡ length disk → head.now ≡ bytes_at disk at 10
+    ensures group { (disk : List ℕ) → size ≡ length disk → head.now ≡ bytes_at disk at 10
         → result ≡ group_on disk at }
+    ensures spelled { (disk : List ℕ) → head.now ≡ bytes_at disk at 10
+        → SpellsLength disk at result }
 {
     let [gate, ..] = head else {
         return Group::Bad;
