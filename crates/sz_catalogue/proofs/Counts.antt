@@ -10,6 +10,7 @@ use Rattle.std.specs.Cmp.{nat_cmp_total}
 use Rattle.std.specs.List.Sorted.{IsStrictlySortedBy}
 use Rattle.std.specs.Map.{keys_of, set_value}
 use Rattle.std.specs.BTreeMap.{is_at}
+use Rattle.std.proofs.lemmas.List.Sums.{sum_by-append}
 use Rattle.std.proofs.lemmas.Map.Entries.{sum_by-set_value, sum_by-insert_entry}
 use Rattle.std.proofs.lemmas.Bool.Decides.{nat_tests}
 use Rattle.sz_cells.specs.Extent.{size_of}
@@ -23,9 +24,9 @@ use Rattle.sz_catalogue.specs.Rules.{first_of, judged, has_room, has_no_room_for
 use Rattle.sz_catalogue.specs.Rules.{most_cells, most_versions}
 use Rattle.sz_catalogue.specs.Rules.{has_no_flow, has_no_array, has_wrong_base, has_broken_shapes, first_broken}
 use Rattle.sz_catalogue.specs.Rules.{has_no_room_for_version, greatest_number}
-use Rattle.sz_catalogue.specs.Holdings.{next_number}
+use Rattle.sz_catalogue.specs.Holdings.{Named, next_number}
 use Rattle.sz_catalogue.specs.Starts.{version_started, workflow_of}
-use Rattle.sz_catalogue.specs.Changes.{with_version, with_await}
+use Rattle.sz_catalogue.specs.Changes.{with_array, with_version, with_await}
 
 -- where nothing refuses, the first rule does not hold, and no later one refuses
 pub first-passed : (b : Bool) (r : Refusal) (rest : List (Bool × Refusal)) → first_of ((b, r) ∷ rest) ≡ None
@@ -86,6 +87,14 @@ array-room c name array h =
 
       most-from : (n : ℕ) → nat_lt most_cells n ≡ false → n ≤ most_cells
       most-from n f = grind (arith, nat_tests)
+
+-- an array more
+pub array-cells : (c : Holdings) (name : List ℕ) (array : Grid)
+    → held_cells (with_array c name array) ≡ held_cells c + size_of array.extent
+array-cells c name array =
+    let new : Named Grid = record { name = name; thing = array } in
+    let sums = sum_by-append (λ (x : Named Grid). size_of x.thing.extent) c.arrays (new ∷ []) in
+    omega (arith, sums)
 
 -- what is known of a start that nothing refuses
 pub record IsStart (c : Holdings) (name : List ℕ) (base : List BaseName) : Type 0 where

@@ -7,6 +7,8 @@ pub mod Numbers
 pub mod Texts
 pub mod Bases
 pub mod Counts
+pub mod Entries
+pub mod Order
 pub mod Judging
 pub mod Refusals
 pub mod PathStarts

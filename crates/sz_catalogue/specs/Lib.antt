@@ -5,5 +5,6 @@ pub mod Rules
 pub mod Responses
 pub mod Changes
 pub mod Kept
+pub mod Order
 pub mod Seen
 pub mod Laws

@@ -3,7 +3,7 @@ mod accepting;
 mod judging;
 
 ghost use Rattle.std.specs.Prelude.{◌≡◌, ◌≤◌, ℕ, true, length, map, option_map, Some, None, All};
-ghost use Rattle.std.specs.Prelude.{IfOk, OnOk, OnErr, if◌then◌else◌};
+ghost use Rattle.std.specs.Prelude.{IfOk, IfSome, OnOk, OnErr, if◌then◌else◌, false};
 ghost use Rattle.std.specs.Arc.{arc_value};
 ghost use Rattle.std.specs.Option.{option_copied};
 ghost use Rattle.std.specs.Result.{result_err};
@@ -16,7 +16,9 @@ ghost use Rattle.sz_catalogue.specs.Holdings.{no_holdings, array_version, flow_n
 ghost use Rattle.sz_catalogue.specs.Holdings.{version_numbered, shapes_of, cells_of, output_cells};
 ghost use Rattle.sz_catalogue.specs.Starts.{bases_of};
 ghost use Rattle.sz_catalogue.specs.Rules as rules;
+ghost use Rattle.sz_catalogue.specs.Order.{IsInOrder};
 ghost use Rattle.sz_catalogue.specs.Changes.{accepted, with_version};
+ghost use Rattle.sz_catalogue.specs.Kept.{IsRun};
 ghost use Rattle.sz_catalogue.specs.Seen.{response_of, Judges};
 
 use crate::arrays::HeldArrays;
@@ -49,13 +51,13 @@ pub struct Catalogue<K: Carried> {
 
 impl<K: Carried> Model for Catalogue<K> {
     ghost use Rattle.sz_catalogue.specs.Holdings.{Holdings};
-    ghost use Rattle.sz_catalogue.specs.Kept.{KeepsLimits};
+    ghost use Rattle.sz_catalogue.specs.Order.{IsKept};
 
     ghost Value = { Holdings };
 
     ghost view = { λ c. record { arrays = c.arrays; flows = c.flows; versions = c.versions } };
 
-    ghost invariant = { λ c. KeepsLimits c.cells (record {
+    ghost invariant = { λ c. IsKept c.cells (record {
       arrays = c.arrays;
       flows = c.flows;
       versions = c.versions;
@@ -132,12 +134,44 @@ impl<K: Carried> Catalogue<K> {
         }
     }
 
+    /// The shapes of the outputs of a version that is held. Its flow is well formed, it has as many
+    /// base arrays as the flow takes, whose shapes fit, and a list of strategies for each node.
+    /// Logarithmic in the versions, and takes no memory.
+    pub fn outputs(&self, number: u32) -> &[Shape]
+        requires held { rules.has_no_version self.now number ≡ false }
+        ensures run { IsRun (rules.version_of self.now number) result.now }
+        ensures few { length result.now ≤ 32 }
+    {
+        let Some(run) = self.versions.get(number) else {
+            unreachable!()
+        };
+        run.outputs()
+    }
+
     /// The number of the version that is started next. Logarithmic in the versions, and takes no
     /// memory.
     pub fn next_number(&self) -> u64
         ensures { result ≡ next_number self.now }
     {
         self.versions.next_number()
+    }
+
+    /// What holds of all that is held: no limit is passed, each name is one, each flow is well
+    /// formed and has a list of strategies for each node, and each version is a run of the flow and
+    /// on the base arrays that are held under its names, with a number of 32 bits from 1. Costs
+    /// nothing.
+    pub fn is_in_order(&self)
+        ensures { IsInOrder self.now }
+    {
+        // What is kept true is known where a field is read.
+        let _cells = self.cells;
+    }
+
+    /// What holds of a flow that is held: it is well formed. Costs nothing.
+    pub fn flow_is_right(&self, name: &str)
+        ensures { IfSome (flow_named self.now name.now) (λ w. is_well_formed w.graph ≡ true) }
+    {
+        self.is_in_order();
     }
 
     /// Whether a further version is held whose outputs have so many cells. Takes no memory.

@@ -21,9 +21,11 @@
 //!
 //! To whoever changes this crate: a version keeps the shapes of its outputs and no values. So what
 //! is judged is found from shapes alone, and the count of the cells held is that of the arrays and
-//! of these shapes (`specs/Kept.antt`). A further command is a line in `rules_of`, in
-//! `accepted` and in `changes_no_version`, a function in `catalogue/judging.rt`, and one in
-//! `catalogue/accepting.rt` where it changes what is held.
+//! of these shapes (`specs/Kept.antt`). What is true of all that is held, and told by
+//! [`Catalogue::is_in_order`], stands in `specs/Order.antt`. A further command is a line in
+//! `rules_of`, in `accepted` and in `changes_no_version`, a function in `catalogue/judging.rt`, and
+//! one in `catalogue/accepting.rt` where it changes what is held; `proofs/Order.antt` has a lemma
+//! for each change.
 #![tactic(auto)]
 
 mod arrays;

@@ -67,7 +67,7 @@ impl<K: Carried> HeldVersions<K> {
     pub fn push(&mut self, number: u32, run: Run<K>) -> Result<(), NoMemory>
         ensures held { OnOk result (self.new ≡ insert_entry nat_cmp self.old number run) }
         ensures err { OnErr result (self.new ≡ self.old) }
-        ensures rising { OnOk result (IsStrictlySortedBy nat_cmp (keys_of self.old)) }
+        ensures rising { OnOk result (IsStrictlySortedBy nat_cmp (keys_of self.new)) }
     {
         self.by_number.insert(number, run)?;
         Ok(())

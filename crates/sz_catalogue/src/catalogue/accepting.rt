@@ -55,7 +55,8 @@ impl<K: Carried> Catalogue<K> {
 
     /// Holds an array as the next version of a name.
     fn hold_array(&mut self, name: Name, array: Array) -> Result<Reply, NoMemory>
-        requires { judged self.old (command.Array name array) ≡ None }
+        requires right { is_right (command.Array name array) ≡ true }
+        requires judged { judged self.old (command.Array name array) ≡ None }
         ensures ok { IfOk result
             (λ r. (self.new, response_of r) ≡ accepted self.old (command.Array name array)) }
         ensures err { OnErr result (self.new ≡ self.old) }
@@ -71,7 +72,8 @@ impl<K: Carried> Catalogue<K> {
 
     /// Holds a flow under a name that no flow has.
     fn hold_flow(&mut self, name: Name, flow: Flow) -> Result<Reply, NoMemory>
-        requires { is_well_formed flow ≡ true }
+        requires right { is_right (command.Flow name flow) ≡ true }
+        requires judged { judged self.old (command.Flow name flow) ≡ None }
         ensures ok { IfOk result
             (λ r. (self.new, response_of r) ≡ accepted self.old (command.Flow name flow)) }
         ensures err { OnErr result (self.new ≡ self.old) }
@@ -223,7 +225,12 @@ impl<K: Carried> Catalogue<K> {
 
     /// Holds a version under a number that is not held.
     fn add(&mut self, number: u32, version: HeldVersion<K>) -> Result<(), NoMemory>
+        requires some { 1 ≤ number }
         requires new { version_numbered self.old number ≡ None }
+        requires flow { option_map (λ w. w.graph) (flow_named self.old version.flow_name)
+            ≡ Some version.flow }
+        requires base { All (λ b. array_version self.old b.name b.version ≡ Some b.array)
+            version.base }
         requires right { is_well_formed version.flow ≡ true }
         requires count { length version.base ≡ version.flow.inputs }
         requires fits { result_err (output_shapes version.flow (shapes_of version.base)) ≡ None }

@@ -4,6 +4,7 @@ use Rattle.sz_catalogue.specs.Holdings.{next_number, version_numbered}
 use Rattle.sz_catalogue.proofs.Bases.{bases-length}
 use Rattle.sz_catalogue.proofs.Counts.{start-known, start-count, start-room}
 use Rattle.sz_catalogue.proofs.Numbers.{next-is_new}
+use Rattle.sz_catalogue.proofs.Order.{started-flow, started-bases}
 use Rattle.sz_catalogue.proofs.catalogue.Catalogue.start.Goals as goal
 
 pub add-requires-clause-new : goal.add-requires-clause-new
@@ -24,3 +25,11 @@ pub add-requires-clause-room : goal.add-requires-clause-room
 add-requires-clause-room g c =
     let known = start-known c.args.self.now c.args.name c.args.base.now c.requires.judged in
     rw c.in_ok-version.ensures.started (start-room c.args.self.now c.args.name c.args.base.now known)
+
+pub add-requires-clause-flow : goal.add-requires-clause-flow
+add-requires-clause-flow g c =
+    let known = start-known c.args.self.now c.args.name c.args.base.now c.requires.judged in
+    rw c.in_ok-version.ensures.started (started-flow c.args.self.now c.args.name known.flow)
+
+pub add-requires-clause-base : goal.add-requires-clause-base
+add-requires-clause-base g c = rw c.in_ok-version.ensures.started (started-bases c.args.self.now c.args.base.now)
