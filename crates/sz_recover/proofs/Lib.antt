@@ -9,4 +9,17 @@ pub mod Whole
 pub mod Shapes
 pub mod Acting
 pub mod Opened
+pub mod Entries
+pub mod Comparing
+pub mod Wrong
+pub mod Made
+pub mod Sites
+pub mod WrongNodes
 pub mod RowsLogs
+pub mod Ending
+pub mod Grown
+pub mod Durable
+pub mod Logged
+pub mod Keyed
+pub mod InOrder
+pub mod InLogs

@@ -5,18 +5,18 @@
 use Rattle.std.proofs.Common.{◌≡◌, ℕ, ◌+◌, ◌≤◌, List, [], ◌∷◌, ◌++◌, length, take, drop, refl, sym, ap, ap₂, subst, ◌∙◌}
 use Rattle.std.proofs.Common.{arith, append_assoc, append-nil, inr, true, false, Bool, ◌&&◌, ◌==◌, if◌then◌else◌}
 use Rattle.std.proofs.Common.{Option, Some, None, length-take, length-drop, nat_le}
-use Rattle.std.specs.Int.{w64, from_be_bytes}
+use Rattle.std.specs.Int.{w64, from_be_bytes, to_be_bytes}
 use Rattle.std.proofs.lemmas.Bool.{and_parts, leb-true}
 use Rattle.std.proofs.lemmas.List.{take_all}
 use Rattle.sz_outside.specs.Disk.{bytes_at, GivesAt}
 use Rattle.sz_log.specs.Log.{Entry, is_kind, begins_as_log}
 use Rattle.sz_log.specs.Laws.{Reads}
-use Rattle.sz_log.specs.Places.{group_on, group_in, opened, StandsAt}
+use Rattle.sz_log.specs.Places.{group_on, group_in, opened, StandsAt, SpellsAt}
 use Rattle.sz_log.specs.Steps.{place_behind}
 use Rattle.sz_log.specs.declared.groups.Group.{Group}
 use Rattle.sz_log.specs.declared.groups.Group.TheVariants as group
 use Rattle.sz_catalogue.specs.Holdings.{Holdings, no_holdings}
-use Rattle.sz_recover.specs.Logs.{Kept, Acts, ActEach, Stands, StandEach, GoesWell, IsBadAt}
+use Rattle.sz_recover.specs.Logs.{Kept, Acts, ActEach, AreSpelled, Stands, StandEach, GoesWell, IsBadAt}
 use Rattle.sz_recover.specs.Logs.{IsMade, IsBroken, IsSoFar, IsEntryAt, IsBadOn, TakesNext, IsBad}
 use Rattle.sz_recover.proofs.Acting.{entry_of}
 
@@ -81,6 +81,10 @@ reads-closed disk a b [] same closed =
 reads-closed disk a b (e ∷ es) all closed =
     (all.0.0, all.0.1, reads-closed disk (place_behind a e) b es all.1 closed)
 
+spelled-each : (disk : List ℕ) (a b : ℕ) (es : List Entry) → StandEach disk a es b → AreSpelled disk a es
+spelled-each disk a b [] all = tt
+spelled-each disk a b (e ∷ es) all = (all.0.2, spelled-each disk (place_behind a e) b es all.1)
+
 pub so_far-end : (o : Option (List ℕ)) (at : ℕ) (c d : Holdings) (kept all : List Kept) → IsSoFar o at c kept
     → TakesNext o at None c d kept all → IsMade o at d all
 so_far-end None at c d kept all well takes = tt
@@ -88,6 +92,7 @@ so_far-end (Some disk) at c d kept all well takes = record {
   header = well.header;
   entries = well.entries;
   read = reads-closed disk 16 at well.entries well.stand takes.0;
+  spelled = spelled-each disk 16 at well.entries well.stand;
   acts = subst (λ (h : Holdings). ActEach no_holdings well.entries h all) (sym takes.1)
       (subst (λ (ks : List Kept). ActEach no_holdings well.entries c ks) (sym takes.2) well.acts);
 }
@@ -176,10 +181,10 @@ not-behind (Some disk) at kind place long next stands low =
     let whole = whole-at disk at kind place long next stands in absurd (omega (arith, whole.behind, low))
 
 pub entry-there : (o p : Option (List ℕ)) (at kind place long next count : ℕ) (into : List ℕ) → p ≡ o
-    → StandsAt o at (group.Whole kind place long next) → GivesAt p place long into count → count ≡ long
-    → length into ≡ long → IsEntryAt o at kind into next
-entry-there None p at kind place long next count into same stands gives all size = tt
-entry-there (Some disk) p at kind place long next count into same stands gives all size =
+    → StandsAt o at (group.Whole kind place long next) → SpellsAt o at (group.Whole kind place long next)
+    → GivesAt p place long into count → count ≡ long → length into ≡ long → IsEntryAt o at kind into next
+entry-there None p at kind place long next count into same stands spelled gives all size = tt
+entry-there (Some disk) p at kind place long next count into same stands spelled gives all size =
     let whole = whole-at disk at kind place long next stands in
     let read : GivesAt (Some disk) place long into count =
     subst (λ (q : Option (List ℕ)). GivesAt q place long into count) same gives in
@@ -192,6 +197,7 @@ entry-there (Some disk) p at kind place long next count into same stands gives a
         sym stands ∙ ap (λ (b : ℕ). make b long next) whole.body
             ∙ ap₂ (λ (l n : ℕ). make (at + 10) l n) (sym size) behind,
         bytes,
+        spelled ∙ ap (to_be_bytes w64) (sym size),
       ),
       behind,
     )

@@ -9,7 +9,7 @@ use Rattle.sz_recover.specs.Logs.{IsWellMade, IsFirstBad}
 
 -- the empty log holds nothing
 pub empty-made : IsWellMade empty_log 16 no_holdings []
-empty-made = record { header = refl; entries = []; read = (refl, refl); acts = (refl, refl) }
+empty-made = record { header = refl; entries = []; read = (refl, refl); spelled = tt; acts = (refl, refl) }
 
 -- a group of a kind that is none is bad where its gate stands
 pub kind-bad : IsFirstBad (set log 17 0) 16

@@ -5,3 +5,8 @@ pub mod Lawful
 pub mod Laws
 pub mod Taking
 pub mod Logs
+pub mod Growing
+pub mod Opened
+pub mod Props
+pub mod Comparing
+pub mod Soundness

@@ -6,6 +6,7 @@
 use Rattle.std.specs.Prelude.{◌≡◌, ◌⊎◌, ℕ, ◌+◌, ◌<◌, List, [], ◌∷◌, ◌++◌, length, Bool, true, false}
 use Rattle.std.specs.Prelude.{◌&&◌, ◌==◌, if◌then◌else◌, Option, Some, None, is_none, ⊤}
 use Rattle.std.specs.Prelude.{Result, Ok, Err}
+use Rattle.std.specs.Int.{w64, to_be_bytes}
 use Rattle.sz_outside.specs.Disk.{bytes_at}
 use Rattle.sz_log.specs.Log.{Entry, begins_as_log}
 use Rattle.sz_log.specs.Laws.{Reads}
@@ -87,19 +88,30 @@ ActEach c (e ∷ es) d kept = (mid : Holdings) × (first : List Kept) × (rest :
 
 -- ---- well-made logs
 
--- The disk begins as a log, and its groups are read up to a closed gate at a place; each acts on
--- what those before it leave, and in the end this is held, and these stores are kept.
+-- the length of the group stands behind its gate and its kind as it is written
+abbrev pub IsSpelled : List ℕ → ℕ → Entry → Type 0
+IsSpelled disk at e = bytes_at disk (at + 2) 8 ≡ to_be_bytes w64 (length e.body)
+
+-- the same of groups one behind another
+abbrev pub AreSpelled : List ℕ → ℕ → List Entry → Type 0
+AreSpelled disk at [] = ⊤
+AreSpelled disk at (e ∷ es) = IsSpelled disk at e × AreSpelled disk (place_behind at e) es
+
+-- The disk begins as a log, and its groups are read up to a closed gate at a place, their lengths
+-- as they are written; each acts on what those before it leave, and in the end this is held, and
+-- these stores are kept.
 pub record IsWellMade (disk : List ℕ) (at : ℕ) (c : Holdings) (kept : List Kept) : Type 0 where
   pub header : begins_as_log disk ≡ true
   pub entries : List Entry
   pub read : Reads disk 16 entries at
+  pub spelled : AreSpelled disk 16 entries
   pub acts : ActEach no_holdings entries c kept
 
 -- the group stands at a place of the disk
 abbrev pub Stands : List ℕ → ℕ → Entry → Type 0
 Stands disk at e =
     (group_on disk at ≡ group.Whole e.kind (at + 10) (length e.body) (place_behind at e))
-    × (bytes_at disk (at + 10) (length e.body) ≡ e.body)
+    × (bytes_at disk (at + 10) (length e.body) ≡ e.body) × IsSpelled disk at e
 
 -- from a place on these groups stand one behind another, up to a place
 abbrev pub StandEach : List ℕ → ℕ → List Entry → ℕ → Type 0

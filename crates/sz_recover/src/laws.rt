@@ -1,6 +1,15 @@
-//! What may be taken for granted of the bodies. Each function is a law: its clause says it, and it
-//! does nothing.
+//! What may be taken for granted of the bodies, of opened logs, and of how a log grows beside what
+//! a session holds. Each function is a law: its clauses say it, and it does nothing.
 ghost use Rattle.sz_recover.specs.Laws.{OneBodyAtMost, WrittenBodiesAreLawful};
+ghost use Rattle.sz_recover.specs.Growing.{ReadGroupsAreLogs, LogsAreSpelled, WellMadeLogsEnd};
+ghost use Rattle.sz_recover.specs.Growing.{MadeLogsEnd, LogsGrow, MadeLogsGrow, LogsGrowOrStay};
+ghost use Rattle.sz_recover.specs.Growing.{LinesAct};
+ghost use Rattle.sz_recover.specs.Growing.{LinesKeepVersions, AwaitsAct, AwaitsAreOnce};
+ghost use Rattle.sz_recover.specs.Growing.{StartsAreNotLogged, NothingIsInOrder};
+ghost use Rattle.sz_recover.specs.Growing.{CommandsKeepOrder, LogsAreInOrder};
+ghost use Rattle.sz_recover.specs.Opened.{WellMadeLogsKeepTheirVersions, HeldVersionsHaveEntries};
+ghost use Rattle.sz_recover.specs.Opened.{HeldVersionsAreAwaited};
+ghost use Rattle.sz_recover.specs.Soundness.{WrongStoresAreUnsound};
 
 /// Some bytes are the body of at most one version with its stores: what is written is read again,
 /// and in no other way.
@@ -11,4 +20,66 @@ pub fn bodies_are_read_in_one_way()
 /// The body of a version is lawful over anything to which the version can be added, and says it.
 pub fn written_bodies_are_lawful()
     ensures { WrittenBodiesAreLawful }
+{}
+
+/// What a well-made log keeps is an entry for each version that its groups add, and no other.
+pub fn well_made_logs_keep_their_versions()
+    ensures { WellMadeLogsKeepTheirVersions }
+{}
+
+/// Of what is opened, each version that is held has an entry, with stores that fit it, and was
+/// awaited.
+pub fn held_versions_have_entries()
+    ensures found { HeldVersionsHaveEntries }
+    ensures awaited { HeldVersionsAreAwaited }
+{}
+
+/// What is read as groups of a log, their lengths as they are written, is a log of these, and in a
+/// log they stand so. So a well-made log ends as a log where its groups do.
+pub fn well_made_logs_end()
+    ensures read { ReadGroupsAreLogs }
+    ensures spelled { LogsAreSpelled }
+    ensures end { WellMadeLogsEnd }
+    ensures made { MadeLogsEnd }
+{}
+
+/// A group that acts on what a well-made log holds makes of it a well-made log, and a stop on the
+/// way leaves one too.
+pub fn logs_grow()
+    ensures grow { LogsGrow }
+    ensures made { MadeLogsGrow }
+    ensures stay { LogsGrowOrStay }
+{}
+
+/// The line of a command that a session takes acts on what its log holds as on what it holds, and
+/// changes no version.
+pub fn lines_act_on_logs()
+    ensures act { LinesAct }
+    ensures keep { LinesKeepVersions }
+{}
+
+/// The body of a version that was not awaited acts on what a log holds as the await does. To await
+/// a version again changes nothing.
+pub fn awaits_act_on_logs()
+    ensures act { AwaitsAct }
+    ensures once { AwaitsAreOnce }
+{}
+
+/// A log holds nothing of a version that is started.
+pub fn starts_are_not_logged()
+    ensures { StartsAreNotLogged }
+{}
+
+/// What is held is in order, whatever commands were taken from nothing on; and so is what a
+/// well-made log holds.
+pub fn holdings_are_in_order()
+    ensures nothing { NothingIsInOrder }
+    ensures commands { CommandsKeepOrder }
+    ensures logs { LogsAreInOrder }
+{}
+
+/// Where [`crate::unsound`] gives a store, what is kept is not sound: it gives none exactly where
+/// each store stands for exactly the relation.
+pub fn wrong_stores_are_unsound()
+    ensures { WrongStoresAreUnsound }
 {}

@@ -3,6 +3,8 @@
 //!
 //! - [`catalogue_of`] opens a log: it gives the catalogue that its groups make, where its first
 //!   closed gate stands, and the stores of its versions; or the place of its first bad group.
+//! - [`unsound`] tells which store of an opened log, if any, does not stand for exactly the relation
+//!   of its node's operator: it runs each version again.
 //! - [`version_body`] writes the body of a version that is held.
 //! - [`take_version_body`] reads the version that a body says, with its stores, over what is held.
 //!   What it gives can be added to the catalogue.
@@ -12,10 +14,19 @@
 //! // over a catalogue that holds its flow and its base arrays, and no version of its number
 //! let taken = take_version_body(alloc, &other, &body)?;   // taken.number == version
 //! let opened: Recovered<()> = catalogue_of(alloc, &mut station)?;
+//! let wrong = unsound(rt, alloc, &opened)?;   // None: each store is sound
 //! ```
 //!
 //! `specs/Logs` says what each kind of group does (`Acts`), which logs are well made
-//! (`IsWellMade`), and which is the first bad group (`IsFirstBad`).
+//! (`IsWellMade`), and which is the first bad group (`IsFirstBad`). What is opened has an entry for
+//! each version that is held, and no other (`AreOfVersions` of `specs/Opened`), also where the disk
+//! is not told; `specs/Soundness` says when its stores are sound.
+//!
+//! A group is added by `append` of `sz_log`, at the end that `catalogue_of` gave: a well-made log
+//! ends there as that asks (`MadeLogsEnd` of `specs/Growing`). A group that acts on what the log
+//! holds makes of it a well-made log again (`MadeLogsGrow`, by the clauses `added` and `end`), and
+//! so does what a stop leaves on the way (`LogsGrowOrStay`, by the clause `stops`); which groups
+//! act, `LinesAct` and `AwaitsAct` say. All are [`laws`].
 //!
 //! `IsBodyOf` of `specs/Bodies` is what a body is; `Fit` of `specs/Fitting` is which stores fit a
 //! version, and `body_of` what its body says.
@@ -31,6 +42,7 @@
 //! in `specs/Lawful`, and is known where the part that it is on is read.
 #![tactic(auto)]
 
+mod checking;
 mod groups;
 mod heads;
 pub mod laws;
@@ -41,6 +53,7 @@ mod parts;
 mod reading;
 mod writing;
 
+pub use checking::{WrongStore, unsound};
 pub use groups::{Blank, KeptVersion};
 pub use opening::{RecoverFault, Recovered, catalogue_of};
 pub use reading::{TakeFault, TakenVersion, take_version_body};

@@ -1,11 +1,13 @@
 //! Opening a log: its groups are read one after another, and act on what is held.
 
-ghost use Rattle.std.specs.Prelude.{◌≡◌, ◌<◌, [], IfOk, IfErr, IfSome};
+ghost use Rattle.std.specs.Prelude.{◌≡◌, ◌<◌, [], IfOk, IfErr, IfSome, OnOk};
 ghost use Rattle.sz_outside.specs.Counts.{faults_after};
 ghost use Rattle.sz_outside.specs.Disk.{Told, Passes, Same, Said};
 ghost use Rattle.sz_catalogue.specs.Holdings.{no_holdings};
 ghost use Rattle.sz_recover.specs.Logs.{IsMade, SaysWhy, TakesNext, SaysBad, IsNext, IsFurther};
 ghost use Rattle.sz_recover.specs.Logs.{IsPlain, has_read};
+ghost use Rattle.sz_recover.specs.Opened.{AreOfVersions};
+ghost use Rattle.sz_recover.specs.Props.{entries-prop};
 
 use crate::groups::{Blank, KeptVersion, act};
 use crate::reading::TakeFault;
@@ -15,12 +17,14 @@ use sz_log::{Group, LogEnd, group_at, is_log};
 use sz_outside::{Failed, Station};
 
 /// What a log holds: the catalogue that its groups make, the place of its first closed gate, and
-/// the stores of its versions, in the order of the log.
+/// the stores of its versions, in the order of the log: those of each version that is held, which
+/// was awaited, and no others.
 #[derive(Drop)]
 pub struct Recovered<K: Carried> {
     pub catalogue: Catalogue<K>,
     pub end: LogEnd,
     pub stores: Vec<KeptVersion>,
+    ghost entries: { AreOfVersions catalogue stores.items } by { entries-prop catalogue stores.items },
 }
 
 /// Why a log was not opened.
@@ -104,6 +108,7 @@ pub fn catalogue_of<T: Station, K: Blank>(
 }
 
 /// Takes the groups of a log, from nothing on, and gives the place of the first closed gate.
+#[tactic(auto, using(crate::proofs::Entries::nothing_kept))]
 fn act_each<T: Station, K: Blank>(
     alloc: Global,
     station: &mut T,
@@ -114,6 +119,7 @@ fn act_each<T: Station, K: Blank>(
     requires none { kept.old.items ≡ [] }
     ensures made { IfOk result
         (λ at. IsMade (T.disk station.old) at catalogue.new kept.new.items) }
+    ensures entries { OnOk result (AreOfVersions catalogue.new kept.new.items) }
     ensures why { IfErr result (λ e. SaysWhy (T.disk station.old) e) }
     ensures counted { T.disk_faults station.new
         ≡ faults_after (T.disk_faults station.old) (has_read result) }
@@ -146,6 +152,8 @@ fn take_next<T: Station, K: Blank>(
 ) -> Result<Option<u64>, RecoverFault>
     ensures ok { IfOk result (λ next. TakesNext (T.disk station.old) at next
         catalogue.old catalogue.new kept.old.items kept.new.items) }
+    ensures entries { OnOk result (AreOfVersions catalogue.old kept.old.items
+        → AreOfVersions catalogue.new kept.new.items) }
     ensures further { IfOk result (λ n. IfSome n (λ next. at < next)) }
     ensures bad { IfErr result (λ e. SaysBad (T.disk station.old) at catalogue.old e) }
     ensures counted { T.disk_faults station.new

@@ -1,4 +1,4 @@
-//! Tests of the bodies of versions.
+//! Tests of the bodies of versions, and of whether what they keep is sound.
 //!
 //! A crate is proved once for those above it and once more with its tests. So tests that call public
 //! functions alone stand in a crate that has nothing else.
@@ -6,3 +6,5 @@
 
 #[cfg(test)]
 mod bodies;
+#[cfg(test)]
+mod checks;

@@ -27,6 +27,7 @@ loop-next-preserved g c =
       stops = all_told _ _ (λ d is.
           looks_twice (g.T.Station.said c.args.station.now) (g.T.Station.said c.loop-next.station)
           (told o d _ is inv.stops) (told p d _ (inv.disk ∙ is) c.take_next.ensures.stops) inv.said);
+      entries = c.in_ok-next.ensures.entries inv.entries;
       far = so_far-more o c.loop-next.at c.in-Some.next held new kept all inv.far takes;
     }
 
@@ -43,3 +44,6 @@ returns-clause-made g c =
     (subst (λ (q : Option (List ℕ)). TakesNext q c.loop-next.at c.in_ok-next.field-0 held new kept all) inv.disk
     c.in_ok-next.ensures.ok) in
     so_far-end o c.loop-next.at held new kept all inv.far takes
+
+pub returns-clause-entries : goal.returns-clause-entries
+returns-clause-entries g c = c.in_ok-next.ensures.entries c.loop-next.invariant.entries

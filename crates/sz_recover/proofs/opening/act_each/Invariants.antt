@@ -1,7 +1,8 @@
--- The disk is as before, and the log goes well up to the place.
+-- The disk is as before, the entries are those of the versions, and the log goes well up to the place.
 use Rattle.std.proofs.Common.{◌≡◌, ◌-◌}
 use Rattle.sz_outside.specs.Disk.{Told, Passes, Same, Said}
 use Rattle.sz_recover.specs.Logs.{IsSoFar}
+use Rattle.sz_recover.specs.Opened.{AreOfVersions}
 use Rattle.sz_recover.proofs.opening.act_each.Given as goal
 
 abbrev pub invariant-loop-next : goal.invariant-loop-next
@@ -14,6 +15,7 @@ invariant-loop-next g l = record {
       (g.T.Station.moment l.station) (g.T.Station.left_since l.fn.station) (g.T.Station.left_since l.station)
       (g.T.Station.may_leave l.fn.station) (g.T.Station.may_leave l.station) Same
       (Said (g.T.Station.said l.fn.station)));
+  entries : AreOfVersions l.catalogue l.kept.items;
   far : IsSoFar (g.T.Station.disk l.fn.station) l.at l.catalogue l.kept.items;
 }
 

@@ -1,7 +1,7 @@
 -- A whole group is read wholly, and ends behind its gate.
 use Rattle.std.proofs.Common.{◌≡◌, ℕ, List, length, drop, sym, subst, ◌∙◌, arith}
 use Rattle.sz_outside.specs.Disk.{GivesAt}
-use Rattle.sz_log.specs.Places.{StandsAt}
+use Rattle.sz_log.specs.Places.{StandsAt, SpellsAt}
 use Rattle.sz_log.specs.declared.groups.Group.{Group}
 use Rattle.sz_log.specs.declared.groups.Group.TheVariants as group
 use Rattle.sz_recover.specs.Logs.{IsEntryAt}
@@ -34,6 +34,8 @@ returns-else-next-at-clause-next g c =
     let body = c.in_ok-body-in-Whole.body in
     let stands : StandsAt o c.args.at (group.Whole w.kind w.place w.length w.next) =
     subst (λ (x : Group). StandsAt o c.args.at x) w.is c.in_ok-group_at.ensures.group in
+    let spelled : SpellsAt o c.args.at (group.Whole w.kind w.place w.length w.next) =
+    subst (λ (x : Group). SpellsAt o c.args.at x) w.is c.in_ok-group_at.ensures.spelled in
     let room : length c.deref_mut.result.now ≡ w.length =
     c.deref_mut.ensures.len ∙ c.in_ok-body-in-Whole.ensures.len in
     let gives : GivesAt p w.place w.length into count =
@@ -44,4 +46,5 @@ returns-else-next-at-clause-next g c =
     let long : length into ≡ body.len = size ∙ sym c.in_ok-body-in-Whole.ensures.len in
     subst (λ (xs : List ℕ). IsEntryAt o c.args.at w.kind xs w.next)
     (sym (front into (drop (length into) body.items) body.len long))
-    (entry-there o p c.args.at w.kind w.place w.length w.next count into c.group_at.ensures.disk stands gives all size)
+    (entry-there o p c.args.at w.kind w.place w.length w.next count into c.group_at.ensures.disk stands spelled gives
+    all size)

@@ -1,0 +1,77 @@
+-- What a log holds is in order. The key idea: a group acts as a command that is taken, or adds a version of what is
+-- held.
+use Rattle.std.proofs.Common.{◌≡◌, inl, inr, ℕ, List, [], ◌∷◌, length, refl, sym, ap, subst, ◌∙◌}
+use Rattle.std.proofs.Common.{true, false, true≢false, Bool, ◌&&◌, not, ◌==◌, Option, Some, None, is_none, nat_le}
+use Rattle.std.specs.Prelude.{if◌then◌else◌, Result, Ok, Err}
+use Rattle.std.proofs.lemmas.Bool.{and_parts, eqb-true}
+use Rattle.sz_script.specs.Reading.{reading}
+use Rattle.sz_script.proofs.LawsLines.{are_right}
+use Rattle.sz_script.specs.declared.command.Command.{Command}
+use Rattle.sz_script.specs.declared.refusal.Refusal.{Refusal}
+use Rattle.sz_catalogue.specs.Holdings.{Version, Holdings, no_holdings, version_numbered}
+use Rattle.sz_catalogue.specs.Starts.{workflow_of}
+use Rattle.sz_catalogue.specs.Rules as rules
+use Rattle.sz_catalogue.specs.Rules.{judged}
+use Rattle.sz_catalogue.specs.Changes.{accepted, with_version}
+use Rattle.sz_log.specs.Log.{Entry}
+use Rattle.sz_recover.specs.Bodies.{VersionBody}
+use Rattle.sz_recover.specs.Fitting.{body_of}
+use Rattle.sz_recover.specs.Lawful.{IsLawful, version_said}
+use Rattle.sz_recover.specs.Logs.{Kept, Acts, ActEach, is_of_kind, held_by}
+use Rattle.sz_recover.specs.Growing.{IsInOrder, LogsAreInOrder}
+use Rattle.sz_recover.proofs.InOrder.{nothing-in-order, commands-keep, added-in-order, named-in}
+
+off : (b : Bool) → not b ≡ true → b ≡ false
+off true is = absurd (true≢false (sym is))
+off false is = refl
+
+on : (b : Bool) → not (not b) ≡ true → b ≡ true
+on true is = refl
+on false is = absurd (true≢false (sym is))
+
+none-of : {X : Type 0} (o : Option X) → is_none o ≡ true → o ≡ None
+none-of None is = refl
+none-of (Some x) is = absurd (true≢false (sym is))
+
+-- a line
+line-in-order : (c d : Holdings) (kind : ℕ) (line : List ℕ) (r : Result Command Refusal) → reading line ≡ r
+    → IsInOrder c → held_by c kind r ≡ Some d → IsInOrder d
+line-in-order c d kind line (Err rule) read order held = cc
+line-in-order c d kind line (Ok x) read order held =
+    by (is_of_kind kind x) (judged c x) refl held where
+      by : (b : Bool) (o : Option Refusal) → judged c x ≡ o
+          → (if b && is_none o then Some (accepted c x).0 else None) ≡ Some d → IsInOrder d
+      by false o is here = cc
+      by true (Some rule) is here = cc
+      by true None is here =
+          let same : (accepted c x).0 ≡ d = cc in
+          subst IsInOrder same (commands-keep c x order (are_right line x read) is)
+
+-- a version
+version-in-order : (c : Holdings) (b : VersionBody) (bytes : List ℕ) → IsInOrder c → IsLawful c b bytes
+    → IsInOrder (with_version c b.number (version_said c b))
+version-in-order c b bytes order is =
+    let number = and_parts (nat_le 1 b.number) (rules.has_no_version c b.number) is.number in
+    let count : length b.base ≡ (workflow_of c b.flow_name).graph.inputs =
+    eqb-true (length b.base) (workflow_of c b.flow_name).graph.inputs
+    (on (length b.base == (workflow_of c b.flow_name).graph.inputs) is.each) in
+    added-in-order c b.number (version_said c b) order (none-of (version_numbered c b.number) number.1) is.room
+    (named-in c b.number b.flow_name b.base (version_said c b).lists true number.0 is.names
+    (off (rules.has_no_flow c b.flow_name) is.flow) (off (rules.has_no_array c b.base) is.bases) count
+    (off (rules.has_broken_shapes c b.flow_name b.base) is.shapes) is.lists)
+
+acts-in-order : (c d : Holdings) (e : Entry) (kept : List Kept) → IsInOrder c → Acts c e d kept → IsInOrder d
+acts-in-order c d e kept order (inl line) = line-in-order c d e.kind e.body (reading e.body) refl order line.held
+acts-in-order c d e kept order (inr v) =
+    let b : VersionBody = body_of v.one.number v.version v.one.stores in
+    let made = version-in-order c b e.body order v.lawful in
+    subst IsInOrder (ap (λ (x : Version). with_version c v.one.number x) (sym v.said) ∙ sym v.held) made
+
+each-in-order : (c d : Holdings) (es : List Entry) (kept : List Kept) → IsInOrder c → ActEach c es d kept
+    → IsInOrder d
+each-in-order c d [] kept order all = subst IsInOrder (sym all.0) order
+each-in-order c d (e ∷ es) kept order all =
+    each-in-order all.0 d es all.2 (acts-in-order c all.0 e all.1 order all.3) all.4
+
+pub logs-in-order : LogsAreInOrder
+logs-in-order disk at c kept made = each-in-order no_holdings c made.entries kept nothing-in-order made.acts

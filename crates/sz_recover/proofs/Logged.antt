@@ -1,0 +1,125 @@
+-- What a session takes, its log takes too. The key idea: its log holds fewer cells and fewer versions, and the same
+-- arrays and flows, so what a rule lets pass over what is held it lets pass over what the log holds.
+use Rattle.std.proofs.Common.{◌≡◌, ℕ, ◌+◌, ◌≤◌, ◌<◌, List, [], ◌∷◌, length, refl, sym, ap, arith, true, false}
+use Rattle.std.proofs.Common.{true≢false, ◌&&◌, nat_lt, nat_le, Option, Some, None, is_none, inr}
+use Rattle.std.proofs.lemmas.Bool.Decides.{nat_tests}
+use Rattle.sz_cells.specs.Extent.{size_of}
+use Rattle.sz_spec.specs.Values.{Grid}
+use Rattle.sz_script.specs.declared.command.Command.{Command}
+use Rattle.sz_script.specs.declared.command.Command.TheVariants as command
+use Rattle.sz_script.specs.declared.refusal.Refusal.TheVariants as refusal
+use Rattle.sz_catalogue.specs.Holdings.{Version, Holdings, held_cells, output_cells, version_numbered}
+use Rattle.sz_catalogue.specs.Rules.{judged, has_no_room_for_array, most_arrays, most_cells, most_versions}
+use Rattle.sz_catalogue.specs.Rules.{version_of, first_of}
+use Rattle.sz_catalogue.specs.Changes.{accepted}
+use Rattle.sz_catalogue.proofs.Counts.{first-passed, neither}
+use Rattle.sz_recover.specs.Lawful.{CanBeAdded}
+use Rattle.sz_recover.specs.Logs.{Kept, is_of_kind}
+use Rattle.sz_recover.specs.Growing.{durable, IsInOrder, LinesAct, LinesKeepVersions, AwaitsAct}
+use Rattle.sz_recover.proofs.Acting.{entry_of, line-held, line-acts}
+use Rattle.sz_recover.proofs.Durable.{durable-cells, durable-room, version-found, await-settled, settled-new}
+use Rattle.sz_recover.proofs.Written.{written-lawful}
+
+-- ---- lines
+
+less-room : (most a b size : ℕ) → a ≤ b → nat_lt most (b + size) ≡ false → nat_lt most (a + size) ≡ false
+less-room most a b size le is = grind (arith, nat_tests)
+
+array-free : (c : Holdings) (array : Grid)
+    → first_of ((has_no_room_for_array c array, refusal.NoRoomForArray) ∷ []) ≡ None
+    → first_of ((has_no_room_for_array (durable c) array, refusal.NoRoomForArray) ∷ []) ≡ None
+array-free c array free =
+    let both = neither (nat_le most_arrays (length c.arrays)) (nat_lt most_cells (held_cells c + size_of array.extent))
+    (first-passed (has_no_room_for_array c array) refusal.NoRoomForArray [] free).0 in
+    let cells = less-room most_cells (held_cells (durable c)) (held_cells c) (size_of array.extent) (durable-cells c)
+    both.1 in
+    rw (both.0, cells) refl
+
+line-free : (c : Holdings) (kind : ℕ) (order : Command) → is_of_kind kind order ≡ true → judged c order ≡ None
+    → judged (durable c) order ≡ None
+line-free c kind (command.Array name array) own free = array-free c array free
+line-free c kind (command.Csv name array) own free = array-free c array free
+line-free c kind (command.Layers name array) own free = array-free c array free
+line-free c kind (command.Flow name flow) own free = free
+line-free c kind (command.Strategy name node list) own free = free
+line-free c kind (command.Start name base) own free = absurd (true≢false (sym own))
+line-free c kind (command.Await n) own free = absurd (true≢false (sym own))
+line-free c kind (command.Ask n dir path named) own free = absurd (true≢false (sym own))
+line-free c kind (command.Explain n dir path named) own free = absurd (true≢false (sym own))
+line-free c kind (command.Show n node) own free = absurd (true≢false (sym own))
+
+line-durable : (c : Holdings) (kind : ℕ) (order : Command) → is_of_kind kind order ≡ true
+    → durable (accepted c order).0 ≡ (accepted (durable c) order).0
+line-durable c kind (command.Array name array) own = refl
+line-durable c kind (command.Csv name array) own = refl
+line-durable c kind (command.Layers name array) own = refl
+line-durable c kind (command.Flow name flow) own = refl
+line-durable c kind (command.Strategy name node list) own = refl
+line-durable c kind (command.Start name base) own = absurd (true≢false (sym own))
+line-durable c kind (command.Await n) own = absurd (true≢false (sym own))
+line-durable c kind (command.Ask n dir path named) own = absurd (true≢false (sym own))
+line-durable c kind (command.Explain n dir path named) own = absurd (true≢false (sym own))
+line-durable c kind (command.Show n node) own = absurd (true≢false (sym own))
+
+pub lines-act : LinesAct
+lines-act c kind line order read own free =
+    let d : Holdings = durable (accepted c order).0 in
+    line-acts (durable c) d (entry_of kind line)
+    (line-held (durable c) d kind line order read own (line-free c kind order own free) (line-durable c kind order own))
+
+pub lines-keep : LinesKeepVersions
+lines-keep c kind (command.Array name array) own = refl
+lines-keep c kind (command.Csv name array) own = refl
+lines-keep c kind (command.Layers name array) own = refl
+lines-keep c kind (command.Flow name flow) own = refl
+lines-keep c kind (command.Strategy name node list) own = refl
+lines-keep c kind (command.Start name base) own = absurd (true≢false (sym own))
+lines-keep c kind (command.Await n) own = absurd (true≢false (sym own))
+lines-keep c kind (command.Ask n dir path named) own = absurd (true≢false (sym own))
+lines-keep c kind (command.Explain n dir path named) own = absurd (true≢false (sym own))
+lines-keep c kind (command.Show n node) own = absurd (true≢false (sym own))
+
+-- ---- awaits
+
+room-there : (many most size cells : ℕ) → many < most → size ≤ cells
+    → (nat_lt many most && nat_le size cells) ≡ true
+room-there many most size cells lt le = grind (arith, nat_tests)
+
+can-be-added : (c : Holdings) (n : ℕ) (v : Version) → IsInOrder c → version_numbered c n ≡ Some v
+    → v.awaited ≡ false → CanBeAdded (durable c) n v
+can-be-added c n v order found off =
+    let own = order.each n v found in
+    let room = durable-room c n v off found in
+    record {
+      some = own.some;
+      new = ap (λ (o : Option Version). is_none o) (settled-new c.versions n v off order.rising found);
+      names = own.names;
+      flow = own.flow;
+      base = own.base;
+      count = own.count;
+      fits = own.fits;
+      lists = own.lists;
+      room =
+          room-there (length (durable c).versions) most_versions (held_cells (durable c) + output_cells v) most_cells
+          (omega (arith, room.0, order.few)) (omega (arith, room.1, order.few_cells));
+    }
+
+pub awaits-act : AwaitsAct
+awaits-act c n stores body order some off fit spelled =
+    let v : Version = version_of c n in
+    let w : Version = record v { awaited = true } in
+    let found = version-found c n some in
+    let lawful = written-lawful (durable c) n v stores body (can-be-added c n v order found off) fit spelled in
+    let one : Kept = record { number = n; stores = stores } in
+    inr (record {
+      kind = refl;
+      one = one;
+      version = w;
+      fit = fit;
+      lawful = lawful.0;
+      said = sym lawful.1;
+      held =
+          ap (λ (es : List (ℕ × Version)). record (durable c) { versions = es })
+          (await-settled c.versions n v w off refl order.rising found);
+      kept_is = refl;
+    })
