@@ -1,13 +1,25 @@
 #!/usr/bin/env python3
 """Prints the definition files on which the headline stands, with their lines, and a sum.
 
-It follows the imports of specs/ files from those that the clause `done` of sz_session::serve cites. Lines of comments,
-imports and blank lines do not count. Run at the top of the repository; docs/DEFINITIONS.md prints what it found.
+It follows the imports of specs/ files from those that the headline is read by: the transcript of a session of no log,
+by the law that says what the one of the clause `done` of sz_session::serve is, and the job and the summary line. With
+the word `all` it begins with the files that the clause itself cites, which speak of the stores of a log too. Lines of
+comments, imports and blank lines do not count. Run at the top of the repository; docs/DEFINITIONS.md prints what it
+found.
 """
 import os
 import re
+import sys
 
-STARTS = ["crates/sz_session/specs/Serving.antt"]
+ALL = ["crates/sz_session/specs/Serving.antt"]
+PLAIN = [
+    "crates/sz_session/specs/Plain.antt",
+    "crates/sz_outside/specs/Outside.antt",
+    "crates/sz_words/specs/Job.antt",
+    "crates/sz_gen/specs/Session.antt",
+    "crates/sz_gen/specs/Summary.antt",
+]
+STARTS = ALL if sys.argv[1:] == ["all"] else PLAIN
 
 
 def file_of(module):

@@ -7,9 +7,9 @@ use Rattle.sz_script.specs.declared.command.Command.{Command}
 use Rattle.sz_script.specs.declared.command.Command.TheVariants as command
 use Rattle.sz_script.specs.declared.refusal.Refusal.{Refusal}
 use Rattle.sz_query.specs.declared.path.Found.{Found}
-use Rattle.sz_catalogue.specs.Holdings.{Holdings}
+use Rattle.sz_session.specs.States.{State, logged_of, accepted, after_command, after_judging}
 use Rattle.sz_catalogue.specs.Rules.{judged, version_of}
-use Rattle.sz_catalogue.specs.Changes.{after_judging, after_command, accepted, traced}
+use Rattle.sz_catalogue.specs.Changes.{traced}
 use Rattle.sz_catalogue.specs.Responses.{cells, refused}
 use Rattle.sz_session.specs.Commands.{traced_if, traced_along, most_along, traced_for, most_for, most_traced}
 use Rattle.sz_session.specs.Searches.{Search, IsAnswerTo}
@@ -17,11 +17,11 @@ use Rattle.sz_session.specs.Asks.{IsSearched, IsBegun, IsWorked, IsEnded, IsRepl
 use Rattle.sz_session.specs.declared.asking.AskLine.{AskLine}
 use Rattle.sz_session.specs.declared.asking.Asked.{Asked}
 use Rattle.sz_session.specs.declared.asking.Asked.TheVariants as asked
-use Rattle.sz_session.proofs.Inquiries.{found-cells, found-least, found-most}
+use Rattle.sz_session.proofs.Sought.{sought-cells, sought-least, sought-most}
 
 -- an ask changes nothing that is held
-pub ask-stays : (c : Holdings) (ask : Command) → is_ask ask ≡ true → (after_command c ask).0 ≡ c
-ask-stays c (command.Ask n dir path named) is = at (judged c (command.Ask n dir path named)) where
+pub ask-stays : (c : State) (ask : Command) → is_ask ask ≡ true → (after_command c ask).0 ≡ c
+ask-stays c (command.Ask n dir path named) is = at (judged c.held (command.Ask n dir path named)) where
   at : (rule : Option Refusal) → (after_judging c (command.Ask n dir path named) rule).0 ≡ c
   at None = refl
   at (Some rule) = refl
@@ -38,19 +38,20 @@ ask-stays c (command.Show n node) is = cc
 -- ---- one ask
 
 -- the reply to an ask that a rule refuses, and what is told as traced
-pub refused-reply : (c : Holdings) (l : AskLine) (rule : Refusal) → judged c l.ask ≡ Some rule
+pub refused-reply : (c : State) (l : AskLine) (rule : Refusal) → judged c.held l.ask ≡ Some rule
     → ask_reply c l ≡ refused rule
 refused-reply c l rule is = ap (λ (o : Option Refusal). (after_judging c l.ask o).1) is
 
-pub refused-traced : (c : Holdings) (l : AskLine) (rule : Refusal) → judged c l.ask ≡ Some rule
+pub refused-traced : (c : State) (l : AskLine) (rule : Refusal) → judged c.held l.ask ≡ Some rule
     → traced_for c l.ask ≡ 0
 refused-traced c l rule is = ap (λ (o : Option Refusal). traced_if o (traced_along c l.ask)) is
 
 -- what was found for a search is the reply to its line
-searched-reply : (c : Holdings) (l : AskLine) (n : ℕ) (s : Search) (f : Found) → IsSearched c l n s → IsAnswerTo s f
+searched-reply : (c : State) (l : AskLine) (n : ℕ) (s : Search) (f : Found) → IsSearched c l n s → IsAnswerTo s f
     → IsReplyTo c l f.cells f.traced
 searched-reply c l n s f h a =
-    let v = version_of c h.version in
+    let v = version_of c.held h.version in
+    let k = logged_of c h.version in
     let along : traced_for c l.ask ≡ traced v h.dir h.path =
     ap (λ (o : Option Refusal). traced_if o (traced_along c l.ask)) h.judged ∙ ap (traced_along c) h.is in
     let most : most_for c l.ask ≡ most_traced v h.dir h.path =
@@ -58,14 +59,14 @@ searched-reply c l n s f h a =
     record {
       reply = ap (λ (o : Option Refusal). (after_judging c l.ask o).1) h.judged
           ∙ ap (λ (x : Command). (accepted c x).1) h.is
-          ∙ sym (ap cells (found-cells v h.dir h.path h.named s f h.search a));
-      least = omega (arith, along, found-least v h.dir h.path h.named s f h.search a);
-      most = omega (arith, most, found-most v h.dir h.path h.named s f h.search a);
+          ∙ sym (ap cells (sought-cells k v h.dir h.path h.named s f h.search a));
+      least = omega (arith, along, sought-least k v h.dir h.path h.named s f h.search a);
+      most = omega (arith, most, sought-most k v h.dir h.path h.named s f h.search a);
       few = a.few;
     }
 
 -- an ask that was begun, and then worked on
-begun-worked : (c : Holdings) (l : AskLine) (a b : Asked) → IsBegun c l a → IsWorked a b → IsEnded c l b
+begun-worked : (c : State) (l : AskLine) (a b : Asked) → IsBegun c l a → IsWorked a b → IsEnded c l b
 begun-worked c l (asked.Refused rule) b h w = subst (IsEnded c l) (sym w) h
 begun-worked c l (asked.Open n s) (asked.Done found tally) h w =
     subst (λ (k : ℕ). IsReplyTo c l found.cells k) (sym w.1) (searched-reply c l n s found h w.0)
@@ -77,7 +78,7 @@ begun-worked c l asked.Lost b h w = absurd h
 
 -- ---- all of them
 
-pub all-worked : (c : Holdings) (lines : List AskLine) (old new : List Asked) → AllZip (IsBegun c) lines old
+pub all-worked : (c : State) (lines : List AskLine) (old new : List Asked) → AllZip (IsBegun c) lines old
     → AllZip IsWorked old new → AllZip (IsEnded c) lines new
 all-worked c [] [] [] h w = tt
 all-worked c [] [] (b ∷ new) h w = absurd w

@@ -10,9 +10,9 @@ use Rattle.sz_outside.specs.Outside.{SaysPart, Gives}
 use Rattle.sz_outside.specs.Disk.{Told, Passes, Follows, Same, Said, SaidPart}
 use Rattle.sz_outside.specs.declared.stations.Station.{Ghosts}
 use Rattle.sz_log.specs.Steps.{MakesIfFree}
-use Rattle.sz_catalogue.specs.Holdings.{no_holdings}
 use Rattle.sz_session.specs.Transcript.{transcript}
 use Rattle.sz_session.specs.Moments.{Moment, told_in, told_at_end}
+use Rattle.sz_session.specs.States.{State}
 use Rattle.sz_session.specs.Serving.{Advances, Answered, AreAll}
 use Rattle.sz_session.specs.Making.{ready_line}
 use Rattle.sz_session.specs.Disks.{StaysFinding, DiskStays, OnlySays, FoundInPart, StopsMaking}
@@ -227,36 +227,36 @@ only-line {X} T a b c l m n xs start at le lt is so_far took pending line =
 -- ---- sessions
 
 -- a turn
-pub turn-stays : {X : Type 0} (T : Ghosts X) (all left next said : Option (List ℕ)) (a b : X) (m : Moment)
-    (total count : ℕ) (buffer : List ℕ) → Answered all left said (T.said a) m total → Gives left next buffer count
-    → OnlySays T (told_in m (take count buffer)) a b → StaysFinding T (FoundInPart all said) a b
-turn-stays {X} T all left next said a b m total count buffer so_far gives one =
+pub turn-stays : {X : Type 0} (T : Ghosts X) (z : State) (all left next said : Option (List ℕ)) (a b : X) (m : Moment)
+    (total count : ℕ) (buffer : List ℕ) → Answered z all left said (T.said a) m total → Gives left next buffer count
+    → OnlySays T (told_in m (take count buffer)) a b → StaysFinding T (FoundInPart z all said) a b
+turn-stays {X} T z all left next said a b m total count buffer so_far gives one =
     stays-finding T _ _ a b
-    (λ found part. turn-in_part all left next said (T.said a) (Some found) m total count buffer so_far gives part) one
+    (λ found part. turn-in_part z all left next said (T.said a) (Some found) m total count buffer so_far gives part) one
 
 -- the end
-pub end-stays : {X : Type 0} (T : Ghosts X) (all left said : Option (List ℕ)) (a b : X) (m : Moment) (total : ℕ)
-    → Answered all left said (T.said a) m total → AreAll all total
-    → OnlySays T (told_at_end m) a b → StaysFinding T (FoundInPart all said) a b
-end-stays {X} T all left said a b m total so_far is_all one =
+pub end-stays : {X : Type 0} (T : Ghosts X) (z : State) (all left said : Option (List ℕ)) (a b : X) (m : Moment) (total : ℕ)
+    → Answered z all left said (T.said a) m total → AreAll all total
+    → OnlySays T (told_at_end m) a b → StaysFinding T (FoundInPart z all said) a b
+end-stays {X} T z all left said a b m total so_far is_all one =
     stays-finding T _ _ a b
-    (λ found part. end-in_part all left said (T.said a) (Some found) m total so_far is_all part) one
+    (λ found part. end-in_part z all left said (T.said a) (Some found) m total so_far is_all part) one
 
 -- between two turns
-pub between-stays : {X : Type 0} (T : Ghosts X) (all left said : Option (List ℕ)) (a b : X) (m : Moment) (total : ℕ)
-    → Answered all left said (T.said a) m total → OnlySays T [] a b → StaysFinding T (FoundInPart all said) a b
-between-stays {X} T all left said a b m total so_far one =
+pub between-stays : {X : Type 0} (T : Ghosts X) (z : State) (all left said : Option (List ℕ)) (a b : X) (m : Moment) (total : ℕ)
+    → Answered z all left said (T.said a) m total → OnlySays T [] a b → StaysFinding T (FoundInPart z all said) a b
+between-stays {X} T z all left said a b m total so_far one =
     stays-finding T _ _ a b
-    (λ found part. answered-in_part all left said (T.said a) (Some found) m total so_far part) one
+    (λ found part. answered-in_part z all left said (T.said a) (Some found) m total so_far part) one
 
 -- before the first turn
-start-found : (all said : Option (List ℕ)) (found : List ℕ) → SaysPart said (Some found) [] → FoundInPart all said found
-start-found None said found part = tt
-start-found (Some bytes) said found part = part-longer said (Some found) [] (transcript no_holdings bytes) part
+start-found : (z : State) (all said : Option (List ℕ)) (found : List ℕ) → SaysPart said (Some found) [] → FoundInPart z all said found
+start-found z None said found part = tt
+start-found z (Some bytes) said found part = part-longer said (Some found) [] (transcript z bytes) part
 
-pub start-stays : {X : Type 0} (T : Ghosts X) (all : Option (List ℕ)) (a b : X)
-    → OnlySays T [] a b → StaysFinding T (FoundInPart all (T.said a)) a b
-start-stays {X} T all a b one = stays-finding T _ _ a b (λ found part. start-found all (T.said a) found part) one
+pub start-stays : {X : Type 0} (T : Ghosts X) (z : State) (all : Option (List ℕ)) (a b : X)
+    → OnlySays T [] a b → StaysFinding T (FoundInPart z all (T.said a)) a b
+start-stays {X} T z all a b one = stays-finding T _ _ a b (λ found part. start-found z all (T.said a) found part) one
 
 -- whatever was found said
 pub disk-stays : {X : Type 0} (T : Ghosts X) (F : List ℕ → Type 0) (a b : X) → StaysFinding T F a b → DiskStays T a b

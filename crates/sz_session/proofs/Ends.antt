@@ -10,9 +10,9 @@ use Rattle.std.proofs.lemmas.List.{append-nil, take-append-drop, drop-drop, take
 use Rattle.std.proofs.Math.Seq.{drop-length}
 use Rattle.sz_outside.specs.Outside.{Says, SaysPart, Rose, Gives, GivesNext, Keeps}
 use Rattle.sz_session.specs.Lines.{lines_of, Cut, cut, last_line}
-use Rattle.sz_catalogue.specs.Holdings.{no_holdings}
 use Rattle.sz_session.specs.Transcript.{transcript, whole_replies}
 use Rattle.sz_session.specs.Moments.{Moment, moment_before, cut_after, told_in, moment_after, told_at_end, AreAlike}
+use Rattle.sz_session.specs.States.{State}
 use Rattle.sz_session.specs.Serving.{Advances, SaysFirst, HasAnswered, Answered, AreAll, Done, SaidOfRead, SaidToLimit}
 use Rattle.sz_session.specs.Serving.{SaidInPart, SaidInLines, IsPastLimit, IsWithinLimit}
 use Rattle.sz_session.specs.Statuses.{halt_status, end_status, Ends, AreCounted}
@@ -29,24 +29,24 @@ use Rattle.sz_session.proofs.Turns.{advances-then, advances-part, advances-first
 -- ---- between two reads
 
 -- before the first byte
-abbrev start : Moment
-start = moment_before no_holdings
+abbrev start : State → Moment
+start z = moment_before z
 
 -- what the bytes so far told, and what is held
-so_far-advances : (bytes : List ℕ) (left a b : Option (List ℕ)) (m : Moment) (count : ℕ)
-    → HasAnswered bytes left a b m count → Advances a b start m (take count bytes)
-so_far-advances bytes left a b m count h =
+so_far-advances : (z : State) (bytes : List ℕ) (left a b : Option (List ℕ)) (m : Moment) (count : ℕ)
+    → HasAnswered z bytes left a b m count → Advances a b (start z) m (take count bytes)
+so_far-advances z bytes left a b m count h =
     let P : List ℕ → Type 0 = λ told. Says a b told in
-    record { says = subst P (sym (told_in-whole no_holdings (take count bytes))) h.says; alike = h.alike }
+    record { says = subst P (sym (told_in-whole z (take count bytes))) h.says; alike = h.alike }
 
 -- nothing was read yet
-pub answered-start : (left said : Option (List ℕ)) → Answered left left said said start 0
-answered-start None said = tt
-answered-start (Some bytes) said = record {
+pub answered-start : (z : State) (left said : Option (List ℕ)) → Answered z left left said said (start z) 0
+answered-start z None said = tt
+answered-start z (Some bytes) said = record {
   within = omega arith;
   is_left = refl;
   says = says-nothing said;
-  alike = are_alike-same start (moment_after start []) refl;
+  alike = are_alike-same (start z) (moment_after (start z) []) refl;
 }
 
 -- the bytes so far, and those that a read gives
@@ -63,31 +63,31 @@ given-next bytes left next total count buffer is gives = let P : Option (List �
     → Type 0 = λ o. Gives o next buffer count in subst P is gives
 
 -- a read and the turn that takes in what it gave
-pub answered-turn : (all left next a b c : Option (List ℕ)) (m n : Moment) (total count : ℕ) (buffer : List ℕ)
-    → Answered all left a b m total → Gives left next buffer count → Advances b c m n (take count buffer)
-    → Answered all next a c n (total + count)
-answered-turn None left next a b c m n total count buffer so_far gives turn = tt
-answered-turn (Some bytes) left next a b c m n total count buffer so_far gives turn =
+pub answered-turn : (z : State) (all left next a b c : Option (List ℕ)) (m n : Moment) (total count : ℕ) (buffer : List ℕ)
+    → Answered z all left a b m total → Gives left next buffer count → Advances b c m n (take count buffer)
+    → Answered z all next a c n (total + count)
+answered-turn z None left next a b c m n total count buffer so_far gives turn = tt
+answered-turn z (Some bytes) left next a b c m n total count buffer so_far gives turn =
     let given = given-next bytes left next total count buffer so_far.is_left gives in
     let P : List ℕ → Type 0 = λ told. Says a c told in
-    let Q : List ℕ → Type 0 = λ xs. Advances a c start n xs in
-    let both : Advances a c start n (take (total + count) bytes) =
+    let Q : List ℕ → Type 0 = λ xs. Advances a c (start z) n xs in
+    let both : Advances a c (start z) n (take (total + count) bytes) =
     subst Q (front-more bytes buffer total count given.bytes)
-    (advances-then a b c start m n (take total bytes) (take count buffer)
-    (so_far-advances bytes left a b m total so_far) turn) in
+    (advances-then a b c (start z) m n (take total bytes) (take count buffer)
+    (so_far-advances z bytes left a b m total so_far) turn) in
     record {
       within = omega (arith, so_far.within, given.fits, length-drop total bytes);
       is_left = given.left ∙ ap (λ (xs : List ℕ). Some xs) (drop-drop count total bytes);
-      says = subst P (told_in-whole no_holdings (take (total + count) bytes)) both.says;
+      says = subst P (told_in-whole z (take (total + count) bytes)) both.says;
       alike = both.alike;
     }
 
 -- a read that gave no byte came to the end
-pub all-read : (all left next a b : Option (List ℕ)) (m : Moment) (total : ℕ) (buffer : List ℕ)
+pub all-read : (z : State) (all left next a b : Option (List ℕ)) (m : Moment) (total : ℕ) (buffer : List ℕ)
     → 0 < length buffer
-    → Answered all left a b m total → Gives left next buffer 0 → AreAll all total
-all-read None left next a b m total buffer some so_far gives = tt
-all-read (Some bytes) left next a b m total buffer some so_far gives =
+    → Answered z all left a b m total → Gives left next buffer 0 → AreAll all total
+all-read z None left next a b m total buffer some so_far gives = tt
+all-read z (Some bytes) left next a b m total buffer some so_far gives =
     let given = given-next bytes left next total 0 buffer so_far.is_left gives in
     let none : length (drop total bytes) ≡ 0 = ap (λ (xs : List ℕ). length xs) (given.end some refl) in
     omega (arith, so_far.within, none, length-drop total bytes)
@@ -95,80 +95,80 @@ all-read (Some bytes) left next a b m total buffer some so_far gives =
 -- ---- the transcript, and what the first of its bytes tell
 
 -- a transcript is what the first bytes tell, and more
-transcript-front : (bytes : List ℕ) (n : ℕ)
-    → (more : List ℕ) × (told_in start (take n bytes) ++ more ≡ transcript no_holdings bytes)
-transcript-front bytes n =
-    let first = told_in start (take n bytes) in
-    let rest = told_in (moment_after start (take n bytes)) (drop n bytes) in
-    let end = told_at_end (moment_after start bytes) in (
+transcript-front : (z : State) (bytes : List ℕ) (n : ℕ)
+    → (more : List ℕ) × (told_in (start z) (take n bytes) ++ more ≡ transcript z bytes)
+transcript-front z bytes n =
+    let first = told_in (start z) (take n bytes) in
+    let rest = told_in (moment_after (start z) (take n bytes)) (drop n bytes) in
+    let end = told_at_end (moment_after (start z) bytes) in (
       rest ++ end,
       sym (append_assoc first rest end)
-          ∙ ap (λ (xs : List ℕ). xs ++ end) (sym (told_in-parts start (take n bytes) (drop n bytes))
-          ∙ ap (told_in start) (take-append-drop n bytes))
-          ∙ sym (transcript-told no_holdings bytes),
+          ∙ ap (λ (xs : List ℕ). xs ++ end) (sym (told_in-parts (start z) (take n bytes) (drop n bytes))
+          ∙ ap (told_in (start z)) (take-append-drop n bytes))
+          ∙ sym (transcript-told z bytes),
     )
 
 -- lines that end in the first bytes are the first of all lines
-lines-front : (a b : Option (List ℕ)) (bytes : List ℕ) (n : ℕ)
-    → SaysFirst a b no_holdings 1 (cut_after start (take n bytes)).whole
-    → SaysFirst a b no_holdings 1 (lines_of bytes)
-lines-front a b bytes n p =
-    let first = (cut_after start (take n bytes)).whole in
-    let further = (cut_after (moment_after start (take n bytes)) (drop n bytes)).whole in
+lines-front : (z : State) (a b : Option (List ℕ)) (bytes : List ℕ) (n : ℕ)
+    → SaysFirst a b z 1 (cut_after (start z) (take n bytes)).whole
+    → SaysFirst a b z 1 (lines_of bytes)
+lines-front z a b bytes n p =
+    let first = (cut_after (start z) (take n bytes)).whole in
+    let further = (cut_after (moment_after (start z) (take n bytes)) (drop n bytes)).whole in
     let last = last_line (cut bytes).last in
-    let P : List (List ℕ) → Type 0 = λ ls. SaysFirst a b no_holdings 1 ls in
+    let P : List (List ℕ) → Type 0 = λ ls. SaysFirst a b z 1 ls in
     let same : (first ++ further) ++ last ≡ lines_of bytes =
     ap (λ (ls : List (List ℕ)). ls ++ last)
-    (sym (ap (λ (c : Cut). c.whole) (cut_after-parts start (take n bytes) (drop n bytes)))
-    ∙ ap (λ (xs : List ℕ). (cut_after start xs).whole) (take-append-drop n bytes)
+    (sym (ap (λ (c : Cut). c.whole) (cut_after-parts (start z) (take n bytes) (drop n bytes)))
+    ∙ ap (λ (xs : List ℕ). (cut_after (start z) xs).whole) (take-append-drop n bytes)
     ∙ ap (λ (c : Cut). c.whole) (before_cut-nothing (cut bytes)))
     ∙ sym (lines_of-cut bytes) in
     subst P same
-    (first-longer a b no_holdings 1 (first ++ further) last (first-longer a b no_holdings 1 first further p))
+    (first-longer a b z 1 (first ++ further) last (first-longer a b z 1 first further p))
 
 -- what all bytes told, and what is told at their end, is the transcript
-whole-transcript : (bytes : List ℕ) (m : Moment) (total : ℕ) → total ≡ length bytes
-    → AreAlike m (moment_after start (take total bytes))
-    → told_in start (take total bytes) ++ told_at_end m ≡ transcript no_holdings bytes
-whole-transcript bytes m total is_all alike =
+whole-transcript : (z : State) (bytes : List ℕ) (m : Moment) (total : ℕ) → total ≡ length bytes
+    → AreAlike m (moment_after (start z) (take total bytes))
+    → told_in (start z) (take total bytes) ++ told_at_end m ≡ transcript z bytes
+whole-transcript z bytes m total is_all alike =
     let whole : take total bytes ≡ bytes = take_all total bytes (omega (arith, is_all)) in
-    ap (λ (xs : List ℕ). told_in start (take total bytes) ++ xs)
-    (told_at_end-alike m (moment_after start (take total bytes)) alike)
-    ∙ ap (λ (xs : List ℕ). told_in start xs ++ told_at_end (moment_after start xs)) whole
-    ∙ sym (transcript-told no_holdings bytes)
+    ap (λ (xs : List ℕ). told_in (start z) (take total bytes) ++ xs)
+    (told_at_end-alike m (moment_after (start z) (take total bytes)) alike)
+    ∙ ap (λ (xs : List ℕ). told_in (start z) xs ++ told_at_end (moment_after (start z) xs)) whole
+    ∙ sym (transcript-told z bytes)
 
 -- ---- endings
 
 -- every byte was read, and what is told at the end was said
-done : (limit : ℕ) (all left a b c : Option (List ℕ)) (m : Moment) (total : ℕ) → total ≤ limit
-    → Answered all left a b m total → AreAll all total → Says b c (told_at_end m) → Done limit all left a c
-done limit None left a b c m total le so_far is_all end = tt
-done limit (Some bytes) left a b c m total le so_far is_all end =
+done : (z : State) (limit : ℕ) (all left a b c : Option (List ℕ)) (m : Moment) (total : ℕ) → total ≤ limit
+    → Answered z all left a b m total → AreAll all total → Says b c (told_at_end m) → Done z limit all left a c
+done z limit None left a b c m total le so_far is_all end = tt
+done z limit (Some bytes) left a b c m total le so_far is_all end =
     let none : drop total bytes ≡ [] = ap (λ (n : ℕ). drop n bytes) is_all ∙ drop-length bytes in
-    let front = so_far-advances bytes left a b m total so_far in
+    let front = so_far-advances z bytes left a b m total so_far in
     let P : List ℕ → Type 0 = λ told. Says a c told in (
       so_far.is_left ∙ ap (λ (xs : List ℕ). Some xs) none,
       omega (arith, is_all, le),
-      subst P (whole-transcript bytes m total is_all so_far.alike)
-          (says-then a b c (told_in start (take total bytes)) (told_at_end m) front.says end),
+      subst P (whole-transcript z bytes m total is_all so_far.alike)
+          (says-then a b c (told_in (start z) (take total bytes)) (told_at_end m) front.says end),
     )
 
 -- a read failed between two lines or within one
-pub read-failed : (all left next a b : Option (List ℕ)) (m : Moment) (total : ℕ) → Answered all left a b m total
-    → Keeps left next → SaidOfRead all next a b
-read-failed None left next a b m total so_far keeps = tt
-read-failed (Some bytes) left next a b m total so_far keeps =
+pub read-failed : (z : State) (all left next a b : Option (List ℕ)) (m : Moment) (total : ℕ) → Answered z all left a b m total
+    → Keeps left next → SaidOfRead z all next a b
+read-failed z None left next a b m total so_far keeps = tt
+read-failed z (Some bytes) left next a b m total so_far keeps =
     let P : Option (List ℕ) → Type 0 = λ o. Keeps o next in
     (total, so_far.within, subst P so_far.is_left keeps, so_far.says)
 
 -- at the limit a further read gave a byte
-pub past-limit : (limit : ℕ) (all left next a b : Option (List ℕ)) (m : Moment) (total count : ℕ)
+pub past-limit : (z : State) (limit : ℕ) (all left next a b : Option (List ℕ)) (m : Moment) (total count : ℕ)
     (buffer : List ℕ) → total ≡ limit → count ≡ 1
-    → Answered all left a b m total → Gives left next buffer count → SaidToLimit limit all next a b
-past-limit limit None left next a b m total count buffer at one so_far gives = tt
-past-limit limit (Some bytes) left next a b m total count buffer at one so_far gives =
+    → Answered z all left a b m total → Gives left next buffer count → SaidToLimit z limit all next a b
+past-limit z limit None left next a b m total count buffer at one so_far gives = tt
+past-limit z limit (Some bytes) left next a b m total count buffer at one so_far gives =
     let given = given-next bytes left next total count buffer so_far.is_left gives in
-    let P : ℕ → Type 0 = λ n. Says a b (whole_replies no_holdings (take n bytes)) in (
+    let P : ℕ → Type 0 = λ n. Says a b (whole_replies z (take n bytes)) in (
       omega (arith, at, one, given.fits, length-drop total bytes),
       given.left
           ∙ ap (λ (xs : List ℕ). Some xs) (drop-drop count total bytes
@@ -177,96 +177,96 @@ past-limit limit (Some bytes) left next a b m total count buffer at one so_far g
     )
 
 -- a say failed in a turn
-pub turn-in_part : (all left next a b c : Option (List ℕ)) (m : Moment) (total count : ℕ) (buffer : List ℕ)
-    → Answered all left a b m total → Gives left next buffer count → SaysPart b c (told_in m (take count buffer))
-    → SaidInPart all a c
-turn-in_part None left next a b c m total count buffer so_far gives part = tt
-turn-in_part (Some bytes) left next a b c m total count buffer so_far gives part =
+pub turn-in_part : (z : State) (all left next a b c : Option (List ℕ)) (m : Moment) (total count : ℕ) (buffer : List ℕ)
+    → Answered z all left a b m total → Gives left next buffer count → SaysPart b c (told_in m (take count buffer))
+    → SaidInPart z all a c
+turn-in_part z None left next a b c m total count buffer so_far gives part = tt
+turn-in_part z (Some bytes) left next a b c m total count buffer so_far gives part =
     let given = given-next bytes left next total count buffer so_far.is_left gives in
-    let P : List ℕ → Type 0 = λ xs. SaysPart a c (told_in start xs) in
+    let P : List ℕ → Type 0 = λ xs. SaysPart a c (told_in (start z) xs) in
     let Q : List ℕ → Type 0 = λ xs. SaysPart a c xs in
     let both = subst P (front-more bytes buffer total count given.bytes)
-    (advances-part a b c start m (take total bytes) (take count buffer)
-    (so_far-advances bytes left a b m total so_far) part) in
-    let front = transcript-front bytes (total + count) in
-    subst Q front.1 (part-longer a c (told_in start (take (total + count) bytes)) front.0 both)
+    (advances-part a b c (start z) m (take total bytes) (take count buffer)
+    (so_far-advances z bytes left a b m total so_far) part) in
+    let front = transcript-front z bytes (total + count) in
+    subst Q front.1 (part-longer a c (told_in (start z) (take (total + count) bytes)) front.0 both)
 
 -- memory was refused in a turn
-turn-in_lines : (all left next a b c : Option (List ℕ)) (m : Moment) (total count : ℕ) (buffer : List ℕ)
-    → Answered all left a b m total → Gives left next buffer count
-    → SaysFirst b c m.held m.number (cut_after m (take count buffer)).whole → SaidInLines all a c
-turn-in_lines None left next a b c m total count buffer so_far gives first = tt
-turn-in_lines (Some bytes) left next a b c m total count buffer so_far gives first =
+turn-in_lines : (z : State) (all left next a b c : Option (List ℕ)) (m : Moment) (total count : ℕ) (buffer : List ℕ)
+    → Answered z all left a b m total → Gives left next buffer count
+    → SaysFirst b c m.held m.number (cut_after m (take count buffer)).whole → SaidInLines z all a c
+turn-in_lines z None left next a b c m total count buffer so_far gives first = tt
+turn-in_lines z (Some bytes) left next a b c m total count buffer so_far gives first =
     let given = given-next bytes left next total count buffer so_far.is_left gives in
-    let P : List ℕ → Type 0 = λ xs. SaysFirst a c no_holdings 1 (cut_after start xs).whole in
-    lines-front a c bytes (total + count) (subst P (front-more bytes buffer total count given.bytes)
-    (advances-first a b c start m (take total bytes) (take count buffer)
-    (so_far-advances bytes left a b m total so_far) first))
+    let P : List ℕ → Type 0 = λ xs. SaysFirst a c z 1 (cut_after (start z) xs).whole in
+    lines-front z a c bytes (total + count) (subst P (front-more bytes buffer total count given.bytes)
+    (advances-first a b c (start z) m (take total bytes) (take count buffer)
+    (so_far-advances z bytes left a b m total so_far) first))
 
 -- between two turns what was said is a first part
-pub answered-in_part : (all left a b c : Option (List ℕ)) (m : Moment) (total : ℕ) → Answered all left a b m total
-    → SaysPart b c [] → SaidInPart all a c
-answered-in_part None left a b c m total so_far part = tt
-answered-in_part (Some bytes) left a b c m total so_far part =
-    let told = told_in start (take total bytes) in
-    let front = transcript-front bytes total in
+pub answered-in_part : (z : State) (all left a b c : Option (List ℕ)) (m : Moment) (total : ℕ) → Answered z all left a b m total
+    → SaysPart b c [] → SaidInPart z all a c
+answered-in_part z None left a b c m total so_far part = tt
+answered-in_part z (Some bytes) left a b c m total so_far part =
+    let told = told_in (start z) (take total bytes) in
+    let front = transcript-front z bytes total in
     let Q : List ℕ → Type 0 = λ xs. SaysPart a c xs in
     subst Q front.1 (part-longer a c told front.0 (subst Q (append-nil told)
-    (part-then a b c told [] (so_far-advances bytes left a b m total so_far).says part)))
+    (part-then a b c told [] (so_far-advances z bytes left a b m total so_far).says part)))
 
 -- a say failed at the end
-pub end-in_part : (all left a b c : Option (List ℕ)) (m : Moment) (total : ℕ)
-    → Answered all left a b m total → AreAll all total → SaysPart b c (told_at_end m) → SaidInPart all a c
-end-in_part None left a b c m total so_far is_all part = tt
-end-in_part (Some bytes) left a b c m total so_far is_all part =
-    let front = so_far-advances bytes left a b m total so_far in
+pub end-in_part : (z : State) (all left a b c : Option (List ℕ)) (m : Moment) (total : ℕ)
+    → Answered z all left a b m total → AreAll all total → SaysPart b c (told_at_end m) → SaidInPart z all a c
+end-in_part z None left a b c m total so_far is_all part = tt
+end-in_part z (Some bytes) left a b c m total so_far is_all part =
+    let front = so_far-advances z bytes left a b m total so_far in
     let P : List ℕ → Type 0 = λ xs. SaysPart a c xs in
-    subst P (whole-transcript bytes m total is_all so_far.alike)
-    (part-then a b c (told_in start (take total bytes)) (told_at_end m) front.says part)
+    subst P (whole-transcript z bytes m total is_all so_far.alike)
+    (part-then a b c (told_in (start z) (take total bytes)) (told_at_end m) front.says part)
 
 -- memory was refused at the end
-end-in_lines : (all left a b c : Option (List ℕ)) (m : Moment) (total : ℕ) → Answered all left a b m total
-    → Says b c [] → SaidInLines all a c
-end-in_lines None left a b c m total so_far nothing = tt
-end-in_lines (Some bytes) left a b c m total so_far nothing =
-    let front = so_far-advances bytes left a b m total so_far in
-    let told = told_in start (take total bytes) in
-    let P : List ℕ → Type 0 = λ xs. SaysFirst a c no_holdings 1 (cut_after start xs).whole in
-    lines-front a c bytes total (subst P (append-nil (take total bytes))
-    (first-whole a c start (take total bytes) [] (says-quiet a b c told front.says nothing)))
+end-in_lines : (z : State) (all left a b c : Option (List ℕ)) (m : Moment) (total : ℕ) → Answered z all left a b m total
+    → Says b c [] → SaidInLines z all a c
+end-in_lines z None left a b c m total so_far nothing = tt
+end-in_lines z (Some bytes) left a b c m total so_far nothing =
+    let front = so_far-advances z bytes left a b m total so_far in
+    let told = told_in (start z) (take total bytes) in
+    let P : List ℕ → Type 0 = λ xs. SaysFirst a c z 1 (cut_after (start z) xs).whole in
+    lines-front z a c bytes total (subst P (append-nil (take total bytes))
+    (first-whole a c (start z) (take total bytes) [] (says-quiet a b c told front.says nothing)))
 
 -- memory was refused before the first read
-pub none-in_lines : (all said : Option (List ℕ)) → SaidInLines all said said
-none-in_lines None said = tt
-none-in_lines (Some bytes) said = record { many = 0; within = omega arith; says = says-nothing said }
+pub none-in_lines : (z : State) (all said : Option (List ℕ)) → SaidInLines z all said said
+none-in_lines z None said = tt
+none-in_lines z (Some bytes) said = record { many = 0; within = omega arith; says = says-nothing said }
 
 -- ---- statuses
 
 -- a turn that stopped
-pub turn-ends : (s : Halt) (limit : ℕ) (all left next a b c : Option (List ℕ)) (m : Moment) (total count : ℕ)
+pub turn-ends : (z : State) (s : Halt) (limit : ℕ) (all left next a b c : Option (List ℕ)) (m : Moment) (total count : ℕ)
     (buffer : List ℕ)
-    → Answered all left a b m total → Gives left next buffer count
+    → Answered z all left a b m total → Gives left next buffer count
     → (s ≡ halt.SayFault → SaysPart b c (told_in m (take count buffer)))
     → (s ≡ halt.NoMemory → SaysFirst b c m.held m.number (cut_after m (take count buffer)).whole)
-    → Ends (halt_status s) limit all next a c
-turn-ends halt.SayFault limit all left next a b c m total count buffer so_far gives part first =
-    turn-in_part all left next a b c m total count buffer so_far gives (part refl)
-turn-ends halt.NoMemory limit all left next a b c m total count buffer so_far gives part first =
-    turn-in_lines all left next a b c m total count buffer so_far gives (first refl)
+    → Ends z (halt_status s) limit all next a c
+turn-ends z halt.SayFault limit all left next a b c m total count buffer so_far gives part first =
+    turn-in_part z all left next a b c m total count buffer so_far gives (part refl)
+turn-ends z halt.NoMemory limit all left next a b c m total count buffer so_far gives part first =
+    turn-in_lines z all left next a b c m total count buffer so_far gives (first refl)
 
 -- the end of the source
-pub end-ends : (r : Result (Unit {0}) Halt) (limit : ℕ) (all left a b c : Option (List ℕ)) (m : Moment)
+pub end-ends : (z : State) (r : Result (Unit {0}) Halt) (limit : ℕ) (all left a b c : Option (List ℕ)) (m : Moment)
     (total : ℕ) → total ≤ limit
-    → Answered all left a b m total → AreAll all total
+    → Answered z all left a b m total → AreAll all total
     → OnOk r (Says b c (told_at_end m)) → (r ≡ Err halt.SayFault → SaysPart b c (told_at_end m))
     → (r ≡ Err halt.NoMemory → Says b c [])
-    → Ends (end_status r) limit all left a c
-end-ends (Ok u) limit all left a b c m total le so_far is_all whole part nothing =
-    done limit all left a b c m total le so_far is_all whole
-end-ends (Err halt.SayFault) limit all left a b c m total le so_far is_all whole part nothing =
-    end-in_part all left a b c m total so_far is_all (part refl)
-end-ends (Err halt.NoMemory) limit all left a b c m total le so_far is_all whole part nothing =
-    end-in_lines all left a b c m total so_far (nothing refl)
+    → Ends z (end_status r) limit all left a c
+end-ends z (Ok u) limit all left a b c m total le so_far is_all whole part nothing =
+    done z limit all left a b c m total le so_far is_all whole
+end-ends z (Err halt.SayFault) limit all left a b c m total le so_far is_all whole part nothing =
+    end-in_part z all left a b c m total so_far is_all (part refl)
+end-ends z (Err halt.NoMemory) limit all left a b c m total le so_far is_all whole part nothing =
+    end-in_lines z all left a b c m total so_far (nothing refl)
 
 -- what the counts tell of a turn that stopped
 pub turn-counted : (s : Halt) (reads reads' says says' : ℕ) → (s ≡ halt.SayFault → Rose says says')
@@ -283,35 +283,35 @@ end-counted (Err halt.SayFault) reads reads' says says' same quiet rose = rose r
 end-counted (Err halt.NoMemory) reads reads' says says' same quiet rose = tt
 
 -- what a status tells, where the session ended with it
-pub ends-with : (s t : Status) (limit : ℕ) (all left a b : Option (List ℕ)) → Ends s limit all left a b
-    → s ≡ t → Ends t limit all left a b
-ends-with s t limit all left a b h is = let P : Status → Type 0 = λ s. Ends s limit all left a b in subst P is h
+pub ends-with : (z : State) (s t : Status) (limit : ℕ) (all left a b : Option (List ℕ)) → Ends z s limit all left a b
+    → s ≡ t → Ends z t limit all left a b
+ends-with z s t limit all left a b h is = let P : Status → Type 0 = λ s. Ends z s limit all left a b in subst P is h
 
 -- and what the counts tell of it
 pub counted-with : (s t : Status) (r r' q q' : ℕ) → AreCounted s r r' q q' → s ≡ t → AreCounted t r r' q q'
 counted-with s t r r' q q' h is = let P : Status → Type 0 = λ s. AreCounted s r r' q q' in subst P is h
 
 -- past the limit there were more bytes than it has
-pub limit-passed : (limit : ℕ) (all left a b : Option (List ℕ)) → SaidToLimit limit all left a b
+pub limit-passed : (z : State) (limit : ℕ) (all left a b : Option (List ℕ)) → SaidToLimit z limit all left a b
     → IsPastLimit limit all
-limit-passed limit None left a b h = tt
-limit-passed limit (Some bytes) left a b h = h.0
+limit-passed z limit None left a b h = tt
+limit-passed z limit (Some bytes) left a b h = h.0
 
 -- a session within the limit, with no fault counted, is done unless memory was refused
-pub completes : (s : Status) (limit : ℕ) (all left a b : Option (List ℕ)) (r r' q q' : ℕ)
-    → Ends s limit all left a b → AreCounted s r r' q q'
+pub completes : (z : State) (s : Status) (limit : ℕ) (all left a b : Option (List ℕ)) (r r' q q' : ℕ)
+    → Ends z s limit all left a b → AreCounted s r r' q q'
     → IsWithinLimit limit all → (Rose r r' → ⊥) → (Rose q q' → ⊥)
     → (s ≡ status.Done) ⊎ (s ≡ status.NoMemory)
-completes status.Done limit all left a b r r' q q' ends fault within no_read no_say = inl refl
-completes status.Usage limit all left a b r r' q q' ends fault within no_read no_say = absurd ends
-completes status.ReadFault limit all left a b r r' q q' ends fault within no_read no_say = absurd (no_read fault)
-completes status.SayFault limit all left a b r r' q q' ends fault within no_read no_say = absurd (no_say fault)
-completes status.DiskFault limit all left a b r r' q q' ends fault within no_read no_say = absurd ends
-completes status.NotALog limit all left a b r r' q q' ends fault within no_read no_say = absurd ends
-completes status.AlreadyALog limit all left a b r r' q q' ends fault within no_read no_say = absurd ends
-completes status.NoMemory limit all left a b r r' q q' ends fault within no_read no_say = inr refl
-completes status.InputLimit limit all left a b r r' q q' ends fault within no_read no_say =
+completes z status.Done limit all left a b r r' q q' ends fault within no_read no_say = inl refl
+completes z status.Usage limit all left a b r r' q q' ends fault within no_read no_say = absurd ends
+completes z status.ReadFault limit all left a b r r' q q' ends fault within no_read no_say = absurd (no_read fault)
+completes z status.SayFault limit all left a b r r' q q' ends fault within no_read no_say = absurd (no_say fault)
+completes z status.DiskFault limit all left a b r r' q q' ends fault within no_read no_say = absurd ends
+completes z status.NotALog limit all left a b r r' q q' ends fault within no_read no_say = absurd ends
+completes z status.AlreadyALog limit all left a b r r' q q' ends fault within no_read no_say = absurd ends
+completes z status.NoMemory limit all left a b r r' q q' ends fault within no_read no_say = inr refl
+completes z status.InputLimit limit all left a b r r' q q' ends fault within no_read no_say =
     absurd (over all within ends) where
-      over : (all : Option (List ℕ)) → IsWithinLimit limit all → SaidToLimit limit all left a b → ⊥
+      over : (all : Option (List ℕ)) → IsWithinLimit limit all → SaidToLimit z limit all left a b → ⊥
       over None within past = within
       over (Some bytes) within past = omega (arith, within, past.0)

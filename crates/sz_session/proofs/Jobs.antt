@@ -8,7 +8,7 @@ use Rattle.std.specs.Option.{option_map_or}
 use Rattle.std.proofs.Common.{true≢false}
 use Rattle.sz_outside.specs.Outside.{Rose, Stood}
 use Rattle.sz_outside.specs.declared.stations.Station.{Ghosts}
-use Rattle.sz_session.specs.Serving.{is_served, is_play, is_init, is_load, are_for, load_line, IfLoad}
+use Rattle.sz_session.specs.Serving.{nothing_held, is_served, is_play, is_init, is_load, are_for, load_line, IfLoad}
 use Rattle.sz_session.specs.Disks.{DiskStays}
 use Rattle.sz_session.specs.Statuses.{words_status, is_of_disk, Ends, EndsLoad, EndsInit, AreCounted}
 use Rattle.sz_session.specs.declared.serving.Status.{Status}
@@ -85,11 +85,11 @@ usage-not_disk s usage is = true≢false (sym is ∙ ap is_of_disk usage)
 
 -- Usage comes for a mode that is to come alone
 pub usage-refused : {X : Type 0} (T : Ghosts X) (x y : X) (m : JobMode) (s : Status) (line : List ℕ) (limit : ℕ)
-    (all left a b : Option (List ℕ)) → (is_play m ≡ true → Ends s limit all left a b)
+    (all left a b : Option (List ℕ)) → (is_play m ≡ true → Ends nothing_held s limit all left a b)
     → (is_load m ≡ true → EndsLoad s line a b) → (is_init m ≡ true → EndsInit T s x y)
     → s ≡ status.Usage → is_served m ≡ false
 usage-refused {X} T x y mode.Play s line limit all left a b play load init is =
-    absurd (ends-with s status.Usage limit all left a b (play refl) is)
+    absurd (ends-with nothing_held s status.Usage limit all left a b (play refl) is)
 usage-refused {X} T x y mode.Init s line limit all left a b play load init is =
     absurd (init-ends_with T s status.Usage x y (init refl) is)
 usage-refused {X} T x y mode.Run s line limit all left a b play load init is = refl

@@ -21,5 +21,10 @@ pub mod Moments
 pub mod Loads
 pub mod Makings
 pub mod Jobs
+pub mod Plain
 mod RowsServing
 mod SessionRows
+pub mod States
+pub mod Stays
+pub mod Recalled
+pub mod Sought

@@ -6,10 +6,9 @@ use Rattle.std.proofs.Common.{◌≡◌, ℕ, List, [], ◌++◌, Some, refl, sy
 use Rattle.std.specs.Prelude.{Option, ◌⊎◌}
 use Rattle.std.proofs.lemmas.Option.{same_Some}
 use Rattle.sz_outside.specs.Outside.{Says, Rose}
-use Rattle.sz_catalogue.specs.Holdings.{no_holdings}
 use Rattle.sz_session.specs.Transcript.{transcript}
 use Rattle.sz_session.specs.Moments.{Moment, moment_before, told_in, moment_after, told_at_end}
-use Rattle.sz_session.specs.Serving.{Advances}
+use Rattle.sz_session.specs.Serving.{nothing_held, Advances}
 use Rattle.sz_session.specs.Statuses.{EndsLoad, AreCounted}
 use Rattle.sz_session.specs.declared.serving.Status.{Status}
 use Rattle.sz_session.specs.declared.serving.Status.TheVariants as status
@@ -18,16 +17,16 @@ use Rattle.sz_session.proofs.Turns.{says-then}
 
 -- before the first byte
 abbrev start : Moment
-start = moment_before no_holdings
+start = moment_before nothing_held
 
 -- a text that was taken in and ended told its transcript
 pub whole-said : (text : List ℕ) (a b c : Option (List ℕ)) (first m : Moment) → first ≡ start
-    → Advances a b first m text → Says b c (told_at_end m) → Says a c (transcript no_holdings text)
+    → Advances a b first m text → Says b c (told_at_end m) → Says a c (transcript nothing_held text)
 whole-said text a b c first m is took end =
     let here : Advances a b start m text = subst (λ (x : Moment). Advances a b x m text) is took in
-    let told : told_in start text ++ told_at_end m ≡ transcript no_holdings text =
+    let told : told_in start text ++ told_at_end m ≡ transcript nothing_held text =
     ap (λ (xs : List ℕ). told_in start text ++ xs) (told_at_end-alike m (moment_after start text) here.alike)
-    ∙ sym (transcript-told no_holdings text) in
+    ∙ sym (transcript-told nothing_held text) in
     subst (λ (xs : List ℕ). Says a c xs) told
     (says-then a b c (told_in start text) (told_at_end m) here.says end)
 

@@ -5,9 +5,8 @@ use Rattle.std.specs.Str.{is_utf8, chars}
 use Rattle.std.proofs.Common.{refl, arith}
 use Rattle.serde_json.proofs.OnLiterals.{serde_json_on_literals}
 use Rattle.sz_session.specs.Lines.{cut}
-use Rattle.sz_catalogue.specs.Holdings.{no_holdings}
 use Rattle.sz_session.specs.Moments.{Moment, moment_before, told_in, moment_after, told_at_end}
-use Rattle.sz_session.specs.Serving.{Done, SaidOfRead, SaidToLimit, SaidInPart, SaidInLines, IsWithinLimit}
+use Rattle.sz_session.specs.Serving.{nothing_held, Done, SaidOfRead, SaidToLimit, SaidInPart, SaidInLines, IsWithinLimit}
 use Rattle.sz_session.specs.Serving.{IsPastLimit}
 use Rattle.sz_log.specs.Log.{empty_log, header}
 use Rattle.sz_log.specs.declared.LogFault.{LogFault}
@@ -28,7 +27,7 @@ cut-all = refl
 -- ---- in the third line, of which one byte was read
 
 abbrev middle : Moment
-middle = record { held = no_holdings; pending = codes "{"; number = 3 }
+middle = record { held = nothing_held; pending = codes "{"; number = 3; end = None }
 
 told-none : told_in middle (codes "{") ≡ []
 told-none = refl
@@ -39,7 +38,7 @@ unfolding serde_json_on_literals is_utf8 chars digits
 told-two = refl
 
 after-two : moment_after middle (codes "x" ++ 10 ∷ codes "{" ++ 10 ∷ codes "y")
-    ≡ record { held = no_holdings; pending = codes "y"; number = 5 }
+    ≡ record { held = nothing_held; pending = codes "y"; number = 5; end = None }
 unfolding serde_json_on_literals is_utf8 chars
 after-two = refl
 
@@ -47,7 +46,7 @@ end-open : told_at_end middle ≡ codes "3 refused 1" ++ 10 ∷ []
 unfolding serde_json_on_literals is_utf8 chars digits
 end-open = refl
 
-end-none : told_at_end (moment_before no_holdings) ≡ []
+end-none : told_at_end (moment_before nothing_held) ≡ []
 end-none = refl
 
 -- ---- endings of a session of three lines that are no JSON, the last of which does not end
@@ -64,38 +63,38 @@ two = one ++ codes "2 refused 1" ++ 10 ∷ []
 abbrev three : List ℕ
 three = two ++ codes "3 refused 1" ++ 10 ∷ []
 
-ends-done : Done 5 (Some text) (Some []) (Some (codes "x")) (Some (codes "x" ++ three))
+ends-done : Done nothing_held 5 (Some text) (Some []) (Some (codes "x")) (Some (codes "x" ++ three))
 unfolding serde_json_on_literals is_utf8 chars digits
 ends-done = (refl, omega arith, refl)
 
-ends-not_done : (left said said' : Option (List ℕ)) → Done 4 (Some text) left said said' → ⊥
+ends-not_done : (left said said' : Option (List ℕ)) → Done nothing_held 4 (Some text) left said said' → ⊥
 ends-not_done left said said' h = omega (arith, h.1)
 
 -- after four bytes two lines have ended
-ends-read_fault : SaidOfRead (Some text) (Some (codes "{")) (Some []) (Some two)
+ends-read_fault : SaidOfRead nothing_held (Some text) (Some (codes "{")) (Some []) (Some two)
 unfolding serde_json_on_literals is_utf8 chars digits
 ends-read_fault = (4, omega arith, refl, refl)
 
 -- of all five bytes too, and the third line has no reply
-ends-read_fault_last : SaidOfRead (Some text) (Some []) (Some []) (Some two)
+ends-read_fault_last : SaidOfRead nothing_held (Some text) (Some []) (Some []) (Some two)
 unfolding serde_json_on_literals is_utf8 chars digits
 ends-read_fault_last = (5, omega arith, refl, refl)
 
 -- a limit of three bytes: the fourth is read, and the second line has no reply
-ends-limit : SaidToLimit 3 (Some text) (Some (codes "{")) (Some []) (Some one)
+ends-limit : SaidToLimit nothing_held 3 (Some text) (Some (codes "{")) (Some []) (Some one)
 unfolding serde_json_on_literals is_utf8 chars digits
 ends-limit = (omega arith, refl, refl)
 
-ends-not_limit : (left said said' : Option (List ℕ)) → SaidToLimit 5 (Some text) left said said' → ⊥
+ends-not_limit : (left said said' : Option (List ℕ)) → SaidToLimit nothing_held 5 (Some text) left said said' → ⊥
 ends-not_limit left said said' h = omega (arith, h.0)
 
 -- a part of a reply
-ends-say_fault : SaidInPart (Some text) (Some []) (Some (one ++ codes "2 re"))
+ends-say_fault : SaidInPart nothing_held (Some text) (Some []) (Some (one ++ codes "2 re"))
 unfolding serde_json_on_literals is_utf8 chars digits
 ends-say_fault = (16, omega arith, refl)
 
 -- whole replies alone
-ends-no_memory : SaidInLines (Some text) (Some []) (Some two)
+ends-no_memory : SaidInLines nothing_held (Some text) (Some []) (Some two)
 unfolding serde_json_on_literals is_utf8 chars digits
 ends-no_memory = record { many = 2; within = omega arith; says = refl }
 

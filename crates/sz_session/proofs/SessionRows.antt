@@ -5,7 +5,7 @@ use Rattle.std.specs.Fmt.{digits}
 use Rattle.std.specs.Str.{is_utf8, chars}
 use Rattle.std.proofs.Common.{refl}
 use Rattle.serde_json.proofs.OnLiterals.{serde_json_on_literals}
-use Rattle.sz_catalogue.specs.Holdings.{no_holdings}
+use Rattle.sz_session.specs.Serving.{nothing_held}
 use Rattle.sz_session.specs.Lines.{lines_of, is_blank}
 use Rattle.sz_session.specs.Transcript.{transcript}
 
@@ -36,19 +36,19 @@ blank-other = refl
 blank-each : filter (λ b. is_blank (b ∷ [])) (range_with_len 0 256) ≡ 9 ∷ 13 ∷ 32 ∷ []
 blank-each = refl
 
-blank-output : transcript no_holdings (32 ∷ 10 ∷ 13 ∷ 10 ∷ []) ≡ []
+blank-output : transcript nothing_held (32 ∷ 10 ∷ 13 ∷ 10 ∷ []) ≡ []
 blank-output = refl
 
 -- ---- no JSON, blank lines, and a last line without a newline
 
-some-refused : transcript no_holdings (codes "{\"array\":" ++ 10 ∷ codes "   " ++ 10 ∷ codes "{\"await\":9}")
+some-refused : transcript nothing_held (codes "{\"array\":" ++ 10 ∷ codes "   " ++ 10 ∷ codes "{\"await\":9}")
     ≡ codes "1 refused 1" ++ 10 ∷ codes "3 refused 15" ++ 10 ∷ []
 unfolding serde_json_on_literals is_utf8 chars digits
 some-refused = refl
 
 -- ---- the smallest session, with a blank line
 
-whole-session : transcript no_holdings (codes "{\"array\":\"a\",\"cells\":[[5]]}"
+whole-session : transcript nothing_held (codes "{\"array\":\"a\",\"cells\":[[5]]}"
     ++ 10 ∷ codes "{\"flow\":\"f\",\"inputs\":1,\"nodes\":[{\"op\":\"neg\",\"from\":[{\"i\":0}]}]}"
     ++ 10 ∷ codes "{\"start\":\"f\",\"base\":[[\"a\",1]]}" ++ 10 ∷ codes "{\"await\":1}"
     ++ 10 ∷ 10 ∷ codes "{\"ask\":1,\"dir\":\"back\",\"path\":[[0,0]],\"cells\":[[0,0]]}"

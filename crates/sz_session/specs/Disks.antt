@@ -5,6 +5,7 @@ use Rattle.sz_outside.specs.Outside.{Stood, SaysPart}
 use Rattle.sz_outside.specs.Disk.{Told, Passes, Same}
 use Rattle.sz_outside.specs.declared.stations.Station.{Ghosts}
 use Rattle.sz_log.specs.Steps.{MakesIfFree}
+use Rattle.sz_session.specs.States.{State}
 use Rattle.sz_session.specs.Serving.{SaidInPart}
 use Rattle.sz_session.specs.Making.{ready_line}
 
@@ -36,8 +37,8 @@ OnlySays T bytes old new =
     StaysFinding T (λ found. SaysPart (T.said old) (Some found) bytes) old new
 
 -- A first part of the transcript of a source's bytes was found said.
-abbrev pub FoundInPart : Option (List ℕ) → Option (List ℕ) → List ℕ → Type 0
-FoundInPart left said_before found = SaidInPart left said_before (Some found)
+abbrev pub FoundInPart : State → Option (List ℕ) → Option (List ℕ) → List ℕ → Type 0
+FoundInPart c left said_before found = SaidInPart c left said_before (Some found)
 
 -- At each moment a stop leaves of an image itself, or, where nothing keeps it from being made a
 -- log, at most 17 bytes that are no log, or the empty log; and a first part of the line that a log

@@ -15,3 +15,9 @@ pub mod Asks
 pub mod Given
 pub mod Waiting
 pub mod Laws
+pub mod Recalled
+pub mod Recalls
+pub mod States
+pub mod Inquiries
+pub mod Carries
+pub mod Plain

@@ -6,7 +6,8 @@ use Rattle.std.specs.List.{filter}
 use Rattle.std.specs.Option.{option_map_or}
 use Rattle.sz_outside.specs.Outside.{Says, SaysPart}
 use Rattle.sz_catalogue.specs.declared.reply.Reply.{Reply}
-use Rattle.sz_catalogue.specs.Holdings.{Holdings, no_holdings}
+use Rattle.sz_catalogue.specs.Holdings.{no_holdings}
+use Rattle.sz_session.specs.States.{State, state_of}
 use Rattle.sz_catalogue.specs.Responses.{reply_line}
 use Rattle.sz_catalogue.specs.Seen.{response_of}
 use Rattle.sz_session.specs.Lines.{lines_of}
@@ -76,7 +77,7 @@ lines_in bytes = length (filter (λ b. b == 10) bytes)
 -- lines is that of its replies, and its digest is that of all of them.
 abbrev pub load_line : Job → List ℕ
 load_line job =
-    let replies = transcript no_holdings (load_text job.seed job.side) in
+    let replies = transcript (state_of no_holdings) (load_text job.seed job.side) in
     summary_line job.seed job.side (lines_in replies) replies
 
 -- Where the words ask for the generated session, its line is such a one.
@@ -86,48 +87,52 @@ IfLoad (Some job) IsSuch = is_load job.mode ≡ true → IsSuch (load_line job)
 
 -- ---- how a session ends
 
+-- what is held where nothing is
+abbrev pub nothing_held : State
+nothing_held = state_of no_holdings
+
 -- The source was read to its end, its bytes are no more than a session may have, and what was said
--- is their transcript.
-abbrev pub Done : ℕ → Option (List ℕ) → Option (List ℕ) → Option (List ℕ) → Option (List ℕ) → Type 0
-Done limit None left said_before said = ⊤
-Done limit (Some bytes) left said_before said =
-    (left ≡ Some []) × (length bytes ≤ limit) × Says said_before said (transcript no_holdings bytes)
+-- is their transcript from what was held.
+abbrev pub Done : State → ℕ → Option (List ℕ) → Option (List ℕ) → Option (List ℕ)
+    → Option (List ℕ) → Type 0
+Done c limit None left said_before said = ⊤
+Done c limit (Some bytes) left said_before said =
+    (left ≡ Some []) × (length bytes ≤ limit) × Says said_before said (transcript c bytes)
 
 -- So many bytes were read, the others are left, and what was said is the replies of the whole lines
 -- that were read.
-abbrev pub SaidOfRead : Option (List ℕ) → Option (List ℕ) → Option (List ℕ) → Option (List ℕ)
-    → Type 0
-SaidOfRead None left said_before said = ⊤
-SaidOfRead (Some bytes) left said_before said = (n : ℕ) × (n ≤ length bytes)
+abbrev pub SaidOfRead : State → Option (List ℕ) → Option (List ℕ) → Option (List ℕ)
+    → Option (List ℕ) → Type 0
+SaidOfRead c None left said_before said = ⊤
+SaidOfRead c (Some bytes) left said_before said = (n : ℕ) × (n ≤ length bytes)
     × (left ≡ Some (drop n bytes))
-    × Says said_before said (whole_replies no_holdings (take n bytes))
+    × Says said_before said (whole_replies c (take n bytes))
 
 -- The source had more bytes than a session may have: those and one more were read, and what was
 -- said is the replies of the whole lines among those.
-abbrev pub SaidToLimit : ℕ → Option (List ℕ) → Option (List ℕ) → Option (List ℕ) → Option (List ℕ)
+abbrev pub SaidToLimit : State → ℕ → Option (List ℕ) → Option (List ℕ) → Option (List ℕ) → Option (List ℕ)
     → Type 0
-SaidToLimit limit None left said_before said = ⊤
-SaidToLimit limit (Some bytes) left said_before said = (limit < length bytes)
+SaidToLimit c limit None left said_before said = ⊤
+SaidToLimit c limit (Some bytes) left said_before said = (limit < length bytes)
     × (left ≡ Some (drop (limit + 1) bytes))
-    × Says said_before said (whole_replies no_holdings (take limit bytes))
+    × Says said_before said (whole_replies c (take limit bytes))
 
 -- What was said is a first part of the bytes of the transcript.
-abbrev pub SaidInPart : Option (List ℕ) → Option (List ℕ) → Option (List ℕ) → Type 0
-SaidInPart None said_before said = ⊤
-SaidInPart (Some bytes) said_before said = SaysPart said_before said (transcript no_holdings bytes)
+abbrev pub SaidInPart : State → Option (List ℕ) → Option (List ℕ) → Option (List ℕ) → Type 0
+SaidInPart c None said_before said = ⊤
+SaidInPart c (Some bytes) said_before said = SaysPart said_before said (transcript c bytes)
 
 -- What was said is the replies of the first so many of these lines, all of each reply.
-pub record SaysFirst (said_before said : Option (List ℕ)) (c : Holdings) (n : ℕ)
+pub record SaysFirst (said_before said : Option (List ℕ)) (c : State) (n : ℕ)
     (lines : List (List ℕ)) : Type 0 where
   pub many : ℕ
   pub within : many ≤ length lines
   pub says : Says said_before said (replies_to c n (take many lines))
 
 -- What was said is the first so many of the reply lines of the transcript, whole.
-abbrev pub SaidInLines : Option (List ℕ) → Option (List ℕ) → Option (List ℕ) → Type 0
-SaidInLines None said_before said = ⊤
-SaidInLines (Some bytes) said_before said =
-    SaysFirst said_before said no_holdings 1 (lines_of bytes)
+abbrev pub SaidInLines : State → Option (List ℕ) → Option (List ℕ) → Option (List ℕ) → Type 0
+SaidInLines c None said_before said = ⊤
+SaidInLines c (Some bytes) said_before said = SaysFirst said_before said c 1 (lines_of bytes)
 
 -- The source's bytes are told, and are no more than a session may have.
 abbrev pub IsWithinLimit : ℕ → Option (List ℕ) → Type 0
@@ -141,25 +146,26 @@ IsPastLimit limit (Some bytes) = limit < length bytes
 
 -- ---- between two reads
 
--- what source and station told as the session began
+-- what was held, and what source and station told, as the session began
 pub record Opening : Type 0 where
+  pub held : State
   pub left : Option (List ℕ)
   pub said : Option (List ℕ)
 
 -- So many bytes were read. What was said is the replies of all whole lines among them, and what is
 -- held is like the moment after them.
-pub record HasAnswered (bytes : List ℕ) (left said_before said : Option (List ℕ)) (now : Moment)
+pub record HasAnswered (c : State) (bytes : List ℕ) (left said_before said : Option (List ℕ)) (now : Moment)
     (count : ℕ) : Type 0 where
   pub within : count ≤ length bytes
   pub is_left : left ≡ Some (drop count bytes)
-  pub says : Says said_before said (whole_replies no_holdings (take count bytes))
-  pub alike : AreAlike now (moment_after (moment_before no_holdings) (take count bytes))
+  pub says : Says said_before said (whole_replies c (take count bytes))
+  pub alike : AreAlike now (moment_after (moment_before c) (take count bytes))
 
-abbrev pub Answered : Option (List ℕ) → Option (List ℕ) → Option (List ℕ) → Option (List ℕ) → Moment
-    → ℕ → Type 0
-Answered None left said_before said now count = ⊤
-Answered (Some bytes) left said_before said now count =
-    HasAnswered bytes left said_before said now count
+abbrev pub Answered : State → Option (List ℕ) → Option (List ℕ) → Option (List ℕ)
+    → Option (List ℕ) → Moment → ℕ → Type 0
+Answered c None left said_before said now count = ⊤
+Answered c (Some bytes) left said_before said now count =
+    HasAnswered c bytes left said_before said now count
 
 -- So many are all of the source's bytes.
 abbrev pub AreAll : Option (List ℕ) → ℕ → Type 0

@@ -4,6 +4,7 @@ use Rattle.sz_outside.specs.Outside.{Rose, Stood, Says, SaysPart}
 use Rattle.sz_outside.specs.declared.stations.Station.{Ghosts}
 use Rattle.sz_log.specs.declared.LogFault.{LogFault}
 use Rattle.sz_log.specs.declared.LogFault.TheVariants as log
+use Rattle.sz_session.specs.States.{State}
 use Rattle.sz_session.specs.Serving.{Done, SaidOfRead, SaidInPart, SaidInLines, SaidToLimit}
 use Rattle.sz_session.specs.Making.{ready_line, HasMade, IsSpared, IsSilent}
 use Rattle.sz_session.specs.declared.feed.Halt.{Halt}
@@ -40,18 +41,20 @@ is_of_disk status.AlreadyALog = true
 is_of_disk _ = false
 
 -- What was read and said by then, for each status that a session of lines ends with.
-abbrev pub Ends : Status → ℕ → Option (List ℕ) → Option (List ℕ) → Option (List ℕ) → Option (List ℕ)
+abbrev pub Ends : State → Status → ℕ → Option (List ℕ) → Option (List ℕ) → Option (List ℕ) → Option (List ℕ)
     → Type 0
-Ends status.Done limit before left said_before said = Done limit before left said_before said
-Ends status.Usage limit before left said_before said = ⊥
-Ends status.ReadFault limit before left said_before said = SaidOfRead before left said_before said
-Ends status.SayFault limit before left said_before said = SaidInPart before said_before said
-Ends status.DiskFault limit before left said_before said = ⊥
-Ends status.NotALog limit before left said_before said = ⊥
-Ends status.AlreadyALog limit before left said_before said = ⊥
-Ends status.NoMemory limit before left said_before said = SaidInLines before said_before said
-Ends status.InputLimit limit before left said_before said =
-    SaidToLimit limit before left said_before said
+Ends c status.Done limit before left said_before said = Done c limit before left said_before said
+Ends c status.Usage limit before left said_before said = ⊥
+Ends c status.ReadFault limit before left said_before said =
+    SaidOfRead c before left said_before said
+Ends c status.SayFault limit before left said_before said = SaidInPart c before said_before said
+Ends c status.DiskFault limit before left said_before said = ⊥
+Ends c status.NotALog limit before left said_before said = ⊥
+Ends c status.AlreadyALog limit before left said_before said = ⊥
+Ends c status.NoMemory limit before left said_before said =
+    SaidInLines c before said_before said
+Ends c status.InputLimit limit before left said_before said =
+    SaidToLimit c limit before left said_before said
 
 -- What the counts of faults tell of a status: where the session is done none of them rose, and a
 -- status that is a fault's comes only where that count rose.

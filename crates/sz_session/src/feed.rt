@@ -12,9 +12,8 @@ ghost use Rattle.std.specs.List.{AllByRecursion};
 ghost use Rattle.sz_outside.specs.Outside.{Rose, Stood, Says, SaysPart};
 ghost use Rattle.sz_session.specs.Lines.{is_blank, is_within_line};
 ghost use Rattle.sz_script.specs.Right.{is_right};
-ghost use Rattle.sz_catalogue.specs.Holdings.{no_holdings};
 ghost use Rattle.sz_session.specs.Moments.{moment_before, cut_after, told_in, told_at_end, Alike};
-ghost use Rattle.sz_session.specs.Serving.{Advances, SaysFirst, line_to_say};
+ghost use Rattle.sz_session.specs.Serving.{Advances, SaysFirst, line_to_say, nothing_held};
 ghost use Rattle.sz_session.specs.Asks.{IsAskLine, asks_text};
 ghost use Rattle.sz_session.specs.Given.{Gives, IsRight};
 ghost use Rattle.sz_session.specs.Waiting.{Lags, SaysBy, told_text};
@@ -44,14 +43,16 @@ pub struct Feed {
 }
 
 impl Model for Feed {
+    ghost use Rattle.sz_session.specs.States.{apart};
     ghost use Rattle.sz_session.specs.Moments.{Moment};
 
     ghost Value = { Moment };
 
     ghost view = { λ f. record {
-      held = f.session;
+      held = apart f.session;
       pending = f.pending.items;
       number = f.number;
+      end = f.session.end;
     } };
 }
 
@@ -101,7 +102,7 @@ impl Feed {
     pub fn new(alloc: Global, workers: u32, askers: u32) -> Result<Feed, NoMemory>
         requires workers { (1 ≤ workers) × (workers ≤ 64) }
         requires askers { (1 ≤ askers) × (askers ≤ 64) }
-        ensures { IfOk result (λ f. f ≡ moment_before no_holdings) }
+        ensures { IfOk result (λ f. f ≡ moment_before nothing_held) }
     {
         let session = Session::fresh(alloc, workers, askers)?;
         Ok(Feed {
@@ -244,7 +245,7 @@ impl Feed {
         let mut tally = Tally::new();
         let reply = self
             .session
-            .take_given(rt, given, self.number, gate, &mut tally)?;
+            .take_apart(rt, given, self.number, gate, &mut tally)?;
         say(self.alloc, self.number, reply, station)?;
         self.next_line();
         Ok(())

@@ -17,6 +17,7 @@ ghost use Rattle.sz_session.specs.Stores.{IsTrailOf, IsOwn, keeping_of};
 ghost use Rattle.sz_session.specs.Views.{view_by, view_kept, IsViewOf, are_there, split_off};
 ghost use Rattle.sz_session.specs.Searches.{IsSearchOf};
 
+use crate::carry::Carry;
 use crate::inquiry::Inquiry;
 use crate::runs::{NodeStores, VersionRun};
 use std::alloc::Global;
@@ -34,7 +35,7 @@ use sz_spec::{Array, ArrayList, Dir, Strategy, way};
 /// which the run is lent.
 pub(crate) fn inquiry_along(
     alloc: Global,
-    version: &HeldVersion<VersionRun>,
+    version: &HeldVersion<Carry>,
     run: &mut VersionRun,
     dir: Dir,
     path: &Path,
@@ -62,7 +63,7 @@ pub(crate) fn inquiry_along(
 }
 
 /// The shape in which a step starts: backward, of its node's output; forward, of its input.
-fn start_of(_version: &HeldVersion<VersionRun>, run: &VersionRun, dir: Dir, step: PathStep) -> Shape
+fn start_of(_version: &HeldVersion<Carry>, run: &VersionRun, dir: Dir, step: PathStep) -> Shape
     requires sound { IsSoundVersion _version.now }
     requires run { IsTrailOf _version.now run.now }
     requires there { is_there (source_of _version.now.flow step) ≡ true }
@@ -76,7 +77,11 @@ fn start_of(_version: &HeldVersion<VersionRun>, run: &VersionRun, dir: Dir, step
 }
 
 /// The cells of a shape that are named.
-fn cells_at(alloc: Global, shape: Shape, named: &[NamedCell]) -> Result<CellSet, NoMemory>
+pub(crate) fn cells_at(
+    alloc: Global,
+    shape: Shape,
+    named: &[NamedCell],
+) -> Result<CellSet, NoMemory>
     requires { list_all (has_named_cell shape) named.now ≡ true }
     ensures { IfOk result (λ s. s ≡ named_in shape (map (cell_named shape) named.now)) }
 {
@@ -101,7 +106,7 @@ fn cell_at(shape: Shape, named: NamedCell) -> Cell
 }
 
 /// The number of each step's input.
-fn inputs_of(alloc: Global, path: &[PathStep]) -> Result<Vec<u32>, NoMemory>
+pub(crate) fn inputs_of(alloc: Global, path: &[PathStep]) -> Result<Vec<u32>, NoMemory>
     ensures { IfOk result (λ v. v.items ≡ map (λ s. s.input) path.now) }
 {
     let mut inputs = Vec::with_capacity(alloc, path.len())?;
@@ -114,7 +119,7 @@ fn inputs_of(alloc: Global, path: &[PathStep]) -> Result<Vec<u32>, NoMemory>
 /// The view of each step's node.
 fn views_of(
     alloc: Global,
-    version: &HeldVersion<VersionRun>,
+    version: &HeldVersion<Carry>,
     run: &mut VersionRun,
     dir: Dir,
     path: &[PathStep],
@@ -138,7 +143,7 @@ fn views_of(
 /// The view of a step's node, for the way of the step.
 fn view_at(
     alloc: Global,
-    version: &HeldVersion<VersionRun>,
+    version: &HeldVersion<Carry>,
     run: &mut VersionRun,
     dir: Dir,
     step: PathStep,
@@ -230,7 +235,7 @@ fn growing_view(
 }
 
 /// The view by the mapping of cells.
-fn map_view(run: &NodeRun) -> Result<NodeView, NoMemory>
+pub(crate) fn map_view(run: &NodeRun) -> Result<NodeView, NoMemory>
     ensures { IfOk result (λ w. view_of w ≡ by_map (execution_of run.now).site) }
 {
     let at = Arc::try_clone(&run.at)?;
@@ -238,7 +243,7 @@ fn map_view(run: &NodeRun) -> Result<NodeView, NoMemory>
 }
 
 /// The view by a trace over the arrays that the node took.
-fn trace_view(alloc: Global, run: &NodeRun) -> Result<NodeView, NoMemory>
+pub(crate) fn trace_view(alloc: Global, run: &NodeRun) -> Result<NodeView, NoMemory>
     ensures { IfOk result (λ w. view_of w
         ≡ by_trace (execution_of run.now).site (execution_of run.now).inputs) }
 {

@@ -8,6 +8,7 @@ ghost use Rattle.sz_session.specs.Laws.{MomentsGoByParts, WholeLinesAreTold, Tra
 ghost use Rattle.sz_session.specs.Laws.{AlikeTellTheSame, AlikeStayAlike, AlikeEndTheSame};
 ghost use Rattle.sz_session.specs.Laws.{FirstRepliesAreAPart, RepliesGoOn, TranscriptsGoOn};
 ghost use Rattle.sz_session.specs.Laws.{BlankLinesAreCounted, OtherLinesHaveOneReply};
+ghost use Rattle.sz_session.specs.Laws.{SessionsOfNoLogArePlain};
 
 /// The lines of a text are the bytes between its newlines, and those behind the last one where
 /// there are any.
@@ -55,4 +56,10 @@ pub fn sessions_go_on()
 pub fn each_line_has_one_reply_unless_blank()
     ensures blank { BlankLinesAreCounted }
     ensures other { OtherLinesHaveOneReply }
+{}
+
+/// A session of no log goes by the catalogue alone: its transcript is `plain_transcript` of
+/// `specs/Plain`, in whose definitions no store stands.
+pub fn sessions_of_no_log_are_plain()
+    ensures { SessionsOfNoLogArePlain }
 {}

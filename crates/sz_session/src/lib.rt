@@ -39,6 +39,14 @@
 //! along its path (`finding`), or shown. `staff` is the threads. `docs/FORMATS.md` describes lines
 //! and replies, `docs/DEFINITIONS.md` reads the definitions aloud.
 //!
+//! A log that was opened is gone on from by [`Session::of_log`]: it holds what the log holds, computes
+//! the values of its versions again, and answers of each by the stores that were read of it, whatever
+//! they stand for (`cells_recalled` of `specs/Recalled`). Where they stand for the relation that is
+//! the composed relation ([`recalling::sound_stores_answer_the_relation`]). So contracts see a session
+//! as a `State`: its catalogue, and beside it the stores that a log gave; of a session of no log the
+//! catalogue says all ([`laws::sessions_of_no_log_are_plain`]). Such a session does not write to its
+//! log yet, and no mode makes one.
+//!
 //! To whoever changes this crate: what bytes tell as they come, and the moment that they leave, are
 //! functions of `specs/Moments.antt`, and both go by parts. `feed` is at each turn *like* that
 //! moment (`AreAlike`), since it keeps less of a line past the limit; `serving` carries from turn
@@ -61,12 +69,15 @@
 mod asking;
 mod blank;
 mod building;
+mod carry;
 mod feed;
 mod finding;
 mod inquiry;
 pub mod laws;
 mod load;
 mod making;
+pub mod recalling;
+mod recalls;
 mod runs;
 mod serving;
 mod session;
@@ -75,5 +86,6 @@ mod starting;
 mod tasks;
 
 pub use asking::AskLine;
+pub use carry::Carry;
 pub use serving::{Status, serve};
 pub use session::{Session, Stop};

@@ -4,10 +4,9 @@
 //! that gathers them.
 ghost use Rattle.std.specs.Prelude.{◌≡◌, [], None, Some, ⊤, IfOk};
 ghost use Rattle.sz_outside.specs.Counts.{count_after};
-ghost use Rattle.sz_catalogue.specs.Holdings.{no_holdings};
 ghost use Rattle.sz_session.specs.Transcript.{transcript};
 ghost use Rattle.sz_session.specs.Moments.{moment_before};
-ghost use Rattle.sz_session.specs.Serving.{lines_in, load_line};
+ghost use Rattle.sz_session.specs.Serving.{lines_in, load_line, nothing_held};
 ghost use Rattle.sz_session.specs.Statuses.{EndsLoad, AreCounted};
 ghost use Rattle.sz_session.specs.Disks.{OnlySays};
 ghost use Rattle.sz_words.specs.Job.{IsInRange};
@@ -80,7 +79,7 @@ fn replies_to<G: Gate + 'static, R: Threads + Wait + Clone + Send + Sync + 'stat
     gate: &Arc<G>,
 ) -> Result<Vec<u8>, Halt>
     requires { IsInRange job }
-    ensures { IfOk result (λ replies. replies.items ≡ transcript no_holdings text.now) }
+    ensures { IfOk result (λ replies. replies.items ≡ transcript nothing_held text.now) }
 {
     let feed = Feed::new(alloc, job.workers, job.askers)?;
     let staff = Staff::of(alloc, rt, feed.session(), gate, job.workers);
@@ -97,8 +96,8 @@ fn told_by<G: Gate, R: Threads + Wait + Sync>(
     text: &[u8],
     gate: &G,
 ) -> Result<Vec<u8>, Halt>
-    requires { feed ≡ moment_before no_holdings }
-    ensures { IfOk result (λ replies. replies.items ≡ transcript no_holdings text.now) }
+    requires { feed ≡ moment_before nothing_held }
+    ensures { IfOk result (λ replies. replies.items ≡ transcript nothing_held text.now) }
 {
     let mut feed = feed;
     let mut replies = Replies::new(alloc);

@@ -7,7 +7,6 @@ ghost use Rattle.sz_session.specs.Stores.{keeping_of, settled, settled_trail};
 use std::alloc::Global;
 use std::marker::Model;
 use std::sync::Arc;
-use sz_catalogue::Carried;
 use sz_cells::NoMemory;
 use sz_flow::NodeRun;
 use sz_shelf::{Pass, Shelf};
@@ -98,11 +97,4 @@ impl VersionRun {
             stores,
         })
     }
-}
-
-/// A run belongs to the version whose executions it holds, with what is kept for its lists.
-impl Carried for VersionRun {
-    ghost use Rattle.sz_session.specs.Stores.{IsTrailOf};
-
-    ghost belongs = { λ run v. IsTrailOf v run };
 }

@@ -17,7 +17,7 @@ ghost use Rattle.sz_session.specs.Serving.{are_served, are_play, are_init, are_l
 ghost use Rattle.sz_session.specs.Serving.{load_line, IfLoad};
 ghost use Rattle.sz_session.specs.Serving.{Done, SaidOfRead, SaidToLimit, SaidInPart};
 ghost use Rattle.sz_session.specs.Serving.{SaidInLines, IsPastLimit, IsWithinLimit, Opening};
-ghost use Rattle.sz_session.specs.Serving.{Answered, AreAll};
+ghost use Rattle.sz_session.specs.Serving.{Answered, AreAll, nothing_held};
 ghost use Rattle.sz_session.specs.Making.{ready_line, IsFree, IfBarred, HasMade, IsSpared};
 ghost use Rattle.sz_session.specs.Making.{IsSilent};
 ghost use Rattle.sz_session.specs.Disks.{DiskStays, StaysFinding, OnlySays, FoundInPart};
@@ -118,7 +118,7 @@ pub fn serve<
     R: Threads + Wait + Clone + Send + Sync + 'static,
 >(rt: &R, alloc: Global, words: &[String], source: &mut S, station: &mut T, gate: &Arc<G>) -> Status
     ensures done { are_play (map string_bytes words.now) ≡ true → result ≡ Status.Done
-        → Done (2 ^ 62) (S.left source.old) (S.left source.new)
+        → Done nothing_held (2 ^ 62) (S.left source.old) (S.left source.new)
         (T.said station.old) (T.said station.new) }
     ensures usage { result ≡ Status.Usage → are_served (map string_bytes words.now) ≡ false }
     ensures refused { are_served (map string_bytes words.now) ≡ false
@@ -138,16 +138,16 @@ pub fn serve<
     ensures reads_in_play { (result ≡ Status.ReadFault) ⊎ (result ≡ Status.InputLimit)
         → are_play (map string_bytes words.now) ≡ true }
     ensures after_read_fault { result ≡ Status.ReadFault
-        → SaidOfRead (S.left source.old) (S.left source.new)
+        → SaidOfRead nothing_held (S.left source.old) (S.left source.new)
         (T.said station.old) (T.said station.new) }
     ensures after_say_fault { are_play (map string_bytes words.now) ≡ true
         → result ≡ Status.SayFault
-        → SaidInPart (S.left source.old) (T.said station.old) (T.said station.new) }
+        → SaidInPart nothing_held (S.left source.old) (T.said station.old) (T.said station.new) }
     ensures after_no_memory { are_play (map string_bytes words.now) ≡ true
         → result ≡ Status.NoMemory
-        → SaidInLines (S.left source.old) (T.said station.old) (T.said station.new) }
+        → SaidInLines nothing_held (S.left source.old) (T.said station.old) (T.said station.new) }
     ensures after_input_limit { result ≡ Status.InputLimit
-        → SaidToLimit (2 ^ 62) (S.left source.old) (S.left source.new)
+        → SaidToLimit nothing_held (2 ^ 62) (S.left source.old) (S.left source.new)
         (T.said station.old) (T.said station.new) }
     ensures completes { are_play (map string_bytes words.now) ≡ true
         → IsWithinLimit (2 ^ 62) (S.left source.old)
@@ -159,7 +159,7 @@ pub fn serve<
     ensures disk { are_init (map string_bytes words.now) ≡ false
         → DiskStays T.Station station.old station.new }
     ensures found_in_play { are_play (map string_bytes words.now) ≡ true
-        → StaysFinding T.Station (FoundInPart (S.left source.old) (T.said station.old))
+        → StaysFinding T.Station (FoundInPart nothing_held (S.left source.old) (T.said station.old))
         station.old station.new }
     ensures found_in_load { IfLoad (job_of (map string_bytes words.now))
         (λ line. OnlySays T.Station line station.old station.new) }
@@ -232,7 +232,7 @@ fn run_job<
 >(rt: &R, alloc: Global, job: Job, source: &mut S, station: &mut T, gate: &Arc<G>) -> Status
     requires ranges { IsInRange job }
     ensures play { is_play job.mode ≡ true
-        → Ends result (2 ^ 62) (S.left source.old) (S.left source.new)
+        → Ends nothing_held result (2 ^ 62) (S.left source.old) (S.left source.new)
         (T.said station.old) (T.said station.new) }
     ensures play_fault { is_play job.mode ≡ true
         → AreCounted result (S.faults source.old) (S.faults source.new)
@@ -247,7 +247,7 @@ fn run_job<
         → (result ≡ Status.Usage) × (station.new ≡ station.old) }
     ensures disk { is_init job.mode ≡ false → DiskStays T.Station station.old station.new }
     ensures found_in_play { is_play job.mode ≡ true
-        → StaysFinding T.Station (FoundInPart (S.left source.old) (T.said station.old))
+        → StaysFinding T.Station (FoundInPart nothing_held (S.left source.old) (T.said station.old))
         station.old station.new }
     ensures found_in_load { is_load job.mode ≡ true
         → OnlySays T.Station (load_line job) station.old station.new }
@@ -279,11 +279,11 @@ fn play<
 ) -> Status
     requires limit { limit ≤ LIMIT }
     requires ranges { IsInRange job }
-    ensures ends { Ends result limit (S.left source.old) (S.left source.new)
+    ensures ends { Ends nothing_held result limit (S.left source.old) (S.left source.new)
         (T.said station.old) (T.said station.new) }
     ensures fault { AreCounted result (S.faults source.old) (S.faults source.new)
         (T.say_faults station.old) (T.say_faults station.new) }
-    ensures disk { StaysFinding T.Station (FoundInPart (S.left source.old) (T.said station.old))
+    ensures disk { StaysFinding T.Station (FoundInPart nothing_held (S.left source.old) (T.said station.old))
         station.old station.new }
 {
     let Ok(mut buffer) = vec![in alloc; 0u8; CHUNK] else {
@@ -312,13 +312,13 @@ fn answer_all<S: Source, T: Station, G: Gate, R: Threads + Wait + Sync>(
     requires room { length buffer.old ≡ CHUNK }
     requires limit { limit ≤ LIMIT }
     requires number { feed.number ≡ 1 }
-    requires answered { Answered opening.left (S.left source.old)
+    requires answered { Answered opening.held opening.left (S.left source.old)
         opening.said (T.said station.old) feed 0 }
-    ensures ends { Ends result limit opening.left (S.left source.new)
+    ensures ends { Ends opening.held result limit opening.left (S.left source.new)
         opening.said (T.said station.new) }
     ensures fault { AreCounted result (S.faults source.old) (S.faults source.new)
         (T.say_faults station.old) (T.say_faults station.new) }
-    ensures disk { StaysFinding T.Station (FoundInPart opening.left opening.said)
+    ensures disk { StaysFinding T.Station (FoundInPart opening.held opening.left opening.said)
         station.old station.new }
 {
     let mut feed = feed;
@@ -340,13 +340,13 @@ fn read_all<S: Source, T: Station, G: Gate, R: Threads + Wait + Sync>(
     requires room { length buffer.old ≡ CHUNK }
     requires limit { limit ≤ LIMIT }
     requires number { feed.old.number ≡ 1 }
-    requires answered { Answered opening.left (S.left source.old)
+    requires answered { Answered opening.held opening.left (S.left source.old)
         opening.said (T.said station.old) feed.old 0 }
-    ensures ends { Ends result limit opening.left (S.left source.new)
+    ensures ends { Ends opening.held result limit opening.left (S.left source.new)
         opening.said (T.said station.new) }
     ensures fault { AreCounted result (S.faults source.old) (S.faults source.new)
         (T.say_faults station.old) (T.say_faults station.new) }
-    ensures disk { StaysFinding T.Station (FoundInPart opening.left opening.said)
+    ensures disk { StaysFinding T.Station (FoundInPart opening.held opening.left opening.said)
         station.old station.new }
 {
     let mut total = 0u64;
@@ -376,21 +376,21 @@ fn take_turn<S: Source, T: Station, G: Gate, R: Threads + Wait + Sync>(
     requires limit { limit ≤ LIMIT }
     requires within { total ≤ limit }
     requires number { feed.old.number ≤ total + 1 }
-    requires answered { Answered opening.left (S.left source.old)
+    requires answered { Answered opening.held opening.left (S.left source.old)
         opening.said (T.said station.old) feed.old total }
     ensures within { IfOk result (λ count. total + count ≤ limit) }
     ensures number { IfOk result (λ count. feed.new.number ≤ total + count + 1) }
-    ensures answered { IfOk result (λ count. Answered opening.left (S.left source.new)
+    ensures answered { IfOk result (λ count. Answered opening.held opening.left (S.left source.new)
         opening.said (T.said station.new) feed.new (total + count)) }
     ensures all { result ≡ Ok 0 → AreAll opening.left total }
-    ensures ends { IfErr result (λ status. Ends status limit opening.left (S.left source.new)
+    ensures ends { IfErr result (λ status. Ends opening.held status limit opening.left (S.left source.new)
         opening.said (T.said station.new)) }
     ensures fault { IfErr result (λ status. AreCounted status
         (S.faults source.old) (S.faults source.new)
         (T.say_faults station.old) (T.say_faults station.new)) }
     ensures quiet { OnOk result (Stood (S.faults source.old) (S.faults source.new)
         × Stood (T.say_faults station.old) (T.say_faults station.new)) }
-    ensures disk { StaysFinding T.Station (FoundInPart opening.left opening.said)
+    ensures disk { StaysFinding T.Station (FoundInPart opening.held opening.left opening.said)
         station.old station.new }
 {
     let count = read_chunk(source, buffer, feed, station, total, limit)?;
@@ -414,7 +414,7 @@ fn read_chunk<S: Source, T: Station>(
     ghost opening: { Opening }
     requires room { length buffer.old ≡ CHUNK }
     requires within { total ≤ limit }
-    requires answered { Answered opening.left (S.left source.old)
+    requires answered { Answered opening.held opening.left (S.left source.old)
         opening.said (T.said _station.now) _feed.now total }
     ensures most { IfOk result (λ count. count ≤ 65536) }
     ensures within { IfOk result (λ count. total < limit → total + count ≤ limit) }

@@ -1,24 +1,31 @@
 //! A session: what is held, and what a line does to it.
 //!
-//! Contracts see a session as its `Holdings`. Each version that is held carries the runs of its
-//! nodes and their stores (`VersionRun`), so that no value is computed twice.
+//! Contracts see a session as a `State`. Each version that is started here carries the runs of its
+//! nodes and their stores (`VersionRun`), so that no value is computed twice; of each that a log gave
+//! the session has them beside the catalogue (`Recalled`).
 
 ghost use Rattle.std.specs.Prelude.{◌≡◌, ◌+◌, ◌*◌, ◌^◌, ◌<◌, ◌≤◌, true, false, None, Err, map};
-ghost use Rattle.std.specs.Prelude.{IfOk, OnOk, OnErr, length, if◌then◌else◌};
+ghost use Rattle.std.specs.Prelude.{IfOk, OnOk, OnErr, length, if◌then◌else◌, Some};
+ghost use Rattle.sz_flow.specs.Executions.{execution_of};
 ghost use Rattle.std.specs.List.{AllZip, AllByRecursion};
 ghost use Rattle.sz_script.specs.Right.{is_right};
 ghost use Rattle.sz_script.specs.declared.command.Command.TheVariants as order;
-ghost use Rattle.sz_catalogue.specs.Holdings.{no_holdings};
 ghost use Rattle.sz_catalogue.specs.Rules.{judged, version_of, has_no_version, is_not_joined};
 ghost use Rattle.sz_catalogue.specs.Rules.{is_out_of_range};
-ghost use Rattle.sz_catalogue.specs.Changes.{accepted, after_command, cells_answered, way_of};
-ghost use Rattle.sz_catalogue.specs.Changes.{traced, changes_no_version};
+ghost use Rattle.sz_catalogue.specs.Changes.{way_of, traced, changes_no_version};
+ghost use Rattle.sz_session.specs.States.{apart, accepted, after_command, cells_told};
 ghost use Rattle.sz_catalogue.specs.Seen.{response_of};
 ghost use Rattle.sz_session.specs.Commands.{Responds, traced_for_line, traced_for, traced_along};
 ghost use Rattle.sz_session.specs.Commands.{most_for_line, most_for, most_along, most_traced};
 ghost use Rattle.sz_session.specs.Stores.{IsTrailOf};
+ghost use Rattle.sz_session.specs.Carries.{IsCarryOf};
 ghost use Rattle.sz_session.specs.Views.{strategy_told};
 ghost use Rattle.sz_session.specs.Searches.{IsSearchOf};
+ghost use Rattle.sz_session.specs.Serving.{nothing_held};
+ghost use Rattle.sz_session.specs.States.{logged_of};
+ghost use Rattle.sz_session.specs.Inquiries.{IsInquiryOf};
+ghost use Rattle.sz_session.specs.Recalls.{IsRecalledIn};
+ghost use Rattle.sz_session.specs.Runs.{executions_of};
 ghost use Rattle.sz_session.specs.Asks.{is_ask, IsAskLine, IsBegun, ask_reply};
 ghost use Rattle.sz_session.specs.Asks.{traced_for_asks, most_for_asks};
 ghost use Rattle.sz_session.specs.Given.{Gives, IsRight, Takes, traced_for_given, most_for_given};
@@ -27,8 +34,11 @@ ghost use Rattle.sz_session.specs.declared.session.Given.TheVariants as given;
 use crate::asking::{AskLine, Asked, Askers, work_out};
 use crate::blank::is_blank;
 use crate::building::ended;
+use crate::carry::Carry;
 use crate::finding::inquiry_along;
 use crate::inquiry::Inquiry;
+use crate::recalling::inquiry_recalled;
+use crate::recalls::{Recalled, find, recall_each};
 use crate::runs::VersionRun;
 use crate::starting::run_version;
 use crate::tasks::Hands;
@@ -38,19 +48,25 @@ use std::sync::{Arc, Wait};
 use std::thread::Threads;
 use sz_catalogue::{Catalogue, Reply};
 use sz_cells::NoMemory;
+use sz_flow::NodeRun;
+use sz_log::LogEnd;
 use sz_outside::{Gate, Station};
 use sz_pool::{Receiver, Task, one_more, tasks};
 use sz_query::{Found, Used};
+use sz_recover::Recovered;
 use sz_script::{
     BaseList, Command, LineFault, Name, NamedCells, Path, Refusal, StrategyList, laws, read_line,
 };
 use sz_spec::{Dir, Strategy, Tally};
 
-/// A session: what is held, each version with the runs of its nodes and what is kept of them, and
-/// the channel through which tasks go to workers.
+/// A session: what is held, each version with the runs of its nodes and what is kept of them; the
+/// versions that a log gave, and where that log ends; and the channel through which tasks go to
+/// workers.
 #[derive(Drop)]
 pub struct Session {
-    catalogue: Catalogue<VersionRun>,
+    catalogue: Catalogue<Carry>,
+    recalled: Vec<Recalled>,
+    end: Option<LogEnd>,
     alloc: Global,
     hands: Hands,
     tasks: Receiver<Task>,
@@ -58,14 +74,19 @@ pub struct Session {
 }
 
 impl Model for Session {
-    ghost use Rattle.sz_catalogue.specs.Holdings.{Holdings};
-    ghost use Rattle.sz_session.specs.Runs.{AreSound};
+    ghost use Rattle.std.specs.Prelude.{map, option_map};
+    ghost use Rattle.sz_session.specs.States.{State};
+    ghost use Rattle.sz_session.specs.Recalls.{IsInService};
 
-    ghost Value = { Holdings };
+    ghost Value = { State };
 
-    ghost view = { λ s. s.catalogue };
+    ghost view = { λ s. record {
+      held = s.catalogue;
+      logged = map (λ r. r.kept) s.recalled.items;
+      end = option_map (λ e. e.at) s.end;
+    } };
 
-    ghost invariant = { λ s. AreSound s.catalogue };
+    ghost invariant = { λ s. IsInService s.catalogue s.recalled.items };
 }
 
 /// Why a command was not done.
@@ -104,11 +125,50 @@ impl Session {
     pub fn fresh(alloc: Global, workers: u32, askers: u32) -> Result<Session, NoMemory>
         requires workers { (1 ≤ workers) × (workers ≤ 64) }
         requires askers { (1 ≤ askers) × (askers ≤ 64) }
-        ensures { IfOk result (λ s. s ≡ no_holdings) }
+        ensures { IfOk result (λ s. s ≡ nothing_held) }
     {
         let (to, tasks) = tasks(alloc)?;
         Ok(Session {
             catalogue: Catalogue::new(alloc),
+            recalled: Vec::new(alloc),
+            end: None,
+            alloc,
+            hands: Hands { to, workers },
+            tasks,
+            askers: Askers::of(askers),
+        })
+    }
+
+    /// A session of a log that was opened: it holds what the log holds, and answers of each version
+    /// that the log gave by the stores that were read of it. Their values are computed again, each
+    /// once, side by side where that pays.
+    pub fn of_log<R: Threads + Sync>(
+        rt: &R,
+        alloc: Global,
+        recovered: Recovered<Carry>,
+        workers: u32,
+        askers: u32,
+    ) -> Result<Session, NoMemory>
+        requires workers { (1 ≤ workers) × (workers ≤ 64) }
+        requires askers { (1 ≤ askers) × (askers ≤ 64) }
+        ensures { IfOk result (λ s. s ≡ record {
+          held = recovered.catalogue;
+          logged = recovered.stores.items;
+          end = Some recovered.end.at;
+        }) }
+    {
+        let Recovered {
+            catalogue,
+            end,
+            stores,
+        } = recovered;
+        catalogue.is_in_order();
+        let recalled = recall_each(rt, alloc, &catalogue, stores)?;
+        let (to, tasks) = tasks(alloc)?;
+        Ok(Session {
+            catalogue,
+            recalled,
+            end: Some(end),
             alloc,
             hands: Hands { to, workers },
             tasks,
@@ -192,6 +252,24 @@ impl Session {
         }
     }
 
+    /// Does what a line gives, as `take_given` does: that is the same wherever a log ends.
+    pub(crate) fn take_apart<G: Gate, R: Threads + Wait + Sync>(
+        &mut self,
+        rt: &R,
+        given: Given,
+        number: u64,
+        gate: &G,
+        tally: &mut Tally,
+    ) -> Result<Option<Reply>, NoMemory>
+        requires right { IsRight given }
+        requires room { tally.old + 32 * 1048576 < 2 ^ 63 }
+        ensures reply { IfOk result (λ r. Takes (apart self.old) given (apart self.new) r) }
+        ensures end { OnOk result (self.new.end ≡ self.old.end) }
+        ensures kept { OnErr result (self.new ≡ self.old) }
+    {
+        self.take_given(rt, given, number, gate, tally)
+    }
+
     /// Whether asks are answered beside one another: there are several askers.
     pub(crate) fn has_askers(&self) -> bool {
         self.askers.count() > 1
@@ -257,7 +335,7 @@ impl Session {
     /// An ask that no rule refuses, looked up.
     fn open(&mut self, line: &AskLine) -> Result<Asked, NoMemory>
         requires ask { IsAskLine line.now }
-        requires judged { judged self.old line.now.ask ≡ None }
+        requires judged { judged self.old.held line.now.ask ≡ None }
         ensures begun { IfOk result (λ a. IsBegun self.old line.now a) }
         ensures same { self.new ≡ self.old }
     {
@@ -311,7 +389,7 @@ impl Session {
         tally: &mut Tally,
     ) -> Result<Reply, NoMemory>
         requires right { is_right command ≡ true }
-        requires judged { judged self.old command ≡ None }
+        requires judged { judged self.old.held command ≡ None }
         requires room { tally.old + 32 * 1048576 < 2 ^ 63 }
         ensures reply { IfOk result (λ r. accepted self.old command ≡ (self.new, response_of r)) }
         ensures least { OnOk result (tally.old + traced_along self.old command ≤ tally.new) }
@@ -351,7 +429,7 @@ impl Session {
     /// Takes a command that changes what is held and no version.
     fn accept(&mut self, command: Command) -> Result<Reply, NoMemory>
         requires right { is_right command ≡ true }
-        requires judged { judged self.old command ≡ None }
+        requires judged { judged self.old.held command ≡ None }
         requires kind { changes_no_version command ≡ true }
         ensures reply { IfOk result (λ r. accepted self.old command ≡ (self.new, response_of r)) }
         ensures kept { OnErr result (self.new ≡ self.old) }
@@ -369,7 +447,7 @@ impl Session {
         base: BaseList,
     ) -> Result<Reply, NoMemory>
         requires right { is_right (order.Start name base) ≡ true }
-        requires judged { judged self.old (order.Start name base) ≡ None }
+        requires judged { judged self.old.held (order.Start name base) ≡ None }
         ensures reply { IfOk result
             (λ r. accepted self.old (order.Start name base) ≡ (self.new, response_of r)) }
         ensures kept { OnErr result (self.new ≡ self.old) }
@@ -382,46 +460,79 @@ impl Session {
             name.as_str(),
             base.as_slice(),
         )?;
-        let reply = self.catalogue.start(name, base.as_slice(), run)?;
+        let reply = self
+            .catalogue
+            .start(name, base.as_slice(), Carry::Run(run))?;
         Ok(reply)
     }
 
     /// Awaits a version: makes what is missing of its stores, takes them off their shelves, and notes
-    /// the await.
+    /// the await. One that a log gave was awaited before, and has its stores.
     fn await_version<R: Wait>(&mut self, rt: &R, version: u32) -> Result<Reply, NoMemory>
-        requires judged { judged self.old (order.Await version) ≡ None }
+        requires judged { judged self.old.held (order.Await version) ≡ None }
         ensures reply { IfOk result
             (λ r. accepted self.old (order.Await version) ≡ (self.new, response_of r)) }
         ensures kept { OnErr result (self.new ≡ self.old) }
+    {
+        if find(&self.recalled, version).is_some() {
+            return Ok(self.note_await(version, Carry::Logged));
+        }
+        let run = self.whole_run(rt, version)?;
+        Ok(self.note_await(version, Carry::Run(run)))
+    }
+
+    /// What a version carries once it is awaited: what is missing of its stores is made, and they are
+    /// taken off their shelves. One that stands in for it is held meanwhile.
+    pub(crate) fn whole_run<R: Wait>(
+        &mut self,
+        rt: &R,
+        version: u32,
+    ) -> Result<VersionRun, NoMemory>
+        requires { has_no_version self.old.held version ≡ false }
+        ensures whole { IfOk result (λ run.
+            IsTrailOf (record (version_of self.old.held version) { awaited = true }) run) }
+        ensures same { self.new ≡ self.old }
     {
         let run = self.take_out(version)?;
         let Some(held) = self.catalogue.version(version) else {
             unreachable!()
         };
-        let run = ended(self.alloc, rt, run, held.lists.as_slice())?;
-        Ok(self.catalogue.await_version(version, run))
+        ended(self.alloc, rt, run, held.lists.as_slice())
+    }
+
+    /// Notes that a version was awaited, with what the catalogue has of it from then on.
+    pub(crate) fn note_await(&mut self, version: u32, carry: Carry) -> Reply
+        requires judged { judged self.old.held (order.Await version) ≡ None }
+        requires own { IsCarryOf (record (version_of self.old.held version) { awaited = true })
+            carry }
+        ensures { accepted self.old (order.Await version) ≡ (self.new, response_of result) }
+    {
+        self.catalogue.await_version(version, carry)
     }
 
     /// What a version carries, to be worked on. One that stands in for it is held meanwhile.
     fn take_out(&mut self, version: u32) -> Result<VersionRun, NoMemory>
-        requires { has_no_version self.old version ≡ false }
-        ensures own { IfOk result (λ run. IsTrailOf (version_of self.old version) run) }
+        requires { has_no_version self.old.held version ≡ false }
+        ensures own { IfOk result (λ run. IsTrailOf (version_of self.old.held version) run) }
         ensures same { self.new ≡ self.old }
     {
         let Some(held) = self.catalogue.version(version) else {
             unreachable!()
         };
         let other = held.kept().stand_in(self.alloc)?;
-        Ok(self.catalogue.exchange(version, other))
+        match self.catalogue.exchange(version, other) {
+            Carry::Run(run) => Ok(run),
+            Carry::Logged => Err(NoMemory), // each that a log gave is among the recalled ones
+        }
     }
 
     /// Puts back what a version carries.
     fn put_back(&mut self, version: u32, run: VersionRun)
-        requires held { has_no_version self.old version ≡ false }
-        requires own { IsTrailOf (version_of self.old version) run }
+        requires held { has_no_version self.old.held version ≡ false }
+        requires own { IsTrailOf (version_of self.old.held version) run }
         ensures { self.new ≡ self.old }
     {
-        self.catalogue.exchange(version, run);
+        self.catalogue.exchange(version, Carry::Run(run));
     }
 
     /// What is found along a path of a version, for an ask or explain that no rule refuses.
@@ -434,21 +545,21 @@ impl Session {
         named: &NamedCells,
         tally: &mut Tally,
     ) -> Result<Found, NoMemory>
-        requires version { has_no_version self.old version ≡ false }
-        requires joined { is_not_joined self.old version dir path.now ≡ false }
-        requires range { is_out_of_range self.old version dir path.now named.now ≡ false }
+        requires version { has_no_version self.old.held version ≡ false }
+        requires joined { is_not_joined self.old.held version dir path.now ≡ false }
+        requires range { is_out_of_range self.old.held version dir path.now named.now ≡ false }
         requires room { tally.old + 32 * 1048576 < 2 ^ 63 }
         ensures cells { IfOk result
-            (λ f. f.cells ≡ cells_answered (version_of self.old version) dir path.now named.now) }
-        ensures ways { (version_of self.old version).awaited ≡ true
+            (λ f. f.cells ≡ cells_told self.old version dir path.now named.now) }
+        ensures ways { (version_of self.old.held version).awaited ≡ true
             → IfOk result (λ f. map strategy_told f.used
-            ≡ map (way_of (version_of self.old version) dir) path.now) }
-        ensures traced { (version_of self.old version).awaited ≡ true
-            → IfOk result (λ f. f.traced ≡ traced (version_of self.old version) dir path.now) }
+            ≡ map (way_of (version_of self.old.held version) dir) path.now) }
+        ensures traced { (version_of self.old.held version).awaited ≡ true
+            → IfOk result (λ f. f.traced ≡ traced (version_of self.old.held version) dir path.now) }
         ensures least { OnOk result
-            (tally.old + traced (version_of self.old version) dir path.now ≤ tally.new) }
+            (tally.old + traced (version_of self.old.held version) dir path.now ≤ tally.new) }
         ensures most { OnOk result
-            (tally.new ≤ tally.old + most_traced (version_of self.old version) dir path.now) }
+            (tally.new ≤ tally.old + most_traced (version_of self.old.held version) dir path.now) }
         ensures kept { OnErr result (tally.new ≡ tally.old) }
         ensures same { self.new ≡ self.old }
     {
@@ -464,17 +575,50 @@ impl Session {
         path: &Path,
         named: &NamedCells,
     ) -> Result<Inquiry, NoMemory>
-        requires version { has_no_version self.old version ≡ false }
-        requires joined { is_not_joined self.old version dir path.now ≡ false }
-        requires range { is_out_of_range self.old version dir path.now named.now ≡ false }
+        requires version { has_no_version self.old.held version ≡ false }
+        requires joined { is_not_joined self.old.held version dir path.now ≡ false }
+        requires range { is_out_of_range self.old.held version dir path.now named.now ≡ false }
         ensures search { IfOk result
-            (λ s. IsSearchOf (version_of self.old version) dir path.now named.now s) }
+            (λ s. IsInquiryOf self.old version dir path.now named.now s) }
         ensures same { self.new ≡ self.old }
     {
+        if let Some(recalled) = find(&self.recalled, version) {
+            return self.inquiry_logged(recalled, version, dir, path, named);
+        }
         let mut run = self.take_out(version)?;
         let inquiry = self.inquiry_by(version, &mut run, dir, path, named);
         self.put_back(version, run);
         inquiry
+    }
+
+    /// What is asked along a path of a version that a log gave.
+    fn inquiry_logged(
+        &self,
+        recalled: &Recalled,
+        version: u32,
+        dir: Dir,
+        path: &Path,
+        named: &NamedCells,
+    ) -> Result<Inquiry, NoMemory>
+        requires number { recalled.now.kept.number ≡ version }
+        requires own { IsRecalledIn self.now.held recalled.now }
+        requires stores { logged_of self.now version ≡ Some recalled.now.kept.stores }
+        requires joined { is_not_joined self.now.held version dir path.now ≡ false }
+        requires range { is_out_of_range self.now.held version dir path.now named.now ≡ false }
+        ensures { IfOk result (λ s. IsInquiryOf self.now version dir path.now named.now s) }
+    {
+        let Some(held) = self.catalogue.version(version) else {
+            unreachable!()
+        };
+        inquiry_recalled(
+            self.alloc,
+            held,
+            recalled.runs(),
+            recalled.stores(),
+            dir,
+            path,
+            named,
+        )
     }
 
     /// What is asked along a path of a version, by what it carries.
@@ -486,12 +630,12 @@ impl Session {
         path: &Path,
         named: &NamedCells,
     ) -> Result<Inquiry, NoMemory>
-        requires version { has_no_version self.now version ≡ false }
-        requires own { IsTrailOf (version_of self.now version) run.old }
-        requires joined { is_not_joined self.now version dir path.now ≡ false }
-        requires range { is_out_of_range self.now version dir path.now named.now ≡ false }
+        requires version { has_no_version self.now.held version ≡ false }
+        requires own { IsTrailOf (version_of self.now.held version) run.old }
+        requires joined { is_not_joined self.now.held version dir path.now ≡ false }
+        requires range { is_out_of_range self.now.held version dir path.now named.now ≡ false }
         ensures search { IfOk result
-            (λ s. IsSearchOf (version_of self.now version) dir path.now named.now s) }
+            (λ s. IsSearchOf (version_of self.now.held version) dir path.now named.now s) }
         ensures same { run.new ≡ run.old }
     {
         let Some(held) = self.catalogue.version(version) else {
@@ -512,14 +656,14 @@ impl Session {
         gate: &G,
         tally: &mut Tally,
     ) -> Result<Reply, NoMemory>
-        requires judged { judged self.old (order.Explain version dir path.now named.now) ≡ None }
+        requires judged { judged self.old.held (order.Explain version dir path.now named.now) ≡ None }
         requires room { tally.old + 32 * 1048576 < 2 ^ 63 }
         ensures reply { IfOk result (λ r. accepted self.old
             (order.Explain version dir path.now named.now) ≡ (self.new, response_of r)) }
         ensures least { OnOk result
-            (tally.old + traced (version_of self.old version) dir path.now ≤ tally.new) }
+            (tally.old + traced (version_of self.old.held version) dir path.now ≤ tally.new) }
         ensures most { OnOk result
-            (tally.new ≤ tally.old + most_traced (version_of self.old version) dir path.now) }
+            (tally.new ≤ tally.old + most_traced (version_of self.old.held version) dir path.now) }
         ensures same { self.new ≡ self.old }
     {
         let found = self.find(rt, version, dir, path, named, tally)?;
@@ -531,16 +675,32 @@ impl Session {
         })
     }
 
-    /// The output of a node of a version, for a show that no rule refuses.
-    fn show(&self, version: u32, node: u32) -> Result<Reply, NoMemory>
-        requires { judged self.now (order.Show version node) ≡ None }
-        ensures { IfOk result
-            (λ r. accepted self.now (order.Show version node) ≡ (self.now, response_of r)) }
+    /// The runs of the nodes of a version.
+    fn runs_of(&self, version: u32) -> Result<&[NodeRun], NoMemory>
+        requires { has_no_version self.now.held version ≡ false }
+        ensures { IfOk result (λ runs. map execution_of runs.now
+            ≡ executions_of (version_of self.now.held version)) }
     {
+        if let Some(recalled) = find(&self.recalled, version) {
+            return Ok(recalled.runs());
+        }
         let Some(held) = self.catalogue.version(version) else {
             unreachable!()
         };
-        let run = &held.kept.runs()[node as usize];
+        match held.kept() {
+            Carry::Run(run) => Ok(run.runs()),
+            Carry::Logged => Err(NoMemory), // each that a log gave is among the recalled ones
+        }
+    }
+
+    /// The output of a node of a version, for a show that no rule refuses.
+    fn show(&self, version: u32, node: u32) -> Result<Reply, NoMemory>
+        requires { judged self.now.held (order.Show version node) ≡ None }
+        ensures { IfOk result
+            (λ r. accepted self.now (order.Show version node) ≡ (self.now, response_of r)) }
+    {
+        let runs = self.runs_of(version)?;
+        let run = &runs[node as usize];
         Ok(Reply::Values {
             array: Arc::try_clone(&run.out)?,
         })

@@ -11,6 +11,7 @@ ghost use Rattle.sz_catalogue.specs.Kept.{IsWorkflow};
 ghost use Rattle.sz_session.specs.Stores.{IsTrailOf};
 
 use crate::building::begun;
+use crate::carry::Carry;
 use crate::runs::VersionRun;
 use crate::tasks::Hands;
 use std::alloc::Global;
@@ -27,7 +28,7 @@ use sz_spec::Array;
 pub(crate) fn run_version<R: Threads + Wait + Sync>(
     rt: &R,
     alloc: Global,
-    catalogue: &Catalogue<VersionRun>,
+    catalogue: &Catalogue<Carry>,
     hands: &Hands,
     name: &str,
     base: &[BaseName],
@@ -55,7 +56,7 @@ pub(crate) fn run_version<R: Threads + Wait + Sync>(
 /// The base arrays of these names and versions, all of which are held.
 fn arrays_named(
     alloc: Global,
-    catalogue: &Catalogue<VersionRun>,
+    catalogue: &Catalogue<Carry>,
     base: &[BaseName],
 ) -> Result<Vec<Arc<Array>>, NoMemory>
     requires { has_no_array catalogue.now base.now ≡ false }

@@ -1,7 +1,7 @@
 -- The session opens with nothing read and nothing said.
 use Rattle.std.proofs.Common.{[], subst, sym, ap, ◌∙◌}
 use Rattle.sz_session.specs.Moments.{Moment}
-use Rattle.sz_session.specs.Serving.{Answered}
+use Rattle.sz_session.specs.Serving.{Answered, nothing_held}
 use Rattle.sz_session.proofs.Ends.{answered-start, none-in_lines}
 use Rattle.sz_session.proofs.Disks.{stays-still, start-stays}
 use Rattle.sz_session.proofs.serving.play.Goals as goal
@@ -10,7 +10,7 @@ pub answer_all-status-requires : goal.answer_all-status-requires
 answer_all-status-requires g c =
     let left = g.S.Source.left c.args.source.now in
     let said = g.T.Station.said c.args.station.now in
-    let P : Moment → Type 0 = λ m. Answered left left said said m 0 in
+    let P : Moment → Type 0 = λ m. Answered nothing_held left left said said m 0 in
     λ κs lives. (
       lives.0,
       (
@@ -32,7 +32,7 @@ answer_all-status-requires g c =
                       c.requires.limit,
                       (
                         ap (λ (m : Moment). m.number) c.in-Ok-new.ensures,
-                        subst P (sym c.in-Ok-new.ensures) (answered-start left said),
+                        subst P (sym c.in-Ok-new.ensures) (answered-start nothing_held left said),
                       ),
                     ),
                   ),
@@ -46,16 +46,16 @@ answer_all-status-requires g c =
 
 pub returns-in_default-new-clause-ends : goal.returns-in_default-new-clause-ends
 returns-in_default-new-clause-ends g c =
-    none-in_lines (g.S.Source.left c.args.source.now) (g.T.Station.said c.args.station.now)
+    none-in_lines nothing_held (g.S.Source.left c.args.source.now) (g.T.Station.said c.args.station.now)
 
 pub returns-in_default-clause-disk : goal.returns-in_default-clause-disk
 returns-in_default-clause-disk g c =
-    start-stays g.T.Station (g.S.Source.left c.args.source.now) _ _
+    start-stays g.T.Station nothing_held (g.S.Source.left c.args.source.now) _ _
     (stays-still g.T.Station [] c.args.station.now (g.met.T.Station.only_now c.args.station.now)
     (g.met.T.Station.counts_now c.args.station.now))
 
 pub returns-in_default-new-clause-disk : goal.returns-in_default-new-clause-disk
 returns-in_default-new-clause-disk g c =
-    start-stays g.T.Station (g.S.Source.left c.args.source.now) _ _
+    start-stays g.T.Station nothing_held (g.S.Source.left c.args.source.now) _ _
     (stays-still g.T.Station [] c.args.station.now (g.met.T.Station.only_now c.args.station.now)
     (g.met.T.Station.counts_now c.args.station.now))

@@ -14,8 +14,8 @@ invariant-chunks g l = record {
   number : l.feed.number ≤ l.total + 1;
   reads : Stood (g.S.Source.faults l.initial.source) (g.S.Source.faults l.source);
   says : Stood (g.T.Station.say_faults l.initial.station) (g.T.Station.say_faults l.station);
-  disk : StaysFinding g.T.Station (FoundInPart g.opening.left g.opening.said) l.initial.station l.station;
-  answered : Answered g.opening.left (g.S.Source.left l.source) g.opening.said
+  disk : StaysFinding g.T.Station (FoundInPart g.opening.held g.opening.left g.opening.said) l.initial.station l.station;
+  answered : Answered g.opening.held g.opening.left (g.S.Source.left l.source) g.opening.said
       (g.T.Station.said l.station) l.feed l.total;
 }
 

@@ -5,7 +5,7 @@ use Rattle.std.specs.Prelude.{Err, map, string_bytes}
 use Rattle.sz_outside.specs.Outside.{Says, SaysPart}
 use Rattle.sz_words.specs.Job.{job_of}
 use Rattle.sz_words.specs.declared.WordsFault.{WordsFault}
-use Rattle.sz_session.specs.Serving.{is_served, is_play, is_init, is_load}
+use Rattle.sz_session.specs.Serving.{nothing_held, is_served, is_play, is_init, is_load}
 use Rattle.sz_session.specs.Statuses.{is_of_disk}
 use Rattle.sz_session.specs.Disks.{OnlySays}
 use Rattle.sz_session.specs.declared.serving.Status.TheVariants as status
@@ -27,7 +27,7 @@ pub returns-in-Ok-clause-done : goal.returns-in-Ok-clause-done
 returns-in-Ok-clause-done g c =
     λ p e.
     let asked = sym (for-job is_play _ _ c.in-Ok.ensures.ok) ∙ p in
-    ends-with _ status.Done _ _ _ _ _ (c.run_job.ensures.play asked) e
+    ends-with nothing_held _ status.Done _ _ _ _ _ (c.run_job.ensures.play asked) e
 
 pub returns-in-Ok-clause-usage : goal.returns-in-Ok-clause-usage
 returns-in-Ok-clause-usage g c =
@@ -71,7 +71,7 @@ returns-in-Ok-clause-say_fault g c =
 
 pub returns-in-Ok-clause-input_limit : goal.returns-in-Ok-clause-input_limit
 returns-in-Ok-clause-input_limit g c =
-    λ e. limit-passed _ _ _ _ _ (ends-with _ status.InputLimit _ _ _ _ _ (c.run_job.ensures.play
+    λ e. limit-passed nothing_held _ _ _ _ _ (ends-with nothing_held _ status.InputLimit _ _ _ _ _ (c.run_job.ensures.play
     (reads-play g.T.Station c.args.station.now c.run_job.new.station c.in-Ok.job.mode _ _ _ _
     c.run_job.ensures.load c.run_job.ensures.init (λ n. (c.run_job.ensures.refused n).0)
     (inr e))) e)
@@ -84,7 +84,7 @@ returns-in-Ok-clause-reads_in_play g c =
 
 pub returns-in-Ok-clause-after_read_fault : goal.returns-in-Ok-clause-after_read_fault
 returns-in-Ok-clause-after_read_fault g c =
-    λ e. ends-with _ status.ReadFault _ _ _ _ _ (c.run_job.ensures.play
+    λ e. ends-with nothing_held _ status.ReadFault _ _ _ _ _ (c.run_job.ensures.play
     (reads-play g.T.Station c.args.station.now c.run_job.new.station c.in-Ok.job.mode _ _ _ _
     c.run_job.ensures.load c.run_job.ensures.init (λ n. (c.run_job.ensures.refused n).0)
     (inl e))) e
@@ -93,17 +93,17 @@ pub returns-in-Ok-clause-after_say_fault : goal.returns-in-Ok-clause-after_say_f
 returns-in-Ok-clause-after_say_fault g c =
     λ p e.
     let asked = sym (for-job is_play _ _ c.in-Ok.ensures.ok) ∙ p in
-    ends-with _ status.SayFault _ _ _ _ _ (c.run_job.ensures.play asked) e
+    ends-with nothing_held _ status.SayFault _ _ _ _ _ (c.run_job.ensures.play asked) e
 
 pub returns-in-Ok-clause-after_no_memory : goal.returns-in-Ok-clause-after_no_memory
 returns-in-Ok-clause-after_no_memory g c =
     λ p e.
     let asked = sym (for-job is_play _ _ c.in-Ok.ensures.ok) ∙ p in
-    ends-with _ status.NoMemory _ _ _ _ _ (c.run_job.ensures.play asked) e
+    ends-with nothing_held _ status.NoMemory _ _ _ _ _ (c.run_job.ensures.play asked) e
 
 pub returns-in-Ok-clause-after_input_limit : goal.returns-in-Ok-clause-after_input_limit
 returns-in-Ok-clause-after_input_limit g c =
-    λ e. ends-with _ status.InputLimit _ _ _ _ _ (c.run_job.ensures.play
+    λ e. ends-with nothing_held _ status.InputLimit _ _ _ _ _ (c.run_job.ensures.play
     (reads-play g.T.Station c.args.station.now c.run_job.new.station c.in-Ok.job.mode _ _ _ _
     c.run_job.ensures.load c.run_job.ensures.init (λ n. (c.run_job.ensures.refused n).0)
     (inr e))) e
@@ -113,7 +113,7 @@ returns-in-Ok-clause-completes g c =
     λ p within no_read no_say.
     let asked = (sym (for-job is_play _ _ c.in-Ok.ensures.ok) ∙ p) in
     let ends = c.run_job.ensures.play asked in
-    completes _ _ _ _ _ _ _ _ _ _ ends (c.run_job.ensures.play_fault asked) within no_read no_say
+    completes nothing_held _ _ _ _ _ _ _ _ _ _ ends (c.run_job.ensures.play_fault asked) within no_read no_say
 
 pub returns-in-Ok-clause-load : goal.returns-in-Ok-clause-load
 returns-in-Ok-clause-load g c =
@@ -272,7 +272,7 @@ returns-in-Err-clause-after_say_fault g c =
 
 pub returns-in-Err-clause-after_no_memory : goal.returns-in-Err-clause-after_no_memory
 returns-in-Err-clause-after_no_memory g c =
-    λ p e. none-in_lines (g.S.Source.left c.args.source.now) (g.T.Station.said c.args.station.now)
+    λ p e. none-in_lines nothing_held (g.S.Source.left c.args.source.now) (g.T.Station.said c.args.station.now)
 
 pub returns-in-Err-clause-after_input_limit : goal.returns-in-Err-clause-after_input_limit
 returns-in-Err-clause-after_input_limit g c =
@@ -316,7 +316,7 @@ returns-in-Err-clause-disk g c = λ p. disk-stays g.T.Station _ _ _
 
 pub returns-in-Err-clause-found_in_play : goal.returns-in-Err-clause-found_in_play
 returns-in-Err-clause-found_in_play g c =
-    λ p. start-stays g.T.Station (g.S.Source.left c.args.source.now) _ _
+    λ p. start-stays g.T.Station nothing_held (g.S.Source.left c.args.source.now) _ _
     (stays-still g.T.Station [] c.args.station.now (g.met.T.Station.only_now c.args.station.now)
     (g.met.T.Station.counts_now c.args.station.now))
 

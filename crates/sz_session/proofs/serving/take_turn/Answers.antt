@@ -9,7 +9,7 @@ use Rattle.sz_session.proofs.serving.take_turn.Goals as goal
 
 pub returns-clause-answered : goal.returns-clause-answered
 returns-clause-answered g c =
-    answered-turn _ _ _ _ _ _ _ _ c.args.total c.in_ok-count.count c.read_chunk.new.buffer
+    answered-turn g.opening.held _ _ _ _ _ _ _ _ c.args.total c.in_ok-count.count c.read_chunk.new.buffer
     c.requires.1.1.1.1.1.1.1.1.1.1.1 c.in_ok-count.ensures.bytes c.in_ok-take_chunk.ensures.chunk
 
 pub returns-in_err-take_chunk-clause-ends : goal.returns-in_err-take_chunk-clause-ends
@@ -17,7 +17,7 @@ returns-in_err-take_chunk-clause-ends g c =
     let stopped : Halt → Result (Unit {0}) Halt = λ s. Err s in
     let p = err_from_is_err_and c.from_residual-in_err-take_chunk.result c.from_residual-in_err-take_chunk.ensures.1 in
     rw (p.1, p.2)
-    (turn-ends _ c.args.limit _ _ _ _ _ _ c.args.feed.now c.args.total c.in_ok-count.count c.read_chunk.new.buffer
+    (turn-ends g.opening.held _ c.args.limit _ _ _ _ _ _ c.args.feed.now c.args.total c.in_ok-count.count c.read_chunk.new.buffer
     c.requires.1.1.1.1.1.1.1.1.1.1.1 c.in_ok-count.ensures.bytes
     (λ e. c.in_err-take_chunk.ensures.part (ap stopped e))
     (λ e. c.in_err-take_chunk.ensures.first (ap stopped e)))
@@ -25,23 +25,23 @@ returns-in_err-take_chunk-clause-ends g c =
 -- the disk, where no line was answered
 pub returns-in_err-count-clause-disk : goal.returns-in_err-count-clause-disk
 returns-in_err-count-clause-disk g c =
-    between-stays g.T.Station _ _ _ _ _ c.args.feed.now c.args.total c.requires.1.1.1.1.1.1.1.1.1.1.1
+    between-stays g.T.Station g.opening.held _ _ _ _ _ c.args.feed.now c.args.total c.requires.1.1.1.1.1.1.1.1.1.1.1
     (stays-still g.T.Station [] c.args.station.now (g.met.T.Station.only_now c.args.station.now)
     (g.met.T.Station.counts_now c.args.station.now))
 
 pub returns-then-count-gt0-clause-disk : goal.returns-then-count-gt0-clause-disk
 returns-then-count-gt0-clause-disk g c =
-    between-stays g.T.Station _ _ _ _ _ c.args.feed.now c.args.total c.requires.1.1.1.1.1.1.1.1.1.1.1
+    between-stays g.T.Station g.opening.held _ _ _ _ _ c.args.feed.now c.args.total c.requires.1.1.1.1.1.1.1.1.1.1.1
     (stays-still g.T.Station [] c.args.station.now (g.met.T.Station.only_now c.args.station.now)
     (g.met.T.Station.counts_now c.args.station.now))
 
 -- and where some were
 pub returns-in_err-take_chunk-clause-disk : goal.returns-in_err-take_chunk-clause-disk
 returns-in_err-take_chunk-clause-disk g c =
-    turn-stays g.T.Station _ _ _ _ _ _ c.args.feed.now c.args.total c.in_ok-count.count c.read_chunk.new.buffer
+    turn-stays g.T.Station g.opening.held _ _ _ _ _ _ c.args.feed.now c.args.total c.in_ok-count.count c.read_chunk.new.buffer
     c.requires.1.1.1.1.1.1.1.1.1.1.1 c.in_ok-count.ensures.bytes c.take_chunk.ensures.disk
 
 pub returns-clause-disk : goal.returns-clause-disk
 returns-clause-disk g c =
-    turn-stays g.T.Station _ _ _ _ _ _ c.args.feed.now c.args.total c.in_ok-count.count c.read_chunk.new.buffer
+    turn-stays g.T.Station g.opening.held _ _ _ _ _ _ c.args.feed.now c.args.total c.in_ok-count.count c.read_chunk.new.buffer
     c.requires.1.1.1.1.1.1.1.1.1.1.1 c.in_ok-count.ensures.bytes c.take_chunk.ensures.disk

@@ -1,0 +1,131 @@
+//! Sessions of a log of one version, with a store that stands for the relation and with one that
+//! does not: each answers by the store, and none is made again.
+use std::alloc::Global;
+use std::sync::Wait;
+use std::test::Fail;
+use std::thread::Threads;
+use sz_catalogue::reply_text;
+use sz_outside::{MemStation, NoGate};
+use sz_recover::{Recovered, catalogue_of};
+use sz_session::{Carry, Session};
+use sz_spec::Tally;
+
+/// The first bytes of a log.
+const HEADER: [u8; 16] = *b"\x01SubZero log 1\r\n";
+
+/// An array of one cell.
+const ARRAY: &[u8] = br#"{"array":"a","cells":[[5]]}"#;
+
+/// A flow of one node, which negates.
+const FLOW: &[u8] = br#"{"flow":"f","inputs":1,"nodes":[{"op":"neg","from":[{"i":0}]}]}"#;
+
+/// Version 1 of the flow on the array, up to the store: its node has the list of `full_one_b`.
+const HEAD: [u8; 22] = [
+    0, 0, 0, 1, 1, b'f', 0, 0, 0, 1, 1, b'a', 0, 0, 0, 1, 0, 0, 0, 1, 1, 2,
+];
+
+/// The store with the one region pair of the relation.
+const TRUE_STORE: [u8; 42] = [
+    0, 0, 0, 2, 0, 0, 0, 0, 1, 0, 0, 0, 0, 0, 0, 0, 0, 1, 0, 0, 0, 1, 0, 0, 0, 0, 0, 0, 0, 0, 0, 0,
+    0, 1, 0, 0, 0, 0, 0, 0, 0, 1,
+];
+
+/// A store with no region pair.
+const EMPTY_STORE: [u8; 8] = [0; 8];
+
+/// What is asked of the version: back from its one cell, by which way, its output, and a second
+/// await.
+const ASK: &[u8] = br#"{"ask":1,"dir":"back","path":[[0,0]],"cells":[[0,0]]}"#;
+
+const EXPLAIN: &[u8] = br#"{"explain":1,"dir":"back","path":[[0,0]],"cells":[[0,0]]}"#;
+
+const SHOW: &[u8] = br#"{"show":1,"node":0}"#;
+
+const AWAIT: &[u8] = br#"{"await":1}"#;
+
+/// Appends a group with its gate open.
+fn put_group(disk: &mut Vec<u8>, kind: u8, body: &[u8]) -> Result<(), Fail> {
+    disk.push(1)?;
+    disk.push(kind)?;
+    disk.extend_from_slice(&(body.len() as u64).to_be_bytes())?;
+    disk.extend_from_slice(body)?;
+    Ok(())
+}
+
+/// A station with a log that holds the array, the flow and the version with a store.
+fn station_with(alloc: Global, store: &[u8]) -> Result<MemStation, Fail> {
+    let mut body = Vec::from_slice(alloc, &HEAD)?;
+    body.extend_from_slice(store)?;
+    let mut disk = Vec::from_slice(alloc, &HEADER)?;
+    put_group(&mut disk, 1, ARRAY)?;
+    put_group(&mut disk, 2, FLOW)?;
+    put_group(&mut disk, 4, &body)?;
+    disk.push(0)?;
+    Ok(MemStation::new(alloc, disk, Vec::new(alloc), Vec::new(alloc))?)
+}
+
+/// What the station's log opens to.
+fn opened(alloc: Global, station: &mut MemStation) -> Result<Recovered<Carry>, Fail> {
+    match catalogue_of(alloc, station) {
+        Ok(recovered) => Ok(recovered),
+        Err(_) => Err(Fail::from("not opened")),
+    }
+}
+
+/// The reply to a line in a session of the log with this store.
+fn reply<R: Threads + Wait + Sync>(
+    rt: &R,
+    alloc: Global,
+    store: &[u8],
+    line: &[u8],
+) -> Result<Vec<u8>, Fail> {
+    let mut station = station_with(alloc, store)?;
+    let recovered = opened(alloc, &mut station)?;
+    let mut session = Session::of_log(rt, alloc, recovered, 1, 1)?;
+    let mut tally = Tally::new();
+    let Ok(reply) = session.command(rt, line, 1, &mut station, &NoGate, &mut tally) else {
+        return Err(Fail::from("stopped"));
+    };
+    if tally.count() != 0 {
+        return Err(Fail::from("traced"));
+    }
+    let Some(reply) = reply else {
+        return Err(Fail::from("no reply"));
+    };
+    Ok(reply_text(alloc, 1, &reply)?)
+}
+
+#[test]
+fn a_true_store_answers_the_relation(rt: HostRuntime) -> Result<(), Fail> {
+    let told = reply(&rt, rt.alloc(), &TRUE_STORE, ASK)?;
+    assert!(rt; told.as_slice() == b"1 cells 1 0,0\n".as_slice());
+    Ok(())
+}
+
+#[test]
+fn a_store_of_nothing_answers_nothing(rt: HostRuntime) -> Result<(), Fail> {
+    let told = reply(&rt, rt.alloc(), &EMPTY_STORE, ASK)?;
+    assert!(rt; told.as_slice() == b"1 cells 0\n".as_slice());
+    Ok(())
+}
+
+#[test]
+fn the_way_is_the_store_whatever_it_stands_for(rt: HostRuntime) -> Result<(), Fail> {
+    let told = reply(&rt, rt.alloc(), &EMPTY_STORE, EXPLAIN)?;
+    assert!(rt; told.as_slice() == b"1 explain full_one_b traced 0\n".as_slice());
+    Ok(())
+}
+
+#[test]
+fn values_are_computed_again(rt: HostRuntime) -> Result<(), Fail> {
+    let told = reply(&rt, rt.alloc(), &EMPTY_STORE, SHOW)?;
+    assert!(rt; told.as_slice() == b"1 values 1 1 -5\n".as_slice());
+    Ok(())
+}
+
+#[test]
+fn a_version_of_a_log_is_awaited_already(rt: HostRuntime) -> Result<(), Fail> {
+    let told = reply(&rt, rt.alloc(), &TRUE_STORE, AWAIT)?;
+    assert!(rt; told.as_slice() == b"1 done 1\n".as_slice());
+    Ok(())
+}
