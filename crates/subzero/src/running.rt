@@ -3,7 +3,7 @@
 ghost use Rattle.std.specs.Prelude.{◌≡◌, ◌^◌};
 ghost use Rattle.std.specs.Process.{exit_status};
 ghost use Rattle.sz_outside.specs.Outside.{Rose, Stood, Says};
-ghost use Rattle.sz_session.specs.Serving.{Done, IsPastLimit};
+ghost use Rattle.sz_session.specs.Serving.{Done, IsPastLimit, nothing_held};
 ghost use Rattle.sz_session.specs.Making.{ready_line, HasMade, IsSpared};
 ghost use Rattle.subzero.specs.Words.{ArePlay, AreInit, AreServed, AreOther, IfLoadAsked};
 
@@ -30,7 +30,7 @@ pub(crate) fn run<
     R: Eprint + Threads + Wait + Clone + Send + Sync + 'static,
 >(rt: &R, alloc: Global, args: io::Result<Args>, source: &mut S, station: &mut T) -> ExitCode
     ensures done { exit_status result ≡ 0 → ArePlay args
-        → Done (2 ^ 62) (S.left source.old) (S.left source.new)
+        → Done nothing_held (2 ^ 62) (S.left source.old) (S.left source.new)
         (T.said station.old) (T.said station.new) }
     ensures load { exit_status result ≡ 0 → IfLoadAsked args
         (λ line. Says (T.said station.old) (T.said station.new) line) }
@@ -70,7 +70,7 @@ fn session<S: Source, T: Station, R: Threads + Wait + Clone + Send + Sync + 'sta
     station: &mut T,
 ) -> Status
     ensures done { result ≡ Status.Done → ArePlay args
-        → Done (2 ^ 62) (S.left source.old) (S.left source.new)
+        → Done nothing_held (2 ^ 62) (S.left source.old) (S.left source.new)
         (T.said station.old) (T.said station.new) }
     ensures load { result ≡ Status.Done → IfLoadAsked args
         (λ line. Says (T.said station.old) (T.said station.new) line) }
