@@ -1,10 +1,13 @@
 //! The whole output of a convolution. Where the numbers are small, a row of it is summed weight by
 //! weight: each weight that is not 0 goes once over the whole row, and no cell is tested. The sums
-//! are then those of an i32, of which a processor makes several at once. Where a row under the
-//! kernel has an empty cell or a number that is not small, each cell is summed by itself.
+//! are then those of an i32, of which a processor makes several at once. Which cells of the row
+//! have an empty cell under a weight is marked in the same way, by rows that have empty cells
+//! alone. Where a row under the kernel has a number that is not small, each cell is summed by
+//! itself.
 
 ghost use Rattle.std.specs.Prelude.{◌≡◌, ℕ, pos, ◌+◌, ◌-◌, ◌*◌, ◌/◌, ◌^◌, ◌<◌, ◌≤◌, ◌+ℤ◌, ◌*ℤ◌};
-ghost use Rattle.std.specs.Prelude.{min, true, length, map, IfOk, OnOk, None, Some, slice_index_or};
+ghost use Rattle.std.specs.Prelude.{min, true, false, ◌||◌, length, map, IfOk, OnOk, None};
+ghost use Rattle.std.specs.Prelude.{slice_index_or, is_none};
 ghost use Rattle.std.specs.Int.RustNames.{unsigned_abs};
 ghost use Rattle.std.specs.Arc.{arc_value};
 ghost use Rattle.sz_cells.specs.Extent.{size_of, cell_of};
@@ -15,7 +18,8 @@ ghost use Rattle.sz_spec.specs.Work.{IsAtWork};
 ghost use Rattle.sz_region.specs.Walks.{values_before};
 ghost use Rattle.sz_ops_window.specs.Sums.{reach_of};
 ghost use Rattle.sz_ops_window.specs.Sweeps.{is_small, number_of, ArePlain, IsSmooth};
-ghost use Rattle.sz_ops_window.specs.Sweeps.{AreNumbers, AreSums};
+ghost use Rattle.sz_ops_window.specs.Sweeps.{AreNumbers, AreSums, AreVoids, AreWhole};
+ghost use Rattle.sz_ops_window.specs.Sweeps.{unless};
 
 use crate::convolve::{reach_of, value};
 use crate::mask::{Mask, a_mask_is_a_kernel};
@@ -37,6 +41,22 @@ pub(crate) struct Limits {
     ghost small: { number < 2 ^ 31 },
 }
 
+/// What is read of an array's cells before they are summed: of each the number, where it is small,
+/// and whether it is empty; and of each row whether it has no empty cell.
+#[derive(Clone, Copy)]
+struct Sheet<'a> {
+    numbers: &'a [i32],
+    voids: &'a [bool],
+    whole: &'a [bool],
+}
+
+/// The sums at the cells of a row, and at which of them there is none.
+#[derive(Drop)]
+struct Sums {
+    sums: Vec<i32>,
+    marks: Vec<bool>,
+}
+
 /// The values of all output cells.
 pub(crate) fn values(
     alloc: Global,
@@ -54,13 +74,20 @@ pub(crate) fn values(
     a_mask_is_a_kernel(mask);
     let limits = limits_of(mask);
     let numbers = numbers_of(alloc, limits.number, array.cells())?;
+    let voids = voids_of(alloc, array.cells())?;
+    let whole = whole_rows(alloc, array, &voids)?;
     let plain = plain_rows(alloc, limits.number, array)?;
+    let sheet = Sheet {
+        numbers: &numbers,
+        voids: &voids,
+        whole: &whole,
+    };
     let mut values = Vec::new(alloc);
     values.reserve(shape.size() as usize)?;
     for row in 0..shape.rows {
         let reach = reach_of(shape, mask, Cell { row, col: 0 });
         if is_smooth(limits.number, mask, array, &plain, row, reach) {
-            let sums = sums_of(alloc, limits, mask, array, &numbers, row, reach)?;
+            let sums = sums_of(alloc, limits, mask, array, sheet, row, reach)?;
             append_sums(at, inputs, &sums, row, &mut values)?;
         } else {
             append_values(at, mask, inputs, row, &mut values)?;
@@ -116,17 +143,63 @@ fn number_of(most: u32, value: Value) -> i32
     }
 }
 
-/// Whether a value is a small number.
+/// Whether a value is empty or a small number.
 fn is_small(most: u32, value: Value) -> bool
     ensures { result ≡ is_small most value }
 {
     match value {
         Some(number) => number.unsigned_abs() <= u64::from(most),
-        None => false,
+        None => true,
     }
 }
 
-/// Of each row whether all its cells hold small numbers.
+/// Of each value whether it is empty.
+fn voids_of(alloc: Global, cells: &[Value]) -> Result<Vec<bool>, NoMemory>
+    ensures { IfOk result (λ v. AreVoids cells.now v.items) }
+{
+    let mut voids = Vec::new(alloc);
+    voids.reserve(cells.len())?;
+    for cell in 0..cells.len() {
+        voids.push(cells[cell].is_none())?;
+    }
+    Ok(voids)
+}
+
+/// Of each row whether it has no empty cell.
+fn whole_rows(alloc: Global, array: &Array, voids: &[bool]) -> Result<Vec<bool>, NoMemory>
+    requires { length voids.now ≡ length array.now.values }
+    ensures long { IfOk result (λ v. length v.items ≡ array.now.extent.rows) }
+    ensures whole { IfOk result (λ v. AreWhole array.now.extent.cols voids.now v.items) }
+{
+    let shape = array.shape();
+    a_shape_is_within_limits(&shape);
+    let mut whole = Vec::new(alloc);
+    for row in 0..shape.rows {
+        whole.push(is_whole(array, voids, row))?;
+    }
+    Ok(whole)
+}
+
+/// Whether no cell of a row is empty.
+fn is_whole(array: &Array, voids: &[bool], row: u32) -> bool
+    requires row { row < array.now.extent.rows }
+    requires long { length voids.now ≡ length array.now.values }
+    ensures { result ≡ true → (x : ℕ) → x < array.now.extent.cols
+        → slice_index_or voids.now (row * array.now.extent.cols + x) false ≡ false }
+{
+    array.cells(); // as many as the shape has
+    let shape = array.shape();
+    a_shape_is_within_limits(&shape);
+    let first = row * shape.cols;
+    for col in 0..shape.cols {
+        if voids[(first + col) as usize] {
+            return false;
+        }
+    }
+    true
+}
+
+/// Of each row whether all its cells are empty or hold small numbers.
 fn plain_rows(alloc: Global, most: u32, array: &Array) -> Result<Vec<bool>, NoMemory>
     ensures long { IfOk result (λ v. length v.items ≡ array.now.extent.rows) }
     ensures plain { IfOk result (λ v. ArePlain most array.now v.items) }
@@ -140,7 +213,7 @@ fn plain_rows(alloc: Global, most: u32, array: &Array) -> Result<Vec<bool>, NoMe
     Ok(plain)
 }
 
-/// Whether all cells of a row hold small numbers.
+/// Whether all cells of a row are empty or hold small numbers.
 fn is_plain(most: u32, array: &Array, row: u32) -> bool
     requires { row < array.now.extent.rows }
     ensures { result ≡ true → (x : ℕ) → x < array.now.extent.cols → is_small most
@@ -189,27 +262,34 @@ fn sums_of(
     limits: Limits,
     mask: &Mask<'_>,
     array: &Array,
-    numbers: &[i32],
+    sheet: Sheet<'_>,
     row: u32,
     reach: Window,
-) -> Result<Vec<i32>, NoMemory>
+) -> Result<Sums, NoMemory>
     requires row { row < array.now.extent.rows }
     requires reach { reach ≡ reach_of array.now.extent mask.now (record { row = row; col = 0 }) }
     requires weights { (n : ℕ) → n < mask.now.rows * mask.now.cols
         → unsigned_abs (tap_at mask.now n).weight ≤ limits.weight }
-    requires numbers { AreNumbers limits.number array.now.values numbers.now }
+    requires numbers { AreNumbers limits.number array.now.values sheet.numbers.now }
+    requires voids { AreVoids array.now.values sheet.voids.now }
+    requires whole { AreWhole array.now.extent.cols sheet.voids.now sheet.whole.now }
+    requires rows { length sheet.whole.now ≡ array.now.extent.rows }
     requires smooth { IsSmooth limits.number array.now mask.now row }
-    ensures long { IfOk result (λ v. length v.items ≡ array.now.extent.cols) }
-    ensures sums { IfOk result (λ v. AreSums array.now mask.now row
-        (mask.now.rows * mask.now.cols) (limits.weight * limits.number) v.items) }
+    ensures long { IfOk result (λ v. length v.sums.items ≡ array.now.extent.cols) }
+    ensures marks { IfOk result (λ v. length v.marks.items ≡ array.now.extent.cols) }
+    ensures sums { IfOk result (λ v. AreSums array.now mask.now row (mask.now.rows * mask.now.cols)
+        (limits.weight * limits.number) v.sums.items v.marks.items) }
 {
     let shape = array.shape();
     a_shape_is_within_limits(&shape);
     let mut sums = vec![in alloc; 0i32; shape.cols as usize]?;
+    let mut marks = vec![in alloc; false; shape.cols as usize]?;
     for number in 0..mask.rows * mask.cols {
-        add_tap(limits, mask, array, numbers, row, reach, number, &mut sums);
+        add_tap(
+            limits, mask, array, sheet, row, reach, number, &mut sums, &mut marks,
+        );
     }
-    Ok(sums)
+    Ok(Sums { sums, marks })
 }
 
 /// Adds what the tap of a number adds, to the sums of those before it.
@@ -217,25 +297,31 @@ fn add_tap(
     limits: Limits,
     mask: &Mask<'_>,
     array: &Array,
-    numbers: &[i32],
+    sheet: Sheet<'_>,
     row: u32,
     reach: Window,
     number: u32,
     sums: &mut [i32],
+    marks: &mut [bool],
 )
     requires row { row < array.now.extent.rows }
     requires reach { reach ≡ reach_of array.now.extent mask.now (record { row = row; col = 0 }) }
     requires weights { (n : ℕ) → n < mask.now.rows * mask.now.cols
         → unsigned_abs (tap_at mask.now n).weight ≤ limits.weight }
-    requires numbers { AreNumbers limits.number array.now.values numbers.now }
+    requires numbers { AreNumbers limits.number array.now.values sheet.numbers.now }
+    requires voids { AreVoids array.now.values sheet.voids.now }
+    requires whole { AreWhole array.now.extent.cols sheet.voids.now sheet.whole.now }
+    requires rows { length sheet.whole.now ≡ array.now.extent.rows }
     requires smooth { IsSmooth limits.number array.now mask.now row }
     requires number { number < mask.now.rows * mask.now.cols }
     requires long { length sums.old ≡ array.now.extent.cols }
+    requires wide { length marks.old ≡ array.now.extent.cols }
     requires sums { AreSums array.now mask.now row number (limits.weight * limits.number)
-        sums.old }
+        sums.old marks.old }
     ensures long { length sums.new ≡ length sums.old }
+    ensures wide { length marks.new ≡ length marks.old }
     ensures sums { AreSums array.now mask.now row (number + 1) (limits.weight * limits.number)
-        sums.new }
+        sums.new marks.new }
 {
     let shape = array.shape();
     a_shape_is_within_limits(&shape);
@@ -249,17 +335,22 @@ fn add_tap(
     }
     let (first, end) = reached(shape.cols, mask.cols / 2, across);
     if first < end {
-        let start = (row + down - mask.rows / 2) * shape.cols + (first + across - mask.cols / 2);
+        let under = row + down - mask.rows / 2;
+        let start = (under * shape.cols + (first + across - mask.cols / 2)) as usize;
+        let count = (end - first) as usize;
+        let numbers = sheet.numbers;
         add_times(
             limits,
             number,
             weight,
             numbers,
-            start as usize,
-            (end - first) as usize,
+            start,
+            count,
             sums,
             first as usize,
         );
+        let whole = sheet.whole[under as usize];
+        mark_where(whole, sheet.voids, start, count, marks, first as usize);
     }
 }
 
@@ -320,17 +411,70 @@ fn add_times(
     }
 }
 
+/// Marks of so many cells, from one on, those that are empty, at as many marks, from one on. Where
+/// none of them is, none is looked at.
+fn mark_where(
+    whole: bool,
+    voids: &[bool],
+    start: usize,
+    count: usize,
+    marks: &mut [bool],
+    first: usize,
+)
+    requires none { whole ≡ true
+        → (k : ℕ) → k < count → slice_index_or voids.now (start + k) false ≡ false }
+    requires within { start + count ≤ length voids.now }
+    requires few { length voids.now ≤ 1048576 }
+    requires room { first + count ≤ length marks.old }
+    requires short { length marks.old ≤ 1048576 }
+    ensures long { length marks.new ≡ length marks.old }
+    ensures added { (k : ℕ) → k < count → slice_index_or marks.new (first + k) false
+        ≡ (slice_index_or marks.old (first + k) false
+        || slice_index_or voids.now (start + k) false) }
+    ensures before { (k : ℕ) → k < first
+        → slice_index_or marks.new k false ≡ slice_index_or marks.old k false }
+    ensures behind { (k : ℕ) → first + count ≤ k
+        → slice_index_or marks.new k false ≡ slice_index_or marks.old k false }
+{
+    if !whole {
+        mark_voids(voids, start, count, marks, first);
+    }
+}
+
+/// The same, where each is looked at.
+fn mark_voids(voids: &[bool], start: usize, count: usize, marks: &mut [bool], first: usize)
+    requires within { start + count ≤ length voids.now }
+    requires few { length voids.now ≤ 1048576 }
+    requires room { first + count ≤ length marks.old }
+    requires short { length marks.old ≤ 1048576 }
+    ensures long { length marks.new ≡ length marks.old }
+    ensures added { (k : ℕ) → k < count → slice_index_or marks.new (first + k) false
+        ≡ (slice_index_or marks.old (first + k) false
+        || slice_index_or voids.now (start + k) false) }
+    ensures before { (k : ℕ) → k < first
+        → slice_index_or marks.new k false ≡ slice_index_or marks.old k false }
+    ensures behind { (k : ℕ) → first + count ≤ k
+        → slice_index_or marks.new k false ≡ slice_index_or marks.old k false }
+{
+    for k in 0..count {
+        marks[first + k] = marks[first + k] | voids[start + k];
+    }
+}
+
 /// Puts the sums of a row behind the values of the rows before it.
 fn append_sums(
     at: &OpAt,
     _inputs: &[Arc<Array>],
-    sums: &[i32],
+    row_sums: &Sums,
     _row: u32,
     values: &mut Vec<Value>,
 ) -> Result<(), NoMemory>
     requires right { IsAtWork at.now (map (λ a. arc_value a) _inputs.now) }
-    requires long { length sums.now ≡ at.now.out.cols }
-    requires sums { (k : ℕ) → k < at.now.out.cols → Some (slice_index_or sums.now k (pos 0))
+    requires long { length row_sums.now.sums.items ≡ at.now.out.cols }
+    requires wide { length row_sums.now.marks.items ≡ at.now.out.cols }
+    requires sums { (k : ℕ) → k < at.now.out.cols
+        → unless (slice_index_or row_sums.now.marks.items k false)
+        (slice_index_or row_sums.now.sums.items k (pos 0))
         ≡ value_of at.now.op (map (λ a. arc_value a) _inputs.now)
         (cell_of at.now.out (_row * at.now.out.cols + k)) }
     requires made { values.old.items ≡ values_before at.now (map (λ a. arc_value a) _inputs.now)
@@ -339,10 +483,19 @@ fn append_sums(
         (map (λ a. arc_value a) _inputs.now) ((_row + 1) * at.now.out.cols)) }
 {
     at.op();
+    let sums = row_sums.sums.as_slice();
+    let marks = row_sums.marks.as_slice();
     for k in 0..sums.len() {
-        values.push(Some(i64::from(sums[k])))?;
+        values.push(value_unless(marks[k], sums[k]))?;
     }
     Ok(())
+}
+
+/// Nothing, or a sum as a value.
+fn value_unless(void: bool, sum: i32) -> Value
+    ensures { result ≡ unless void sum }
+{
+    if void { None } else { Some(i64::from(sum)) }
 }
 
 /// Puts the values of a row, cell by cell, behind those of the rows before it.

@@ -28,7 +28,7 @@ returns-then-weight-eq0-clause-sums c =
     let down : n / c.mask.inside.cols ≡ n / w.cols = ap (λ (m : ℕ). n / m) cols in
     let top = ap (λ (r : Window). r.top) c.requires.reach in
     let bottom = ap (λ (r : Window). r.bottom) c.requires.reach in
-    row-nothing g w c.args.row n most c.args.sums.now
+    row-nothing g w c.args.row n most c.args.sums.now c.args.marks.now
     (λ col low.
     elim c.then-weight-eq0.branch [
       | then-weight-eq0-via-then-weight-eq0 b ↦
@@ -117,9 +117,9 @@ reached-first-requires-clause-cols c =
     let small = are-small c.args.array.now.extent right in
     omega (arith, small.cols, wide)
 
-pub overflow_add-start : goal.overflow_add-start
-overflow_add-start c =
-    let low = first (goal.at.overflow_add-start c).After-reached-first c.if-first-end.true in
+pub overflow_add-under : goal.overflow_add-under
+overflow_add-under c =
+    let low = first (goal.at.overflow_add-under c).After-reached-first c.if-first-end.true in
     record { fits = low.down }
 
 pub overflow_mul-start : goal.overflow_mul-start
@@ -127,9 +127,9 @@ overflow_mul-start c =
     let low = first (goal.at.overflow_mul-start c).After-reached-first c.if-first-end.true in
     record { fits = low.start }
 
-pub overflow_add-start-then-first-end-2 : goal.overflow_add-start-then-first-end-2
-overflow_add-start-then-first-end-2 c =
-    let low = first (goal.at.overflow_add-start-then-first-end-2 c).After-reached-first c.if-first-end.true in
+pub overflow_add-start-then-first-end : goal.overflow_add-start-then-first-end
+overflow_add-start-then-first-end c =
+    let low = first (goal.at.overflow_add-start-then-first-end c).After-reached-first c.if-first-end.true in
     record { fits = omega (arith, low.index, low.small) }
 
 pub add_times-requires-clause-taps : goal.add_times-requires-clause-taps
@@ -164,6 +164,61 @@ add_times-requires-clause-short c =
     let small = are-small c.args.array.now.extent on.right in
     omega (arith, small.cols, c.requires.long)
 
+pub bounds-sheet-under : goal.bounds-sheet-under
+bounds-sheet-under c =
+    let here = (goal.at.bounds-sheet-under c).After-reached-first in
+    let on = is-on here in
+    let e = c.args.array.now.extent in
+    let w = c.args.mask.now in
+    let n = c.args.number in
+    let lies : IsUnder e w (at c.args.row c.reached-first.result.0) (n / w.cols) (n % w.cols) =
+    under-at e w c.args.row c.reached-first.result.0 n c.reached-first.result.0 c.reached-first.result.1 on.right
+    on.kernel c.requires.number c.requires.row on.starts on.ends (omega arith) c.if-first-end.true on.top on.bottom in
+    let down : n / c.mask.inside.cols ≡ n / w.cols = ap (λ (m : ℕ). n / m) on.cols in
+    omega (arith, lies.below, down, on.rows, c.requires.rows)
+
+pub mark_where-requires-clause-none : goal.mark_where-requires-clause-none
+mark_where-requires-clause-none c = λ is k low.
+    let here = (goal.at.mark_where-requires-clause-none c).After-reached-first in
+    let on = is-on here in
+    let g = c.args.array.now in
+    let n = c.args.number in
+    let from = first here c.if-first-end.true in
+    let under = (c.args.row + n / c.mask.inside.cols) - c.mask.inside.rows / 2 in
+    let x = ((c.reached-first.result.0 + k) + n % c.mask.inside.cols) - c.mask.inside.cols / 2 in
+    let e = g.extent in
+    let w = c.args.mask.now in
+    let lies : IsUnder e w (at c.args.row (c.reached-first.result.0 + k)) (n / w.cols) (n % w.cols) =
+    under-at e w c.args.row (c.reached-first.result.0 + k) n c.reached-first.result.0 c.reached-first.result.1 on.right
+    on.kernel c.requires.number c.requires.row on.starts on.ends (omega arith) (omega (arith, low, c.if-first-end.true))
+    on.top on.bottom in
+    let behind : x < g.extent.cols = rw on.cols lies.behind in
+    let begin = (c.reached-first.result.0 + n % c.mask.inside.cols) - c.mask.inside.cols / 2 in
+    let along : (under * c.shape.inside.cols + begin) + k ≡ under * g.extent.cols + x =
+    ap (λ (m : ℕ). (under * m + begin) + k) on.wide ∙ omega (arith, from.before) in
+    ap (λ (i : ℕ). get_or c.args.sheet.voids.now i false) along ∙ c.requires.whole under is x behind
+
+pub mark_where-requires-clause-within : goal.mark_where-requires-clause-within
+mark_where-requires-clause-within c =
+    let here = (goal.at.mark_where-requires-clause-within c).After-reached-first in
+    let on = is-on here in
+    let low = first here c.if-first-end.true in
+    let end = few here (c.reached-first.result.1 - 1) (omega (arith, c.if-first-end.true))
+    (omega (arith, c.if-first-end.true)) in
+    omega (arith, end.index, low.before, c.if-first-end.true, on.size, c.requires.voids.0)
+
+pub mark_where-requires-clause-few : goal.mark_where-requires-clause-few
+mark_where-requires-clause-few c =
+    let on = is-on (goal.at.mark_where-requires-clause-few c).After-reached-first in
+    let small = are-small c.args.array.now.extent on.right in
+    omega (arith, small.size, on.size, c.requires.voids.0)
+
+pub mark_where-requires-clause-short : goal.mark_where-requires-clause-short
+mark_where-requires-clause-short c =
+    let on = is-on (goal.at.mark_where-requires-clause-short c).After-reached-first in
+    let small = are-small c.args.array.now.extent on.right in
+    omega (arith, small.cols, c.requires.wide)
+
 pub returns-then-first-end-clause-sums : goal.returns-then-first-end-clause-sums
 returns-then-first-end-clause-sums c =
     let on = is-on (goal.at.returns-then-first-end-clause-sums c).After-reached-first in
@@ -176,15 +231,21 @@ returns-then-first-end-clause-sums c =
     let told : to_z w32 (of_z w32 c.weight_of-weight.result) ≡ (tap_at w n).weight =
     to_z-of_z w32 c.weight_of-weight.result fits ∙ c.weight_of-weight.ensures in
     swept g w c.args.row n c.args.limits.number c.args.limits.weight c.reached-first.result.0 c.reached-first.result.1
-    begin c.args.numbers.now c.args.sums.now c.add_times.new.sums on.right on.kernel c.requires.number c.requires.row
-    on.starts on.ends (λ low. rw (on.cols, on.rows, on.wide) refl) on.top on.bottom on.some
-    (c.requires.weights n c.requires.number) c.requires.smooth c.requires.numbers on.size c.requires.sums
-    (λ k low.
-    c.add_times.ensures.added k low
-    ∙ ap (λ (z : ℤ). get_or c.args.sums.now (c.reached-first.result.0 + k) (pos 0)
-    +ℤ z *ℤ get_or c.args.numbers.now (begin + k) (pos 0)) told)
-    c.add_times.ensures.before
-    (λ k past. c.add_times.ensures.behind k (omega (arith, past, c.if-first-end.true)))
+    begin c.args.sheet.numbers.now c.args.sums.now c.add_times.new.sums c.args.sheet.voids.now c.args.marks.now
+    c.mark_where.new.marks on.right on.kernel c.requires.number c.requires.row on.starts on.ends
+    (λ low. rw (on.cols, on.rows, on.wide) refl) on.top on.bottom on.some (c.requires.weights n c.requires.number)
+    c.requires.smooth c.requires.numbers c.requires.voids on.size c.requires.sums
+    (record {
+      added = λ k low.
+          c.add_times.ensures.added k low
+          ∙ ap (λ (z : ℤ). get_or c.args.sums.now (c.reached-first.result.0 + k) (pos 0)
+          +ℤ z *ℤ get_or c.args.sheet.numbers.now (begin + k) (pos 0)) told;
+      before = c.add_times.ensures.before;
+      behind = λ k past. c.add_times.ensures.behind k (omega (arith, past, c.if-first-end.true));
+      marked = c.mark_where.ensures.added;
+      unmarked = c.mark_where.ensures.before;
+      unmarked_behind = λ k past. c.mark_where.ensures.behind k (omega (arith, past, c.if-first-end.true));
+    })
 
 pub returns-else-first-end-clause-sums : goal.returns-else-first-end-clause-sums
 returns-else-first-end-clause-sums c =
@@ -193,7 +254,16 @@ returns-else-first-end-clause-sums c =
     let w = c.args.mask.now in
     let n = c.args.number in
     swept g w c.args.row n c.args.limits.number c.args.limits.weight c.reached-first.result.0 c.reached-first.result.1 0
-    c.args.numbers.now c.args.sums.now c.args.sums.now on.right on.kernel c.requires.number c.requires.row on.starts
-    on.ends (λ low. absurd (omega (arith, low, c.if-first-end.false))) on.top on.bottom on.some
-    (c.requires.weights n c.requires.number) c.requires.smooth c.requires.numbers on.size c.requires.sums
-    (λ k low. absurd (omega (arith, low, c.if-first-end.false))) (λ k low. refl) (λ k past. refl)
+    c.args.sheet.numbers.now c.args.sums.now c.args.sums.now c.args.sheet.voids.now c.args.marks.now c.args.marks.now
+    on.right on.kernel c.requires.number c.requires.row on.starts on.ends
+    (λ low. absurd (omega (arith, low, c.if-first-end.false))) on.top on.bottom on.some
+    (c.requires.weights n c.requires.number) c.requires.smooth c.requires.numbers c.requires.voids on.size
+    c.requires.sums
+    (record {
+      added = λ k low. absurd (omega (arith, low, c.if-first-end.false));
+      before = λ k low. refl;
+      behind = λ k past. refl;
+      marked = λ k low. absurd (omega (arith, low, c.if-first-end.false));
+      unmarked = λ k low. refl;
+      unmarked_behind = λ k past. refl;
+    })
