@@ -4,7 +4,10 @@
 use Rattle.std.proofs.Common.{◌≡◌, ℕ, ◌+◌, ◌*◌, ◌<◌, ◌≤◌, true, Option, Some, None, List, map, length}
 use Rattle.std.proofs.Common.{◌++◌, get_or, refl, sym, ap, ap₂, ◌∙◌, arith}
 use Rattle.std.specs.Prelude.{ℤ, option_and_then, Ok}
+use Rattle.std.proofs.Common.{suc, take, ◌∷◌, []}
 use Rattle.std.proofs.Math.Nat.{mul-le-mul_right}
+use Rattle.std.proofs.Math.Seq.{take-suc, take-length}
+use Rattle.std.proofs.lemmas.List.{map-append}
 use Rattle.std.proofs.lemmas.Nat.{div-mul-add, mod-mul-add}
 use Rattle.std.proofs.lemmas.Option.{unwrap_or-slice_get}
 use Rattle.sz_cells.specs.declared.Cell.{Cell}
@@ -84,6 +87,20 @@ sliced-next s inputs r0 c0 h w row from so_far xs is work at long each made =
     ∙ ap (values_before s inputs) next
 
 -- ---- lookup
+
+-- the entries of one number more
+pub entries-next : (f : Option ℤ → Option ℤ) (xs so_far : List (Option ℤ)) (k : ℕ) (v : Option ℤ) → k < length xs
+    → so_far ≡ map f (take k xs) → v ≡ f (get_or xs k None) → so_far ++ v ∷ [] ≡ map f (take (k + 1) xs)
+entries-next f xs so_far k v low made is =
+    let one : k + 1 ≡ suc k = omega arith in
+    ap₂ (λ (a : List (Option ℤ)) (b : Option ℤ). a ++ b ∷ []) made is
+    ∙ sym (map-append f (take k xs) (get_or xs k None ∷ []))
+    ∙ sym (ap (λ n. map f (take n xs)) one ∙ ap (map f) (take-suc xs k None low))
+
+-- those of all numbers
+pub entries-all : (f : Option ℤ → Option ℤ) (xs made : List (Option ℤ)) (k : ℕ) → k ≡ length xs
+    → made ≡ map f (take k xs) → made ≡ map f xs
+entries-all f xs made k all is = is ∙ ap (λ n. map f (take n xs)) all ∙ ap (map f) (take-length xs)
 
 then-same : (f f' : ℕ → Option ℤ) (x : Option ℕ) → ((k : ℕ) → f k ≡ f' k)
     → option_and_then f x ≡ option_and_then f' x

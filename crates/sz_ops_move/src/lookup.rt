@@ -1,7 +1,7 @@
 //! Lookup: a cell of the first input names a column of the second, which is a table of one row.
 
 ghost use Rattle.std.specs.Prelude.{◌≡◌, ◌<◌, ◌≤◌, ℤ, [], ◌∷◌, true, length, map, Option, option_map};
-ghost use Rattle.std.specs.Prelude.{IfSome, IfOk};
+ghost use Rattle.std.specs.Prelude.{IfSome, IfOk, vec_len, vec_capacity};
 ghost use Rattle.std.specs.Arc.{arc_value};
 ghost use Rattle.std.specs.Option.{option_map_or};
 ghost use Rattle.sz_cells.specs.Extent.{holds};
@@ -134,16 +134,25 @@ fn entries(
     requires { cols ≤ length table.now }
     ensures { IfOk result (λ v. v.items ≡ map (entry_of cols table.now) numbers.now) }
 {
-    let entries = numbers
-        .iter()
-        .map(
-            |number: &Value| -> Value
-                requires { cols ≤ length table.now }
-                ensures { result ≡ entry_of cols table.entry.now number.now }
-            { entry_of(cols, table, *number) },
-        )
-        .collect(alloc)?;
+    let mut entries = Vec::new(alloc);
+    entries.reserve(numbers.len())?;
+    push_entries(cols, table, numbers, &mut entries);
     Ok(entries)
+}
+
+/// Puts what a table of so many columns has for each of some numbers into an empty list with room
+/// for all. The list is lent, so where the next value goes is not looked up again for each.
+fn push_entries(cols: u32, table: &[Value], numbers: &[Value], entries: &mut Vec<Value>)
+    requires cols { cols ≤ length table.now }
+    requires none { entries.old.items ≡ [] }
+    requires empty { vec_len entries.old ≡ 0 }
+    requires room { length numbers.now ≤ vec_capacity entries.old }
+    ensures { entries.new.items ≡ map (entry_of cols table.now) numbers.now }
+{
+    let count = numbers.len();
+    for k in 0..count {
+        entries.push_reserved(entry_of(cols, table, numbers[k]));
+    }
 }
 
 /// What a table of so many columns has for a number: nothing where it names no column.
