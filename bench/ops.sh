@@ -3,7 +3,7 @@
 # and of all cells; the lineage of all pieces, for a full strategy; and where the operator has a mapping, the mapped image backward of one
 # cell and of all cells, else the lineage of all pieces for a payload and for a composite strategy. Each time is the best of five, in
 # microseconds, and behind it stands its ratio to a plain copy of the array's values in the same run. `regions` is also run
-# on a chessboard, on pairs of cells, on one block and on one winding line, and preparing it is timed by itself. It is no test: nothing is
+# on a chessboard, on pairs of cells, on one block and on one winding line, and preparing it, and a run by what was prepared, are timed by themselves. It is no test: nothing is
 # compared. It works in a folder of its own.
 set -euo pipefail
 side=${1:-1024}
@@ -45,12 +45,13 @@ ghost use Rattle.std.specs.Arc.{arc_value};
 ghost use Rattle.sz_spec.specs.Values.{extents_of};
 ghost use Rattle.sz_spec.specs.Shapes.{arity, has_right_parameters};
 ghost use Rattle.sz_spec.specs.Modes.{has_mapping, supports};
+ghost use Rattle.sz_ops.specs.Aids.{aid_of};
 
 use std::alloc::Global;
 use std::sync::Arc;
 use std::time::Instant;
 use sz_cells::{CellBits, Run, Shape};
-use sz_ops::{image_by_map, piece, prepare, run, trace};
+use sz_ops::{Aid, image_by_map, piece, prepare, run, run_prepared, trace};
 use sz_spec::{Array, Dir, Fold, Kernel, Op, OpAt, Strategy, Tally, pieces_of, supports};
 
 const SIDE: u32 = SIDE_HERE;
@@ -158,6 +159,21 @@ fn prepares(rt: &HostRuntime, at: &OpAt, inputs: &[Arc<Array>]) -> Option<u64>
     Some(best)
 }
 
+/// The best of some runs by what was prepared.
+fn prepared_runs(rt: &HostRuntime, at: &OpAt, inputs: &[Arc<Array>], aid: &Aid) -> Option<u64>
+    requires inputs { extents_of (map (λ a. arc_value a) inputs.now) ≡ at.now.ins }
+    requires aid { aid.now ≡ aid_of at.now.op (map (λ a. arc_value a) inputs.now) }
+{
+    let mut best = u64::MAX;
+    for _ in 0..TURNS {
+        let start = Instant::now(rt).ok()?;
+        let made = run_prepared(rt.alloc(), at, inputs, aid).ok()?;
+        best = best.min(since(rt, start)?);
+        drop(made);
+    }
+    Some(best)
+}
+
 /// The set of one cell, or of all cells, of a shape.
 fn asked(alloc: Global, shape: Shape, all: bool) -> Option<CellBits>
     ensures { IfSome result (λ b. b.extent ≡ shape) }
@@ -208,12 +224,27 @@ fn pieces(rt: &HostRuntime, at: &OpAt, inputs: &[Arc<Array>], list: &[Strategy])
     requires supported { All (λ s. supports at.now.op s ≡ true) list.now }
 {
     let aid = prepare(rt.alloc(), at, inputs).ok()?;
+    pieces_by(rt, at, inputs, &aid, list)
+}
+
+/// The same, by what was prepared.
+fn pieces_by(
+    rt: &HostRuntime,
+    at: &OpAt,
+    inputs: &[Arc<Array>],
+    aid: &Aid,
+    list: &[Strategy],
+) -> Option<u64>
+    requires inputs { extents_of (map (λ a. arc_value a) inputs.now) ≡ at.now.ins }
+    requires supported { All (λ s. supports at.now.op s ≡ true) list.now }
+    requires aid { aid.now ≡ aid_of at.now.op (map (λ a. arc_value a) inputs.now) }
+{
     let mut best = u64::MAX;
     for _ in 0..TURNS {
         let start = Instant::now(rt).ok()?;
         for k in 0..pieces_of(at.out()) {
             let mut tally = Tally::new();
-            let made = piece(rt.alloc(), at, inputs, &aid, k, list, &mut tally).ok()?;
+            let made = piece(rt.alloc(), at, inputs, aid, k, list, &mut tally).ok()?;
             drop(made);
         }
         best = best.min(since(rt, start)?);
@@ -367,6 +398,8 @@ fn regions_of(rt: &HostRuntime, name: &str, t: i64, input: &Arc<Array>, copy: u6
     let at = placed(Op::Regions { t }, vec![in rt.alloc(); input.shape()].ok()?)?;
     print!(rt; "{name}:").ok()?;
     show(rt, "prepare", prepares(rt, &at, &inputs)?, copy)?;
+    let aid = prepare(rt.alloc(), &at, &inputs).ok()?;
+    show(rt, "run prepared", prepared_runs(rt, &at, &inputs, &aid)?, copy)?;
     println!(rt; "").ok()?;
     times(rt, name, &at, &inputs, copy)
 }

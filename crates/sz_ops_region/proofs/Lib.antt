@@ -1,5 +1,6 @@
 pub mod Neighbours
-pub mod Filling
+pub mod Apart
+pub mod Numbers
 pub mod Words
 pub mod Stretches
 pub mod Sets

@@ -5,7 +5,7 @@
 -- connected to the cell, is no later than it. So it is the least of all cells that are connected to it.
 use Rattle.std.proofs.Common.{◌≡◌, ◌≢◌, ℕ, zero, suc, ◌+◌, ◌-◌, ◌*◌, ◌<◌, ◌≤◌, ℤ, true, false, ◌==◌}
 use Rattle.std.proofs.Common.{List, [], ◌∷◌, length, map, get_or, refl, sym, ap, ap₂, subst, ◌∙◌, arith, inl, inr}
-use Rattle.std.proofs.Common.{Some, None, replicate, get_or-set_same}
+use Rattle.std.proofs.Common.{Some, None, get_or-set_same}
 use Rattle.std.specs.Prelude.{pos, ◌⊎◌, nat_lt, if◌then◌else◌}
 use Rattle.std.specs.Prelude.{unwrap_or}
 use Rattle.std.specs.List.{range_with_len, slice_get}
@@ -25,7 +25,7 @@ use Rattle.sz_spec.proofs.Components.{connected-parts, connected-led, leads-firs
 use Rattle.sz_ops_region.specs.declared.sides.Side.{Side}
 use Rattle.sz_ops_region.specs.declared.sides.Side.TheVariants.{Above, Below, Left, Right}
 use Rattle.sz_ops_region.specs.Sides.{is_on}
-use Rattle.sz_ops_region.specs.Filling.{high_at, near_at, joined_at}
+use Rattle.sz_ops_region.specs.Numbers.{high_at, near_at, joined_at}
 use Rattle.sz_ops_region.specs.Links.{HasLink, AreLinks, KeepLinks, AreRoots, IsWordBeside, merged, merged_by}
 use Rattle.sz_ops_region.specs.Links.{label_by}
 use Rattle.sz_ops_region.specs.Linking.{Linking, AreLinked, IsWordOn}
@@ -39,15 +39,15 @@ use Rattle.sz_ops_region.proofs.Roots.{merged_by-one, merged_by-ap, roots-same}
 joined-self : (t : ℤ) (g : Grid) (k : ℕ) → k < size_of g.extent → high_at t g k ≡ true → joined_at t g k k ≡ true
 joined-self t g k below high = connected-self t g (cell_of g.extent k) (cell-held g.extent k below) high
 
-joined-back : (t : ℤ) (g : Grid) (k l : ℕ) → joined_at t g k l ≡ true → joined_at t g l k ≡ true
+pub joined-back : (t : ℤ) (g : Grid) (k l : ℕ) → joined_at t g k l ≡ true → joined_at t g l k ≡ true
 joined-back t g k l there = connected-back t g (cell_of g.extent k) (cell_of g.extent l) there
 
-joined-on : (t : ℤ) (g : Grid) (k l m : ℕ) → joined_at t g k l ≡ true → joined_at t g l m ≡ true
+pub joined-on : (t : ℤ) (g : Grid) (k l m : ℕ) → joined_at t g k l ≡ true → joined_at t g l m ≡ true
     → joined_at t g k m ≡ true
 joined-on t g k l m first second =
     connected-parts t g (cell_of g.extent k) (cell_of g.extent l) (cell_of g.extent m) first second
 
-joined-near : (t : ℤ) (g : Grid) (k l : ℕ) → k < size_of g.extent → l < size_of g.extent → high_at t g k ≡ true
+pub joined-near : (t : ℤ) (g : Grid) (k l : ℕ) → k < size_of g.extent → l < size_of g.extent → high_at t g k ≡ true
     → high_at t g l ≡ true → near_at g k l ≡ true → joined_at t g k l ≡ true
 joined-near t g k l below inside high tall near =
     component-closed t g (cell_of g.extent k) (cell_of g.extent k) (cell_of g.extent l)
@@ -482,7 +482,7 @@ led-root t g words root o (c ∷ cells) x f led =
     ∙ led-root t g words root c cells x f led.3
 
 -- so connected cells have one root
-joined-root : (t : ℤ) (g : Grid) (words : List ℕ) (root : ℕ → ℕ) (k l : ℕ)
+pub joined-root : (t : ℤ) (g : Grid) (words : List ℕ) (root : ℕ → ℕ) (k l : ℕ)
     → Linking t g words (size_of g.extent) root → joined_at t g k l ≡ true → root k ≡ root l
 joined-root t g words root k l f there =
     let e = g.extent in
@@ -536,9 +536,3 @@ pub high-value : (t : ℤ) (g : Grid) (k : ℕ) → is_at_least t (get_or g.valu
 high-value t g k =
     ap (is_at_least t) (sym (ap (λ (i : ℕ). unwrap_or (slice_get g.values i) None) (index-cell g.extent k)
     ∙ unwrap_or-slice_get g.values k None))
-
--- the word of no cell
-pub zeros : (n k : ℕ) → get_or {A = ℕ} (replicate n 0) k 0 ≡ 0
-zeros zero k = refl
-zeros (suc n) zero = refl
-zeros (suc n) (suc k) = zeros n k

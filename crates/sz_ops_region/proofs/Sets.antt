@@ -27,12 +27,12 @@ use Rattle.sz_spec.specs.Values.{Grid}
 use Rattle.sz_spec.specs.Operators.Regions.{is_high, is_connected, component_of}
 use Rattle.sz_spec.proofs.Components.{component-made, connected-both_high, connected-self}
 use Rattle.sz_ops_region.specs.declared.marks.Mark.{Mark}
-use Rattle.sz_ops_region.specs.declared.marks.Mark.TheVariants.{Low, Waiting, Alone, Numbered}
-use Rattle.sz_ops_region.specs.Marks.{mark_at, number_in, number_of, is_tall, is_waiting}
-use Rattle.sz_ops_region.specs.Filling.{AreNumbers, AreUsed, high_at, joined_at}
+use Rattle.sz_ops_region.specs.declared.marks.Mark.TheVariants.{Low, Alone, Numbered}
+use Rattle.sz_ops_region.specs.Marks.{mark_at, number_in, number_of, is_tall}
+use Rattle.sz_ops_region.specs.Numbers.{AreNumbers, AreUsed, high_at, joined_at}
 use Rattle.sz_ops_region.specs.Regions.{components_of}
 use Rattle.sz_ops_region.specs.Sets.{is_number, cells_numbered, set_of, sets_by, HaveSets, HasRuns, AreLists}
-use Rattle.sz_ops_region.proofs.Filling.{apart-joined}
+use Rattle.sz_ops_region.proofs.Apart.{apart-joined}
 
 -- ---- small facts
 
@@ -57,7 +57,6 @@ add-none k = omega arith
 -- a mark that is no number has none
 pub none-other : (m : Mark) → ((j : ℕ) → m ≡ Numbered j → ⊥) → number_in m ≡ None
 none-other Low never = refl
-none-other Waiting never = refl
 none-other Alone never = refl
 none-other (Numbered j) never = absurd (never j refl)
 
@@ -281,8 +280,6 @@ set-by_mark : (t : ℤ) (g : Grid) (marks : List Mark) (count k : ℕ) (sets : L
     → mark_at marks k ≡ m → set_of g.extent sets k m ≡ component_of t g (cell_of g.extent k)
 set-by_mark t g marks count k sets Low are is below at =
     sym (low-component t g (cell_of g.extent k) (sym (are.tall k below) ∙ ap is_tall at))
-set-by_mark t g marks count k sets Waiting are is below at =
-    absurd (true≢false (sym (ap is_waiting at) ∙ are.all k below))
 set-by_mark t g marks count k sets Alone are is below at = lone-component t g marks count k are below at
 set-by_mark t g marks count k sets (Numbered j) are is below at =
     let e = g.extent in
@@ -340,6 +337,5 @@ sets-at e sets marks k d below =
 pub other-set : (e : Extent) (sets : List Cells) (k : ℕ) (m : Mark) → (m ≡ Alone → ⊥)
     → ((j : ℕ) → m ≡ Numbered j → ⊥) → (set_of e sets k m).indexes ≡ []
 other-set e sets k Low lone numbered = refl
-other-set e sets k Waiting lone numbered = refl
 other-set e sets k Alone lone numbered = absurd (lone refl)
 other-set e sets k (Numbered j) lone numbered = absurd (numbered j refl)

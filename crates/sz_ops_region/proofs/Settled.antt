@@ -23,10 +23,10 @@ settled-first first links = record {
   rest = λ k from. refl;
 }
 
-label-none : (words : List ℕ) (root : ℕ → ℕ) (k : ℕ) → get_or words k 0 ≡ 0 → label_by words root k ≡ 0
+pub label-none : (words : List ℕ) (root : ℕ → ℕ) (k : ℕ) → get_or words k 0 ≡ 0 → label_by words root k ≡ 0
 label-none words root k is = rw (eq-eqb (get_or words k 0) 0 is) refl
 
-label-some : (words : List ℕ) (root : ℕ → ℕ) (k : ℕ) → HasLink words k → label_by words root k ≡ 1 + root k
+pub label-some : (words : List ℕ) (root : ℕ → ℕ) (k : ℕ) → HasLink words k → label_by words root k ≡ 1 + root k
 label-some words root k has = rw (ne_eqb (get_or words k 0) 0 (λ is. omega (arith, is, has))) refl
 
 -- the word on which the next cell's leads is its label

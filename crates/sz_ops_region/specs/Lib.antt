@@ -1,7 +1,7 @@
 pub mod Regions
 pub mod Marks
 pub mod Stretches
-pub mod Filling
+pub mod Numbers
 pub mod Sides
 pub mod Sets
 pub mod Parts

@@ -6,7 +6,7 @@ use Rattle.sz_spec.specs.Values.{Grid}
 use Rattle.sz_spec.specs.Operators.Regions.{are_neighbours}
 use Rattle.sz_ops_region.specs.declared.sides.Side.{Side}
 use Rattle.sz_ops_region.specs.Sides.{is_on}
-use Rattle.sz_ops_region.specs.Filling.{high_at, near_at, joined_at}
+use Rattle.sz_ops_region.specs.Numbers.{high_at, near_at, joined_at}
 use Rattle.sz_ops_region.specs.Links.{HasLink, AreLinks, AreRoots}
 
 -- Of the cells below an index the high ones have a link, and no other cell has one. Each is

@@ -7,7 +7,7 @@ use Rattle.sz_cells.specs.Extent.{Extent, size_of}
 use Rattle.sz_cells.specs.Cells.{Cells, no_cells}
 use Rattle.sz_cells.specs.Runs.{AreRunsFrom, covers}
 use Rattle.sz_ops_region.specs.declared.marks.Mark.{Mark}
-use Rattle.sz_ops_region.specs.declared.marks.Mark.TheVariants.{Low, Waiting, Alone, Numbered}
+use Rattle.sz_ops_region.specs.declared.marks.Mark.TheVariants.{Low, Alone, Numbered}
 use Rattle.sz_ops_region.specs.Marks.{mark_at, number_of}
 
 -- the number is there, and is this one
@@ -26,7 +26,6 @@ cells_numbered e marks j = record {
 -- the cell is not high
 abbrev pub set_of : Extent → List Cells → ℕ → Mark → Cells
 set_of e sets k Low = no_cells e
-set_of e sets k Waiting = no_cells e
 set_of e sets k Alone = record { extent = e; indexes = k ∷ [] }
 set_of e sets k (Numbered j) = slice_index_or sets j (no_cells e)
 

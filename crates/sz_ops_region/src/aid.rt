@@ -11,11 +11,11 @@ ghost use Rattle.sz_spec.specs.Operators.Regions.{label_of};
 ghost use Rattle.sz_ops_region.specs.Regions.{components_of};
 ghost use Rattle.sz_ops_region.specs.Tracing.{first_index};
 ghost use Rattle.sz_ops_region.specs.Sets.{AreLists, cells_numbered};
-ghost use Rattle.sz_ops_region.specs.Filling.{AreUsed};
+ghost use Rattle.sz_ops_region.specs.Numbers.{AreUsed};
 ghost use Rattle.sz_ops_region.specs.Parts.{IsPartAt};
 
-use crate::fill::numbers_of;
 use crate::marks::{Mark, Marks};
+use crate::numbering::numbers_of;
 use crate::run_lists::{RunList, lists_of};
 use std::alloc::Global;
 use std::marker::Model;
@@ -179,19 +179,19 @@ impl Model for Aid {
 impl Aid {
     /// The components of the cells of an array that are at least `t`.
     ///
-    /// Takes time and memory in the number of the array's cells, of which four bytes a cell are
-    /// kept, and for each component of several cells what its runs take.
+    /// Takes memory in the number of the array's cells, of which four bytes a cell are kept, and
+    /// for each component of several cells what its runs take; and time as the links of cells do.
     pub(crate) fn of(alloc: Global, array: &Array, t: i64) -> Result<Aid, NoMemory>
         ensures { IfOk result (λ a. a ≡ components_of t array.now) }
     {
         let shape = array.shape();
         shape.size(); // a shape is within the limits
-        let fill = numbers_of(alloc, array, t)?;
-        let mut lists = lists_of(alloc, &fill.marks, fill.count)?;
-        let components = components_of(alloc, shape, &fill.marks, fill.count, &mut lists)?;
+        let numbers = numbers_of(alloc, array, t)?;
+        let mut lists = lists_of(alloc, &numbers.marks, numbers.count)?;
+        let components = components_of(alloc, shape, &numbers.marks, numbers.count, &mut lists)?;
         Ok(Aid {
             shape,
-            marks: fill.marks,
+            marks: numbers.marks,
             components,
         })
     }

@@ -14,23 +14,25 @@
 //! let numbers = run_by(alloc, &Labelling { at: &at, inputs: &inputs, aid: &aid, t: 5 })?;
 //! ```
 //!
-//! The path of the components: `marks` says of each cell what is known of it, `fill` numbers the
-//! high cells by a flood fill, `run_lists` makes the runs of each number from the stretches of one
-//! mark, `aid` keeps a set of each, and `walk` traces. A component of one cell has no number: of it
-//! the mark of its cell is all that is kept.
-//!
-//! The path of the output, for which no set is made: `links` has the links between cells, by which
+//! The path of the labels, for which no set is made: `links` has the links between cells, by which
 //! those that are united get one root, `linking` unites the high cells that are neighbours, and
 //! `output` writes the label of each cell by its root.
+//!
+//! The path of the components goes on from there: `settling` makes each link the label of its cell,
+//! `marks` says of each cell what is known of it, `numbering` numbers the components by the labels,
+//! `run_lists` makes the runs of each number from the stretches of one mark, `aid` keeps a set of
+//! each, and `walk` traces. A component of one cell has no number: of it the mark of its cell is
+//! all that is kept.
 #![tactic(auto)]
 
 mod aid;
-mod fill;
 mod linking;
 mod links;
 mod marks;
+mod numbering;
 mod output;
 mod run_lists;
+mod settling;
 mod sides;
 mod walk;
 mod work;

@@ -1,24 +1,21 @@
 //! What is known of each cell while components are numbered: a mark a cell, four bytes each.
 
-ghost use Rattle.std.specs.Prelude.{◌≡◌, ◌+◌, ◌<◌, ◌≤◌, length, map, IfOk};
+ghost use Rattle.std.specs.Prelude.{◌≡◌, ℕ, ◌+◌, ◌<◌, ◌≤◌, length, map, IfOk};
 ghost use Rattle.std.specs.Prelude.{slice_set};
-ghost use Rattle.sz_cells.specs.Extent.{size_of};
 ghost use Rattle.sz_spec.specs.Operators.Clean.{is_at_least};
-ghost use Rattle.sz_ops_region.specs.Marks.{mark_in, mark_at, first_mark};
+ghost use Rattle.sz_ops_region.specs.Marks.{mark_in, mark_at};
 ghost use Rattle.sz_ops_region.specs.Stretches.{AreStretches};
 
 use std::alloc::Global;
 use std::marker::Model;
 use sz_cells::NoMemory;
-use sz_spec::{Array, Value};
+use sz_spec::Value;
 
 /// What is known of a cell.
 #[derive(Clone, Copy)]
 pub(crate) enum Mark {
     /// It is not high.
     Low,
-    /// It is high, and has not been looked at.
-    Waiting,
     /// It is high and has no high neighbour: it is a component by itself.
     Alone,
     /// It is of the component of this number.
@@ -45,25 +42,19 @@ impl Model for Marks {
 /// The words of the marks. That of a number is so much more than the number as there are others.
 const LOW: u32 = 0;
 
-const WAITING: u32 = 1;
+const ALONE: u32 = 1;
 
-const ALONE: u32 = 2;
-
-const OTHERS: u32 = 3;
+const OTHERS: u32 = 2;
 
 impl Marks {
-    /// The marks of the cells of an array of which none has been looked at.
-    pub(crate) fn of(alloc: Global, array: &Array, t: i64) -> Result<Marks, NoMemory>
-        ensures marks { IfOk result (λ m. m ≡ map (first_mark t) array.now.values) }
-        ensures long { IfOk result (λ m. length m ≡ size_of array.now.extent) }
+    /// The marks of so many cells, of which none is high.
+    pub(crate) fn none(alloc: Global, count: usize) -> Result<Marks, NoMemory>
+        ensures long { IfOk result (λ m. length m ≡ count) }
+        ensures low { IfOk result (λ m. (k : ℕ) → mark_at m k ≡ Mark.Low) }
     {
-        let values = array.cells();
-        let mut words = Vec::new(alloc);
-        words.reserve(values.len())?;
-        for value in values {
-            words.push(first_word(*value, t))?;
-        }
-        Ok(Marks { words })
+        Ok(Marks {
+            words: vec![in alloc; LOW; count]?,
+        })
     }
 
     /// How many cells there are.
@@ -135,14 +126,6 @@ fn write_starts(words: &[u32], starts: &mut Vec<u32>)
     starts.truncate(count + 1);
 }
 
-/// The word of a value of which the cell has not been looked at.
-fn first_word(value: Value, t: i64) -> u32
-    ensures small { result < 2 }
-    ensures mark { mark_in result ≡ first_mark t value }
-{
-    if is_high(value, t) { WAITING } else { LOW }
-}
-
 /// Whether a value is high.
 pub(crate) fn is_high(value: Value, t: i64) -> bool
     ensures { result ≡ is_at_least t value }
@@ -159,8 +142,6 @@ fn mark_of(word: u32) -> Mark
 {
     if word == LOW {
         Mark::Low
-    } else if word == WAITING {
-        Mark::Waiting
     } else if word == ALONE {
         Mark::Alone
     } else {

@@ -201,10 +201,10 @@ pub(crate) fn threshold(at: &OpAt) -> i64
 
 /// The components of the high cells of the input.
 ///
-/// Takes time and memory in the number of the input's cells, whatever the components look like:
-/// what each cell holds is looked at once, each high cell's neighbours once, and the set of each
-/// component of several cells is made once, with room for just its runs. A component of one cell
-/// takes no memory but its mark.
+/// Takes memory in the number of the input's cells, and time in that number too, whatever the
+/// components look like, but for the searches for roots, as [`run`](crate::run) does: what each
+/// cell holds is looked at once, and the set of each component of several cells is made once, with
+/// room for just its runs. A component of one cell takes no memory but its mark.
 pub fn prepare(alloc: Global, at: &OpAt, inputs: &[Arc<Array>]) -> Result<Aid, NoMemory>
     requires regions { is_regions at.now.op ≡ true }
     requires inputs { extents_of (map (λ a. arc_value a) inputs.now) ≡ at.now.ins }

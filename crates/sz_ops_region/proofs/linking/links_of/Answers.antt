@@ -7,7 +7,8 @@ use Rattle.std.proofs.Math.ListN.{drop}
 use Rattle.std.proofs.lemmas.Int.{to_z-of_z}
 use Rattle.sz_cells.specs.Extent.{size_of}
 use Rattle.sz_ops_region.specs.Linking.{AreLinked}
-use Rattle.sz_ops_region.proofs.Linked.{linked-none, zeros}
+use Rattle.sz_ops_region.proofs.Linked.{linked-none}
+use Rattle.sz_ops_region.proofs.Words.{zeros}
 use Rattle.sz_ops_region.proofs.linking.links_of.Goals as goal
 
 pub link_all-requires : goal.link_all-requires

@@ -10,7 +10,7 @@ use Rattle.sz_spec.specs.Operators.Clean.{is_at_least}
 use Rattle.sz_ops_region.specs.Links.{IsWordBeside, merged_by}
 use Rattle.sz_cells.specs.Extent.{Extent, index_of}
 use Rattle.sz_ops_region.specs.declared.sides.Side.TheVariants.{Above}
-use Rattle.sz_ops_region.specs.Filling.{high_at}
+use Rattle.sz_ops_region.specs.Numbers.{high_at}
 use Rattle.sz_ops_region.specs.Linking.{AreLinked, IsWordOn}
 use Rattle.sz_ops_region.proofs.Linked.{linked-high, linked-low, high-value}
 use Rattle.sz_ops_region.proofs.linking.look.Goals as goal

@@ -8,6 +8,6 @@ use Rattle.sz_ops_region.proofs.marks.Marks.give.Goals as goal
 
 pub returns : goal.returns
 returns c =
-    word-set c.self.inside.words.items c.args.index (3 + c.args.number) (Numbered c.args.number)
+    word-set c.self.inside.words.items c.args.index (2 + c.args.number) (Numbered c.args.number)
     (word-numbered c.args.number)
     ∙ ap (λ (ms : List Mark). set ms c.args.index (Numbered c.args.number)) c.self.view_is

@@ -8,5 +8,5 @@ use Rattle.sz_ops_region.proofs.marks.Marks.set_alone.Goals as goal
 
 pub returns : goal.returns
 returns c =
-    word-set c.self.inside.words.items c.args.index 2 Alone refl
+    word-set c.self.inside.words.items c.args.index 1 Alone refl
     ∙ ap (λ (ms : List Mark). set ms c.args.index Alone) c.self.view_is
