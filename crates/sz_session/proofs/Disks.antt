@@ -15,7 +15,7 @@ use Rattle.sz_session.specs.Moments.{Moment, told_in, told_at_end}
 use Rattle.sz_session.specs.States.{State}
 use Rattle.sz_session.specs.Serving.{Advances, Answered, AreAll}
 use Rattle.sz_session.specs.Making.{ready_line}
-use Rattle.sz_session.specs.Disks.{StaysFinding, DiskStays, OnlySays, FoundInPart, StopsMaking}
+use Rattle.sz_session.specs.Disks.{StopsFinding, StaysFinding, DiskStays, OnlySays, FoundInPart, StopsMaking}
 use Rattle.sz_session.proofs.Turns.{part-longer, part-more, advances-then, advances-part, take-line}
 use Rattle.sz_session.proofs.Ends.{turn-in_part, end-in_part, answered-in_part}
 
@@ -26,7 +26,7 @@ abbrev Images : Type 1
 Images = List ℕ → Type 0
 
 -- what is told of a disk, for each disk that is told
-told-more : (o : Option (List ℕ)) (A B : Type 0) → (A → B) → Told o A → Told o B
+pub told-more : (o : Option (List ℕ)) (A B : Type 0) → (A → B) → Told o A → Told o B
 told-more None A B f p = tt
 told-more (Some d) A B f p = f p
 
@@ -92,6 +92,15 @@ pass-then {n} {m} {k} {past} {half} {since} {A} {B} {C} F one two = record {
   images = λ image left. one.images image (same-follows B image (two.images image left));
 }
 
+-- two steps that leave the disk as it reads, one behind the other
+pub stops-both : {X : Type 0} (T : Ghosts X) (F : List ℕ → Type 0) (a b c : X) → T.disk b ≡ T.disk a
+    → StopsFinding T Same F a b → StopsFinding T Same F b c → StopsFinding T Same F a c
+stops-both {X} T F a b c reads one two =
+    let Second : Type 0 =
+    Passes (T.moment b) (T.moment c) (T.left_since b) (T.left_since c) (T.may_leave b) (T.may_leave c) Same F in
+    told-both (T.disk a) _ _ _ (λ first second. pass-then F first second) one
+    (subst (λ (o : Option (List ℕ)). Told o Second) reads two)
+
 -- a disk that stays stays, finding what follows of what was found
 pub stays-finding : {X : Type 0} (T : Ghosts X) (F G : List ℕ → Type 0) (a b : X)
     → ((said : List ℕ) → F said → G said) → StaysFinding T F a b → StaysFinding T G a b
@@ -115,7 +124,7 @@ stays-both {X} T F a b c one two =
     }
 
 -- no pass at all, since this moment is the last
-pass-still : (d said : Option (List ℕ)) (n : ℕ) (since : Since) (A : Images)
+pub pass-still : (d said : Option (List ℕ)) (n : ℕ) (since : Since) (A : Images)
     → ((image found : List ℕ) → Told d (since n image found → A image × Said said found))
     → ((t : ℕ) (image found : List ℕ) → Told d (t ≤ n → A image → Said said found → since t image found))
     → Told d (Passes n n since since A A Same (Said said))
@@ -134,6 +143,14 @@ said-part : (a : Option (List ℕ)) (bytes found : List ℕ) → Said a found �
 said-part None bytes found is = tt
 said-part (Some all) bytes found is =
     (0, omega arith, ap (λ (xs : List ℕ). Some xs) (is ∙ sym (append-nil all)))
+
+-- a step that says nothing finds a first part said of whatever is said behind it
+pub stops-silent : {X : Type 0} (T : Ghosts X) (bytes : List ℕ) (a b : X)
+    → StopsFinding T Same (Said (T.said a)) a b
+    → StopsFinding T Same (λ found. SaysPart (T.said a) (Some found) bytes) a b
+stops-silent {X} T bytes a b stops =
+    told-more (T.disk a) _ _
+    (λ passes. pass-finds (Said (T.said a)) _ (λ found was. said-part (T.said a) bytes found was) passes) stops
 
 -- a first part of what a say says
 part-part : (a : Option (List ℕ)) (bytes found : List ℕ) → SaidPart a bytes found → SaysPart a (Some found) bytes

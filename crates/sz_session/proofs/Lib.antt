@@ -20,6 +20,8 @@ pub mod Blanks
 pub mod Moments
 pub mod Loads
 pub mod Makings
+pub mod Checkings
+pub mod Continuing
 pub mod Jobs
 pub mod Plain
 mod RowsServing
@@ -28,3 +30,10 @@ pub mod States
 pub mod Stays
 pub mod Recalled
 pub mod Sought
+pub mod Logged
+pub mod Running
+pub mod Beside
+pub mod Sources
+pub mod Lasting
+pub mod Ordered
+pub mod Trails

@@ -51,5 +51,6 @@ load-completes status.SayFault line a b q q' ends fault no_say = absurd (no_say 
 load-completes status.DiskFault line a b q q' ends fault no_say = absurd ends
 load-completes status.NotALog line a b q q' ends fault no_say = absurd ends
 load-completes status.AlreadyALog line a b q q' ends fault no_say = absurd ends
+load-completes (status.BadLog at) line a b q q' ends fault no_say = absurd ends
 load-completes status.NoMemory line a b q q' ends fault no_say = inr refl
 load-completes status.InputLimit line a b q q' ends fault no_say = absurd ends

@@ -37,6 +37,7 @@ init-silent {X} T status.SayFault a b ends is = absurd (true≢false (sym is))
 init-silent {X} T status.DiskFault a b ends is = ends.0
 init-silent {X} T status.NotALog a b ends is = ends.0
 init-silent {X} T status.AlreadyALog a b ends is = ends.0
+init-silent {X} T (status.BadLog at) a b ends is = absurd ends
 init-silent {X} T status.NoMemory a b ends is = absurd ends
 init-silent {X} T status.InputLimit a b ends is = absurd ends
 
@@ -49,6 +50,7 @@ counted-not_disk status.SayFault r r' q q' counted is = true≢false (sym is)
 counted-not_disk status.DiskFault r r' q q' counted is = counted
 counted-not_disk status.NotALog r r' q q' counted is = counted
 counted-not_disk status.AlreadyALog r r' q q' counted is = counted
+counted-not_disk (status.BadLog at) r r' q q' counted is = counted
 counted-not_disk status.NoMemory r r' q q' counted is = true≢false (sym is)
 counted-not_disk status.InputLimit r r' q q' counted is = true≢false (sym is)
 
@@ -88,6 +90,7 @@ init-barred {X} T status.NotALog a b ends =
     bar-this (T.disk a) log.NotALog (λ bar. StopsAt status.NotALog bar) ends.1.bar (inl refl)
 init-barred {X} T status.AlreadyALog a b ends =
     bar-this (T.disk a) log.AlreadyALog (λ bar. StopsAt status.AlreadyALog bar) ends.1.bar (inl refl)
+init-barred {X} T (status.BadLog at) a b ends = absurd ends
 init-barred {X} T status.NoMemory a b ends = absurd ends
 init-barred {X} T status.InputLimit a b ends = absurd ends
 
@@ -109,5 +112,6 @@ init-completes {X} T status.NotALog a b ends free no_disk no_say =
     absurd (free-no_bar (T.disk a) log.NotALog free ends.1.bar)
 init-completes {X} T status.AlreadyALog a b ends free no_disk no_say =
     absurd (free-no_bar (T.disk a) log.AlreadyALog free ends.1.bar)
+init-completes {X} T (status.BadLog at) a b ends free no_disk no_say = absurd ends
 init-completes {X} T status.NoMemory a b ends free no_disk no_say = absurd ends
 init-completes {X} T status.InputLimit a b ends free no_disk no_say = absurd ends

@@ -144,6 +144,24 @@ some_told-alike k m n bytes h =
     some-first k m.held m.number m.pending n.pending (cut bytes).whole (cut bytes).last h.pending
     ∙ ap₂ (λ (c : State) (i : ℕ). replies_to c i (take k (cut_after n bytes).whole)) h.held h.number
 
+-- and leave the same after these
+some_left-first : (k : ℕ) (c : State) (a b : List ℕ) (ls : List (List ℕ)) (last : List ℕ) → Alike a b
+    → after_lines c (take k (bytes_first a ls last).whole) ≡ after_lines c (take k (bytes_first b ls last).whole)
+some_left-first k c a b [] last h = refl
+some_left-first zero c a b (x ∷ xs) last h = refl
+some_left-first (suc k) c a b (x ∷ xs) last h = after_lines-alike c (a ++ x) (b ++ x) (take k xs) (alike-append a b x h)
+
+pub some_left-alike : (k : ℕ) (m n : Moment) (bytes : List ℕ) → AreAlike m n
+    → after_lines m.held (take k (cut_after m bytes).whole) ≡ after_lines n.held (take k (cut_after n bytes).whole)
+some_left-alike k m n bytes h =
+    some_left-first k m.held m.pending n.pending (cut bytes).whole (cut bytes).last h.pending
+    ∙ ap (λ (c : State). after_lines c (take k (cut_after n bytes).whole)) h.held
+
+-- as many lines end in them
+pub count-alike : (m n : Moment) (bytes : List ℕ) → AreAlike m n
+    → length (cut_after m bytes).whole ≡ length (cut_after n bytes).whole
+count-alike m n bytes h = count-first m.pending n.pending (cut bytes).whole (cut bytes).last
+
 -- and are alike after them
 pub moment_after-alike : AlikeStayAlike
 moment_after-alike m n bytes h =
@@ -166,6 +184,32 @@ end-alike : (c : State) (n : ℕ) (a b : List ℕ) → Alike a b
     → replies_to c n (last_line a) ≡ replies_to c n (last_line b)
 end-alike c n a b (inl same) = ap (λ (l : List ℕ). replies_to c n (last_line l)) same
 end-alike c n a b (inr long) = end-long c n a b long.0 long.1 long.2
+
+-- as do the first so many of their last lines, of which there is one at most
+last-long : (k : ℕ) (c : State) (n : ℕ) (a b : List ℕ) → line_limit < length a → line_limit < length b
+    → is_blank a ≡ is_blank b
+    → (replies_to c n (take k (last_line a)) ≡ replies_to c n (take k (last_line b)))
+    × (after_lines c (take k (last_line a)) ≡ after_lines c (take k (last_line b)))
+    × (length (last_line a) ≡ length (last_line b))
+last-long k c n [] b long long' same = absurd (omega arith)
+last-long k c n (x ∷ a) [] long long' same = absurd (omega arith)
+last-long zero c n (x ∷ a) (y ∷ b) long long' same = (refl, refl, refl)
+last-long (suc k) c n (x ∷ a) (y ∷ b) long long' same = (
+  replies-alike c n (x ∷ a) (y ∷ b) (take k []) (inr (long, long', same)),
+  after_lines-alike c (x ∷ a) (y ∷ b) (take k []) (inr (long, long', same)),
+  refl,
+)
+
+pub last-alike : (k : ℕ) (c : State) (n : ℕ) (a b : List ℕ) → Alike a b
+    → (replies_to c n (take k (last_line a)) ≡ replies_to c n (take k (last_line b)))
+    × (after_lines c (take k (last_line a)) ≡ after_lines c (take k (last_line b)))
+    × (length (last_line a) ≡ length (last_line b))
+last-alike k c n a b (inl same) = (
+  ap (λ (l : List ℕ). replies_to c n (take k (last_line l))) same,
+  ap (λ (l : List ℕ). after_lines c (take k (last_line l))) same,
+  ap (λ (l : List ℕ). length (last_line l)) same,
+)
+last-alike k c n a b (inr long) = last-long k c n a b long.0 long.1 long.2
 
 -- and tell the same at the end
 pub told_at_end-alike : AlikeEndTheSame

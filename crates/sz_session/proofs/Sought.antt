@@ -1,5 +1,5 @@
 -- What answers a search along a path of a version that is held, by what it carries or by the stores that a log gave.
-use Rattle.std.proofs.Common.{◌≡◌, ℕ, ◌≤◌, List, map, true, Option, Some, None, sym, ap, ◌∙◌, arith, subst, Bool}
+use Rattle.std.proofs.Common.{◌≡◌, ◌≤◌, List, map, true, Option, Some, None, ap, arith, Bool}
 use Rattle.std.specs.Prelude.{if◌then◌else◌}
 use Rattle.sz_spec.specs.declared.modes.Dir.{Dir}
 use Rattle.sz_spec.specs.Paths.{Step}

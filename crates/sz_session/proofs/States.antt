@@ -1,9 +1,8 @@
 -- What commands do to a state.
-use Rattle.std.proofs.Common.{◌≡◌, ℕ, List, Bool, true, false, refl, sym, ap, ◌∙◌, Option, Some, None}
+use Rattle.std.proofs.Common.{◌≡◌, true, refl, sym, ap, ◌∙◌, Option, Some, None}
 use Rattle.sz_script.specs.declared.command.Command.{Command}
 use Rattle.sz_script.specs.declared.command.Command.TheVariants as order
 use Rattle.sz_script.specs.declared.refusal.Refusal.{Refusal}
-use Rattle.sz_script.specs.Reading.{reading}
 use Rattle.std.specs.Prelude.{Result, Ok, Err}
 use Rattle.sz_catalogue.specs.Holdings.{Holdings}
 use Rattle.sz_catalogue.specs.Responses.{Response}
@@ -55,7 +54,7 @@ command-apart s command = at (judged s.held command) where
   at None = accepted-apart s command
   at (Some rule) = refl
 
-reading-apart : (s : State) (r : Result Command Refusal)
+pub reading-apart : (s : State) (r : Result Command Refusal)
     → after_reading (apart s) r ≡ (apart (after_reading s r).0, (after_reading s r).1)
 reading-apart s (Ok command) = command-apart s command
 reading-apart s (Err rule) = refl
@@ -85,7 +84,7 @@ takes-apart s d (given.Other order) (Some r) h = command-apart s order ∙ fit-a
 
 -- ---- the place stays
 
-accepted-end : (s : State) (command : Command) → (accepted s command).0.end ≡ s.end
+pub accepted-end : (s : State) (command : Command) → (accepted s command).0.end ≡ s.end
 accepted-end s (order.Array name array) = refl
 accepted-end s (order.Csv name array) = refl
 accepted-end s (order.Layers name array) = refl

@@ -1,21 +1,18 @@
 -- The versions that a log gave stay as they are.
 --
 -- The key idea: they are held and awaited, and no command changes a version that is.
-use Rattle.std.proofs.Common.{take, length, get_or, zero, ◌≡◌, ℕ, suc, ◌<◌, ◌≤◌, ◌+◌, List, [], ◌∷◌, map, Bool, true, false, refl, sym, ap, ◌∙◌}
+use Rattle.std.proofs.Common.{take, length, get_or, zero, ◌≡◌, ℕ, suc, ◌<◌, List, [], ◌∷◌, map, Bool, true, false, refl, sym, ap, ◌∙◌}
 use Rattle.std.proofs.lemmas.Bool.Decides.{nat_tests}
 use Rattle.std.proofs.Common.{true≢false, subst, arith, Option, Some, None, unwrap_or, cond, eqb-true}
 use Rattle.std.specs.Prelude.{All, ◌==◌, is_none, find, option_map, nat_lt, if◌then◌else◌}
 use Rattle.std.specs.Ordering.{nat_cmp, is_eq, match_ordering}
 use Rattle.std.proofs.Common.{Ordering, Less, Equal, Greater}
 use Rattle.std.specs.Cmp.{nat_cmp_is}
-use Rattle.std.specs.Map.{lookup, set_value, keys_of, values_of}
+use Rattle.std.specs.Map.{lookup, set_value, values_of}
 use Rattle.std.specs.BTreeMap.{is_at, insert_entry}
-use Rattle.std.proofs.lemmas.Cmp.{nat_cmp_total}
-use Rattle.sz_flow.specs.Executions.{Execution}
-use Rattle.sz_store.specs.Kept.{NodeLineage}
 use Rattle.sz_script.specs.declared.command.Command.{Command}
 use Rattle.sz_script.specs.declared.command.Command.TheVariants as order
-use Rattle.sz_catalogue.specs.Holdings.{Version, Holdings, version_numbered, no_version, greatest, next_number}
+use Rattle.sz_catalogue.specs.Holdings.{Version, Holdings, version_numbered, no_version, next_number}
 use Rattle.sz_catalogue.specs.Rules.{version_of, has_no_version}
 use Rattle.sz_catalogue.specs.Changes as changes
 use Rattle.sz_catalogue.specs.Changes.{with_version, with_await, changes_no_version}

@@ -229,7 +229,7 @@ told-line m c r replies =
     ∙ replies-line m.held c m.number m.pending r replies
 
 -- and leaves the catalogue that the line leaves
-moment-line : (m : Moment) (c : State) (r : Option Reply) → Responds m.held m.pending c r
+pub moment-line : (m : Moment) (c : State) (r : Option Reply) → Responds m.held m.pending c r
     → moment_after m (10 ∷ []) ≡ record m { held = c; pending = []; number = m.number + 1 }
 moment-line m c r replies =
     ap (moment_of m) (line-only m)

@@ -194,27 +194,41 @@ failed h = Err h
 
 -- what is said behind a line that could not be taken in, since those that wait before it could not be answered
 pub says-waited : (h : Halt) (s u : Option (List ℕ)) (x y : List ℕ) → (failed h ≡ Err halt.SayFault → SaysPart s u x)
-    → (failed h ≡ Err halt.NoMemory → Says s u []) → SaysBy (failed h) s u x y
-says-waited halt.SayFault s u x y part none = part-longer s u x y (part refl)
-says-waited halt.NoMemory s u x y part none = inl (none refl)
+    → (failed h ≡ Err halt.NoMemory → Says s u []) → (failed h ≡ Err halt.DiskFault → ⊥) → SaysBy (failed h) s u x y
+says-waited halt.SayFault s u x y part none plain = part-longer s u x y (part refl)
+says-waited halt.DiskFault s u x y part none plain = absurd (plain refl)
+says-waited halt.NoMemory s u x y part none plain = inl (none refl)
 
 -- of a say that failed, and of want of memory
 pub says-part : (h : Halt) (s u : Option (List ℕ)) (x y : List ℕ) → SaysBy (failed h) s u x y
     → failed h ≡ Err halt.SayFault → SaysPart s u (x ++ y)
 says-part halt.SayFault s u x y says is = says
+says-part halt.DiskFault s u x y says is = cc
 says-part halt.NoMemory s u x y says is = cc
 
 pub says-whole : (h : Halt) (s u : Option (List ℕ)) (x y : List ℕ) → SaysBy (failed h) s u x y
     → failed h ≡ Err halt.NoMemory → SaysWhole s u x y
 says-whole halt.SayFault s u x y says is = cc
+says-whole halt.DiskFault s u x y says is = says
 says-whole halt.NoMemory s u x y says is = says
+
+-- and of a disk that failed
+pub says-stopped : (h : Halt) (s u : Option (List ℕ)) (x y : List ℕ) → SaysBy (failed h) s u x y
+    → failed h ≡ Err halt.DiskFault → SaysWhole s u x y
+says-stopped halt.SayFault s u x y says is = cc
+says-stopped halt.DiskFault s u x y says is = says
+says-stopped halt.NoMemory s u x y says is = says
 
 -- and behind one before which all that waits was said
 pub says-line : (r : Result (Unit {0}) Halt) (s t u : Option (List ℕ)) (x y : List ℕ) → Says s t x → OnOk r (Says t u y)
-    → (r ≡ Err halt.SayFault → SaysPart t u y) → (r ≡ Err halt.NoMemory → Says t u []) → SaysBy r s u x y
-says-line (Ok v) s t u x y first whole part none = inr (inr (says-then s t u x y first whole))
-says-line (Err halt.SayFault) s t u x y first whole part none = part-then s t u x y first (part refl)
-says-line (Err halt.NoMemory) s t u x y first whole part none = inr (inl (says-quiet s t u x first (none refl)))
+    → (r ≡ Err halt.SayFault → SaysPart t u y) → (r ≡ Err halt.NoMemory → Says t u [])
+    → (r ≡ Err halt.DiskFault → Says t u []) → SaysBy r s u x y
+says-line (Ok v) s t u x y first whole part none stopped = inr (inr (says-then s t u x y first whole))
+says-line (Err halt.SayFault) s t u x y first whole part none stopped = part-then s t u x y first (part refl)
+says-line (Err halt.DiskFault) s t u x y first whole part none stopped =
+    inr (inl (says-quiet s t u x first (stopped refl)))
+says-line (Err halt.NoMemory) s t u x y first whole part none stopped =
+    inr (inl (says-quiet s t u x first (none refl)))
 
 -- ---- some lines
 

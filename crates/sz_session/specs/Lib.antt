@@ -5,6 +5,7 @@ pub mod Moments
 pub mod Serving
 pub mod Making
 pub mod Disks
+pub mod Checking
 pub mod Statuses
 pub mod Commands
 pub mod Runs
@@ -21,3 +22,7 @@ pub mod States
 pub mod Inquiries
 pub mod Carries
 pub mod Plain
+pub mod Logged
+pub mod Running
+pub mod Continuing
+pub mod Bodies

@@ -5,12 +5,12 @@
 -- the composition, step by step, of what the store of the step's way stands for where the way keeps
 -- a store, and of the operator's relation where it is the mapping or black box.
 use Rattle.std.specs.Prelude.{◌≡◌, ℕ, List, [], map, true, Option, Some, None, unwrap_or, ⊤}
-use Rattle.std.specs.List.{All, AllZip, slice_get}
+use Rattle.std.specs.List.{All, slice_get}
 use Rattle.sz_cells.specs.Cells.{Cells, named_in}
 use Rattle.sz_spec.specs.declared.op.Op.TheVariants as op
 use Rattle.sz_spec.specs.declared.modes.Dir.{Dir}
 use Rattle.sz_spec.specs.Paths.{Step, is_joined}
-use Rattle.sz_store.specs.Kept.{NodeLineage, holding_stands, stored_in}
+use Rattle.sz_store.specs.Kept.{NodeLineage, stored_in}
 use Rattle.sz_flow.specs.Executions.{Execution, execution}
 use Rattle.sz_script.specs.declared.command.NamedCell.{NamedCell}
 use Rattle.sz_query.specs.Views.{View}

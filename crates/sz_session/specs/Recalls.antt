@@ -1,5 +1,5 @@
 -- The versions that a log gave, as a session has them.
-use Rattle.std.specs.Prelude.{◌≡◌, List, true, false, All, Option, Some}
+use Rattle.std.specs.Prelude.{◌≡◌, List, true, false, All}
 use Rattle.sz_flow.specs.Executions.{Execution}
 use Rattle.sz_catalogue.specs.Holdings.{Version, Holdings}
 use Rattle.sz_catalogue.specs.Rules.{has_no_version, version_of}

@@ -22,12 +22,12 @@ use Rattle.sz_words.specs.declared.JobMode.TheVariants.{Play, Init, Run, Check, 
 
 -- ---- what the words ask for
 
--- The modes that there are: a session on a log, and the check of one, are still to come.
+-- The modes that there are.
 abbrev pub is_served : JobMode → Bool
 is_served Play = true
 is_served Init = true
-is_served Run = false
-is_served Check = false
+is_served Run = true
+is_served Check = true
 is_served Load = true
 
 abbrev pub is_play : JobMode → Bool
@@ -43,6 +43,44 @@ is_init Init = true
 is_init Run = false
 is_init Check = false
 is_init Load = false
+
+abbrev pub is_check : JobMode → Bool
+is_check Play = false
+is_check Init = false
+is_check Run = false
+is_check Check = true
+is_check Load = false
+
+abbrev pub is_run : JobMode → Bool
+is_run Play = false
+is_run Init = false
+is_run Run = true
+is_run Check = false
+is_run Load = false
+
+-- the modes that read lines
+abbrev pub is_of_lines : JobMode → Bool
+is_of_lines Play = true
+is_of_lines Init = false
+is_of_lines Run = true
+is_of_lines Check = false
+is_of_lines Load = false
+
+-- the modes that open a log
+abbrev pub is_opened : JobMode → Bool
+is_opened Play = false
+is_opened Init = false
+is_opened Run = true
+is_opened Check = true
+is_opened Load = false
+
+-- the modes that use the disk
+abbrev pub is_of_log : JobMode → Bool
+is_of_log Play = false
+is_of_log Init = true
+is_of_log Run = true
+is_of_log Check = true
+is_of_log Load = false
 
 abbrev pub is_load : JobMode → Bool
 is_load Play = false
@@ -63,6 +101,21 @@ are_play words = are_for is_play words
 
 abbrev pub are_init : List (List ℕ) → Bool
 are_init words = are_for is_init words
+
+abbrev pub are_check : List (List ℕ) → Bool
+are_check words = are_for is_check words
+
+abbrev pub are_run : List (List ℕ) → Bool
+are_run words = are_for is_run words
+
+abbrev pub are_of_lines : List (List ℕ) → Bool
+are_of_lines words = are_for is_of_lines words
+
+abbrev pub are_opened : List (List ℕ) → Bool
+are_opened words = are_for is_opened words
+
+abbrev pub are_of_log : List (List ℕ) → Bool
+are_of_log words = are_for is_of_log words
 
 abbrev pub are_load : List (List ℕ) → Bool
 are_load words = are_for is_load words

@@ -3,7 +3,7 @@
 -- Beside its catalogue a session of a log has, of each version that the log gave, the stores that
 -- were read of it. Such a version is answered by what these stand for, and any other by the composed
 -- relation. Of a log that is sound both are the same.
-use Rattle.std.specs.Prelude.{ℕ, List, [], Bool, true, false, ◌==◌, Option, Some, None, find}
+use Rattle.std.specs.Prelude.{ℕ, List, [], ◌==◌, Option, Some, None, find}
 use Rattle.std.specs.Prelude.{option_map, Result, Ok, Err}
 use Rattle.sz_cells.specs.Cells.{Cells}
 use Rattle.sz_spec.specs.declared.modes.Dir.{Dir}

@@ -7,15 +7,19 @@ use Rattle.sz_log.specs.declared.LogFault.TheVariants as log
 use Rattle.sz_session.specs.States.{State}
 use Rattle.sz_session.specs.Serving.{Done, SaidOfRead, SaidInPart, SaidInLines, SaidToLimit}
 use Rattle.sz_session.specs.Making.{ready_line, HasMade, IsSpared, IsSilent}
+use Rattle.sz_session.specs.Checking.{SaysLine, SaysPartOfLine, IsUnlike, IsBadLog}
 use Rattle.sz_session.specs.declared.feed.Halt.{Halt}
 use Rattle.sz_session.specs.declared.feed.Halt.TheVariants as halt
 use Rattle.sz_session.specs.declared.serving.Status.{Status}
 use Rattle.sz_session.specs.declared.serving.Status.TheVariants as status
+use Rattle.sz_recover.specs.declared.opening.RecoverFault.{RecoverFault}
+use Rattle.sz_recover.specs.declared.opening.RecoverFault.TheVariants as recover
 use Rattle.sz_words.specs.declared.WordsFault.{WordsFault}
 use Rattle.sz_words.specs.declared.WordsFault.TheVariants as fault
 
 abbrev pub halt_status : Halt → Status
 halt_status halt.SayFault = status.SayFault
+halt_status halt.DiskFault = status.DiskFault
 halt_status halt.NoMemory = status.NoMemory
 
 abbrev pub end_status : Result (Unit {0}) Halt → Status
@@ -33,11 +37,32 @@ log_status log.Failed = status.DiskFault
 log_status log.NotALog = status.NotALog
 log_status log.AlreadyALog = status.AlreadyALog
 
+-- a log that was not opened
+abbrev pub recover_status : RecoverFault → Status
+recover_status recover.Failed = status.DiskFault
+recover_status recover.NotALog = status.NotALog
+recover_status (recover.BadLog at) = status.BadLog at
+recover_status recover.NoMemory = status.NoMemory
+
+-- the number of a status, which is the program's exit status
+abbrev pub status_number : Status → ℕ
+status_number status.Done = 0
+status_number status.Usage = 1
+status_number status.ReadFault = 2
+status_number status.SayFault = 3
+status_number status.DiskFault = 4
+status_number status.NotALog = 5
+status_number status.AlreadyALog = 6
+status_number (status.BadLog at) = 7
+status_number status.NoMemory = 8
+status_number status.InputLimit = 9
+
 -- the statuses that come of the disk alone
 abbrev pub is_of_disk : Status → Bool
 is_of_disk status.DiskFault = true
 is_of_disk status.NotALog = true
 is_of_disk status.AlreadyALog = true
+is_of_disk (status.BadLog at) = true
 is_of_disk _ = false
 
 -- What was read and said by then, for each status that a session of lines ends with.
@@ -51,6 +76,7 @@ Ends c status.SayFault limit before left said_before said = SaidInPart c before 
 Ends c status.DiskFault limit before left said_before said = ⊥
 Ends c status.NotALog limit before left said_before said = ⊥
 Ends c status.AlreadyALog limit before left said_before said = ⊥
+Ends c (status.BadLog at) limit before left said_before said = ⊥
 Ends c status.NoMemory limit before left said_before said =
     SaidInLines c before said_before said
 Ends c status.InputLimit limit before left said_before said =
@@ -67,8 +93,21 @@ AreCounted status.SayFault reads_before reads says_before says = Rose says_befor
 AreCounted status.DiskFault reads_before reads says_before says = ⊥
 AreCounted status.NotALog reads_before reads says_before says = ⊥
 AreCounted status.AlreadyALog reads_before reads says_before says = ⊥
+AreCounted (status.BadLog at) reads_before reads says_before says = ⊥
 AreCounted status.NoMemory reads_before reads says_before says = ⊤
 AreCounted status.InputLimit reads_before reads says_before says = ⊤
+
+-- The same of a session of a log: where its disk failed, what was said is whole replies.
+abbrev pub EndsLines : State → Status → ℕ → Option (List ℕ) → Option (List ℕ)
+    → Option (List ℕ) → Option (List ℕ) → Type 0
+EndsLines c status.DiskFault limit before left said_before said =
+    SaidInLines c before said_before said
+EndsLines c s limit before left said_before said = Ends c s limit before left said_before said
+
+abbrev pub AreCountedInLines : Status → ℕ → ℕ → ℕ → ℕ → Type 0
+AreCountedInLines status.DiskFault reads_before reads says_before says = ⊤
+AreCountedInLines s reads_before reads says_before says =
+    AreCounted s reads_before reads says_before says
 
 -- What was said by then of its line, for each status that the generated session ends with.
 abbrev pub EndsLoad : Status → List ℕ → Option (List ℕ) → Option (List ℕ) → Type 0
@@ -79,6 +118,7 @@ EndsLoad status.SayFault line said_before said = SaysPart said_before said line
 EndsLoad status.DiskFault line said_before said = ⊥
 EndsLoad status.NotALog line said_before said = ⊥
 EndsLoad status.AlreadyALog line said_before said = ⊥
+EndsLoad (status.BadLog at) line said_before said = ⊥
 EndsLoad status.NoMemory line said_before said = Says said_before said []
 EndsLoad status.InputLimit line said_before said = ⊥
 
@@ -95,5 +135,23 @@ EndsInit T status.DiskFault old new = IsSilent T old new
     × Rose (T.disk_faults old) (T.disk_faults new)
 EndsInit T status.NotALog old new = IsSilent T old new × IsSpared T log.NotALog old new
 EndsInit T status.AlreadyALog old new = IsSilent T old new × IsSpared T log.AlreadyALog old new
+EndsInit T (status.BadLog at) old new = ⊥
 EndsInit T status.NoMemory old new = ⊥
 EndsInit T status.InputLimit old new = ⊥
+
+-- What was said by then, and what is known of the log, for each status that the check of one ends
+-- with.
+abbrev pub EndsCheck : {X : Type 0} → Ghosts X → Status → X → X → Type 0
+EndsCheck T status.Done old new = SaysLine T old new × Stood (T.say_faults old) (T.say_faults new)
+    × Stood (T.disk_faults old) (T.disk_faults new)
+EndsCheck T status.Usage old new = ⊥
+EndsCheck T status.ReadFault old new = ⊥
+EndsCheck T status.SayFault old new = SaysPartOfLine T old new
+    × Rose (T.say_faults old) (T.say_faults new)
+EndsCheck T status.DiskFault old new = IsSilent T old new
+    × Rose (T.disk_faults old) (T.disk_faults new)
+EndsCheck T status.NotALog old new = IsSilent T old new × IsUnlike T old new
+EndsCheck T status.AlreadyALog old new = ⊥
+EndsCheck T (status.BadLog at) old new = IsSilent T old new × IsBadLog T at old new
+EndsCheck T status.NoMemory old new = IsSilent T old new
+EndsCheck T status.InputLimit old new = ⊥

@@ -10,6 +10,13 @@ use Rattle.sz_session.specs.Asks.{asks_text}
 use Rattle.sz_session.specs.declared.asking.AskLine.{AskLine}
 use Rattle.sz_session.specs.declared.feed.Halt.{Halt}
 use Rattle.sz_session.specs.declared.feed.Halt.TheVariants as halt
+use Rattle.sz_session.specs.declared.session.Stop.{Stop}
+use Rattle.sz_session.specs.declared.session.Stop.TheVariants as stop
+
+-- why a session stops where a line was not taken
+abbrev pub stop_halt : Stop → Halt
+stop_halt stop.DiskFault = halt.DiskFault
+stop_halt stop.NoMemory = halt.NoMemory
 
 -- the reply lines of some replies to lines
 abbrev pub told_text : List AskLine → List Reply → List ℕ
@@ -31,7 +38,7 @@ abbrev pub SaysWhole : Option (List ℕ) → Option (List ℕ) → List ℕ → 
 SaysWhole said_before said first further = Says said_before said []
     ⊎ (Says said_before said first ⊎ Says said_before said (first ++ further))
 
--- where a say failed, a first part of both texts was said, and else no part of one
+-- where a say failed, a first part of both texts was said, and else whole ones
 abbrev pub SaysBy : {U : Type 0} → Result U Halt → Option (List ℕ) → Option (List ℕ) → List ℕ
     → List ℕ → Type 0
 SaysBy (Err halt.SayFault) said_before said first further =

@@ -5,24 +5,31 @@
 //! What the feed keeps of a line past the limit is less than came of it, and *like* it: it tells
 //! the same whatever comes behind it. So every call says of the moment after it that it is like the
 //! one which kept all.
+//!
+//! A session of a log writes what a line makes durable before the line's reply is said, and asks do
+//! not wait there. So a stop finds the replies of so many lines, and a part of the next one's, and
+//! the log of what is durable behind those lines or behind the next one too (`found`).
 ghost use Rattle.std.specs.Prelude.{◌≡◌, ℕ, List, Option, ◌<◌, ◌≤◌, ◌+◌, ◌-◌, ◌^◌};
 ghost use Rattle.std.specs.Prelude.{◌++◌, [], ◌∷◌, Err, IfOk, OnOk, OnErr, MatchOption, length};
-ghost use Rattle.std.specs.Prelude.{drop, take, slice_index, true, false};
+ghost use Rattle.std.specs.Prelude.{drop, take, slice_index, true, false, None};
 ghost use Rattle.std.specs.List.{AllByRecursion};
 ghost use Rattle.sz_outside.specs.Outside.{Rose, Stood, Says, SaysPart};
+ghost use Rattle.sz_session.specs.States.{apart};
 ghost use Rattle.sz_session.specs.Lines.{is_blank, is_within_line};
 ghost use Rattle.sz_script.specs.Right.{is_right};
 ghost use Rattle.sz_session.specs.Moments.{moment_before, cut_after, told_in, told_at_end, Alike};
 ghost use Rattle.sz_session.specs.Serving.{Advances, SaysFirst, line_to_say, nothing_held};
 ghost use Rattle.sz_session.specs.Asks.{IsAskLine, asks_text};
-ghost use Rattle.sz_session.specs.Given.{Gives, IsRight};
+ghost use Rattle.sz_session.specs.Given.{Gives, IsRight, Takes};
 ghost use Rattle.sz_session.specs.Waiting.{Lags, SaysBy, told_text};
 ghost use Rattle.sz_session.specs.declared.session.Given.TheVariants as given;
 ghost use Rattle.sz_session.specs.Disks.{OnlySays};
+ghost use Rattle.sz_session.specs.Logged.{KeepsLog};
+ghost use Rattle.sz_session.specs.Running.{IfSome, IsBeside, StaysBeside, FindsIn, FindsAtEnd};
 
 use crate::asking::AskLine;
 use crate::blank::is_blank;
-use crate::session::{Given, Session};
+use crate::session::{Given, Session, Stop};
 use std::alloc::{AllocError, Global};
 use std::marker::Model;
 use std::sync::Wait;
@@ -60,6 +67,7 @@ impl Model for Feed {
 #[derive(Clone, Copy, Debug, Drop, PartialEq, Eq)]
 pub enum Halt {
     SayFault,
+    DiskFault,
     NoMemory,
 }
 
@@ -72,6 +80,21 @@ impl From<Failed> for Halt {
 
     fn from(_fault: Failed) -> Halt {
         Halt::SayFault
+    }
+}
+
+/// A line that was not taken.
+impl From<Stop> for Halt {
+    ghost use Rattle.std.specs.Prelude.{◌≡◌};
+    ghost use Rattle.sz_session.specs.Waiting.{stop_halt};
+
+    ghost from_gives = { λ stop e. e ≡ stop_halt stop };
+
+    fn from(stop: Stop) -> Halt {
+        match stop {
+            Stop::DiskFault => Halt::DiskFault,
+            Stop::NoMemory => Halt::NoMemory,
+        }
     }
 }
 
@@ -113,6 +136,23 @@ impl Feed {
         })
     }
 
+    /// Nothing was read yet, of a session.
+    pub(crate) fn over(alloc: Global, session: Session) -> Feed
+        ensures { result ≡ record {
+          held = apart session;
+          pending = [];
+          number = 1;
+          end = session.end;
+        } }
+    {
+        Feed {
+            session,
+            pending: Vec::new(alloc),
+            number: 1,
+            alloc,
+        }
+    }
+
     /// The session whose lines it takes in.
     pub(crate) fn session(&self) -> &Session {
         &self.session
@@ -129,7 +169,8 @@ impl Feed {
         station: &mut T,
         gate: &G,
     ) -> Result<(), Halt>
-        requires { self.old.number + length chunk.now < 2 ^ 64 }
+        requires number { self.old.number + length chunk.now < 2 ^ 64 }
+        requires log { IsBeside T.Station self.old station.old }
         ensures chunk { OnOk result (
             Advances (T.said station.old) (T.said station.new) self.old self.new chunk.now) }
         ensures part { result ≡ Err Halt.SayFault
@@ -137,11 +178,23 @@ impl Feed {
         ensures first { result ≡ Err Halt.NoMemory
             → SaysFirst (T.said station.old) (T.said station.new)
             self.old.held self.old.number (cut_after self.old chunk.now).whole }
+        ensures stopped { result ≡ Err Halt.DiskFault
+            → SaysFirst (T.said station.old) (T.said station.new)
+            self.old.held self.old.number (cut_after self.old chunk.now).whole }
         ensures number { OnOk result (self.new.number ≤ self.old.number + length chunk.now) }
         ensures fault { result ≡ Err Halt.SayFault
             → Rose (T.say_faults station.old) (T.say_faults station.new) }
         ensures quiet { OnOk result (Stood (T.say_faults station.old) (T.say_faults station.new)) }
-        ensures disk { OnlySays T.Station (told_in self.old chunk.now) station.old station.new }
+        ensures disk { self.old.end ≡ None
+            → OnlySays T.Station (told_in self.old chunk.now) station.old station.new }
+        ensures log { OnOk result
+            (StaysBeside T.Station self.old self.new station.old station.new) }
+        ensures found { FindsIn T.Station self.old chunk.now station.old station.new }
+        ensures disk_quiet { OnOk result
+            (Stood (T.disk_faults station.old) (T.disk_faults station.new)) }
+        ensures disk_fault { result ≡ Err Halt.DiskFault
+            → Rose (T.disk_faults station.old) (T.disk_faults station.new) }
+        ensures plain { self.old.end ≡ None → result ≡ Err Halt.DiskFault → ⊥ }
     {
         let mut waiting = Vec::new(self.alloc);
         let mut start = 0;
@@ -161,17 +214,29 @@ impl Feed {
         station: &mut T,
         gate: &G,
     ) -> Result<(), Halt>
-        requires { self.old.number + 1 < 2 ^ 64 }
+        requires number { self.old.number + 1 < 2 ^ 64 }
+        requires log { IsBeside T.Station self.old station.old }
         ensures whole { OnOk result (
             Says (T.said station.old) (T.said station.new) (told_at_end self.old)) }
         ensures part { result ≡ Err Halt.SayFault
             → SaysPart (T.said station.old) (T.said station.new) (told_at_end self.old) }
         ensures nothing { result ≡ Err Halt.NoMemory
             → Says (T.said station.old) (T.said station.new) [] }
+        ensures stopped { result ≡ Err Halt.DiskFault
+            → Says (T.said station.old) (T.said station.new) [] }
         ensures fault { result ≡ Err Halt.SayFault
             → Rose (T.say_faults station.old) (T.say_faults station.new) }
         ensures quiet { OnOk result (Stood (T.say_faults station.old) (T.say_faults station.new)) }
-        ensures disk { OnlySays T.Station (told_at_end self.old) station.old station.new }
+        ensures disk { self.old.end ≡ None
+            → OnlySays T.Station (told_at_end self.old) station.old station.new }
+        ensures log { OnOk result
+            (StaysBeside T.Station self.old self.new station.old station.new) }
+        ensures found { FindsAtEnd T.Station self.old station.old station.new }
+        ensures disk_quiet { OnOk result
+            (Stood (T.disk_faults station.old) (T.disk_faults station.new)) }
+        ensures disk_fault { result ≡ Err Halt.DiskFault
+            → Rose (T.disk_faults station.old) (T.disk_faults station.new) }
+        ensures plain { self.old.end ≡ None → result ≡ Err Halt.DiskFault → ⊥ }
     {
         if self.pending.as_slice().is_empty() {
             Ok(())
@@ -188,6 +253,7 @@ impl Feed {
             (said : Option (List ℕ)) → Advances said said self.old self.new bytes.now) }
         ensures number { self.new.number ≡ self.old.number }
         ensures held { self.new.held ≡ self.old.held }
+        ensures end { self.new.end ≡ self.old.end }
         ensures err { OnErr result (result ≡ Err Halt.NoMemory) }
     {
         let kept = bytes_to_keep(&self.pending, bytes);
@@ -202,18 +268,30 @@ impl Feed {
         station: &mut T,
         gate: &G,
     ) -> Result<(), Halt>
-        requires { self.old.number + 1 < 2 ^ 64 }
+        requires number { self.old.number + 1 < 2 ^ 64 }
+        requires log { IsBeside T.Station self.old station.old }
         ensures line { OnOk result (
             Advances (T.said station.old) (T.said station.new) self.old self.new (10 ∷ [])) }
         ensures part { result ≡ Err Halt.SayFault
             → SaysPart (T.said station.old) (T.said station.new) (told_in self.old (10 ∷ [])) }
         ensures nothing { result ≡ Err Halt.NoMemory
             → Says (T.said station.old) (T.said station.new) [] }
+        ensures stopped { result ≡ Err Halt.DiskFault
+            → Says (T.said station.old) (T.said station.new) [] }
         ensures next { OnOk result (self.new.number ≡ self.old.number + 1) }
         ensures fault { result ≡ Err Halt.SayFault
             → Rose (T.say_faults station.old) (T.say_faults station.new) }
         ensures quiet { OnOk result (Stood (T.say_faults station.old) (T.say_faults station.new)) }
-        ensures disk { OnlySays T.Station (told_in self.old (10 ∷ [])) station.old station.new }
+        ensures disk { self.old.end ≡ None
+            → OnlySays T.Station (told_in self.old (10 ∷ [])) station.old station.new }
+        ensures log { OnOk result
+            (StaysBeside T.Station self.old self.new station.old station.new) }
+        ensures found { FindsIn T.Station self.old (10 ∷ []) station.old station.new }
+        ensures disk_quiet { OnOk result
+            (Stood (T.disk_faults station.old) (T.disk_faults station.new)) }
+        ensures disk_fault { result ≡ Err Halt.DiskFault
+            → Rose (T.disk_faults station.old) (T.disk_faults station.new) }
+        ensures plain { self.old.end ≡ None → result ≡ Err Halt.DiskFault → ⊥ }
     {
         let given = self.session.read(&self.pending)?;
         self.end_with(rt, given, station, gate)
@@ -230,25 +308,75 @@ impl Feed {
         requires number { self.old.number + 1 < 2 ^ 64 }
         requires gives { Gives self.old.pending given }
         requires right { IsRight given }
+        requires log { IsBeside T.Station self.old station.old }
         ensures line { OnOk result (
             Advances (T.said station.old) (T.said station.new) self.old self.new (10 ∷ [])) }
         ensures part { result ≡ Err Halt.SayFault
             → SaysPart (T.said station.old) (T.said station.new) (told_in self.old (10 ∷ [])) }
         ensures nothing { result ≡ Err Halt.NoMemory
             → Says (T.said station.old) (T.said station.new) [] }
+        ensures stopped { result ≡ Err Halt.DiskFault
+            → Says (T.said station.old) (T.said station.new) [] }
         ensures next { OnOk result (self.new.number ≡ self.old.number + 1) }
         ensures fault { result ≡ Err Halt.SayFault
             → Rose (T.say_faults station.old) (T.say_faults station.new) }
         ensures quiet { OnOk result (Stood (T.say_faults station.old) (T.say_faults station.new)) }
-        ensures disk { OnlySays T.Station (told_in self.old (10 ∷ [])) station.old station.new }
+        ensures disk { self.old.end ≡ None
+            → OnlySays T.Station (told_in self.old (10 ∷ [])) station.old station.new }
+        ensures log { OnOk result
+            (StaysBeside T.Station self.old self.new station.old station.new) }
+        ensures found { FindsIn T.Station self.old (10 ∷ []) station.old station.new }
+        ensures disk_quiet { OnOk result
+            (Stood (T.disk_faults station.old) (T.disk_faults station.new)) }
+        ensures disk_fault { result ≡ Err Halt.DiskFault
+            → Rose (T.disk_faults station.old) (T.disk_faults station.new) }
+        ensures plain { self.old.end ≡ None → result ≡ Err Halt.DiskFault → ⊥ }
     {
-        let mut tally = Tally::new();
-        let reply = self
-            .session
-            .take_apart(rt, given, self.number, gate, &mut tally)?;
-        say(self.alloc, self.number, reply, station)?;
+        let number = self.number;
+        let reply = self.take(rt, given, station, gate)?;
+        say(self.alloc, number, reply, station)?;
         self.next_line();
         Ok(())
+    }
+
+    /// Has the session take the line that has not ended, which gives this, and gives its reply.
+    fn take<T: Station, G: Gate, R: Threads + Wait + Sync>(
+        &mut self,
+        rt: &R,
+        given: Given,
+        station: &mut T,
+        gate: &G,
+    ) -> Result<Option<Reply>, Halt>
+        requires gives { Gives self.old.pending given }
+        requires right { IsRight given }
+        requires log { IsBeside T.Station self.old station.old }
+        ensures reply { IfOk result (λ r. Takes self.old.held given self.new.held r) }
+        ensures same { OnOk result
+            (self.new ≡ record self.old { held = self.new.held; end = self.new.end }) }
+        ensures log { OnOk result (KeepsLog T.Station self.old.held.held self.old.end
+            self.new.held.held self.new.end station.old station.new) }
+        ensures found { FindsIn T.Station self.old (10 ∷ []) station.old station.new }
+        ensures output { (T.said station.new ≡ T.said station.old)
+            × (T.say_faults station.new ≡ T.say_faults station.old) }
+        ensures err { result ≡ Err Halt.SayFault → ⊥ }
+        ensures disk { self.old.end ≡ None → station.new ≡ station.old }
+        ensures disk_quiet { OnOk result
+            (Stood (T.disk_faults station.old) (T.disk_faults station.new)) }
+        ensures disk_fault { result ≡ Err Halt.DiskFault
+            → Rose (T.disk_faults station.old) (T.disk_faults station.new) }
+        ensures plain { self.old.end ≡ None → result ≡ Err Halt.DiskFault → ⊥ }
+    {
+        let mut tally = Tally::new();
+        let reply = self.session.take_on(
+            rt,
+            given,
+            &self.pending,
+            self.number,
+            station,
+            gate,
+            &mut tally,
+        )?;
+        Ok(reply)
     }
 
     /// Begins the next line.
@@ -261,8 +389,8 @@ impl Feed {
     }
 
     /// Ends the line that has not ended, behind asks that wait. An ask waits too, where there are
-    /// several askers; before any other line, and where as many wait as there are askers, the replies
-    /// of those that wait are said.
+    /// several askers and no log; before any other line, and where as many wait as there are askers,
+    /// the replies of those that wait are said.
     fn take_line<T: Station, G: Gate, R: Threads + Wait + Sync>(
         &mut self,
         rt: &R,
@@ -273,6 +401,8 @@ impl Feed {
         requires number { self.old.number + 1 < 2 ^ 64 }
         requires asks { AllByRecursion IsAskLine waiting.old.items }
         requires few { length waiting.old.items ≤ 64 }
+        requires idle { IfSome self.old.end (λ at. waiting.old.items ≡ []) }
+        requires log { IsBeside T.Station self.old station.old }
         ensures lags { OnOk result (Lags (T.said station.old) (T.said station.new)
             self.old self.new waiting.old.items waiting.new.items) }
         ensures says { SaysBy result (T.said station.old) (T.said station.new)
@@ -280,16 +410,25 @@ impl Feed {
         ensures next { OnOk result (self.new.number ≡ self.old.number + 1) }
         ensures asks { OnOk result (AllByRecursion IsAskLine waiting.new.items) }
         ensures few { OnOk result (length waiting.new.items ≤ 64) }
+        ensures idle { OnOk result (IfSome self.new.end (λ at. waiting.new.items ≡ [])) }
         ensures fault { result ≡ Err Halt.SayFault
             → Rose (T.say_faults station.old) (T.say_faults station.new) }
         ensures quiet { OnOk result (Stood (T.say_faults station.old) (T.say_faults station.new)) }
-        ensures disk { OnlySays T.Station
+        ensures disk { self.old.end ≡ None → OnlySays T.Station
             (asks_text self.old.held waiting.old.items ++ told_in self.old (10 ∷ []))
             station.old station.new }
+        ensures log { OnOk result
+            (StaysBeside T.Station self.old self.new station.old station.new) }
+        ensures found { FindsIn T.Station self.old (10 ∷ []) station.old station.new }
+        ensures disk_quiet { OnOk result
+            (Stood (T.disk_faults station.old) (T.disk_faults station.new)) }
+        ensures disk_fault { result ≡ Err Halt.DiskFault
+            → Rose (T.disk_faults station.old) (T.disk_faults station.new) }
+        ensures plain { self.old.end ≡ None → result ≡ Err Halt.DiskFault → ⊥ }
     {
         let given = self.session.read(&self.pending)?;
         match given {
-            Given::Ask(ask) if self.session.has_askers() => {
+            Given::Ask(ask) if self.has_askers() => {
                 self.take_ask(rt, ask, waiting, station, gate)
             }
             given => {
@@ -299,8 +438,15 @@ impl Feed {
         }
     }
 
+    /// Whether asks are answered beside one another: there are several askers, and no log.
+    fn has_askers(&self) -> bool
+        ensures { result ≡ true → self.now.end ≡ None }
+    {
+        self.session.end.is_none() && self.session.has_askers()
+    }
+
     /// Ends the line that has not ended, which gives an ask: it waits behind others, whose replies are
-    /// said first where there are as many as askers.
+    /// said first where there are as many as askers. The session has no log.
     fn take_ask<T: Station, G: Gate, R: Threads + Wait + Sync>(
         &mut self,
         rt: &R,
@@ -327,6 +473,8 @@ impl Feed {
         ensures disk { OnlySays T.Station
             (asks_text self.old.held waiting.old.items ++ told_in self.old (10 ∷ []))
             station.old station.new }
+        ensures end { OnOk result (self.new.end ≡ self.old.end) }
+        ensures plain { result ≡ Err Halt.DiskFault → ⊥ }
     {
         if !self.session.is_full(waiting.len()) {
             return Ok(self.wait(ask, waiting)?);
@@ -375,6 +523,8 @@ impl Feed {
         ensures quiet { OnOk result (Stood (T.say_faults station.old) (T.say_faults station.new)) }
         ensures disk { OnlySays T.Station (asks_text self.old.held waiting.old.items)
             station.old station.new }
+        ensures idle { waiting.old.items ≡ [] → station.new ≡ station.old }
+        ensures plain { result ≡ Err Halt.DiskFault → ⊥ }
     {
         if waiting.is_empty() {
             return Ok(());
@@ -419,6 +569,7 @@ fn say<T: Station>(
         → Rose (T.say_faults station.old) (T.say_faults station.new) }
     ensures quiet { OnOk result (Stood (T.say_faults station.old) (T.say_faults station.new)) }
     ensures disk { OnlySays T.Station (line_to_say number reply) station.old station.new }
+    ensures plain { result ≡ Err Halt.DiskFault → ⊥ }
 {
     let Some(reply) = reply else {
         return Ok(());

@@ -9,6 +9,7 @@ ghost use Rattle.sz_session.specs.Laws.{AlikeTellTheSame, AlikeStayAlike, AlikeE
 ghost use Rattle.sz_session.specs.Laws.{FirstRepliesAreAPart, RepliesGoOn, TranscriptsGoOn};
 ghost use Rattle.sz_session.specs.Laws.{BlankLinesAreCounted, OtherLinesHaveOneReply};
 ghost use Rattle.sz_session.specs.Laws.{SessionsOfNoLogArePlain};
+ghost use Rattle.sz_session.specs.Logged.{OpenedLogsStand};
 
 /// The lines of a text are the bytes between its newlines, and those behind the last one where
 /// there are any.
@@ -62,4 +63,10 @@ pub fn each_line_has_one_reply_unless_blank()
 /// `specs/Plain`, in whose definitions no store stands.
 pub fn sessions_of_no_log_are_plain()
     ensures { SessionsOfNoLogArePlain }
+{}
+
+/// All that is held of a log that was opened is durable, so the log stands beside the session of
+/// what it held, as [`crate::Session::command`] asks.
+pub fn opened_logs_stand()
+    ensures { OpenedLogsStand }
 {}

@@ -16,6 +16,11 @@
 //! as it is, since it is a log already or too long (`barred`); a stop at any moment leaves the old
 //! bytes, at most 17 bytes that are no log, or the empty log (`found_in_init`).
 //!
+//! In mode check the log on the disk is opened and its stores are compared with what the operators
+//! relate, and one line says what was found (`checked`, `specs/Checking`). A disk that does not
+//! begin as a log, and a log with a bad group, have statuses of their own (`no_log`, `unlike`,
+//! `bad_log`), and the disk is as before (`found_in_check`).
+//!
 //! In mode load the lines are those of a session that is made from a seed and a side (`sz_gen`), and
 //! what is said is the one line that sums up their replies (`load`); `load_after_say_fault` and
 //! `load_after_no_memory` say what was said of it by the other endings. Words that ask for no mode
@@ -39,13 +44,25 @@
 //! along its path (`finding`), or shown. `staff` is the threads. `docs/FORMATS.md` describes lines
 //! and replies, `docs/DEFINITIONS.md` reads the definitions aloud.
 //!
+//! In mode run the log of the station is opened, and the session goes on from it (`run`): what is
+//! said is the transcript from what the log holds, and a stop at any moment finds the replies of so
+//! many lines said, and perhaps a part of the next one, and leaves a well-made log of what is durable
+//! behind those lines, or behind one more. In mode check the log is opened, and one line says whether
+//! each of its stores stands for the relation (`checked`).
+//!
 //! A log that was opened is gone on from by [`Session::of_log`]: it holds what the log holds, computes
 //! the values of its versions again, and answers of each by the stores that were read of it, whatever
 //! they stand for (`cells_recalled` of `specs/Recalled`). Where they stand for the relation that is
 //! the composed relation ([`recalling::sound_stores_answer_the_relation`]). So contracts see a session
 //! as a `State`: its catalogue, and beside it the stores that a log gave; of a session of no log the
-//! catalogue says all ([`laws::sessions_of_no_log_are_plain`]). Such a session does not write to its
-//! log yet, and no mode makes one.
+//! catalogue says all ([`laws::sessions_of_no_log_are_plain`]).
+//!
+//! What a command of such a session makes durable is written to the log before its reply is given
+//! (`logging`): an accepted line that holds an array or a flow or sets strategies, and a version at
+//! its first await, with stores that stand for the relation. `specs/Logged` says what the station has
+//! beside the session (`HasLog`), what a command makes of it (`KeepsLog`) and what a stop leaves
+//! (`StopsInLog`); `specs/Running` says it of lines, one after another, and `specs/Continuing` of the
+//! whole call.
 //!
 //! To whoever changes this crate: what bytes tell as they come, and the moment that they leave, are
 //! functions of `specs/Moments.antt`, and both go by parts. `feed` is at each turn *like* that
@@ -68,13 +85,16 @@
 
 mod asking;
 mod blank;
+mod bodies;
 mod building;
 mod carry;
+mod checking;
 mod feed;
 mod finding;
 mod inquiry;
 pub mod laws;
 mod load;
+mod logging;
 mod making;
 pub mod recalling;
 mod recalls;

@@ -23,6 +23,8 @@ ghost use Rattle.sz_session.specs.Views.{strategy_told};
 ghost use Rattle.sz_session.specs.Searches.{IsSearchOf};
 ghost use Rattle.sz_session.specs.Serving.{nothing_held};
 ghost use Rattle.sz_session.specs.States.{logged_of};
+ghost use Rattle.sz_session.specs.Logged.{HasLog, KeepsLog, StopsInLog, held_after};
+ghost use Rattle.sz_outside.specs.Outside.{Rose, Stood};
 ghost use Rattle.sz_session.specs.Inquiries.{IsInquiryOf};
 ghost use Rattle.sz_session.specs.Recalls.{IsRecalledIn};
 ghost use Rattle.sz_session.specs.Runs.{executions_of};
@@ -50,7 +52,7 @@ use sz_catalogue::{Catalogue, Reply};
 use sz_cells::NoMemory;
 use sz_flow::NodeRun;
 use sz_log::LogEnd;
-use sz_outside::{Gate, Station};
+use sz_outside::{Failed, Gate, Station};
 use sz_pool::{Receiver, Task, one_more, tasks};
 use sz_query::{Found, Used};
 use sz_recover::Recovered;
@@ -64,10 +66,10 @@ use sz_spec::{Dir, Strategy, Tally};
 /// workers.
 #[derive(Drop)]
 pub struct Session {
-    catalogue: Catalogue<Carry>,
+    pub(crate) catalogue: Catalogue<Carry>,
     recalled: Vec<Recalled>,
-    end: Option<LogEnd>,
-    alloc: Global,
+    pub(crate) end: Option<LogEnd>,
+    pub(crate) alloc: Global,
     hands: Hands,
     tasks: Receiver<Task>,
     askers: Askers,
@@ -89,9 +91,11 @@ impl Model for Session {
     ghost invariant = { λ s. IsInService s.catalogue s.recalled.items };
 }
 
-/// Why a command was not done.
+/// Why a command was not done. The session is to be let go then.
 #[derive(Clone, Copy, Debug, Drop, PartialEq, Eq)]
 pub enum Stop {
+    /// A call of the disk failed while the log was written.
+    DiskFault,
     /// There was no memory.
     NoMemory,
 }
@@ -104,6 +108,18 @@ impl From<NoMemory> for Stop {
 
     fn from(_fault: NoMemory) -> Stop {
         Stop::NoMemory
+    }
+}
+
+/// A log that was not written.
+impl From<Failed> for Stop {
+    ghost use Rattle.std.specs.Prelude.{◌≡◌};
+    ghost use Rattle.sz_session.specs.declared.session.Stop.TheVariants as stop;
+
+    ghost from_gives = { λ _ e. e ≡ stop.DiskFault };
+
+    fn from(_fault: Failed) -> Stop {
+        Stop::DiskFault
     }
 }
 
@@ -190,26 +206,45 @@ impl Session {
     /// A start costs the values of its nodes, each computed once, and a shelf with tasks for each
     /// node with a stored strategy. An await costs the pieces of lineage that workers left undone.
     /// Any other line costs what it reads, looks up and answers.
+    ///
+    /// For a session of a log the station's disk is that log (`HasLog`): what the line makes durable
+    /// is appended to it, at the cost of the group's bytes, and no write is pending then. At every
+    /// moment a stop leaves a log of what was durable before, or of what is then (`stops`). Where the
+    /// disk fails the log has to be opened again. A session of no log makes no call on the station.
     pub fn command<T: Station, G: Gate, R: Threads + Wait + Sync>(
         &mut self,
         rt: &R,
         line: &[u8],
         number: u64,
-        _station: &mut T,
+        station: &mut T,
         gate: &G,
         tally: &mut Tally,
     ) -> Result<Option<Reply>, Stop>
-        requires { tally.old + 32 * 1048576 < 2 ^ 63 }
-        ensures reply { IfOk result (λ r. Responds self.old line.now self.new r) }
+        requires room { tally.old + 32 * 1048576 < 2 ^ 63 }
+        requires log { HasLog T.Station self.old.held self.old.end station.old }
+        ensures reply { IfOk result
+            (λ r. Responds (apart self.old) line.now (apart self.new) r) }
         ensures least { OnOk result
             (tally.old + traced_for_line self.old line.now ≤ tally.new) }
         ensures most { OnOk result (tally.new ≤ tally.old + most_for_line self.old line.now) }
-        ensures stop { OnErr result (result ≡ Err Stop.NoMemory) }
-        ensures kept { OnErr result (self.new ≡ self.old) }
-        ensures station { _station.new ≡ _station.old }
+        ensures kept { result ≡ Err Stop.NoMemory
+            → (self.new ≡ self.old) × (station.new ≡ station.old) }
+
+        // The log.
+        ensures log { OnOk result (KeepsLog T.Station self.old.held self.old.end
+            self.new.held self.new.end station.old station.new) }
+        ensures again { OnOk result (HasLog T.Station self.new.held self.new.end station.new) }
+        ensures stops { StopsInLog T.Station self.old.held self.old.end
+            (held_after self.old line.now) station.old station.new }
+        ensures output { (T.said station.new ≡ T.said station.old)
+            × (T.say_faults station.new ≡ T.say_faults station.old) }
+        ensures quiet { OnOk result (Stood (T.disk_faults station.old) (T.disk_faults station.new)) }
+        ensures fault { result ≡ Err Stop.DiskFault
+            → Rose (T.disk_faults station.old) (T.disk_faults station.new) }
+        ensures plain { self.old.end ≡ None → result ≡ Err Stop.DiskFault → ⊥ }
     {
         let given = self.read(line)?;
-        Ok(self.take_given(rt, given, number, gate, tally)?)
+        self.take_on(rt, given, line, number, station, gate, tally)
     }
 
     /// What a line gives. Costs what reading it costs.
@@ -356,7 +391,7 @@ impl Session {
     }
 
     /// Judges a command, and takes it where no rule refuses it.
-    fn judge<G: Gate, R: Threads + Wait + Sync>(
+    pub(crate) fn judge<G: Gate, R: Threads + Wait + Sync>(
         &mut self,
         rt: &R,
         command: Command,
@@ -380,7 +415,7 @@ impl Session {
     }
 
     /// Takes a command that no rule refuses.
-    fn take<G: Gate, R: Threads + Wait + Sync>(
+    pub(crate) fn take<G: Gate, R: Threads + Wait + Sync>(
         &mut self,
         rt: &R,
         command: Command,
@@ -427,7 +462,7 @@ impl Session {
     }
 
     /// Takes a command that changes what is held and no version.
-    fn accept(&mut self, command: Command) -> Result<Reply, NoMemory>
+    pub(crate) fn accept(&mut self, command: Command) -> Result<Reply, NoMemory>
         requires right { is_right command ≡ true }
         requires judged { judged self.old.held command ≡ None }
         requires kind { changes_no_version command ≡ true }
@@ -468,7 +503,7 @@ impl Session {
 
     /// Awaits a version: makes what is missing of its stores, takes them off their shelves, and notes
     /// the await. One that a log gave was awaited before, and has its stores.
-    fn await_version<R: Wait>(&mut self, rt: &R, version: u32) -> Result<Reply, NoMemory>
+    pub(crate) fn await_version<R: Wait>(&mut self, rt: &R, version: u32) -> Result<Reply, NoMemory>
         requires judged { judged self.old.held (order.Await version) ≡ None }
         ensures reply { IfOk result
             (λ r. accepted self.old (order.Await version) ≡ (self.new, response_of r)) }

@@ -1,5 +1,5 @@
 -- Those before the place have other numbers.
-use Rattle.std.proofs.Common.{◌≡◌, ◌==◌, ◌<◌, ◌+◌, suc, take, length, Bool, None, ℕ, List, sym, ap, ◌∙◌, subst, arith, refl}
+use Rattle.std.proofs.Common.{◌≡◌, ◌==◌, ◌+◌, suc, take, Bool, None, ℕ, sym, ◌∙◌, subst, arith, refl}
 use Rattle.std.specs.Prelude.{find}
 use Rattle.sz_session.specs.Recalls.{Recall}
 use Rattle.sz_session.proofs.Stays.{none-more, found-at, is-equal, is-unequal}

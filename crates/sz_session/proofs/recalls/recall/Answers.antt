@@ -1,13 +1,12 @@
 -- The version is held and in order, so its flow fits its base arrays.
-use Rattle.std.proofs.Common.{◌≡◌, ℕ, List, length, true, Ok, Some, map, sym, ap, ◌∙◌, subst}
+use Rattle.std.proofs.Common.{◌≡◌, List, length, true, Ok, map, sym, ap, ◌∙◌, subst}
 use Rattle.std.specs.Arc.{arc_value}
-use Rattle.std.specs.Prelude.{Result}
 use Rattle.std.proofs.lemmas.List.{length-map}
 use Rattle.sz_cells.specs.Extent.{Extent}
 use Rattle.sz_spec.specs.Values.{Grid, extents_of}
 use Rattle.sz_spec.specs.Flows.{Graph, is_well_formed}
 use Rattle.sz_spec.specs.FlowShapes.{output_shapes}
-use Rattle.sz_catalogue.specs.Holdings.{Base, Version, arrays_of, shapes_of}
+use Rattle.sz_catalogue.specs.Holdings.{Base, Version, arrays_of}
 use Rattle.sz_catalogue.proofs.Order as in_order
 use Rattle.sz_session.proofs.Steps.{base-shapes}
 use Rattle.sz_session.proofs.recalls.recall.Goals as goal

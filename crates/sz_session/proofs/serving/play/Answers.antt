@@ -1,9 +1,10 @@
 -- The session opens with nothing read and nothing said.
-use Rattle.std.proofs.Common.{[], subst, sym, ap, ◌∙◌}
+use Rattle.std.proofs.Common.{[], refl, subst, sym, ap, ◌∙◌}
 use Rattle.sz_session.specs.Moments.{Moment}
 use Rattle.sz_session.specs.Serving.{Answered, nothing_held}
-use Rattle.sz_session.proofs.Ends.{answered-start, none-in_lines}
+use Rattle.sz_session.proofs.Ends.{answered-start, none-in_lines, plain-ends, plain-counted}
 use Rattle.sz_session.proofs.Disks.{stays-still, start-stays}
+use Rattle.sz_session.specs.Running.{IsBeside}
 use Rattle.sz_session.proofs.serving.play.Goals as goal
 
 pub answer_all-status-requires : goal.answer_all-status-requires
@@ -11,6 +12,7 @@ answer_all-status-requires g c =
     let left = g.S.Source.left c.args.source.now in
     let said = g.T.Station.said c.args.station.now in
     let P : Moment → Type 0 = λ m. Answered nothing_held left left said said m 0 in
+    let L : Moment → Type 0 = λ m. IsBeside g.T.Station m c.args.station.now in
     λ κs lives. (
       lives.0,
       (
@@ -32,7 +34,10 @@ answer_all-status-requires g c =
                       c.requires.limit,
                       (
                         ap (λ (m : Moment). m.number) c.in-Ok-new.ensures,
-                        subst P (sym c.in-Ok-new.ensures) (answered-start nothing_held left said),
+                        (
+                          subst P (sym c.in-Ok-new.ensures) (answered-start nothing_held left said),
+                          (subst L (sym c.in-Ok-new.ensures) tt, refl),
+                        ),
                       ),
                     ),
                   ),
@@ -59,3 +64,22 @@ returns-in_default-new-clause-disk g c =
     start-stays g.T.Station nothing_held (g.S.Source.left c.args.source.now) _ _
     (stays-still g.T.Station [] c.args.station.now (g.met.T.Station.only_now c.args.station.now)
     (g.met.T.Station.counts_now c.args.station.now))
+
+-- a session of no log ends with no fault of the disk
+pub returns-clause-ends : goal.returns-clause-ends
+returns-clause-ends g c =
+    plain-ends nothing_held c.answer_all-status.result c.args.limit (g.S.Source.left c.args.source.now)
+    (g.S.Source.left c.answer_all-status.new.source) (g.T.Station.said c.args.station.now)
+    (g.T.Station.said c.answer_all-status.new.station) c.answer_all-status.ensures.ends
+    (c.answer_all-status.ensures.plain (ap (λ (m : Moment). m.end) c.in-Ok-new.ensures))
+
+pub returns-clause-fault : goal.returns-clause-fault
+returns-clause-fault g c =
+    plain-counted c.answer_all-status.result (g.S.Source.faults c.args.source.now)
+    (g.S.Source.faults c.answer_all-status.new.source) (g.T.Station.say_faults c.args.station.now)
+    (g.T.Station.say_faults c.answer_all-status.new.station) c.answer_all-status.ensures.fault
+    (c.answer_all-status.ensures.plain (ap (λ (m : Moment). m.end) c.in-Ok-new.ensures))
+
+pub returns-clause-disk : goal.returns-clause-disk
+returns-clause-disk g c =
+    c.answer_all-status.ensures.disk (ap (λ (m : Moment). m.end) c.in-Ok-new.ensures)

@@ -5,18 +5,22 @@ use Rattle.std.specs.Prelude.{Err, map, string_bytes}
 use Rattle.sz_outside.specs.Outside.{Says, SaysPart}
 use Rattle.sz_words.specs.Job.{job_of}
 use Rattle.sz_words.specs.declared.WordsFault.{WordsFault}
-use Rattle.sz_session.specs.Serving.{nothing_held, is_served, is_play, is_init, is_load}
+use Rattle.sz_session.specs.Serving.{nothing_held, is_served, is_play, is_init, is_check, is_run, is_of_log, is_load}
+use Rattle.sz_session.specs.Serving.{is_of_lines, is_opened}
 use Rattle.sz_session.specs.Statuses.{is_of_disk}
 use Rattle.sz_session.specs.Disks.{OnlySays}
 use Rattle.sz_session.specs.declared.serving.Status.TheVariants as status
-use Rattle.sz_session.proofs.Ends.{ends-with, counted-with, limit-passed, completes, none-in_lines}
+use Rattle.sz_session.proofs.Ends.{ends-with, completes, none-in_lines}
 use Rattle.sz_session.proofs.Turns.{says-nothing}
 use Rattle.sz_session.proofs.Loads.{load-ends_with, load-completes}
 use Rattle.sz_session.proofs.Disks.{stays-still, start-stays, disk-stays, making-still}
-use Rattle.sz_session.proofs.Makings.{init-ends_with, init-made, init-silent, init-barred, barred-no_memory}
+use Rattle.sz_session.proofs.Makings.{init-ends_with, init-made, init-barred, barred-no_memory}
 use Rattle.sz_session.proofs.Makings.{init-completes}
+use Rattle.sz_session.proofs.Checkings.{check-ends_with, check-unlike, check-completes, unlike-no_memory, line-stops}
 use Rattle.sz_session.proofs.Jobs.{for-job, for-none, line-job, line-each, served-not}
-use Rattle.sz_session.proofs.Jobs.{usage-refused, reads-play, disk-init, quiet-done, say-counted}
+use Rattle.sz_session.proofs.Jobs.{usage-refused, reads-lines, disk-log, quiet-done, say-counted}
+use Rattle.sz_session.proofs.Jobs.{log-silent, disk-counted, already-init, bad-opened, bad-place, read-counted, limit-lines}
+use Rattle.sz_session.proofs.Continuing.{unopened-still}
 use Rattle.sz_session.proofs.Jobs.{words-not_done, words-not_say_fault, words-not_read, words-not_disk, words-not_made}
 use Rattle.sz_session.proofs.Jobs.{words-usage, words-refused, words-not_read_either, words-completes, words-memory}
 use Rattle.sz_session.proofs.serving.serve.Goals as goal
@@ -33,7 +37,8 @@ pub returns-in-Ok-clause-usage : goal.returns-in-Ok-clause-usage
 returns-in-Ok-clause-usage g c =
     λ e. for-job is_served _ _ c.in-Ok.ensures.ok
     ∙ usage-refused g.T.Station c.args.station.now c.run_job.new.station c.in-Ok.job.mode _ _ _ _ _ _ _
-    c.run_job.ensures.play c.run_job.ensures.load c.run_job.ensures.init e
+    c.run_job.ensures.play c.run_job.ensures.load c.run_job.ensures.init c.run_job.ensures.check _ _
+    c.run_job.ensures.run_counted e
 
 pub returns-in-Ok-clause-refused : goal.returns-in-Ok-clause-refused
 returns-in-Ok-clause-refused g c =
@@ -47,47 +52,43 @@ returns-in-Ok-clause-untouched g c =
 
 pub returns-in-Ok-clause-unread : goal.returns-in-Ok-clause-unread
 returns-in-Ok-clause-unread g c =
-    λ p. c.run_job.ensures.unread (sym (for-job is_play _ _ c.in-Ok.ensures.ok) ∙ p)
+    λ p. c.run_job.ensures.unread (sym (for-job is_of_lines _ _ c.in-Ok.ensures.ok) ∙ p)
 
 pub returns-in-Ok-clause-quiet : goal.returns-in-Ok-clause-quiet
 returns-in-Ok-clause-quiet g c =
     λ e. quiet-done g.T.Station c.args.station.now c.run_job.new.station c.in-Ok.job.mode _ _ _
-    c.run_job.ensures.play_fault c.run_job.ensures.load_fault c.run_job.ensures.init
-    (λ n. ap g.S.Source.faults (c.run_job.ensures.unread n)) c.run_job.ensures.disk
-    (λ n. (c.run_job.ensures.refused n).0) e
+    c.run_job.ensures.play_fault c.run_job.ensures.load_fault c.run_job.ensures.init c.run_job.ensures.check
+    c.run_job.ensures.run_counted (λ n. ap g.S.Source.faults (c.run_job.ensures.unread n)) c.run_job.ensures.disk e
 
 pub returns-in-Ok-clause-read_fault : goal.returns-in-Ok-clause-read_fault
 returns-in-Ok-clause-read_fault g c =
-    λ e. counted-with _ status.ReadFault _ _ _ _ (c.run_job.ensures.play_fault
-    (reads-play g.T.Station c.args.station.now c.run_job.new.station c.in-Ok.job.mode _ _ _ _
-    c.run_job.ensures.load c.run_job.ensures.init (λ n. (c.run_job.ensures.refused n).0)
-    (inl e))) e
+    λ e. read-counted g.T.Station c.args.station.now c.run_job.new.station c.in-Ok.job.mode _ _ _ _ _ _ _ _
+    c.run_job.ensures.play_fault c.run_job.ensures.run_counted c.run_job.ensures.load c.run_job.ensures.init
+    c.run_job.ensures.check e
 
 pub returns-in-Ok-clause-say_fault : goal.returns-in-Ok-clause-say_fault
 returns-in-Ok-clause-say_fault g c =
     λ e. say-counted g.T.Station c.args.station.now c.run_job.new.station c.in-Ok.job.mode _ _ _
-    c.run_job.ensures.play_fault c.run_job.ensures.load_fault c.run_job.ensures.init
-    (λ n. (c.run_job.ensures.refused n).0) e
+    c.run_job.ensures.play_fault c.run_job.ensures.load_fault c.run_job.ensures.init c.run_job.ensures.check
+    c.run_job.ensures.run_counted e
 
 pub returns-in-Ok-clause-input_limit : goal.returns-in-Ok-clause-input_limit
 returns-in-Ok-clause-input_limit g c =
-    λ e. limit-passed nothing_held _ _ _ _ _ (ends-with nothing_held _ status.InputLimit _ _ _ _ _ (c.run_job.ensures.play
-    (reads-play g.T.Station c.args.station.now c.run_job.new.station c.in-Ok.job.mode _ _ _ _
-    c.run_job.ensures.load c.run_job.ensures.init (λ n. (c.run_job.ensures.refused n).0)
-    (inr e))) e)
+    λ e. limit-lines g.T.Station c.args.station.now c.run_job.new.station c.in-Ok.job.mode _ _ _ _ _ _ _
+    c.run_job.ensures.play c.run_job.ensures.run c.run_job.ensures.load c.run_job.ensures.init
+    c.run_job.ensures.check e
 
-pub returns-in-Ok-clause-reads_in_play : goal.returns-in-Ok-clause-reads_in_play
-returns-in-Ok-clause-reads_in_play g c =
-    λ e. for-job is_play _ _ c.in-Ok.ensures.ok
-    ∙ reads-play g.T.Station c.args.station.now c.run_job.new.station c.in-Ok.job.mode _ _ _ _
-    c.run_job.ensures.load c.run_job.ensures.init (λ n. (c.run_job.ensures.refused n).0) e
+pub returns-in-Ok-clause-reads_lines : goal.returns-in-Ok-clause-reads_lines
+returns-in-Ok-clause-reads_lines g c =
+    λ e. for-job is_of_lines _ _ c.in-Ok.ensures.ok
+    ∙ reads-lines g.T.Station c.args.station.now c.run_job.new.station c.in-Ok.job.mode _ _ _ _
+    c.run_job.ensures.load c.run_job.ensures.init c.run_job.ensures.check (λ n. (c.run_job.ensures.refused n).0) e
 
 pub returns-in-Ok-clause-after_read_fault : goal.returns-in-Ok-clause-after_read_fault
 returns-in-Ok-clause-after_read_fault g c =
-    λ e. ends-with nothing_held _ status.ReadFault _ _ _ _ _ (c.run_job.ensures.play
-    (reads-play g.T.Station c.args.station.now c.run_job.new.station c.in-Ok.job.mode _ _ _ _
-    c.run_job.ensures.load c.run_job.ensures.init (λ n. (c.run_job.ensures.refused n).0)
-    (inl e))) e
+    λ p e.
+    let asked = sym (for-job is_play _ _ c.in-Ok.ensures.ok) ∙ p in
+    ends-with nothing_held _ status.ReadFault _ _ _ _ _ (c.run_job.ensures.play asked) e
 
 pub returns-in-Ok-clause-after_say_fault : goal.returns-in-Ok-clause-after_say_fault
 returns-in-Ok-clause-after_say_fault g c =
@@ -103,10 +104,9 @@ returns-in-Ok-clause-after_no_memory g c =
 
 pub returns-in-Ok-clause-after_input_limit : goal.returns-in-Ok-clause-after_input_limit
 returns-in-Ok-clause-after_input_limit g c =
-    λ e. ends-with nothing_held _ status.InputLimit _ _ _ _ _ (c.run_job.ensures.play
-    (reads-play g.T.Station c.args.station.now c.run_job.new.station c.in-Ok.job.mode _ _ _ _
-    c.run_job.ensures.load c.run_job.ensures.init (λ n. (c.run_job.ensures.refused n).0)
-    (inr e))) e
+    λ p e.
+    let asked = sym (for-job is_play _ _ c.in-Ok.ensures.ok) ∙ p in
+    ends-with nothing_held _ status.InputLimit _ _ _ _ _ (c.run_job.ensures.play asked) e
 
 pub returns-in-Ok-clause-completes : goal.returns-in-Ok-clause-completes
 returns-in-Ok-clause-completes g c =
@@ -146,7 +146,7 @@ returns-in-Ok-clause-load_completes g c =
 -- the disk
 pub returns-in-Ok-clause-disk : goal.returns-in-Ok-clause-disk
 returns-in-Ok-clause-disk g c =
-    λ p. c.run_job.ensures.disk (sym (for-job is_init _ _ c.in-Ok.ensures.ok) ∙ p)
+    λ p. c.run_job.ensures.disk (sym (for-job is_of_log _ _ c.in-Ok.ensures.ok) ∙ p)
 
 -- the making of a log
 pub returns-in-Ok-clause-made : goal.returns-in-Ok-clause-made
@@ -167,35 +167,48 @@ returns-in-Ok-clause-ready_after_say_fault g c =
     let asked = sym (for-job is_init _ _ c.in-Ok.ensures.ok) ∙ p in
     (init-ends_with g.T.Station _ status.SayFault _ _ (c.run_job.ensures.init asked) e).1
 
-pub returns-in-Ok-clause-disk_in_init : goal.returns-in-Ok-clause-disk_in_init
-returns-in-Ok-clause-disk_in_init g c =
-    λ e. for-job is_init _ _ c.in-Ok.ensures.ok
-    ∙ disk-init c.in-Ok.job.mode _ _ _ _ _ c.run_job.ensures.play_fault
-    c.run_job.ensures.load_fault (λ n. (c.run_job.ensures.refused n).0) e
+pub returns-in-Ok-clause-disk_in_log : goal.returns-in-Ok-clause-disk_in_log
+returns-in-Ok-clause-disk_in_log g c =
+    λ e. for-job is_of_log _ _ c.in-Ok.ensures.ok
+    ∙ (disk-log c.in-Ok.job.mode _ _ _ _ _ c.run_job.ensures.play_fault
+    c.run_job.ensures.load_fault (λ n. (c.run_job.ensures.refused n).0) e)
 
 pub returns-in-Ok-clause-disk_fault : goal.returns-in-Ok-clause-disk_fault
 returns-in-Ok-clause-disk_fault g c =
-    λ e. (init-ends_with g.T.Station _ status.DiskFault _ _
-    (c.run_job.ensures.init (disk-init c.in-Ok.job.mode _ _ _ _ _ c.run_job.ensures.play_fault
-    c.run_job.ensures.load_fault (λ n. (c.run_job.ensures.refused n).0) (ap is_of_disk e))) e).1
+    λ e. disk-counted g.T.Station c.args.station.now c.run_job.new.station c.in-Ok.job.mode _
+    c.run_job.ensures.init c.run_job.ensures.check _ _ c.run_job.ensures.run_counted
+    (disk-log c.in-Ok.job.mode _ _ _ _ _ c.run_job.ensures.play_fault
+    c.run_job.ensures.load_fault (λ n. (c.run_job.ensures.refused n).0) (ap is_of_disk e)) e
 
 pub returns-in-Ok-clause-not_a_log : goal.returns-in-Ok-clause-not_a_log
 returns-in-Ok-clause-not_a_log g c =
-    λ e. (init-ends_with g.T.Station _ status.NotALog _ _
-    (c.run_job.ensures.init (disk-init c.in-Ok.job.mode _ _ _ _ _ c.run_job.ensures.play_fault
-    c.run_job.ensures.load_fault (λ n. (c.run_job.ensures.refused n).0) (ap is_of_disk e))) e).1
+    λ p e.
+    let asked = sym (for-job is_init _ _ c.in-Ok.ensures.ok) ∙ p in
+    (init-ends_with g.T.Station _ status.NotALog _ _ (c.run_job.ensures.init asked) e).1
+
+pub returns-in-Ok-clause-already_in_init : goal.returns-in-Ok-clause-already_in_init
+returns-in-Ok-clause-already_in_init g c =
+    λ e. for-job is_init _ _ c.in-Ok.ensures.ok
+    ∙ already-init g.T.Station c.args.station.now c.run_job.new.station c.in-Ok.job.mode _ c.run_job.ensures.check _ _
+    c.run_job.ensures.run_counted
+    (disk-log c.in-Ok.job.mode _ _ _ _ _ c.run_job.ensures.play_fault
+    c.run_job.ensures.load_fault (λ n. (c.run_job.ensures.refused n).0) (ap is_of_disk e)) e
 
 pub returns-in-Ok-clause-already_a_log : goal.returns-in-Ok-clause-already_a_log
 returns-in-Ok-clause-already_a_log g c =
-    λ e. (init-ends_with g.T.Station _ status.AlreadyALog _ _
-    (c.run_job.ensures.init (disk-init c.in-Ok.job.mode _ _ _ _ _ c.run_job.ensures.play_fault
-    c.run_job.ensures.load_fault (λ n. (c.run_job.ensures.refused n).0) (ap is_of_disk e))) e).1
+    λ e. (init-ends_with g.T.Station _ status.AlreadyALog _ _ (c.run_job.ensures.init
+    (already-init g.T.Station c.args.station.now c.run_job.new.station c.in-Ok.job.mode _ c.run_job.ensures.check _ _
+    c.run_job.ensures.run_counted
+    (disk-log c.in-Ok.job.mode _ _ _ _ _ c.run_job.ensures.play_fault
+    c.run_job.ensures.load_fault (λ n. (c.run_job.ensures.refused n).0) (ap is_of_disk e)) e)) e).1
 
 pub returns-in-Ok-clause-silent : goal.returns-in-Ok-clause-silent
 returns-in-Ok-clause-silent g c =
-    λ e. init-silent g.T.Station _ _ _
-    (c.run_job.ensures.init (disk-init c.in-Ok.job.mode _ _ _ _ _ c.run_job.ensures.play_fault
-    c.run_job.ensures.load_fault (λ n. (c.run_job.ensures.refused n).0) e)) e
+    λ n e. log-silent g.T.Station c.args.station.now c.run_job.new.station c.in-Ok.job.mode _
+    c.run_job.ensures.init c.run_job.ensures.check
+    (disk-log c.in-Ok.job.mode _ _ _ _ _ c.run_job.ensures.play_fault
+    c.run_job.ensures.load_fault (λ m. (c.run_job.ensures.refused m).0) e)
+    (sym (for-job is_run _ _ c.in-Ok.ensures.ok) ∙ n) e
 
 pub returns-in-Ok-clause-init_after_no_memory : goal.returns-in-Ok-clause-init_after_no_memory
 returns-in-Ok-clause-init_after_no_memory g c =
@@ -218,6 +231,59 @@ returns-in-Ok-clause-init_completes g c =
 pub returns-in-Ok-clause-found_in_init : goal.returns-in-Ok-clause-found_in_init
 returns-in-Ok-clause-found_in_init g c =
     λ p. c.run_job.ensures.found_in_init (sym (for-job is_init _ _ c.in-Ok.ensures.ok) ∙ p)
+
+-- the check of a log
+pub returns-in-Ok-clause-checked : goal.returns-in-Ok-clause-checked
+returns-in-Ok-clause-checked g c =
+    λ p e.
+    let asked = sym (for-job is_check _ _ c.in-Ok.ensures.ok) ∙ p in
+    (check-ends_with g.T.Station _ status.Done _ _ (c.run_job.ensures.check asked) e).0
+
+pub returns-in-Ok-clause-check_after_say_fault : goal.returns-in-Ok-clause-check_after_say_fault
+returns-in-Ok-clause-check_after_say_fault g c =
+    λ p e.
+    let asked = sym (for-job is_check _ _ c.in-Ok.ensures.ok) ∙ p in
+    (check-ends_with g.T.Station _ status.SayFault _ _ (c.run_job.ensures.check asked) e).0
+
+pub returns-in-Ok-clause-check_after_no_memory : goal.returns-in-Ok-clause-check_after_no_memory
+returns-in-Ok-clause-check_after_no_memory g c =
+    λ p e.
+    let asked = sym (for-job is_check _ _ c.in-Ok.ensures.ok) ∙ p in
+    check-ends_with g.T.Station _ status.NoMemory _ _ (c.run_job.ensures.check asked) e
+
+pub returns-in-Ok-clause-no_log : goal.returns-in-Ok-clause-no_log
+returns-in-Ok-clause-no_log g c =
+    λ p e.
+    let asked = sym (for-job is_check _ _ c.in-Ok.ensures.ok) ∙ p in
+    (check-ends_with g.T.Station _ status.NotALog _ _ (c.run_job.ensures.check asked) e).1
+
+pub returns-in-Ok-clause-bad_log : goal.returns-in-Ok-clause-bad_log
+returns-in-Ok-clause-bad_log g c =
+    λ at e.
+    let of_log = disk-log c.in-Ok.job.mode _ _ _ _ _ c.run_job.ensures.play_fault
+    c.run_job.ensures.load_fault (λ n. (c.run_job.ensures.refused n).0) (ap is_of_disk e) in (
+      for-job is_opened _ _ c.in-Ok.ensures.ok
+          ∙ bad-opened g.T.Station c.args.station.now c.run_job.new.station c.in-Ok.job.mode _ at
+          c.run_job.ensures.init of_log e,
+      bad-place g.T.Station c.args.station.now c.run_job.new.station c.in-Ok.job.mode _ at _ _ _ _ _
+          c.run_job.ensures.init c.run_job.ensures.check c.run_job.ensures.run c.run_job.ensures.run_counted of_log e,
+    )
+
+pub returns-in-Ok-clause-unlike : goal.returns-in-Ok-clause-unlike
+returns-in-Ok-clause-unlike g c =
+    λ p.
+    let asked = sym (for-job is_check _ _ c.in-Ok.ensures.ok) ∙ p in
+    check-unlike g.T.Station _ _ _ (c.run_job.ensures.check asked)
+
+pub returns-in-Ok-clause-check_completes : goal.returns-in-Ok-clause-check_completes
+returns-in-Ok-clause-check_completes g c =
+    λ p begun no_disk no_say.
+    let asked = sym (for-job is_check _ _ c.in-Ok.ensures.ok) ∙ p in
+    check-completes g.T.Station _ _ _ (c.run_job.ensures.check asked) begun no_disk no_say
+
+pub returns-in-Ok-clause-found_in_check : goal.returns-in-Ok-clause-found_in_check
+returns-in-Ok-clause-found_in_check g c =
+    λ p. c.run_job.ensures.found_in_check (sym (for-job is_check _ _ c.in-Ok.ensures.ok) ∙ p)
 
 -- ---- words that ask for none
 
@@ -258,13 +324,13 @@ pub returns-in-Err-clause-input_limit : goal.returns-in-Err-clause-input_limit
 returns-in-Err-clause-input_limit g c =
     λ e. absurd (words-not_read c.in-Err.fault (inr (sym c.status_of_words.ensures ∙ e)))
 
-pub returns-in-Err-clause-reads_in_play : goal.returns-in-Err-clause-reads_in_play
-returns-in-Err-clause-reads_in_play g c =
+pub returns-in-Err-clause-reads_lines : goal.returns-in-Err-clause-reads_lines
+returns-in-Err-clause-reads_lines g c =
     λ e. absurd (words-not_read_either c.in-Err.fault _ c.status_of_words.ensures e)
 
 pub returns-in-Err-clause-after_read_fault : goal.returns-in-Err-clause-after_read_fault
 returns-in-Err-clause-after_read_fault g c =
-    λ e. absurd (words-not_read c.in-Err.fault (inl (sym c.status_of_words.ensures ∙ e)))
+    λ p e. absurd (words-not_read c.in-Err.fault (inl (sym c.status_of_words.ensures ∙ e)))
 
 pub returns-in-Err-clause-after_say_fault : goal.returns-in-Err-clause-after_say_fault
 returns-in-Err-clause-after_say_fault g c =
@@ -276,7 +342,7 @@ returns-in-Err-clause-after_no_memory g c =
 
 pub returns-in-Err-clause-after_input_limit : goal.returns-in-Err-clause-after_input_limit
 returns-in-Err-clause-after_input_limit g c =
-    λ e. absurd (words-not_read c.in-Err.fault (inr (sym c.status_of_words.ensures ∙ e)))
+    λ p e. absurd (words-not_read c.in-Err.fault (inr (sym c.status_of_words.ensures ∙ e)))
 
 pub returns-in-Err-clause-completes : goal.returns-in-Err-clause-completes
 returns-in-Err-clause-completes g c =
@@ -340,8 +406,8 @@ pub returns-in-Err-clause-ready_after_say_fault : goal.returns-in-Err-clause-rea
 returns-in-Err-clause-ready_after_say_fault g c =
     λ p e. absurd (words-not_say_fault c.in-Err.fault (sym c.status_of_words.ensures ∙ e))
 
-pub returns-in-Err-clause-disk_in_init : goal.returns-in-Err-clause-disk_in_init
-returns-in-Err-clause-disk_in_init g c =
+pub returns-in-Err-clause-disk_in_log : goal.returns-in-Err-clause-disk_in_log
+returns-in-Err-clause-disk_in_log g c =
     λ e. absurd (words-not_disk c.in-Err.fault _ c.status_of_words.ensures e)
 
 pub returns-in-Err-clause-disk_fault : goal.returns-in-Err-clause-disk_fault
@@ -350,6 +416,10 @@ returns-in-Err-clause-disk_fault g c =
 
 pub returns-in-Err-clause-not_a_log : goal.returns-in-Err-clause-not_a_log
 returns-in-Err-clause-not_a_log g c =
+    λ p e. absurd (words-not_disk c.in-Err.fault _ c.status_of_words.ensures (ap is_of_disk e))
+
+pub returns-in-Err-clause-already_in_init : goal.returns-in-Err-clause-already_in_init
+returns-in-Err-clause-already_in_init g c =
     λ e. absurd (words-not_disk c.in-Err.fault _ c.status_of_words.ensures (ap is_of_disk e))
 
 pub returns-in-Err-clause-already_a_log : goal.returns-in-Err-clause-already_a_log
@@ -358,7 +428,7 @@ returns-in-Err-clause-already_a_log g c =
 
 pub returns-in-Err-clause-silent : goal.returns-in-Err-clause-silent
 returns-in-Err-clause-silent g c =
-    λ e. absurd (words-not_disk c.in-Err.fault _ c.status_of_words.ensures e)
+    λ n e. absurd (words-not_disk c.in-Err.fault _ c.status_of_words.ensures e)
 
 pub returns-in-Err-clause-init_after_no_memory : goal.returns-in-Err-clause-init_after_no_memory
 returns-in-Err-clause-init_after_no_memory g c =
@@ -386,3 +456,63 @@ pub returns-in-Err-clause-found_in_init : goal.returns-in-Err-clause-found_in_in
 returns-in-Err-clause-found_in_init g c =
     λ p. making-still g.T.Station c.args.station.now (g.met.T.Station.only_now c.args.station.now)
     (g.met.T.Station.counts_now c.args.station.now)
+
+-- the check of a log
+pub returns-in-Err-clause-checked : goal.returns-in-Err-clause-checked
+returns-in-Err-clause-checked g c =
+    λ p e. absurd (words-not_done c.in-Err.fault (sym c.status_of_words.ensures ∙ e))
+
+pub returns-in-Err-clause-check_after_say_fault : goal.returns-in-Err-clause-check_after_say_fault
+returns-in-Err-clause-check_after_say_fault g c =
+    λ p e. absurd (words-not_say_fault c.in-Err.fault (sym c.status_of_words.ensures ∙ e))
+
+pub returns-in-Err-clause-check_after_no_memory : goal.returns-in-Err-clause-check_after_no_memory
+returns-in-Err-clause-check_after_no_memory g c =
+    λ p e. record { said = refl; quiet = refl }
+
+pub returns-in-Err-clause-no_log : goal.returns-in-Err-clause-no_log
+returns-in-Err-clause-no_log g c =
+    λ p e. absurd (words-not_disk c.in-Err.fault _ c.status_of_words.ensures (ap is_of_disk e))
+
+pub returns-in-Err-clause-bad_log : goal.returns-in-Err-clause-bad_log
+returns-in-Err-clause-bad_log g c =
+    λ at e. absurd (words-not_disk c.in-Err.fault _ c.status_of_words.ensures (ap is_of_disk e))
+
+pub returns-in-Err-clause-unlike : goal.returns-in-Err-clause-unlike
+returns-in-Err-clause-unlike g c =
+    λ p.
+    let f = c.in-Err.fault in
+    let is = c.status_of_words.ensures in
+    unlike-no_memory (g.T.Station.disk c.args.station.now) _ (words-memory f _ is (λ e.
+    let usage = c.in-Err.is ∙ ap (λ (x : WordsFault). Err x) (words-usage f (sym is ∙ e)) in
+    true≢false (sym p ∙ for-none is_check _ (c.read_words.ensures.usage usage))))
+
+pub returns-in-Err-clause-check_completes : goal.returns-in-Err-clause-check_completes
+returns-in-Err-clause-check_completes g c =
+    λ p begun no_disk no_say.
+    let f = c.in-Err.fault in
+    let is = c.status_of_words.ensures in
+    inr (inl (words-memory f _ is (λ e.
+    let usage = c.in-Err.is ∙ ap (λ (x : WordsFault). Err x) (words-usage f (sym is ∙ e)) in
+    true≢false (sym p ∙ for-none is_check _ (c.read_words.ensures.usage usage)))))
+
+pub returns-in-Err-clause-found_in_check : goal.returns-in-Err-clause-found_in_check
+returns-in-Err-clause-found_in_check g c =
+    λ p. line-stops g.T.Station [] c.args.station.now c.args.station.now (inl refl)
+    (stays-still g.T.Station [] c.args.station.now (g.met.T.Station.only_now c.args.station.now)
+    (g.met.T.Station.counts_now c.args.station.now))
+
+-- a session on a log
+pub returns-in-Ok-clause-run : goal.returns-in-Ok-clause-run
+returns-in-Ok-clause-run g c =
+    λ p. c.run_job.ensures.run (sym (for-job is_run _ _ c.in-Ok.ensures.ok) ∙ p)
+
+pub returns-in-Err-clause-run : goal.returns-in-Err-clause-run
+returns-in-Err-clause-run g c =
+    λ p.
+    let f = c.in-Err.fault in
+    let is = c.status_of_words.ensures in
+    inl (unopened-still g.T.Station _ c.args.station.now (words-memory f _ is (λ e.
+    let usage = c.in-Err.is ∙ ap (λ (x : WordsFault). Err x) (words-usage f (sym is ∙ e)) in
+    true≢false (sym p ∙ for-none is_run _ (c.read_words.ensures.usage usage))))
+    (g.met.T.Station.only_now c.args.station.now) (g.met.T.Station.counts_now c.args.station.now))

@@ -29,7 +29,8 @@ pub returns-in_err-say_waiting-clause-says : goal.returns-in_err-say_waiting-cla
 returns-in_err-say_waiting-clause-says g c =
     let p = err_from_is_err_and c.from_residual-in_err-say_waiting.result c.from_residual-in_err-say_waiting.ensures.1 in
     rw (p.1, p.2)
-    (says-waited _ _ _ _ _ c.in_err-say_waiting.ensures.part c.in_err-say_waiting.ensures.nothing)
+    (says-waited _ _ _ _ _ c.in_err-say_waiting.ensures.part c.in_err-say_waiting.ensures.nothing
+    c.in_err-say_waiting.ensures.plain)
 
 pub returns-in_err-say_waiting-clause-disk : goal.returns-in_err-say_waiting-clause-disk
 returns-in_err-say_waiting-clause-disk g c =

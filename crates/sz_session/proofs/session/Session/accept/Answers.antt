@@ -1,11 +1,10 @@
 -- What is held stays sound, and the versions that a log gave stay.
 use Rattle.std.proofs.Common.{◌≡◌, sym, ap, subst}
 use Rattle.std.specs.Prelude.{None}
-use Rattle.std.proofs.lemmas.Result.{IfOk-weaker}
 use Rattle.sz_catalogue.specs.Holdings.{Holdings}
 use Rattle.sz_catalogue.specs.Responses.{Response}
 use Rattle.sz_catalogue.specs.Rules.{judged}
-use Rattle.sz_session.specs.States.{State, accepted}
+use Rattle.sz_session.specs.States.{State}
 use Rattle.sz_session.specs.Recalls.{IsInService}
 use Rattle.sz_session.proofs.Keeps.{keeps-accepted}
 use Rattle.sz_session.proofs.Stays.{recalled-stay, accepted-stay}

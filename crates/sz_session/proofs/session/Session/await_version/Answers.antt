@@ -1,12 +1,7 @@
 -- A version that a log gave stays as it is, and of any other what it carries is made whole.
 use Rattle.std.proofs.Common.{[]}
 use Rattle.sz_script.specs.declared.refusal.Refusal.TheVariants as refusal
-use Rattle.sz_catalogue.specs.Rules.{has_no_version, judged}
-use Rattle.std.specs.Prelude.{None}
-use Rattle.std.proofs.Common.{◌≡◌, sym, subst}
-use Rattle.sz_catalogue.specs.Rules.{version_of}
-use Rattle.sz_script.specs.declared.command.Command.TheVariants as order
-use Rattle.sz_session.specs.States.{State}
+use Rattle.sz_catalogue.specs.Rules.{has_no_version}
 use Rattle.sz_session.proofs.Keeps.{rule-fails}
 use Rattle.sz_session.proofs.session.Session.await_version.Goals as goal
 

@@ -1,6 +1,6 @@
 -- A version that a log gave is asked by its stores, and any other by what it carries; what is held stays the same
 -- while that is out.
-use Rattle.std.proofs.Common.{◌≡◌, ◌==◌, List, map, Bool, Some, None, Option, false, sym, ap, ◌∙◌, subst}
+use Rattle.std.proofs.Common.{◌≡◌, ◌==◌, List, Bool, None, Option, false, sym, ap, ◌∙◌, subst}
 use Rattle.std.specs.Prelude.{option_map}
 use Rattle.std.proofs.lemmas.Result.{IfOk-weaker}
 use Rattle.sz_store.specs.Kept.{NodeLineage}

@@ -1,5 +1,5 @@
 -- The version is held, and is sound.
-use Rattle.std.proofs.Common.{◌≡◌, ℕ, List, Some, Option, false, true, sym, ap, ◌∙◌, subst}
+use Rattle.std.proofs.Common.{◌≡◌, ℕ, List, Option, false, true, sym, ap, ◌∙◌, subst}
 use Rattle.std.specs.List.{list_all}
 use Rattle.std.proofs.lemmas.Result.{IfOk-weaker}
 use Rattle.sz_store.specs.Kept.{NodeLineage}

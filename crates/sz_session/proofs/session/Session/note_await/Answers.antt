@@ -1,5 +1,5 @@
 -- The catalogue notes the await, and the versions that a log gave stay.
-use Rattle.std.proofs.Common.{◌≡◌, true, List, map, sym, ap, ◌∙◌, subst, Option}
+use Rattle.std.proofs.Common.{◌≡◌, true, map, sym, ap, subst}
 use Rattle.std.specs.Prelude.{None, option_map}
 use Rattle.sz_log.specs.declared.LogEnd.{LogEnd}
 use Rattle.sz_script.specs.declared.command.Command.TheVariants as order

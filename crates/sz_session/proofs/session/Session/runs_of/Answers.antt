@@ -1,6 +1,5 @@
 -- The version that a log gave has its executions.
-use Rattle.std.proofs.Common.{◌≡◌, ◌==◌, ℕ, Bool, sym, ap, ◌∙◌}
-use Rattle.sz_flow.specs.Executions.{Execution}
+use Rattle.std.proofs.Common.{◌==◌, ℕ, Bool, ap, ◌∙◌}
 use Rattle.sz_catalogue.specs.Rules.{version_of}
 use Rattle.sz_session.specs.States.{State}
 use Rattle.sz_session.specs.Recalls.{Recall, IsRecalledIn}

@@ -1,12 +1,10 @@
 -- The runs of the version hold the outputs of its nodes.
-use Rattle.std.proofs.Common.{◌≡◌, ◌<◌, List, length, sym, ap, ◌∙◌, subst, arith}
-use Rattle.std.specs.Prelude.{None}
+use Rattle.std.proofs.Common.{◌<◌, List, length, sym, ap, ◌∙◌, arith}
 use Rattle.std.proofs.lemmas.List.{length-map}
 use Rattle.sz_spec.specs.Values.{Grid}
-use Rattle.sz_script.specs.declared.command.Command.TheVariants as order
 use Rattle.sz_flow.specs.Executions.{Execution, execution_of}
 use Rattle.sz_catalogue.specs.Responses.{values}
-use Rattle.sz_catalogue.specs.Rules.{judged, version_of}
+use Rattle.sz_catalogue.specs.Rules.{version_of}
 use Rattle.sz_session.proofs.Kept.{run-at, executions-length, output-at}
 use Rattle.sz_session.proofs.Keeps.{can-show}
 use Rattle.sz_session.proofs.session.Session.show.Goals as goal

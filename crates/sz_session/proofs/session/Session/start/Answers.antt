@@ -1,5 +1,5 @@
 -- The version that is started is sound, and what it carries is its own.
-use Rattle.std.proofs.Common.{◌≡◌, sym, ap, subst, ◌∙◌}
+use Rattle.std.proofs.Common.{◌≡◌, sym, ap, subst}
 use Rattle.std.specs.Prelude.{None, map, option_map}
 use Rattle.sz_log.specs.declared.LogEnd.{LogEnd}
 use Rattle.sz_script.specs.declared.command.Command.TheVariants as order

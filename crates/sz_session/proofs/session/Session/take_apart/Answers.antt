@@ -1,5 +1,4 @@
 -- What is done is the same wherever a log ends, and that stays.
-use Rattle.std.proofs.Common.{◌≡◌, sym, ap, ◌∙◌}
 use Rattle.std.proofs.lemmas.Result.{IfOk-weaker}
 use Rattle.sz_session.proofs.States.{takes-apart, takes-end}
 use Rattle.sz_session.proofs.Inquiries.{on-found}

@@ -1,9 +1,7 @@
 -- What the version carries is made whole for its lists, so it is what an awaited version carries.
-use Rattle.std.proofs.Common.{◌≡◌, [], true, false, sym, ap, ◌∙◌, subst}
-use Rattle.std.proofs.lemmas.Result.{IfOk-weaker}
+use Rattle.std.proofs.Common.{◌≡◌, [], false, sym, ap, ◌∙◌, subst}
 use Rattle.sz_catalogue.specs.Holdings.{Version, arrays_of}
 use Rattle.sz_catalogue.specs.Rules.{version_of, has_no_version}
-use Rattle.sz_session.specs.Stores.{IsTrailOf}
 use Rattle.sz_session.specs.States.{State}
 use Rattle.sz_session.specs.Runs.{IsSoundVersion, executions_of}
 use Rattle.sz_session.proofs.Keeping.{kept-before, lists-listed}

@@ -1,0 +1,106 @@
+-- Mode run: a log is opened, and a session goes on from it.
+--
+-- The key idea: to put the disk where a stop leaves it, and to read it, changes no image and says nothing; so what a
+-- stop finds of the lines that are answered then is found from the start of the call.
+use Rattle.std.proofs.Common.{◌≡◌, ℕ, ◌≤◌, List, true, false, refl, sym, ◌∙◌, subst, Option, Some, true≢false}
+use Rattle.std.specs.Prelude.{Result, Ok, Err, OnOk, is_err}
+use Rattle.sz_outside.specs.Outside.{Rose, Stood}
+use Rattle.sz_outside.specs.Disk.{Told, Same, Said}
+use Rattle.sz_outside.specs.declared.stations.Station.{Ghosts}
+use Rattle.sz_catalogue.specs.Holdings.{Holdings}
+use Rattle.sz_recover.specs.Logs.{Kept, IsMade, IsNoLog, IsBroken, SaysWhy, has_read}
+use Rattle.sz_recover.specs.declared.opening.RecoverFault.{RecoverFault}
+use Rattle.sz_recover.specs.declared.opening.RecoverFault.TheVariants as recover
+use Rattle.sz_session.specs.Disks.{StopsFinding}
+use Rattle.sz_session.specs.Logged.{IsLogOf}
+use Rattle.sz_session.specs.Running.{FindsAll, state_of_log}
+use Rattle.sz_session.specs.Continuing.{IsUnopened, EndsUnopened, EndsOpened, AreCountedOn}
+use Rattle.sz_session.specs.Statuses.{recover_status, EndsLines, AreCountedInLines}
+use Rattle.sz_session.specs.declared.serving.Status.{Status}
+use Rattle.sz_session.specs.declared.serving.Status.TheVariants as status
+use Rattle.sz_session.proofs.Disks.{pass-still}
+use Rattle.sz_session.proofs.Running.{finds-before}
+
+-- ---- no log
+
+-- no memory, before any call
+pub unopened-still : {X : Type 0} (T : Ghosts X) (s : Status) (a : X) → s ≡ status.NoMemory
+    → ((image found : List ℕ) → Told (T.disk a)
+    (T.left_since a (T.moment a) image found → T.may_leave a image × Said (T.said a) found))
+    → ((t : ℕ) (image found : List ℕ) → Told (T.disk a)
+    (t ≤ T.moment a → T.may_leave a image → Said (T.said a) found → T.left_since a t image found))
+    → EndsUnopened T s a a
+unopened-still {X} T s a is only counts = record {
+  why = subst (IsUnopened (T.disk a)) (sym is) tt;
+  silent = record { said = refl; quiet = refl };
+  reads = refl;
+  stops = pass-still (T.disk a) (T.said a) (T.moment a) (T.left_since a) (T.may_leave a) only counts;
+}
+
+-- why it was not opened
+why-unopened : (o p : Option (List ℕ)) (f : RecoverFault) → p ≡ o → SaysWhy p f → IsUnopened o (recover_status f)
+why-unopened o p recover.Failed is why = tt
+why-unopened o p recover.NotALog is why = subst IsNoLog is why
+why-unopened o p (recover.BadLog at) is why = subst (λ (x : Option (List ℕ)). IsBroken x at) is why
+why-unopened o p recover.NoMemory is why = tt
+
+pub unopened : {X : Type 0} (T : Ghosts X) (f : RecoverFault) (a b c : X) → T.disk b ≡ T.disk a → T.disk c ≡ T.disk b
+    → T.said c ≡ T.said a → Stood (T.say_faults a) (T.say_faults c) → SaysWhy (T.disk b) f
+    → StopsFinding T Same (Said (T.said a)) a c → EndsUnopened T (recover_status f) a c
+unopened {X} T f a b c first second said quiet why stops = record {
+  why = why-unopened (T.disk a) (T.disk b) f first why;
+  silent = record { said = said; quiet = quiet };
+  reads = second ∙ first;
+  stops = stops;
+}
+
+-- and what was counted then
+pub unopened-counted : {X : Type 0} (T : Ghosts X) (f : RecoverFault) (r r' : ℕ) (a b : X)
+    → (f ≡ recover.Failed → Rose (T.disk_faults a) (T.disk_faults b))
+    → (has_read {X = Unit {0}} (Err f) ≡ true → Stood (T.disk_faults a) (T.disk_faults b))
+    → AreCountedOn T (recover_status f) r r' a b
+unopened-counted {X} T recover.Failed r r' a b rose stood = rose refl
+unopened-counted {X} T recover.NotALog r r' a b rose stood = stood refl
+unopened-counted {X} T (recover.BadLog at) r r' a b rose stood = stood refl
+unopened-counted {X} T recover.NoMemory r r' a b rose stood = tt
+
+-- ---- a log
+
+pub opened : {X : Type 0} (T : Ghosts X) (s : Status) (limit at : ℕ) (c : Holdings) (kept : List Kept)
+    (left rest : Option (List ℕ)) (a b x : X) → T.disk b ≡ T.disk a → T.said b ≡ T.said a
+    → StopsFinding T Same (Said (T.said a)) a b → IsMade (T.disk a) at c kept → IsLogOf T c at b
+    → EndsLines (state_of_log c kept) s limit left rest (T.said b) (T.said x)
+    → FindsAll T (state_of_log c kept) (Some at) left b x → EndsOpened T s limit left rest a x
+opened {X} T s limit at c kept left rest a b x reads said stops made log ends found = record {
+  at = at;
+  c = c;
+  kept = kept;
+  made = made;
+  ends = subst (λ (o : Option (List ℕ)). EndsLines (state_of_log c kept) s limit left rest o (T.said x)) said ends;
+  found = λ only. finds-before T (state_of_log c kept) at left a b x reads said stops only log found;
+}
+
+-- and what was counted
+pub opened-counted : {X : Type 0} (T : Ghosts X) (s : Status) (r r' : ℕ) (a b x : X)
+    → T.say_faults b ≡ T.say_faults a → T.disk_faults b ≡ T.disk_faults a
+    → AreCountedInLines s r r' (T.say_faults b) (T.say_faults x)
+    → (s ≡ status.DiskFault → Rose (T.disk_faults b) (T.disk_faults x))
+    → (s ≡ status.Done → Stood (T.disk_faults b) (T.disk_faults x)) → AreCountedOn T s r r' a x
+opened-counted {X} T status.Done r r' a b x says disk counted rose stood =
+    (counted.0, counted.1 ∙ says, stood refl ∙ disk)
+opened-counted {X} T status.Usage r r' a b x says disk counted rose stood = counted
+opened-counted {X} T status.ReadFault r r' a b x says disk counted rose stood = counted
+opened-counted {X} T status.SayFault r r' a b x says disk counted rose stood =
+    subst (λ (n : ℕ). Rose n (T.say_faults x)) says counted
+opened-counted {X} T status.DiskFault r r' a b x says disk counted rose stood =
+    subst (λ (n : ℕ). Rose n (T.disk_faults x)) disk (rose refl)
+opened-counted {X} T status.NotALog r r' a b x says disk counted rose stood = absurd counted
+opened-counted {X} T status.AlreadyALog r r' a b x says disk counted rose stood = counted
+opened-counted {X} T (status.BadLog at) r r' a b x says disk counted rose stood = absurd counted
+opened-counted {X} T status.NoMemory r r' a b x says disk counted rose stood = tt
+opened-counted {X} T status.InputLimit r r' a b x says disk counted rose stood = tt
+
+-- what is so of a call that did not fail
+pub not-failed : {A B : Type 0} (r : Result A B) (Claim : Type 0) → is_err r ≡ false → OnOk r Claim → Claim
+not-failed (Ok a) Claim is claim = claim
+not-failed (Err b) Claim is claim = absurd (true≢false is)
