@@ -1,22 +1,12 @@
--- How the program ends: for each status of a session its exit number and its line on standard
--- error.
-use Rattle.std.specs.Prelude.{ℕ, List, [], codes}
+-- How the program ends: the line of each status of a session on standard error. Its exit number is
+-- the status's own.
+use Rattle.std.specs.Prelude.{ℕ, List, [], ◌∷◌, ◌++◌, codes, Option, Some, None}
+use Rattle.std.specs.Fmt.{decimal}
 use Rattle.sz_session.specs.declared.serving.Status.{Status}
 use Rattle.sz_session.specs.declared.serving.Status.TheVariants.{Done, Usage, ReadFault, SayFault}
 use Rattle.sz_session.specs.declared.serving.Status.TheVariants.{DiskFault, NotALog, AlreadyALog}
-use Rattle.sz_session.specs.declared.serving.Status.TheVariants.{NoMemory, InputLimit}
-
--- The exit number of a status. 7 is left for a log that is not well made.
-abbrev pub exit_number : Status → ℕ
-exit_number Done = 0
-exit_number Usage = 1
-exit_number ReadFault = 2
-exit_number SayFault = 3
-exit_number DiskFault = 4
-exit_number NotALog = 5
-exit_number AlreadyALog = 6
-exit_number NoMemory = 8
-exit_number InputLimit = 9
+use Rattle.sz_session.specs.declared.serving.Status.TheVariants.{BadLog, NoMemory, InputLimit}
+use Rattle.subzero.specs.declared.ending.ErrorLine.{ErrorLine}
 
 -- The line of a status on standard error, without its newline. Done has none.
 abbrev pub error_line : Status → List ℕ
@@ -28,5 +18,14 @@ error_line SayFault = codes "subzero: writing a reply failed"
 error_line DiskFault = codes "subzero: the log's file failed"
 error_line NotALog = codes "subzero: not a log"
 error_line AlreadyALog = codes "subzero: already a log"
+error_line (BadLog at) = codes "subzero: bad log at " ++ decimal at
 error_line NoMemory = codes "subzero: out of memory"
 error_line InputLimit = codes "subzero: the session is too long"
+
+-- what is printed of a line: its text, and behind a blank the place that it tells
+abbrev pub place_text : Option ℕ → List ℕ
+place_text None = []
+place_text (Some place) = 32 ∷ decimal place
+
+abbrev pub line_text : ErrorLine → List ℕ
+line_text line = line.text.now ++ place_text line.place

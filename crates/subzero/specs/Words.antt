@@ -8,7 +8,8 @@ use Rattle.std.specs.declared.string.String.{String}
 use Rattle.std.specs.declared.vec.IntoIter.{IntoIter}
 use Rattle.std.specs.declared.io.Error.{Error}
 use Rattle.std.specs.declared.io.ErrorKind.TheVariants.{OutOfMemory}
-use Rattle.sz_session.specs.Serving.{are_served, are_play, are_init, IfLoad}
+use Rattle.sz_session.specs.Serving.{are_served, are_play, are_init, are_check, IfLoad}
+use Rattle.sz_session.specs.Serving.{are_of_log, are_run, are_opened}
 use Rattle.sz_words.specs.Job.{job_of}
 use Rattle.sz_words.specs.Place.{place_of}
 
@@ -29,6 +30,26 @@ ArePlay (Err fault) = ⊥
 abbrev pub AreInit : Result Args Error → Type 0
 AreInit (Ok args) = are_init (map string_bytes (words_in args)) ≡ true
 AreInit (Err fault) = ⊥
+
+-- They could be had, and ask for the check of a log.
+abbrev pub AreCheck : Result Args Error → Type 0
+AreCheck (Ok args) = are_check (map string_bytes (words_in args)) ≡ true
+AreCheck (Err fault) = ⊥
+
+-- They could be had, and ask for a session on a log.
+abbrev pub AreRun : Result Args Error → Type 0
+AreRun (Ok args) = are_run (map string_bytes (words_in args)) ≡ true
+AreRun (Err fault) = ⊥
+
+-- They could be had, and ask for a mode that opens a log: a session on one, or the check of one.
+abbrev pub AreOpened : Result Args Error → Type 0
+AreOpened (Ok args) = are_opened (map string_bytes (words_in args)) ≡ true
+AreOpened (Err fault) = ⊥
+
+-- They could be had, and ask for a mode that uses the disk.
+abbrev pub AreOfLog : Result Args Error → Type 0
+AreOfLog (Ok args) = are_of_log (map string_bytes (words_in args)) ≡ true
+AreOfLog (Err fault) = ⊥
 
 -- The file of the log that they name, as its path's bytes, and whether it is made where it is not
 -- there; none where they name none or could not be had.

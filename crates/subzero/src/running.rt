@@ -1,11 +1,16 @@
 //! The session that the words ask for, from the words to the exit number.
 
-ghost use Rattle.std.specs.Prelude.{◌≡◌, ◌^◌};
+ghost use Rattle.std.specs.Prelude.{◌≡◌, ◌^◌, ℕ};
 ghost use Rattle.std.specs.Process.{exit_status};
 ghost use Rattle.sz_outside.specs.Outside.{Rose, Stood, Says};
 ghost use Rattle.sz_session.specs.Serving.{Done, IsPastLimit, nothing_held};
 ghost use Rattle.sz_session.specs.Making.{ready_line, HasMade, IsSpared};
-ghost use Rattle.subzero.specs.Words.{ArePlay, AreInit, AreServed, AreOther, IfLoadAsked};
+ghost use Rattle.sz_session.specs.Checking.{SaysLine, IsUnlike, IsBadLog};
+ghost use Rattle.subzero.specs.Words.{ArePlay, AreInit, AreCheck, AreOfLog, AreServed, AreOther};
+ghost use Rattle.subzero.specs.Words.{IfLoadAsked, AreRun, AreOpened};
+ghost use Rattle.sz_session.specs.Continuing.{EndsRun};
+ghost use Rattle.sz_session.specs.Statuses.{status_number};
+ghost use Rattle.sz_session.specs.declared.serving.Status.{Status as StatusOf};
 
 use crate::ending::end;
 use crate::words::{status_of_fault, words_of};
@@ -23,7 +28,8 @@ use sz_session::{Status, serve};
 /// status is printed on standard error. 0 comes only where the words ask for a mode that there is,
 /// and no fault was counted: in play the session was read to its end, and all of its transcript was
 /// said; in load the line that sums up the generated session was said; in init the disk is the
-/// empty log, and one line says so.
+/// empty log, and one line says so; in check the line of the log was said; in run the session read
+/// from its source was answered beside its log (`run`).
 pub(crate) fn run<
     S: Source,
     T: Station,
@@ -51,11 +57,22 @@ pub(crate) fn run<
         × Says (T.said station.old) (T.said station.new) ready_line }
     ensures disk_fault { exit_status result ≡ 4
         → Rose (T.disk_faults station.old) (T.disk_faults station.new) }
+    ensures of_log { exit_status result ≡ 5 → AreOfLog args }
     ensures not_a_log { exit_status result ≡ 5 → AreInit args
-        × IsSpared T.Station LogFault.NotALog station.old station.new }
+        → IsSpared T.Station LogFault.NotALog station.old station.new }
+    ensures no_log { exit_status result ≡ 5 → AreCheck args
+        → IsUnlike T.Station station.old station.new }
+    ensures checked { exit_status result ≡ 0 → AreCheck args
+        → SaysLine T.Station station.old station.new }
     ensures already_a_log { exit_status result ≡ 6 → AreInit args
         × IsSpared T.Station LogFault.AlreadyALog station.old station.new }
+    ensures bad_of_opened { exit_status result ≡ 7 → AreOpened args }
+    ensures bad_log { exit_status result ≡ 7
+        → (at : ℕ) × IsBadLog T.Station at station.old station.new }
     ensures input_limit { exit_status result ≡ 9 → IsPastLimit (2 ^ 62) (S.left source.old) }
+    ensures run { AreRun args → (s : StatusOf) × (exit_status result ≡ status_number s)
+        × EndsRun T.Station s (2 ^ 62) (S.left source.old) (S.left source.new)
+        station.old station.new }
 {
     let status = session(rt, alloc, args, source, station);
     end(rt, status)
@@ -91,11 +108,21 @@ fn session<S: Source, T: Station, R: Threads + Wait + Clone + Send + Sync + 'sta
         × Says (T.said station.old) (T.said station.new) ready_line }
     ensures disk_fault { result ≡ Status.DiskFault
         → Rose (T.disk_faults station.old) (T.disk_faults station.new) }
+    ensures of_log { result ≡ Status.NotALog → AreOfLog args }
     ensures not_a_log { result ≡ Status.NotALog → AreInit args
-        × IsSpared T.Station LogFault.NotALog station.old station.new }
+        → IsSpared T.Station LogFault.NotALog station.old station.new }
+    ensures no_log { result ≡ Status.NotALog → AreCheck args
+        → IsUnlike T.Station station.old station.new }
+    ensures checked { result ≡ Status.Done → AreCheck args
+        → SaysLine T.Station station.old station.new }
     ensures already_a_log { result ≡ Status.AlreadyALog → AreInit args
         × IsSpared T.Station LogFault.AlreadyALog station.old station.new }
+    ensures bad_of_opened { (at : ℕ) → result ≡ Status.BadLog at → AreOpened args }
+    ensures bad_log { (at : ℕ) → result ≡ Status.BadLog at
+        → IsBadLog T.Station at station.old station.new }
     ensures input_limit { result ≡ Status.InputLimit → IsPastLimit (2 ^ 62) (S.left source.old) }
+    ensures run { AreRun args → EndsRun T.Station result (2 ^ 62)
+        (S.left source.old) (S.left source.new) station.old station.new }
 {
     let args = match args {
         Ok(args) => args,

@@ -1,5 +1,5 @@
 //! Which exit number the words and the session give, and what is printed for each status.
-use crate::ending::{Ending, end, ending_of};
+use crate::ending::{ErrorLine, end, line_of};
 use crate::running::run;
 use crate::words::status_of_fault;
 use std::alloc::Global;
@@ -14,8 +14,9 @@ use sz_outside::{MemSource, MemStation};
 use sz_session::Status;
 
 /// Whether a status has this number and this line.
-fn has_ending(status: Status, number: u8, line: &'static str) -> bool {
-    ending_of(status) == Ending { number, line }
+fn has_ending(status: Status, number: u8, text: &'static str) -> bool {
+    let line = ErrorLine { text, place: None };
+    status.number() == number && line_of(status) == line
 }
 
 #[test]
@@ -33,6 +34,12 @@ fn each_status_has_its_number_and_its_line(rt: HostRuntime) {
     assert!(rt; has_ending(Status::DiskFault, 4, "subzero: the log's file failed"));
     assert!(rt; has_ending(Status::NotALog, 5, "subzero: not a log"));
     assert!(rt; has_ending(Status::AlreadyALog, 6, "subzero: already a log"));
+    let bad = ErrorLine {
+        text: "subzero: bad log at",
+        place: Some(54),
+    };
+    assert!(rt; line_of(Status::BadLog { at: 54 }) == bad);
+    assert_eq!(rt; Status::BadLog { at: 54 }.number(), 7);
     assert!(rt; has_ending(Status::NoMemory, 8, "subzero: out of memory"));
     assert!(rt; has_ending(Status::InputLimit, 9, "subzero: the session is too long"));
     assert_eq!(rt;
@@ -72,9 +79,10 @@ fn an_end_prints_its_line_where_it_has_one(rt: HostRuntime) {
     let paper = Paper { alloc, text };
     assert!(rt; end(&paper, Status::Done) == ExitCode::from(0));
     assert!(rt; end(&paper, Status::ReadFault) == ExitCode::from(2));
+    assert!(rt; end(&paper, Status::BadLog { at: 53 }) == ExitCode::from(7));
     assert_eq!(rt;
         paper.text.into_inner().as_str(),
-        "subzero: reading the session failed\n"
+        "subzero: reading the session failed\nsubzero: bad log at 53\n"
     );
 }
 
@@ -108,7 +116,8 @@ fn words_and_sessions_give_their_exit_numbers(rt: HostRuntime) -> std::result::R
     assert!(rt; ends(&rt, alloc, &["load", "--side", "1"], &[1], &[])? == ExitCode::from(0));
     assert!(rt; ends(&rt, alloc, &["load", "--side", "1"], &[], &[1])? == ExitCode::from(3));
     assert!(rt; ends(&rt, alloc, &["load", "--side", "0"], &[], &[])? == ExitCode::from(1));
-    assert!(rt; ends(&rt, alloc, &["run", "x"], &[], &[])? == ExitCode::from(1));
+    assert!(rt; ends(&rt, alloc, &["run", "x"], &[], &[])? == ExitCode::from(5));
+    assert!(rt; ends(&rt, alloc, &["check", "x"], &[], &[])? == ExitCode::from(5));
     assert!(rt; ends(&rt, alloc, &["play", "x"], &[], &[])? == ExitCode::from(1));
     assert!(rt; ends(&rt, alloc, &["x", "play"], &[], &[])? == ExitCode::from(1));
     Ok(())

@@ -1,5 +1,5 @@
 -- What is told of the status is told of its number.
-use Rattle.subzero.proofs.Numbers.{status-of}
+use Rattle.subzero.proofs.Numbers.{status-of, place_in}
 use Rattle.subzero.proofs.running.run.Goals as goal
 
 pub returns-clause-done : goal.returns-clause-done
@@ -38,5 +38,29 @@ returns-clause-not_a_log g c = λ e. c.session-status.ensures.not_a_log (status-
 pub returns-clause-already_a_log : goal.returns-clause-already_a_log
 returns-clause-already_a_log g c = λ e. c.session-status.ensures.already_a_log (status-of _ _ 6 c.end.ensures e)
 
+pub returns-clause-of_log : goal.returns-clause-of_log
+returns-clause-of_log g c = λ e. c.session-status.ensures.of_log (status-of _ _ 5 c.end.ensures e)
+
+pub returns-clause-no_log : goal.returns-clause-no_log
+returns-clause-no_log g c = λ e. c.session-status.ensures.no_log (status-of _ _ 5 c.end.ensures e)
+
+pub returns-clause-checked : goal.returns-clause-checked
+returns-clause-checked g c = λ e. c.session-status.ensures.checked (status-of _ _ 0 c.end.ensures e)
+
+pub returns-clause-bad_of_opened : goal.returns-clause-bad_of_opened
+returns-clause-bad_of_opened g c =
+    λ e.
+    let s = c.session-status.result in
+    c.session-status.ensures.bad_of_opened (place_in s) (status-of s _ 7 c.end.ensures e)
+
+pub returns-clause-bad_log : goal.returns-clause-bad_log
+returns-clause-bad_log g c =
+    λ e.
+    let s = c.session-status.result in
+    (place_in s, c.session-status.ensures.bad_log (place_in s) (status-of s _ 7 c.end.ensures e))
+
 pub returns-clause-input_limit : goal.returns-clause-input_limit
 returns-clause-input_limit g c = λ e. c.session-status.ensures.input_limit (status-of _ _ 9 c.end.ensures e)
+
+pub returns-clause-run : goal.returns-clause-run
+returns-clause-run g c = λ p. (c.session-status.result, c.end.ensures, c.session-status.ensures.run p)
