@@ -2,6 +2,8 @@
 
 ghost use Rattle.std.specs.Prelude.{◌≡◌, ◌≤◌, IfOk, IfSome};
 ghost use Rattle.sz_session.specs.Asks.{IsAskLine};
+ghost use Rattle.sz_session.specs.Logged.{HasLog};
+ghost use Rattle.sz_session.specs.Serving.{nothing_held};
 
 use std::alloc::Global;
 use std::sync::atomic::{AtomicU64, Ordering};
@@ -9,7 +11,7 @@ use std::sync::{Arc, Wait};
 use std::test::Fail;
 use std::thread::Threads;
 use sz_catalogue::{Reply, reply_text};
-use sz_outside::{Gate, MemStation, NoGate, SteadySource};
+use sz_outside::{Gate, MemStation, NoGate, Station, SteadySource};
 use sz_script::{Command, laws, read_line};
 use sz_session::{AskLine, Session, Status, serve};
 use sz_spec::Tally;
@@ -184,16 +186,29 @@ fn is_begun<R: Threads + Wait + Sync>(
     rt: &R,
     alloc: Global,
     session: &mut Session,
-) -> Result<bool, Fail> {
+) -> Result<bool, Fail>
+    requires { session.old ≡ nothing_held }
+{
     let mut station = MemStation::new(alloc, Vec::new(alloc), Vec::new(alloc), Vec::new(alloc))?;
+    Ok(takes_each(rt, session, &mut station))
+}
+
+/// Whether a session takes the lines before the asks, beside a station.
+fn takes_each<T: Station, R: Threads + Wait + Sync>(
+    rt: &R,
+    session: &mut Session,
+    station: &mut T,
+) -> bool
+    requires { HasLog T.Station session.old.held session.old.end station.old }
+{
     for line in BEFORE {
         let mut tally = Tally::new();
-        let taken = session.command(rt, line, 1, &mut station, &NoGate, &mut tally);
+        let taken = session.command(rt, line, 1, station, &NoGate, &mut tally);
         if taken.is_err() {
-            return Ok(false);
+            return false;
         }
     }
-    Ok(true)
+    true
 }
 
 /// The reply lines to two asks that are given together, as lines 6 and 7, and how many cells are

@@ -1,11 +1,15 @@
 //! Workers beside asks: no clause can see them, so these tests do.
 
+ghost use Rattle.std.specs.Prelude.{◌≡◌, true};
+ghost use Rattle.sz_session.specs.Logged.{HasLog};
+ghost use Rattle.sz_session.specs.Serving.{nothing_held};
+
 use std::alloc::Global;
 use std::sync::atomic::{AtomicU64, Ordering};
 use std::sync::{Arc, Wait};
 use std::test::Fail;
 use std::thread::Threads;
-use sz_outside::{Gate, MemStation, NoGate, SteadySource};
+use sz_outside::{Gate, MemStation, NoGate, Station, SteadySource};
 use sz_pool::employ;
 use sz_session::{Session, Status, serve};
 use sz_spec::Tally;
@@ -92,8 +96,15 @@ fn a_worker_is_at_its_piece_while_an_ask_is_answered(rt: HostRuntime) -> Result<
     Ok(())
 }
 
-/// How many of the lines come before the ask.
-const BEFORE_ASK: usize = 4;
+/// Its lines up to the ask, and the ask.
+const BEFORE_ASK: [&[u8]; 4] = [
+    b"{\"array\":\"a\",\"cells\":[[5]]}",
+    b"{\"flow\":\"f\",\"inputs\":1,\"nodes\":[{\"op\":\"neg\",\"from\":[{\"i\":0}]}]}",
+    b"{\"strategy\":\"f\",\"node\":0,\"list\":[\"full_one_b\"]}",
+    b"{\"start\":\"f\",\"base\":[[\"a\",1]]}",
+];
+
+const ASK: &[u8] = b"{\"ask\":1,\"dir\":\"back\",\"path\":[[0,0]],\"cells\":[[0,0]]}";
 
 /// For how many asks it is waited that one is answered by the store.
 const MOST_ASKS: u32 = 1_000_000;
@@ -104,38 +115,62 @@ fn is_answered_by_the_store<R: Threads + Wait + Sync>(
     rt: &R,
     alloc: Global,
     session: &mut Session,
-) -> Result<bool, Fail> {
+) -> Result<bool, Fail>
+    requires { session.old ≡ nothing_held }
+{
     let mut station = MemStation::new(alloc, Vec::new(alloc), Vec::new(alloc), Vec::new(alloc))?;
-    let mut lines = TEXT.split(|byte| *byte == b'\n');
-    for _ in 0..BEFORE_ASK {
-        let line = lines.next().unwrap_or(&[]);
-        if !is_taken(rt, session, line, &mut station) {
-            return Ok(false);
+    Ok(is_answered_on(rt, session, &mut station))
+}
+
+/// The same beside a station.
+fn is_answered_on<T: Station, R: Threads + Wait + Sync>(
+    rt: &R,
+    session: &mut Session,
+    station: &mut T,
+) -> bool
+    requires { HasLog T.Station session.old.held session.old.end station.old }
+{
+    for line in BEFORE_ASK {
+        if !is_taken(rt, session, line, station) {
+            return false;
         }
     }
-    let ask = lines.next().unwrap_or(&[]);
-    for _ in 0..MOST_ASKS {
+    is_traced_no_more(rt, session, station)
+}
+
+/// Whether the ask, given again and again, is answered by the store at last.
+fn is_traced_no_more<T: Station, R: Threads + Wait + Sync>(
+    rt: &R,
+    session: &mut Session,
+    station: &mut T,
+) -> bool
+    requires { HasLog T.Station session.old.held session.old.end station.old }
+{
+    for _turn in 0..MOST_ASKS {
         let mut tally = Tally::new();
         if session
-            .command(rt, ask, 5, &mut station, &NoGate, &mut tally)
+            .command(rt, ASK, 5, station, &NoGate, &mut tally)
             .is_err()
         {
-            return Ok(false);
+            return false;
         }
         if tally.count() == 0 {
-            return Ok(true);
+            return true;
         }
     }
-    Ok(false)
+    false
 }
 
 /// Whether a session does what a line orders.
-fn is_taken<R: Threads + Wait + Sync>(
+fn is_taken<T: Station, R: Threads + Wait + Sync>(
     rt: &R,
     session: &mut Session,
     line: &[u8],
-    station: &mut MemStation,
-) -> bool {
+    station: &mut T,
+) -> bool
+    requires { HasLog T.Station session.old.held session.old.end station.old }
+    ensures { result ≡ true → HasLog T.Station session.new.held session.new.end station.new }
+{
     let mut tally = Tally::new();
     session
         .command(rt, line, 1, station, &NoGate, &mut tally)

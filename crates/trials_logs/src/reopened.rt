@@ -1,11 +1,14 @@
 //! Sessions of a log of one version, with a store that stands for the relation and with one that
 //! does not: each answers by the store, and none is made again.
+ghost use Rattle.std.specs.Prelude.{IfOk};
+ghost use Rattle.sz_session.specs.Logged.{HasLog};
+
 use std::alloc::Global;
 use std::sync::Wait;
 use std::test::Fail;
 use std::thread::Threads;
 use sz_catalogue::reply_text;
-use sz_outside::{MemStation, NoGate};
+use sz_outside::{MemStation, NoGate, Station};
 use sz_recover::{Recovered, catalogue_of};
 use sz_session::{Carry, Session};
 use sz_spec::Tally;
@@ -64,12 +67,43 @@ fn station_with(alloc: Global, store: &[u8]) -> Result<MemStation, Fail> {
     Ok(MemStation::new(alloc, disk, Vec::new(alloc), Vec::new(alloc))?)
 }
 
-/// What the station's log opens to.
-fn opened(alloc: Global, station: &mut MemStation) -> Result<Recovered<Carry>, Fail> {
-    match catalogue_of(alloc, station) {
-        Ok(recovered) => Ok(recovered),
-        Err(_) => Err(Fail::from("not opened")),
+/// A session of the station's log, beside which that log stands.
+fn opened<T: Station, R: Threads + Sync>(
+    rt: &R,
+    alloc: Global,
+    station: &mut T,
+) -> Result<Session, Fail>
+    ensures { IfOk result (λ s. HasLog T.Station s.held s.end station.new) }
+{
+    if station.sync().is_err() {
+        return Err(Fail::from("not synced"));
     }
+    let recovered: Recovered<Carry> = match catalogue_of(alloc, station) {
+        Ok(recovered) => recovered,
+        Err(_) => return Err(Fail::from("not opened")),
+    };
+    Ok(Session::of_log(rt, alloc, recovered, 1, 1)?)
+}
+
+/// The reply to a line in a session of the station's log.
+fn reply_on<T: Station, R: Threads + Wait + Sync>(
+    rt: &R,
+    alloc: Global,
+    station: &mut T,
+    line: &[u8],
+) -> Result<Vec<u8>, Fail> {
+    let mut session = opened(rt, alloc, station)?;
+    let mut tally = Tally::new();
+    let Ok(reply) = session.command(rt, line, 1, station, &NoGate, &mut tally) else {
+        return Err(Fail::from("stopped"));
+    };
+    if tally.count() != 0 {
+        return Err(Fail::from("traced"));
+    }
+    let Some(reply) = reply else {
+        return Err(Fail::from("no reply"));
+    };
+    Ok(reply_text(alloc, 1, &reply)?)
 }
 
 /// The reply to a line in a session of the log with this store.
@@ -80,19 +114,7 @@ fn reply<R: Threads + Wait + Sync>(
     line: &[u8],
 ) -> Result<Vec<u8>, Fail> {
     let mut station = station_with(alloc, store)?;
-    let recovered = opened(alloc, &mut station)?;
-    let mut session = Session::of_log(rt, alloc, recovered, 1, 1)?;
-    let mut tally = Tally::new();
-    let Ok(reply) = session.command(rt, line, 1, &mut station, &NoGate, &mut tally) else {
-        return Err(Fail::from("stopped"));
-    };
-    if tally.count() != 0 {
-        return Err(Fail::from("traced"));
-    }
-    let Some(reply) = reply else {
-        return Err(Fail::from("no reply"));
-    };
-    Ok(reply_text(alloc, 1, &reply)?)
+    reply_on(rt, alloc, &mut station, line)
 }
 
 #[test]

@@ -46,15 +46,12 @@ fn a_line_that_cannot_be_said_is_a_fault(rt: HostRuntime) -> Result<(), Fail> {
 }
 
 #[test]
-fn modes_that_are_to_come_and_sides_past_the_limits_are_refused(
-    rt: HostRuntime,
-) -> Result<(), Fail> {
+fn numbers_past_their_limits_are_refused(rt: HostRuntime) -> Result<(), Fail> {
     let alloc = rt.alloc();
     assert_eq!(rt;
         ends(&rt, alloc, &["play", "--workers", "0"], &[])?.0,
         Status::Usage
     );
-    assert_eq!(rt; ends(&rt, alloc, &["run", "x"], &[])?.0, Status::Usage);
     assert_eq!(rt;
         ends(&rt, alloc, &["load", "--side", "0"], &[])?.0,
         Status::Usage

@@ -145,10 +145,11 @@ fn other_words_read_nothing(rt: HostRuntime) -> Result<(), Fail> {
 
 #[test]
 fn statuses_have_their_numbers(rt: HostRuntime) {
-    assert_eq!(rt; Status::Done as u8, 0);
-    assert_eq!(rt; Status::Usage as u8, 1);
-    assert_eq!(rt; Status::ReadFault as u8, 2);
-    assert_eq!(rt; Status::SayFault as u8, 3);
-    assert_eq!(rt; Status::NoMemory as u8, 8);
-    assert_eq!(rt; Status::InputLimit as u8, 9);
+    assert_eq!(rt; Status::Done.number(), 0);
+    assert_eq!(rt; Status::Usage.number(), 1);
+    assert_eq!(rt; Status::ReadFault.number(), 2);
+    assert_eq!(rt; Status::SayFault.number(), 3);
+    assert_eq!(rt; Status::BadLog { at: 16 }.number(), 7);
+    assert_eq!(rt; Status::NoMemory.number(), 8);
+    assert_eq!(rt; Status::InputLimit.number(), 9);
 }
