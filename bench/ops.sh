@@ -3,8 +3,8 @@
 # and of all cells; the lineage of all pieces, for a full strategy; and where the operator has a mapping, the mapped image backward of one
 # cell and of all cells, else the lineage of all pieces for a payload and for a composite strategy. Each time is the best of five, in
 # microseconds, and behind it stands its ratio to a plain copy of the array's values in the same run. `regions` is also run
-# on a chessboard, on pairs of cells, on one block and on one winding line, and preparing it, and a run by what was prepared, are timed by themselves. It is no test: nothing is
-# compared. It works in a folder of its own.
+# on a chessboard, on pairs of cells, on one block and on one winding line, and preparing it for its values, preparing it for its lineage, and
+# a run by what was prepared for values, are timed by themselves. It is no test: nothing is compared. It works in a folder of its own.
 set -euo pipefail
 side=${1:-1024}
 root=$(cd "$(dirname "$0")/.." && pwd)
@@ -51,7 +51,7 @@ use std::alloc::Global;
 use std::sync::Arc;
 use std::time::Instant;
 use sz_cells::{CellBits, Run, Shape};
-use sz_ops::{Aid, image_by_map, piece, prepare, run, run_prepared, trace};
+use sz_ops::{Aid, image_by_map, piece, prepare, prepare_lineage, run, run_prepared, trace};
 use sz_spec::{Array, Dir, Fold, Kernel, Op, OpAt, Strategy, Tally, pieces_of, supports};
 
 const SIDE: u32 = SIDE_HERE;
@@ -159,6 +159,20 @@ fn prepares(rt: &HostRuntime, at: &OpAt, inputs: &[Arc<Array>]) -> Option<u64>
     Some(best)
 }
 
+/// The best of some times of preparing for lineage.
+fn lineage_prepares(rt: &HostRuntime, at: &OpAt, inputs: &[Arc<Array>]) -> Option<u64>
+    requires inputs { extents_of (map (λ a. arc_value a) inputs.now) ≡ at.now.ins }
+{
+    let mut best = u64::MAX;
+    for _ in 0..TURNS {
+        let start = Instant::now(rt).ok()?;
+        let aid = prepare_lineage(rt.alloc(), at, inputs).ok()?;
+        best = best.min(since(rt, start)?);
+        drop(aid);
+    }
+    Some(best)
+}
+
 /// The best of some runs by what was prepared.
 fn prepared_runs(rt: &HostRuntime, at: &OpAt, inputs: &[Arc<Array>], aid: &Aid) -> Option<u64>
     requires inputs { extents_of (map (λ a. arc_value a) inputs.now) ≡ at.now.ins }
@@ -223,7 +237,7 @@ fn pieces(rt: &HostRuntime, at: &OpAt, inputs: &[Arc<Array>], list: &[Strategy])
     requires inputs { extents_of (map (λ a. arc_value a) inputs.now) ≡ at.now.ins }
     requires supported { All (λ s. supports at.now.op s ≡ true) list.now }
 {
-    let aid = prepare(rt.alloc(), at, inputs).ok()?;
+    let aid = prepare_lineage(rt.alloc(), at, inputs).ok()?;
     pieces_by(rt, at, inputs, &aid, list)
 }
 
@@ -398,6 +412,7 @@ fn regions_of(rt: &HostRuntime, name: &str, t: i64, input: &Arc<Array>, copy: u6
     let at = placed(Op::Regions { t }, vec![in rt.alloc(); input.shape()].ok()?)?;
     print!(rt; "{name}:").ok()?;
     show(rt, "prepare", prepares(rt, &at, &inputs)?, copy)?;
+    show(rt, "prepare for lineage", lineage_prepares(rt, &at, &inputs)?, copy)?;
     let aid = prepare(rt.alloc(), &at, &inputs).ok()?;
     show(rt, "run prepared", prepared_runs(rt, &at, &inputs, &aid)?, copy)?;
     println!(rt; "").ok()?;

@@ -120,7 +120,7 @@ use std::alloc::Global;
 use std::marker::Model;
 use std::sync::{Arc, Wait};
 use sz_cells::{CellBits, NoMemory};
-use sz_ops::{piece, prepare};
+use sz_ops::{piece, prepare_lineage};
 use sz_region::PieceLineage;
 use sz_shelf::{Look, Pass, Placed, SealReply, Shelf};
 use sz_spec::{Array, Dir, OpAt, Strategy, Tally, pieces_of};
@@ -174,7 +174,7 @@ impl Bench {
             IfOk result (λ p. Fits (measure_of t.site t.inputs) t.list k p) }
     {
         let inputs = [Arc::try_clone(&self.array)?];
-        let aid = prepare(alloc, &self.at, &inputs)?;
+        let aid = prepare_lineage(alloc, &self.at, &inputs)?;
         let mut tally = Tally::new();
         piece(alloc, &self.at, &inputs, &aid, k, &LIST, &mut tally)
     }

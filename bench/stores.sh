@@ -932,7 +932,7 @@ use std::env;
 use std::env::Args;
 use std::sync::Arc;
 use sz_cells::Shape;
-use sz_ops::{Aid, prepare};
+use sz_ops::{Aid, prepare_lineage};
 use sz_spec::{Array, Dir, Kernel, Op, OpAt, Strategy, supports};
 
 /// What is measured.
@@ -1017,7 +1017,7 @@ fn measure(
 {
     let alloc = rt.alloc();
     let at = Arc::new(alloc, at).ok()?;
-    let aid = prepare(alloc, &at, inputs).ok()?;
+    let aid = prepare_lineage(alloc, &at, inputs).ok()?;
     match what {
         What::Make => make(rt, &at, inputs, &aid, &source),
         What::Trace => trace_all(rt, &at, inputs),

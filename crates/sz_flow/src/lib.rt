@@ -2,7 +2,8 @@
 //!
 //! [`run_all`] runs a flow, node by node, and keeps of each node what questions about it need: the
 //! operator with its shapes, the arrays that it took, what was prepared for it, and its output.
-//! Arrays are shared, and each value is computed once, side by side where that pays.
+//! Arrays are shared, and each value is computed once, side by side where that pays. What lineage
+//! needs beyond that is prepared by [`NodeRun::prepare_lineage`], where lineage is kept.
 //!
 //! Of one base array that holds 5, and two nodes of which the first negates it and the second adds
 //! both, the outputs are -5 and 0:
@@ -19,6 +20,7 @@
 
 mod inputs;
 pub mod laws;
+mod lineage;
 mod node_run;
 mod output;
 mod run;

@@ -19,7 +19,8 @@ pub struct NodeRun {
     /// The arrays that it took, in the order of the node's sources.
     pub inputs: ArrayList,
     /// What was prepared for the operator and these arrays, shared with whoever makes pieces of its
-    /// lineage. Nothing else reads it: while no pieces are made, it takes its memory for nothing.
+    /// lineage. Nothing else reads it once the output is there. After a run it is what values need,
+    /// which is little; pieces are to be made by what [`NodeRun::prepare_lineage`] puts in its place.
     pub aid: Arc<Aid>,
     /// Its output.
     pub out: Arc<Array>,

@@ -18,8 +18,8 @@ use sz_spec::{Array, Flow, Node};
 
 /// The runs of a flow's nodes over base arrays, in the order of the nodes.
 ///
-/// Each value is computed once, and what an operator needs is prepared once for a node. Arrays are
-/// shared, not copied. It waits for nobody.
+/// Each value is computed once, and what an operator's values need is prepared once for a node:
+/// nothing of it is for lineage. Arrays are shared, not copied. It waits for nobody.
 pub fn run_all<R: Threads + Sync>(
     rt: &R,
     alloc: Global,

@@ -13,7 +13,7 @@ use sz_spec::{Array, OpAt};
 pub enum Aid {
     /// Nothing has to be prepared.
     Nothing,
-    /// The component of each cell, for connected regions.
+    /// The component of each cell, for connected regions: by its label, or with its set.
     Components(sz_ops_region::Aid),
 }
 

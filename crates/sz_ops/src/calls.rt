@@ -20,18 +20,34 @@ use crate::table::{at_work, choose, mapping};
 use std::alloc::Global;
 use std::sync::Arc;
 use sz_cells::{Cell, CellBits, NoMemory};
-use sz_ops_region::Labelling;
 use sz_region::{AtWork, MapOf, PieceLineage, image_by, piece_by, run_by, trace_by};
 use sz_spec::{Array, Dir, Op, OpAt, Strategy, Tally, Value};
 
-/// What is prepared for an operator and these inputs. For connected regions it takes time and
-/// memory in the number of cells, for the others none.
+/// What is prepared for an operator and these inputs: what its values need. For connected regions it
+/// takes time and memory in the number of cells, of which a word a cell is kept, for the others
+/// none.
 pub fn prepare(alloc: Global, at: &OpAt, inputs: &[Arc<Array>]) -> Result<Aid, NoMemory>
     requires inputs { extents_of (map (λ a. arc_value a) inputs.now) ≡ at.now.ins }
     ensures { IfOk result (λ a. a ≡ aid_of at.now.op (map (λ a. arc_value a) inputs.now)) }
 {
     match at.op() {
         Op::Regions { .. } => Ok(Aid::Components(sz_ops_region::prepare(alloc, at, inputs)?)),
+        _ => Ok(Aid::Nothing),
+    }
+}
+
+/// The same, with what lineage needs: for connected regions the set of each component of several
+/// cells is kept too. It is what pieces are to be made by. For connected regions it takes time and
+/// memory in the number of cells, for the others none.
+pub fn prepare_lineage(alloc: Global, at: &OpAt, inputs: &[Arc<Array>]) -> Result<Aid, NoMemory>
+    requires inputs { extents_of (map (λ a. arc_value a) inputs.now) ≡ at.now.ins }
+    ensures { IfOk result (λ a. a ≡ aid_of at.now.op (map (λ a. arc_value a) inputs.now)) }
+{
+    match at.op() {
+        Op::Regions { .. } => {
+            let aid = sz_ops_region::prepare_lineage(alloc, at, inputs)?;
+            Ok(Aid::Components(aid))
+        }
         _ => Ok(Aid::Nothing),
     }
 }
@@ -48,9 +64,9 @@ pub fn value_at(at: &OpAt, inputs: &[Arc<Array>], aid: &Aid, cell: Cell) -> Valu
     at_work!(
         at, inputs;
         work => work.value(cell, index);
-        regions t => {
+        regions _t => {
             let aid = aid.components(at, inputs);
-            Labelling { at, inputs, aid, t }.value(cell, index)
+            sz_ops_region::value_at(at, inputs, aid, cell)
         }
     )
 }
@@ -84,24 +100,17 @@ pub fn run_prepared<'x>(
 {
     sz_region::at_work(at, inputs);
     match at.op() {
-        Op::Regions { t } => {
+        Op::Regions { .. } => {
             let aid = aid.components(at, inputs);
-            run_by(
-                alloc,
-                &Labelling {
-                    at,
-                    inputs,
-                    aid,
-                    t: *t,
-                },
-            )
+            sz_ops_region::run_prepared(alloc, at, inputs, aid)
         }
         _ => run(alloc, at, inputs),
     }
 }
 
 /// The lineage of piece `k` of the output: the parts that the strategies of a list need. Each cell
-/// of the piece is looked at once, and counted.
+/// of the piece is looked at once, and counted. Of connected regions the components are made anew
+/// for each piece, where they were not prepared by [`prepare_lineage`].
 pub fn piece(
     alloc: Global,
     at: &OpAt,
@@ -125,9 +134,9 @@ pub fn piece(
     at_work!(
         at, inputs;
         work => piece_by(alloc, &work, k, list, tally);
-        regions t => {
+        regions _t => {
             let aid = aid.components(at, inputs);
-            piece_by(alloc, &Labelling { at, inputs, aid, t }, k, list, tally)
+            sz_ops_region::piece(alloc, at, inputs, aid, k, list, tally)
         }
     )
 }

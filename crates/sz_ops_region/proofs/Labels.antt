@@ -28,8 +28,8 @@ use Rattle.sz_spec.specs.Operators.Regions.{is_high, is_connected, component_of,
 use Rattle.sz_spec.proofs.Components.{component-made, connected-self}
 use Rattle.sz_spec.proofs.PayloadLineage.{extent-of_input}
 use Rattle.sz_spec.specs.Work.{IsAtWork}
-use Rattle.sz_ops_region.specs.declared.aid.Part.{Part}
-use Rattle.sz_ops_region.specs.declared.aid.Part.TheVariants.{Alone, Shared}
+use Rattle.sz_ops_region.specs.declared.components.Part.{Part}
+use Rattle.sz_ops_region.specs.declared.components.Part.TheVariants.{Alone, Shared}
 use Rattle.sz_ops_region.specs.Parts.{IsPartAt}
 use Rattle.sz_ops_region.specs.Regions.{components_of}
 use Rattle.sz_ops_region.specs.Tracing.{first_index}

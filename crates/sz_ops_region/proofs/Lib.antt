@@ -9,3 +9,4 @@ pub mod Tracing
 pub mod Roots
 pub mod Linked
 pub mod Settled
+pub mod Labelled

@@ -4,6 +4,8 @@ pub mod Stretches
 pub mod Numbers
 pub mod Sides
 pub mod Sets
+pub mod Labelled
+pub mod Prepared
 pub mod Parts
 pub mod Tracing
 pub mod Links

@@ -62,7 +62,7 @@ fn labels_of(alloc: Global, words: &mut [u32]) -> Result<Vec<Value>, NoMemory>
 }
 
 /// A label as a value.
-fn value_of(label: u32) -> Value
+pub(crate) fn value_of(label: u32) -> Value
     ensures { result ≡ Some (pos label) }
 {
     Some(i64::from(label))

@@ -13,7 +13,7 @@ ghost use Rattle.sz_region.specs.Walks.{traced};
 ghost use Rattle.sz_ops_region.specs.Regions.{is_regions};
 ghost use Rattle.sz_ops_region.specs.Tracing.{AreMarked};
 
-use crate::work::{Labelling, prepare, threshold};
+use crate::work::{Labelling, components_over, threshold};
 use std::alloc::Global;
 use std::sync::Arc;
 use sz_cells::{Cell, CellBits, NoMemory};
@@ -44,7 +44,7 @@ pub fn trace(
     ensures ticks { OnOk result (tally.new ≡ tally.old + size_of at.now.out) }
 {
     let t = threshold(at);
-    let aid = prepare(alloc, at, inputs)?;
+    let aid = components_over(alloc, at, inputs)?;
     let mut marks = CellBits::new(alloc, at.out())?;
     let work = Labelling {
         at,

@@ -16,7 +16,7 @@ ghost use Rattle.sz_region.specs.Groups.{least_of};
 ghost use Rattle.sz_ops_region.specs.Regions.{is_regions, components_of, aid_of};
 ghost use Rattle.sz_ops_region.specs.Parts.{IsPartAt};
 
-use crate::aid::{Aid, Component, Part, payload_of};
+use crate::components::{Component, Components, Part, payload_of};
 use std::alloc::Global;
 use std::sync::Arc;
 use sz_cells::{Cell, CellBits, CellSet, NoMemory, Shape};
@@ -29,7 +29,7 @@ use sz_spec::{Array, Op, OpAt, Value};
 pub struct Labelling<'a> {
     pub at: &'a OpAt,
     pub inputs: &'a [Arc<Array>],
-    pub aid: &'a Aid,
+    pub aid: &'a Components,
     pub t: i64,
     ghost labels: { at.now.op ≡ Regions t },
     ghost found: { aid.now ≡ components_of t (input_at (map (λ a. arc_value a) inputs.now) 0) },
@@ -199,18 +199,22 @@ pub(crate) fn threshold(at: &OpAt) -> i64
     }
 }
 
-/// The components of the high cells of the input.
+/// The components of the high cells of the input, with their sets.
 ///
 /// Takes memory in the number of the input's cells, and time in that number too, whatever the
 /// components look like, but for the searches for roots, as [`run`](crate::run) does: what each
 /// cell holds is looked at once, and the set of each component of several cells is made once, with
 /// room for just its runs. A component of one cell takes no memory but its mark.
-pub fn prepare(alloc: Global, at: &OpAt, inputs: &[Arc<Array>]) -> Result<Aid, NoMemory>
+pub fn components_over(
+    alloc: Global,
+    at: &OpAt,
+    inputs: &[Arc<Array>],
+) -> Result<Components, NoMemory>
     requires regions { is_regions at.now.op ≡ true }
     requires inputs { extents_of (map (λ a. arc_value a) inputs.now) ≡ at.now.ins }
-    ensures { IfOk result (λ a. a ≡ aid_of at.now.op (map (λ a. arc_value a) inputs.now)) }
+    ensures { IfOk result (λ c. c ≡ aid_of at.now.op (map (λ a. arc_value a) inputs.now)) }
 {
     let t = threshold(at);
     at.ins();
-    Aid::of(alloc, &inputs[0], t)
+    Components::of(alloc, &inputs[0], t)
 }

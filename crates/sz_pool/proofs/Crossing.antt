@@ -6,7 +6,9 @@ use denote.Param.Send.{IsSend, IsSync, sendable}
 use Rattle.std.proofs.Crossing.{crosses}
 use Rattle.sz_spec.specs.contracts.array.Array as Array
 use Rattle.sz_spec.specs.contracts.array.ArrayList as ArrayList
-use Rattle.sz_ops_region.specs.contracts.Aid as Components
+use Rattle.sz_ops_region.specs.contracts.cell_labels.Labels as Labels
+use Rattle.sz_ops_region.specs.contracts.components.Components as Components
+use Rattle.sz_ops_region.specs.contracts.Aid as Regions
 use Rattle.sz_ops.specs.contracts.aid.Aid as Aid
 use Rattle.sz_claims.specs.contracts.Claims as Claims
 use Rattle.sz_claims.specs.contracts.ClaimPass as ClaimPass
@@ -24,17 +26,29 @@ array_sync = search (sendable, crosses, fields) depth 60 fits 5000
 arrays_send : IsSend ArrayList.the_row
 arrays_send = search (array_send, array_sync, sendable, crosses, fields) depth 60 fits 5000
 
+labels_send : IsSend Labels.the_row
+labels_send = search (sendable, crosses, fields) depth 60 fits 5000
+
+labels_sync : IsSync Labels.the_row
+labels_sync = search (sendable, crosses, fields) depth 60 fits 5000
+
 components_send : IsSend Components.the_row
 components_send = search (sendable, crosses, fields) depth 60 fits 5000
 
 components_sync : IsSync Components.the_row
 components_sync = search (sendable, crosses, fields) depth 60 fits 5000
 
+regions_send : IsSend Regions.the_row
+regions_send = search (labels_send, components_send, sendable, crosses, fields) depth 60 fits 5000
+
+regions_sync : IsSync Regions.the_row
+regions_sync = search (labels_sync, components_sync, sendable, crosses, fields) depth 60 fits 5000
+
 aid_send : IsSend Aid.the_row
-aid_send = search (components_send, sendable, crosses, fields) depth 60 fits 5000
+aid_send = search (regions_send, sendable, crosses, fields) depth 60 fits 5000
 
 aid_sync : IsSync Aid.the_row
-aid_sync = search (components_sync, sendable, crosses, fields) depth 60 fits 5000
+aid_sync = search (regions_sync, sendable, crosses, fields) depth 60 fits 5000
 
 strategies_send : IsSend StrategyList.the_row
 strategies_send = search (sendable, crosses, fields) depth 60 fits 5000

@@ -8,7 +8,7 @@ use Rattle.sz_cells.specs.Extent.{size_of}
 use Rattle.sz_cells.specs.Cells.{Cells}
 use Rattle.sz_ops_region.specs.Sets.{HasRuns, cells_numbered}
 use Rattle.sz_ops_region.proofs.Sets.{used-full}
-use Rattle.sz_ops_region.proofs.aid.components_of.Goals as goal
+use Rattle.sz_ops_region.proofs.components.components_of.Goals as goal
 
 pub into_set-set-requires : goal.into_set-set-requires
 into_set-set-requires c =

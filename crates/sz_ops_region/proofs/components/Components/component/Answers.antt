@@ -8,7 +8,7 @@ use Rattle.sz_ops_region.specs.declared.marks.Mark.TheVariants.{Alone, Numbered}
 use Rattle.sz_ops_region.specs.Marks.{mark_at, number_in}
 use Rattle.sz_ops_region.specs.Sets.{set_of, sets_by}
 use Rattle.sz_ops_region.proofs.Sets.{sets-at, sets-length, other-set}
-use Rattle.sz_ops_region.proofs.aid.Aid.component.Goals as goal
+use Rattle.sz_ops_region.proofs.components.Components.component.Goals as goal
 
 pub at-requires : goal.at-requires
 at-requires c =

@@ -5,7 +5,7 @@ use Rattle.std.proofs.lemmas.Int.{to_z-of_z}
 use Rattle.sz_cells.specs.Extent.{size_of}
 use Rattle.sz_ops_region.specs.Numbers.{AreNumbers}
 use Rattle.sz_ops_region.proofs.Sets.{aid-right, aid-sets}
-use Rattle.sz_ops_region.proofs.aid.Aid.of.Goals as goal
+use Rattle.sz_ops_region.proofs.components.Components.of.Goals as goal
 
 pub invariant_of-result : goal.invariant_of-result
 invariant_of-result c =

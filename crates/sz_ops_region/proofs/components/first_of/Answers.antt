@@ -3,7 +3,7 @@ use Rattle.std.proofs.Common.{List, sym, ap, ◌∙◌}
 use Rattle.std.specs.List.{slice_get}
 use Rattle.sz_cells.specs.declared.Run.{Run}
 use Rattle.sz_ops_region.proofs.Labels.{index-some, index-none}
-use Rattle.sz_ops_region.proofs.aid.first_of.Goals as goal
+use Rattle.sz_ops_region.proofs.components.first_of.Goals as goal
 
 pub returns-in-Some : goal.returns-in-Some
 returns-in-Some c =

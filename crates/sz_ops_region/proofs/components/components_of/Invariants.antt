@@ -3,7 +3,7 @@ use Rattle.std.proofs.Common.{◌≡◌, ℕ, ◌<◌, ◌≤◌, [], map, lengt
 use Rattle.std.specs.List.{range_with_len}
 use Rattle.sz_cells.specs.Extent.{size_of}
 use Rattle.sz_ops_region.specs.Sets.{HasRuns, cells_numbered}
-use Rattle.sz_ops_region.proofs.aid.components_of.Given as goal
+use Rattle.sz_ops_region.proofs.components.components_of.Given as goal
 
 abbrev pub invariant-loop-number : goal.invariant-loop-number
 invariant-loop-number l = record {
