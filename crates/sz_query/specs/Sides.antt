@@ -1,5 +1,6 @@
--- The bitmaps that the steps of a path are written into, as they are at first.
-use Rattle.std.specs.Prelude.{ℕ, List, [], ◌∷◌}
+-- The bitmaps that the steps of a path are written into, as they are at first, and those that are
+-- kept for them.
+use Rattle.std.specs.Prelude.{◌≡◌, ℕ, List, [], ◌∷◌}
 use Rattle.sz_cells.specs.Cells.{Cells, no_cells}
 use Rattle.sz_spec.specs.declared.modes.Dir.{Dir}
 use Rattle.sz_spec.specs.Sides.{far_side}
@@ -11,3 +12,7 @@ empty_sides dir [] inputs = []
 empty_sides dir (v ∷ views) [] = []
 empty_sides dir (v ∷ views) (i ∷ inputs) =
     no_cells (far_side dir (view_site v) i) ∷ empty_sides dir views inputs
+
+-- a bitmap as it is kept: without a cell
+abbrev pub IsClear : Cells → Type 0
+IsClear set = set ≡ no_cells set.extent

@@ -16,6 +16,10 @@
 //! shelf for a step. With `Mapped`, `Stored` and `Kept` views alone an answer takes no memory
 //! between its first step and its last.
 //!
+//! An answer goes from bitmap to bitmap, each of a whole shape. [`answer_with`] takes them from a
+//! [`Spare`] and puts them back without their cells, so an answer that finds those that it needs
+//! costs what it touches, and not the shapes.
+//!
 //! Two rows of three, turned over by `at`: the cell of row 2 and column 0 comes from that of row 0
 //! and column 2.
 //!
@@ -35,10 +39,12 @@
 
 pub mod laws;
 mod path;
+mod spare;
 mod steps;
 mod used;
 mod views;
 
-pub use path::{Found, answer};
+pub use path::{Found, answer, answer_with};
+pub use spare::Spare;
 pub use used::{Used, UsedList};
 pub use views::{NodeRunRef, NodeView};

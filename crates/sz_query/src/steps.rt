@@ -7,6 +7,7 @@ ghost use Rattle.sz_query.specs.Turns.{IsAsked, MayBeAsked};
 ghost use Rattle.sz_query.specs.Answers.{answered, traced_of, most_traced_of, AreSteps};
 ghost use Rattle.sz_query.specs.Sides.{empty_sides};
 
+use crate::spare::Spare;
 use crate::used::UsedList;
 use crate::views::NodeView;
 use std::alloc::Global;
@@ -14,9 +15,11 @@ use std::sync::Wait;
 use sz_cells::{CellBits, CellSet, NoMemory};
 use sz_spec::{Dir, Tally};
 
-/// An empty bitmap for each step, of the shape to which it leads.
+/// An empty bitmap for each step, of the shape to which it leads. Where one is refused, those
+/// before it are let go.
 pub(crate) fn sides_of(
     alloc: Global,
+    spare: &mut Spare,
     views: &[NodeView],
     inputs: &[u32],
     dir: Dir,
@@ -28,16 +31,20 @@ pub(crate) fn sides_of(
     let mut sides = Vec::with_capacity(alloc, views.len())?;
     for index in 0..views.len() {
         let shape = views[index].far_shape(dir, inputs[index]);
-        sides.push(CellBits::new(alloc, shape)?)?;
+        sides.push(spare.take(alloc, shape)?)?;
     }
     Ok(sides)
 }
 
 /// A bitmap with the cells of a set.
-pub(crate) fn bits_of(alloc: Global, cells: &CellSet) -> Result<CellBits, NoMemory>
+pub(crate) fn bits_of(
+    alloc: Global,
+    spare: &mut Spare,
+    cells: &CellSet,
+) -> Result<CellBits, NoMemory>
     ensures { IfOk result (λ b. b ≡ cells.now) }
 {
-    let mut bits = CellBits::new(alloc, cells.shape())?;
+    let mut bits = spare.take(alloc, cells.shape())?;
     bits.add_set(cells);
     Ok(bits)
 }

@@ -24,7 +24,7 @@ far_shape-shape-requires c =
 
 pub loop-index-preserved : goal.loop-index-preserved
 loop-index-preserved c =
-    let empty = c.in_ok-new.ensures ∙ ap no_cells c.far_shape-shape.ensures in
+    let empty = c.in_ok-take.ensures ∙ ap no_cells c.far_shape-shape.ensures in
     let few : c.loop-index.index < length c.args.inputs.now = omega (
       arith,
       steps-inputs c.args.dir (map view_of c.args.views.now) c.args.inputs.now c.args.cells.now.extent c.requires,
@@ -35,7 +35,7 @@ loop-index-preserved c =
       c.loop-index.invariant.0,
       one-more c.args.dir c.args.views.now c.args.inputs.now c.loop-index.index
           c.index-views-index.result c.loop-index.sides.items c.push.new.self.items
-          (empty_sides c.args.dir (map view_of c.args.views.now) c.args.inputs.now) c.in_ok-new.field-0
+          (empty_sides c.args.dir (map view_of c.args.views.now) c.args.inputs.now) c.in_ok-take.field-0
           c.loop-index-test.true few c.index-views-index.is empty
           c.in_ok-push.ensures.items c.loop-index.invariant.1,
     )

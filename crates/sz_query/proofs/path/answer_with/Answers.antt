@@ -2,7 +2,7 @@
 use Rattle.std.proofs.Common.{map, arith}
 use Rattle.sz_query.specs.Views.{view_of}
 use Rattle.sz_query.proofs.Asked.{none-asked, all-asked, most-asked, on-err}
-use Rattle.sz_query.proofs.path.answer.Goals as goal
+use Rattle.sz_query.proofs.path.answer_with.Goals as goal
 
 pub returns-in_err-sides-clause-tried : goal.returns-in_err-sides-clause-tried
 returns-in_err-sides-clause-tried g c = on-err c.from_residual.result (none-asked (map view_of c.args.views.now))
