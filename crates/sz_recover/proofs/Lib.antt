@@ -23,3 +23,6 @@ pub mod Logged
 pub mod Keyed
 pub mod InOrder
 pub mod InLogs
+pub mod RightArrays
+pub mod RightHeld
+pub mod OneReading

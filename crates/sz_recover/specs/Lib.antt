@@ -6,6 +6,7 @@ pub mod Laws
 pub mod Taking
 pub mod Logs
 pub mod Growing
+pub mod OneReading
 pub mod Opened
 pub mod Props
 pub mod Comparing

@@ -14,6 +14,7 @@ ghost use Rattle.sz_spec.specs.Sides.{near_side, far_side};
 ghost use Rattle.sz_region.specs.Parts.{Parts};
 ghost use Rattle.sz_region.specs.Fits.{Fits};
 ghost use Rattle.sz_region.specs.Images.{measure_of};
+ghost use Rattle.sz_ops.specs.Aids.{aid_of};
 ghost use Rattle.sz_flow.specs.Executions.{execution_of};
 ghost use Rattle.sz_store.specs.Kept.{holding_for, with_lineage};
 ghost use Rattle.sz_catalogue.specs.Holdings.{arrays_of};
@@ -33,7 +34,7 @@ use std::thread::Threads;
 use sz_catalogue::{BaseArray, Carried, Catalogue, HeldVersion};
 use sz_cells::{CellBits, NoMemory, Shape};
 use sz_flow::{NodeRun, run_all};
-use sz_ops::piece;
+use sz_ops::{Aid, piece, prepare_lineage};
 use sz_script::StrategyList;
 use sz_spec::{Array, Dir, OpAt, Strategy, Tally, pieces_of};
 use sz_store::NodeStore;
@@ -227,8 +228,26 @@ fn is_exact(alloc: Global, run: &NodeRun, store: &NodeStore, s: Strategy) -> Res
     are_one(alloc, &run.at, &made, store, s)
 }
 
-/// The store of a strategy, made of all pieces of the operator that was run.
+/// The store of a strategy, made of all pieces of the operator that was run. What its lineage needs
+/// is prepared once.
 fn store_made(alloc: Global, run: &NodeRun, s: Strategy) -> Result<NodeStore, NoMemory>
+    requires supported { supports (execution_of run.now).site.op s ≡ true }
+    requires stored { is_stored s ≡ true }
+    ensures store { IfOk result (λ m. IsOneOf s (execution_of run.now).site m) }
+    ensures exact { IfOk result (λ m. IsExact (execution_of run.now) (holding_for s m.stores)) }
+{
+    let aid = prepared_for(alloc, run)?;
+    store_made_by(alloc, run, &aid, s)
+}
+
+/// The same, by what was prepared for the lineage of the operator.
+fn store_made_by(
+    alloc: Global,
+    run: &NodeRun,
+    aid: &Aid,
+    s: Strategy,
+) -> Result<NodeStore, NoMemory>
+    requires aid { let e = execution_of run.now in aid.now ≡ aid_of e.site.op e.inputs }
     requires supported { supports (execution_of run.now).site.op s ≡ true }
     requires stored { is_stored s ≡ true }
     ensures store { IfOk result (λ m. IsOneOf s (execution_of run.now).site m) }
@@ -237,19 +256,28 @@ fn store_made(alloc: Global, run: &NodeRun, s: Strategy) -> Result<NodeStore, No
     sz_store::laws::placed_pieces_make_the_relation();
     let mut made = NodeStore::new(alloc, Arc::try_clone(&run.at)?, &[s])?;
     for k in 0..pieces_of(run.at.out()) {
-        add_piece(alloc, run, s, k, &mut made)?;
+        add_piece(alloc, run, aid, s, k, &mut made)?;
     }
     Ok(made)
 }
 
-/// Adds a piece.
+/// What the lineage of the operator that was run needs.
+fn prepared_for(alloc: Global, run: &NodeRun) -> Result<Aid, NoMemory>
+    ensures { let e = execution_of run.now in IfOk result (λ a. a ≡ aid_of e.site.op e.inputs) }
+{
+    prepare_lineage(alloc, &run.at, run.inputs.as_slice())
+}
+
+/// Adds a piece, by what was prepared for the lineage of the operator that was run.
 fn add_piece(
     alloc: Global,
     run: &NodeRun,
+    aid: &Aid,
     s: Strategy,
     k: u32,
     made: &mut NodeStore,
 ) -> Result<(), NoMemory>
+    requires aid { let e = execution_of run.now in aid.now ≡ aid_of e.site.op e.inputs }
     requires site { made.old.site ≡ (execution_of run.now).site }
     requires own { made.old.list ≡ s ∷ [] }
     requires supported { supports (execution_of run.now).site.op s ≡ true }
@@ -263,7 +291,7 @@ fn add_piece(
         alloc,
         &run.at,
         run.inputs.as_slice(),
-        &run.aid,
+        aid,
         k,
         &[s],
         &mut tally,

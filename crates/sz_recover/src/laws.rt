@@ -10,6 +10,8 @@ ghost use Rattle.sz_recover.specs.Growing.{CommandsKeepOrder, LogsAreInOrder};
 ghost use Rattle.sz_recover.specs.Opened.{WellMadeLogsKeepTheirVersions, HeldVersionsHaveEntries};
 ghost use Rattle.sz_recover.specs.Opened.{HeldVersionsAreAwaited};
 ghost use Rattle.sz_recover.specs.Soundness.{WrongStoresAreUnsound};
+ghost use Rattle.sz_recover.specs.OneReading.{WellMadeLogsAreReadInOneWay, WellMadeLogsAreNotBad};
+ghost use Rattle.sz_recover.specs.OneReading.{LogsAreFirstBadAtOnePlace};
 
 /// Some bytes are the body of at most one version with its stores: what is written is read again,
 /// and in no other way.
@@ -82,4 +84,13 @@ pub fn holdings_are_in_order()
 /// each store stands for exactly the relation.
 pub fn wrong_stores_are_unsound()
     ensures { WrongStoresAreUnsound }
+{}
+
+/// A log is read in one way: a well-made log ends at one place, holds one thing and keeps of each
+/// version stores that keep the same, and has no bad group; and the first bad group of a log stands
+/// at one place.
+pub fn logs_are_read_in_one_way()
+    ensures made { WellMadeLogsAreReadInOneWay }
+    ensures whole { WellMadeLogsAreNotBad }
+    ensures bad { LogsAreFirstBadAtOnePlace }
 {}
