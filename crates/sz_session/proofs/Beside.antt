@@ -324,14 +324,33 @@ in-front {X} T l xs n a b one =
     subst P (take-append-drop n xs) (in-more T l (take n xs) (drop n xs) a b one)
 
 -- the line that has not ended is the last where it has bytes
+one-line : (xs : List ℕ) → 0 < length xs → xs ∷ [] ≡ last_line xs
+one-line [] some = absurd (omega arith)
+one-line (x ∷ xs) some = refl
+
+only-last : (m : Moment) → 0 < length m.pending → (cut_after m (10 ∷ [])).whole ≡ last_line m.pending
+only-last m some = only-pending m ∙ one-line m.pending some
+
 pub end-line : {X : Type 0} (T : Ghosts X) (m : Moment) (a b : X) → 0 < length m.pending → FindsIn T m (10 ∷ []) a b
     → FindsAtEnd T m a b
 end-line {X} T m a b some one =
     let P : List (List ℕ) → Type 0 = λ ls. IfSome m.end (λ at. FindsLines T at m.held m.number ls a b) in
-    subst P (ap (λ (x : Cut). x.whole) (line-only m) ∙ one_line m.pending some) one where
-      one_line : (xs : List ℕ) → 0 < length xs → xs ∷ [] ≡ last_line xs
-      one_line [] some = absurd (omega arith)
-      one_line (x ∷ xs) some = refl
+    subst P (only-last m some) one
+
+-- where it ended, what is held is what is held behind it
+pub end-held : (m n : Moment) (a b : Option (List ℕ)) → 0 < length m.pending → Advances a b m n (10 ∷ [])
+    → n.held.held ≡ (after_lines m.held (last_line m.pending)).held
+end-held m n a b some took =
+    ap (λ (s : State). s.held) took.alike.held
+    ∙ ap (λ (ls : List (List ℕ)). (after_lines m.held ls).held) (only-last m some)
+
+-- and a line of no bytes changes nothing
+pub end-empty : (m : Moment) → length m.pending ≡ 0
+    → m.held.held ≡ (after_lines m.held (last_line m.pending)).held
+end-empty m none = empty m.pending none where
+  empty : (xs : List ℕ) → length xs ≡ 0 → m.held.held ≡ (after_lines m.held (last_line xs)).held
+  empty [] none = refl
+  empty (x ∷ xs) none = absurd (omega arith)
 
 -- lines that were taken in behind which nothing waits, and then others
 pub in-waits : {X : Type 0} (T : Ghosts X) (l m : Moment) (xs ys : List ℕ) (waiting : List AskLine) (a b c : X)

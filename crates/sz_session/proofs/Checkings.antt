@@ -44,19 +44,22 @@ check-silent {X} T status.InputLimit a b ends is = absurd ends
 abbrev pub StopsUnlike : Status → Type 0
 StopsUnlike s = (s ≡ status.NotALog) ⊎ ((s ≡ status.DiskFault) ⊎ (s ≡ status.NoMemory))
 
-no_log-made : (o : Option (List ℕ)) (at : ℕ) (c : Holdings) (kept : List Kept) (Claim : Type 0) → IsMade o at c kept
+-- a disk that is a log, well made or bad somewhere, is none of these
+pub no_log-made : (o : Option (List ℕ)) (at : ℕ) (c : Holdings) (kept : List Kept) (Claim : Type 0) → IsMade o at c kept
     → IfNoLog o Claim
 no_log-made None at c kept Claim made = tt
 no_log-made (Some disk) at c kept Claim made = λ other. absurd (true≢false (sym made.header ∙ other))
 
-no_log-broken : (o : Option (List ℕ)) (at : ℕ) (Claim : Type 0) → IsBroken o at → IfNoLog o Claim
+pub no_log-broken : (o : Option (List ℕ)) (at : ℕ) (Claim : Type 0) → IsBroken o at → IfNoLog o Claim
 no_log-broken None at Claim broken = tt
 no_log-broken (Some disk) at Claim broken = λ other. absurd (true≢false (sym broken.before.header ∙ other))
 
-no_log-each : (o : Option (List ℕ)) (Claim : Type 0) → Claim → IfNoLog o Claim
+-- what is so of each disk
+pub no_log-each : (o : Option (List ℕ)) (Claim : Type 0) → Claim → IfNoLog o Claim
 no_log-each None Claim is = tt
 no_log-each (Some disk) Claim is = λ other. is
 
+-- a line is said of a well-made log
 no_log-line : (o : Option (List ℕ)) (line : List ℕ) (Claim : Type 0) → IsLineOf o line → IfNoLog o Claim
 no_log-line o line Claim is = no_log-made o is.at is.c is.kept Claim is.made
 
@@ -87,19 +90,19 @@ begun-log : (o : Option (List ℕ)) → BeginsAsLog o → IsNoLog o → ⊥
 begun-log None begun other = begun
 begun-log (Some disk) begun other = true≢false (sym begun ∙ other)
 
-pub check-completes : {X : Type 0} (T : Ghosts X) (s : Status) (a b : X) → EndsCheck T s a b
+pub check-tells : {X : Type 0} (T : Ghosts X) (s : Status) (a b : X) → EndsCheck T s a b
     → BeginsAsLog (T.disk a) → (Rose (T.disk_faults a) (T.disk_faults b) → ⊥)
     → (Rose (T.say_faults a) (T.say_faults b) → ⊥) → StopsBegun s
-check-completes {X} T status.Done a b ends begun no_disk no_say = inl refl
-check-completes {X} T status.Usage a b ends begun no_disk no_say = absurd ends
-check-completes {X} T status.ReadFault a b ends begun no_disk no_say = absurd ends
-check-completes {X} T status.SayFault a b ends begun no_disk no_say = absurd (no_say ends.1)
-check-completes {X} T status.DiskFault a b ends begun no_disk no_say = absurd (no_disk ends.1)
-check-completes {X} T status.NotALog a b ends begun no_disk no_say = absurd (begun-log (T.disk a) begun ends.1.0)
-check-completes {X} T status.AlreadyALog a b ends begun no_disk no_say = absurd ends
-check-completes {X} T (status.BadLog at) a b ends begun no_disk no_say = inr (inr (at, refl))
-check-completes {X} T status.NoMemory a b ends begun no_disk no_say = inr (inl refl)
-check-completes {X} T status.InputLimit a b ends begun no_disk no_say = absurd ends
+check-tells {X} T status.Done a b ends begun no_disk no_say = inl refl
+check-tells {X} T status.Usage a b ends begun no_disk no_say = absurd ends
+check-tells {X} T status.ReadFault a b ends begun no_disk no_say = absurd ends
+check-tells {X} T status.SayFault a b ends begun no_disk no_say = absurd (no_say ends.1)
+check-tells {X} T status.DiskFault a b ends begun no_disk no_say = absurd (no_disk ends.1)
+check-tells {X} T status.NotALog a b ends begun no_disk no_say = absurd (begun-log (T.disk a) begun ends.1.0)
+check-tells {X} T status.AlreadyALog a b ends begun no_disk no_say = absurd ends
+check-tells {X} T (status.BadLog at) a b ends begun no_disk no_say = inr (inr (at, refl))
+check-tells {X} T status.NoMemory a b ends begun no_disk no_say = inr (inl refl)
+check-tells {X} T status.InputLimit a b ends begun no_disk no_say = absurd ends
 
 -- ---- what a stop leaves
 

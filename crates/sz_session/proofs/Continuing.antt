@@ -2,7 +2,7 @@
 --
 -- The key idea: to put the disk where a stop leaves it, and to read it, changes no image and says nothing; so what a
 -- stop finds of the lines that are answered then is found from the start of the call.
-use Rattle.std.proofs.Common.{◌≡◌, ℕ, ◌≤◌, List, true, false, refl, sym, ◌∙◌, subst, Option, Some, true≢false}
+use Rattle.std.proofs.Common.{◌≡◌, ℕ, ◌≤◌, List, true, false, refl, sym, ◌∙◌, subst, Option, Some, None, true≢false}
 use Rattle.std.specs.Prelude.{Result, Ok, Err, OnOk, is_err}
 use Rattle.sz_outside.specs.Outside.{Rose, Stood}
 use Rattle.sz_outside.specs.Disk.{Told, Same, Said}
@@ -12,8 +12,11 @@ use Rattle.sz_recover.specs.Logs.{Kept, IsMade, IsNoLog, IsBroken, SaysWhy, has_
 use Rattle.sz_recover.specs.declared.opening.RecoverFault.{RecoverFault}
 use Rattle.sz_recover.specs.declared.opening.RecoverFault.TheVariants as recover
 use Rattle.sz_session.specs.Disks.{StopsFinding}
-use Rattle.sz_session.specs.Logged.{IsLogOf}
-use Rattle.sz_session.specs.Running.{FindsAll, state_of_log}
+use Rattle.sz_session.specs.Logged.{IsLogOf, Grows, GoesOn}
+use Rattle.sz_session.specs.States.{State}
+use Rattle.sz_session.specs.Lines.{lines_of}
+use Rattle.sz_session.specs.Transcript.{after_lines}
+use Rattle.sz_session.specs.Running.{FindsAll, StandsBehind, state_of_log}
 use Rattle.sz_session.specs.Continuing.{IsUnopened, EndsUnopened, EndsOpened, AreCountedOn}
 use Rattle.sz_session.specs.Statuses.{recover_status, EndsLines, AreCountedInLines}
 use Rattle.sz_session.specs.declared.serving.Status.{Status}
@@ -66,17 +69,31 @@ unopened-counted {X} T recover.NoMemory r r' a b rose stood = tt
 
 -- ---- a log
 
+-- a log that goes on from a station goes on from one before it too, where the disk reads alike
+behind-before : {X : Type 0} (T : Ghosts X) (s : State) (at : ℕ) (left : Option (List ℕ)) (a b x : X)
+    → T.disk b ≡ T.disk a → StandsBehind T s (Some at) left b x → StandsBehind T s (Some at) left a x
+behind-before {X} T s at None a b x reads behind = tt
+behind-before {X} T s at (Some bytes) a b x reads behind =
+    let d = (after_lines s (lines_of bytes)).held in
+    let G : Option (List ℕ) → Type 0 = λ o. Grows o at s.held (T.disk x) behind.0 d in
+    let goes : GoesOn T s.held at d behind.0 a x =
+    record { grows = subst G reads behind.1.grows; synced = behind.1.synced } in
+    (behind.0, goes)
+
+-- what was so since the log was opened is so from the start of the call
 pub opened : {X : Type 0} (T : Ghosts X) (s : Status) (limit at : ℕ) (c : Holdings) (kept : List Kept)
     (left rest : Option (List ℕ)) (a b x : X) → T.disk b ≡ T.disk a → T.said b ≡ T.said a
     → StopsFinding T Same (Said (T.said a)) a b → IsMade (T.disk a) at c kept → IsLogOf T c at b
     → EndsLines (state_of_log c kept) s limit left rest (T.said b) (T.said x)
+    → (s ≡ status.Done → StandsBehind T (state_of_log c kept) (Some at) left b x)
     → FindsAll T (state_of_log c kept) (Some at) left b x → EndsOpened T s limit left rest a x
-opened {X} T s limit at c kept left rest a b x reads said stops made log ends found = record {
+opened {X} T s limit at c kept left rest a b x reads said stops made log ends behind found = record {
   at = at;
   c = c;
   kept = kept;
   made = made;
   ends = subst (λ (o : Option (List ℕ)). EndsLines (state_of_log c kept) s limit left rest o (T.said x)) said ends;
+  behind = λ done. behind-before T (state_of_log c kept) at left a b x reads (behind done);
   found = λ only. finds-before T (state_of_log c kept) at left a b x reads said stops only log found;
 }
 

@@ -390,12 +390,16 @@ not-done halt.SayFault is = cc
 not-done halt.DiskFault is = cc
 not-done halt.NoMemory is = cc
 
--- no fault was counted where a session is done
+-- where a session is done, its end owes what it owes where nothing failed
+pub done-end : (r : Result (Unit {0}) Halt) (P : Type 0) → end_status r ≡ status.Done → OnOk r P → P
+done-end (Ok u) P is owed = owed
+done-end (Err halt.SayFault) P is owed = cc
+done-end (Err halt.DiskFault) P is owed = cc
+done-end (Err halt.NoMemory) P is owed = cc
+
+-- so no fault was counted
 pub quiet-end : (r : Result (Unit {0}) Halt) (a b : ℕ) → end_status r ≡ status.Done → OnOk r (b ≡ a) → b ≡ a
-quiet-end (Ok u) a b is quiet = quiet
-quiet-end (Err halt.SayFault) a b is quiet = cc
-quiet-end (Err halt.DiskFault) a b is quiet = cc
-quiet-end (Err halt.NoMemory) a b is quiet = cc
+quiet-end r a b is quiet = done-end r (b ≡ a) is quiet
 
 -- a fault that is counted after a time in which none was
 pub rose-behind : (a b c : ℕ) → b ≡ a → Rose b c → Rose a c

@@ -52,7 +52,7 @@ pub line-each : (IsSuch : List ℕ → Type 0) (o : Option Job) → ((line : Lis
 line-each IsSuch None h = tt
 line-each IsSuch (Some job) h = λ asked. h (load_line job)
 
--- a mode that is to come reads no lines
+-- a mode that is not served reads no lines: each is served
 pub served-not : (m : JobMode) → is_served m ≡ false → is_of_lines m ≡ false
 served-not mode.Play h = h
 served-not mode.Init h = refl
@@ -75,13 +75,13 @@ pub on-with : {X : Type 0} (T : Ghosts X) (s t : Status) (r r' : ℕ) (x y : X) 
     → AreCountedOn T t r r' x y
 on-with {X} T s t r r' x y counted is = subst (λ (z : Status). AreCountedOn T z r r' x y) is counted
 
-lines-with : (c : State) (s t : Status) (limit : ℕ) (all left a b : Option (List ℕ)) → EndsLines c s limit all left a b
+pub lines-with : (c : State) (s t : Status) (limit : ℕ) (all left a b : Option (List ℕ)) → EndsLines c s limit all left a b
     → s ≡ t → EndsLines c t limit all left a b
 lines-with c s t limit all left a b ends is = subst (λ (z : Status). EndsLines c z limit all left a b) is ends
 
 -- ---- what the status of a job tells
 
--- Usage comes for a mode that is to come alone
+-- Usage comes for no mode that is served
 pub usage-refused : {X : Type 0} (T : Ghosts X) (x y : X) (m : JobMode) (s : Status) (line : List ℕ) (limit : ℕ)
     (all left a b : Option (List ℕ)) → (is_play m ≡ true → Ends nothing_held s limit all left a b)
     → (is_load m ≡ true → EndsLoad s line a b) → (is_init m ≡ true → EndsInit T s x y)

@@ -23,7 +23,9 @@ pub mod Makings
 pub mod Checkings
 pub mod Continuing
 pub mod Jobs
+pub mod Exactly
 pub mod Plain
+pub mod SoundLogs
 mod RowsServing
 mod SessionRows
 pub mod States
@@ -37,3 +39,4 @@ pub mod Sources
 pub mod Lasting
 pub mod Ordered
 pub mod Trails
+pub mod Appending

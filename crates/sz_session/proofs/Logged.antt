@@ -49,7 +49,7 @@ use Rattle.sz_session.proofs.Disks.{told-more, pass-still}
 -- ---- where nothing is appended
 
 -- a log of what is durable is one of whatever is durable alike
-grown-same : (c d : Holdings) (kept : List Kept) (image : List ℕ) (at : ℕ) → durable d ≡ durable c
+pub grown-same : (c d : Holdings) (kept : List Kept) (image : List ℕ) (at : ℕ) → durable d ≡ durable c
     → IsWellMade image at (durable c) kept → Grown c kept image at d
 grown-same c d kept image at same made = record {
   more = [];
@@ -323,7 +323,8 @@ append-keeps {X} T c d end at next e a b is one added place synced =
 
 -- ---- a station whose log was opened
 
-still-only : (o : Option (List ℕ)) (A B : List ℕ → Type 0) (before now : ℕ) (past since : ℕ → List ℕ → List ℕ → Type 0)
+-- no write is pending where none was and the disk stays
+pub still-only : (o : Option (List ℕ)) (A B : List ℕ → Type 0) (before now : ℕ) (past since : ℕ → List ℕ → List ℕ → Type 0)
     (F : List ℕ → Type 0) → Told o (Passes before now past since A B Same F) → Only o A → Only o B
 still-only None A B before now past since F stops only = tt
 still-only (Some disk) A B before now past since F stops only = λ image left.

@@ -26,19 +26,11 @@ use Rattle.sz_session.specs.Disks.{OnlySays, StopsFinding}
 use Rattle.sz_session.specs.Logged.{IsLogOf, Grown, Grows, IsLeft, LeavesLog, GoesOn, StopsInLog}
 use Rattle.sz_session.specs.Running.{IfSome, FoundBetween, FoundAt, PassesAmong, FindsLines, FindsAll}
 use Rattle.sz_session.proofs.LawsSessions.{replies-go_on, after_lines-append}
+use Rattle.sz_session.proofs.Logged.{grown-same, still-only}
 use Rattle.sz_session.proofs.Moments.{some_told-alike, some_left-alike, count-alike, last-alike}
 use Rattle.sz_session.proofs.Turns.{says-then, says-nothing}
 
 -- ---- logs that grow
-
--- a log is one of what it holds, with no stores more
-grown-same : (c : Holdings) (kept : List Kept) (image : List ℕ) (at : ℕ) → IsWellMade image at (durable c) kept
-    → Grown c kept image at c
-grown-same c kept image at made = record {
-  more = [];
-  made = subst (λ (ks : List Kept). IsWellMade image at (durable c) ks) (sym (append-nil kept)) made;
-  sound = λ sound. subst (AreSoundKept (durable c)) (sym (append-nil kept)) sound;
-}
 
 -- it grew, and then once more
 grown-then : (c d e : Holdings) (kept : List Kept) (mid image : List ℕ) (next at : ℕ) (one : Grown c kept mid next d)
@@ -77,19 +69,12 @@ goes-then {X} T c d e at mid next a b x one two = record {
 
 stays-grown : (o : Option (List ℕ)) (c : Holdings) (at : ℕ) → Grows o at c o at c
 stays-grown None c at = refl
-stays-grown (Some disk) c at = (disk, refl, λ kept made. grown-same c kept disk at made)
+stays-grown (Some disk) c at = (disk, refl, λ kept made. grown-same c c kept disk at refl made)
 
 pub goes-still : {X : Type 0} (T : Ghosts X) (c : Holdings) (at : ℕ) (a : X) → IsLogOf T c at a → GoesOn T c at c at a a
 goes-still {X} T c at a log = record { grows = stays-grown (T.disk a) c at; synced = log.synced }
 
 -- a say leaves the disk, and what a stop leaves of it
-only-still : (o : Option (List ℕ)) (n m : ℕ) (past since : ℕ → List ℕ → List ℕ → Type 0) (A B F : List ℕ → Type 0)
-    → Only o A → Told o (Passes n m past since A B Same F) → Only o B
-only-still None n m past since A B F only passes = tt
-only-still (Some disk) n m past since A B F only passes = λ image left.
-    let was = passes.images image left in
-    was.2 ∙ only was.0 was.1
-
 pub goes-said : {X : Type 0} (T : Ghosts X) (c d : Holdings) (at next : ℕ) (bytes : List ℕ) (a b x : X)
     → GoesOn T c at d next a b → OnlySays T bytes b x → GoesOn T c at d next a x
 goes-said {X} T c d at next bytes a b x one says =
@@ -97,7 +82,7 @@ goes-said {X} T c d at next bytes a b x one says =
     let Q : Option (List ℕ) → Type 0 = λ o. Only o (T.may_leave x) in
     record {
       grows = subst P (sym says.reads) one.grows;
-      synced = subst Q (sym says.reads) (only-still (T.disk b) _ _ _ _ _ _ _ one.synced says.stops);
+      synced = subst Q (sym says.reads) (still-only (T.disk b) _ _ _ _ _ _ _ says.stops one.synced);
     }
 
 -- ---- what a stop finds
@@ -262,7 +247,7 @@ found-none kept s n lines a image found at said made = record {
     whole = omega arith;
     part = omega arith;
     said = quiet a said;
-    holds = inl (refl, (at, grown-same s.held kept image at made));
+    holds = inl (refl, (at, grown-same s.held s.held kept image at refl made));
   };
 } where
   quiet : (a : Option (List ℕ)) → Said a found → Says a (Some found) []

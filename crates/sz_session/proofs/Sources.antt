@@ -2,21 +2,25 @@
 --
 -- The key idea: between two reads a stop finds what is between the lines that ended in the bytes so far, from the
 -- opening of the session on; a turn goes on from there, and the end of the source from what all bytes left.
-use Rattle.std.proofs.Common.{◌≡◌, ℕ, ◌+◌, ◌≤◌, List, [], ◌++◌, take, drop, take-add}
+use Rattle.std.proofs.Common.{◌≡◌, ℕ, ◌+◌, ◌≤◌, List, [], ◌∷◌, ◌++◌, take, drop, take-add}
 use Rattle.std.proofs.Common.{Option, None, Some, refl, sym, ap, ◌∙◌, subst, inl, arith}
 use Rattle.std.proofs.lemmas.List.{take-append-drop, take_all}
 use Rattle.sz_outside.specs.Outside.{Gives}
 use Rattle.sz_outside.specs.Disk.{Told, Said}
 use Rattle.sz_outside.specs.declared.stations.Station.{Ghosts}
+use Rattle.sz_catalogue.specs.Holdings.{Holdings}
 use Rattle.sz_session.specs.Lines.{Cut, cut, last_line, lines_of}
 use Rattle.sz_session.specs.States.{State}
-use Rattle.sz_session.specs.Moments.{Moment, cut_after, moment_after}
+use Rattle.sz_session.specs.Transcript.{after_lines}
+use Rattle.sz_session.specs.Moments.{Moment, moment_before, cut_after, moment_after, Alike, AreAlike}
 use Rattle.sz_session.specs.Serving.{Advances, HasAnswered, Answered, AreAll}
 use Rattle.sz_session.specs.Logged.{IsLogOf, GoesOn}
 use Rattle.sz_session.specs.Running.{IfSome, FindsLines, IsBeside, GoesBeside, StaysBeside, FindsIn, FindsAtEnd}
-use Rattle.sz_session.specs.Running.{FindsRest, FindsNext, FindsAll}
+use Rattle.sz_session.specs.Running.{FindsRest, FindsNext, FindsAll, StandsBehind}
 use Rattle.sz_session.proofs.Cuts.{before_cut-nothing, lines_of-cut}
 use Rattle.sz_session.proofs.Ends.{so_far-advances, given-next}
+use Rattle.sz_session.proofs.LawsSessions.{after_lines-append}
+use Rattle.sz_session.proofs.Moments.{last-alike}
 use Rattle.sz_session.proofs.Running.{finds-then, finds-longer, finds-last, finds-still}
 use Rattle.sz_session.proofs.Turns.{says-nothing}
 use Rattle.sz_session.proofs.Beside.{in-still, in-then, in-front, is-moved, stays-from}
@@ -182,3 +186,47 @@ all-read {X} T z (Some bytes) first left said l m total a b x same start so_far 
     last-in T z l.end m.end bytes m a b x (subst P whole one)
     (subst (λ (o : Option (List ℕ)). Q o bytes) same (subst (Q said) whole took))
     (from-opened T z bytes first said (T.said a) l m a b start goes) two
+
+-- ---- the log of all lines
+
+-- last lines that are alike leave the same
+last-left : (s : State) (a b : List ℕ) → Alike a b → after_lines s (last_line a) ≡ after_lines s (last_line b)
+last-left s a b alike =
+    ap (after_lines s) (sym (one_last a)) ∙ (last-alike 1 s 1 a b alike).1 ∙ ap (after_lines s) (one_last b) where
+      one_last : (xs : List ℕ) → take 1 (last_line xs) ≡ last_line xs
+      one_last [] = refl
+      one_last (x ∷ xs) = refl
+
+-- what is held behind all lines of a text is what the last line leaves of what its whole lines left
+held-last : (z : State) (bytes : List ℕ) (m : Moment) → AreAlike m (moment_after (moment_before z) bytes)
+    → after_lines m.held (last_line m.pending) ≡ after_lines z (lines_of bytes)
+held-last z bytes m alike =
+    let k : Moment = moment_after (moment_before z) bytes in
+    let first : cut_after (moment_before z) bytes ≡ cut bytes = before_cut-nothing (cut bytes) in
+    let whole : List (List ℕ) = (cut_after (moment_before z) bytes).whole in
+    ap (λ (s : State). after_lines s (last_line m.pending)) alike.held
+    ∙ last-left k.held m.pending k.pending alike.pending
+    ∙ sym (after_lines-append z whole (last_line k.pending))
+    ∙ ap (λ (c : Cut). after_lines z (c.whole ++ last_line c.last)) first
+    ∙ ap (after_lines z) (sym (lines_of-cut bytes))
+
+behind-from : {X : Type 0} (T : Ghosts X) (c d h : Holdings) (e f : Option ℕ) (a x : X) → GoesBeside T c e d f a x
+    → d ≡ h → IfSome e (λ at. (next : ℕ) × GoesOn T c at h next a x)
+behind-from {X} T c d h None f a x goes same = tt
+behind-from {X} T c d h (Some at) None a x goes same = absurd goes
+behind-from {X} T c d h (Some at) (Some next) a x goes same =
+    (next, subst (λ (k : Holdings). GoesOn T c at k next a x) same goes)
+
+-- All bytes were read, and what is held at last is what is held behind the line that had not ended. So the log went on
+-- to what is durable behind all lines.
+pub all-behind : {X : Type 0} (T : Ghosts X) (z : State) (all first left said b q : Option (List ℕ)) (l m n : Moment)
+    (total : ℕ) (a x : X) → Answered z all first said b l 0 → Answered z all left said q m total → AreAll all total
+    → StaysBeside T l n a x → n.held.held ≡ (after_lines m.held (last_line m.pending)).held
+    → StandsBehind T z l.end all a x
+all-behind {X} T z None first left said b q l m n total a x start so_far is_all goes held = tt
+all-behind {X} T z (Some bytes) first left said b q l m n total a x start so_far is_all goes held =
+    let whole : take total bytes ≡ bytes = take_all total bytes (omega (arith, is_all)) in
+    let P : List ℕ → Type 0 = λ xs. AreAlike m (moment_after (moment_before z) xs) in
+    behind-from T z.held n.held.held (after_lines z (lines_of bytes)).held l.end n.end a x
+    (from-opened T z bytes first said b l n a x start goes)
+    (held ∙ ap (λ (s : State). s.held) (held-last z bytes m (subst P whole so_far.alike)))

@@ -95,23 +95,3 @@ accepted-end s (order.Await n) = refl
 accepted-end s (order.Ask n dir path named) = refl
 accepted-end s (order.Explain n dir path named) = refl
 accepted-end s (order.Show n node) = refl
-
-command-end : (s : State) (command : Command) → (after_command s command).0.end ≡ s.end
-command-end s command = at (judged s.held command) where
-  at : (rule : Option Refusal) → (after_judging s command rule).0.end ≡ s.end
-  at None = accepted-end s command
-  at (Some rule) = refl
-
--- where what is left is known
-left-end : (p : State × Response) (d : State) (r : Response) → p ≡ (d, r) → d.end ≡ p.0.end
-left-end p d r is = sym (ap (λ (q : State × Response). q.0.end) is)
-
-pub takes-end : (s d : State) (g : Given) (r : Option Reply) → Takes s g d r → d.end ≡ s.end
-takes-end s d given.Nothing None h = ap (λ (x : State). x.end) h
-takes-end s d given.Nothing (Some r) h = absurd h
-takes-end s d (given.Refused rule) None h = absurd h
-takes-end s d (given.Refused rule) (Some r) h = left-end (after_reading s (Err rule)) d _ h
-takes-end s d (given.Ask ask) None h = absurd h
-takes-end s d (given.Ask ask) (Some r) h = left-end (after_command s ask) d _ h ∙ command-end s ask
-takes-end s d (given.Other order) None h = absurd h
-takes-end s d (given.Other order) (Some r) h = left-end (after_command s order) d _ h ∙ command-end s order

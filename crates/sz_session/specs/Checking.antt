@@ -9,7 +9,7 @@ use Rattle.sz_log.specs.Log.{begins_as_log}
 use Rattle.sz_script.specs.Words.{name_of_strategy}
 use Rattle.sz_catalogue.specs.Holdings.{Holdings}
 use Rattle.sz_catalogue.specs.Responses.{number_text, word_text}
-use Rattle.sz_recover.specs.Logs.{Kept, IsMade, IsNoLog, IsBroken}
+use Rattle.sz_recover.specs.Logs.{Kept, IsMade, IsNoLog, IsBroken, IsWellMade, IsFirstBad}
 use Rattle.sz_recover.specs.Soundness.{TellsOfAll}
 use Rattle.sz_recover.specs.declared.checking.WrongStore.{WrongStore}
 use Rattle.sz_session.specs.Disks.{StopsFinding}
@@ -71,6 +71,16 @@ IsBadLog T at old new = IsBroken (T.disk old) at × Stood (T.disk_faults old) (T
 abbrev pub IfNoLog : Option (List ℕ) → Type 0 → Type 0
 IfNoLog None Claim = ⊤
 IfNoLog (Some disk) Claim = begins_as_log disk ≡ false → Claim
+
+-- Where the disk is told, and its first bad group stands at a place, this is so of the place.
+abbrev pub IfBadLog : Option (List ℕ) → (ℕ → Type 0) → Type 0
+IfBadLog None Claim = ⊤
+IfBadLog (Some disk) Claim = (at : ℕ) → IsFirstBad disk at → Claim at
+
+-- The disk is told, and is a well-made log.
+abbrev pub IsWellMadeLog : Option (List ℕ) → Type 0
+IsWellMadeLog None = ⊥
+IsWellMadeLog (Some disk) = (at : ℕ) × (c : Holdings) × (kept : List Kept) × IsWellMade disk at c kept
 
 -- The disk is told, and begins as a log.
 abbrev pub BeginsAsLog : Option (List ℕ) → Type 0

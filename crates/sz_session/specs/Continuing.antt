@@ -12,7 +12,7 @@ use Rattle.sz_catalogue.specs.Holdings.{Holdings}
 use Rattle.sz_recover.specs.Logs.{Kept, IsMade, IsNoLog, IsBroken}
 use Rattle.sz_session.specs.Making.{IsSilent}
 use Rattle.sz_session.specs.Disks.{StopsFinding}
-use Rattle.sz_session.specs.Running.{FindsAll, state_of_log}
+use Rattle.sz_session.specs.Running.{FindsAll, StandsBehind, state_of_log}
 use Rattle.sz_session.specs.Statuses.{EndsLines}
 use Rattle.sz_session.specs.declared.serving.Status.{Status}
 use Rattle.sz_session.specs.declared.serving.Status.TheVariants as status
@@ -40,8 +40,9 @@ pub record EndsUnopened {X : Type 0} (T : Ghosts X) (s : Status) (old new : X) :
   pub stops : StopsFinding T Same (Said (T.said old)) old new
 
 -- A log was opened, that ends at a place, holds this and has kept these stores. What was read and said
--- by then is as the status says, from what it holds; and where no write was pending at first, a stop
--- at any moment finds so many lines answered, and a log of them.
+-- by then is as the status says, from what it holds; where the session is done, the log is one of all
+-- its lines; and where no write was pending at first, a stop at any moment finds so many lines
+-- answered, and a log of them.
 pub record EndsOpened {X : Type 0} (T : Ghosts X) (s : Status) (limit : ℕ)
     (left rest : Option (List ℕ)) (old new : X) : Type 0 where
   pub at : ℕ
@@ -49,6 +50,7 @@ pub record EndsOpened {X : Type 0} (T : Ghosts X) (s : Status) (limit : ℕ)
   pub kept : List Kept
   pub made : IsMade (T.disk old) at c kept
   pub ends : EndsLines (state_of_log c kept) s limit left rest (T.said old) (T.said new)
+  pub behind : s ≡ status.Done → StandsBehind T (state_of_log c kept) (Some at) left old new
   pub found : Only (T.disk old) (T.may_leave old)
       → FindsAll T (state_of_log c kept) (Some at) left old new
 

@@ -7,6 +7,9 @@ use Rattle.sz_catalogue.specs.Holdings.{Holdings}
 use Rattle.sz_session.specs.States.{State, state_of, after_line}
 use Rattle.sz_session.specs.Plain.{plain_transcript}
 use Rattle.sz_catalogue.specs.Responses.{reply_line}
+use Rattle.sz_recover.specs.Logs.{Kept, IsWellMade}
+use Rattle.sz_recover.specs.Soundness.{AreSoundKept}
+use Rattle.sz_session.specs.Running.{state_of_log}
 use Rattle.sz_session.specs.Lines.{lines_of, is_blank, is_within_line, before_cut, cut}
 use Rattle.sz_session.specs.Lines.{last_line}
 use Rattle.sz_session.specs.Transcript.{replies_to, after_lines, transcript, whole_replies}
@@ -142,3 +145,12 @@ OtherLinesHaveOneReply = (c : State) (n : ℕ) (line : List ℕ) (lines : List (
 abbrev pub SessionsOfNoLogArePlain : Type 0
 SessionsOfNoLogArePlain = (c : Holdings) (bytes : List ℕ)
     → transcript (state_of c) bytes ≡ plain_transcript c bytes
+
+-- ---- sound logs
+
+-- A session on a well-made log, each of whose stores stands for the relation, says what the catalogue
+-- alone tells: no store changes an answer.
+abbrev pub SoundLogsArePlain : Type 0
+SoundLogsArePlain = (disk : List ℕ) (at : ℕ) (c : Holdings) (kept : List Kept) (bytes : List ℕ)
+    → IsWellMade disk at c kept → AreSoundKept c kept
+    → transcript (state_of_log c kept) bytes ≡ plain_transcript c bytes

@@ -15,14 +15,14 @@ pub mod Searches
 pub mod Asks
 pub mod Given
 pub mod Waiting
-pub mod Laws
 pub mod Recalled
 pub mod Recalls
 pub mod States
 pub mod Inquiries
 pub mod Carries
 pub mod Plain
+pub mod Bodies
 pub mod Logged
 pub mod Running
 pub mod Continuing
-pub mod Bodies
+pub mod Laws

@@ -5,18 +5,25 @@
 -- for these (`durable`). What a command makes durable is a group more of the log. Which stores a log
 -- has kept is said for each list of stores that it may have kept before.
 use Rattle.std.specs.Prelude.{◌≡◌, ◌⊎◌, ℕ, List, [], ◌∷◌, ◌++◌, Option, Some, None, ⊤}
-use Rattle.std.specs.Prelude.{Bool, true, false}
-use Rattle.sz_outside.specs.Disk.{Only, Said}
+use Rattle.std.specs.Prelude.{Bool, true, false, not, if◌then◌else◌, Result, Ok, Err}
+use Rattle.sz_outside.specs.Disk.{Only, Said, Told}
 use Rattle.sz_outside.specs.declared.stations.Station.{Ghosts}
+use Rattle.sz_log.specs.Log.{Entry}
+use Rattle.sz_log.specs.Steps.{Added, place_behind}
+use Rattle.sz_script.specs.Reading.{reading}
+use Rattle.sz_script.specs.declared.refusal.Refusal.{Refusal}
 use Rattle.sz_script.specs.declared.command.Command.{Command}
 use Rattle.sz_script.specs.declared.command.Command.TheVariants as command
 use Rattle.sz_catalogue.specs.Holdings.{Holdings}
+use Rattle.sz_catalogue.specs.Rules.{judged, version_of}
 use Rattle.sz_recover.specs.Logs.{Kept, IsWellMade, IsMade, is_of_kind}
 use Rattle.sz_recover.specs.Growing.{durable}
 use Rattle.sz_recover.specs.Soundness.{AreSoundKept}
 use Rattle.sz_session.specs.States.{State}
 use Rattle.sz_session.specs.Transcript.{after_lines}
 use Rattle.sz_session.specs.Disks.{StopsFinding}
+use Rattle.sz_session.specs.Lines.{is_blank}
+use Rattle.sz_session.specs.Bodies.{IsSoundBody}
 use Rattle.sz_session.specs.declared.logging.Lasting.{Lasting}
 use Rattle.sz_session.specs.declared.logging.Lasting.TheVariants as lasting
 
@@ -122,3 +129,50 @@ abbrev pub IsLasting : Command → Lasting → Type 0
 IsLasting order (lasting.Line kind) = is_of_kind kind order ≡ true
 IsLasting order (lasting.Version n) = order ≡ command.Await n
 IsLasting order lasting.Nothing = lasts order ≡ false
+
+-- ---- which lines are written, and how
+
+-- whether a command that no rule refuses makes something durable: an await where its version was not
+-- awaited before, and any other where it lasts
+abbrev pub makes : Holdings → Command → Bool
+makes c (command.Await n) = not (version_of c n).awaited
+makes c order = lasts order
+
+-- a command that a rule refuses makes nothing durable
+abbrev pub makes_judged : Holdings → Command → Option Refusal → Bool
+makes_judged c order None = makes c order
+makes_judged c order (Some rule) = false
+
+-- nor does a line that is read as no command, or a blank one
+abbrev pub makes_read : Holdings → Result Command Refusal → Bool
+makes_read c (Err rule) = false
+makes_read c (Ok order) = makes_judged c order (judged c order)
+
+abbrev pub makes_durable : Holdings → List ℕ → Bool
+makes_durable c line = if is_blank line then false else makes_read c (reading line)
+
+-- The group is the line of a command, in a group of its kind.
+abbrev pub IsLineGroup : Command → List ℕ → Entry → Type 0
+IsLineGroup order line e = (is_of_kind e.kind order ≡ true) × (e.body ≡ line)
+
+-- The group is the body of a version, with stores that stand for the relation.
+abbrev pub IsVersionGroup : Holdings → ℕ → Entry → Type 0
+IsVersionGroup c n e = (e.kind ≡ 4) × IsSoundBody n (version_of c n) e.body
+
+-- The group is what the command of a line makes durable: of an await the body of its version, and of
+-- any other the line.
+abbrev pub IsGroupFor : Holdings → List ℕ → Command → Entry → Type 0
+IsGroupFor c line (command.Await n) e = IsVersionGroup c n e
+IsGroupFor c line order e = IsLineGroup order line e
+
+abbrev pub IsGroupOf : Holdings → List ℕ → Result Command Refusal → Entry → Type 0
+IsGroupOf c line (Err rule) e = ⊥
+IsGroupOf c line (Ok order) e = IsGroupFor c line order e
+
+-- One such group was added to the log of a session, where that ended, and the log ends behind it.
+abbrev pub Appends : {X : Type 0} → Ghosts X → (Entry → Type 0) → Option ℕ → Option ℕ → X → X
+    → Type 0
+Appends T IsSuch None next old new = ⊤
+Appends T IsSuch (Some at) next old new = (e : Entry) × IsSuch e
+    × Added (T.disk old) (T.disk new) at e
+    × Told (T.disk old) (next ≡ Some (place_behind at e))

@@ -108,6 +108,13 @@ abbrev pub FindsAll : {X : Type 0} → Ghosts X → State → Option ℕ → Opt
 FindsAll T s end left old new = IfSome left (λ bytes. IfSome end
     (λ at. FindsLines T at s 1 (lines_of bytes) old new))
 
+-- Where the source tells its bytes, the log went on from what it held to what is durable behind all
+-- of their lines, and no write is pending.
+abbrev pub StandsBehind : {X : Type 0} → Ghosts X → State → Option ℕ → Option (List ℕ) → X → X
+    → Type 0
+StandsBehind T s end left old new = IfSome left (λ bytes. IfSome end (λ at.
+    (next : ℕ) × GoesOn T s.held at (after_lines s (lines_of bytes)).held next old new))
+
 -- what is held as a log is gone on from: the catalogue that its groups make, and the stores that
 -- they give
 abbrev pub state_of_log : Holdings → List Kept → State

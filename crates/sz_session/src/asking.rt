@@ -18,7 +18,7 @@ use std::{mem, thread};
 use sz_catalogue::Reply;
 use sz_cells::NoMemory;
 use sz_outside::Gate;
-use sz_query::Found;
+use sz_query::{Found, Spare};
 use sz_script::{Command, Refusal};
 use sz_spec::Tally;
 
@@ -69,14 +69,15 @@ pub enum Asked {
 }
 
 impl Asked {
-    /// Answers an ask that is open, and then calls the gate.
+    /// Answers an ask that is open, by bitmaps that are made for it alone, and then calls the gate.
     fn work<G: Gate, R: Wait>(&mut self, alloc: Global, rt: &R, gate: &G)
         ensures { IsWorked self.old self.new }
     {
         match mem::replace(self, Asked::Lost) {
             Asked::Open { number, inquiry } => {
+                let mut spare = Spare::new(alloc);
                 let mut tally = Tally::new();
-                if let Ok(found) = inquiry.answer(alloc, rt, &mut tally) {
+                if let Ok(found) = inquiry.answer(alloc, rt, &mut spare, &mut tally) {
                     gate.after_ask(number);
                     *self = Asked::Done { found, tally };
                 }

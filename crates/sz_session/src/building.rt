@@ -22,6 +22,43 @@ use sz_shelf::{Pass, Shelf};
 use sz_spec::{Strategy, Tally};
 use sz_store::NodeStore;
 
+/// The runs with what lineage needs, where the list at their place has a strategy that keeps a
+/// store: prepared once a version, and before tasks are made of them, so that workers and the await
+/// share it. For the other runs nothing is prepared.
+pub(crate) fn prepared(
+    alloc: Global,
+    runs: Vec<NodeRun>,
+    lists: &[StrategyList],
+) -> Result<Vec<NodeRun>, NoMemory>
+    requires { AreListed (map execution_of runs.items) lists.now }
+    ensures { IfOk result (λ v. map execution_of v.items ≡ map execution_of runs.items) }
+{
+    let mut runs = runs;
+    prepare_each(alloc, &mut runs, lists)?;
+    Ok(runs)
+}
+
+/// Prepares what lineage needs for each of these runs, where it is kept.
+fn prepare_each(alloc: Global, runs: &mut [NodeRun], lists: &[StrategyList]) -> Result<(), NoMemory>
+    requires { AreListed (map execution_of runs.old) lists.now }
+    ensures { map execution_of runs.new ≡ map execution_of runs.old }
+{
+    for node in 0..runs.len() {
+        prepare_one(alloc, &mut runs[node], lists[node].as_slice())?;
+    }
+    Ok(())
+}
+
+/// Prepares what lineage needs, where a strategy of the list keeps a store.
+fn prepare_one(alloc: Global, run: &mut NodeRun, list: &[Strategy]) -> Result<(), NoMemory>
+    ensures { execution_of run.new ≡ execution_of run.old }
+{
+    if has_stored(list) {
+        run.prepare_lineage(alloc)?;
+    }
+    Ok(())
+}
+
 /// What is kept of each run at the start, for the list at its place.
 pub(crate) fn begun(
     alloc: Global,

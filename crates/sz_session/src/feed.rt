@@ -15,7 +15,8 @@ ghost use Rattle.std.specs.Prelude.{drop, take, slice_index, true, false, None};
 ghost use Rattle.std.specs.List.{AllByRecursion};
 ghost use Rattle.sz_outside.specs.Outside.{Rose, Stood, Says, SaysPart};
 ghost use Rattle.sz_session.specs.States.{apart};
-ghost use Rattle.sz_session.specs.Lines.{is_blank, is_within_line};
+ghost use Rattle.sz_session.specs.Lines.{is_blank, is_within_line, last_line};
+ghost use Rattle.sz_session.specs.Transcript.{after_lines};
 ghost use Rattle.sz_script.specs.Right.{is_right};
 ghost use Rattle.sz_session.specs.Moments.{moment_before, cut_after, told_in, told_at_end, Alike};
 ghost use Rattle.sz_session.specs.Serving.{Advances, SaysFirst, line_to_say, nothing_held};
@@ -231,6 +232,8 @@ impl Feed {
             → OnlySays T.Station (told_at_end self.old) station.old station.new }
         ensures log { OnOk result
             (StaysBeside T.Station self.old self.new station.old station.new) }
+        ensures held { OnOk result
+            (self.new.held.held ≡ (after_lines self.old.held (last_line self.old.pending)).held) }
         ensures found { FindsAtEnd T.Station self.old station.old station.new }
         ensures disk_quiet { OnOk result
             (Stood (T.disk_faults station.old) (T.disk_faults station.new)) }

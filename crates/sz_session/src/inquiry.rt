@@ -7,7 +7,7 @@ use std::alloc::Global;
 use std::marker::Model;
 use std::sync::Wait;
 use sz_cells::{CellSet, NoMemory};
-use sz_query::{Found, NodeView, answer};
+use sz_query::{Found, NodeView, Spare, answer_with};
 use sz_spec::{Dir, Tally};
 
 /// An ask along a path: the view of each step with the number of its input, and the cells from
@@ -45,11 +45,13 @@ impl Model for Inquiry {
 
 impl Inquiry {
     /// What is found: each view is asked once. The tally rises by the output sizes of the steps that
-    /// are told as traced, and stays where there is no memory. Costs what the steps cost.
+    /// are told as traced, and stays where there is no memory. Costs what the steps cost, and what
+    /// bitmaps cost of which there is no spare one.
     pub(crate) fn answer<R: Wait>(
         self,
         alloc: Global,
         rt: &R,
+        spare: &mut Spare,
         tally: &mut Tally,
     ) -> Result<Found, NoMemory>
         requires room { tally.old + 33554432 < 2 ^ 63 }
@@ -63,6 +65,6 @@ impl Inquiry {
             inputs,
             cells,
         } = self;
-        answer(alloc, rt, &mut views, &inputs, dir, &cells, tally)
+        answer_with(alloc, rt, spare, &mut views, &inputs, dir, &cells, tally)
     }
 }

@@ -8,7 +8,7 @@ ghost use Rattle.sz_session.specs.Laws.{MomentsGoByParts, WholeLinesAreTold, Tra
 ghost use Rattle.sz_session.specs.Laws.{AlikeTellTheSame, AlikeStayAlike, AlikeEndTheSame};
 ghost use Rattle.sz_session.specs.Laws.{FirstRepliesAreAPart, RepliesGoOn, TranscriptsGoOn};
 ghost use Rattle.sz_session.specs.Laws.{BlankLinesAreCounted, OtherLinesHaveOneReply};
-ghost use Rattle.sz_session.specs.Laws.{SessionsOfNoLogArePlain};
+ghost use Rattle.sz_session.specs.Laws.{SessionsOfNoLogArePlain, SoundLogsArePlain};
 ghost use Rattle.sz_session.specs.Logged.{OpenedLogsStand};
 
 /// The lines of a text are the bytes between its newlines, and those behind the last one where
@@ -69,4 +69,10 @@ pub fn sessions_of_no_log_are_plain()
 /// what it held, as [`crate::Session::command`] asks.
 pub fn opened_logs_stand()
     ensures { OpenedLogsStand }
+{}
+
+/// A session on a sound log says what its catalogue alone tells: `plain_transcript` of
+/// `specs/Plain`, in whose definitions no store stands.
+pub fn sound_logs_are_plain()
+    ensures { SoundLogsArePlain }
 {}

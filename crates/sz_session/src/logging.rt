@@ -19,7 +19,8 @@ ghost use Rattle.sz_session.specs.States.{apart, accepted, after_command};
 ghost use Rattle.sz_session.specs.Commands.{traced_for, most_for, traced_along, most_along};
 ghost use Rattle.sz_session.specs.Given.{Gives, IsRight, Takes, traced_for_given, most_for_given};
 ghost use Rattle.sz_session.specs.Logged.{IsLogOf, HasLog, KeepsLog, StopsInLog, held_after};
-ghost use Rattle.sz_session.specs.Logged.{IsLasting};
+ghost use Rattle.sz_session.specs.Logged.{IsLasting, Appends, IsGroupOf, IsGroupFor, IsLineGroup};
+ghost use Rattle.sz_session.specs.Logged.{IsVersionGroup, makes, makes_judged, makes_durable};
 
 use crate::bodies::body_for;
 use crate::carry::Carry;
@@ -74,6 +75,10 @@ impl Session {
         ensures kept { result ≡ Err Stop.NoMemory
             → (self.new ≡ self.old) × (station.new ≡ station.old) }
         ensures plain { self.old.end ≡ None → result ≡ Err Stop.DiskFault → ⊥ }
+        ensures idle { makes_durable self.old.held line.now ≡ false → station.new ≡ station.old }
+        ensures appends { OnOk result (makes_durable self.old.held line.now ≡ true
+            → Appends T.Station (IsGroupOf self.old.held line.now (reading line.now))
+            self.old.end self.new.end station.old station.new) }
     {
         match given {
             Given::Nothing => Ok(None),
@@ -117,6 +122,12 @@ impl Session {
         ensures kept { result ≡ Err Stop.NoMemory
             → (self.new ≡ self.old) × (station.new ≡ station.old) }
         ensures plain { self.old.end ≡ None → result ≡ Err Stop.DiskFault → ⊥ }
+        ensures idle { makes_judged self.old.held command (judged self.old.held command) ≡ false
+            → station.new ≡ station.old }
+        ensures appends { OnOk result
+            (makes_judged self.old.held command (judged self.old.held command) ≡ true
+            → Appends T.Station (IsGroupFor self.old.held line.now command)
+            self.old.end self.new.end station.old station.new) }
     {
         match self.catalogue.judge(self.alloc, &command) {
             Ok(()) => self.accept_on(rt, command, line, number, station, gate, tally),
@@ -157,6 +168,10 @@ impl Session {
         ensures kept { result ≡ Err Stop.NoMemory
             → (self.new ≡ self.old) × (station.new ≡ station.old) }
         ensures plain { self.old.end ≡ None → result ≡ Err Stop.DiskFault → ⊥ }
+        ensures idle { makes self.old.held command ≡ false → station.new ≡ station.old }
+        ensures appends { OnOk result (makes self.old.held command ≡ true
+            → Appends T.Station (IsGroupFor self.old.held line.now command)
+            self.old.end self.new.end station.old station.new) }
     {
         let Some(end) = self.end else {
             return Ok(self.take(rt, command, number, gate, tally)?);
@@ -196,6 +211,8 @@ impl Session {
             → Rose (T.disk_faults station.old) (T.disk_faults station.new) }
         ensures kept { result ≡ Err Stop.NoMemory
             → (self.new ≡ self.old) × (station.new ≡ station.old) }
+        ensures appends { OnOk result (Appends T.Station (IsLineGroup command line.now)
+            self.old.end self.new.end station.old station.new) }
     {
         let reply = self.accept(command)?;
         let next = append(station, end, kind, line)?;
@@ -227,6 +244,11 @@ impl Session {
             → Rose (T.disk_faults station.old) (T.disk_faults station.new) }
         ensures kept { result ≡ Err Stop.NoMemory
             → (self.new ≡ self.old) × (station.new ≡ station.old) }
+        ensures idle { (version_of self.old.held version).awaited ≡ true
+            → station.new ≡ station.old }
+        ensures appends { OnOk result ((version_of self.old.held version).awaited ≡ false
+            → Appends T.Station (IsVersionGroup self.old.held version)
+            self.old.end self.new.end station.old station.new) }
     {
         if self.is_awaited(version) {
             return Ok(self.await_version(rt, version)?);

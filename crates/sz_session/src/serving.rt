@@ -15,7 +15,7 @@ ghost use Rattle.sz_session.specs.Statuses.{status_number};
 ghost use Rattle.sz_session.specs.Statuses.{Ends, EndsLoad, EndsInit, EndsCheck, AreCounted};
 ghost use Rattle.sz_session.specs.Statuses.{EndsLines, AreCountedInLines};
 ghost use Rattle.sz_session.specs.Running.{IsBeside, StaysBeside, FindsRest, FindsNext, FindsAll};
-ghost use Rattle.sz_session.specs.Running.{state_of_log};
+ghost use Rattle.sz_session.specs.Running.{StandsBehind, state_of_log};
 ghost use Rattle.sz_session.specs.Continuing.{EndsRun, AreCountedOn};
 ghost use Rattle.sz_session.specs.Logged.{IsLogOf};
 ghost use Rattle.sz_session.specs.Serving.{is_served, is_play, is_init, is_load};
@@ -32,7 +32,7 @@ ghost use Rattle.sz_session.specs.Making.{IsSilent};
 ghost use Rattle.sz_session.specs.Disks.{DiskStays, StaysFinding, OnlySays, FoundInPart};
 ghost use Rattle.sz_session.specs.Disks.{StopsMaking};
 ghost use Rattle.sz_session.specs.Checking.{SaysLine, SaysPartOfLine, IfNoLog, BeginsAsLog};
-ghost use Rattle.sz_session.specs.Checking.{StopsChecking, IsUnlike, IsBadLog};
+ghost use Rattle.sz_session.specs.Checking.{StopsChecking, IsUnlike, IsBadLog, IfBadLog, IsWellMadeLog};
 ghost use Rattle.sz_words.specs.Job.{job_of, IsInRange};
 
 use crate::carry::Carry;
@@ -47,6 +47,7 @@ use std::sync::{Arc, Wait};
 use std::thread::Threads;
 use sz_log::LogFault;
 use sz_outside::{Failed, Gate, Source, Station};
+use sz_recover::laws::logs_are_read_in_one_way;
 use sz_recover::{Recovered, catalogue_of};
 use sz_words::{Job, JobMode, WordsFault, read_words};
 
@@ -265,15 +266,23 @@ pub fn serve<
         → result ≡ Status.SayFault → SaysPartOfLine T.Station station.old station.new }
     ensures check_after_no_memory { are_check (map string_bytes words.now) ≡ true
         → result ≡ Status.NoMemory → IsSilent T.Station station.old station.new }
-    ensures no_log { are_check (map string_bytes words.now) ≡ true → result ≡ Status.NotALog
+    ensures no_log { are_opened (map string_bytes words.now) ≡ true → result ≡ Status.NotALog
         → IsUnlike T.Station station.old station.new }
     ensures bad_log { (at : ℕ) → result ≡ Status.BadLog at
         → (are_opened (map string_bytes words.now) ≡ true)
         × IsBadLog T.Station at station.old station.new }
-    ensures unlike { are_check (map string_bytes words.now) ≡ true
+    ensures unlike { are_opened (map string_bytes words.now) ≡ true
         → IfNoLog (T.disk station.old) ((result ≡ Status.NotALog)
         ⊎ ((result ≡ Status.DiskFault) ⊎ (result ≡ Status.NoMemory))) }
+    ensures broken { are_opened (map string_bytes words.now) ≡ true
+        → IfBadLog (T.disk station.old) (λ at. (result ≡ Status.BadLog at)
+        ⊎ ((result ≡ Status.DiskFault) ⊎ (result ≡ Status.NoMemory))) }
     ensures check_completes { are_check (map string_bytes words.now) ≡ true
+        → IsWellMadeLog (T.disk station.old)
+        → ¬ Rose (T.disk_faults station.old) (T.disk_faults station.new)
+        → ¬ Rose (T.say_faults station.old) (T.say_faults station.new)
+        → (result ≡ Status.Done) ⊎ (result ≡ Status.NoMemory) }
+    ensures check_tells { are_check (map string_bytes words.now) ≡ true
         → BeginsAsLog (T.disk station.old)
         → ¬ Rose (T.disk_faults station.old) (T.disk_faults station.new)
         → ¬ Rose (T.say_faults station.old) (T.say_faults station.new)
@@ -283,10 +292,17 @@ pub fn serve<
         → StopsChecking T.Station station.old station.new }
 
     // A session on a log.
+    ensures run_completes { are_run (map string_bytes words.now) ≡ true
+        → IsWellMadeLog (T.disk station.old) → IsWithinLimit (2 ^ 62) (S.left source.old)
+        → ¬ Rose (S.faults source.old) (S.faults source.new)
+        → ¬ Rose (T.say_faults station.old) (T.say_faults station.new)
+        → ¬ Rose (T.disk_faults station.old) (T.disk_faults station.new)
+        → (result ≡ Status.Done) ⊎ (result ≡ Status.NoMemory) }
     ensures run { are_run (map string_bytes words.now) ≡ true
         → EndsRun T.Station result (2 ^ 62) (S.left source.old) (S.left source.new)
         station.old station.new }
 {
+    logs_are_read_in_one_way();
     match read_words(alloc, words) {
         Ok(job) => run_job(rt, alloc, job, source, station, gate),
         Err(fault) => status_of_words(fault),
@@ -447,6 +463,9 @@ pub(crate) fn run_on<
         → Rose (T.disk_faults station.old) (T.disk_faults station.new) }
     ensures disk_quiet { result ≡ Status.Done
         → Stood (T.disk_faults station.old) (T.disk_faults station.new) }
+    ensures behind { result ≡ Status.Done
+        → StandsBehind T.Station (state_of_log recovered.catalogue recovered.stores.items)
+        (Some recovered.end.at) (S.left source.old) station.old station.new }
     ensures found { FindsAll T.Station (state_of_log recovered.catalogue recovered.stores.items)
         (Some recovered.end.at) (S.left source.old) station.old station.new }
 {
@@ -493,6 +512,8 @@ fn answer_all<S: Source, T: Station, G: Gate, R: Threads + Wait + Sync>(
         → Rose (T.disk_faults station.old) (T.disk_faults station.new) }
     ensures disk_quiet { result ≡ Status.Done
         → Stood (T.disk_faults station.old) (T.disk_faults station.new) }
+    ensures behind { result ≡ Status.Done
+        → StandsBehind T.Station opening.held feed.end opening.left station.old station.new }
     ensures found { FindsAll T.Station opening.held feed.end opening.left station.old station.new }
 {
     let mut feed = feed;
@@ -530,6 +551,8 @@ fn read_all<S: Source, T: Station, G: Gate, R: Threads + Wait + Sync>(
         → Rose (T.disk_faults station.old) (T.disk_faults station.new) }
     ensures disk_quiet { result ≡ Status.Done
         → Stood (T.disk_faults station.old) (T.disk_faults station.new) }
+    ensures behind { result ≡ Status.Done
+        → StandsBehind T.Station opening.held feed.old.end opening.left station.old station.new }
     ensures found { FindsAll T.Station opening.held feed.old.end opening.left station.old station.new }
 {
     let mut total = 0u64;

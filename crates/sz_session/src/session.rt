@@ -23,14 +23,16 @@ ghost use Rattle.sz_session.specs.Views.{strategy_told};
 ghost use Rattle.sz_session.specs.Searches.{IsSearchOf};
 ghost use Rattle.sz_session.specs.Serving.{nothing_held};
 ghost use Rattle.sz_session.specs.States.{logged_of};
-ghost use Rattle.sz_session.specs.Logged.{HasLog, KeepsLog, StopsInLog, held_after};
+ghost use Rattle.sz_session.specs.Logged.{HasLog, KeepsLog, StopsInLog, held_after, makes_durable};
+ghost use Rattle.sz_session.specs.Logged.{Appends, IsGroupOf};
+ghost use Rattle.sz_script.specs.Reading.{reading};
 ghost use Rattle.sz_outside.specs.Outside.{Rose, Stood};
 ghost use Rattle.sz_session.specs.Inquiries.{IsInquiryOf};
 ghost use Rattle.sz_session.specs.Recalls.{IsRecalledIn};
 ghost use Rattle.sz_session.specs.Runs.{executions_of};
 ghost use Rattle.sz_session.specs.Asks.{is_ask, IsAskLine, IsBegun, ask_reply};
 ghost use Rattle.sz_session.specs.Asks.{traced_for_asks, most_for_asks};
-ghost use Rattle.sz_session.specs.Given.{Gives, IsRight, Takes, traced_for_given, most_for_given};
+ghost use Rattle.sz_session.specs.Given.{Gives, IsRight};
 ghost use Rattle.sz_session.specs.declared.session.Given.TheVariants as given;
 
 use crate::asking::{AskLine, Asked, Askers, work_out};
@@ -54,7 +56,7 @@ use sz_flow::NodeRun;
 use sz_log::LogEnd;
 use sz_outside::{Failed, Gate, Station};
 use sz_pool::{Receiver, Task, one_more, tasks};
-use sz_query::{Found, Used};
+use sz_query::{Found, Spare, Used};
 use sz_recover::Recovered;
 use sz_script::{
     BaseList, Command, LineFault, Name, NamedCells, Path, Refusal, StrategyList, laws, read_line,
@@ -62,8 +64,8 @@ use sz_script::{
 use sz_spec::{Dir, Strategy, Tally};
 
 /// A session: what is held, each version with the runs of its nodes and what is kept of them; the
-/// versions that a log gave, and where that log ends; and the channel through which tasks go to
-/// workers.
+/// versions that a log gave, and where that log ends; the channel through which tasks go to
+/// workers; and bitmaps for the asks to come.
 #[derive(Drop)]
 pub struct Session {
     pub(crate) catalogue: Catalogue<Carry>,
@@ -73,6 +75,7 @@ pub struct Session {
     hands: Hands,
     tasks: Receiver<Task>,
     askers: Askers,
+    spare: Spare,
 }
 
 impl Model for Session {
@@ -152,6 +155,7 @@ impl Session {
             hands: Hands { to, workers },
             tasks,
             askers: Askers::of(askers),
+            spare: Spare::new(alloc),
         })
     }
 
@@ -189,6 +193,7 @@ impl Session {
             hands: Hands { to, workers },
             tasks,
             askers: Askers::of(askers),
+            spare: Spare::new(alloc),
         })
     }
 
@@ -208,9 +213,10 @@ impl Session {
     /// Any other line costs what it reads, looks up and answers.
     ///
     /// For a session of a log the station's disk is that log (`HasLog`): what the line makes durable
-    /// is appended to it, at the cost of the group's bytes, and no write is pending then. At every
-    /// moment a stop leaves a log of what was durable before, or of what is then (`stops`). Where the
-    /// disk fails the log has to be opened again. A session of no log makes no call on the station.
+    /// is appended to it as one group, at the cost of its bytes (`appends`); any other line leaves
+    /// the station as it was (`idle`); and no write is pending then. At every moment a stop leaves a
+    /// log of what was durable before, or of what is then (`stops`). Where the disk fails the log has
+    /// to be opened again. A session of no log makes no call on the station.
     pub fn command<T: Station, G: Gate, R: Threads + Wait + Sync>(
         &mut self,
         rt: &R,
@@ -236,6 +242,10 @@ impl Session {
         ensures again { OnOk result (HasLog T.Station self.new.held self.new.end station.new) }
         ensures stops { StopsInLog T.Station self.old.held self.old.end
             (held_after self.old line.now) station.old station.new }
+        ensures idle { makes_durable self.old.held line.now ≡ false → station.new ≡ station.old }
+        ensures appends { OnOk result (makes_durable self.old.held line.now ≡ true
+            → Appends T.Station (IsGroupOf self.old.held line.now (reading line.now))
+            self.old.end self.new.end station.old station.new) }
         ensures output { (T.said station.new ≡ T.said station.old)
             × (T.say_faults station.new ≡ T.say_faults station.old) }
         ensures quiet { OnOk result (Stood (T.disk_faults station.old) (T.disk_faults station.new)) }
@@ -261,48 +271,6 @@ impl Session {
             Err(LineFault::Refused(rule)) => Ok(Given::Refused(rule)),
             Err(LineFault::NoMemory) => Err(NoMemory),
         }
-    }
-
-    /// Does what a line gives, and gives its reply, as `command` does.
-    pub(crate) fn take_given<G: Gate, R: Threads + Wait + Sync>(
-        &mut self,
-        rt: &R,
-        given: Given,
-        number: u64,
-        gate: &G,
-        tally: &mut Tally,
-    ) -> Result<Option<Reply>, NoMemory>
-        requires right { IsRight given }
-        requires room { tally.old + 32 * 1048576 < 2 ^ 63 }
-        ensures reply { IfOk result (λ r. Takes self.old given self.new r) }
-        ensures least { OnOk result (tally.old + traced_for_given self.old given ≤ tally.new) }
-        ensures most { OnOk result (tally.new ≤ tally.old + most_for_given self.old given) }
-        ensures kept { OnErr result (self.new ≡ self.old) }
-    {
-        match given {
-            Given::Nothing => Ok(None),
-            Given::Refused(rule) => Ok(Some(Reply::Refused(rule))),
-            Given::Ask(command) => Ok(Some(self.judge(rt, command, number, gate, tally)?)),
-            Given::Other(command) => Ok(Some(self.judge(rt, command, number, gate, tally)?)),
-        }
-    }
-
-    /// Does what a line gives, as `take_given` does: that is the same wherever a log ends.
-    pub(crate) fn take_apart<G: Gate, R: Threads + Wait + Sync>(
-        &mut self,
-        rt: &R,
-        given: Given,
-        number: u64,
-        gate: &G,
-        tally: &mut Tally,
-    ) -> Result<Option<Reply>, NoMemory>
-        requires right { IsRight given }
-        requires room { tally.old + 32 * 1048576 < 2 ^ 63 }
-        ensures reply { IfOk result (λ r. Takes (apart self.old) given (apart self.new) r) }
-        ensures end { OnOk result (self.new.end ≡ self.old.end) }
-        ensures kept { OnErr result (self.new ≡ self.old) }
-    {
-        self.take_given(rt, given, number, gate, tally)
     }
 
     /// Whether asks are answered beside one another: there are several askers.
@@ -599,7 +567,7 @@ impl Session {
         ensures same { self.new ≡ self.old }
     {
         let inquiry = self.inquiry(version, dir, path, named)?;
-        inquiry.answer(self.alloc, rt, tally)
+        inquiry.answer(self.alloc, rt, &mut self.spare, tally)
     }
 
     /// What is asked along a path of a version, for an ask or explain that no rule refuses.

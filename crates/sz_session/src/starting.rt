@@ -10,7 +10,7 @@ ghost use Rattle.sz_catalogue.specs.Rules.{judged, has_no_array};
 ghost use Rattle.sz_catalogue.specs.Kept.{IsWorkflow};
 ghost use Rattle.sz_session.specs.Stores.{IsTrailOf};
 
-use crate::building::begun;
+use crate::building::{begun, prepared};
 use crate::carry::Carry;
 use crate::runs::VersionRun;
 use crate::tasks::Hands;
@@ -24,7 +24,8 @@ use sz_script::BaseName;
 use sz_spec::Array;
 
 /// What the version that a start makes carries: the runs of its nodes, each value computed once,
-/// and a shelf for each node with a stored strategy, of which tasks are handed out.
+/// and for each node with a stored strategy what its lineage needs, prepared once, and a shelf, of
+/// which tasks are handed out.
 pub(crate) fn run_version<R: Threads + Wait + Sync>(
     rt: &R,
     alloc: Global,
@@ -45,7 +46,8 @@ pub(crate) fn run_version<R: Threads + Wait + Sync>(
         unreachable!()
     };
     let arrays = arrays_named(alloc, catalogue, base)?;
-    let runs = run_all(rt, alloc, flow, &arrays)?;
+    let executed = run_all(rt, alloc, flow, &arrays)?;
+    let runs = prepared(alloc, executed, lists.as_slice())?;
     let stores = begun(alloc, &runs, lists.as_slice())?;
     let mut run = VersionRun::of(alloc, runs, stores)?;
     let number = catalogue.next_number() as u32;

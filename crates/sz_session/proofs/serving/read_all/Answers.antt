@@ -2,12 +2,16 @@
 use Rattle.std.proofs.Common.{◌≡◌, ℕ, ◌+◌, [], refl, subst, sym, ap, ◌∙◌, arith}
 use Rattle.std.specs.Prelude.{Ok}
 use Rattle.sz_session.specs.declared.serving.Status.{Status}
+use Rattle.sz_session.specs.declared.serving.Status.TheVariants as status
+use Rattle.sz_session.specs.Lines.{last_line}
+use Rattle.sz_session.specs.Transcript.{after_lines}
 use Rattle.sz_session.specs.Serving.{Answered}
-use Rattle.sz_session.specs.Statuses.{EndsLines}
-use Rattle.sz_session.proofs.Ends.{end-ends, plain-end, disk-end, quiet-end, rose-behind, turned}
+use Rattle.sz_session.specs.Statuses.{end_status, EndsLines}
+use Rattle.sz_session.specs.Running.{StaysBeside}
+use Rattle.sz_session.proofs.Ends.{end-ends, plain-end, disk-end, done-end, quiet-end, rose-behind, turned}
 use Rattle.sz_session.proofs.Beside.{stays-same, stays-then, none-stays}
 use Rattle.sz_session.proofs.Disks.{stays-still, stays-both, between-stays, end-stays}
-use Rattle.sz_session.proofs.Sources.{FindsRead, read-start, read-more, all-rest, all-read}
+use Rattle.sz_session.proofs.Sources.{FindsRead, read-start, read-more, all-rest, all-read, all-behind}
 use Rattle.sz_session.proofs.serving.read_all.Goals as goal
 
 pub chunks-init : goal.chunks-init
@@ -187,4 +191,36 @@ returns-in-Ok-eq0-clause-disk_quiet g c =
 
 pub returns-in-Err-clause-disk_quiet : goal.returns-in-Err-clause-disk_quiet
 returns-in-Err-clause-disk_quiet g c =
+    λ is. absurd (c.in-Err.ensures.not_done (ap turned is))
+
+-- the log of all lines
+pub returns-in-Ok-eq0-clause-behind : goal.returns-in-Ok-eq0-clause-behind
+returns-in-Ok-eq0-clause-behind g c =
+    let asked = c.requires.1.1.1.1.1.1.1.1.1 in
+    let r = c.end_input.result in
+    let first = c.args.feed.now in
+    let last = c.take_turn.new.feed in
+    let end = c.end_input.new.self in
+    let a = c.args.station.now in
+    let b = c.take_turn.new.station in
+    let x = c.end_input.new.station in
+    let Q : ℕ
+    → Type 0 =
+    λ n. Answered g.opening.held g.opening.left (g.S.Source.left c.take_turn.new.source) g.opening.said
+    (g.T.Station.said b) last n in
+    let none : c.in-Ok-eq0.field-0 ≡ 0 = c.in-Ok-eq0.field-0-test in
+    let same : c.chunks.total + c.in-Ok-eq0.field-0 ≡ c.chunks.total = omega (arith, none) in
+    λ is.
+    let ended : end_status r ≡ status.Done = sym c.status_of_end.ensures ∙ is in
+    all-behind g.T.Station g.opening.held g.opening.left (g.S.Source.left c.args.source.now)
+    (g.S.Source.left c.take_turn.new.source) g.opening.said (g.T.Station.said a) (g.T.Station.said b) first last end
+    c.chunks.total a x asked.1.0 (subst Q same c.in-Ok-eq0.ensures.answered)
+    (c.in-Ok-eq0.ensures.all (ap (λ (n : ℕ). Ok n) none))
+    (stays-then g.T.Station first last end a b x
+    (stays-then g.T.Station first c.chunks.feed last a c.chunks.station b c.chunks.invariant.goes c.in-Ok-eq0.ensures.log)
+    (done-end r (StaysBeside g.T.Station last end b x) ended c.end_input.ensures.log))
+    (done-end r (end.held.held ≡ (after_lines last.held (last_line last.pending)).held) ended c.end_input.ensures.held)
+
+pub returns-in-Err-clause-behind : goal.returns-in-Err-clause-behind
+returns-in-Err-clause-behind g c =
     λ is. absurd (c.in-Err.ensures.not_done (ap turned is))

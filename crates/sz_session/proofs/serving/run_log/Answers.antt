@@ -37,4 +37,4 @@ returns-in-Ok-clause-ends g c =
     inr (opened g.T.Station c.run_on.result c.args.limit at held kept (g.S.Source.left c.args.source.now)
     (g.S.Source.left c.run_on.new.source) a b x (c.catalogue_of.ensures.disk ∙ c.sync.ensures.disk)
     (c.catalogue_of.ensures.output.0 ∙ c.sync.ensures.output.0) stops (subst M c.sync.ensures.disk c.in-Ok.ensures.made)
-    log c.run_on.ensures.ends c.run_on.ensures.found)
+    log c.run_on.ensures.ends c.run_on.ensures.behind c.run_on.ensures.found)

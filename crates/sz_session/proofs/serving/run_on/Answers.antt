@@ -4,7 +4,8 @@ use Rattle.sz_session.specs.Moments.{Moment}
 use Rattle.sz_session.specs.States.{State, apart}
 use Rattle.sz_session.specs.Serving.{Answered}
 use Rattle.sz_session.specs.Statuses.{EndsLines}
-use Rattle.sz_session.specs.Running.{IsBeside, FindsAll, state_of_log}
+use Rattle.sz_session.specs.Running.{IsBeside, FindsAll, StandsBehind, state_of_log}
+use Rattle.sz_session.specs.declared.serving.Status.TheVariants as status
 use Rattle.sz_session.proofs.Ends.{none-in_lines}
 use Rattle.sz_session.proofs.Sources.{opened, answered-opened, all-still}
 use Rattle.sz_session.proofs.serving.run_on.Goals as goal
@@ -89,3 +90,13 @@ returns-clause-found g c =
     let P : Moment → Type 0 = λ m. FindsAll g.T.Station m.held m.end (g.S.Source.left c.args.source.now)
     c.args.station.now c.answer_all-status.new.station in
     subst P is c.answer_all-status.ensures.found
+
+pub returns-clause-behind : goal.returns-clause-behind
+returns-clause-behind g c =
+    let z = state_of_log c.args.recovered.catalogue c.args.recovered.stores.items in
+    let is : c.over-feed.result ≡ opened z (Some c.args.recovered.end.at) =
+    c.over-feed.ensures ∙ ap (λ (s : State). opened (apart s) s.end) c.in-Ok-of_log.ensures in
+    let P : Moment → Type 0 = λ m. c.answer_all-status.result ≡ status.Done
+    → StandsBehind g.T.Station m.held m.end (g.S.Source.left c.args.source.now) c.args.station.now
+    c.answer_all-status.new.station in
+    subst P is c.answer_all-status.ensures.behind

@@ -16,7 +16,9 @@ use Rattle.sz_session.proofs.Loads.{load-ends_with, load-completes}
 use Rattle.sz_session.proofs.Disks.{stays-still, start-stays, disk-stays, making-still}
 use Rattle.sz_session.proofs.Makings.{init-ends_with, init-made, init-barred, barred-no_memory}
 use Rattle.sz_session.proofs.Makings.{init-completes}
-use Rattle.sz_session.proofs.Checkings.{check-ends_with, check-unlike, check-completes, unlike-no_memory, line-stops}
+use Rattle.sz_session.proofs.Checkings.{check-ends_with, check-tells, unlike-no_memory, line-stops}
+use Rattle.sz_session.proofs.Exactly.{ends-opening, opening-no_log, opening-unlike, opening-broken, broken-no_memory}
+use Rattle.sz_session.proofs.Exactly.{check-completes, run-completes}
 use Rattle.sz_session.proofs.Jobs.{for-job, for-none, line-job, line-each, served-not}
 use Rattle.sz_session.proofs.Jobs.{usage-refused, reads-lines, disk-log, quiet-done, say-counted}
 use Rattle.sz_session.proofs.Jobs.{log-silent, disk-counted, already-init, bad-opened, bad-place, read-counted, limit-lines}
@@ -254,8 +256,12 @@ returns-in-Ok-clause-check_after_no_memory g c =
 pub returns-in-Ok-clause-no_log : goal.returns-in-Ok-clause-no_log
 returns-in-Ok-clause-no_log g c =
     λ p e.
-    let asked = sym (for-job is_check _ _ c.in-Ok.ensures.ok) ∙ p in
-    (check-ends_with g.T.Station _ status.NotALog _ _ (c.run_job.ensures.check asked) e).1
+    let x = c.args.station.now in
+    let y = c.run_job.new.station in
+    let asked = sym (for-job is_opened _ _ c.in-Ok.ensures.ok) ∙ p in
+    opening-no_log g.T.Station c.run_job.result _ _ _ _ _ x y
+    (ends-opening g.T.Station c.in-Ok.job.mode c.run_job.result _ _ _ _ _ x y
+    c.run_job.ensures.check c.run_job.ensures.run c.run_job.ensures.run_counted asked) e
 
 pub returns-in-Ok-clause-bad_log : goal.returns-in-Ok-clause-bad_log
 returns-in-Ok-clause-bad_log g c =
@@ -272,14 +278,36 @@ returns-in-Ok-clause-bad_log g c =
 pub returns-in-Ok-clause-unlike : goal.returns-in-Ok-clause-unlike
 returns-in-Ok-clause-unlike g c =
     λ p.
-    let asked = sym (for-job is_check _ _ c.in-Ok.ensures.ok) ∙ p in
-    check-unlike g.T.Station _ _ _ (c.run_job.ensures.check asked)
+    let x = c.args.station.now in
+    let y = c.run_job.new.station in
+    let asked = sym (for-job is_opened _ _ c.in-Ok.ensures.ok) ∙ p in
+    opening-unlike g.T.Station c.run_job.result _ _ _ _ _ x y
+    (ends-opening g.T.Station c.in-Ok.job.mode c.run_job.result _ _ _ _ _ x y
+    c.run_job.ensures.check c.run_job.ensures.run c.run_job.ensures.run_counted asked)
+
+pub returns-in-Ok-clause-broken : goal.returns-in-Ok-clause-broken
+returns-in-Ok-clause-broken g c =
+    λ p.
+    let x = c.args.station.now in
+    let y = c.run_job.new.station in
+    let law = c.logs_are_read_in_one_way.ensures in
+    let asked = sym (for-job is_opened _ _ c.in-Ok.ensures.ok) ∙ p in
+    opening-broken law.whole law.bad g.T.Station c.run_job.result _ _ _ _ _ x y
+    (ends-opening g.T.Station c.in-Ok.job.mode c.run_job.result _ _ _ _ _ x y
+    c.run_job.ensures.check c.run_job.ensures.run c.run_job.ensures.run_counted asked)
 
 pub returns-in-Ok-clause-check_completes : goal.returns-in-Ok-clause-check_completes
 returns-in-Ok-clause-check_completes g c =
+    λ p made no_disk no_say.
+    let asked = sym (for-job is_check _ _ c.in-Ok.ensures.ok) ∙ p in
+    check-completes c.logs_are_read_in_one_way.ensures.whole g.T.Station _ _ _ (c.run_job.ensures.check asked) made
+    no_disk no_say
+
+pub returns-in-Ok-clause-check_tells : goal.returns-in-Ok-clause-check_tells
+returns-in-Ok-clause-check_tells g c =
     λ p begun no_disk no_say.
     let asked = sym (for-job is_check _ _ c.in-Ok.ensures.ok) ∙ p in
-    check-completes g.T.Station _ _ _ (c.run_job.ensures.check asked) begun no_disk no_say
+    check-tells g.T.Station _ _ _ (c.run_job.ensures.check asked) begun no_disk no_say
 
 pub returns-in-Ok-clause-found_in_check : goal.returns-in-Ok-clause-found_in_check
 returns-in-Ok-clause-found_in_check g c =
@@ -485,10 +513,28 @@ returns-in-Err-clause-unlike g c =
     let is = c.status_of_words.ensures in
     unlike-no_memory (g.T.Station.disk c.args.station.now) _ (words-memory f _ is (λ e.
     let usage = c.in-Err.is ∙ ap (λ (x : WordsFault). Err x) (words-usage f (sym is ∙ e)) in
-    true≢false (sym p ∙ for-none is_check _ (c.read_words.ensures.usage usage))))
+    true≢false (sym p ∙ for-none is_opened _ (c.read_words.ensures.usage usage))))
+
+pub returns-in-Err-clause-broken : goal.returns-in-Err-clause-broken
+returns-in-Err-clause-broken g c =
+    λ p.
+    let f = c.in-Err.fault in
+    let is = c.status_of_words.ensures in
+    broken-no_memory (g.T.Station.disk c.args.station.now) _ (words-memory f _ is (λ e.
+    let usage = c.in-Err.is ∙ ap (λ (x : WordsFault). Err x) (words-usage f (sym is ∙ e)) in
+    true≢false (sym p ∙ for-none is_opened _ (c.read_words.ensures.usage usage))))
 
 pub returns-in-Err-clause-check_completes : goal.returns-in-Err-clause-check_completes
 returns-in-Err-clause-check_completes g c =
+    λ p made no_disk no_say.
+    let f = c.in-Err.fault in
+    let is = c.status_of_words.ensures in
+    words-completes f _ is (λ e.
+    let usage = c.in-Err.is ∙ ap (λ (x : WordsFault). Err x) (words-usage f (sym is ∙ e)) in
+    true≢false (sym p ∙ for-none is_check _ (c.read_words.ensures.usage usage)))
+
+pub returns-in-Err-clause-check_tells : goal.returns-in-Err-clause-check_tells
+returns-in-Err-clause-check_tells g c =
     λ p begun no_disk no_say.
     let f = c.in-Err.fault in
     let is = c.status_of_words.ensures in
@@ -503,6 +549,22 @@ returns-in-Err-clause-found_in_check g c =
     (g.met.T.Station.counts_now c.args.station.now))
 
 -- a session on a log
+pub returns-in-Ok-clause-run_completes : goal.returns-in-Ok-clause-run_completes
+returns-in-Ok-clause-run_completes g c =
+    λ p made within no_read no_say no_disk.
+    let asked = sym (for-job is_run _ _ c.in-Ok.ensures.ok) ∙ p in
+    run-completes c.logs_are_read_in_one_way.ensures.whole g.T.Station _ _ _ _ _ _ _ _ (c.run_job.ensures.run asked)
+    (c.run_job.ensures.run_counted asked) made within no_read no_say no_disk
+
+pub returns-in-Err-clause-run_completes : goal.returns-in-Err-clause-run_completes
+returns-in-Err-clause-run_completes g c =
+    λ p made within no_read no_say no_disk.
+    let f = c.in-Err.fault in
+    let is = c.status_of_words.ensures in
+    words-completes f _ is (λ e.
+    let usage = c.in-Err.is ∙ ap (λ (x : WordsFault). Err x) (words-usage f (sym is ∙ e)) in
+    true≢false (sym p ∙ for-none is_run _ (c.read_words.ensures.usage usage)))
+
 pub returns-in-Ok-clause-run : goal.returns-in-Ok-clause-run
 returns-in-Ok-clause-run g c =
     λ p. c.run_job.ensures.run (sym (for-job is_run _ _ c.in-Ok.ensures.ok) ∙ p)

@@ -41,6 +41,19 @@ run_all-requires-clause-fits g c =
     λ κs lives. (can.fits.0, rw (graph, arrays, base-shapes (bases_of cat c.args.base.now)) can.fits.1)
 
 -- the executions, and the lists, are those of the version that is started
+pub prepared-requires : goal.prepared-requires
+prepared-requires g c =
+    let cat = c.args.catalogue.now in
+    let can = can-start cat c.args.name.now c.args.base.now c.requires.judged in
+    let w = workflow_of cat c.args.name.now in
+    let graph = c.deref.ensures ∙ flow-graph cat c.args.name.now _ (rw c.in-Some.is at c.flow.ensures) in
+    let arrays = ap (λ xs. map (λ a. arc_value a) xs) c.deref-2.ensures.value ∙ c.in_ok-arrays.ensures in
+    let lists = flow-lists cat c.args.name.now _ (rw c.in-Some-lists.is at c.lists.ensures) in
+    rw (c.as_slice.ensures, lists, c.in_ok-executed.ensures, graph, arrays)
+    (lists-listed (arrays_of (bases_of cat c.args.base.now)) [] w.graph.nodes w.lists
+    (flow-sound cat c.args.name.now c.requires.sound can.flow).lists)
+
+-- and what lineage needs is prepared of the same executions
 pub begun-requires : goal.begun-requires
 begun-requires g c =
     let cat = c.args.catalogue.now in
@@ -49,7 +62,8 @@ begun-requires g c =
     let graph = c.deref.ensures ∙ flow-graph cat c.args.name.now _ (rw c.in-Some.is at c.flow.ensures) in
     let arrays = ap (λ xs. map (λ a. arc_value a) xs) c.deref-2.ensures.value ∙ c.in_ok-arrays.ensures in
     let lists = flow-lists cat c.args.name.now _ (rw c.in-Some-lists.is at c.lists.ensures) in
-    let runs = ap (λ xs. map execution_of xs) c.deref-3.ensures.value ∙ c.in_ok-runs.ensures in
-    rw (c.as_slice.ensures, lists, runs, graph, arrays)
+    let runs = ap (λ xs. map execution_of xs) c.deref-3.ensures.value ∙ c.in_ok-runs.ensures
+    ∙ c.in_ok-executed.ensures in
+    rw (c.as_slice-2.ensures, lists, runs, graph, arrays)
     (lists-listed (arrays_of (bases_of cat c.args.base.now)) [] w.graph.nodes w.lists
     (flow-sound cat c.args.name.now c.requires.sound can.flow).lists)

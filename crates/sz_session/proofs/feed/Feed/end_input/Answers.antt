@@ -1,5 +1,5 @@
 -- A line that has not ended and has a byte tells at the end what it tells where it ends; and else nothing is told.
-use Rattle.std.proofs.Common.{refl, ◌<◌, List, ℕ, length, subst, arith}
+use Rattle.std.proofs.Common.{◌≡◌, refl, ◌<◌, List, ℕ, length, subst, arith}
 use Rattle.std.proofs.lemmas.Bool.Decides.{nat_tests}
 use Rattle.std.proofs.lemmas.Result.{on_ok_weaker}
 use Rattle.sz_outside.specs.Outside.{Says, SaysPart}
@@ -7,7 +7,7 @@ use Rattle.sz_session.specs.Moments.{Moment}
 use Rattle.sz_session.proofs.Turns.{told_at_end-line}
 use Rattle.sz_session.specs.Disks.{OnlySays}
 use Rattle.sz_session.proofs.Disks.{stays-still}
-use Rattle.sz_session.proofs.Beside.{end-still, end-line, stays-same}
+use Rattle.sz_session.proofs.Beside.{end-still, end-line, end-held, end-empty, stays-same}
 use Rattle.sz_session.proofs.feed.Feed.end_input.Goals as goal
 
 pub returns-else-is_empty-clause-whole : goal.returns-else-is_empty-clause-whole
@@ -60,3 +60,19 @@ returns-else-is_empty-clause-found g c =
     let some : 0 < length c.self.inside.pending.items = grind (arith, nat_tests) in
     end-line g.T.Station c.args.self.now c.args.station.now c.end_line.new.station (subst P c.self.view_is some)
     c.end_line.ensures.found
+
+-- what is held
+pub returns-then-is_empty-clause-held : goal.returns-then-is_empty-clause-held
+returns-then-is_empty-clause-held g c =
+    let P : Moment → Type 0 = λ m. length m.pending ≡ 0 in
+    let none : length c.self.inside.pending.items ≡ 0 = grind (arith, nat_tests) in
+    end-empty c.args.self.now (subst P c.self.view_is none)
+
+pub returns-else-is_empty-clause-held : goal.returns-else-is_empty-clause-held
+returns-else-is_empty-clause-held g c =
+    let P : Moment → Type 0 = λ m. 0 < length m.pending in
+    let some : 0 < length c.self.inside.pending.items = grind (arith, nat_tests) in
+    on_ok_weaker c.end_line.result
+    (λ line. end-held c.args.self.now c.end_line.new.self (g.T.Station.said c.args.station.now)
+    (g.T.Station.said c.end_line.new.station) (subst P c.self.view_is some) line)
+    c.end_line.ensures.line

@@ -12,9 +12,9 @@ use Rattle.sz_session.proofs.inquiry.Inquiry.answer.Goals as goal
 
 pub returns-clause-answer : goal.returns-clause-answer
 returns-clause-answer g c =
-    let told = c.answer.ensures in
-    let r = c.answer.result in
-    let new = map view_of c.answer.new.views in
+    let told = c.answer_with.ensures in
+    let r = c.answer_with.result in
+    let new = map view_of c.answer_with.new.views in
     let lent = c.deref_mut.ensures.value in
     IfOk-weaker r _ _
     (λ f p. subst (λ (s : Search). IsAnswerTo s f) c.self.view_is (record {

@@ -1,9 +1,10 @@
 -- The line acts on what the log holds as the command does on what the session holds.
-use Rattle.std.proofs.Common.{Some, sym, ap, ◌∙◌, subst}
+use Rattle.std.proofs.Common.{Some, refl, sym, ap, ◌∙◌, subst}
 use Rattle.sz_catalogue.specs.Changes as changes
 use Rattle.sz_catalogue.specs.Holdings.{Holdings}
 use Rattle.sz_session.specs.States.{State}
-use Rattle.sz_session.specs.Logged.{KeepsLog}
+use Rattle.sz_session.specs.Logged.{KeepsLog, IsLineGroup}
+use Rattle.sz_session.proofs.Appending.{group-added}
 use Rattle.sz_session.proofs.Lasting.{left-held}
 use Rattle.sz_session.proofs.Logged.{still-stops, log-ends, line-step, append-stops, append-keeps}
 use Rattle.sz_session.proofs.session.Session.add_line.Goals as goal
@@ -46,3 +47,9 @@ returns-clause-stops g c =
     c.args.station.now c.append.new.station c.requires.end
     (line-step held c.args.kind c.args.line.now c.args.command c.requires.reads c.requires.kind c.requires.judged)
     c.append.ensures.stops
+
+pub returns-clause-appends : goal.returns-clause-appends
+returns-clause-appends g c =
+    group-added g.T.Station (IsLineGroup c.args.command c.args.line.now) c.args.self.now.end c.args.end.at
+    c.in_ok-next.next.at (record { kind = c.args.kind; body = c.args.line.now }) c.args.station.now c.append.new.station
+    c.requires.end (c.requires.kind, refl) c.in_ok-next.ensures.added c.in_ok-next.ensures.end

@@ -1,6 +1,6 @@
 -- The body acts on what the log holds as the await does on what the session holds. A version that was awaited before
 -- changes nothing that is durable.
-use Rattle.std.proofs.Common.{◌≡◌, ℕ, List, Option, Some, [], sym, ap, ◌∙◌, subst}
+use Rattle.std.proofs.Common.{◌≡◌, ℕ, List, Option, Some, [], refl, sym, ap, ◌∙◌, subst}
 use Rattle.sz_log.specs.Log.{Entry}
 use Rattle.sz_script.specs.declared.command.Command.TheVariants as order
 use Rattle.sz_script.specs.declared.refusal.Refusal.TheVariants as refusal
@@ -12,7 +12,8 @@ use Rattle.sz_catalogue.specs.Changes.{with_await}
 use Rattle.sz_recover.specs.Growing.{durable}
 use Rattle.sz_session.specs.Bodies.{IsSoundBody}
 use Rattle.sz_session.specs.States.{State}
-use Rattle.sz_session.specs.Logged.{KeepsLog, HasLog}
+use Rattle.sz_session.specs.Logged.{KeepsLog, HasLog, IsVersionGroup, Appends}
+use Rattle.sz_session.proofs.Appending.{group-added}
 use Rattle.sz_session.proofs.Keeps.{rule-fails}
 use Rattle.sz_session.proofs.Lasting.{rests-keep, version-step, again-durable, left-held}
 use Rattle.sz_session.proofs.Logged.{still-stops, log-ends, append-stops, append-keeps, IsStep}
@@ -114,3 +115,18 @@ returns-clause-stops g c =
     (version-step s.held n c.in_ok-body.body.items in-order held off sound) in
     append-stops g.T.Station s.held (with_await s.held n) s.end c.args.end.at (E c.deref.result.now)
     c.args.station.now c.append.new.station c.requires.end one c.append.ensures.stops
+
+pub returns-clause-appends : goal.returns-clause-appends
+returns-clause-appends g c =
+    let s : State = c.args.self.now in
+    let t : State = c.note_await.new.self in
+    let n = c.args.version in
+    let is : c.self.inside.catalogue ≡ s.held = ap (λ (x : State). x.held) (c.self.view_is ∙ c.in_ok-run.ensures.same) in
+    let sound = subst (λ (h : Holdings). IsSoundBody n (version_of h n) c.in_ok-body.body.items) is c.in_ok-body.ensures in
+    let place : t.end ≡ Some c.in_ok-next.next.at = ap (λ (p : State × Response). p.0.end) (sym c.note_await.ensures) in
+    let P : Entry → Type 0 = IsVersionGroup s.held n in
+    λ off. subst (λ (o : Option ℕ). Appends g.T.Station P s.end o c.args.station.now c.append.new.station) (sym place)
+    (group-added g.T.Station P s.end c.args.end.at c.in_ok-next.next.at
+    (record { kind = 4; body = c.deref.result.now }) c.args.station.now c.append.new.station c.requires.end
+    (refl, subst (λ (body : List ℕ). IsSoundBody n (version_of s.held n) body) (sym c.deref.ensures.value) sound)
+    c.in_ok-next.ensures.added c.in_ok-next.ensures.end)

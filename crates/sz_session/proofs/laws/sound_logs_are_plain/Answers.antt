@@ -1,0 +1,6 @@
+-- Each version that a sound log gave is answered by its stores as by the relation.
+use Rattle.sz_session.proofs.SoundLogs.{sound-logs-plain}
+use Rattle.sz_session.proofs.laws.sound_logs_are_plain.Goals as goal
+
+pub returns : goal.returns
+returns c = sound-logs-plain
