@@ -8,19 +8,19 @@ use crate::words::words_of;
 use std::alloc::Global;
 use std::env::Args;
 use std::fs::{File, Files};
-use std::io;
+use std::io::{self, ErrorKind};
 use sz_outside::FileStation;
 use sz_words::{LogPlace, NoMemory, log_place};
 
 /// Standard output, and the file that the words name. Over no file, so that each disk call fails,
-/// where the words name none or it cannot be opened.
+/// where the words name none or it cannot be opened, but for want of memory.
 pub(crate) fn station_for(
     rt: &HostRuntime,
     alloc: Global,
     args: io::Result<Args>,
 ) -> Result<FileStation, NoMemory> {
     let opened = match place_in(alloc, args)? {
-        Some(place) => open_at(rt, &place).ok(),
+        Some(place) => opened_at(rt, &place)?,
         None => None,
     };
     Ok(match opened {
@@ -33,11 +33,22 @@ pub(crate) fn station_for(
 fn place_in(alloc: Global, args: io::Result<Args>) -> Result<Option<LogPlace>, NoMemory>
     ensures { IfOk result (λ place. option_map path_and_make place ≡ place_named args) }
 {
-    let Ok(args) = args else {
-        return Ok(None);
+    let args = match args {
+        Ok(args) => args,
+        Err(fault) if fault.kind() == ErrorKind::OutOfMemory => return Err(NoMemory),
+        Err(_) => return Ok(None),
     };
     let words = words_of(alloc, args)?;
     log_place(alloc, &words)
+}
+
+/// The file at a place, where it can be opened.
+fn opened_at<R: Files>(rt: &R, place: &LogPlace) -> Result<Option<R::File>, NoMemory> {
+    match open_at(rt, place) {
+        Ok(file) => Ok(Some(file)),
+        Err(fault) if fault.kind() == ErrorKind::OutOfMemory => Err(NoMemory),
+        Err(_) => Ok(None),
+    }
 }
 
 /// Opens the file for reading and writing as it is, and makes it where it is to be made and is not
