@@ -16,7 +16,9 @@ use std::alloc::Global;
 use std::sync::Arc;
 use std::test::Fail;
 use sz_cells::{Cell, CellBits, CellSet, Run, Shape};
-use sz_ops::{Aid, OpMap, image_by_map, piece, prepare, run, run_prepared, trace, value_at};
+use sz_ops::{
+    Aid, OpMap, image_by_map, piece, prepare, prepare_lineage, run, run_prepared, trace, value_at,
+};
 use sz_region::{PayEntry, PieceLineage, Region};
 use sz_spec::{
     Array, ArrayList, Dir, Mapper, Mode, Op, OpAt, Strategy, Tally, Value, arity, has_mode,
@@ -67,18 +69,27 @@ impl Example {
         )
     }
 
-    /// Whether a run, and a run by what was prepared, make what the cells hold one by one.
+    /// Whether a run, and a run by what was prepared, make what the cells hold one by one: whether
+    /// it was prepared for values alone, or for lineage too.
     fn runs_as_its_cells(&self, alloc: Global) -> Result<bool, Fail> {
         let inputs = self.inputs.as_slice();
         let output = run(alloc, &self.at, inputs)?;
         let aid = prepare(alloc, &self.at, inputs)?;
-        let prepared = run_prepared(alloc, &self.at, inputs, &aid)?;
-        let values = self.values(alloc, &aid)?;
+        let more = prepare_lineage(alloc, &self.at, inputs)?;
         Ok(
             output.shape() == self.at.out()
-                && values.as_slice() == output.cells()
-                && values.as_slice() == prepared.cells(),
+                && self.runs_by(alloc, &aid, &output)?
+                && self.runs_by(alloc, &more, &output)?,
         )
+    }
+
+    /// Whether a run by what was prepared makes this array, at once and cell by cell.
+    fn runs_by(&self, alloc: Global, aid: &Aid, output: &Array) -> Result<bool, Fail>
+        requires { aid.now ≡ aid_of (arc_value self.now.at).op self.now.inputs }
+    {
+        let prepared = run_prepared(alloc, &self.at, self.inputs.as_slice(), aid)?;
+        let values = self.values(alloc, aid)?;
+        Ok(values.as_slice() == output.cells() && values.as_slice() == prepared.cells())
     }
 
     /// The output's values, cell by cell.
@@ -263,13 +274,25 @@ impl Example {
         Ok(lineage)
     }
 
+    /// What a piece is made by: the first one by what values need, and the others by what lineage
+    /// does.
+    fn prepared_for(&self, alloc: Global, k: u32) -> Result<Aid, Fail>
+        ensures { IfOk result (λ a. a ≡ aid_of (arc_value self.now.at).op self.now.inputs) }
+    {
+        let inputs = self.inputs.as_slice();
+        if k == 0 {
+            return Ok(prepare(alloc, &self.at, inputs)?);
+        }
+        Ok(prepare_lineage(alloc, &self.at, inputs)?)
+    }
+
     /// The lineage of a piece, as the strategies of a list need it, and how many cells it counted.
     fn lineage(&self, alloc: Global, k: u32, list: &[Strategy]) -> Result<(PieceLineage, u64), Fail>
         requires piece { k < pieces_of (arc_value self.now.at).out }
         requires supported { All (λ s. supports (arc_value self.now.at).op s ≡ true) list.now }
     {
         let inputs = self.inputs.as_slice();
-        let aid = prepare(alloc, &self.at, inputs)?;
+        let aid = self.prepared_for(alloc, k)?;
         let mut tally = Tally::new();
         let lineage = piece(alloc, &self.at, inputs, &aid, k, list, &mut tally)?;
         Ok((lineage, tally.count()))

@@ -1,17 +1,18 @@
 //! Small flows: where a cell leads along a path, by mappings and by traces, how each step was
 //! taken, and how much was traced.
 
-ghost use Rattle.std.specs.Prelude.{◌≡◌, ◌∷◌, [], true, map, IfOk};
+ghost use Rattle.std.specs.Prelude.{◌≡◌, ◌∷◌, ◌<◌, [], true, length, map, IfOk};
 ghost use Rattle.std.specs.Arc.{arc_value};
 ghost use Rattle.sz_cells.specs.Extent.{flat, layered};
+ghost use Rattle.sz_spec.specs.Sides.{near_side};
 ghost use Rattle.sz_spec.specs.Values.{extents_of};
 ghost use Rattle.sz_query.specs.Views.{view_of, by_map, view_site, IsUsable};
 
 use std::alloc::Global;
-use std::sync::Arc;
+use std::sync::{Arc, Wait};
 use std::test::Fail;
 use sz_cells::{Cell, CellSet, Run, Shape};
-use sz_query::{NodeRunRef, NodeView, Used, answer};
+use sz_query::{NodeRunRef, NodeView, Spare, Used, answer, answer_with};
 use sz_spec::{Array, ArrayList, Dir, Op, OpAt, Strategy, Tally, Value};
 
 /// The shape of one layer.
@@ -84,6 +85,25 @@ fn single(alloc: Global, rows: u32, cols: u32, cell: Cell) -> Result<CellSet, Fa
         return Err("the cell is out of the shape".into());
     }
     Ok(CellSet::from_cells(alloc, shape, &[cell])?)
+}
+
+/// Where cells lead by the mapping of an operator over one array.
+fn mapped<R: Wait>(
+    alloc: Global,
+    rt: &R,
+    spare: &mut Spare,
+    at: Arc<OpAt>,
+    dir: Dir,
+    cells: &CellSet,
+) -> Result<CellSet, Fail>
+    requires ready { IsUsable (by_map (arc_value at)) }
+    requires input { 0 < length (arc_value at).ins }
+    requires near { cells.now.extent ≡ near_side dir (arc_value at) 0 }
+{
+    let mut tally = Tally::new();
+    let mut views = [NodeView::Mapped { at }];
+    let found = answer_with(alloc, rt, spare, &mut views, &[0], dir, cells, &mut tally)?;
+    Ok(found.cells)
 }
 
 #[test]
@@ -171,5 +191,33 @@ fn a_cell_of_a_table_leads_to_those_that_it_matches(rt: HostRuntime) -> Result<(
     )?;
     assert_eq!(rt; found.cells.runs(), [Run { first: 0, last: 1 }].as_slice());
     assert_eq!(rt; found.traced, 3);
+    Ok(())
+}
+
+#[test]
+fn an_answer_sees_no_cell_of_the_one_before(rt: HostRuntime) -> Result<(), Fail> {
+    let alloc = rt.alloc();
+    let mut spare = Spare::new(alloc);
+    let at = transpose(alloc)?;
+    let last = single(alloc, 3, 2, Cell { row: 2, col: 0 })?;
+    let found = mapped(
+        alloc,
+        &rt,
+        &mut spare,
+        Arc::try_clone(&at)?,
+        Dir::Back,
+        &last,
+    )?;
+    assert_eq!(rt; found.runs(), [Run { first: 2, last: 2 }].as_slice());
+
+    // A shape of which none was kept.
+    let only = single(alloc, 1, 1, Cell { row: 0, col: 0 })?;
+    let found = mapped(alloc, &rt, &mut spare, negation(alloc)?, Dir::Back, &only)?;
+    assert_eq!(rt; found.runs(), [Run { first: 0, last: 0 }].as_slice());
+
+    // The first two shapes, other cells, and the other way.
+    let middle = single(alloc, 2, 3, Cell { row: 1, col: 1 })?;
+    let found = mapped(alloc, &rt, &mut spare, at, Dir::Forward, &middle)?;
+    assert_eq!(rt; found.runs(), [Run { first: 3, last: 3 }].as_slice());
     Ok(())
 }

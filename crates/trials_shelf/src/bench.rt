@@ -15,7 +15,7 @@ use std::marker::Model;
 use std::sync::{Arc, Wait};
 use std::test::Fail;
 use sz_cells::{CellBits, CellSet, NoMemory, Run, Shape};
-use sz_ops::{piece, prepare};
+use sz_ops::{piece, prepare_lineage};
 use sz_query::{NodeRunRef, NodeView};
 use sz_shelf::{Look, Pass, Placed, SealReply, Shelf};
 use sz_spec::{Array, ArrayList, Dir, Op, OpAt, Strategy, Tally};
@@ -118,7 +118,7 @@ impl Bench {
         ensures own { place_of pass.new ≡ place_of pass.old }
     {
         let inputs = [Arc::try_clone(&self.array)?];
-        let aid = prepare(alloc, &self.at, &inputs)?;
+        let aid = prepare_lineage(alloc, &self.at, &inputs)?;
         let mut tally = Tally::new();
         let lineage = piece(alloc, &self.at, &inputs, &aid, k, &LIST, &mut tally)?;
         self.shelf.place(rt, pass, &lineage)

@@ -1,0 +1,83 @@
+//! Logs that are opened again: what was asked before is answered alike.
+use crate::ended::{first_lines, log_of, served, whole_source, whole_station};
+use crate::rows::{Row, STARS};
+use std::alloc::Global;
+use std::test::Fail;
+use sz_session::Status;
+
+/// How many lines of the row stand before those that ask, and how many with these.
+const BEFORE_ASKS: usize = 8;
+
+const WITH_ASKS: usize = 13;
+
+/// Lines on the version that was not awaited, a second await, and a start.
+const MORE: &[u8] = b"{\"ask\":2,\"dir\":\"back\",\"path\":[[3,0]],\"cells\":[[0,1]]}
+{\"explain\":2,\"dir\":\"back\",\"path\":[[3,0]],\"cells\":[[0,1]]}
+{\"show\":2,\"node\":3}
+{\"await\":2}
+{\"await\":1}
+{\"start\":\"stars\",\"base\":[[\"sky\",1]]}
+";
+
+/// Their replies: the version is gone, and its number is taken again.
+const MORE_REPLIES: &[u8] = b"14 refused 15
+15 refused 15
+16 refused 15
+17 refused 15
+18 done 1
+19 started 2
+";
+
+/// A part of a text: the lines behind so many ones, up to so many, and others behind these.
+fn part(alloc: Global, text: &[u8], more: &[u8]) -> Result<Vec<u8>, Fail> {
+    let front = first_lines(text, BEFORE_ASKS).len();
+    let asks = first_lines(text, WITH_ASKS).get(front..).unwrap_or(b"");
+    let mut part = asks.to_vec(alloc)?;
+    part.extend_from_slice(more)?;
+    Ok(part)
+}
+
+/// The asks of the row behind blank lines, so that each has its number again, and the other lines.
+fn asks_again(alloc: Global, row: &Row) -> Result<Vec<u8>, Fail> {
+    let mut text = vec![in alloc; b'\n'; BEFORE_ASKS]?;
+    text.extend_from_slice(&part(alloc, row.text, MORE)?)?;
+    Ok(text)
+}
+
+/// With one worker and with several, in the session that keeps the version and in the one that opens
+/// the log again. The second changes nothing on the disk.
+#[test]
+fn an_opened_log_answers_as_before(rt: HostRuntime) -> Result<(), Fail> {
+    let alloc = rt.alloc();
+    let row = STARS;
+    let text = asks_again(alloc, &row)?;
+    let replies = part(alloc, row.replies, MORE_REPLIES)?;
+    let empty = log_of(&rt, alloc, b"")?;
+    for (first, second) in [("1", "1"), ("1", "4"), ("4", "1"), ("4", "4")] {
+        let source = whole_source(alloc, row.text)?;
+        let kept = served(
+            &rt,
+            alloc,
+            "run",
+            first,
+            source,
+            whole_station(alloc, &empty)?,
+        )?;
+        assert!(rt; kept.is(Status::Done, row.replies), "{first} workers");
+        let source = whole_source(alloc, &text)?;
+        let again = served(
+            &rt,
+            alloc,
+            "run",
+            second,
+            source,
+            whole_station(alloc, &kept.read)?,
+        )?;
+        assert!(rt;
+            again.is(Status::Done, &replies),
+            "{first} and {second} workers"
+        );
+        assert!(rt; again.has(&kept.read), "{first} and {second} workers");
+    }
+    Ok(())
+}
