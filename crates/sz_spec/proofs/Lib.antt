@@ -22,3 +22,7 @@ pub mod PayloadLineage
 pub mod Dependence
 pub mod Chains
 pub mod FlowDependence
+mod RowsChoices
+mod RowsKinds
+mod RowsAffected
+mod RowsSupports

@@ -21,3 +21,7 @@ pub mod LawsModes
 pub mod Work
 pub mod LawsLineage
 pub mod LawsDependence
+pub mod Supports
+pub mod Affected
+pub mod Kinds
+pub mod Choices
