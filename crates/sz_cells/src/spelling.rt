@@ -2,7 +2,7 @@
 //! spell them, and from the runs of two sets to those of both.
 
 ghost use Rattle.std.specs.Prelude.{◌≡◌, ℕ, ◌<◌, ◌≤◌, ◌||◌, ◌⊎◌, true, false, nat_lt};
-ghost use Rattle.std.specs.Prelude.{length, map, fold, All, IfOk, OnOk};
+ghost use Rattle.std.specs.Prelude.{length, map, fold, All, IfOk, OnOk, OnErr};
 ghost use Rattle.std.specs.List.{flat_map};
 ghost use Rattle.std.specs.List.Sorted.{IsNonDecreasingBy, IsPartitionPoint};
 ghost use Rattle.sz_cells.specs.Extent.{size_of, holds, index_of, cell_of};
@@ -56,6 +56,7 @@ pub fn add_run(runs: &mut Vec<Run>, next: Run) -> Result<(), NoMemory>
     ensures begun { OnOk result (All (λ r. r.first ≤ next.first) runs.new.items) }
     ensures added { OnOk result ((k : ℕ) → covers runs.new.items k
         ≡ (covers runs.old.items k || is_in next k)) }
+    ensures kept { OnErr result (runs.new.items ≡ runs.old.items) }
 {
     if let Some(run) = runs.last_mut() {
         if next.first <= run.last || next.first - run.last == 1 {

@@ -18,7 +18,7 @@ returns-then-next-run c =
     added-touching c.args.runs.now.items c.args.runs.now.len c.in-Some.run'.now c.args.next c.args.runs.now.ok.0
     (c.in-Some.ensures.variant.0 refl) c.in-Some.ensures.value
     c.requires.order c.requires.later touch in
-    rw c.max-run.ensures (record { longest = added.longest; begun = added.begun; added = added.added })
+    rw c.max-run.ensures (record { longest = added.longest; begun = added.begun; added = added.added; kept = tt })
 
 pub returns-clause-longest : goal.returns-clause-longest
 returns-clause-longest c =
