@@ -104,18 +104,18 @@ limits-from base outputs (x ∷ nodes) shapes inputs first second many right h =
 -- ---- runs
 
 -- a flow with its shapes: those of base arrays that it can be run over, and those of its outputs
-record Fits (flow : Graph) (shapes outs : List Extent) : Type 0 where
-  right : is_well_formed flow ≡ true
-  count : length shapes ≡ flow.inputs
-  limits : AreExtents shapes
-  limits_out : AreExtents outs
-  fits : output_shapes flow shapes ≡ Ok outs
+pub record Fits (flow : Graph) (shapes outs : List Extent) : Type 0 where
+  pub right : is_well_formed flow ≡ true
+  pub count : length shapes ≡ flow.inputs
+  pub limits : AreExtents shapes
+  pub limits_out : AreExtents outs
+  pub fits : output_shapes flow shapes ≡ Ok outs
 
 given : (r : Result (List Extent) ℕ) → is_ok r ≡ true → (es : List Extent) × (r ≡ Ok es)
 given (Ok es) h = (es, refl)
 given (Err n) h = (cc)
 
-fits-of : (flow : Graph) (base : List Grid) → CanRun flow base
+pub fits-of : (flow : Graph) (base : List Grid) → CanRun flow base
     → Fits flow (extents_of base) (extents_of (evaluations flow base))
 fits-of flow base run =
     let told = given (output_shapes flow (extents_of base)) run.fits in
@@ -136,11 +136,11 @@ fits-of flow base run =
     }
 
 -- a node at its shapes
-abbrev site : List Extent → List Extent → ℕ → Node → Site
+abbrev pub site : List Extent → List Extent → ℕ → Node → Site
 site shapes outs n x = record { op = x.op; ins = node_inputs shapes outs x; out = extent_at outs n }
 
 -- each node is at work over the arrays that it takes
-at-work : (flow : Graph) (shapes outs : List Extent) (base outputs : List Grid) (n : ℕ) (x : Node)
+pub at-work : (flow : Graph) (shapes outs : List Extent) (base outputs : List Grid) (n : ℕ) (x : Node)
     → Fits flow shapes outs → extents_of base ≡ shapes → extents_of outputs ≡ outs
     → slice_get flow.nodes n ≡ Some x
     → IsAtWork (site shapes outs n x) (map (array_of base outputs) x.from)
@@ -169,7 +169,7 @@ pub output-there : (flow : Graph) (base : List Grid) (n : ℕ) (x : Node) → is
 output-there flow base n x right there =
     ap (λ (o : Option Grid). unwrap_or o no_grid) (evaluations-at flow base n x right there)
 
-node-value : (flow : Graph) (base : List Grid) (n : ℕ) (x : Node) (o : Cell) → is_well_formed flow ≡ true
+pub node-value : (flow : Graph) (base : List Grid) (n : ℕ) (x : Node) (o : Cell) → is_well_formed flow ≡ true
     → slice_get flow.nodes n ≡ Some x → holds (input_at (evaluations flow base) n).extent o ≡ true
     → value_at (input_at (evaluations flow base) n) o
     ≡ value_of x.op (map (array_of base (evaluations flow base)) x.from) o
@@ -191,7 +191,7 @@ beyond [] n past = refl
 beyond (g ∷ outputs) zero past = absurd (omega arith)
 beyond (g ∷ outputs) (suc n) past = beyond outputs n (omega arith)
 
-node-held : (flow : Graph) (base : List Grid) (n : ℕ) (o : Cell)
+pub node-held : (flow : Graph) (base : List Grid) (n : ℕ) (o : Cell)
     → holds (extent_of (evaluations flow base) n) o ≡ true → (x : Node) × (slice_get flow.nodes n ≡ Some x)
 node-held flow base n o held =
     elim (node-or_beyond flow.nodes n) [
@@ -207,14 +207,14 @@ node-held flow base n o held =
 -- ---- a node and the cells that its steps lead to
 
 -- the arrays that a node takes when the flow is evaluated
-abbrev taken : Graph → List Grid → ℕ → List Grid
+abbrev pub taken : Graph → List Grid → ℕ → List Grid
 taken flow base n = inputs_of flow base (evaluations flow base) n
 
-abbrev step : ℕ → ℕ → Step
+abbrev pub step : ℕ → ℕ → Step
 step n i = record { node = n; input = i }
 
 -- at each node, where the values are one at the cells to which its steps lead from a cell, that has one value
-abbrev Local : (Step → Cell → Cell → Type 0) → (Node → Type 0) → Graph → List Grid → List Grid → Type 0
+abbrev pub Local : (Step → Cell → Cell → Type 0) → (Node → Type 0) → Graph → List Grid → List Grid → Type 0
 Local leads fine flow old new = (n : ℕ) (x : Node) (o : Cell) → slice_get flow.nodes n ≡ Some x → fine x
     → holds (extent_of (evaluations flow old) n) o ≡ true
     → ((i : ℕ) (y : Cell) → i < length x.from → holds (extent_of (taken flow old n) i) y ≡ true
@@ -223,7 +223,7 @@ Local leads fine flow old new = (n : ℕ) (x : Node) (o : Cell) → slice_get fl
     → value_at (input_at (evaluations flow old) n) o ≡ value_at (input_at (evaluations flow new) n) o
 
 -- the shape of an array that a node takes
-taken-extent : (flow : Graph) (base : List Grid) (ins : List Extent) (n i : ℕ) (x : Node)
+pub taken-extent : (flow : Graph) (base : List Grid) (ins : List Extent) (n i : ℕ) (x : Node)
     → slice_get flow.nodes n ≡ Some x
     → extents_of (map (array_of base (evaluations flow base)) x.from) ≡ ins
     → extent_of (taken flow base n) i ≡ extent_at ins i
@@ -255,15 +255,15 @@ outs-same flow old new first second same =
     (sym (fits-of flow new second).fits ∙ ap (output_shapes flow) (sym same) ∙ (fits-of flow old first).fits)
 
 -- what is known of a node in both runs
-record Both (flow : Graph) (old new : List Grid) (n : ℕ) (x : Node) (s : Site) : Type 0 where
-  op : s.op ≡ x.op
-  arity : length s.ins ≡ length x.from
-  out : s.out ≡ (input_at (evaluations flow old) n).extent
-  out_new : s.out ≡ (input_at (evaluations flow new) n).extent
-  work : IsAtWork s (map (array_of old (evaluations flow old)) x.from)
-  work_new : IsAtWork s (map (array_of new (evaluations flow new)) x.from)
+pub record Both (flow : Graph) (old new : List Grid) (n : ℕ) (x : Node) (s : Site) : Type 0 where
+  pub op : s.op ≡ x.op
+  pub arity : length s.ins ≡ length x.from
+  pub out : s.out ≡ (input_at (evaluations flow old) n).extent
+  pub out_new : s.out ≡ (input_at (evaluations flow new) n).extent
+  pub work : IsAtWork s (map (array_of old (evaluations flow old)) x.from)
+  pub work_new : IsAtWork s (map (array_of new (evaluations flow new)) x.from)
 
-both-runs : (flow : Graph) (old new : List Grid) (n : ℕ) (x : Node) → CanRun flow old → CanRun flow new
+pub both-runs : (flow : Graph) (old new : List Grid) (n : ℕ) (x : Node) → CanRun flow old → CanRun flow new
     → extents_of old ≡ extents_of new → slice_get flow.nodes n ≡ Some x
     → Both flow old new n x (site (extents_of old) (extents_of (evaluations flow old)) n x)
 both-runs flow old new n x first second same there =
@@ -281,7 +281,7 @@ both-runs flow old new n x first second same there =
     }
 
 -- where the steps lead to each cell that a test picks, the arrays that the node takes agree on these
-agree-where : (leads : Step → Cell → Cell → Type 0) (test : ℕ → Cell → Bool) (flow : Graph) (old new : List Grid)
+pub agree-where : (leads : Step → Cell → Cell → Type 0) (test : ℕ → Cell → Bool) (flow : Graph) (old new : List Grid)
     (n : ℕ) (x : Node) (s : Site) (o : Cell) → slice_get flow.nodes n ≡ Some x → Both flow old new n x s
     → ((i : ℕ) (y : Cell) → holds (extent_at s.ins i) y ≡ true → test i y ≡ true → leads (step n i) o y)
     → ((i : ℕ) (y : Cell) → i < length x.from → holds (extent_of (taken flow old n) i) y ≡ true
@@ -297,7 +297,7 @@ agree-where leads test flow old new n x s o there both lead agrees i y inside he
     ∙ ap (λ (gs : List Grid). value_at (input_at gs i) y) (inputs-at flow new (evaluations flow new) n x there)
 
 -- a value of the operator is one of the output
-local-value : (flow : Graph) (old new : List Grid) (n : ℕ) (x : Node) (s : Site) (o : Cell)
+pub local-value : (flow : Graph) (old new : List Grid) (n : ℕ) (x : Node) (s : Site) (o : Cell)
     → is_well_formed flow ≡ true → slice_get flow.nodes n ≡ Some x → Both flow old new n x s
     → holds (extent_of (evaluations flow old) n) o ≡ true
     → (holds s.out o ≡ true → value_of s.op (map (array_of old (evaluations flow old)) x.from) o
@@ -350,19 +350,19 @@ local-either flow old new first second same n x o there any held agrees =
 -- ---- going down
 
 -- base arrays agree on what is led to, along each joined path back from a node
-abbrev Agree : (Step → Cell → Cell → Type 0) → Graph → List Grid → List Grid → ℕ → Cell → Type 0
+abbrev pub Agree : (Step → Cell → Cell → Type 0) → Graph → List Grid → List Grid → ℕ → Cell → Type 0
 Agree leads flow old new n o = (path : List Step) (b : ℕ) (cells : List Cell) (x : Cell)
     → are_joined Back flow path ≡ true → BeginsAt n path → EndsIn flow path b
     → LeadsAlong leads path o cells x
     → value_at (input_at old b) x ≡ value_at (input_at new b) x
 
 -- each node that such a path passes is fine
-abbrev Clear : (Node → Type 0) → Graph → ℕ → Type 0
+abbrev pub Clear : (Node → Type 0) → Graph → ℕ → Type 0
 Clear fine flow n = (path : List Step) → are_joined Back flow path ≡ true → BeginsAt n path
     → All (λ s. (x : Node) → slice_get flow.nodes s.node ≡ Some x → fine x) path
 
 -- the node of a step takes the output of an earlier one, and its step goes before the paths from there
-joined-on : (flow : Graph) (s t : Step) (path : List Step) → source_of flow s ≡ Some (source.Node t.node)
+pub joined-on : (flow : Graph) (s t : Step) (path : List Step) → source_of flow s ≡ Some (source.Node t.node)
     → are_joined Back flow (t ∷ path) ≡ true → are_joined Back flow (s ∷ t ∷ path) ≡ true
 joined-on flow s t path takes joined =
     and_from (is_there (source_of flow s) && follows Back flow s t) (are_joined Back flow (t ∷ path))
@@ -378,7 +378,7 @@ clear-on fine flow s m takes clear (t ∷ path) joined begins =
     All-tail (λ r. (x : Node) → slice_get flow.nodes r.node ≡ Some x → fine x) s (t ∷ path)
     (clear (s ∷ t ∷ path) (joined-on flow s t path here joined) refl)
 
-agree-on : (leads : Step → Cell → Cell → Type 0) (flow : Graph) (old new : List Grid) (s : Step) (m : ℕ) (o y : Cell)
+pub agree-on : (leads : Step → Cell → Cell → Type 0) (flow : Graph) (old new : List Grid) (s : Step) (m : ℕ) (o y : Cell)
     → source_of flow s ≡ Some (source.Node m) → leads s o y
     → Agree leads flow old new s.node o → Agree leads flow old new m y
 agree-on leads flow old new s m o y takes led agree [] b cells x joined begins ends chain = absurd begins
@@ -388,19 +388,19 @@ agree-on leads flow old new s m o y takes led agree (t ∷ path) b cells x joine
     agree (s ∷ t ∷ path) b (y ∷ cells) x (joined-on flow s t path here joined) refl ends (led, chain)
 
 -- a source of a list of sources
-source-there : (from : List SourceRef) (i : ℕ) → i < length from → (s : SourceRef) × (slice_get from i ≡ Some s)
+pub source-there : (from : List SourceRef) (i : ℕ) → i < length from → (s : SourceRef) × (slice_get from i ≡ Some s)
 source-there [] i inside = absurd (omega arith)
 source-there (s ∷ from) zero inside = (s, refl)
 source-there (s ∷ from) (suc i) inside = source-there from i (omega arith)
 
 -- the array of a source
-array-at : (f : SourceRef → Grid) (from : List SourceRef) (i : ℕ) (s : SourceRef) → slice_get from i ≡ Some s
+pub array-at : (f : SourceRef → Grid) (from : List SourceRef) (i : ℕ) (s : SourceRef) → slice_get from i ≡ Some s
     → input_at (map f from) i ≡ f s
 array-at f [] i s h = (cc)
 array-at f (r ∷ from) zero s h = let same : r ≡ s = (cc) in ap f same
 array-at f (r ∷ from) (suc i) s h = array-at f from i s h
 
-taken-at : (flow : Graph) (base : List Grid) (n i : ℕ) (x : Node) (s : SourceRef) → slice_get flow.nodes n ≡ Some x
+pub taken-at : (flow : Graph) (base : List Grid) (n i : ℕ) (x : Node) (s : SourceRef) → slice_get flow.nodes n ≡ Some x
     → slice_get x.from i ≡ Some s
     → input_at (taken flow base n) i ≡ array_of base (evaluations flow base) s
 taken-at flow base n i x s there takes =
@@ -408,7 +408,7 @@ taken-at flow base n i x s there takes =
     ∙ array-at (array_of base (evaluations flow base)) x.from i s takes
 
 -- the node of a step that takes the output of a node comes later
-earlier : (flow : Graph) (s : Step) (x : Node) (m : ℕ) → is_well_formed flow ≡ true
+pub earlier : (flow : Graph) (s : Step) (x : Node) (m : ℕ) → is_well_formed flow ≡ true
     → slice_get flow.nodes s.node ≡ Some x → slice_get x.from s.input ≡ Some (source.Node m) → m < s.node
 earlier flow s x m right there takes =
     ltb-true m s.node
@@ -467,7 +467,7 @@ fine-here fine flow n x right there clear =
     All-head (λ s. (y : Node) → slice_get flow.nodes s.node ≡ Some y → fine y) (step n 0) []
     (clear (step n 0 ∷ []) (ap is_there ends) refl) x there
 
-depends : (leads : Step → Cell → Cell → Type 0) (fine : Node → Type 0) (flow : Graph) (old new : List Grid)
+pub depends : (leads : Step → Cell → Cell → Type 0) (fine : Node → Type 0) (flow : Graph) (old new : List Grid)
     → is_well_formed flow ≡ true → Local leads fine flow old new → (k n : ℕ) (o : Cell) → n < k
     → holds (extent_of (evaluations flow old) n) o ≡ true → Clear fine flow n → Agree leads flow old new n o
     → value_at (input_at (evaluations flow old) n) o ≡ value_at (input_at (evaluations flow new) n) o
@@ -490,7 +490,7 @@ depends leads fine flow old new right each (suc k) n o low held clear agree =
 -- ---- paths are short
 
 -- a source that is the output of a node
-output-of_node : (o : Option SourceRef) (m : ℕ) → is_output_of m o ≡ true → o ≡ Some (source.Node m)
+pub output-of_node : (o : Option SourceRef) (m : ℕ) → is_output_of m o ≡ true → o ≡ Some (source.Node m)
 output-of_node None m h = (cc)
 output-of_node (Some (source.Input i)) m h = (cc)
 output-of_node (Some (source.Node k)) m h = ap (λ (j : ℕ). Some (source.Node j)) (eqb-true k m h)
@@ -510,7 +510,7 @@ path-short flow (s ∷ t ∷ path) n right joined begins =
     omega (arith, path-short flow (t ∷ path) t.node right rest refl, less, begins)
 
 -- so it is a path of 1 to 32 steps
-path-whole : (flow : Graph) (path : List Step) (n : ℕ) (x : Node) → is_well_formed flow ≡ true
+pub path-whole : (flow : Graph) (path : List Step) (n : ℕ) (x : Node) → is_well_formed flow ≡ true
     → slice_get flow.nodes n ≡ Some x
     → are_joined Back flow path ≡ true → BeginsAt n path → is_joined Back flow path ≡ true
 path-whole flow [] n x right there joined begins = absurd begins
@@ -525,7 +525,7 @@ path-whole flow (s ∷ path) n x right there joined begins =
 -- ---- the laws
 
 -- a flow that can be run over base arrays can be run over others of the same shapes
-can-run : (flow : Graph) (old new : List Grid) → CanRun flow old → extents_of old ≡ extents_of new → CanRun flow new
+pub can-run : (flow : Graph) (old new : List Grid) → CanRun flow old → extents_of old ≡ extents_of new → CanRun flow new
 can-run flow old new run same = record {
   right = run.right;
   count = sym (length-map new (λ (g : Grid). g.extent)) ∙ ap length (sym same)
