@@ -23,8 +23,8 @@ use sz_script::{Name, PathStep};
 use sz_spec::{Array, Dir, Flow, SourceRef, output_shapes};
 
 /// A run of a flow: the flow and the name under which it is held, its base arrays, the strategies
-/// of its nodes as they were at the start, one list a node, whether it was awaited, and what is kept
-/// with it, which belongs to it.
+/// of its nodes as they were at the start, one list a node, whether it was awaited, and what is
+/// kept with it, which belongs to it.
 #[derive(Drop)]
 pub struct HeldVersion<K: Carried> {
     pub flow_name: Name,

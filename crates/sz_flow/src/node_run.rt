@@ -20,7 +20,8 @@ pub struct NodeRun {
     pub inputs: ArrayList,
     /// What was prepared for the operator and these arrays, shared with whoever makes pieces of its
     /// lineage. Nothing else reads it once the output is there. After a run it is what values need,
-    /// which is little; pieces are to be made by what [`NodeRun::prepare_lineage`] puts in its place.
+    /// which is little; pieces are to be made by what [`NodeRun::prepare_lineage`] puts in its
+    /// place.
     pub aid: Arc<Aid>,
     /// Its output.
     pub out: Arc<Array>,

@@ -1,7 +1,7 @@
 -- Trees of rectangles beside a table of region pairs.
 --
--- The key idea: rectangles are only added, one to each tree for each region pair, so those that were round their sets stay
--- so; and the room of a store is the least room of its parts.
+-- The key idea: rectangles are only added, one to each tree for each region pair, so those that were round their sets
+-- stay so; and the room of a store is the least room of its parts.
 use Rattle.std.proofs.Common.{◌≡◌, ℕ, zero, suc, ◌+◌, ◌-◌, ◌<◌, ◌≤◌, min, List, [], ◌∷◌, ◌++◌, length, map, get_or}
 use Rattle.std.proofs.Common.{All, refl, sym, ap, subst, ◌∙◌, arith}
 use Rattle.std.specs.List.{AllZip}

@@ -1,7 +1,7 @@
 -- Looks by rectangles.
 --
--- The key idea: where two rectangles share no cell, two sets within them share none. So a region pair whose rectangle does
--- not overlap that of the asked cells adds nothing, and a look may pass over it.
+-- The key idea: where two rectangles share no cell, two sets within them share none. So a region pair whose rectangle
+-- does not overlap that of the asked cells adds nothing, and a look may pass over it.
 use Rattle.std.proofs.Common.{◌≡◌, ℕ, zero, suc, ◌+◌, ◌-◌, ◌<◌, ◌≤◌, Bool, true, false, ◌&&◌, ◌||◌}
 use Rattle.std.proofs.Common.{List, [], ◌∷◌, length, take, get_or, Option, Some, None}
 use Rattle.std.proofs.Common.{refl, sym, ap, subst, ◌∙◌, arith}
@@ -106,7 +106,8 @@ round-long dir i rs rectangles round = AllZip-long (λ r c. IsRound c (near_set 
 
 -- where no cell is asked, no region pair adds one
 none-asked : (dir : Dir) (i : ℕ) (from : Cells) (rs : List Pairing) (x : Cell)
-    → from ≡ cells_where from.extent (has from) → ((c : Cell) → has from c ≡ true → ⊥) → pairs_add dir i from rs x ≡ false
+    → from ≡ cells_where from.extent (has from) → ((c : Cell) → has from c ≡ true → ⊥) → pairs_add dir i
+    from rs x ≡ false
 none-asked dir i from [] x own asked = refl
 none-asked dir i from (r ∷ rs) x own asked =
     rw (

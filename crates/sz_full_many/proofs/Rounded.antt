@@ -1,7 +1,7 @@
 -- Rectangles round sets.
 --
--- The key idea: a walk over the cells of a set meets the next one each time, and between two it meets none; so a rectangle
--- that was made wider for each is round all whose numbers are below the one to which the walk has come.
+-- The key idea: a walk over the cells of a set meets the next one each time, and between two it meets none; so a
+-- rectangle that was made wider for each is round all whose numbers are below the one to which the walk has come.
 use Rattle.std.proofs.Common.{◌≡◌, ℕ, ◌+◌, ◌<◌, ◌≤◌, true, false, true≢false, Option, Some, None}
 use Rattle.std.proofs.Common.{sym, ap, subst, ◌∙◌, arith, inl, inr}
 use Rattle.std.specs.Prelude.{IsSomeAnd, IfSome}

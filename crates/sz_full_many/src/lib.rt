@@ -9,8 +9,8 @@
 //! - [`FullMany::reserve_piece`] takes the memory for the region pairs of a lineage.
 //! - [`FullMany::add_piece`] adds them, and takes none.
 //! - [`FullMany::image`] adds the image of a set of cells, backward or forward.
-//! - [`FullMany::put_bytes`] writes its region pairs, and [`FullMany::take_bytes`] reads them again,
-//!   for looks of either direction.
+//! - [`FullMany::put_bytes`] writes its region pairs, and [`FullMany::take_bytes`] reads them
+//!   again, for looks of either direction.
 //!
 //! ```
 //! let mut store = FullMany::new(alloc, at, Dir::Back)?;

@@ -24,13 +24,15 @@ filed-none f item =
 -- keys filed after keys
 under-append : (ks more : List ℕ) (item : ℕ) → under (ks ++ more) item ≡ under ks item ++ under more item
 under-append [] more item = refl
-under-append (k ∷ ks) more item = ap (λ (es : List Filed). record { key = k; item = item } ∷ es) (under-append ks more item)
+under-append (k ∷ ks) more item = ap (λ (es : List Filed). record { key = k; item = item } ∷ es)
+    (under-append ks more item)
 
 pub filed-more : (f : Files) (ks more : List ℕ) (item : ℕ) → with_filed (with_filed f ks item) more item
     ≡ with_filed f (ks ++ more) item
 filed-more f ks more item =
     let make : List Filed → ℕ → Files = λ es room. record f { entries = es; spare = room } in
-    let room : f.spare - length ks - length more ≡ f.spare - length (ks ++ more) = omega (arith, length-append ks more) in
+    let room : f.spare - length ks - length more ≡ f.spare - length (ks ++ more) =
+    omega (arith, length-append ks more) in
     ap₂ make (append_assoc f.entries (under ks item) (under more item) ∙ ap (λ (es : List Filed). f.entries ++ es)
     (sym (under-append ks more item))) room
 

@@ -1,7 +1,8 @@
 -- A walk along the entries of one key, from the last of them down.
 --
--- The key idea: what the entries from a number on add is a test of cells. Between two entries of the key none has it, so
--- the step to the one before widens the test by just what its item adds, and past the first of them it is what all add.
+-- The key idea: what the entries from a number on add is a test of cells. Between two entries of the key none has it,
+-- so the step to the one before widens the test by just what its item adds, and past the first of them it is what all
+-- add.
 use Rattle.std.proofs.Common.{inl, inr, true≢false, ◌≡◌, ◌≢◌, ℕ, zero, suc, ◌+◌, ◌-◌, ◌<◌, ◌≤◌, ◌==◌}
 use Rattle.std.proofs.Common.{Bool, true, false, ◌&&◌, ◌||◌, List, [], ◌∷◌, ◌++◌, map, Some, None, Option}
 use Rattle.std.proofs.Common.{length, take, drop, get_or, refl, sym, ap, ap₂, subst, ◌∙◌, arith, eq-eqb, ne_eqb}

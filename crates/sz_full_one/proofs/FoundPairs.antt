@@ -298,7 +298,8 @@ back-found t f i cell x filed named input inside =
     (λ k d below.
     let row : Row = get_or t.rows k d in
     let first : 0 + k ≡ k = omega arith in
-    let shape = of-map (λ (r : Pairing). r.out.extent ≡ t.out) (pairing_of t.outs t.sets) t.rows filed.shapes k d below in
+    let shape =
+    of-map (λ (r : Pairing). r.out.extent ≡ t.out) (pairing_of t.outs t.sets) t.rows filed.shapes k d below in
     let is : IsRowOf t row = named k d below in
     ap₂ (λ (a b : Bool). a && b)
     (sym (has-index (set_at t.outs row.out) t.out cell shape inside))

@@ -1,4 +1,5 @@
--- Where a look finds region pairs: sets filed by their cells, and rows by the numbers of their sets.
+-- Where a look finds region pairs: sets filed by their cells, and rows by the numbers of their
+-- sets.
 use Rattle.std.specs.Prelude.{◌≡◌, ℕ, ◌+◌, ◌-◌, ◌≤◌, ◌==◌, Bool, ◌&&◌, List, [], ◌∷◌, ◌++◌, map}
 use Rattle.std.specs.Prelude.{◌<◌, length, sum_by, All, Option, MatchOption, slice_index_or}
 use Rattle.std.specs.List.{list_any}

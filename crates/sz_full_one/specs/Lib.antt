@@ -1,2 +1,3 @@
--- Where a look finds region pairs: sets filed by their cells, and rows by the numbers of their sets.
+-- Where a look finds region pairs: sets filed by their cells, and rows by the numbers of their
+-- sets.
 pub mod ByCells

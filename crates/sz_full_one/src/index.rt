@@ -71,7 +71,8 @@ impl Index {
         requires few { length table.now.ins ≤ 2 }
         requires room { HasRoom (pair_cells region.now) 1 self.old }
         ensures index { IsIndexOf table.now self.new }
-        ensures room { (cells count : ℕ) → HasRoom (pair_cells region.now + cells) (count + 1) self.old
+        ensures room { (cells count : ℕ)
+            → HasRoom (pair_cells region.now + cells) (count + 1) self.old
             → HasRoom cells count self.new }
         ensures side { side_of self.new ≡ side_of self.old }
     {

@@ -1,6 +1,6 @@
 //! The calls of all operators, each that of the operator's crate.
 
-ghost use Rattle.std.specs.Prelude.{◌≡◌, ◌<◌, ◌+◌, ◌^◌, true, length, map, All, IfOk, OnOk};
+ghost use Rattle.std.specs.Prelude.{◌≡◌, ◌<◌, ◌+◌, ◌^◌, true, length, map, All, IfOk, OnOk, OnErr};
 ghost use Rattle.std.specs.Arc.{arc_value};
 ghost use Rattle.sz_cells.specs.Extent.{holds, size_of};
 ghost use Rattle.sz_cells.specs.Cells.{has, with_those};
@@ -12,7 +12,7 @@ ghost use Rattle.sz_spec.specs.Pieces.{pieces_of};
 ghost use Rattle.sz_region.specs.Fits.{Fits};
 ghost use Rattle.sz_spec.specs.Sides.{near_side, far_side, image_in};
 ghost use Rattle.sz_region.specs.Images.{measure_of};
-ghost use Rattle.sz_region.specs.Written.{cells_in_piece};
+ghost use Rattle.sz_region.specs.Written.{cells_in_piece, parts_by};
 ghost use Rattle.sz_ops.specs.Aids.{aid_of};
 
 use crate::aid::Aid;
@@ -23,8 +23,8 @@ use sz_cells::{Cell, CellBits, NoMemory};
 use sz_region::{AtWork, MapOf, PieceLineage, image_by, piece_by, run_by, trace_by};
 use sz_spec::{Array, Dir, Op, OpAt, Strategy, Tally, Value};
 
-/// What is prepared for an operator and these inputs: what its values need. For connected regions it
-/// takes time and memory in the number of cells, of which a word a cell is kept, for the others
+/// What is prepared for an operator and these inputs: what its values need. For connected regions
+/// it takes time and memory in the number of cells, of which a word a cell is kept, for the others
 /// none.
 pub fn prepare(alloc: Global, at: &OpAt, inputs: &[Arc<Array>]) -> Result<Aid, NoMemory>
     requires inputs { extents_of (map (λ a. arc_value a) inputs.now) ≡ at.now.ins }
@@ -126,9 +126,12 @@ pub fn piece(
     requires supported { All (λ s. supports at.now.op s ≡ true) list.now }
     requires room { tally.old + cells_in_piece at.now.out k < 2 ^ 63 }
     ensures piece { IfOk result (λ p. p.piece ≡ k) }
+    ensures written { IfOk result
+        (λ p. p ≡ parts_by at.now (map (λ a. arc_value a) inputs.now) list.now k) }
     ensures fits { IfOk result
         (λ p. Fits (measure_of at.now (map (λ a. arc_value a) inputs.now)) list.now k p) }
     ensures ticks { OnOk result (tally.new ≡ tally.old + cells_in_piece at.now.out k) }
+    ensures kept { OnErr result (tally.new ≡ tally.old) }
 {
     sz_region::at_work(at, inputs);
     at_work!(

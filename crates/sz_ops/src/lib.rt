@@ -2,10 +2,10 @@
 //!
 //! An operator at its shapes is an [`OpAt`](sz_spec::OpAt), and each call takes it with its inputs:
 //! shared arrays, in their order, each of the shape that it has there. [`prepare`] makes once what
-//! an operator's values need, and [`prepare_lineage`] what its lineage needs; [`value_at`] gives one
-//! value and [`run`] the whole output, [`piece`] the lineage of 64 cells of it as strategies need
-//! it, [`trace`] the image of a set of cells by going through the operator's cells again, and for an
-//! operator with a mapping [`image_by_map`] the image by that.
+//! an operator's values need, and [`prepare_lineage`] what its lineage needs; [`value_at`] gives
+//! one value and [`run`] the whole output, [`piece`] the lineage of 64 cells of it as strategies
+//! need it, [`trace`] the image of a set of cells by going through the operator's cells again, and
+//! for an operator with a mapping [`image_by_map`] the image by that.
 //!
 //! ```
 //! let at = OpAt::of(Op::Transpose, vec![in alloc; sky.shape()]?)?;

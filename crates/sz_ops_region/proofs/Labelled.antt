@@ -99,7 +99,8 @@ label-word e words k firsts below =
           let first = firsts k r is in
           let own : is_one_label word (get_or words r 0) ≡ true =
           and_from _ _ (lt-ltb 0 word (omega (arith, some.1))) (eq-eqb word (get_or words r 0) (is ∙ sym first.1)) in
-          label-least (λ l. is_one_label word (get_or words l 0)) r 0 n (omega arith) (omega (arith, first.0, below)) own
+          label-least (λ l. is_one_label word (get_or words l 0)) r 0 n (omega arith)
+          (omega (arith, first.0, below)) own
           (λ j more less.
           false_from_ne_true (is_one_label word (get_or words j 0))
           (λ there.

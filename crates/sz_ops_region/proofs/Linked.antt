@@ -12,7 +12,8 @@ use Rattle.std.specs.List.{range_with_len, slice_get}
 use Rattle.std.proofs.lemmas.Option.{unwrap_or-slice_get}
 use Rattle.sz_spec.specs.Operators.Clean.{is_at_least}
 use Rattle.std.proofs.Math.ListN.{set, length-set}
-use Rattle.std.proofs.lemmas.Bool.{cases_Bool, true≢false, eq-eqb, ne_eqb, and_parts, and_from, eqb-true, ltb-true, ltb-false}
+use Rattle.std.proofs.lemmas.Bool.{cases_Bool, true≢false, eq-eqb, ne_eqb, and_parts, and_from, eqb-true, ltb-true}
+use Rattle.std.proofs.lemmas.Bool.{ltb-false}
 use Rattle.std.proofs.lemmas.Bool.Decides.{eqb_tells}
 use Rattle.sz_cells.specs.declared.Cell.{Cell}
 use Rattle.sz_cells.specs.Extent.{Extent, size_of, holds, index_of, cell_of, layer_of}
@@ -294,7 +295,8 @@ linking-beside t g words later root cell left above word f held high on_left on_
                 let some_above : 0 < above = omega (arith, other.1) in
                 let both : (k : ℕ) → now k ≡ merged root a b k =
                 λ k. merged_by-both root left above k some_left some_above in
-                let to_a = joined-word t g words n root cell Left left a f held high on_left (omega (arith, some_left)) in
+                let to_a =
+                joined-word t g words n root cell Left left a f held high on_left (omega (arith, some_left)) in
                 let to_b = joined-word t g words n root cell Above above b f held high on_above
                 (omega (arith, some_above)) in
                 let whole = linking-united t g words later n a b root f united.0 united.1 united.2

@@ -377,7 +377,8 @@ beside-one words root index left above word roots has_left has_above one is =
     let left_taken : left ≢ 0 → word ≡ left = λ some. is ∙ taken-left left above (1 + index) some in
     let above_taken : left ≡ 0 → above ≢ 0 → word ≡ above =
     λ none some. is ∙ taken-above left above (1 + index) none some in
-    let own : left ≡ 0 → above ≡ 0 → word ≡ 1 + index = λ none also. is ∙ taken-own left above (1 + index) none also in (
+    let own : left ≡ 0 → above ≡ 0 → word ≡ 1 + index =
+    λ none also. is ∙ taken-own left above (1 + index) none also in (
       roots-same words root after same roots,
       record {
         itself = own;

@@ -1,6 +1,6 @@
 //! What is prepared for the operator, and its calls that go by that.
 
-ghost use Rattle.std.specs.Prelude.{◌≡◌, ◌<◌, ◌+◌, ◌^◌, true, map, All, IfOk, OnOk};
+ghost use Rattle.std.specs.Prelude.{◌≡◌, ◌<◌, ◌+◌, ◌^◌, true, map, All, IfOk, OnOk, OnErr};
 ghost use Rattle.std.specs.Arc.{arc_value};
 ghost use Rattle.sz_cells.specs.Extent.{holds};
 ghost use Rattle.sz_spec.specs.Values.{extents_of};
@@ -9,7 +9,7 @@ ghost use Rattle.sz_spec.specs.Modes.{supports};
 ghost use Rattle.sz_spec.specs.Pieces.{pieces_of};
 ghost use Rattle.sz_region.specs.Fits.{Fits};
 ghost use Rattle.sz_region.specs.Images.{measure_of};
-ghost use Rattle.sz_region.specs.Written.{cells_in_piece};
+ghost use Rattle.sz_region.specs.Written.{cells_in_piece, parts_by};
 ghost use Rattle.sz_ops_region.specs.Regions.{is_regions, aid_of};
 
 use crate::aid::{Aid, Kept};
@@ -112,9 +112,12 @@ pub fn piece(
     requires supported { All (λ s. supports at.now.op s ≡ true) list.now }
     requires room { tally.old + cells_in_piece at.now.out k < 2 ^ 63 }
     ensures piece { IfOk result (λ p. p.piece ≡ k) }
+    ensures written { IfOk result
+        (λ p. p ≡ parts_by at.now (map (λ a. arc_value a) inputs.now) list.now k) }
     ensures fits { IfOk result
         (λ p. Fits (measure_of at.now (map (λ a. arc_value a) inputs.now)) list.now k p) }
     ensures ticks { OnOk result (tally.new ≡ tally.old + cells_in_piece at.now.out k) }
+    ensures kept { OnErr result (tally.new ≡ tally.old) }
 {
     match aid.kept() {
         Kept::Labels(_) => {
@@ -142,9 +145,12 @@ fn piece_over(
     requires supported { All (λ s. supports at.now.op s ≡ true) list.now }
     requires room { tally.old + cells_in_piece at.now.out k < 2 ^ 63 }
     ensures piece { IfOk result (λ p. p.piece ≡ k) }
+    ensures written { IfOk result
+        (λ p. p ≡ parts_by at.now (map (λ a. arc_value a) inputs.now) list.now k) }
     ensures fits { IfOk result
         (λ p. Fits (measure_of at.now (map (λ a. arc_value a) inputs.now)) list.now k p) }
     ensures ticks { OnOk result (tally.new ≡ tally.old + cells_in_piece at.now.out k) }
+    ensures kept { OnErr result (tally.new ≡ tally.old) }
 {
     let t = threshold(at);
     piece_by(alloc, &Labelling { at, inputs, aid, t }, k, list, tally)

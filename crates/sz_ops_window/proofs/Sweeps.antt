@@ -4,7 +4,8 @@
 -- its weight times the number under it, or nothing where the cell under it is empty. One that adds nothing leaves
 -- nothing, whatever the others add.
 use Rattle.std.proofs.Common.{◌≡◌, ℕ, zero, suc, ◌+◌, ◌-◌, ◌*◌, ◌/◌, ◌%◌, ◌^◌, ◌<◌, ◌≤◌, ◌⊎◌, true, false}
-use Rattle.std.proofs.Common.{Option, Some, None, List, get_or, ◌++◌, ◌∷◌, [], refl, sym, ap, ap₂, subst, ◌∙◌, arith, inl, inr, length}
+use Rattle.std.proofs.Common.{Option, Some, None, List, get_or, ◌++◌, ◌∷◌, [], refl, sym, ap, ap₂, subst, ◌∙◌, arith}
+use Rattle.std.proofs.Common.{inl, inr, length}
 use Rattle.std.proofs.Common.{lt-ltb, FitsSigned, w32}
 use Rattle.std.specs.Prelude.{ℤ, pos, ◌+ℤ◌, ◌*ℤ◌, negsuc, nat_le, nat_lt, min, option_and_then}
 use Rattle.std.specs.Prelude.{Bool, ◌||◌, is_none}
@@ -31,7 +32,8 @@ use Rattle.sz_region.proofs.Added.{values-next}
 use Rattle.sz_spec.specs.Weights.{Weights, is_zero, tap_at, is_kernel}
 use Rattle.sz_ops_window.specs.Sums.{times, part_of, sum_from, reach_of}
 use Rattle.sz_ops_window.specs.Sweeps.{is_small, number_of, IsPlain, AreNumbers, IsSmooth, AreSums, AreVoids, unless}
-use Rattle.sz_ops_window.proofs.Sums.{IsUnder, is-under, part-in, rows-within, row-out, col-out, kernel-some, kernel-sides, convolved-sum}
+use Rattle.sz_ops_window.proofs.Sums.{IsUnder, is-under, part-in, rows-within, row-out, col-out, kernel-some}
+use Rattle.sz_ops_window.proofs.Sums.{kernel-sides, convolved-sum}
 use Rattle.sz_ops_window.proofs.Sums.{plus, sum-parts, sum-one}
 use Rattle.sz_ops_window.proofs.Walks.{abs-plus}
 
@@ -300,7 +302,8 @@ one-value s inputs w row c g v so_far new is work low same value made more_one =
     let n = row * s.out.cols + c in
     let next : n + 1 ≡ row * s.out.cols + (c + 1) = omega arith in
     values-next s inputs n (cell_of s.out n) v so_far new made refl
-    (value ∙ ap (λ (h : Grid). convolved_at w h (at row c)) same ∙ sym (row-value s inputs w row c is work low)) more_one
+    (value ∙ ap (λ (h : Grid). convolved_at w h (at row c)) same ∙ sym (row-value s inputs w row c is work low))
+    more_one
     ∙ ap (values_before s inputs) next
 
 -- a small sum is the value

@@ -1,5 +1,6 @@
 -- Sums of a whole row under a kernel, tap by tap.
-use Rattle.std.specs.Prelude.{◌≡◌, ℕ, ℤ, pos, ◌+◌, ◌-◌, ◌*◌, ◌/◌, ◌<◌, ◌≤◌, nat_le, Bool, true, false}
+use Rattle.std.specs.Prelude.{◌≡◌, ℕ, ℤ, pos, ◌+◌, ◌-◌, ◌*◌, ◌/◌, ◌<◌, ◌≤◌, nat_le, Bool, true}
+use Rattle.std.specs.Prelude.{false}
 use Rattle.std.specs.Prelude.{List, Option, Some, None, if◌then◌else◌, slice_index_or, length}
 use Rattle.std.specs.Prelude.{is_none}
 use Rattle.std.specs.Int.RustNames.{unsigned_abs}

@@ -230,7 +230,8 @@ pub lone-set : (s : Site) (to : Cells) (es : List Entry) (cell o : Cell) → has
     → cell ≡ o → has_entry es o ≡ false → with_cell to cell ≡ with_those to (λ y. lone s es 0 y o)
 lone-set s to es cell o none at out =
     with-ext to (λ y. is_same y cell) (λ y. lone s es 0 y o) (λ y held.
-    let first : mapped s.op s.ins 0 y o ≡ is_same y cell = own-default s.op s.ins 0 y o none refl ∙ ap (is_same y) (sym at) in
+    let first : mapped s.op s.ins 0 y o ≡ is_same y cell =
+    own-default s.op s.ins 0 y o none refl ∙ ap (is_same y) (sym at) in
     elim (cases_Bool (is_same y cell)) [
       | inl there ↦
           let free : has_entry es y ≡ false = ap (has_entry es) (is_same-true y cell there ∙ at) ∙ out in

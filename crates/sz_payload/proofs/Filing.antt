@@ -111,7 +111,8 @@ files-more shape es e set old new row same is at count files =
     let f : ℕ → Filed = λ k. record { key = k % old.keys; item = row } in
     subst (AreFilesOf shape (es ++ e ∷ [])) (sym is) (record {
       keys = files.keys;
-      items = all-join (λ (x : Filed). x.item < length es) (λ (x : Filed). x.item < length (es ++ e ∷ [])) old.entries more
+      items = all-join (λ (x : Filed). x.item < length es) (λ (x : Filed). x.item < length (es ++ e ∷ []))
+          old.entries more
           files.items (λ x below. omega (arith, long-more es e))
           (λ n d below. rw (get_or-map f set.indexes n 0 d (omega (arith, length-map set.indexes f)))
           (omega (arith, long-more es e)));

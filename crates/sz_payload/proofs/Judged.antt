@@ -126,7 +126,8 @@ pub judged-more : (s : Site) (bytes : List ℕ) (place next n : ℕ) (payloads :
     → is_payload s.op s.ins (get_or payloads n []) ≡ true → IsJudged s bytes next (n + 1) payloads rest
 judged-more s bytes place next n payloads rest inside judged here lawful = record {
   here = here;
-  lawful = rw (take_more payloads n [] inside) (all-end (λ (p : List ℕ). is_payload s.op s.ins p ≡ true) (take n payloads)
+  lawful = rw (take_more payloads n [] inside) (all-end (λ (p : List ℕ). is_payload s.op s.ins p ≡ true)
+      (take n payloads)
       (get_or payloads n []) judged.lawful lawful);
 }
 
@@ -145,7 +146,8 @@ table-of s bytes at next es b = record {
   few = b.is_word.few_payloads;
   spelled = b.spelled ∙ ap (λ (xs : List ℕ). xs ++ b.rest) b.is_word.spelled
       ∙ append_assoc (counted payload_bytes b.payloads ++ counted set_bytes b.sets) (rows_bytes b.is_word.names) b.rest
-      ∙ append_assoc (counted payload_bytes b.payloads) (counted set_bytes b.sets) (rows_bytes b.is_word.names ++ b.rest);
+      ∙ append_assoc (counted payload_bytes b.payloads) (counted set_bytes b.sets)
+      (rows_bytes b.is_word.names ++ b.rest);
 }
 
 -- forgetting what is judged

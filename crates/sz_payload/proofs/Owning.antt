@@ -36,7 +36,8 @@ more false b c d is = is
 -- one entry more
 pub entry-more : (es : List Entry) (e : Entry) (o : Cell) → has_entry (es ++ e ∷ []) o ≡ (has_entry es o || has e.out o)
 entry-more [] e o = or-false (has e.out o)
-entry-more (d ∷ es) e o = more (has d.out o) (has_entry es o) (has e.out o) (has_entry (es ++ e ∷ []) o) (entry-more es e o)
+entry-more (d ∷ es) e o = more (has d.out o) (has_entry es o) (has e.out o) (has_entry (es ++ e ∷ []) o)
+    (entry-more es e o)
 
 pub entry-kept : (es : List Entry) (e : Entry) (n : ℕ) → n < length es → entry_at (es ++ e ∷ []) n ≡ entry_at es n
 entry-kept [] e n inside = absurd (omega arith)

@@ -53,7 +53,8 @@ word-body e bytes body few has word =
     let is = word-set e bytes word in
     let runs = runs_of xs in
     let are = runs_of-longest 0 (size_of e) xs is.rising in
-    let same : has.head ++ body ≡ four_bytes (length runs) ++ flat_map run_bytes runs = sym has.spelled ∙ sym is.spelled in
+    let same : has.head ++ body ≡ four_bytes (length runs) ++ flat_map run_bytes runs =
+    sym has.spelled ∙ sym is.spelled in
     let parts = split-same has.head (four_bytes (length runs)) body (flat_map run_bytes runs) has.four same in
     subst (AreRunsFrom 0 (size_of e))
     (sym (ap runs_spelled parts.1 ∙ runs-back 0 (size_of e) runs (omega arith) are)) are

@@ -134,10 +134,12 @@ pub entries-met : (s : Site) (i : ℕ) (from : Cells) (es : List Entry) (o : Cel
     → entries_add s i from es o ≡ any_cell (λ x. pay_stands (mapped_by_payload s.op s.ins) es i o x) from
 entries-met s i from es o =
     any-ext (λ e. has e.out o && any_cell (mapped_by_payload s.op s.ins e.payload i o) from)
-    (λ e. list_any (λ k. has e.out o && mapped_by_payload s.op s.ins e.payload i o (cell_of from.extent k)) from.indexes)
+    (λ e. list_any (λ k. has e.out o && mapped_by_payload s.op s.ins e.payload i o (cell_of from.extent k))
+    from.indexes)
     (λ e. sym (and-any (has e.out o) (λ k. mapped_by_payload s.op s.ins e.payload i o (cell_of from.extent k))
     from.indexes)) es
-    ∙ any-swap (λ e k. has e.out o && mapped_by_payload s.op s.ins e.payload i o (cell_of from.extent k)) es from.indexes
+    ∙ any-swap (λ e k. has e.out o && mapped_by_payload s.op s.ins e.payload i o (cell_of from.extent k))
+    es from.indexes
 
 off : (b : Bool) → (b && false) ≡ false
 off true = refl

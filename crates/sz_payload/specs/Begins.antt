@@ -1,4 +1,5 @@
--- Stores of an operator's entries in bytes: what begins at a place, and what is said where none does.
+-- Stores of an operator's entries in bytes: what begins at a place, and what is said where none
+-- does.
 use Rattle.std.specs.Prelude.{◌≡◌, ℕ, ◌^◌, ◌<◌, List, ◌++◌, length, drop, true}
 use Rattle.std.specs.List.{All}
 use Rattle.sz_cells.specs.Cells.{Cells}

@@ -5,8 +5,8 @@
 //! different set and each different payload once, with an index of the entry that each output cell
 //! is in. Where it is one of composite lineage, a cell that is in no entry has the default.
 //!
-//! - [`PayStore::new`] makes a store without an entry, whose entries are found by single cells or by
-//!   rectangles round their sets. Both answer alike.
+//! - [`PayStore::new`] makes a store without an entry, whose entries are found by single cells or
+//!   by rectangles round their sets. Both answer alike.
 //! - [`PayStore::reserve_piece`] takes the memory for the entries of a lineage.
 //! - [`PayStore::add_piece`] adds them, and takes none.
 //! - [`PayStore::image`] adds the image of a set of cells, backward or forward.

@@ -252,8 +252,8 @@ impl<M: Mapper + Drop> PayStore<M> {
     /// The store of the entries whose bytes begin at a place, and the place behind them. Each
     /// payload of the bytes is one of the operator. `Take::Bad` exactly where none begin there.
     ///
-    /// Costs by the bytes that it reads, and by the cells of the entries. The store has room for each
-    /// different set and payload once, and for those of one entry more.
+    /// Costs by the bytes that it reads, and by the cells of the entries. The store has room for
+    /// each different set and payload once, and for those of one entry more.
     pub fn take_bytes(
         alloc: Global,
         map: M,

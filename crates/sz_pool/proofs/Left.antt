@@ -1,7 +1,7 @@
 -- Pieces that are left over, and the cells that they have.
 --
--- The key idea: the cells of the pieces below a number that pass a test are counted piece by piece, and each of them has
--- at most the cells that the output has there.
+-- The key idea: the cells of the pieces below a number that pass a test are counted piece by piece, and each of them
+-- has at most the cells that the output has there.
 use Rattle.std.proofs.Common.{◌≡◌, ◌==◌, ℕ, zero, suc, ◌+◌, ◌*◌, ◌-◌, ◌/◌, ◌<◌, ◌≤◌, List, [], ◌∷◌, ◌++◌, min, arith}
 use Rattle.std.proofs.Common.{Bool, true, false, not, ◌||◌, cond, Some, None, sym, refl, ap, ◌∙◌, eq-eqb, subst}
 use Rattle.std.proofs.Common.{sum_by}

@@ -1,7 +1,7 @@
 //! The channel of the tasks, and the threads that attend to it.
 //!
-//! What a thread does is written for any type of [`Message`], of which it needs to know only that it
-//! may move between threads. That a task may do so is shown once, where the type is chosen.
+//! What a thread does is written for any type of [`Message`], of which it needs to know only that
+//! it may move between threads. That a task may do so is shown once, where the type is chosen.
 
 use crate::task::Task;
 use crate::working::work;

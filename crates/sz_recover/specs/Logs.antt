@@ -118,8 +118,8 @@ abbrev pub StandEach : List ℕ → ℕ → List Entry → ℕ → Type 0
 StandEach disk at [] end = at ≡ end
 StandEach disk at (e ∷ es) end = Stands disk at e × StandEach disk (place_behind at e) es end
 
--- a bad group stands at a place: there is no gate, or no whole group behind an open one, or one that
--- is bad over what is held
+-- a bad group stands at a place: there is no gate, or no whole group behind an open one, or one
+-- that is bad over what is held
 abbrev pub IsBadAt : List ℕ → ℕ → Holdings → Type 0
 IsBadAt disk at c =
     (group_on disk at ≡ group.Bad) ⊎ ((e : Entry) × Stands disk at e × IsBad c e)

@@ -21,8 +21,8 @@ bare k = record { number = k.number; stores = bare_stores k.stores }
 abbrev pub all_bare : List Kept → List Kept
 all_bare kept = map bare kept
 
--- A well-made log ends at one place, holds one thing, and keeps of each version stores that keep the
--- same.
+-- A well-made log ends at one place, holds one thing, and keeps of each version stores that keep
+-- the same.
 abbrev pub WellMadeLogsAreReadInOneWay : Type 0
 WellMadeLogsAreReadInOneWay = (disk : List ℕ) (at next : ℕ) (c d : Holdings) (kept more : List Kept)
     → IsWellMade disk at c kept → IsWellMade disk next d more

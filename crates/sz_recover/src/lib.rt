@@ -3,8 +3,8 @@
 //!
 //! - [`catalogue_of`] opens a log: it gives the catalogue that its groups make, where its first
 //!   closed gate stands, and the stores of its versions; or the place of its first bad group.
-//! - [`unsound`] tells which store of an opened log, if any, does not stand for exactly the relation
-//!   of its node's operator: it runs each version again.
+//! - [`unsound`] tells which store of an opened log, if any, does not stand for exactly the
+//!   relation of its node's operator: it runs each version again.
 //! - [`version_body`] writes the body of a version that is held.
 //! - [`take_version_body`] reads the version that a body says, with its stores, over what is held.
 //!   What it gives can be added to the catalogue.

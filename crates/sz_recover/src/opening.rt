@@ -141,8 +141,8 @@ fn act_each<T: Station, K: Blank>(
     Ok(at)
 }
 
-/// Takes the group that stands at a place, and gives the place of the next gate; nothing at a closed
-/// gate.
+/// Takes the group that stands at a place, and gives the place of the next gate; nothing at a
+/// closed gate.
 fn take_next<T: Station, K: Blank>(
     alloc: Global,
     station: &mut T,

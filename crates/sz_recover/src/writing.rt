@@ -127,7 +127,8 @@ fn put_nodes(
         (parts_of lists.now (lineages stores.now))) }
     ensures front { OnOk result ((more : List ℕ) × (to.new.items ≡ to.old.items ++ more)) }
     ensures nodes { OnOk result ((sites : List Site)
-        → FitNodes sites lists.now (lineages stores.now) → BeginNodes sites to.new.items (length to.old.items) (length to.new.items)
+        → FitNodes sites lists.now (lineages stores.now)
+        → BeginNodes sites to.new.items (length to.old.items) (length to.new.items)
         (parts_of lists.now (lineages stores.now))) }
 {
     for node in 0..stores.len() {

@@ -180,8 +180,9 @@ full-fits s inputs k kept is =
           let here : cell_of s.out (start + q) ≡ o = ap (cell_of s.out) place.1.2 ∙ cell-index s.out o place.0 in
           any-map (λ (r : Pairing). has r.out o && has (set_of r i) x) (region_by s inputs start kept)
           (leaders_below kept (length kept))
-          ∙ any-ext (λ p. has (region_by s inputs start kept p).out o && has (set_of (region_by s inputs start kept p) i)
-          x) (λ p. is_with start kept p (start + q) && found p)
+          ∙ any-ext
+          (λ p. has (region_by s inputs start kept p).out o && has (set_of (region_by s inputs start kept p) i) x)
+          (λ p. is_with start kept p (start + q) && found p)
           (λ p. region-tells s inputs start kept i p o x few place.0 there
           ∙ ap (λ (j : ℕ). is_with start kept p j && found p) (sym place.1.2)) (leaders_below kept (length kept))
           ∙ led start kept q found below

@@ -190,10 +190,12 @@ least t n h =
 with-cases : (start : ℕ) (kept : List Keeping) (p k : ℕ) → is_with start kept p k ≡ true
     → (start + p ≡ k) ⊎ ((start ≤ k) × (are_together (keeping_at kept p) (keeping_at kept (k - start)) ≡ true))
 with-cases start kept p k h =
-    elim (or_cases (start + p == k) (nat_le start k && are_together (keeping_at kept p) (keeping_at kept (k - start))) h) [
+    elim (or_cases (start + p == k)
+    (nat_le start k && are_together (keeping_at kept p) (keeping_at kept (k - start))) h) [
       | inl same ↦ inl (eqb-true (start + p) k same)
       | inr other ↦
-          let both = and_parts (nat_le start k) (are_together (keeping_at kept p) (keeping_at kept (k - start))) other in
+          let both =
+          and_parts (nat_le start k) (are_together (keeping_at kept p) (keeping_at kept (k - start))) other in
           inr (leb-true start k both.0, both.1)
     ]
 

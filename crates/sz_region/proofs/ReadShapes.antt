@@ -1,10 +1,10 @@
 -- Region pairs that some bytes spell have the shapes for which they are read; they, and entries that are read, can be
 -- written.
 --
--- The key idea: a region pair names its sets in the order of the arrays, and a set of a table is one of the shape of its
--- array.
-use Rattle.std.proofs.Common.{◌≡◌, ℕ, zero, suc, ◌+◌, ◌*◌, ◌^◌, ◌<◌, ◌≤◌, List, [], ◌∷◌, length, map, take, drop, get_or, All}
-use Rattle.std.proofs.Common.{refl, ap, ap₂, subst, ◌∙◌, arith, sym, drop-cons, Some}
+-- The key idea: a region pair names its sets in the order of the arrays, and a set of a table is one of the shape of
+-- its array.
+use Rattle.std.proofs.Common.{◌≡◌, ℕ, zero, suc, ◌+◌, ◌*◌, ◌^◌, ◌<◌, ◌≤◌, List, [], ◌∷◌, length, map, take, drop}
+use Rattle.std.proofs.Common.{get_or, All, refl, ap, ap₂, subst, ◌∙◌, arith, sym, drop-cons, Some}
 use Rattle.std.specs.List.{slice_get, AllZip}
 use Rattle.std.proofs.Math.Nat.{mul-le-mul_right}
 use Rattle.std.proofs.lemmas.List.{take_all}

@@ -224,7 +224,8 @@ begins-spelled e bytes at body set small few has are is =
             (runs-rising 0 (size_of e) runs are);
       };
       rest = has.rest;
-      spelled = has.spelled ∙ sym (append_assoc has.head body has.rest) ∙ ap (λ (xs : List ℕ). xs ++ has.rest) (sym spelled);
+      spelled = has.spelled ∙ sym (append_assoc has.head body has.rest)
+          ∙ ap (λ (xs : List ℕ). xs ++ has.rest) (sym spelled);
       ends = ends-behind at bytes has.head body has.rest has.four has.spelled;
     }
 

@@ -5,11 +5,14 @@ use Rattle.std.specs.List.{range_with_len, filter}
 use Rattle.sz_cells.specs.declared.Cell.{Cell}
 use Rattle.sz_cells.specs.Extent.{Extent, size_of, cell_of}
 use Rattle.sz_spec.specs.declared.op.Op.{Op}
+use Rattle.sz_spec.specs.declared.modes.Mode.TheVariants as mode
+use Rattle.sz_spec.specs.declared.modes.Strategy.{Strategy}
 use Rattle.sz_spec.specs.Values.{Grid}
 use Rattle.sz_spec.specs.Shapes.{Site}
 use Rattle.sz_spec.specs.Payloads.{overrides, payload_of}
 use Rattle.sz_region.specs.declared.groups.Keeping.{Keeping}
 use Rattle.sz_region.specs.Parts.{Pairing, Entry, Parts}
+use Rattle.sz_region.specs.Fits.{needs}
 use Rattle.sz_region.specs.Images.{related_sets}
 use Rattle.sz_region.specs.Groups.{lineage_kind, payload_kind, keeping_of, leads, group_at}
 
@@ -63,3 +66,21 @@ with_entries false entries p = record p { pays = entries }
 -- how many cells a piece has
 abbrev pub cells_in_piece : Extent → ℕ → ℕ
 cells_in_piece e k = min (size_of e) (k * 64 + 64) - k * 64
+
+-- how each cell of a piece is kept
+abbrev pub keepings_of : Site → (Cell → Keeping) → ℕ → List Keeping
+keepings_of s keep k = keepings s.out keep (k * 64) (cells_in_piece s.out k)
+
+-- The lineage of a piece, as the strategies of a list need it: each part has one region pair, or
+-- one entry, for the cells that are kept together, and the composite one for cells alone that
+-- override the default.
+abbrev pub parts_by : Site → List Grid → List Strategy → ℕ → Parts
+parts_by s inputs list k = record {
+  piece = k;
+  regions = regions_by s inputs (k * 64)
+      (keepings_of s (full_keeping (needs list mode.Full) s.op inputs) k);
+  pays = entries_by s inputs (k * 64)
+      (keepings_of s (pay_keeping (needs list mode.Pay) s.op inputs) k);
+  comps = entries_by s inputs (k * 64)
+      (keepings_of s (comp_keeping (needs list mode.Comp) s.op inputs) k);
+}

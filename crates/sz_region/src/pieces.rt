@@ -2,7 +2,7 @@
 //! part keeps them, and then each part has one entry for those that are kept together.
 
 ghost use Rattle.std.specs.Prelude.{◌≡◌, ◌<◌, ◌≤◌, ◌+◌, ◌-◌, ◌^◌, ◌&&◌, ◌++◌, ◌∷◌, [], true};
-ghost use Rattle.std.specs.Prelude.{false, length, map, All, IfOk, OnOk};
+ghost use Rattle.std.specs.Prelude.{false, length, map, All, IfOk, OnOk, OnErr};
 ghost use Rattle.std.specs.Prelude.{if◌then◌else◌};
 ghost use Rattle.std.specs.Arc.{arc_value};
 ghost use Rattle.sz_cells.specs.Extent.{holds, size_of};
@@ -14,7 +14,7 @@ ghost use Rattle.sz_region.specs.Groups.{leads};
 ghost use Rattle.sz_region.specs.Images.{measure_of};
 ghost use Rattle.sz_region.specs.Written.{full_keeping, pay_keeping, comp_keeping, keepings};
 ghost use Rattle.sz_region.specs.Written.{region_by, regions_by, entry_by, entries_by};
-ghost use Rattle.sz_region.specs.Written.{with_entries, cells_in_piece};
+ghost use Rattle.sz_region.specs.Written.{with_entries, cells_in_piece, parts_by};
 
 use crate::frame::AtWork;
 use crate::groups::{Keeping, group, keeping_of, leads};
@@ -31,7 +31,8 @@ const CELLS: u32 = 64;
 
 /// The lineage of piece `k` of the output of an operator at work: the parts that the strategies of
 /// a list need. Each cell of the piece is looked at once, and counted. Cells of one lineage share a
-/// region pair, and cells of one payload an entry, where the operator tells.
+/// region pair, and cells of one payload an entry, where the operator tells. After `NoMemory` the
+/// tally is as before.
 pub fn piece_by<A: AtWork>(
     alloc: Global,
     at: &A,
@@ -44,9 +45,12 @@ pub fn piece_by<A: AtWork>(
     requires supported { All (λ s. supports (A.site at.now).op s ≡ true) list.now }
     requires room { tally.old + cells_in_piece (A.site at.now).out k < 2 ^ 63 }
     ensures piece { IfOk result (λ p. p.piece ≡ k) }
+    ensures written { IfOk result
+        (λ p. p ≡ parts_by (A.site at.now) (A.inputs at.now) list.now k) }
     ensures fits { IfOk result
         (λ p. Fits (measure_of (A.site at.now) (A.inputs at.now)) list.now k p) }
     ensures ticks { OnOk result (tally.new ≡ tally.old + cells_in_piece (A.site at.now).out k) }
+    ensures kept { OnErr result (tally.new ≡ tally.old) }
 {
     let shape = at.out();
     let wanted = Wanted {
@@ -56,11 +60,13 @@ pub fn piece_by<A: AtWork>(
     };
     let start = k * CELLS;
     let end = shape.size().min(start + CELLS);
-    let kept = look(alloc, at, start, end, wanted, tally)?;
+    let mut looked = Tally::new();
+    let kept = look(alloc, at, start, end, wanted, &mut looked)?;
     let mut lineage = PieceLineage::new(alloc, k);
     write_regions(alloc, at, start, &kept.full, &mut lineage)?;
     write_entries(alloc, at, start, &kept.pay, false, &mut lineage)?;
     write_entries(alloc, at, start, &kept.comp, true, &mut lineage)?;
+    tally.add(looked);
     Ok(lineage)
 }
 

@@ -217,7 +217,8 @@ moment_with s line n = record { held = apart s; pending = line; number = n; end 
 only-line : (s : State) (line : List ℕ) (n : ℕ) → line ∷ [] ≡ (cut_after (moment_with s line n) (10 ∷ [])).whole
 only-line s line n = sym (ap (λ (c : Cut). c.whole) (line-only (moment_with s line n)))
 
-taken-in : {X : Type 0} (T : Ghosts X) (s : State) (line : List ℕ) (n : ℕ) (e : Option ℕ) (a b : X) → HasLog T s.held e a
+taken-in : {X : Type 0} (T : Ghosts X) (s : State) (line : List ℕ) (n : ℕ) (e : Option ℕ) (a b : X)
+    → HasLog T s.held e a
     → StopsInLog T s.held e (held_after s line) a b
     → IfSome e (λ at. FindsLines T at (apart s) n (cut_after (moment_with s line n) (10 ∷ [])).whole a b)
 taken-in {X} T s line n None a b log stops = tt

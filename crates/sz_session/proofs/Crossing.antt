@@ -11,7 +11,8 @@ use Rattle.sz_query.specs.contracts.views.NodeView as NodeView
 use Rattle.sz_query.specs.contracts.used.UsedList as UsedList
 use Rattle.sz_query.specs.contracts.path.Found as Found
 use Rattle.sz_script.specs.contracts.refusal.Refusal as Refusal
-use Rattle.sz_shelf.proofs.Crossing.{at_send, at_sync, fields, pass_send, shelf_send, shelf_sync, store_send, store_sync}
+use Rattle.sz_shelf.proofs.Crossing.{at_send, at_sync, fields, pass_send, shelf_send, shelf_sync, store_send}
+use Rattle.sz_shelf.proofs.Crossing.{store_sync}
 use Rattle.sz_session.specs.contracts.inquiry.Inquiry as Inquiry
 use Rattle.sz_session.specs.contracts.asking.Asked as Asked
 

@@ -252,7 +252,8 @@ turn-stays {X} T z all left next said a b m total count buffer so_far gives one 
     (λ found part. turn-in_part z all left next said (T.said a) (Some found) m total count buffer so_far gives part) one
 
 -- the end
-pub end-stays : {X : Type 0} (T : Ghosts X) (z : State) (all left said : Option (List ℕ)) (a b : X) (m : Moment) (total : ℕ)
+pub end-stays : {X : Type 0} (T : Ghosts X) (z : State) (all left said : Option (List ℕ)) (a b : X)
+    (m : Moment) (total : ℕ)
     → Answered z all left said (T.said a) m total → AreAll all total
     → OnlySays T (told_at_end m) a b → StaysFinding T (FoundInPart z all said) a b
 end-stays {X} T z all left said a b m total so_far is_all one =
@@ -260,14 +261,16 @@ end-stays {X} T z all left said a b m total so_far is_all one =
     (λ found part. end-in_part z all left said (T.said a) (Some found) m total so_far is_all part) one
 
 -- between two turns
-pub between-stays : {X : Type 0} (T : Ghosts X) (z : State) (all left said : Option (List ℕ)) (a b : X) (m : Moment) (total : ℕ)
+pub between-stays : {X : Type 0} (T : Ghosts X) (z : State) (all left said : Option (List ℕ)) (a b : X)
+    (m : Moment) (total : ℕ)
     → Answered z all left said (T.said a) m total → OnlySays T [] a b → StaysFinding T (FoundInPart z all said) a b
 between-stays {X} T z all left said a b m total so_far one =
     stays-finding T _ _ a b
     (λ found part. answered-in_part z all left said (T.said a) (Some found) m total so_far part) one
 
 -- before the first turn
-start-found : (z : State) (all said : Option (List ℕ)) (found : List ℕ) → SaysPart said (Some found) [] → FoundInPart z all said found
+start-found : (z : State) (all said : Option (List ℕ)) (found : List ℕ) → SaysPart said (Some found) []
+    → FoundInPart z all said found
 start-found z None said found part = tt
 start-found z (Some bytes) said found part = part-longer said (Some found) [] (transcript z bytes) part
 

@@ -63,7 +63,8 @@ given-next bytes left next total count buffer is gives = let P : Option (List �
     → Type 0 = λ o. Gives o next buffer count in subst P is gives
 
 -- a read and the turn that takes in what it gave
-pub answered-turn : (z : State) (all left next a b c : Option (List ℕ)) (m n : Moment) (total count : ℕ) (buffer : List ℕ)
+pub answered-turn : (z : State) (all left next a b c : Option (List ℕ)) (m n : Moment) (total count : ℕ)
+    (buffer : List ℕ)
     → Answered z all left a b m total → Gives left next buffer count → Advances b c m n (take count buffer)
     → Answered z all next a c n (total + count)
 answered-turn z None left next a b c m n total count buffer so_far gives turn = tt
@@ -154,7 +155,8 @@ done z limit (Some bytes) left a b c m total le so_far is_all end =
     )
 
 -- a read failed between two lines or within one
-pub read-failed : (z : State) (all left next a b : Option (List ℕ)) (m : Moment) (total : ℕ) → Answered z all left a b m total
+pub read-failed : (z : State) (all left next a b : Option (List ℕ)) (m : Moment) (total : ℕ)
+    → Answered z all left a b m total
     → Keeps left next → SaidOfRead z all next a b
 read-failed z None left next a b m total so_far keeps = tt
 read-failed z (Some bytes) left next a b m total so_far keeps =
@@ -204,7 +206,8 @@ turn-in_lines z (Some bytes) left next a b c m total count buffer so_far gives f
     (so_far-advances z bytes left a b m total so_far) first))
 
 -- between two turns what was said is a first part
-pub answered-in_part : (z : State) (all left a b c : Option (List ℕ)) (m : Moment) (total : ℕ) → Answered z all left a b m total
+pub answered-in_part : (z : State) (all left a b c : Option (List ℕ)) (m : Moment) (total : ℕ)
+    → Answered z all left a b m total
     → SaysPart b c [] → SaidInPart z all a c
 answered-in_part z None left a b c m total so_far part = tt
 answered-in_part z (Some bytes) left a b c m total so_far part =
@@ -243,7 +246,8 @@ none-in_lines z (Some bytes) said = record { many = 0; within = omega arith; say
 -- ---- statuses
 
 -- a turn that stopped
-pub turn-ends : (z : State) (s : Halt) (limit : ℕ) (all left next a b c : Option (List ℕ)) (m : Moment) (total count : ℕ)
+pub turn-ends : (z : State) (s : Halt) (limit : ℕ) (all left next a b c : Option (List ℕ)) (m : Moment)
+    (total count : ℕ)
     (buffer : List ℕ)
     → Answered z all left a b m total → Gives left next buffer count
     → (s ≡ halt.SayFault → SaysPart b c (told_in m (take count buffer)))
@@ -327,7 +331,8 @@ completes z status.InputLimit limit all left a b r r' q q' ends fault within no_
 -- ---- where a disk cannot fail
 
 -- a session that ended so, and not since its disk failed
-pub plain-ends : (z : State) (s : Status) (limit : ℕ) (all left a b : Option (List ℕ)) → EndsLines z s limit all left a b
+pub plain-ends : (z : State) (s : Status) (limit : ℕ) (all left a b : Option (List ℕ))
+    → EndsLines z s limit all left a b
     → (s ≡ status.DiskFault → ⊥) → Ends z s limit all left a b
 plain-ends z status.Done limit all left a b ends plain = ends
 plain-ends z status.Usage limit all left a b ends plain = ends

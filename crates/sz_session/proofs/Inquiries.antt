@@ -1,6 +1,7 @@
 -- What answers a search along a path of a version.
 --
--- The key idea: the views of the search are those of the path's steps, so the lemmas on these say what is found by them.
+-- The key idea: the views of the search are those of the path's steps, so the lemmas on these say what is found by
+-- them.
 use Rattle.std.proofs.Common.{◌≡◌, ℕ, ◌≤◌, List, [], ◌∷◌, map, true, sym, ap, ◌∙◌, subst, arith}
 use Rattle.std.proofs.Common.{Result, Ok, Err, IfOk, OnOk}
 use Rattle.std.specs.List.{AllZip}
@@ -26,7 +27,8 @@ use Rattle.sz_session.proofs.PathViews.{views-told, views-traced, views-least, v
 searched-views : (v : Version) (dir : Dir) (path : List Step) (named : List NamedCell) (s : Search)
     → IsSearchOf v dir path named s → AreSound v dir path s.views
 searched-views v dir path named s h =
-    sound-views v dir path s.views h.sound (joined-there dir v.flow path (joined-parts dir v.flow path h.joined).2) h.views
+    sound-views v dir path s.views h.sound (joined-there dir v.flow path (joined-parts dir v.flow path h.joined).2)
+    h.views
 
 -- the cells
 pub found-cells : (v : Version) (dir : Dir) (path : List Step) (named : List NamedCell) (s : Search) (f : Found)
@@ -35,7 +37,8 @@ found-cells v dir path named s f h a =
     let start = path_start dir v path in
     let cells = named_in start (map (cell_named start) named) in
     let from : s.start.extent ≡ start = ap (λ (x : Cells). x.extent) h.start in
-    let whole = subst (λ (x : Cells). IsSetOf x.extent x) (sym h.start) (named-set start (map (cell_named start) named)) in
+    let whole =
+    subst (λ (x : Cells). IsSetOf x.extent x) (sym h.start) (named-set start (map (cell_named start) named)) in
     a.cells
     ∙ ap (λ (d : Dir). answered d s.views s.inputs s.start) h.turned
     ∙ ap (λ (is : List ℕ). answered dir s.views is s.start) h.inputs

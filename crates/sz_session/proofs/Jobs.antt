@@ -75,7 +75,8 @@ pub on-with : {X : Type 0} (T : Ghosts X) (s t : Status) (r r' : ℕ) (x y : X) 
     → AreCountedOn T t r r' x y
 on-with {X} T s t r r' x y counted is = subst (λ (z : Status). AreCountedOn T z r r' x y) is counted
 
-pub lines-with : (c : State) (s t : Status) (limit : ℕ) (all left a b : Option (List ℕ)) → EndsLines c s limit all left a b
+pub lines-with : (c : State) (s t : Status) (limit : ℕ) (all left a b : Option (List ℕ))
+    → EndsLines c s limit all left a b
     → s ≡ t → EndsLines c t limit all left a b
 lines-with c s t limit all left a b ends is = subst (λ (z : Status). EndsLines c z limit all left a b) is ends
 
@@ -141,7 +142,8 @@ log-silent {X} T x y mode.Load s init check asked other is = absurd (true≢fals
 -- a fault of the disk was counted
 pub disk-counted : {X : Type 0} (T : Ghosts X) (x y : X) (m : JobMode) (s : Status)
     → (is_init m ≡ true → EndsInit T s x y) → (is_check m ≡ true → EndsCheck T s x y) → (r r' : ℕ)
-    → (is_run m ≡ true → AreCountedOn T s r r' x y) → is_of_log m ≡ true → s ≡ status.DiskFault → Rose (T.disk_faults x) (T.disk_faults y)
+    → (is_run m ≡ true → AreCountedOn T s r r' x y) → is_of_log m ≡ true → s ≡ status.DiskFault → Rose (T.disk_faults x)
+    (T.disk_faults y)
 disk-counted {X} T x y mode.Play s init check r r' run asked is = absurd (true≢false (sym asked))
 disk-counted {X} T x y mode.Init s init check r r' run asked is =
     (init-ends_with T s status.DiskFault x y (init refl) is).1
@@ -177,7 +179,8 @@ bad-run : {X : Type 0} (T : Ghosts X) (x y : X) (s : Status) (at limit r r' : �
 bad-run {X} T x y s at limit r r' all left (inl none) counted is =
     (subst (IsUnopened (T.disk x)) is none.why, on-with T s (status.BadLog at) r r' x y counted is)
 bad-run {X} T x y s at limit r r' all left (inr one) counted is =
-    absurd (lines-with (state_of_log one.c one.kept) s (status.BadLog at) limit all left (T.said x) (T.said y) one.ends is)
+    absurd (lines-with (state_of_log one.c one.kept) s (status.BadLog at) limit all left (T.said x)
+    (T.said y) one.ends is)
 
 pub bad-place : {X : Type 0} (T : Ghosts X) (x y : X) (m : JobMode) (s : Status) (at limit r r' : ℕ)
     (all left : Option (List ℕ)) → (is_init m ≡ true → EndsInit T s x y) → (is_check m ≡ true → EndsCheck T s x y)

@@ -1,6 +1,7 @@
 -- What is kept of each node of a version, at its place.
 use Rattle.std.proofs.Common.{◌≡◌, ℕ, suc, zero, List, [], ◌∷◌, ◌++◌, map, length, Bool, true, false}
-use Rattle.std.proofs.Common.{◌<◌, ◌≤◌, ◌+◌, take, get_or, refl, sym, ap, ap₂, ◌∙◌, subst, arith, drop, Some, true≢false}
+use Rattle.std.proofs.Common.{◌<◌, ◌≤◌, ◌+◌, take, get_or, refl, sym, ap, ap₂, ◌∙◌, subst, arith, drop, Some}
+use Rattle.std.proofs.Common.{true≢false}
 use Rattle.std.proofs.Math.Seq.{drop-nil, take-suc}
 use Rattle.std.specs.List.{All, list_all, slice_get}
 use Rattle.std.proofs.lemmas.Bool.{and_parts}

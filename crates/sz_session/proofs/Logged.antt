@@ -63,7 +63,11 @@ grown-same c d kept image at same made = record {
 
 same-left : (c d : Holdings) (at : ℕ) (old image : List ℕ) → image ≡ old → LeavesLog at c d old image
 same-left c d at old image same kept made =
-    inl (at, grown-same c c kept image at refl (subst (λ (i : List ℕ). IsWellMade i at (durable c) kept) (sym same) made))
+    inl (
+      at,
+      grown-same c c kept image at refl (subst (λ (i : List ℕ). IsWellMade i at (durable c) kept)
+          (sym same) made),
+    )
 
 rest-grows : (disk : Option (List ℕ)) (c d : Holdings) (at : ℕ) → durable d ≡ durable c → Grows disk at c disk at d
 rest-grows None c d at same = refl
@@ -252,7 +256,8 @@ await-step c n stores body in-order held off fit sound spelled =
     let here : version_of (durable d) n ≡ w =
     found-of (durable d) n w
     (ap (λ (es : List (ℕ × Version)). lookup (is_at (nat_cmp n)) es) put ∙ put-found (settled c.versions) n w) in
-    let there : (k : Kept) → IsEntryOf (durable c) k → version_of (durable d) k.number ≡ version_of (durable c) k.number =
+    let there : (k : Kept) → IsEntryOf (durable c) k → version_of (durable d) k.number ≡ version_of
+    (durable c) k.number =
     λ k h.
     let old = version-found (durable c) k.number h.held in
     found-of (durable d) k.number (version_of (durable c) k.number)
@@ -324,7 +329,8 @@ append-keeps {X} T c d end at next e a b is one added place synced =
 -- ---- a station whose log was opened
 
 -- no write is pending where none was and the disk stays
-pub still-only : (o : Option (List ℕ)) (A B : List ℕ → Type 0) (before now : ℕ) (past since : ℕ → List ℕ → List ℕ → Type 0)
+pub still-only : (o : Option (List ℕ)) (A B : List ℕ → Type 0) (before now : ℕ) (past since : ℕ → List ℕ
+    → List ℕ → Type 0)
     (F : List ℕ → Type 0) → Told o (Passes before now past since A B Same F) → Only o A → Only o B
 still-only None A B before now past since F stops only = tt
 still-only (Some disk) A B before now past since F stops only = λ image left.

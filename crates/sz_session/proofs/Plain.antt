@@ -23,7 +23,8 @@ use Rattle.sz_session.specs.Laws.{SessionsOfNoLogArePlain}
 abbrev plainly : Holdings × Response → State × Response
 plainly p = (state_of p.0, p.1)
 
-accepted-plain : (c : Holdings) (command : Command) → accepted (state_of c) command ≡ plainly (changes.accepted c command)
+accepted-plain : (c : Holdings) (command : Command) → accepted (state_of c) command ≡ plainly
+    (changes.accepted c command)
 accepted-plain c (order.Array name array) = refl
 accepted-plain c (order.Csv name array) = refl
 accepted-plain c (order.Layers name array) = refl

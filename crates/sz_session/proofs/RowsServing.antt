@@ -6,7 +6,8 @@ use Rattle.std.proofs.Common.{refl, arith}
 use Rattle.serde_json.proofs.OnLiterals.{serde_json_on_literals}
 use Rattle.sz_session.specs.Lines.{cut}
 use Rattle.sz_session.specs.Moments.{Moment, moment_before, told_in, moment_after, told_at_end}
-use Rattle.sz_session.specs.Serving.{nothing_held, Done, SaidOfRead, SaidToLimit, SaidInPart, SaidInLines, IsWithinLimit}
+use Rattle.sz_session.specs.Serving.{nothing_held, Done, SaidOfRead, SaidToLimit, SaidInPart, SaidInLines}
+use Rattle.sz_session.specs.Serving.{IsWithinLimit}
 use Rattle.sz_session.specs.Serving.{IsPastLimit}
 use Rattle.sz_log.specs.Log.{empty_log, header}
 use Rattle.sz_log.specs.declared.LogFault.{LogFault}

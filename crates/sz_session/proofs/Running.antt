@@ -46,7 +46,8 @@ left-then : (c d e : Holdings) (kept : List Kept) (mid image : List ℕ) (next :
     → IsLeft d (kept ++ one.more) image e → IsLeft c kept image e
 left-then c d e kept mid image next one (at, two) = (at, grown-then c d e kept mid image next at one two)
 
-grows-then : (a b x : Option (List ℕ)) (c d e : Holdings) (at mid next : ℕ) → Grows a at c b mid d → Grows b mid d x next e
+grows-then : (a b x : Option (List ℕ)) (c d e : Holdings) (at mid next : ℕ) → Grows a at c b mid d
+    → Grows b mid d x next e
     → Grows a at c x next e
 grows-then None b x c d e at mid next one two =
     let P : Option (List ℕ) → Type 0 = λ o. Grows o mid d x next e in subst P one two
@@ -141,7 +142,8 @@ between-behind kept s n first some more a b mid image found next one says f =
 
 -- between lines that tell and leave the same
 between-alike : (kept : List Kept) (s z : State) (n k : ℕ) (some more some' more' : List (List ℕ)) (a : Option (List ℕ))
-    (image found : List ℕ) → s ≡ z → replies_to s n some ≡ replies_to z k some' → replies_to s n more ≡ replies_to z k more'
+    (image found : List ℕ) → s ≡ z → replies_to s n some ≡ replies_to z k some' → replies_to s n more
+    ≡ replies_to z k more'
     → after_lines s some ≡ after_lines z some' → after_lines s more ≡ after_lines z more'
     → FoundBetween kept s n some more a image found → FoundBetween kept z k some' more' a image found
 between-alike kept s z n k some more some' more' a image found held least most here there f =
@@ -322,7 +324,8 @@ among-more {n} {m} {past} {since} A B more p = record {
 
 -- one pass behind another
 among-then : {n m k : ℕ} {past half since : Since} (A B C : Finding)
-    → ((image found : List ℕ) → A image found → C image found) → ((image found : List ℕ) → B image found → C image found)
+    → ((image found : List ℕ) → A image found → C image found) → ((image found : List ℕ) → B image found
+    → C image found)
     → PassesAmong n m past half A → PassesAmong m k half since B → PassesAmong n k past since C
 among-then {n} {m} {k} {past} {half} {since} A B C first second one two = record {
   later = omega (arith, one.later, two.later);
@@ -343,7 +346,8 @@ among-then {n} {m} {k} {past} {half} {since} A B C first second one two = record
 }
 
 -- a pass that is told apart is one that is told together
-among-apart : {n m : ℕ} {past since : Since} {A B : List ℕ → Type 0} {step : Finding} {F : List ℕ → Type 0} (C : Finding)
+among-apart : {n m : ℕ} {past since : Since} {A B : List ℕ → Type 0} {step : Finding} {F : List ℕ → Type 0}
+    (C : Finding)
     → ((image found : List ℕ) → Follows step A image → F found → C image found)
     → Passes n m past since A B step F → PassesAmong n m past since C
 among-apart {n} {m} {past} {since} {A} {B} {step} {F} C both p = record {
@@ -519,7 +523,8 @@ pub finds-before : {X : Type 0} (T : Ghosts X) (s : State) (at : ℕ) (left : Op
 finds-before {X} T s at None a b x reads said stops only log found = tt
 finds-before {X} T s at (Some bytes) a b x reads said stops only log found =
     let grows : Grows (T.disk a) at s.held (T.disk b) at s.held =
-    subst (λ (o : Option (List ℕ)). Grows (T.disk a) at s.held o at s.held) (sym reads) (stays-grown (T.disk a) s.held at) in
+    subst (λ (o : Option (List ℕ)). Grows (T.disk a) at s.held o at s.held) (sym reads)
+    (stays-grown (T.disk a) s.held at) in
     let goes : GoesOn T s.held at s.held at a b = record { grows = grows; synced = log.synced } in
     let says : Says (T.said a) (T.said b) [] =
     subst (λ (o : Option (List ℕ)). Says (T.said a) o []) (sym said) (says-nothing (T.said a)) in

@@ -1,7 +1,8 @@
 -- The versions that a log gave stay as they are.
 --
 -- The key idea: they are held and awaited, and no command changes a version that is.
-use Rattle.std.proofs.Common.{take, length, get_or, zero, ◌≡◌, ℕ, suc, ◌<◌, List, [], ◌∷◌, map, Bool, true, false, refl, sym, ap, ◌∙◌}
+use Rattle.std.proofs.Common.{take, length, get_or, zero, ◌≡◌, ℕ, suc, ◌<◌, List, [], ◌∷◌, map, Bool, true, false, refl}
+use Rattle.std.proofs.Common.{sym, ap, ◌∙◌}
 use Rattle.std.proofs.lemmas.Bool.Decides.{nat_tests}
 use Rattle.std.proofs.Common.{true≢false, subst, arith, Option, Some, None, unwrap_or, cond, eqb-true}
 use Rattle.std.specs.Prelude.{All, ◌==◌, is_none, find, option_map, nat_lt, if◌then◌else◌}
@@ -113,7 +114,8 @@ found-kept (r ∷ rs) n = at (r.kept.number == n) (found-kept rs n) where
 pub order-sound : (c : Holdings) → IsInOrder c → AreSound c
 order-sound c order = record {
   flows = order.workflows;
-  versions = all-turn (IsVersionIn c) IsSoundVersion (values_of c.versions) (λ v h. record { run = h.run }) order.versions;
+  versions = all-turn (IsVersionIn c) IsSoundVersion (values_of c.versions) (λ v h. record { run = h.run })
+      order.versions;
 }
 
 -- ---- what stands in

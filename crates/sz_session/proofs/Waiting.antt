@@ -42,7 +42,8 @@ says-some None x = (None, tt)
 says-some (Some xs) x = (Some (xs ++ x), refl)
 
 -- two texts that were said are one, and then the other
-says-split : (a c : Option (List ℕ)) (x y : List ℕ) → Says a c (x ++ y) → (b : Option (List ℕ)) × Says a b x × Says b c y
+says-split : (a c : Option (List ℕ)) (x y : List ℕ) → Says a c (x ++ y) → (b : Option (List ℕ))
+    × Says a b x × Says b c y
 says-split None c x y h = (None, tt, tt)
 says-split (Some xs) c x y h =
     (Some (xs ++ x), refl, h ∙ ap (λ (ys : List ℕ). Some ys) (sym (append_assoc xs x y)))
@@ -53,7 +54,8 @@ pub advances-quiet : (a b c : Option (List ℕ)) (m n : Moment) (xs : List ℕ) 
 advances-quiet a b c m n xs p q = record { says = says-quiet a b c (told_in m xs) p.says q; alike = p.alike }
 
 -- the lines that end in some bytes are among those that end in more
-first-more : (a b : Option (List ℕ)) (l : Moment) (xs ys : List ℕ) → SaysFirst a b l.held l.number (cut_after l xs).whole
+first-more : (a b : Option (List ℕ)) (l : Moment) (xs ys : List ℕ) → SaysFirst a b l.held l.number
+    (cut_after l xs).whole
     → SaysFirst a b l.held l.number (cut_after l (xs ++ ys)).whole
 first-more a b l xs ys p =
     let further = (cut_after (moment_after l xs) ys).whole in

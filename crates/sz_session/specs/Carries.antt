@@ -1,5 +1,5 @@
--- What the catalogue of a session carries with a version: what belongs to it, and nothing where a log
--- gave the version, since the session has that beside the catalogue.
+-- What the catalogue of a session carries with a version: what belongs to it, and nothing where a
+-- log gave the version, since the session has that beside the catalogue.
 use Rattle.sz_catalogue.specs.Holdings.{Version}
 use Rattle.sz_session.specs.Stores.{IsTrailOf, settled_trail}
 use Rattle.sz_session.specs.declared.carry.Carry.{Carry}

@@ -80,7 +80,8 @@ IfBadLog (Some disk) Claim = (at : ℕ) → IsFirstBad disk at → Claim at
 -- The disk is told, and is a well-made log.
 abbrev pub IsWellMadeLog : Option (List ℕ) → Type 0
 IsWellMadeLog None = ⊥
-IsWellMadeLog (Some disk) = (at : ℕ) × (c : Holdings) × (kept : List Kept) × IsWellMade disk at c kept
+IsWellMadeLog (Some disk) =
+    (at : ℕ) × (c : Holdings) × (kept : List Kept) × IsWellMade disk at c kept
 
 -- The disk is told, and begins as a log.
 abbrev pub BeginsAsLog : Option (List ℕ) → Type 0

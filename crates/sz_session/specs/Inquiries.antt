@@ -1,5 +1,5 @@
--- What is asked along a path of a version that is held: by what it carries, or by the stores that the
--- log gave of it.
+-- What is asked along a path of a version that is held: by what it carries, or by the stores that
+-- the log gave of it.
 use Rattle.std.specs.Prelude.{◌≡◌, ℕ, List, Option, Some, None, true}
 use Rattle.sz_spec.specs.declared.modes.Dir.{Dir}
 use Rattle.sz_spec.specs.Paths.{Step}

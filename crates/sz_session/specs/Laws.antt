@@ -148,8 +148,8 @@ SessionsOfNoLogArePlain = (c : Holdings) (bytes : List ℕ)
 
 -- ---- sound logs
 
--- A session on a well-made log, each of whose stores stands for the relation, says what the catalogue
--- alone tells: no store changes an answer.
+-- A session on a well-made log, each of whose stores stands for the relation, says what the
+-- catalogue alone tells: no store changes an answer.
 abbrev pub SoundLogsArePlain : Type 0
 SoundLogsArePlain = (disk : List ℕ) (at : ℕ) (c : Holdings) (kept : List Kept) (bytes : List ℕ)
     → IsWellMade disk at c kept → AreSoundKept c kept

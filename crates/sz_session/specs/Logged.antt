@@ -1,9 +1,9 @@
 -- A log beside its session: what the disk of the station is while a session of a log goes on, and
 -- what a stop in the middle of a command leaves of it.
 --
--- A session of a log holds versions that were started and not awaited yet; its log holds the same but
--- for these (`durable`). What a command makes durable is a group more of the log. Which stores a log
--- has kept is said for each list of stores that it may have kept before.
+-- A session of a log holds versions that were started and not awaited yet; its log holds the same
+-- but for these (`durable`). What a command makes durable is a group more of the log. Which stores
+-- a log has kept is said for each list of stores that it may have kept before.
 use Rattle.std.specs.Prelude.{◌≡◌, ◌⊎◌, ℕ, List, [], ◌∷◌, ◌++◌, Option, Some, None, ⊤}
 use Rattle.std.specs.Prelude.{Bool, true, false, not, if◌then◌else◌, Result, Ok, Err}
 use Rattle.sz_outside.specs.Disk.{Only, Said, Told}
@@ -87,8 +87,8 @@ KeepsLog T c None d (Some next) old new = ⊥
 KeepsLog T c (Some at) d None old new = ⊥
 KeepsLog T c (Some at) d (Some next) old new = GoesOn T c at d next old new
 
--- At every moment of the call a stop leaves a log of what is durable of c or of d, and what was said
--- before; a session of no log leaves the station.
+-- At every moment of the call a stop leaves a log of what is durable of c or of d, and what was
+-- said before; a session of no log leaves the station.
 abbrev pub StopsInLog : {X : Type 0} → Ghosts X → Holdings → Option ℕ → Holdings → X → X → Type 0
 StopsInLog T c None d old new = new ≡ old
 StopsInLog T c (Some at) d old new =
@@ -96,8 +96,8 @@ StopsInLog T c (Some at) d old new =
 
 -- ---- a log that was opened
 
--- All that is held of a log that was opened is durable: its versions were awaited. So the log stands
--- beside the session of what it held.
+-- All that is held of a log that was opened is durable: its versions were awaited. So the log
+-- stands beside the session of what it held.
 abbrev pub OpenedLogsStand : Type 0
 OpenedLogsStand = (disk : Option (List ℕ)) (at : ℕ) (c : Holdings) (kept : List Kept)
     → IsMade disk at c kept → IsMade disk at (durable c) kept
@@ -132,8 +132,8 @@ IsLasting order lasting.Nothing = lasts order ≡ false
 
 -- ---- which lines are written, and how
 
--- whether a command that no rule refuses makes something durable: an await where its version was not
--- awaited before, and any other where it lasts
+-- whether a command that no rule refuses makes something durable: an await where its version was
+-- not awaited before, and any other where it lasts
 abbrev pub makes : Holdings → Command → Bool
 makes c (command.Await n) = not (version_of c n).awaited
 makes c order = lasts order
@@ -159,8 +159,8 @@ IsLineGroup order line e = (is_of_kind e.kind order ≡ true) × (e.body ≡ lin
 abbrev pub IsVersionGroup : Holdings → ℕ → Entry → Type 0
 IsVersionGroup c n e = (e.kind ≡ 4) × IsSoundBody n (version_of c n) e.body
 
--- The group is what the command of a line makes durable: of an await the body of its version, and of
--- any other the line.
+-- The group is what the command of a line makes durable: of an await the body of its version, and
+-- of any other the line.
 abbrev pub IsGroupFor : Holdings → List ℕ → Command → Entry → Type 0
 IsGroupFor c line (command.Await n) e = IsVersionGroup c n e
 IsGroupFor c line order e = IsLineGroup order line e

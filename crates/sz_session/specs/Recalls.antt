@@ -26,8 +26,8 @@ pub record IsRecalledIn (c : Holdings) (r : Recall) : Type 0 where
 abbrev pub AreRecalled : Holdings → List Recall → Type 0
 AreRecalled c rs = All (IsRecalledIn c) rs
 
--- What is kept true of a session: the flows and the versions that are held are sound, and those that
--- the log gave are held, with their executions and stores that fit.
+-- What is kept true of a session: the flows and the versions that are held are sound, and those
+-- that the log gave are held, with their executions and stores that fit.
 pub record IsInService (c : Holdings) (rs : List Recall) : Type 0 where
   pub sound : AreSound c
   pub recalled : AreRecalled c rs

@@ -163,8 +163,8 @@ SaidOfRead c (Some bytes) left said_before said = (n : ℕ) × (n ≤ length byt
 
 -- The source had more bytes than a session may have: those and one more were read, and what was
 -- said is the replies of the whole lines among those.
-abbrev pub SaidToLimit : State → ℕ → Option (List ℕ) → Option (List ℕ) → Option (List ℕ) → Option (List ℕ)
-    → Type 0
+abbrev pub SaidToLimit :
+    State → ℕ → Option (List ℕ) → Option (List ℕ) → Option (List ℕ) → Option (List ℕ) → Type 0
 SaidToLimit c limit None left said_before said = ⊤
 SaidToLimit c limit (Some bytes) left said_before said = (limit < length bytes)
     × (left ≡ Some (drop (limit + 1) bytes))
@@ -207,8 +207,8 @@ pub record Opening : Type 0 where
 
 -- So many bytes were read. What was said is the replies of all whole lines among them, and what is
 -- held is like the moment after them.
-pub record HasAnswered (c : State) (bytes : List ℕ) (left said_before said : Option (List ℕ)) (now : Moment)
-    (count : ℕ) : Type 0 where
+pub record HasAnswered (c : State) (bytes : List ℕ) (left said_before said : Option (List ℕ))
+    (now : Moment) (count : ℕ) : Type 0 where
   pub within : count ≤ length bytes
   pub is_left : left ≡ Some (drop count bytes)
   pub says : Says said_before said (whole_replies c (take count bytes))

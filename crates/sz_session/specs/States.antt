@@ -1,8 +1,8 @@
 -- What a session holds, and what a command does to it.
 --
 -- Beside its catalogue a session of a log has, of each version that the log gave, the stores that
--- were read of it. Such a version is answered by what these stand for, and any other by the composed
--- relation. Of a log that is sound both are the same.
+-- were read of it. Such a version is answered by what these stand for, and any other by the
+-- composed relation. Of a log that is sound both are the same.
 use Rattle.std.specs.Prelude.{ℕ, List, [], ◌==◌, Option, Some, None, find}
 use Rattle.std.specs.Prelude.{option_map, Result, Ok, Err}
 use Rattle.sz_cells.specs.Cells.{Cells}
@@ -21,8 +21,8 @@ use Rattle.sz_catalogue.specs.Responses.{Response, cells, refused}
 use Rattle.sz_recover.specs.Logs.{Kept}
 use Rattle.sz_session.specs.Recalled.{cells_recalled}
 
--- the catalogue; the stores of the versions that the log gave; and, of a session of a log, where the
--- log's first closed gate stands
+-- the catalogue; the stores of the versions that the log gave; and, of a session of a log, where
+-- the log's first closed gate stands
 pub record State : Type 0 where
   pub held : Holdings
   pub logged : List Kept
@@ -61,7 +61,8 @@ changed s r = (record s { held = r.0 }, r.1)
 -- what a command that no rule refuses changes, and its reply
 abbrev pub accepted : State → Command → State × Response
 accepted s (command.Ask n dir path named) = (s, cells (cells_told s n dir path named))
-accepted s (command.Array name array) = changed s (changes.accepted s.held (command.Array name array))
+accepted s (command.Array name array) =
+    changed s (changes.accepted s.held (command.Array name array))
 accepted s (command.Csv name array) = changed s (changes.accepted s.held (command.Csv name array))
 accepted s (command.Layers name array) =
     changed s (changes.accepted s.held (command.Layers name array))

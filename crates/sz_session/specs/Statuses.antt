@@ -66,7 +66,8 @@ is_of_disk (status.BadLog at) = true
 is_of_disk _ = false
 
 -- What was read and said by then, for each status that a session of lines ends with.
-abbrev pub Ends : State → Status → ℕ → Option (List ℕ) → Option (List ℕ) → Option (List ℕ) → Option (List ℕ)
+abbrev pub Ends :
+    State → Status → ℕ → Option (List ℕ) → Option (List ℕ) → Option (List ℕ) → Option (List ℕ)
     → Type 0
 Ends c status.Done limit before left said_before said = Done c limit before left said_before said
 Ends c status.Usage limit before left said_before said = ⊥

@@ -1,5 +1,5 @@
--- What a session keeps of a version's nodes: of each whose list has a strategy that keeps a store, a
--- shelf on which its stores grow, or its stores once they are whole.
+-- What a session keeps of a version's nodes: of each whose list has a strategy that keeps a store,
+-- a shelf on which its stores grow, or its stores once they are whole.
 use Rattle.std.specs.Prelude.{◌≡◌, List, [], ◌∷◌, map, Bool, true, false}
 use Rattle.std.specs.List.{AllZip, list_any, list_all}
 use Rattle.std.specs.Arc.{arc_value}

@@ -24,8 +24,8 @@ told_text (l ∷ lines) (r ∷ replies) =
     reply_line l.number (response_of r) ++ told_text lines replies
 told_text _ _ = []
 
--- The end of a line was taken in. Once what waits behind it is said too, what is said is what waited
--- before it, and then what the line tells.
+-- The end of a line was taken in. Once what waits behind it is said too, what is said is what
+-- waited before it, and then what the line tells.
 abbrev pub Lags : Option (List ℕ) → Option (List ℕ) → Moment → Moment → List AskLine
     → List AskLine → Type 0
 Lags said_before said before now waited waiting = (later : Option (List ℕ))
@@ -45,8 +45,8 @@ SaysBy (Err halt.SayFault) said_before said first further =
     SaysPart said_before said (first ++ further)
 SaysBy _ said_before said first further = SaysWhole said_before said first further
 
--- These bytes were taken in, and the replies of all lines that ended in them are said, but for those
--- of asks that wait; the replies that were said are whole.
+-- These bytes were taken in, and the replies of all lines that ended in them are said, but for
+-- those of asks that wait; the replies that were said are whole.
 pub record Waits (said_before said : Option (List ℕ)) (before now : Moment) (bytes : List ℕ)
     (waiting : List AskLine) : Type 0 where
   pub told : (later : Option (List ℕ)) → Says said later (asks_text now.held waiting)

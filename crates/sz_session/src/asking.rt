@@ -109,8 +109,8 @@ pub(crate) fn work_out<G: Gate, R: Threads + Wait + Sync>(
 }
 
 impl Session {
-    /// The replies to asks that were worked on, in their order. The session is lent for the contract
-    /// alone: what it holds says what they are.
+    /// The replies to asks that were worked on, in their order. The session is lent for the
+    /// contract alone: what it holds says what they are.
     pub(crate) fn replies_to(
         &self,
         lines: &[AskLine],

@@ -136,7 +136,8 @@ fn whole_stores<R: Wait>(
     begun: Vec<NodeStores>,
 ) -> Result<Vec<NodeStores>, NoMemory>
     requires listed { AreListed (map execution_of runs.now) lists.now }
-    requires kept { AreKeptOf false (map execution_of runs.now) lists.now (map keeping_of begun.items) }
+    requires kept { AreKeptOf false (map execution_of runs.now) lists.now
+        (map keeping_of begun.items) }
     ensures { IfOk result (λ v.
         AreKeptOf true (map execution_of runs.now) lists.now (map keeping_of v.items)) }
 {

@@ -392,8 +392,8 @@ impl Feed {
     }
 
     /// Ends the line that has not ended, behind asks that wait. An ask waits too, where there are
-    /// several askers and no log; before any other line, and where as many wait as there are askers,
-    /// the replies of those that wait are said.
+    /// several askers and no log; before any other line, and where as many wait as there are
+    /// askers, the replies of those that wait are said.
     fn take_line<T: Station, G: Gate, R: Threads + Wait + Sync>(
         &mut self,
         rt: &R,
@@ -448,8 +448,8 @@ impl Feed {
         self.session.end.is_none() && self.session.has_askers()
     }
 
-    /// Ends the line that has not ended, which gives an ask: it waits behind others, whose replies are
-    /// said first where there are as many as askers. The session has no log.
+    /// Ends the line that has not ended, which gives an ask: it waits behind others, whose replies
+    /// are said first where there are as many as askers. The session has no log.
     fn take_ask<T: Station, G: Gate, R: Threads + Wait + Sync>(
         &mut self,
         rt: &R,
@@ -502,8 +502,8 @@ impl Feed {
         Ok(())
     }
 
-    /// Has the asks that wait answered, and says their replies, in their order: all of them, or where
-    /// memory is refused none. Where no ask waits nothing is done.
+    /// Has the asks that wait answered, and says their replies, in their order: all of them, or
+    /// where memory is refused none. Where no ask waits nothing is done.
     fn say_waiting<T: Station, G: Gate, R: Threads + Wait + Sync>(
         &mut self,
         rt: &R,

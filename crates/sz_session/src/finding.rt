@@ -31,8 +31,8 @@ use sz_shelf::{Pass, Shelf};
 use sz_spec::{Array, ArrayList, Dir, Strategy, way};
 
 /// What is asked along a path from some named cells, each step by the view of its node for the way
-/// of the step. It shares what the run holds, and a view of a shelf has a pass that is split off, for
-/// which the run is lent.
+/// of the step. It shares what the run holds, and a view of a shelf has a pass that is split off,
+/// for which the run is lent.
 pub(crate) fn inquiry_along(
     alloc: Global,
     version: &HeldVersion<Carry>,
@@ -189,8 +189,8 @@ fn view_by(
     }
 }
 
-/// The view by what a strategy keeps: by its store, by its shelf while that grows, and where nothing
-/// is kept by a trace.
+/// The view by what a strategy keeps: by its store, by its shelf while that grows, and where
+/// nothing is kept by a trace.
 fn kept_view(
     alloc: Global,
     way: Strategy,

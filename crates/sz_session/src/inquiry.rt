@@ -44,9 +44,9 @@ impl Model for Inquiry {
 }
 
 impl Inquiry {
-    /// What is found: each view is asked once. The tally rises by the output sizes of the steps that
-    /// are told as traced, and stays where there is no memory. Costs what the steps cost, and what
-    /// bitmaps cost of which there is no spare one.
+    /// What is found: each view is asked once. The tally rises by the output sizes of the steps
+    /// that are told as traced, and stays where there is no memory. Costs what the steps cost, and
+    /// what bitmaps cost of which there is no spare one.
     pub(crate) fn answer<R: Wait>(
         self,
         alloc: Global,

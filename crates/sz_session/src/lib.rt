@@ -8,9 +8,9 @@
 //! `after_input_limit`), a first part of the transcript (`after_say_fault`), or the first so many
 //! of its lines (`after_no_memory`). `quiet` says that a session is done only where no fault was
 //! counted, and `completes` that there is no other ending without one. Nothing depends on how many
-//! bytes a read gives, nor on how many workers there are or what they do. The disk of the station is
-//! as before, whatever the status (`disk`), and a stop at any moment of the call finds a first part
-//! of what is said (`found_in_play`, `found_in_load`).
+//! bytes a read gives, nor on how many workers there are or what they do. The disk of the station
+//! is as before, whatever the status (`disk`), and a stop at any moment of the call finds a first
+//! part of what is said (`found_in_play`, `found_in_load`).
 //!
 //! In mode init the disk is made the empty log, and one line says so (`made`, `ready`), or it stays
 //! as it is, since it is a log already or too long (`barred`); a stop at any moment leaves the old
@@ -21,11 +21,11 @@
 //! begin as a log, and a log with a bad group, have statuses of their own (`no_log`, `unlike`,
 //! `bad_log`), and the disk is as before (`found_in_check`).
 //!
-//! In mode load the lines are those of a session that is made from a seed and a side (`sz_gen`), and
-//! what is said is the one line that sums up their replies (`load`); `load_after_say_fault` and
+//! In mode load the lines are those of a session that is made from a seed and a side (`sz_gen`),
+//! and what is said is the one line that sums up their replies (`load`); `load_after_say_fault` and
 //! `load_after_no_memory` say what was said of it by the other endings. Words that ask for no mode
-//! that there is end with Usage, or where there was no memory for reading them (`usage`, `refused`),
-//! and then nothing was touched.
+//! that there is end with Usage, or where there was no memory for reading them (`usage`,
+//! `refused`), and then nothing was touched.
 //!
 //! ```text
 //! {"array":"a","cells":[[5]]}                                         1 array a 1
@@ -46,23 +46,23 @@
 //!
 //! In mode run the log of the station is opened, and the session goes on from it (`run`): what is
 //! said is the transcript from what the log holds, and a stop at any moment finds the replies of so
-//! many lines said, and perhaps a part of the next one, and leaves a well-made log of what is durable
-//! behind those lines, or behind one more. In mode check the log is opened, and one line says whether
-//! each of its stores stands for the relation (`checked`).
+//! many lines said, and perhaps a part of the next one, and leaves a well-made log of what is
+//! durable behind those lines, or behind one more. In mode check the log is opened, and one line
+//! says whether each of its stores stands for the relation (`checked`).
 //!
-//! A log that was opened is gone on from by [`Session::of_log`]: it holds what the log holds, computes
-//! the values of its versions again, and answers of each by the stores that were read of it, whatever
-//! they stand for (`cells_recalled` of `specs/Recalled`). Where they stand for the relation that is
-//! the composed relation ([`recalling::sound_stores_answer_the_relation`]). So contracts see a session
-//! as a `State`: its catalogue, and beside it the stores that a log gave; of a session of no log the
-//! catalogue says all ([`laws::sessions_of_no_log_are_plain`]).
+//! A log that was opened is gone on from by [`Session::of_log`]: it holds what the log holds,
+//! computes the values of its versions again, and answers of each by the stores that were read of
+//! it, whatever they stand for (`cells_recalled` of `specs/Recalled`). Where they stand for the
+//! relation that is the composed relation ([`recalling::sound_stores_answer_the_relation`]). So
+//! contracts see a session as a `State`: its catalogue, and beside it the stores that a log gave;
+//! of a session of no log the catalogue says all ([`laws::sessions_of_no_log_are_plain`]).
 //!
 //! What a command of such a session makes durable is written to the log before its reply is given
 //! (`logging`): an accepted line that holds an array or a flow or sets strategies, and a version at
-//! its first await, with stores that stand for the relation. `specs/Logged` says what the station has
-//! beside the session (`HasLog`), what a command makes of it (`KeepsLog`) and what a stop leaves
-//! (`StopsInLog`); `specs/Running` says it of lines, one after another, and `specs/Continuing` of the
-//! whole call.
+//! its first await, with stores that stand for the relation. `specs/Logged` says what the station
+//! has beside the session (`HasLog`), what a command makes of it (`KeepsLog`) and what a stop
+//! leaves (`StopsInLog`); `specs/Running` says it of lines, one after another, and
+//! `specs/Continuing` of the whole call.
 //!
 //! To whoever changes this crate: what bytes tell as they come, and the moment that they leave, are
 //! functions of `specs/Moments.antt`, and both go by parts. `feed` is at each turn *like* that
@@ -75,12 +75,13 @@
 //! that keeps a store, while the version is not awaited, nothing, a shelf of it or its stores; once
 //! it is awaited, its stores, whole, of the list at the start, each of which stands for exactly the
 //! relation. A call that works on it takes it out of the catalogue and leaves one that stands in,
-//! which belongs to the version too (`take_out`, `put_back`). When stores are built, `building` says
-//! alone. What is answered by views of a path's nodes is the composed relation, by `sz_query`'s law;
-//! that these views are those of the nodes is read off the executions, in `proofs/Steps` and
-//! `proofs/PathViews`: whether a view of a shelf was told as traced is its look's answer, so before
-//! an await the tally is known from below and above, and once it is awaited exactly. That what is
-//! taken off a shelf stands for the relation is a clause of `sz_shelf`.
+//! which belongs to the version too (`take_out`, `put_back`). When stores are built, `building`
+//! says alone. What is answered by views of a path's nodes is the composed relation, by
+//! `sz_query`'s law; that these views are those of the nodes is read off the executions, in
+//! `proofs/Steps` and `proofs/PathViews`: whether a view of a shelf was told as traced is its
+//! look's answer, so before an await the tally is known from below and above, and once it is
+//! awaited exactly. That what is taken off a shelf stands for the relation is a clause of
+//! `sz_shelf`.
 #![tactic(auto)]
 
 mod asking;

@@ -1,9 +1,10 @@
-//! A session of a log: what a command makes durable is written to the log before its reply is given.
+//! A session of a log: what a command makes durable is written to the log before its reply is
+//! given.
 //!
-//! An accepted line that holds an array or a flow, or sets strategies, is appended as it stands, once
-//! the session has taken it; a version is appended at its first await, with its stores, before the
-//! session notes the await. Nothing else is written. So where there is no memory nothing was, and
-//! where the disk fails the log holds what it held, or what it would.
+//! An accepted line that holds an array or a flow, or sets strategies, is appended as it stands,
+//! once the session has taken it; a version is appended at its first await, with its stores, before
+//! the session notes the await. Nothing else is written. So where there is no memory nothing was,
+//! and where the disk fails the log holds what it held, or what it would.
 
 ghost use Rattle.std.specs.Prelude.{◌≡◌, ◌+◌, ◌*◌, ◌^◌, ◌<◌, ◌≤◌, true, false, None, Some, Ok, Err};
 ghost use Rattle.std.specs.Prelude.{IfOk, OnOk};
@@ -69,7 +70,8 @@ impl Session {
             (held_after self.old line.now) station.old station.new }
         ensures output { (T.said station.new ≡ T.said station.old)
             × (T.say_faults station.new ≡ T.say_faults station.old) }
-        ensures quiet { OnOk result (Stood (T.disk_faults station.old) (T.disk_faults station.new)) }
+        ensures quiet { OnOk result
+            (Stood (T.disk_faults station.old) (T.disk_faults station.new)) }
         ensures fault { result ≡ Err Stop.DiskFault
             → Rose (T.disk_faults station.old) (T.disk_faults station.new) }
         ensures kept { result ≡ Err Stop.NoMemory
@@ -116,7 +118,8 @@ impl Session {
             (after_command self.old command).0.held station.old station.new }
         ensures output { (T.said station.new ≡ T.said station.old)
             × (T.say_faults station.new ≡ T.say_faults station.old) }
-        ensures quiet { OnOk result (Stood (T.disk_faults station.old) (T.disk_faults station.new)) }
+        ensures quiet { OnOk result
+            (Stood (T.disk_faults station.old) (T.disk_faults station.new)) }
         ensures fault { result ≡ Err Stop.DiskFault
             → Rose (T.disk_faults station.old) (T.disk_faults station.new) }
         ensures kept { result ≡ Err Stop.NoMemory
@@ -162,7 +165,8 @@ impl Session {
             (accepted self.old command).0.held station.old station.new }
         ensures output { (T.said station.new ≡ T.said station.old)
             × (T.say_faults station.new ≡ T.say_faults station.old) }
-        ensures quiet { OnOk result (Stood (T.disk_faults station.old) (T.disk_faults station.new)) }
+        ensures quiet { OnOk result
+            (Stood (T.disk_faults station.old) (T.disk_faults station.new)) }
         ensures fault { result ≡ Err Stop.DiskFault
             → Rose (T.disk_faults station.old) (T.disk_faults station.new) }
         ensures kept { result ≡ Err Stop.NoMemory
@@ -206,7 +210,8 @@ impl Session {
             (changes.accepted self.old.held command).0 station.old station.new }
         ensures output { (T.said station.new ≡ T.said station.old)
             × (T.say_faults station.new ≡ T.say_faults station.old) }
-        ensures quiet { OnOk result (Stood (T.disk_faults station.old) (T.disk_faults station.new)) }
+        ensures quiet { OnOk result
+            (Stood (T.disk_faults station.old) (T.disk_faults station.new)) }
         ensures fault { result ≡ Err Stop.DiskFault
             → Rose (T.disk_faults station.old) (T.disk_faults station.new) }
         ensures kept { result ≡ Err Stop.NoMemory
@@ -239,7 +244,8 @@ impl Session {
             (changes.accepted self.old.held (order.Await version)).0 station.old station.new }
         ensures output { (T.said station.new ≡ T.said station.old)
             × (T.say_faults station.new ≡ T.say_faults station.old) }
-        ensures quiet { OnOk result (Stood (T.disk_faults station.old) (T.disk_faults station.new)) }
+        ensures quiet { OnOk result
+            (Stood (T.disk_faults station.old) (T.disk_faults station.new)) }
         ensures fault { result ≡ Err Stop.DiskFault
             → Rose (T.disk_faults station.old) (T.disk_faults station.new) }
         ensures kept { result ≡ Err Stop.NoMemory

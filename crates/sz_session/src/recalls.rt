@@ -75,8 +75,8 @@ pub(crate) fn find(recalled: &[Recalled], version: u32) -> Option<&Recalled>
     None
 }
 
-/// What a session has of each version of a catalogue that a log gave, with its stores: the values of
-/// its nodes are computed again, each once.
+/// What a session has of each version of a catalogue that a log gave, with its stores: the values
+/// of its nodes are computed again, each once.
 pub(crate) fn recall_each<R: Threads + Sync, K: Carried>(
     rt: &R,
     alloc: Global,

@@ -32,7 +32,8 @@ ghost use Rattle.sz_session.specs.Making.{IsSilent};
 ghost use Rattle.sz_session.specs.Disks.{DiskStays, StaysFinding, OnlySays, FoundInPart};
 ghost use Rattle.sz_session.specs.Disks.{StopsMaking};
 ghost use Rattle.sz_session.specs.Checking.{SaysLine, SaysPartOfLine, IfNoLog, BeginsAsLog};
-ghost use Rattle.sz_session.specs.Checking.{StopsChecking, IsUnlike, IsBadLog, IfBadLog, IsWellMadeLog};
+ghost use Rattle.sz_session.specs.Checking.{StopsChecking, IsUnlike, IsBadLog, IfBadLog};
+ghost use Rattle.sz_session.specs.Checking.{IsWellMadeLog};
 ghost use Rattle.sz_words.specs.Job.{job_of, IsInRange};
 
 use crate::carry::Carry;
@@ -145,15 +146,15 @@ const LIMIT: u64 = 1 << 62;
 ///   sound (`sound 2`), or the first that is not (`unsound version 1 node 0 full_one_b`). A disk
 ///   that does not begin as a log, or a log with a bad group, has a status of its own.
 /// - `run` opens the log on the disk of the station, and answers the lines of the source as `play`
-///   does, from what the log holds. What a line makes durable is in the log before its reply is said
-///   (`run`). Asks are answered one by one.
+///   does, from what the log holds. What a line makes durable is in the log before its reply is
+///   said (`run`). Asks are answered one by one.
 ///
 /// But in init and run the disk of the station is as before, whatever the status (`disk`,
-/// `found_in_check`). A stop of the machine at any moment of the call finds a first part of what the
-/// mode says (`found_in_play`, `found_in_load`, `found_in_init`, `found_in_check`, and `found` of
-/// what `run` gives). In init it leaves of the disk the old bytes, at most 17 bytes that are no log,
-/// or the empty log; and in run a well-made log that holds what is durable behind the lines whose
-/// replies were said, or behind one line more.
+/// `found_in_check`). A stop of the machine at any moment of the call finds a first part of what
+/// the mode says (`found_in_play`, `found_in_load`, `found_in_init`, `found_in_check`, and `found`
+/// of what `run` gives). In init it leaves of the disk the old bytes, at most 17 bytes that are no
+/// log, or the empty log; and in run a well-made log that holds what is durable behind the lines
+/// whose replies were said, or behind one line more.
 ///
 /// As many threads as the words say work on what a start hands out, beside the lines; they are
 /// joined before the call returns. Nothing that is said depends on them.
@@ -388,7 +389,8 @@ fn play<
         (T.said station.old) (T.said station.new) }
     ensures fault { AreCounted result (S.faults source.old) (S.faults source.new)
         (T.say_faults station.old) (T.say_faults station.new) }
-    ensures disk { StaysFinding T.Station (FoundInPart nothing_held (S.left source.old) (T.said station.old))
+    ensures disk { StaysFinding T.Station
+        (FoundInPart nothing_held (S.left source.old) (T.said station.old))
         station.old station.new }
 {
     let Ok(mut buffer) = vec![in alloc; 0u8; CHUNK] else {
@@ -403,8 +405,8 @@ fn play<
     status
 }
 
-/// Opens the log of the station, once what is pending of its disk is put where a stop leaves it, and
-/// goes on with it.
+/// Opens the log of the station, once what is pending of its disk is put where a stop leaves it,
+/// and goes on with it.
 fn run_log<
     S: Source,
     T: Station,
@@ -553,7 +555,8 @@ fn read_all<S: Source, T: Station, G: Gate, R: Threads + Wait + Sync>(
         → Stood (T.disk_faults station.old) (T.disk_faults station.new) }
     ensures behind { result ≡ Status.Done
         → StandsBehind T.Station opening.held feed.old.end opening.left station.old station.new }
-    ensures found { FindsAll T.Station opening.held feed.old.end opening.left station.old station.new }
+    ensures found { FindsAll T.Station opening.held feed.old.end opening.left
+        station.old station.new }
 {
     let mut total = 0u64;
     'chunks: loop {
@@ -590,8 +593,8 @@ fn take_turn<S: Source, T: Station, G: Gate, R: Threads + Wait + Sync>(
     ensures answered { IfOk result (λ count. Answered opening.held opening.left (S.left source.new)
         opening.said (T.said station.new) feed.new (total + count)) }
     ensures all { result ≡ Ok 0 → AreAll opening.left total }
-    ensures ends { IfErr result (λ status. EndsLines opening.held status limit opening.left (S.left source.new)
-        opening.said (T.said station.new)) }
+    ensures ends { IfErr result (λ status. EndsLines opening.held status limit
+        opening.left (S.left source.new) opening.said (T.said station.new)) }
     ensures fault { IfErr result (λ status. AreCountedInLines status
         (S.faults source.old) (S.faults source.new)
         (T.say_faults station.old) (T.say_faults station.new)) }

@@ -1,8 +1,8 @@
 //! A session: what is held, and what a line does to it.
 //!
 //! Contracts see a session as a `State`. Each version that is started here carries the runs of its
-//! nodes and their stores (`VersionRun`), so that no value is computed twice; of each that a log gave
-//! the session has them beside the catalogue (`Recalled`).
+//! nodes and their stores (`VersionRun`), so that no value is computed twice; of each that a log
+//! gave the session has them beside the catalogue (`Recalled`).
 
 ghost use Rattle.std.specs.Prelude.{◌≡◌, ◌+◌, ◌*◌, ◌^◌, ◌<◌, ◌≤◌, true, false, None, Err, map};
 ghost use Rattle.std.specs.Prelude.{IfOk, OnOk, OnErr, length, if◌then◌else◌, Some};
@@ -212,11 +212,11 @@ impl Session {
     /// node with a stored strategy. An await costs the pieces of lineage that workers left undone.
     /// Any other line costs what it reads, looks up and answers.
     ///
-    /// For a session of a log the station's disk is that log (`HasLog`): what the line makes durable
-    /// is appended to it as one group, at the cost of its bytes (`appends`); any other line leaves
-    /// the station as it was (`idle`); and no write is pending then. At every moment a stop leaves a
-    /// log of what was durable before, or of what is then (`stops`). Where the disk fails the log has
-    /// to be opened again. A session of no log makes no call on the station.
+    /// For a session of a log the station's disk is that log (`HasLog`): what the line makes
+    /// durable is appended to it as one group, at the cost of its bytes (`appends`); any other line
+    /// leaves the station as it was (`idle`); and no write is pending then. At every moment a stop
+    /// leaves a log of what was durable before, or of what is then (`stops`). Where the disk fails
+    /// the log has to be opened again. A session of no log makes no call on the station.
     pub fn command<T: Station, G: Gate, R: Threads + Wait + Sync>(
         &mut self,
         rt: &R,
@@ -248,7 +248,8 @@ impl Session {
             self.old.end self.new.end station.old station.new) }
         ensures output { (T.said station.new ≡ T.said station.old)
             × (T.say_faults station.new ≡ T.say_faults station.old) }
-        ensures quiet { OnOk result (Stood (T.disk_faults station.old) (T.disk_faults station.new)) }
+        ensures quiet { OnOk result
+            (Stood (T.disk_faults station.old) (T.disk_faults station.new)) }
         ensures fault { result ≡ Err Stop.DiskFault
             → Rose (T.disk_faults station.old) (T.disk_faults station.new) }
         ensures plain { self.old.end ≡ None → result ≡ Err Stop.DiskFault → ⊥ }
@@ -469,8 +470,8 @@ impl Session {
         Ok(reply)
     }
 
-    /// Awaits a version: makes what is missing of its stores, takes them off their shelves, and notes
-    /// the await. One that a log gave was awaited before, and has its stores.
+    /// Awaits a version: makes what is missing of its stores, takes them off their shelves, and
+    /// notes the await. One that a log gave was awaited before, and has its stores.
     pub(crate) fn await_version<R: Wait>(&mut self, rt: &R, version: u32) -> Result<Reply, NoMemory>
         requires judged { judged self.old.held (order.Await version) ≡ None }
         ensures reply { IfOk result
@@ -484,8 +485,8 @@ impl Session {
         Ok(self.note_await(version, Carry::Run(run)))
     }
 
-    /// What a version carries once it is awaited: what is missing of its stores is made, and they are
-    /// taken off their shelves. One that stands in for it is held meanwhile.
+    /// What a version carries once it is awaited: what is missing of its stores is made, and they
+    /// are taken off their shelves. One that stands in for it is held meanwhile.
     pub(crate) fn whole_run<R: Wait>(
         &mut self,
         rt: &R,
@@ -659,7 +660,8 @@ impl Session {
         gate: &G,
         tally: &mut Tally,
     ) -> Result<Reply, NoMemory>
-        requires judged { judged self.old.held (order.Explain version dir path.now named.now) ≡ None }
+        requires judged { judged self.old.held (order.Explain version dir path.now named.now)
+            ≡ None }
         requires room { tally.old + 32 * 1048576 < 2 ^ 63 }
         ensures reply { IfOk result (λ r. accepted self.old
             (order.Explain version dir path.now named.now) ≡ (self.new, response_of r)) }

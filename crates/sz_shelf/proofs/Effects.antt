@@ -1,7 +1,7 @@
 -- What each kind of step changes.
 -- Key idea: a table has one slot. An act on it by a seat that has nothing out takes the store or leaves all as it was,
--- and an act by the seat that has it out gives it back or leaves all as it was: which of the two, what the seat then has
--- out says.
+-- and an act by the seat that has it out gives it back or leaves all as it was: which of the two, what the seat then
+-- has out says.
 use Rattle.std.proofs.Common.{◌≡◌, ℕ, zero, suc, ◌⊎◌, inl, inr, List, [], ◌∷◌, ◌++◌, Bool, set}
 use Rattle.std.proofs.Common.{length}
 use Rattle.std.proofs.Common.{sym, refl, ap, ap₂, ◌∙◌, subst, arith, ⊎_elim, eq-eqb, ne_eqb}

@@ -378,7 +378,8 @@ clear-on fine flow s m takes clear (t ∷ path) joined begins =
     All-tail (λ r. (x : Node) → slice_get flow.nodes r.node ≡ Some x → fine x) s (t ∷ path)
     (clear (s ∷ t ∷ path) (joined-on flow s t path here joined) refl)
 
-pub agree-on : (leads : Step → Cell → Cell → Type 0) (flow : Graph) (old new : List Grid) (s : Step) (m : ℕ) (o y : Cell)
+pub agree-on : (leads : Step → Cell → Cell → Type 0) (flow : Graph) (old new : List Grid) (s : Step)
+    (m : ℕ) (o y : Cell)
     → source_of flow s ≡ Some (source.Node m) → leads s o y
     → Agree leads flow old new s.node o → Agree leads flow old new m y
 agree-on leads flow old new s m o y takes led agree [] b cells x joined begins ends chain = absurd begins

@@ -232,7 +232,8 @@ words-begin s (f ∷ fs) before words rest right modes are =
     let own : Begins s (mode_of f.strategy) (before ++ (word ++ (more ++ rest))) (length before)
     (length before + length word) f.holding =
     subst (λ (m : Mode). Begins s m (before ++ (word ++ (more ++ rest))) (length before) (length before + length word)
-    f.holding) (sym (All-head IsOfItsMode f fs modes)) (word-begins s f.holding before word (more ++ rest) right are.2) in
+    f.holding) (sym (All-head IsOfItsMode f fs modes)) (word-begins s f.holding before word (more ++ rest) right are.2)
+    in
     let others = words-begin s fs (before ++ word) more rest right (All-tail IsOfItsMode f fs modes) are.3 in (
       length before + length word,
       omega (arith, long, length-append before (words ++ rest), length-append words rest),
@@ -240,7 +241,8 @@ words-begin s (f ∷ fs) before words rest right modes are =
       subst (λ (bs : List ℕ). Begins s (mode_of f.strategy) bs (length before) (length before + length word) f.holding)
           (sym front) own,
       subst (λ (bs : List ℕ). BeginEach s ts bs (length before + length word) (length before + length words) fs) behind
-          (subst (λ (n : ℕ). BeginEach s ts ((before ++ word) ++ (more ++ rest)) n (length before + length words) fs) place
+          (subst (λ (n : ℕ). BeginEach s ts ((before ++ word) ++ (more ++ rest)) n (length before + length words) fs)
+          place
           (subst (λ (n : ℕ). BeginEach s ts ((before ++ word) ++ (more ++ rest)) (length (before ++ word)) n fs) end
           others)),
     )

@@ -173,7 +173,8 @@ step-more s inputs list st p right below fits =
     ]
 
 -- all of them
-record IsRun (s : Site) (inputs : List Grid) (list : List Strategy) (ps : List Parts) (st last : NodeLineage) : Type 0 where
+record IsRun (s : Site) (inputs : List Grid) (list : List Strategy) (ps : List Parts)
+    (st last : NodeLineage) : Type 0 where
   right : AreRight s inputs list last
   own : (k : ℕ) → list_any (λ p. p.piece == k) ps ≡ true → is_placed last.placed k ≡ true
   others : (j : ℕ) → is_placed st.placed j ≡ true → is_placed last.placed j ≡ true

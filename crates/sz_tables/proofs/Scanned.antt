@@ -1,8 +1,8 @@
 -- What rows and region pairs add to an image.
 --
--- The key idea: what the first n region pairs add is a test of cells, so a row makes that test one pair wider, and at the
--- end the test is the image: whether some asked cell has some region pair, or some region pair has some asked cell, is
--- one.
+-- The key idea: what the first n region pairs add is a test of cells, so a row makes that test one pair wider, and at
+-- the end the test is the image: whether some asked cell has some region pair, or some region pair has some asked cell,
+-- is one.
 use Rattle.std.proofs.Common.{◌≡◌, ℕ, zero, suc, ◌+◌, ◌<◌, Bool, true, false, ◌&&◌, ◌||◌}
 use Rattle.std.proofs.Common.{List, [], ◌∷◌, map, length, take, get_or, Option, Some, None}
 use Rattle.std.proofs.Common.{refl, sym, ap, ap₂, ◌∙◌, arith, inl, inr}

@@ -18,8 +18,8 @@ use sz_spec::Tally;
 const LIMIT: u64 = 1_000_000_000;
 
 /// A gate that holds each piece until an ask was answered, and each answered ask until a piece was
-/// taken up. It counts how often the one or the other did not come, and pieces of others than node 0
-/// of version 1 and its piece 0.
+/// taken up. It counts how often the one or the other did not come, and pieces of others than node
+/// 0 of version 1 and its piece 0.
 #[derive(Drop)]
 struct Holding {
     pieces: AtomicU64,
@@ -74,8 +74,8 @@ const REPLIES: &[u8] = b"1 array a 1
 7 explain full_one_b traced 0
 ";
 
-/// A worker takes up the piece before the ask behind the start is answered, and that ask is answered
-/// while the piece is held.
+/// A worker takes up the piece before the ask behind the start is answered, and that ask is
+/// answered while the piece is held.
 #[test]
 fn a_worker_is_at_its_piece_while_an_ask_is_answered(rt: HostRuntime) -> Result<(), Fail> {
     let alloc = rt.alloc();

@@ -1,8 +1,8 @@
 //! Looks in both directions, whichever way a store is indexed, and its bytes. What each look finds
 //! was worked by hand.
 //!
-//! The operator is `lookup`, from 2 rows of 3 and a table of one row of 4. The region pairs are none
-//! of its own. By row-major indexes:
+//! The operator is `lookup`, from 2 rows of 3 and a table of one row of 4. The region pairs are
+//! none of its own. By row-major indexes:
 //!
 //! ```text
 //!     output   input 0   input 1

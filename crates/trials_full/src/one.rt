@@ -1,5 +1,5 @@
-//! Stores with memory to spare, indexed both ways and asked both ways. The cells that are found were
-//! worked by hand.
+//! Stores with memory to spare, indexed both ways and asked both ways. The cells that are found
+//! were worked by hand.
 
 ghost use Rattle.std.specs.Prelude.{◌≡◌, ◌<◌, ◌≤◌, ◌+◌, ◌∷◌, [], length, IfOk, OnOk};
 ghost use Rattle.std.specs.Arc.{arc_value};

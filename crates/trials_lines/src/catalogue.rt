@@ -281,7 +281,8 @@ fn exchanged(held: &mut Held, version: u32, number: u32) -> Option<u32> {
     Some(held.exchange(version, Mark { number }).number)
 }
 
-/// Whether the number that the await gave is handed out, and then the one that was put in its place.
+/// Whether the number that the await gave is handed out, and then the one that was put in its
+/// place.
 fn exchanges(held: &mut Held) -> bool {
     exchanged(held, 1, 3) == Some(2) && exchanged(held, 1, 4) == Some(3)
 }

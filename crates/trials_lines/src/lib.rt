@@ -1,8 +1,8 @@
 //! Tests of the lines of a session as they are read, and of what is held and replied.
 //!
-//! A crate is proved once for those above it and once more with its tests. So tests that call public
-//! functions alone stand in a crate that has nothing else. Each module is named for the crate that
-//! it tests.
+//! A crate is proved once for those above it and once more with its tests. So tests that call
+//! public functions alone stand in a crate that has nothing else. Each module is named for the
+//! crate that it tests.
 #![tactic(auto)]
 
 #[cfg(test)]

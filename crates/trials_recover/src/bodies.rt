@@ -142,9 +142,9 @@ fn add(
     Ok(taken.stores)
 }
 
-/// Whether the body is bad where one of its bytes is another: a number that no version can have, the
-/// names of a flow and of arrays that are not held and one that is no name, an array's version that
-/// is not held, no base array, too many nodes, a strategy that is none and one that is not the
+/// Whether the body is bad where one of its bytes is another: a number that no version can have,
+/// the names of a flow and of arrays that are not held and one that is no name, an array's version
+/// that is not held, no base array, too many nodes, a strategy that is none and one that is not the
 /// operator's, a set that is not in the table, and a set with a cell outside the shape.
 fn each_breaks(alloc: Global, held: &Catalogue<()>) -> Result<bool, Fail> {
     let number = breaks(alloc, held, 3, 0)?;

@@ -44,8 +44,8 @@ fn asks_again(alloc: Global, row: &Row) -> Result<Vec<u8>, Fail> {
     Ok(text)
 }
 
-/// With one worker and with several, in the session that keeps the version and in the one that opens
-/// the log again. The second changes nothing on the disk.
+/// With one worker and with several, in the session that keeps the version and in the one that
+/// opens the log again. The second changes nothing on the disk.
 #[test]
 fn an_opened_log_answers_as_before(rt: HostRuntime) -> Result<(), Fail> {
     let alloc = rt.alloc();

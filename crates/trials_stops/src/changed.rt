@@ -121,10 +121,10 @@ fn a_log_that_is_cut_is_bad_where_it_breaks_off(rt: HostRuntime) -> Result<(), F
     Ok(())
 }
 
-/// Of the body of a version one byte is another: a number that no version has, names of a flow and of
-/// an array that are not held, a version of the array that is not held, no base array, a node too
-/// many, no strategy, one that is none and one that is not the operator's, a set that is not in the
-/// table, and a run that ends outside the shape.
+/// Of the body of a version one byte is another: a number that no version has, names of a flow and
+/// of an array that are not held, a version of the array that is not held, no base array, a node
+/// too many, no strategy, one that is none and one that is not the operator's, a set that is not in
+/// the table, and a run that ends outside the shape.
 #[test]
 fn a_version_with_a_broken_body_is_bad_at_its_gate(rt: HostRuntime) -> Result<(), Fail> {
     let alloc = rt.alloc();
@@ -166,8 +166,8 @@ const ASKS: &[u8] = b"{\"show\":1,\"node\":0}
 {\"array\":\"b\",\"cells\":[[7]]}
 ";
 
-/// A log whose version has a store of no region pair: a session answers by it, and a check names it,
-/// before a group was added and behind that.
+/// A log whose version has a store of no region pair: a session answers by it, and a check names
+/// it, before a group was added and behind that.
 #[test]
 fn a_false_store_is_answered_by_and_named(rt: HostRuntime) -> Result<(), Fail> {
     let alloc = rt.alloc();

@@ -6,8 +6,8 @@ use std::thread::Threads;
 use sz_outside::{MemSource, MemStation, NoGate, Torn};
 use sz_session::{Status, serve};
 
-/// How a call ended, what was said, and what a stop may then leave of the disk: what was there at the
-/// last sync, what is read there, and this with each byte that is not synced 1.
+/// How a call ended, what was said, and what a stop may then leave of the disk: what was there at
+/// the last sync, what is read there, and this with each byte that is not synced 1.
 #[derive(Drop)]
 pub struct Ended {
     pub status: Status,

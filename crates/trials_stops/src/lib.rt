@@ -1,8 +1,8 @@
-//! Tests of sessions on a log: with each disk call failing and with a stop behind each, on logs that
-//! were changed or cut, and on logs that are opened again.
+//! Tests of sessions on a log: with each disk call failing and with a stop behind each, on logs
+//! that were changed or cut, and on logs that are opened again.
 //!
-//! A crate is proved once for those above it and once more with its tests. So tests that call public
-//! functions alone stand in a crate that has nothing else.
+//! A crate is proved once for those above it and once more with its tests. So tests that call
+//! public functions alone stand in a crate that has nothing else.
 #![tactic(auto)]
 
 #[cfg(test)]

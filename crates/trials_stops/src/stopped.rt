@@ -11,8 +11,8 @@ use std::thread::Threads;
 use sz_outside::{MemSource, MemStation};
 use sz_session::Status;
 
-/// What a log holds: what the lines that ask say of it, and behind it what a check says. Nothing where
-/// the disk is not opened as a log.
+/// What a log holds: what the lines that ask say of it, and behind it what a check says. Nothing
+/// where the disk is not opened as a log.
 fn told<R: Threads + Wait + Clone + Send + Sync + 'static>(
     rt: &R,
     alloc: Global,
@@ -68,8 +68,8 @@ fn known<'a>(images: &'a [Image], disk: &[u8]) -> Option<&'a [u8]> {
     None
 }
 
-/// Has an image asked, where it was not asked before. Whether it holds what is durable behind so many
-/// lines, or behind so many more.
+/// Has an image asked, where it was not asked before. Whether it holds what is durable behind so
+/// many lines, or behind so many more.
 fn is_behind_either<R: Threads + Wait + Clone + Send + Sync + 'static>(
     rt: &R,
     alloc: Global,
@@ -156,8 +156,8 @@ fn station_with(
     }
 }
 
-/// How many disk calls of a row's session on a new log can be in trouble. Each is, in turn, until one
-/// number more changes nothing, and the session ends as it may.
+/// How many disk calls of a row's session on a new log can be in trouble. Each is, in turn, until
+/// one number more changes nothing, and the session ends as it may.
 fn calls_in_trouble<R: Threads + Wait + Clone + Send + Sync + 'static>(
     rt: &R,
     alloc: Global,
@@ -219,7 +219,8 @@ fn nor_does_it_lose_stores(rt: HostRuntime) -> Result<(), Fail> {
     Ok(())
 }
 
-/// The session of a row on a new log, with reads of 16 bytes, of which the one of this number fails.
+/// The session of a row on a new log, with reads of 16 bytes, of which the one of this number
+/// fails.
 fn served_at_read<R: Threads + Wait + Clone + Send + Sync + 'static>(
     rt: &R,
     alloc: Global,

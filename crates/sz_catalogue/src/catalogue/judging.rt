@@ -76,7 +76,8 @@ impl<K: Carried> Catalogue<K> {
     fn refusal_of_array(&self, array: &Array) -> Option<Refusal>
         ensures one { (name : List ℕ) → result ≡ judged self.now (command.Array name array.now) }
         ensures csv { (name : List ℕ) → result ≡ judged self.now (command.Csv name array.now) }
-        ensures layers { (name : List ℕ) → result ≡ judged self.now (command.Layers name array.now) }
+        ensures layers { (name : List ℕ)
+            → result ≡ judged self.now (command.Layers name array.now) }
     {
         let size = u64::from(array.shape().size());
         if self.arrays.len() >= MOST_ARRAYS || self.cells + size > MOST_CELLS {

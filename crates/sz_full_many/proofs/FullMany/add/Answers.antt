@@ -26,7 +26,8 @@ invariant_of-self c =
     let new = c.add_bounds.new.trees in
     let back = take_at new (drop (length new) trees) c.self.inside.trees.len (omega arith) in
     rw back
-    (indexed-more (arc_value c.self.inside.at) c.self.inside.dir c.self.inside.table c.add.new.self c.args.region.now trees
+    (indexed-more (arc_value c.self.inside.at) c.self.inside.dir c.self.inside.table c.add.new.self
+    c.args.region.now trees
     new c.self.invariant c.add.ensures.kept.out c.add.ensures.kept.ins c.add.ensures.pairings (omega arith)
     (rw c.deref_mut.ensures.value at c.add_bounds.ensures.next))
 
@@ -36,6 +37,7 @@ returns-clause-items c =
     let new = c.add_bounds.new.trees in
     let back = take_at new (drop (length new) trees) c.self.inside.trees.len (omega arith) in
     let seen = ap (λ (s : Store Pairing). s.room.items) c.self.view_is in
-    let less = room-less c.self.inside.dir c.args.region.now c.self.inside.table.spare_rows c.add.new.self.spare_rows trees
+    let less =
+    room-less c.self.inside.dir c.args.region.now c.self.inside.table.spare_rows c.add.new.self.spare_rows trees
     new c.add.ensures.room (omega arith) (rw c.deref_mut.ensures.value at c.add_bounds.ensures.next) in
     rw back (omega (arith, less, seen))

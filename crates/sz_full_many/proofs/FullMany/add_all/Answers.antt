@@ -42,7 +42,8 @@ loop-region-preserved c =
     take_more rs i r there.0 ∙ ap (λ (x : Pairing). take i rs ++ x ∷ []) there.1 in
     record {
       given =
-          c.add.ensures.given ∙ ap (λ (xs : List Pairing). xs ++ r ∷ []) inv.given ∙ append_assoc front (take i rs) (r ∷ [])
+          c.add.ensures.given ∙ ap (λ (xs : List Pairing). xs ++ r ∷ []) inv.given ∙ append_assoc front
+          (take i rs) (r ∷ [])
           ∙ ap (λ (xs : List Pairing). front ++ xs) (sym more);
       site = c.add.ensures.site ∙ inv.site;
       items = omega (arith, inv.items, c.add.ensures.items);

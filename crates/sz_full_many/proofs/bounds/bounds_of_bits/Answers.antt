@@ -30,7 +30,8 @@ loop-start-preserved-in-Some c =
       all = inv.all;
       below = omega (arith, next.high);
       round =
-          round-more set c.loop-start.start c.in-Some.index c.cell_at.result c.loop-start.bounds c.bounds_with.result next
+          round-more set c.loop-start.start c.in-Some.index c.cell_at.result c.loop-start.bounds
+          c.bounds_with.result next
           inv.round (c.cell_at.ensures.value ∙ ap (λ (e : Extent). cell_of e c.in-Some.index) inv.shape)
           c.bounds_with.ensures.cell c.bounds_with.ensures.kept;
     }

@@ -40,7 +40,8 @@ loop-start-preserved-in-Some c =
       added =
           row-added c.args.dir t c.args.input c.in-Some.row from c.args.to.now c.loop-start.to c.take_row.new.to
           (omega (arith, many, long, hit.1))
-          (passed-over c.args.dir c.args.input from c.args.to.now c.loop-start.to (pairings t) c.args.tree.now.rectangles
+          (passed-over c.args.dir c.args.input from c.args.to.now c.loop-start.to
+          (pairings t) c.args.tree.now.rectangles
           c.args.bounds c.loop-start.start c.in-Some.row (own-at from from.extent refl c.shape-2.ensures.rising)
           c.requires.round c.requires.bounds hit.0 (omega (arith, long, hit.1)) hit.3 inv.added)
           c.take_row.ensures.to;

@@ -1,4 +1,5 @@
--- The cell has a link, and the root that is looked for; the same cells have links as at first, and all keep their roots.
+-- The cell has a link, and the root that is looked for; the same cells have links as at first, and all keep their
+-- roots.
 use Rattle.sz_ops_region.proofs.Roots.{IsOnWay}
 use Rattle.sz_ops_region.proofs.links.root_of.Given as goal
 

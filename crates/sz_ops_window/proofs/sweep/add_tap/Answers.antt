@@ -1,5 +1,6 @@
 -- A tap adds its weight times the number under it, and nothing where it lies on no cell.
-use Rattle.std.proofs.Common.{◌≡◌, ℕ, ◌+◌, ◌-◌, ◌*◌, ◌/◌, ◌%◌, ◌<◌, ◌≤◌, true, false, arith, rules, ap, ap₂, sym, subst, ◌∙◌}
+use Rattle.std.proofs.Common.{◌≡◌, ℕ, ◌+◌, ◌-◌, ◌*◌, ◌/◌, ◌%◌, ◌<◌, ◌≤◌, true, false, arith, rules, ap, ap₂, sym, subst}
+use Rattle.std.proofs.Common.{◌∙◌}
 use Rattle.std.proofs.Common.{get_or, length, inl, inr, None, refl, FitsSigned, to_z, of_z, w32}
 use Rattle.std.proofs.lemmas.Int.{to_z-of_z}
 use Rattle.std.specs.Prelude.{ℤ, pos, min, ◌+ℤ◌, ◌*ℤ◌, List, Option}
@@ -13,7 +14,8 @@ use Rattle.sz_ops_window.proofs.Sums.{IsUnder, AreFew, are-few}
 use Rattle.sz_ops_window.proofs.Sweeps.{at, number-small, few-taps, zero-tells, other-tells, weightless, above-below}
 use Rattle.sz_ops_window.proofs.Sweeps.{row-nothing, under-at, swept}
 use Rattle.sz_ops_window.proofs.sweep.add_tap.Goals.{After-reached-first}
-use Rattle.sz_ops_window.proofs.sweep.add_tap.Goals.{then-weight-eq0-via-then-weight-eq0, then-weight-eq0-via-else-weight-eq0+then-down-reach}
+use Rattle.sz_ops_window.proofs.sweep.add_tap.Goals.{then-weight-eq0-via-then-weight-eq0}
+use Rattle.sz_ops_window.proofs.sweep.add_tap.Goals.{then-weight-eq0-via-else-weight-eq0+then-down-reach}
 use Rattle.sz_ops_window.proofs.sweep.add_tap.Goals.{then-weight-eq0-via-else-weight-eq0+else-down-reach+then-reach-down}
 use Rattle.sz_ops_window.proofs.sweep.add_tap.Goals as goal
 

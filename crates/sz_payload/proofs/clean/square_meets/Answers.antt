@@ -9,5 +9,6 @@ use Rattle.sz_payload.proofs.clean.square_meets.Goals as goal
 pub returns : goal.returns
 returns c =
     c.rectangle_meets.ensures
-    ∙ met-held c.args.from.now c.args.shape (is_in_rectangle c.square_round.result) (is_in_square c.args.shape c.args.cell)
+    ∙ met-held c.args.from.now c.args.shape (is_in_rectangle c.square_round.result)
+    (is_in_square c.args.shape c.args.cell)
     (own-at c.args.from.now c.args.shape c.requires.from c.shape.ensures.rising) c.square_round.ensures.cells

@@ -31,7 +31,8 @@ loop-run-preserved c =
     let at = runs-at 0 (size_of c.args.to.now.extent) c.args.runs.now c.loop-run.run-index none c.requires
     c.loop-run-test.true in
     let same = sym (ap (λ (s : Cells). s.extent) c.loop-run.invariant) in
-    let within = subst (λ (e : Extent). (get_or c.args.runs.now c.loop-run.run-index none).last < size_of e) same at.2 in
+    let within =
+    subst (λ (e : Extent). (get_or c.args.runs.now c.loop-run.run-index none).last < size_of e) same at.2 in
     runs-step c.args.to.now c.loop-run.to c.add_run.new.self c.args.runs.now c.loop-run.run-index none
     c.loop-run-test.true c.loop-run.invariant at.1 within c.add_run.ensures
 

@@ -59,7 +59,8 @@ loop-start-preserved-in-Some c =
             | inr from ↦
                 elim (cases_lt k row) [
                   | inl between ↦
-                      passed es rectangles o c.loop-start.start row c.requires.round (omega (arith, long, hit.1)) apart k
+                      passed es rectangles o c.loop-start.start row c.requires.round
+                      (omega (arith, long, hit.1)) apart k
                       (omega arith) between
                   | inr at ↦
                       let same : row ≡ k = omega arith in
@@ -86,7 +87,8 @@ loop-start-preserved c =
           elim (cases_lt k c.loop-start.start) [
             | inl before ↦ inv.none k before
             | inr from ↦
-                passed es rectangles o c.loop-start.start (length rectangles) c.requires.round (omega (arith, long)) apart k
+                passed es rectangles o c.loop-start.start (length rectangles) c.requires.round
+                (omega (arith, long)) apart k
                 (omega arith) (omega (arith, long, inv.all))
           ];
     }

@@ -68,7 +68,8 @@ loop-next-preserved c =
           sym (c.item-row.ensures d) ∙ ap (λ (k : ℕ). (get_or es k d).item) (sym same) ∙ (at d).1 in
           true≢false (sym there ∙ ap (λ (k : ℕ). has (entry_at (entries c.args.table.now) k).out o) (sym row)
           ∙ sym c.entry_has.ensures ∙ c.if-entry_has.false) in
-          last-reach es key c.in-Some.place c.before-next.result place c.before-next.ensures here (omega (arith, ahead));
+          last-reach es key c.in-Some.place c.before-next.result place c.before-next.ensures here
+          (omega (arith, ahead));
       key = c.loop-next.invariant.key;
       filed = last-filed es key c.in-Some.place c.before-next.result c.before-next.ensures;
     }

@@ -21,4 +21,5 @@ returns-in-Some c =
     (word-body e bytes c.in-Some.body.now few c.in-Some.ensures.some word)))
 
 pub returns-in-None : goal.returns-in-None
-returns-in-None c = sym (c.in-None.ensures.none c.args.shape (omega (arith, c.size-size.ensures.few, c.size-size.ensures.value)))
+returns-in-None c = sym (c.in-None.ensures.none c.args.shape
+    (omega (arith, c.size-size.ensures.few, c.size-size.ensures.value)))

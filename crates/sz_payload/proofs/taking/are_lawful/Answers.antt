@@ -13,7 +13,8 @@ number_at-count-requires c =
 
 pub loop-index-init : goal.loop-index-init
 loop-index-init c = record {
-  count = λ payloads rest table. c.number_at-count.ensures ∙ table-count c.args.bytes.now c.args.from payloads rest table;
+  count = λ payloads rest table. c.number_at-count.ensures ∙ table-count c.args.bytes.now c.args.from
+      payloads rest table;
   judged = judged-none c.args.at.now c.args.bytes.now c.args.from;
 }
 
@@ -85,4 +86,5 @@ loop-index-preserved c =
 pub returns-clause-yes : goal.returns-clause-yes
 returns-clause-yes c = λ t payloads rest table.
     judged-all c.args.at.now c.args.bytes.now c.loop-index.place c.loop-index._index payloads rest
-    (omega (arith, c.loop-index.invariant.count payloads rest table)) (c.loop-index.invariant.judged payloads rest table)
+    (omega (arith, c.loop-index.invariant.count payloads rest table))
+    (c.loop-index.invariant.judged payloads rest table)

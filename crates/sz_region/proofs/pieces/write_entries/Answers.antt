@@ -19,7 +19,8 @@ loop-place-preserved g c =
       | then-leads+in_ok-entry_of+in_ok-lwrite_payload w ↦
           w.lineage-is
           ∙ entries-more f c.args.kept.now c.loop-place.place c.args.comp c.args.lineage.now c.loop-place.lineage
-          w.lwrite_payload.new.self w.in_ok-entry_of.field-0 c.loop-place.invariant (sym c.leads.ensures ∙ w.if-leads.true)
+          w.lwrite_payload.new.self w.in_ok-entry_of.field-0 c.loop-place.invariant
+          (sym c.leads.ensures ∙ w.if-leads.true)
           w.in_ok-entry_of.ensures w.in_ok-lwrite_payload.ensures.ok
       | else-leads w ↦
           w.lineage-is

@@ -9,13 +9,16 @@ use Rattle.sz_region.proofs.Spelling.{none-begins, none-spelled, begins-spelled,
 use Rattle.sz_region.proofs.set_bytes.take_set.Goals as goal
 
 pub returns-in_default-clause-err : goal.returns-in_default-clause-err
-returns-in_default-clause-err c =
-    (refl, none-begins c.args.shape c.args.bytes.now c.args.at (omega (arith, c.size.ensures)) c.in_default.ensures.none)
+returns-in_default-clause-err c = (
+  refl,
+  none-begins c.args.shape c.args.bytes.now c.args.at (omega (arith, c.size.ensures)) c.in_default.ensures.none,
+)
 
 pub returns-in-Ok-clause-ok : goal.returns-in-Ok-clause-ok
 returns-in-Ok-clause-ok c =
     let make : List Run → Cells = λ rs. record { extent = c.args.shape; indexes = flat_map indexes_of rs } in
-    begins-spelled c.args.shape c.args.bytes.now c.args.at c.in-Some.body.now c.from_runs.result (λ i. omega (arith, c.type_inv.bytes i))
+    begins-spelled c.args.shape c.args.bytes.now c.args.at c.in-Some.body.now c.from_runs.result
+    (λ i. omega (arith, c.type_inv.bytes i))
     (omega (arith, c.size.ensures)) c.in-Some.ensures.some
     (subst (AreRunsFrom 0 (size_of c.args.shape)) c.in-Ok.ensures.runs c.in-Ok.ensures.longest)
     (c.from_runs.ensures ∙ ap make c.in-Ok.ensures.runs)

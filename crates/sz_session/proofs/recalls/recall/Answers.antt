@@ -35,7 +35,8 @@ run_all-requires-clause-count g c =
     c.as_slice.ensures ∙ ap (λ (v : Version). v.base) c.held.view_is in
     let long : length c.deref-2.result.now ≡ length c.in-Some.held.now.base =
     sym (length-map c.deref-2.result.now (λ a. arc_value a))
-    ∙ ap (λ (gs : List Grid). length gs) (ap (λ xs. map (λ a. arc_value a) xs) c.deref-2.ensures.value ∙ c.in_ok-arrays.ensures)
+    ∙ ap (λ (gs : List Grid). length gs) (ap (λ xs. map (λ a. arc_value a) xs) c.deref-2.ensures.value
+    ∙ c.in_ok-arrays.ensures)
     ∙ length-map c.as_slice.result.now (λ (b : Base). b.array)
     ∙ ap (λ (bs : List Base). length bs) base in
     λ κs lives. long ∙ run.count ∙ ap (λ (f : Graph). f.inputs) (sym flow)
@@ -53,7 +54,8 @@ run_all-requires-clause-fits g c =
     let arrays = ap (λ xs. map (λ a. arc_value a) xs) c.deref-2.ensures.value ∙ c.in_ok-arrays.ensures
     ∙ ap arrays_of base in
     let fits : output_shapes c.in-Some.held.now.flow (extents_of (arrays_of c.in-Some.held.now.base)) ≡ Ok here.run.0 =
-    ap (λ (es : List Extent). output_shapes c.in-Some.held.now.flow es) (base-shapes c.in-Some.held.now.base) ∙ run.fits in
+    ap (λ (es : List Extent). output_shapes c.in-Some.held.now.flow es) (base-shapes c.in-Some.held.now.base)
+    ∙ run.fits in
     let F : Graph → List Grid → Type 0 =
     λ f gs. (shapes : List Extent) × (output_shapes f (extents_of gs) ≡ Ok shapes) in
     let gs : List Grid = map (λ a. arc_value a) c.deref-2.result.now in

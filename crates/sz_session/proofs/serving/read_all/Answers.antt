@@ -48,7 +48,8 @@ returns-in-Ok-eq0-clause-ends g c =
     let none : c.in-Ok-eq0.field-0 ≡ 0 = c.in-Ok-eq0.field-0-test in
     let same : c.chunks.total + c.in-Ok-eq0.field-0 ≡ c.chunks.total = omega (arith, none) in
     subst P (sym c.status_of_end.ensures)
-    (end-ends g.opening.held c.end_input.result c.args.limit _ _ _ _ _ c.take_turn.new.feed c.chunks.total c.chunks.invariant.within
+    (end-ends g.opening.held c.end_input.result c.args.limit _ _ _ _ _ c.take_turn.new.feed c.chunks.total
+    c.chunks.invariant.within
     (subst Q same c.in-Ok-eq0.ensures.answered) (c.in-Ok-eq0.ensures.all (ap (λ (n : ℕ). Ok n) none))
     c.end_input.ensures.whole c.end_input.ensures.part c.end_input.ensures.nothing c.end_input.ensures.stopped)
 
@@ -99,7 +100,8 @@ returns-in-Ok-eq0-clause-disk g c =
     let same : c.chunks.total + c.in-Ok-eq0.field-0 ≡ c.chunks.total = omega (arith, none) in
     λ e. stays-both g.T.Station _ _ _ _
     (stays-both g.T.Station _ _ _ _ (c.chunks.invariant.disk e) (c.take_turn.ensures.disk (c.chunks.invariant.plain e)))
-    (end-stays g.T.Station g.opening.held _ _ _ _ _ c.take_turn.new.feed c.chunks.total (subst Q same c.in-Ok-eq0.ensures.answered)
+    (end-stays g.T.Station g.opening.held _ _ _ _ _ c.take_turn.new.feed c.chunks.total
+    (subst Q same c.in-Ok-eq0.ensures.answered)
     (c.in-Ok-eq0.ensures.all (ap (λ (n : ℕ). Ok n) none))
     (c.end_input.ensures.disk (none-stays g.T.Station c.chunks.feed c.take_turn.new.feed c.chunks.station
     c.take_turn.new.station c.in-Ok-eq0.ensures.log (c.chunks.invariant.plain e))))
@@ -122,7 +124,8 @@ pub chunks-preserved : goal.chunks-preserved
 chunks-preserved g c =
     let turn = c.in-Ok.ensures in
     let asked = c.requires.1.1.1.1.1.1.1.1.1 in
-    let goes = stays-then g.T.Station c.args.feed.now c.chunks.feed c.take_turn.new.feed c.args.station.now c.chunks.station
+    let goes =
+    stays-then g.T.Station c.args.feed.now c.chunks.feed c.take_turn.new.feed c.args.station.now c.chunks.station
     c.take_turn.new.station c.chunks.invariant.goes turn.log in
     record {
       within = turn.within;
@@ -217,7 +220,8 @@ returns-in-Ok-eq0-clause-behind g c =
     c.chunks.total a x asked.1.0 (subst Q same c.in-Ok-eq0.ensures.answered)
     (c.in-Ok-eq0.ensures.all (ap (λ (n : ℕ). Ok n) none))
     (stays-then g.T.Station first last end a b x
-    (stays-then g.T.Station first c.chunks.feed last a c.chunks.station b c.chunks.invariant.goes c.in-Ok-eq0.ensures.log)
+    (stays-then g.T.Station first c.chunks.feed last a c.chunks.station b c.chunks.invariant.goes
+    c.in-Ok-eq0.ensures.log)
     (done-end r (StaysBeside g.T.Station last end b x) ended c.end_input.ensures.log))
     (done-end r (end.held.held ≡ (after_lines last.held (last_line last.pending)).held) ended c.end_input.ensures.held)
 

@@ -15,7 +15,8 @@ run_on-requires-clause-log g c κs within =
     let only = not-failed c.sync.result _ (sym c.is_err.ensures.value ∙ c.if-is_err.false) c.sync.ensures.synced in
     let L : Option (List ℕ) → Type 0 = λ o. Only o (g.T.Station.may_leave a) in
     opened-log g.T.Station _ c.in-Ok.recovered.end.at c.in-Ok.recovered.catalogue c.in-Ok.recovered.stores.items a b
-    c.in-Ok.ensures.made c.catalogue_of.ensures.disk c.catalogue_of.ensures.stops (subst L (sym c.sync.ensures.disk) only)
+    c.in-Ok.ensures.made c.catalogue_of.ensures.disk c.catalogue_of.ensures.stops
+    (subst L (sym c.sync.ensures.disk) only)
 
 pub returns-in-Ok-clause-ends : goal.returns-in-Ok-clause-ends
 returns-in-Ok-clause-ends g c =

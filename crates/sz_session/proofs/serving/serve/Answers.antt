@@ -21,7 +21,8 @@ use Rattle.sz_session.proofs.Exactly.{ends-opening, opening-no_log, opening-unli
 use Rattle.sz_session.proofs.Exactly.{check-completes, run-completes}
 use Rattle.sz_session.proofs.Jobs.{for-job, for-none, line-job, line-each, served-not}
 use Rattle.sz_session.proofs.Jobs.{usage-refused, reads-lines, disk-log, quiet-done, say-counted}
-use Rattle.sz_session.proofs.Jobs.{log-silent, disk-counted, already-init, bad-opened, bad-place, read-counted, limit-lines}
+use Rattle.sz_session.proofs.Jobs.{log-silent, disk-counted, already-init, bad-opened, bad-place, read-counted}
+use Rattle.sz_session.proofs.Jobs.{limit-lines}
 use Rattle.sz_session.proofs.Continuing.{unopened-still}
 use Rattle.sz_session.proofs.Jobs.{words-not_done, words-not_say_fault, words-not_read, words-not_disk, words-not_made}
 use Rattle.sz_session.proofs.Jobs.{words-usage, words-refused, words-not_read_either, words-completes, words-memory}

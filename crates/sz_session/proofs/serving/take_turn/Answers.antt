@@ -19,7 +19,8 @@ returns-in_err-take_chunk-clause-ends g c =
     let stopped : Halt → Result (Unit {0}) Halt = λ s. Err s in
     let p = err_from_is_err_and c.from_residual-in_err-take_chunk.result c.from_residual-in_err-take_chunk.ensures.1 in
     rw (p.1, p.2)
-    (turn-ends g.opening.held _ c.args.limit _ _ _ _ _ _ c.args.feed.now c.args.total c.in_ok-count.count c.read_chunk.new.buffer
+    (turn-ends g.opening.held _ c.args.limit _ _ _ _ _ _ c.args.feed.now c.args.total c.in_ok-count.count
+    c.read_chunk.new.buffer
     c.requires.1.1.1.1.1.1.1.1.1.1.1.0 c.in_ok-count.ensures.bytes
     (λ e. c.in_err-take_chunk.ensures.part (ap stopped e))
     (λ e. c.in_err-take_chunk.ensures.first (ap stopped e))
@@ -49,36 +50,42 @@ returns-clause-again g c =
 -- the disk, where no line was answered
 pub returns-in_err-count-clause-disk : goal.returns-in_err-count-clause-disk
 returns-in_err-count-clause-disk g c =
-    λ e. between-stays g.T.Station g.opening.held _ _ _ _ _ c.args.feed.now c.args.total c.requires.1.1.1.1.1.1.1.1.1.1.1.0
+    λ e. between-stays g.T.Station g.opening.held _ _ _ _ _ c.args.feed.now c.args.total
+    c.requires.1.1.1.1.1.1.1.1.1.1.1.0
     (stays-still g.T.Station [] c.args.station.now (g.met.T.Station.only_now c.args.station.now)
     (g.met.T.Station.counts_now c.args.station.now))
 
 pub returns-then-count-gt0-clause-disk : goal.returns-then-count-gt0-clause-disk
 returns-then-count-gt0-clause-disk g c =
-    λ e. between-stays g.T.Station g.opening.held _ _ _ _ _ c.args.feed.now c.args.total c.requires.1.1.1.1.1.1.1.1.1.1.1.0
+    λ e. between-stays g.T.Station g.opening.held _ _ _ _ _ c.args.feed.now c.args.total
+    c.requires.1.1.1.1.1.1.1.1.1.1.1.0
     (stays-still g.T.Station [] c.args.station.now (g.met.T.Station.only_now c.args.station.now)
     (g.met.T.Station.counts_now c.args.station.now))
 
 -- and where some were
 pub returns-in_err-take_chunk-clause-disk : goal.returns-in_err-take_chunk-clause-disk
 returns-in_err-take_chunk-clause-disk g c =
-    λ e. turn-stays g.T.Station g.opening.held _ _ _ _ _ _ c.args.feed.now c.args.total c.in_ok-count.count c.read_chunk.new.buffer
+    λ e. turn-stays g.T.Station g.opening.held _ _ _ _ _ _ c.args.feed.now c.args.total c.in_ok-count.count
+    c.read_chunk.new.buffer
     c.requires.1.1.1.1.1.1.1.1.1.1.1.0 c.in_ok-count.ensures.bytes (c.take_chunk.ensures.disk e)
 
 pub returns-clause-disk : goal.returns-clause-disk
 returns-clause-disk g c =
-    λ e. turn-stays g.T.Station g.opening.held _ _ _ _ _ _ c.args.feed.now c.args.total c.in_ok-count.count c.read_chunk.new.buffer
+    λ e. turn-stays g.T.Station g.opening.held _ _ _ _ _ _ c.args.feed.now c.args.total c.in_ok-count.count
+    c.read_chunk.new.buffer
     c.requires.1.1.1.1.1.1.1.1.1.1.1.0 c.in_ok-count.ensures.bytes (c.take_chunk.ensures.disk e)
 
 -- what a stop finds
 pub returns-in_err-count-clause-found : goal.returns-in_err-count-clause-found
 returns-in_err-count-clause-found g c =
-    rest-still g.T.Station c.args.feed.now g.opening.left c.args.total c.args.station.now c.requires.1.1.1.1.1.1.1.1.1.1.1.1
+    rest-still g.T.Station c.args.feed.now g.opening.left c.args.total c.args.station.now
+    c.requires.1.1.1.1.1.1.1.1.1.1.1.1
     (g.met.T.Station.only_now c.args.station.now) (g.met.T.Station.counts_now c.args.station.now)
 
 pub returns-then-count-gt0-clause-found : goal.returns-then-count-gt0-clause-found
 returns-then-count-gt0-clause-found g c =
-    rest-still g.T.Station c.args.feed.now g.opening.left c.args.total c.args.station.now c.requires.1.1.1.1.1.1.1.1.1.1.1.1
+    rest-still g.T.Station c.args.feed.now g.opening.left c.args.total c.args.station.now
+    c.requires.1.1.1.1.1.1.1.1.1.1.1.1
     (g.met.T.Station.only_now c.args.station.now) (g.met.T.Station.counts_now c.args.station.now)
 
 pub returns-in_err-take_chunk-clause-found : goal.returns-in_err-take_chunk-clause-found

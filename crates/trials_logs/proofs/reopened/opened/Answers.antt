@@ -13,7 +13,8 @@ returns g c =
     let b = c.catalogue_of.new.station in
     let only = not-failed c.sync.result _ (sym c.is_err.ensures.value ∙ c.if-is_err.false) c.sync.ensures.synced in
     let L : Option (List ℕ) → Type 0 = λ o. Only o (g.T.Station.may_leave a) in
-    let log = opened-log g.T.Station _ c.in-Ok.recovered.end.at c.in-Ok.recovered.catalogue c.in-Ok.recovered.stores.items
+    let log =
+    opened-log g.T.Station _ c.in-Ok.recovered.end.at c.in-Ok.recovered.catalogue c.in-Ok.recovered.stores.items
     a b c.in-Ok.ensures.made c.catalogue_of.ensures.disk c.catalogue_of.ensures.stops
     (subst L (sym c.sync.ensures.disk) only) in
     subst (λ (s : State). HasLog g.T.Station s.held s.end b) (sym c.in_ok-of_log.ensures) log

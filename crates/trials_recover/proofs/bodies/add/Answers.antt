@@ -49,6 +49,7 @@ returns-clause-fit c =
     let version : version_of c.add_version.new.self n ≡ v =
     ap (λ (h : Holdings). version_of h n) new
     ∙ ap (λ (o : Option Version). unwrap_or o no_version) (held-after held.versions n v) in
-    let stores : lineages c.taken.inside.stores.items ≡ c.args.taken.stores = ap (λ (t : Taken). t.stores) c.taken.view_is in
+    let stores : lineages c.taken.inside.stores.items ≡ c.args.taken.stores =
+    ap (λ (t : Taken). t.stores) c.taken.view_is in
     subst (λ (w : Version). Fit w (lineages c.taken.inside.stores.items)) (sym version)
     (subst (λ (ks : List (Option NodeLineage)). Fit v ks) (sym stores) c.requires.fit)

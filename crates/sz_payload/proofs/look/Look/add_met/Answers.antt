@@ -21,12 +21,14 @@ loop-run-init c =
 
 pub add_met_run-requires-clause-order : goal.add_met_run-requires-clause-order
 add_met_run-requires-clause-order c =
-    (runs-at 0 (size_of c.args.self.now.at.now.out) c.args.runs.now c.loop-run.run-index (record { first = 0; last = 0 })
+    (runs-at 0 (size_of c.args.self.now.at.now.out) c.args.runs.now c.loop-run.run-index
+    (record { first = 0; last = 0 })
     c.requires.runs c.loop-run-test.true).1
 
 pub add_met_run-requires-clause-within : goal.add_met_run-requires-clause-within
 add_met_run-requires-clause-within c =
-    (runs-at 0 (size_of c.args.self.now.at.now.out) c.args.runs.now c.loop-run.run-index (record { first = 0; last = 0 })
+    (runs-at 0 (size_of c.args.self.now.at.now.out) c.args.runs.now c.loop-run.run-index
+    (record { first = 0; last = 0 })
     c.requires.runs c.loop-run-test.true).2
 
 pub add_met_run-requires-clause-to : goal.add_met_run-requires-clause-to

@@ -40,7 +40,8 @@ loop-start-preserved-in-Some g c =
     record {
       end = inv.end;
       within = omega (arith, next.high);
-      to = stepped-next Back e (entries_stand c.args.comp s es c.args.input) c.args.from.now c.args.to.now c.loop-start.to
+      to = stepped-next Back e (entries_stand c.args.comp s es c.args.input) c.args.from.now c.args.to.now
+          c.loop-start.to
           c.cell_back-last.new.to c.loop-start.start c.in-Some.index (cell_of e c.in-Some.index) next inv.to refl
           c.cell_back-last.ensures.to;
       done = c.cell_back-last.ensures.done;
@@ -57,7 +58,8 @@ loop-start-preserved g c =
     record {
       end = inv.end;
       within = omega (arith, inv.end);
-      to = stepped-skip Back e (entries_stand c.args.comp s es c.args.input) c.args.from.now c.args.to.now c.loop-start.to
+      to = stepped-skip Back e (entries_stand c.args.comp s es c.args.input) c.args.from.now c.args.to.now
+          c.loop-start.to
           c.loop-start.start c.size-end.result (omega (arith, inv.end, inv.within))
           (λ k low high. none k low (omega (arith, inv.end))) inv.to;
       done = inv.done;

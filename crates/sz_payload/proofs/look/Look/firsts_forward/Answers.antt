@@ -52,7 +52,8 @@ loop-start-preserved-in-Some c =
       to = stepped-next Forward e (lone s es 0) c.args.from.now c.args.to.now c.loop-start.to
           c.first_forward.new.to c.loop-start.start c.in-Some.index (cell_of e c.in-Some.index) next inv.to refl
           (c.first_forward.ensures
-          ∙ ap (λ (d : Extent). with_those c.loop-start.to (λ o. lone s es 0 o (cell_of d c.in-Some.index))) (sym same));
+          ∙ ap (λ (d : Extent). with_those c.loop-start.to (λ o. lone s es 0 o (cell_of d c.in-Some.index)))
+          (sym same));
     }
 
 pub loop-start-preserved : goal.loop-start-preserved

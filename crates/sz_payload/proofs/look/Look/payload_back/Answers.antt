@@ -13,7 +13,8 @@ returns-then-is_number-clause-to g c =
     let s = c.args.self.now.at.now in
     let to = c.args.to.now in
     rw c.payload_number-number.ensures.payload
-    (done-there s c.args.self.now.table.now.payloads c.args.input c.payload_number-number.result c.args.last c.args.cell to
+    (done-there s c.args.self.now.table.now.payloads c.args.input c.payload_number-number.result c.args.last c.args.cell
+    to
     (own-at to to.extent refl c.shape.ensures.rising) (c.is_number.ensures.0 c.if-is_number.true) c.requires.done)
 
 pub returns-then-is_alike-clause-to : goal.returns-then-is_alike-clause-to

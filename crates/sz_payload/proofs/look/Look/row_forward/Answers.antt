@@ -48,7 +48,8 @@ add_all-requires c =
     let set = set_at c.args.self.now.table.now.sets c.set_number.result in
     subst (λ (e : Extent). AreRunsFrom 0 (size_of e) c.out_runs-runs.result.now) (sym c.requires.to)
     (runs-longest s.out set c.out_runs-runs.result.now
-    (subst (λ (e : Extent). IsSetOf e set) c.requires.held.out c.out_runs-runs.ensures.set) c.out_runs-runs.ensures.runs)
+    (subst (λ (e : Extent). IsSetOf e set) c.requires.held.out c.out_runs-runs.ensures.set)
+    c.out_runs-runs.ensures.runs)
 
 pub returns-then-tested-clause-to : goal.returns-then-tested-clause-to
 returns-then-tested-clause-to c =

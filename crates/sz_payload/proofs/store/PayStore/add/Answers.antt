@@ -52,7 +52,8 @@ invariant_of-self g c =
         none = held.none;
         out = more.kept.out ∙ held.out;
         lawful =
-            all-more (λ (p : List ℕ). is_payload site.op site.ins p ≡ true) t.payloads c.add-2.new.self.payloads e.payload
+            all-more (λ (p : List ℕ). is_payload site.op site.ins p ≡ true) t.payloads c.add-2.new.self.payloads
+            e.payload
             held.lawful more.payloads
             (subst (λ (s : Site). is_payload s.op s.ins e.payload ≡ true) (sym own) c.requires.entry.payload);
         apart =

@@ -117,7 +117,8 @@ loop-entry-preserved g c =
     take_more es i e there.0 ∙ ap (λ (x : Entry). take i es ++ x ∷ []) there.1 in
     record {
       given =
-          c.add.ensures.given ∙ ap (λ (xs : List Entry). xs ++ e ∷ []) inv.given ∙ append_assoc front (take i es) (e ∷ [])
+          c.add.ensures.given ∙ ap (λ (xs : List Entry). xs ++ e ∷ []) inv.given ∙ append_assoc front
+          (take i es) (e ∷ [])
           ∙ ap (λ (xs : List Entry). front ++ xs) (sym more);
       site = c.add.ensures.site ∙ inv.site;
       comp = c.add.ensures.comp ∙ inv.comp;

@@ -38,7 +38,8 @@ returns-then-is_empty-clause-disk g c =
 
 pub returns-then-is_empty-clause-found : goal.returns-then-is_empty-clause-found
 returns-then-is_empty-clause-found g c =
-    end-still g.T.Station c.args.self.now c.args.station.now c.requires.log (g.met.T.Station.only_now c.args.station.now)
+    end-still g.T.Station c.args.self.now c.args.station.now c.requires.log
+    (g.met.T.Station.only_now c.args.station.now)
     (g.met.T.Station.counts_now c.args.station.now)
 
 pub returns-then-is_empty-clause-log : goal.returns-then-is_empty-clause-log

@@ -11,5 +11,6 @@ returns-in_err-given-clause-disk g c =
 
 pub returns-in_err-given-clause-found : goal.returns-in_err-given-clause-found
 returns-in_err-given-clause-found g c =
-    in-still g.T.Station c.args.self.now (10 ∷ []) c.args.station.now c.requires.log (g.met.T.Station.only_now c.args.station.now)
+    in-still g.T.Station c.args.self.now (10 ∷ []) c.args.station.now c.requires.log
+    (g.met.T.Station.only_now c.args.station.now)
     (g.met.T.Station.counts_now c.args.station.now)

@@ -19,7 +19,8 @@ pub returns-in_err-say-clause-found : goal.returns-in_err-say-clause-found
 returns-in_err-say-clause-found g c =
     let m = c.args.self.now in
     let r = c.in_ok-reply.reply in
-    in-said g.T.Station m c.take.new.self r _ c.args.station.now c.take.new.station c.say.new.station c.take.ensures.found
+    in-said g.T.Station m c.take.new.self r _ c.args.station.now c.take.new.station c.say.new.station
+    c.take.ensures.found
     c.in_ok-reply.ensures.log
     (takes-responds m.held c.take.new.self.held m.pending c.args.given r c.requires.gives c.in_ok-reply.ensures.reply)
     (ap (λ (k : Moment). line_to_say k.number r) c.self.view_is) c.take.ensures.output.0 c.say.ensures.disk
@@ -28,7 +29,8 @@ pub returns-clause-found : goal.returns-clause-found
 returns-clause-found g c =
     let m = c.args.self.now in
     let r = c.in_ok-reply.reply in
-    in-said g.T.Station m c.take.new.self r _ c.args.station.now c.take.new.station c.say.new.station c.take.ensures.found
+    in-said g.T.Station m c.take.new.self r _ c.args.station.now c.take.new.station c.say.new.station
+    c.take.ensures.found
     c.in_ok-reply.ensures.log
     (takes-responds m.held c.take.new.self.held m.pending c.args.given r c.requires.gives c.in_ok-reply.ensures.reply)
     (ap (λ (k : Moment). line_to_say k.number r) c.self.view_is) c.take.ensures.output.0 c.say.ensures.disk

@@ -27,7 +27,8 @@ returns-in_err-say-clause-part g c =
     let held = ap (λ (m : Moment). m.held) c.self.view_is in
     let same = text-said _ _ _ _ _ _ _ _ _ held c.deref.ensures.value c.deref-2.ensures.value c.deref-3.ensures.value
     c.in_ok-replies.ensures.replies c.in_ok-text.ensures c.deref-4.ensures.value in
-    let Q : List ℕ → Type 0 = λ told. SaysPart (g.T.Station.said c.args.station.now) (g.T.Station.said c.say.new.self) told in
+    let Q : List ℕ → Type 0 =
+    λ told. SaysPart (g.T.Station.said c.args.station.now) (g.T.Station.said c.say.new.self) told in
     λ e. subst Q same c.in_err-say.ensures.part
 
 pub returns-in_err-say-clause-disk : goal.returns-in_err-say-clause-disk
@@ -37,14 +38,16 @@ returns-in_err-say-clause-disk g c =
     c.in_ok-replies.ensures.replies c.in_ok-text.ensures c.deref-4.ensures.value in
     let Q : List ℕ → Type 0 = λ told. OnlySays g.T.Station told c.args.station.now c.say.new.self in
     subst Q same
-    (stays-said g.T.Station c.deref-4.result.now c.args.station.now c.say.new.self c.say.ensures.disk c.say.ensures.stops)
+    (stays-said g.T.Station c.deref-4.result.now c.args.station.now c.say.new.self c.say.ensures.disk
+    c.say.ensures.stops)
 
 pub returns-clause-said : goal.returns-clause-said
 returns-clause-said g c =
     let held = ap (λ (m : Moment). m.held) c.self.view_is in
     let same = text-said _ _ _ _ _ _ _ _ _ held c.deref.ensures.value c.deref-2.ensures.value c.deref-3.ensures.value
     c.in_ok-replies.ensures.replies c.in_ok-text.ensures c.deref-4.ensures.value in
-    let Q : List ℕ → Type 0 = λ told. Says (g.T.Station.said c.args.station.now) (g.T.Station.said c.say.new.self) told in
+    let Q : List ℕ → Type 0 =
+    λ told. Says (g.T.Station.said c.args.station.now) (g.T.Station.said c.say.new.self) told in
     subst Q same c.in_ok-say.ensures.said
 
 pub returns-clause-disk : goal.returns-clause-disk
@@ -54,4 +57,5 @@ returns-clause-disk g c =
     c.in_ok-replies.ensures.replies c.in_ok-text.ensures c.deref-4.ensures.value in
     let Q : List ℕ → Type 0 = λ told. OnlySays g.T.Station told c.args.station.now c.say.new.self in
     subst Q same
-    (stays-said g.T.Station c.deref-4.result.now c.args.station.now c.say.new.self c.say.ensures.disk c.say.ensures.stops)
+    (stays-said g.T.Station c.deref-4.result.now c.args.station.now c.say.new.self c.say.ensures.disk
+    c.say.ensures.stops)

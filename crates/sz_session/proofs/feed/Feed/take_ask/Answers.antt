@@ -27,22 +27,26 @@ returns-then-not-is_full-clause-disk g c =
 -- where those that wait could not be answered
 pub returns-in_err-say_waiting-clause-says : goal.returns-in_err-say_waiting-clause-says
 returns-in_err-say_waiting-clause-says g c =
-    let p = err_from_is_err_and c.from_residual-in_err-say_waiting.result c.from_residual-in_err-say_waiting.ensures.1 in
+    let p =
+    err_from_is_err_and c.from_residual-in_err-say_waiting.result c.from_residual-in_err-say_waiting.ensures.1 in
     rw (p.1, p.2)
     (says-waited _ _ _ _ _ c.in_err-say_waiting.ensures.part c.in_err-say_waiting.ensures.nothing
     c.in_err-say_waiting.ensures.plain)
 
 pub returns-in_err-say_waiting-clause-disk : goal.returns-in_err-say_waiting-clause-disk
 returns-in_err-say_waiting-clause-disk g c =
-    only-longer g.T.Station c.args.station.now c.say_waiting.new.station (asks_text c.args.self.now.held c.args.waiting.now.items)
+    only-longer g.T.Station c.args.station.now c.say_waiting.new.station
+    (asks_text c.args.self.now.held c.args.waiting.now.items)
     (told_in c.args.self.now (10 ∷ [])) c.say_waiting.ensures.disk
 
 pub returns-in_err-wait-2-clause-disk : goal.returns-in_err-wait-2-clause-disk
 returns-in_err-wait-2-clause-disk g c =
-    only-longer g.T.Station c.args.station.now c.say_waiting.new.station (asks_text c.args.self.now.held c.args.waiting.now.items)
+    only-longer g.T.Station c.args.station.now c.say_waiting.new.station
+    (asks_text c.args.self.now.held c.args.waiting.now.items)
     (told_in c.args.self.now (10 ∷ [])) c.say_waiting.ensures.disk
 
 pub returns-clause-disk : goal.returns-clause-disk
 returns-clause-disk g c =
-    only-longer g.T.Station c.args.station.now c.say_waiting.new.station (asks_text c.args.self.now.held c.args.waiting.now.items)
+    only-longer g.T.Station c.args.station.now c.say_waiting.new.station
+    (asks_text c.args.self.now.held c.args.waiting.now.items)
     (told_in c.args.self.now (10 ∷ [])) c.say_waiting.ensures.disk

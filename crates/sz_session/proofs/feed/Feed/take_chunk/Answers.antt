@@ -10,7 +10,8 @@ use Rattle.sz_session.specs.Disks.{OnlySays}
 use Rattle.sz_session.specs.Waiting.{Waits}
 use Rattle.sz_session.proofs.Turns.{part-more, take-line}
 use Rattle.sz_session.proofs.Disks.{stays-still, only-front}
-use Rattle.sz_session.proofs.Waiting.{waits-nothing, waits-more, waits-line, waits-said, waits-part, waits-some, first-line}
+use Rattle.sz_session.proofs.Waiting.{waits-nothing, waits-more, waits-line, waits-said, waits-part, waits-some}
+use Rattle.sz_session.proofs.Waiting.{first-line}
 use Rattle.sz_session.proofs.Waiting.{first-taken, first-quiet, says-part, says-whole, says-stopped, only-waiting}
 use Rattle.sz_session.proofs.Waiting.{only-rest}
 use Rattle.sz_session.specs.Running.{StaysBeside, FindsIn}
@@ -49,7 +50,8 @@ loop-at-preserved g c =
     c.loop-at.invariant.waits c.in_ok-extend.ensures.takes c.extend.ensures.held in
     let next = waits-line s t u c.args.self.now c.extend.new.self c.take_line.new.self _ c.loop-at.waiting.items
     c.take_line.new.waiting.items waited c.in_ok-take_line.ensures.lags c.in_ok-take_line.ensures.says in
-    let Q : List ℕ → Type 0 = λ bytes. Waits s u c.args.self.now c.take_line.new.self bytes c.take_line.new.waiting.items in
+    let Q : List ℕ → Type 0 =
+    λ bytes. Waits s u c.args.self.now c.take_line.new.self bytes c.take_line.new.waiting.items in
     let grown = c.in_ok-extend.ensures.number in
     let goes : StaysBeside g.T.Station c.args.self.now c.take_line.new.self c.args.station.now c.take_line.new.station =
     stays-then g.T.Station c.args.self.now c.loop-at.self c.take_line.new.self c.args.station.now c.loop-at.station
@@ -168,7 +170,8 @@ returns-in_err-take_line-clause-disk g c =
     (take (c.in-Some.at - c.loop-at.start) (drop c.loop-at.start xs)) c.loop-at.waiting.items
     c.loop-at.invariant.waits c.in_ok-extend.ensures.takes c.extend.ensures.held in
     λ e. only-front g.T.Station _ _ c.args.self.now xs (c.in-Some.at + 1)
-    (only-waiting g.T.Station c.args.station.now c.loop-at.station c.take_line.new.station c.args.self.now c.loop-at.self
+    (only-waiting g.T.Station c.args.station.now c.loop-at.station c.take_line.new.station
+    c.args.self.now c.loop-at.self
     c.extend.new.self xs c.loop-at.start c.in-Some.at c.loop-at.waiting.items found.0 found.1 found.2
     (c.loop-at.invariant.disk e) waited
     (c.take_line.ensures.disk (c.extend.ensures.end
@@ -205,7 +208,8 @@ returns-clause-part g c =
     c.loop-at.waiting.items c.loop-at.invariant.waits c.in_ok-extend-2.ensures.takes c.extend-2.ensures.held in
     let Q : List ℕ → Type 0 = λ bytes. SaysPart s u (told_in c.args.self.now bytes) in
     λ e. subst Q whole
-    (waits-some s t u c.args.self.now c.extend-2.new.self _ c.loop-at.waiting.items waited (c.say_waiting.ensures.part e))
+    (waits-some s t u c.args.self.now c.extend-2.new.self _ c.loop-at.waiting.items waited
+    (c.say_waiting.ensures.part e))
 
 pub returns-clause-first : goal.returns-clause-first
 returns-clause-first g c =
@@ -267,10 +271,12 @@ returns-clause-found g c =
 
 pub returns-clause-log : goal.returns-clause-log
 returns-clause-log g c =
-    let M : Moment → Type 0 = λ m. StaysBeside g.T.Station c.args.self.now m c.args.station.now c.say_waiting.new.station in
+    let M : Moment → Type 0 =
+    λ m. StaysBeside g.T.Station c.args.self.now m c.args.station.now c.say_waiting.new.station in
     on_ok_weaker c.say_waiting.result
     (λ none. subst M (sym c.say_waiting.ensures.same)
-    (stays-to g.T.Station c.args.self.now c.loop-at.self c.extend-2.new.self c.args.station.now c.say_waiting.new.station
+    (stays-to g.T.Station c.args.self.now c.loop-at.self c.extend-2.new.self c.args.station.now
+    c.say_waiting.new.station
     c.extend-2.ensures.held c.extend-2.ensures.end
     (stays-rest g.T.Station c.args.self.now c.loop-at.self (c.loop-at.waiting.items ≡ []) c.args.station.now
     c.loop-at.station c.say_waiting.new.station c.loop-at.invariant.goes c.loop-at.invariant.idle

@@ -18,7 +18,8 @@ returns-in_err-given-clause-disk g c =
 
 pub returns-in_err-given-clause-found : goal.returns-in_err-given-clause-found
 returns-in_err-given-clause-found g c =
-    in-still g.T.Station c.args.self.now (10 ∷ []) c.args.station.now c.requires.log (g.met.T.Station.only_now c.args.station.now)
+    in-still g.T.Station c.args.self.now (10 ∷ []) c.args.station.now c.requires.log
+    (g.met.T.Station.only_now c.args.station.now)
     (g.met.T.Station.counts_now c.args.station.now)
 
 -- where those that wait could not be answered
@@ -32,7 +33,8 @@ returns-in_err-say_waiting-in_default-clause-says g c =
 
 pub returns-in_err-say_waiting-in_default-clause-disk : goal.returns-in_err-say_waiting-in_default-clause-disk
 returns-in_err-say_waiting-in_default-clause-disk g c =
-    λ e. only-longer g.T.Station c.args.station.now c.say_waiting.new.station (asks_text c.args.self.now.held c.args.waiting.now.items)
+    λ e. only-longer g.T.Station c.args.station.now c.say_waiting.new.station
+    (asks_text c.args.self.now.held c.args.waiting.now.items)
     (told_in c.args.self.now (10 ∷ [])) c.say_waiting.ensures.disk
 
 pub returns-in_err-say_waiting-in_default-clause-found : goal.returns-in_err-say_waiting-in_default-clause-found

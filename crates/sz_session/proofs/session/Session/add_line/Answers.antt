@@ -33,7 +33,8 @@ returns-clause-log g c =
     let left = ap (λ (s : State). s.held) c.self.view_is
     ∙ left-held c.args.self.now c.accept.new.self c.args.command _ c.in_ok-reply.ensures.reply in
     let L : Holdings → Type 0 = λ h.
-    KeepsLog g.T.Station held c.args.self.now.end h (Some c.in_ok-next.next.at) c.args.station.now c.append.new.station in
+    KeepsLog g.T.Station held c.args.self.now.end h (Some c.in_ok-next.next.at) c.args.station.now
+    c.append.new.station in
     subst L (sym left)
     (append-keeps g.T.Station held (changes.accepted held c.args.command).0 c.args.self.now.end c.args.end.at
     c.in_ok-next.next.at _ c.args.station.now c.append.new.station c.requires.end

@@ -34,7 +34,8 @@ returns-then-is_awaited-clause-log g c =
     let on = sym c.is_awaited.ensures ∙ c.if-is_awaited.true in
     let left = left-held s t (order.Await n) _ c.in_ok-await_version.ensures.reply in
     let place = ap (λ (p : State × Response). p.0.end) (sym c.in_ok-await_version.ensures.reply) in
-    let log = subst (λ (o : Option ℕ). HasLog g.T.Station s.held o c.args.station.now) (sym c.requires.end) c.requires.log in
+    let log =
+    subst (λ (o : Option ℕ). HasLog g.T.Station s.held o c.args.station.now) (sym c.requires.end) c.requires.log in
     rests-keep g.T.Station s t c.args.station.now log place
     (ap durable left ∙ again-durable s.held n held on)
 
@@ -64,11 +65,13 @@ pub returns-in_err-next-clause-stops : goal.returns-in_err-next-clause-stops
 returns-in_err-next-clause-stops g c =
     let s : State = c.args.self.now in
     let n = c.args.version in
-    let is : c.self.inside.catalogue ≡ s.held = ap (λ (x : State). x.held) (c.self.view_is ∙ c.in_ok-run.ensures.same) in
+    let is : c.self.inside.catalogue ≡ s.held =
+    ap (λ (x : State). x.held) (c.self.view_is ∙ c.in_ok-run.ensures.same) in
     let held = (rule-fails (has_no_version s.held n) refusal.NoSuchVersion [] c.requires.judged).0 in
     let off = sym c.is_awaited.ensures ∙ c.if-is_awaited.false in
     let in-order = subst IsInOrder is c.is_in_order.ensures in
-    let sound = subst (λ (h : Holdings). IsSoundBody n (version_of h n) c.in_ok-body.body.items) is c.in_ok-body.ensures in
+    let sound =
+    subst (λ (h : Holdings). IsSoundBody n (version_of h n) c.in_ok-body.body.items) is c.in_ok-body.ensures in
     let E : List ℕ → Entry = λ body. record { kind = 4; body = body } in
     let one : IsStep s.held (with_await s.held n) (E c.deref.result.now) =
     subst (λ (body : List ℕ). IsStep s.held (with_await s.held n) (E body)) (sym c.deref.ensures.value)
@@ -81,11 +84,13 @@ returns-clause-log g c =
     let s : State = c.args.self.now in
     let t : State = c.note_await.new.self in
     let n = c.args.version in
-    let is : c.self.inside.catalogue ≡ s.held = ap (λ (x : State). x.held) (c.self.view_is ∙ c.in_ok-run.ensures.same) in
+    let is : c.self.inside.catalogue ≡ s.held =
+    ap (λ (x : State). x.held) (c.self.view_is ∙ c.in_ok-run.ensures.same) in
     let held = (rule-fails (has_no_version s.held n) refusal.NoSuchVersion [] c.requires.judged).0 in
     let off = sym c.is_awaited.ensures ∙ c.if-is_awaited.false in
     let in-order = subst IsInOrder is c.is_in_order.ensures in
-    let sound = subst (λ (h : Holdings). IsSoundBody n (version_of h n) c.in_ok-body.body.items) is c.in_ok-body.ensures in
+    let sound =
+    subst (λ (h : Holdings). IsSoundBody n (version_of h n) c.in_ok-body.body.items) is c.in_ok-body.ensures in
     let E : List ℕ → Entry = λ body. record { kind = 4; body = body } in
     let one : IsStep s.held (with_await s.held n) (E c.deref.result.now) =
     subst (λ (body : List ℕ). IsStep s.held (with_await s.held n) (E body)) (sym c.deref.ensures.value)
@@ -93,7 +98,8 @@ returns-clause-log g c =
     let left : t.held ≡ with_await s.held n =
     ap (λ (p : State × Response). p.0.held) (sym c.note_await.ensures) ∙ ap (λ (h : Holdings). with_await h n) is in
     let place : t.end ≡ Some c.in_ok-next.next.at = ap (λ (p : State × Response). p.0.end) (sym c.note_await.ensures) in
-    subst (λ (h : Holdings). KeepsLog g.T.Station s.held s.end h t.end c.args.station.now c.append.new.station) (sym left)
+    subst (λ (h : Holdings). KeepsLog g.T.Station s.held s.end h t.end c.args.station.now c.append.new.station)
+    (sym left)
     (subst (λ (o : Option ℕ). KeepsLog g.T.Station s.held s.end (with_await s.held n) o c.args.station.now
     c.append.new.station) (sym place)
     (append-keeps g.T.Station s.held (with_await s.held n) s.end c.args.end.at c.in_ok-next.next.at
@@ -104,11 +110,13 @@ pub returns-clause-stops : goal.returns-clause-stops
 returns-clause-stops g c =
     let s : State = c.args.self.now in
     let n = c.args.version in
-    let is : c.self.inside.catalogue ≡ s.held = ap (λ (x : State). x.held) (c.self.view_is ∙ c.in_ok-run.ensures.same) in
+    let is : c.self.inside.catalogue ≡ s.held =
+    ap (λ (x : State). x.held) (c.self.view_is ∙ c.in_ok-run.ensures.same) in
     let held = (rule-fails (has_no_version s.held n) refusal.NoSuchVersion [] c.requires.judged).0 in
     let off = sym c.is_awaited.ensures ∙ c.if-is_awaited.false in
     let in-order = subst IsInOrder is c.is_in_order.ensures in
-    let sound = subst (λ (h : Holdings). IsSoundBody n (version_of h n) c.in_ok-body.body.items) is c.in_ok-body.ensures in
+    let sound =
+    subst (λ (h : Holdings). IsSoundBody n (version_of h n) c.in_ok-body.body.items) is c.in_ok-body.ensures in
     let E : List ℕ → Entry = λ body. record { kind = 4; body = body } in
     let one : IsStep s.held (with_await s.held n) (E c.deref.result.now) =
     subst (λ (body : List ℕ). IsStep s.held (with_await s.held n) (E body)) (sym c.deref.ensures.value)
@@ -121,8 +129,10 @@ returns-clause-appends g c =
     let s : State = c.args.self.now in
     let t : State = c.note_await.new.self in
     let n = c.args.version in
-    let is : c.self.inside.catalogue ≡ s.held = ap (λ (x : State). x.held) (c.self.view_is ∙ c.in_ok-run.ensures.same) in
-    let sound = subst (λ (h : Holdings). IsSoundBody n (version_of h n) c.in_ok-body.body.items) is c.in_ok-body.ensures in
+    let is : c.self.inside.catalogue ≡ s.held =
+    ap (λ (x : State). x.held) (c.self.view_is ∙ c.in_ok-run.ensures.same) in
+    let sound =
+    subst (λ (h : Holdings). IsSoundBody n (version_of h n) c.in_ok-body.body.items) is c.in_ok-body.ensures in
     let place : t.end ≡ Some c.in_ok-next.next.at = ap (λ (p : State × Response). p.0.end) (sym c.note_await.ensures) in
     let P : Entry → Type 0 = IsVersionGroup s.held n in
     λ off. subst (λ (o : Option ℕ). Appends g.T.Station P s.end o c.args.station.now c.append.new.station) (sym place)

@@ -6,4 +6,5 @@ use Rattle.sz_session.proofs.Keeps.{rule-fails}
 use Rattle.sz_session.proofs.session.Session.await_version.Goals as goal
 
 pub whole_run-requires : goal.whole_run-requires
-whole_run-requires g c = (rule-fails (has_no_version c.args.self.now.held c.args.version) refusal.NoSuchVersion [] c.requires.judged).0
+whole_run-requires g c = (rule-fails (has_no_version c.args.self.now.held c.args.version) refusal.NoSuchVersion []
+    c.requires.judged).0

@@ -11,7 +11,8 @@ pub returns-clause-cells : goal.returns-clause-cells
 returns-clause-cells g c =
     let v = version_of c.args.self.now.held c.args.version in
     IfOk-weaker c.answer.result _ _
-    (λ f a. sought-cells (logged_of c.args.self.now c.args.version) v c.args.dir c.args.path.now c.args.named.now c.in_ok-inquiry.inquiry f c.in_ok-inquiry.ensures.search a)
+    (λ f a. sought-cells (logged_of c.args.self.now c.args.version) v c.args.dir c.args.path.now c.args.named.now
+    c.in_ok-inquiry.inquiry f c.in_ok-inquiry.ensures.search a)
     c.answer.ensures.answer
 
 pub returns-clause-ways : goal.returns-clause-ways
@@ -19,7 +20,8 @@ returns-clause-ways g c =
     let v = version_of c.args.self.now.held c.args.version in
     λ awaited. IfOk-weaker c.answer.result _ _
     (λ f a.
-    sought-ways (logged_of c.args.self.now c.args.version) v c.args.dir c.args.path.now c.args.named.now c.in_ok-inquiry.inquiry f c.in_ok-inquiry.ensures.search a awaited)
+    sought-ways (logged_of c.args.self.now c.args.version) v c.args.dir c.args.path.now c.args.named.now
+    c.in_ok-inquiry.inquiry f c.in_ok-inquiry.ensures.search a awaited)
     c.answer.ensures.answer
 
 pub returns-clause-traced : goal.returns-clause-traced
@@ -27,7 +29,8 @@ returns-clause-traced g c =
     let v = version_of c.args.self.now.held c.args.version in
     λ awaited. IfOk-weaker c.answer.result _ _
     (λ f a.
-    sought-traced (logged_of c.args.self.now c.args.version) v c.args.dir c.args.path.now c.args.named.now c.in_ok-inquiry.inquiry f c.in_ok-inquiry.ensures.search a awaited)
+    sought-traced (logged_of c.args.self.now c.args.version) v c.args.dir c.args.path.now c.args.named.now
+    c.in_ok-inquiry.inquiry f c.in_ok-inquiry.ensures.search a awaited)
     c.answer.ensures.answer
 
 pub returns-clause-least : goal.returns-clause-least
@@ -37,7 +40,8 @@ returns-clause-least g c =
     (λ f p. omega (
       arith,
       p.1,
-      sought-least (logged_of c.args.self.now c.args.version) v c.args.dir c.args.path.now c.args.named.now c.in_ok-inquiry.inquiry f c.in_ok-inquiry.ensures.search p.0,
+      sought-least (logged_of c.args.self.now c.args.version) v c.args.dir c.args.path.now c.args.named.now
+          c.in_ok-inquiry.inquiry f c.in_ok-inquiry.ensures.search p.0,
     ))
     (if-both _ _ c.answer.result c.answer.ensures.answer c.answer.ensures.ticks)
 
@@ -48,6 +52,7 @@ returns-clause-most g c =
     (λ f p. omega (
       arith,
       p.1,
-      sought-most (logged_of c.args.self.now c.args.version) v c.args.dir c.args.path.now c.args.named.now c.in_ok-inquiry.inquiry f c.in_ok-inquiry.ensures.search p.0,
+      sought-most (logged_of c.args.self.now c.args.version) v c.args.dir c.args.path.now c.args.named.now
+          c.in_ok-inquiry.inquiry f c.in_ok-inquiry.ensures.search p.0,
     ))
     (if-both _ _ c.answer.result c.answer.ensures.answer c.answer.ensures.ticks)

@@ -20,7 +20,8 @@ inquiry_logged-requires-clause-number c =
 pub inquiry_logged-requires-clause-own : goal.inquiry_logged-requires-clause-own
 inquiry_logged-requires-clause-own c =
     let test : Recall → Bool = λ x. x.kept.number == c.args.version in
-    let own = found-all (IsRecalledIn c.self.inside.catalogue) test c.self.inside.recalled.items _ c.self.invariant.recalled
+    let own =
+    found-all (IsRecalledIn c.self.inside.catalogue) test c.self.inside.recalled.items _ c.self.invariant.recalled
     (rw c.deref.ensures.value at c.in-Some.ensures.some) in
     subst (λ (s : State). IsRecalledIn s.held c.in-Some.recalled.now) c.self.view_is own
 
@@ -55,5 +56,6 @@ returns-clause-search c =
     let I : Option (List (Option NodeLineage)) → Search → Type 0 =
     λ k q. IsInquiryBy k v c.args.dir c.args.path.now c.args.named.now q in
     IfOk-weaker c.inquiry_by-inquiry.result _ _
-    (λ q h. subst (λ (k : Option (List (Option NodeLineage))). I k q) (sym absent) (subst (P q) c.take_out.ensures.same h))
+    (λ q h. subst (λ (k : Option (List (Option NodeLineage))). I k q) (sym absent)
+    (subst (P q) c.take_out.ensures.same h))
     c.inquiry_by-inquiry.ensures.search

@@ -26,7 +26,8 @@ pub invariant_of-self : goal.invariant_of-self
 invariant_of-self c =
     let cat = c.self.inside.catalogue in
     let rs = c.self.inside.recalled.items in
-    let none = subst (λ (s : State). judged s.held (order.Await c.args.version) ≡ None) (sym c.self.view_is) c.requires.judged in
+    let none =
+    subst (λ (s : State). judged s.held (order.Await c.args.version) ≡ None) (sym c.self.view_is) c.requires.judged in
     subst (λ (h : Holdings). IsInService h rs) (sym (ap (λ (p : Holdings × Response). p.0) c.await_version.ensures))
     (record {
       sound = keeps-await cat c.args.version c.self.invariant.sound none;

@@ -29,7 +29,8 @@ pub reply_to-requires-clause-ended : goal.reply_to-requires-clause-ended
 reply_to-requires-clause-ended c =
     let few : c.loop-place.place < length c.args.lines.now =
     omega (arith, c.loop-place-test.true, c.loop-place.invariant.end) in
-    zip-at (IsEnded c.args.self.now) c.args.lines.now c.loop-place.all.items c.loop-place.place c.index-lines-place.result
+    zip-at (IsEnded c.args.self.now) c.args.lines.now c.loop-place.all.items c.loop-place.place
+    c.index-lines-place.result
     c.index_mut.result.now c.loop-place.invariant.ended few c.index-lines-place.is c.index_mut.ensures.value
 
 pub loop-place-preserved : goal.loop-place-preserved

@@ -84,7 +84,8 @@ hand_out_node-requires g c =
     let stored : slice_get r.kept n ≡ Some (keeping_of store) =
     ap (λ (ks : List Keeping). slice_get ks n) (sym c.loop-node.invariant.stores)
     ∙ slice_get-map keeping_of stores n
-    ∙ ap (option_map keeping_of) (slice_get_read stores (length stores) n store refl within c.index_mut.ensures.value) in
+    ∙ ap (option_map keeping_of) (slice_get_read stores (length stores) n store refl within c.index_mut.ensures.value)
+    in
     let same = some-same kept.0 (keeping_of store) (sym kept.1 ∙ stored) in
     rw c.as_slice-list.ensures
     (subst (λ (k : Keeping). IsKeptOf false (execution_of run) list k) same kept.2)

@@ -20,7 +20,8 @@ pub invariant_of-self-2 : goal.invariant_of-self-2
 invariant_of-self-2 c =
     let seen = ap (λ (t : SetsByNumber). length t.sets) c.self.view_is in
     let count = sets-count c.self.inside.shape c.self.inside.runs.items c.self.inside.spans.items in (
-      (rw c.reserve.ensures.items (numbered-widened c.self.inside.shape c.self.inside.runs.items c.self.inside.spans.items
+      (rw c.reserve.ensures.items (numbered-widened c.self.inside.shape c.self.inside.runs.items
+          c.self.inside.spans.items
           c.self.inside.index c.widen.new.self c.self.invariant.0 c.widen.ensures.kept)),
       rw c.reserve.ensures.items (record {
         few = omega (arith, c.requires, seen, count);
