@@ -15,8 +15,9 @@ use std::sync::Arc;
 use sz_cells::{NoMemory, Shape};
 use sz_spec::{Array, ArrayList, Node, Op, OpAt, SourceRef};
 
-/// The arrays that a node takes, given the base arrays and the runs of the nodes before it.
-pub(crate) fn inputs_of(
+/// The arrays that a node takes, given the base arrays and the runs of the nodes before it. They are
+/// shared and not copied.
+pub fn inputs_of(
     alloc: Global,
     node: &Node,
     base: &[Arc<Array>],

@@ -27,5 +27,6 @@ mod run;
 #[cfg(test)]
 mod tests;
 
+pub use inputs::inputs_of;
 pub use node_run::NodeRun;
 pub use run::run_all;
