@@ -11,9 +11,9 @@ import os
 import re
 import sys
 
-ALL = ["crates/sz_session/specs/Serving.antt"]
+ALL = ["crates/sz_feed/specs/Serving.antt"]
 PLAIN = [
-    "crates/sz_session/specs/Plain.antt",
+    "crates/sz_feed/specs/Plain.antt",
     "crates/sz_outside/specs/Outside.antt",
     "crates/sz_words/specs/Job.antt",
     "crates/sz_gen/specs/Session.antt",
