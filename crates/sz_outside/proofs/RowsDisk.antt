@@ -2,13 +2,13 @@
 --
 -- The key idea: on written-out bytes each definition computes, so an image that is refused would hold two different
 -- bytes, or two different sizes, equal.
-use Rattle.std.proofs.Common.{◌≡◌, ℕ, zero, suc, ◌+◌, ◌-◌, ◌^◌, true, false, List, [], ◌∷◌, Bool}
-use Rattle.std.proofs.Common.{Some, None, refl, arith, subst, inl, inr, ◌⊎◌}
+use Rattle.std.proofs.Common.{◌≡◌, ℕ, zero, suc, ◌-◌, ◌^◌, true, false, List, [], ◌∷◌, Bool}
+use Rattle.std.proofs.Common.{Some, None, refl, arith, subst, inl, inr}
 use Rattle.sz_outside.specs.Counts.{faults_after}
 use Rattle.sz_outside.specs.Disk.{bytes_at, written, HasSize, HasPlace, GivesAt, Holds, Writes, Cuts, Torn, Cut}
-use Rattle.sz_outside.specs.Disk.{Only, SaidPart}
+use Rattle.sz_outside.specs.Disk.{SaidPart}
 use Rattle.sz_outside.specs.History.{Event, Scene, scene_before, scene_at, with_ones, MayLeave, LeftSince}
-use Rattle.sz_outside.specs.Memory.{Ledger, ledger_before, is_stopped, is_next_done, is_write_done, image_by}
+use Rattle.sz_outside.specs.Memory.{ledger_before, is_stopped, is_next_done, is_write_done, image_by}
 use Rattle.sz_outside.specs.declared.history.Act.{Act}
 use Rattle.sz_outside.specs.declared.history.Act.TheVariants as act
 use Rattle.sz_outside.specs.declared.stations.Torn.TheVariants as torn
