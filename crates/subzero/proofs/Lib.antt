@@ -1,2 +1,3 @@
--- The lemmas of the program.
+-- The lemmas of the program, and its worked rows.
 pub mod Numbers
+mod Rows

@@ -1,3 +1,4 @@
 -- The definitions that the program's contracts cite.
 pub mod Endings
+pub mod Places
 pub mod Words

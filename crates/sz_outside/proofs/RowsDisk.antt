@@ -2,13 +2,13 @@
 --
 -- The key idea: on written-out bytes each definition computes, so an image that is refused would hold two different
 -- bytes, or two different sizes, equal.
-use Rattle.std.proofs.Common.{◌≡◌, ℕ, zero, suc, ◌+◌, ◌-◌, ◌^◌, true, false, List, [], ◌∷◌, Bool}
-use Rattle.std.proofs.Common.{Some, None, refl, arith, subst, inl, inr, ◌⊎◌}
+use Rattle.std.proofs.Common.{◌≡◌, ℕ, zero, suc, ◌-◌, ◌^◌, true, false, List, [], ◌∷◌, Bool}
+use Rattle.std.proofs.Common.{Some, None, refl, arith, subst, inl, inr}
 use Rattle.sz_outside.specs.Counts.{faults_after}
 use Rattle.sz_outside.specs.Disk.{bytes_at, written, HasSize, HasPlace, GivesAt, Holds, Writes, Cuts, Torn, Cut}
-use Rattle.sz_outside.specs.Disk.{Only, SaidPart}
+use Rattle.sz_outside.specs.Disk.{SaidPart, WritesPart, CutsOrNot}
 use Rattle.sz_outside.specs.History.{Event, Scene, scene_before, scene_at, with_ones, MayLeave, LeftSince}
-use Rattle.sz_outside.specs.Memory.{Ledger, ledger_before, is_stopped, is_next_done, is_write_done, image_by}
+use Rattle.sz_outside.specs.Memory.{ledger_before, is_stopped, is_next_done, is_write_done, image_by}
 use Rattle.sz_outside.specs.declared.history.Act.{Act}
 use Rattle.sz_outside.specs.declared.history.Act.TheVariants as act
 use Rattle.sz_outside.specs.declared.stations.Torn.TheVariants as torn
@@ -136,6 +136,40 @@ cut-between (inr e) = let f = e in cc
 pub cut-other_byte : Cut 1 (5 ∷ 6 ∷ 7 ∷ []) (0 ∷ []) → ⊥
 cut-other_byte (inl e) = let f = e in cc
 cut-other_byte (inr e) = let f = e in cc
+
+-- ---- what a call that failed may have changed
+
+-- a write that failed: any byte in its range and any size up to its end, and nothing else
+pub writes_part : WritesPart (Some (5 ∷ 6 ∷ 7 ∷ [])) (Some (5 ∷ 9 ∷ 7 ∷ [])) 1 1
+writes_part = (5 ∷ 9 ∷ 7 ∷ [], refl, record {
+  before = refl; after = refl; no_shorter = omega arith; no_longer = omega arith;
+})
+
+pub writes_part-outside : WritesPart (Some (5 ∷ 6 ∷ 7 ∷ [])) (Some (0 ∷ 6 ∷ 7 ∷ [])) 1 1 → ⊥
+writes_part-outside (after, e, torn) = let b = torn.before in let f = e in cc
+
+pub writes_part-emptied : WritesPart (Some (5 ∷ 6 ∷ [])) (Some []) 1 1 → ⊥
+writes_part-emptied (after, e, torn) = let b = torn.before in let f = e in cc
+
+pub writes_part-untold : WritesPart (Some (5 ∷ 6 ∷ [])) None 1 1 → ⊥
+writes_part-untold (after, e, torn) = let f = e in cc
+
+pub writes_part-told : WritesPart None (Some []) 1 1 → ⊥
+writes_part-told e = let f = e in cc
+
+-- a cut that failed: the old bytes or the first of them
+pub cuts_or_not-old : CutsOrNot (Some (5 ∷ 6 ∷ 7 ∷ [])) (Some (5 ∷ 6 ∷ 7 ∷ [])) 1
+cuts_or_not-old = (5 ∷ 6 ∷ 7 ∷ [], refl, inl refl)
+
+pub cuts_or_not-new : CutsOrNot (Some (5 ∷ 6 ∷ 7 ∷ [])) (Some (5 ∷ [])) 1
+cuts_or_not-new = (5 ∷ [], refl, inr refl)
+
+pub cuts_or_not-emptied : CutsOrNot (Some (5 ∷ 6 ∷ 7 ∷ [])) (Some []) 1 → ⊥
+cuts_or_not-emptied (after, e, inl same) = let f = e in let g = same in cc
+cuts_or_not-emptied (after, e, inr cut) = let f = e in let g = cut in cc
+
+pub cuts_or_not-told : CutsOrNot None (Some []) 1 → ⊥
+cuts_or_not-told e = let f = e in cc
 
 -- ---- what a stop may leave after some calls
 

@@ -82,6 +82,17 @@ pub record Torn (at n : ℕ) (old new : List ℕ) : Type 0 where
 abbrev pub Cut : ℕ → List ℕ → List ℕ → Type 0
 Cut size old new = (new ≡ old) ⊎ (new ≡ take size old)
 
+-- A write of n bytes at a place that failed: it may have changed those bytes, and no others. A disk
+-- that is not told stays so.
+abbrev pub WritesPart : Option (List ℕ) → Option (List ℕ) → ℕ → ℕ → Type 0
+WritesPart None new at n = new ≡ None
+WritesPart (Some disk) new at n = (after : List ℕ) × (new ≡ Some after) × Torn at n disk after
+
+-- A cut to a size that failed: the disk is as before, or is cut. A disk that is not told stays so.
+abbrev pub CutsOrNot : Option (List ℕ) → Option (List ℕ) → ℕ → Type 0
+CutsOrNot None new size = new ≡ None
+CutsOrNot (Some disk) new size = (after : List ℕ) × (new ≡ Some after) × Cut size disk after
+
 -- Any other call leaves the same bytes.
 abbrev pub Same : List ℕ → List ℕ → Type 0
 Same old new = new ≡ old

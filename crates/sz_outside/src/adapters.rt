@@ -4,10 +4,11 @@
 //! tells. The real streams tell none, but the body that serves them is the same, and cannot tell
 //! them apart from any other.
 ghost use Rattle.std.specs.Prelude.{◌≡◌, ◌≤◌, ◌<◌, ◌+◌, ◌^◌, ⊤, None, IsSomeAnd, length, is_ok};
-ghost use Rattle.std.specs.Prelude.{IfOk, OnOk, OnErr, IsTrue};
+ghost use Rattle.std.specs.Prelude.{IfOk, OnOk, OnErr, IsTrue, Some, MatchOption};
+ghost use Rattle.std.specs.Option.{option_map};
 ghost use Rattle.sz_outside.specs.Outside.{Rose, Stood, Gives, Keeps, Says, SaysPart};
 ghost use Rattle.sz_outside.specs.Counts.{faults_after};
-ghost use Rattle.sz_outside.specs.Disk.{HasSize, GivesAt, Writes, Cuts};
+ghost use Rattle.sz_outside.specs.Disk.{HasSize, GivesAt, Writes, WritesPart, Cuts, CutsOrNot};
 
 use crate::streams::{Outlet, count_fault, read_and_count, write_and_count};
 use crate::volumes::{Volume, read_from, write_to};
@@ -77,7 +78,8 @@ pub struct StreamStation<V, W> {
 impl StreamStation<File, Stdout> {
     /// Standard output and a file, with no faults so far.
     pub fn over(rt: &HostRuntime, file: File) -> FileStation
-        ensures { (result.disk_faults ≡ 0) × (result.say_faults ≡ 0) }
+        ensures quiet { (result.disk_faults ≡ 0) × (result.say_faults ≡ 0) }
+        ensures held { result.volume ≡ Some file }
     {
         StreamStation {
             volume: Some(file),
@@ -89,7 +91,8 @@ impl StreamStation<File, Stdout> {
 
     /// Standard output and no file, with no faults so far. Each disk call fails and is counted.
     pub fn closed(rt: &HostRuntime) -> FileStation
-        ensures { (result.disk_faults ≡ 0) × (result.say_faults ≡ 0) }
+        ensures quiet { (result.disk_faults ≡ 0) × (result.say_faults ≡ 0) }
+        ensures held { result.volume ≡ None }
     {
         StreamStation {
             volume: None,
@@ -128,6 +131,7 @@ impl<V: Volume, W: Outlet> Station for StreamStation<V, W> {
 
         ensures size { IfOk result (λ n.
             IsSomeAnd self.old.volume (λ v. HasSize (V.bytes v) n)) }
+        ensures kept { option_map V.bytes self.new.volume ≡ option_map V.bytes self.old.volume }
     {
         let size = match &mut self.volume {
             Some(volume) => volume.length(),
@@ -144,6 +148,7 @@ impl<V: Volume, W: Outlet> Station for StreamStation<V, W> {
 
         ensures bytes { IfOk result (λ n. IsSomeAnd self.old.volume (λ v.
             GivesAt (V.bytes v) at (length into.old) into.new n)) }
+        ensures kept { option_map V.bytes self.new.volume ≡ option_map V.bytes self.old.volume }
     {
         let given = match &mut self.volume {
             Some(volume) => read_from(volume, at, into),
@@ -160,6 +165,9 @@ impl<V: Volume, W: Outlet> Station for StreamStation<V, W> {
 
         ensures written { OnOk result (IsSomeAnd self.old.volume (λ v. IsSomeAnd self.new.volume
             (λ w. Writes (V.bytes v) (V.bytes w) at bytes.now))) }
+        ensures part { OnErr result (MatchOption self.old.volume (self.new.volume ≡ None)
+            (λ v. IsSomeAnd self.new.volume
+            (λ w. WritesPart (V.bytes v) (V.bytes w) at (length bytes.now)))) }
     {
         let written = match &mut self.volume {
             Some(volume) => write_to(volume, at, bytes),
@@ -175,6 +183,8 @@ impl<V: Volume, W: Outlet> Station for StreamStation<V, W> {
 
         ensures cut { OnOk result (IsSomeAnd self.old.volume (λ v. IsSomeAnd self.new.volume
             (λ w. Cuts (V.bytes v) (V.bytes w) size))) }
+        ensures part { OnErr result (MatchOption self.old.volume (self.new.volume ≡ None)
+            (λ v. IsSomeAnd self.new.volume (λ w. CutsOrNot (V.bytes v) (V.bytes w) size))) }
     {
         let cut = match &mut self.volume {
             Some(volume) => volume.cut_to(size),
@@ -190,6 +200,7 @@ impl<V: Volume, W: Outlet> Station for StreamStation<V, W> {
 
         ensures synced { OnOk result (
             IsSomeAnd self.new.volume (λ w. IsTrue (V.is_synced w))) }
+        ensures kept { option_map V.bytes self.new.volume ≡ option_map V.bytes self.old.volume }
     {
         let synced = match &mut self.volume {
             Some(volume) => volume.put_through(),
@@ -206,7 +217,8 @@ impl<V: Volume, W: Outlet> Station for StreamStation<V, W> {
         ensures failed { OnErr result (Rose self.old.say_faults self.new.say_faults) }
         ensures quiet { OnOk result (Stood self.old.say_faults self.new.say_faults) }
         ensures faults { self.old.say_faults ≤ self.new.say_faults }
-        ensures volume { self.new.disk_faults ≡ self.old.disk_faults }
+        ensures volume { (self.new.volume ≡ self.old.volume)
+            × (self.new.disk_faults ≡ self.old.disk_faults) }
 
         ensures sent { OnOk result (IsTrue (W.holds_none self.new.writer)) }
         ensures counted { self.new.say_faults

@@ -1,13 +1,17 @@
 //! A read and a write at a place of a file, for any kind of file.
 ghost use Rattle.std.specs.Prelude.{◌≡◌, ◌≤◌, ◌<◌, ◌+◌, ◌^◌, ℕ, List, Option, Bool, None, true};
-ghost use Rattle.std.specs.Prelude.{length, IfOk, OnOk, IsTrue, nat_lt};
-ghost use Rattle.sz_outside.specs.Disk.{HasSize, GivesAt, Holds, Writes, Cuts};
+ghost use Rattle.std.specs.Prelude.{length, IfOk, OnOk, OnErr, IsTrue, nat_lt};
+ghost use Rattle.sz_outside.specs.Disk.{HasSize, GivesAt, Holds, Writes, WritesPart, Cuts};
+ghost use Rattle.sz_outside.specs.Disk.{CutsOrNot};
 
 use std::fs::File;
 use std::io::{self, ErrorKind};
 use std::os::unix::fs::FileExt;
 
 /// A file of which a clause can say what bytes it has, and that they are synced.
+///
+/// A call that looks, and one that syncs, leaves the bytes as they were, whether it fails or not. A
+/// write changes just the bytes that it was given a place for, and a cut just those behind its size.
 pub trait Volume {
     ghost bytes: { Self → Option (List ℕ) };
 
@@ -20,19 +24,24 @@ pub trait Volume {
 
     /// Fills `into` with the bytes from a place on.
     fn fill(&mut self, at: u64, into: &mut [u8]) -> io::Result<()>
-        ensures bytes { OnOk result (Holds (bytes self.old) at into.new) };
+        ensures bytes { OnOk result (Holds (bytes self.old) at into.new) }
+        ensures kept { bytes self.new ≡ bytes self.old };
 
     /// Writes all of these bytes at a place.
     fn put(&mut self, at: u64, given: &[u8]) -> io::Result<()>
-        ensures written { OnOk result (Writes (bytes self.old) (bytes self.new) at given.now) };
+        ensures written { OnOk result (Writes (bytes self.old) (bytes self.new) at given.now) }
+        ensures part { OnErr result
+            (WritesPart (bytes self.old) (bytes self.new) at (length given.now)) };
 
     /// Cuts it to a size.
     fn cut_to(&mut self, size: u64) -> io::Result<()>
-        ensures cut { OnOk result (Cuts (bytes self.old) (bytes self.new) size) };
+        ensures cut { OnOk result (Cuts (bytes self.old) (bytes self.new) size) }
+        ensures part { OnErr result (CutsOrNot (bytes self.old) (bytes self.new) size) };
 
     /// Puts its bytes on the device.
     fn put_through(&mut self) -> io::Result<()>
-        ensures synced { OnOk result (IsTrue (is_synced self.new)) };
+        ensures synced { OnOk result (IsTrue (is_synced self.new)) }
+        ensures kept { bytes self.new ≡ bytes self.old };
 }
 
 /// A file of the system tells nothing of its bytes.
@@ -67,6 +76,7 @@ pub(crate) fn read_from<V: Volume>(volume: &mut V, at: u64, into: &mut [u8]) -> 
     ensures bound { IfOk result (λ n. n ≤ length into.new) }
     ensures bytes { IfOk result (λ n.
         GivesAt (V.bytes volume.old) at (length into.old) into.new n) }
+    ensures kept { V.bytes volume.new ≡ V.bytes volume.old }
 {
     let left = volume.length()?.saturating_sub(at);
     let count = into.len().min(left as usize);
@@ -77,6 +87,8 @@ pub(crate) fn read_from<V: Volume>(volume: &mut V, at: u64, into: &mut [u8]) -> 
 /// Writes all of these bytes at a place. It fails where they would end at 2^62 or behind.
 pub(crate) fn write_to<V: Volume>(volume: &mut V, at: u64, given: &[u8]) -> io::Result<()>
     ensures written { OnOk result (Writes (V.bytes volume.old) (V.bytes volume.new) at given.now) }
+    ensures part { OnErr result
+        (WritesPart (V.bytes volume.old) (V.bytes volume.new) at (length given.now)) }
     ensures limit { OnOk result (at + length given.now < 2 ^ 62) }
 {
     if has_room(at, given.len()) {
