@@ -1,0 +1,220 @@
+#!/usr/bin/env python3
+"""Empties definitions one by one, and lists those without which everything still proves.
+
+    python3 bench/emptied.py CRATE..                 every definition in specs/ of these crates
+    python3 bench/emptied.py --minutes 60 CRATE..    stops after so long
+    python3 bench/emptied.py --above 0 CRATE..       checks the crate alone, and none above it
+    python3 bench/emptied.py --list CRATE..          prints the edits, and tries none
+    python3 bench/emptied.py --names CRATE..         the definitions that are only handed on by name, and tries none
+
+It works on a copy of the repository. In each file of specs/ it puts, in turn, ⊤ in place of the type of a field of a
+record, of a part of a product, and of the body of a case of a statement, and true in place of the body of a test; then
+it checks the crate, and where that is still proved the crates above that name what was emptied. (Fields of data, and
+what a product only binds, are left.) What is proved to the
+top is printed as 'still proves'. An edit that is refused may be refused by text alone, since a proof gives a field that
+says something else now: the list shows what nothing needs, and not that the rest is needed by a clause.
+
+It is no test and no part of the gate. A check starts from what earlier runs kept, so run it after a gate has passed.
+"""
+import argparse
+import pathlib
+import re
+import shutil
+import subprocess
+import sys
+import tempfile
+import time
+from dataclasses import dataclass
+
+ROOT = pathlib.Path(__file__).resolve().parent.parent
+PRELUDE = "use Rattle.std.specs.Prelude."
+
+
+@dataclass(frozen=True)
+class Edit:
+    """Some characters of a file of specs/ of a crate, and what stands in their place."""
+
+    crate: str
+    file: pathlib.Path
+    name: str
+    start: int
+    end: int
+    new: str
+
+    def shown(self, text: str) -> str:
+        old = " ".join(text[self.start : self.end].split())
+        return f"{self.crate} {self.file.name} {self.name}: {old[:100]} -> {self.new}"
+
+
+def stands_on() -> dict[str, list[str]]:
+    found = {}
+    for line in (ROOT / "crates.txt").read_text(encoding="utf-8").splitlines():
+        name, colon, below = line.partition(":")
+        if colon and not line.startswith("#"):
+            found[name.split()[0]] = below.split()
+    return found
+
+
+def parts_of(body: str) -> list[tuple[int, int]]:
+    """The places of the parts of a product at its outermost level; none where there is one part."""
+    depth, cuts = 0, []
+    for at, char in enumerate(body):
+        depth += (char in "([{") - (char in ")]}")
+        if char == "×" and depth == 0:
+            cuts.append(at)
+        if depth == 0 and (char in "⊎→" or body.startswith("let ", at) or body.startswith("λ", at)):
+            return []
+    if not cuts:
+        return []
+    ends = [-1, *cuts, len(body)]
+    return [(ends[k] + 1, ends[k + 1]) for k in range(len(ends) - 1)]
+
+
+def items_of(text: str) -> list[tuple[int, int]]:
+    """The top-level items of a file: from a line that begins at its first column to the next one."""
+    starts = [found.start() for found in re.finditer(r"^(?=[^\s\-])", text, re.M)]
+    return list(zip(starts, [*starts[1:], len(text)]))
+
+
+def without_tail(text: str, start: int, end: int) -> int:
+    """Where an item ends, the comments and blank lines before the next one left out."""
+    item = re.sub(r"(?:\n--[^\n]*|\n\s*)*\Z", "", text[start:end])
+    return start + len(item)
+
+
+def edits_of(crate: str, file: pathlib.Path) -> list[Edit]:
+    text, edits = file.read_text(encoding="utf-8"), []
+    results: dict[str, str] = {}
+
+    def add(name: str, start: int, end: int, new: str) -> None:
+        while start < end and text[start] in " \n":
+            start += 1
+        while end > start and text[end - 1] in " \n":
+            end -= 1
+        old = text[start:end]
+        binds = re.match(r"\(\w+(?: \w+)* : [^()]*\)$", old)
+        data = new == "⊤" and not re.search(r"(?<![\w.])[a-z]|[≡≢≤<→×]", old)
+        if old not in ("", new, "⊤", "⊥", "true", "false") and not binds and not data:
+            edits.append(Edit(crate, file, name, start, end, new))
+
+    for start, stop in items_of(text):
+        end = without_tail(text, start, stop)
+        item = text[start:end]
+        record = re.match(r"(?:pub )?record (\w+)", item)
+        signature = re.match(r"(?:abbrev )?(?:pub )?([\w\-]+) :(.*)\Z", item, re.S)
+        case = re.match(r"([\w\-]+)\b(.*?)(?<![≡=<>])=(?![=>])", item, re.S)
+        if record:
+            for field in re.finditer(r"^\s+(?:pub )?(\w+) : ((?:(?!^\s+(?:pub )?\w+ : ).)*)", item, re.M | re.S):
+                add(f"{record[1]}.{field[1]}", start + field.start(2), start + field.end(2), "⊤")
+        elif signature and not item.startswith("use"):
+            results[signature[1]] = signature[2].strip().split("→")[-1].strip()
+        elif case and case[1] in results:
+            body_at = start + case.end()
+            body = text[body_at:end]
+            if results[case[1]].startswith("Type"):
+                add(case[1], body_at, end, "⊤")
+                for low, high in parts_of(body):
+                    add(f"{case[1]} part", body_at + low, body_at + high, "⊤")
+            elif results[case[1]] == "Bool":
+                add(case[1], body_at, end, "true")
+    return edits
+
+
+def names_above(crate: str, name: str, below: dict[str, list[str]]) -> list[str]:
+    """The crates that stand on this one and name the definition, in the order of crates.txt's layers."""
+    found = []
+    for other, lows in below.items():
+        folder = ROOT / "crates" / other
+        if crate in lows and not other.startswith("trials_"):
+            files = [*folder.rglob("*.antt"), *folder.rglob("*.rt")]
+            if any("/out/" not in str(path) and re.search(rf"\b{name}\b", path.read_text(encoding="utf-8")) for path in files):
+                found.append(other)
+    return sorted(found, key=lambda other: len(below[other]))
+
+
+def with_words(text: str, new: str) -> str:
+    """The text with the word that an edit needs brought in, where it is not."""
+    word = "⊤" if new == "⊤" else "true"
+    if re.search(rf"^use .*Prelude\.\{{[^}}]*(?<!\w){word}(?!\w)[^}}]*\}}", text, re.M):
+        return text
+    head = re.search(r"^use ", text, re.M)
+    at = head.start() if head else len(text)
+    return f"{text[:at]}{PRELUDE}{{{word}}}\n{text[at:]}"
+
+
+def proves(folder: pathlib.Path, crate: str) -> bool:
+    said = subprocess.run(["rt", "check"], cwd=folder / "crates" / crate, capture_output=True, text=True, check=False)
+    return said.returncode == 0
+
+
+def tried(folder: pathlib.Path, edit: Edit, above: int, below: dict[str, list[str]]) -> str:
+    """The crates by which an emptied definition is refused, or nothing."""
+    file = folder / edit.file.relative_to(ROOT)
+    text = file.read_text(encoding="utf-8")
+    emptied = text[: edit.start] + edit.new + text[edit.end :]
+    file.write_text(with_words(emptied, edit.new), encoding="utf-8")
+    try:
+        if not proves(folder, edit.crate):
+            return edit.crate
+        for other in names_above(edit.crate, edit.name.partition(".")[0].split()[0], below)[:above]:
+            if not proves(folder, other):
+                return other
+        return ""
+    finally:
+        file.write_text(text, encoding="utf-8")
+
+
+def only_named(crate: str, below: dict[str, list[str]]) -> list[str]:
+    """Definitions of a crate that no file above, nor a row, ever opens: they stand in imports and types alone."""
+    found = []
+    for file in sorted((ROOT / "crates" / crate / "specs").rglob("*.antt")):
+        for name in re.findall(r"^(?:abbrev pub|pub record|pub abbrev) ([\w\-]+)", file.read_text(encoding="utf-8"), re.M):
+            rows = [*(ROOT / "crates").glob("*/proofs/*Rows*.antt")]
+            if not any(re.search(rf"\b{name}\b", path.read_text(encoding="utf-8")) for path in rows):
+                found.append(f"{crate} {file.name} {name}: no row names it")
+    return found
+
+
+def main() -> None:
+    words = argparse.ArgumentParser(description=__doc__, formatter_class=argparse.RawDescriptionHelpFormatter)
+    words.add_argument("crates", nargs="+")
+    words.add_argument("--minutes", type=float, default=1e9)
+    words.add_argument("--above", type=int, default=3, help="how many crates above are checked at most")
+    words.add_argument("--list", action="store_true")
+    words.add_argument("--names", action="store_true")
+    given = words.parse_args()
+    below, ends = stands_on(), time.monotonic() + 60 * given.minutes
+    edits = [
+        edit
+        for crate in given.crates
+        for file in sorted((ROOT / "crates" / crate / "specs").rglob("*.antt"))
+        if file.name != "Lib.antt"
+        for edit in edits_of(crate, file)
+    ]
+    if given.names:
+        print("\n".join(line for crate in given.crates for line in only_named(crate, below)))
+        return
+    if given.list:
+        for edit in edits:
+            print(edit.shown(edit.file.read_text(encoding="utf-8")))
+        print(f"{len(edits)} edits")
+        return
+    folder = pathlib.Path(tempfile.mkdtemp())
+    try:
+        shutil.copytree(ROOT, folder, dirs_exist_ok=True, ignore=shutil.ignore_patterns(".git"))
+        proved = count = 0
+        for edit in edits:
+            if time.monotonic() > ends:
+                print("stopped: the minutes are over")
+                break
+            count += 1
+            by = tried(folder, edit, given.above, below)
+            proved += not by
+            print(f"{'still proves' if not by else 'refused by ' + by}  {edit.shown(edit.file.read_text(encoding='utf-8'))}", flush=True)
+        print(f"{count} of {len(edits)} edits tried, {proved} still prove")
+    finally:
+        shutil.rmtree(folder)
+    sys.exit(0)
+
+
+main()
