@@ -1,0 +1,2 @@
+-- Worked rows of the crates that are tested here.
+mod RowsRectangles
