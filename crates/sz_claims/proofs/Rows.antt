@@ -57,8 +57,7 @@ free-kept = record {
 keeps-won : (w : View) × (t : Table) × Keeps 2 0 (empty_view 0) w free t × (w.claimed ≡ 1 ∷ [])
 keeps-won =
     let (w, a, valid, after, tried) =
-      tries-keep 2 0 0 1 (empty_view 0, []) (omega arith) free free-kept refl refl (omega arith) in
-    (
+    tries-keep 2 0 0 1 (empty_view 0, []) (omega arith) free free-kept refl refl (omega arith) in (
       w,
       stepped free 1 1 0 [] w a,
       record { before = free-kept; after = after; seat = refl; step = (1, 1, [], a, refl) },
@@ -105,9 +104,8 @@ taken-kept = record {
 keeps-lost : (w : View) × (t : Table) × Keeps 1 1 (empty_view 1) w taken t × (w.claimed ≡ []) × (w.met ≡ 0 ∷ [])
 keeps-lost =
     let (w, a, valid, after, tried) =
-      tries-keep 1 0 1 0 (empty_view 1, []) (omega arith) taken taken-kept refl refl (omega arith) in
-    let lost = (tried.loss (λ zero. absurd (omega (arith, zero)))).1 in
-    (
+    tries-keep 1 0 1 0 (empty_view 1, []) (omega arith) taken taken-kept refl refl (omega arith) in
+    let lost = (tried.loss (λ zero. absurd (omega (arith, zero)))).1 in (
       w,
       stepped taken 0 1 1 [] w a,
       record { before = taken-kept; after = after; seat = refl; step = (0, 1, [], a, refl) },

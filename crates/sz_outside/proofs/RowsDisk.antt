@@ -141,9 +141,16 @@ cut-other_byte (inr e) = let f = e in cc
 
 -- a write that failed: any byte in its range and any size up to its end, and nothing else
 pub writes_part : WritesPart (Some (5 ∷ 6 ∷ 7 ∷ [])) (Some (5 ∷ 9 ∷ 7 ∷ [])) 1 1
-writes_part = (5 ∷ 9 ∷ 7 ∷ [], refl, record {
-  before = refl; after = refl; no_shorter = omega arith; no_longer = omega arith;
-})
+writes_part = (
+  5 ∷ 9 ∷ 7 ∷ [],
+  refl,
+  record {
+    before = refl;
+    after = refl;
+    no_shorter = omega arith;
+    no_longer = omega arith;
+  },
+)
 
 pub writes_part-outside : WritesPart (Some (5 ∷ 6 ∷ 7 ∷ [])) (Some (0 ∷ 6 ∷ 7 ∷ [])) 1 1 → ⊥
 writes_part-outside (after, e, torn) = let b = torn.before in let f = e in cc
