@@ -1,0 +1,5 @@
+pub mod LawsSupports
+pub mod Suspects
+pub mod LawsSuspects
+pub mod Changes
+pub mod LawsMatter
