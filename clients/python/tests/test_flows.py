@@ -102,7 +102,7 @@ class Paths(unittest.TestCase):
             masks = [ahead.back(run, node, (row, col), to=self.base) for row in range(3) for col in range(2)]
             touched = ahead.forward(run, self.base, (4, 5), to=node)
             told = ahead.explain(run, node, (0, 0), to=self.base)
-            missing = ahead.wait(self.session.held_run(99, flow, [self.base]))
+            missing = ahead.wait(subzero.Run(self.session, 99, flow, (self.base,)))
         self.assertIsNone(waited.result())
         self.assertEqual(values.result().tolist(), [[24, 42], [96, 114], [75, 84]])
         self.assertEqual(np.sum([mask.result() for mask in masks], axis=0).tolist(), np.ones((5, 6)).tolist())

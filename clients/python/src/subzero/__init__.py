@@ -15,20 +15,35 @@
 matplotlib), `python -m subzero.demo` makes the tutorial's pictures.
 """
 
-from .faults import BadInput, OutOfStep, ProgramEnded, ProgramMissing, Refused, SubZeroError, TooManyPaths
+from .faults import (
+    BadInput,
+    Cancelled,
+    LogHeld,
+    OutOfStep,
+    ProgramEnded,
+    ProgramMissing,
+    Refused,
+    SubZeroError,
+    TooManyPaths,
+)
 from .flow import Flow, Input, Node
-from .later import Later, Pipeline
+from .later import Future, Later, Pipeline
 from .paths import Path
 from .run import Explanation, Run
-from .session import BaseArray, Session
+from .session import BaseArray, Room, Session
+
+__version__ = "0.1.0"
 
 __all__ = [
     "BadInput",
     "BaseArray",
+    "Cancelled",
     "Explanation",
     "Flow",
+    "Future",
     "Input",
     "Later",
+    "LogHeld",
     "Node",
     "OutOfStep",
     "Path",
@@ -36,6 +51,7 @@ __all__ = [
     "ProgramEnded",
     "ProgramMissing",
     "Refused",
+    "Room",
     "Run",
     "Session",
     "SubZeroError",
