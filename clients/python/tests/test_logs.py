@@ -55,7 +55,11 @@ class Logs(unittest.TestCase):
             self.assertEqual(session.arrays["sky", 1].shape, (2, 3))
             self.assertEqual((list(session.flows), list(session.runs)), (["stars"], [1, 2]))
             flow = session.flows["stars"]
-            told = ["node 0 clean, clean (9 and more)", "node 1 labels, regions (5 and more)", "node 2, convolve (1 by 3)"]
+            told = [
+                "node 0 clean, clean (9 and more)",
+                "node 1 labels, regions (5 and more)",
+                "node 2, convolve (1 by 3)",
+            ]
             self.assertEqual([str(node) for node in flow.nodes], told)
             self.assertEqual(flow.nodes[2].parameters["kernel"], [[0, -1, 2]])
             self.assertEqual(flow.nodes[2].sources, (flow.nodes[0],))
@@ -158,7 +162,9 @@ class Logs(unittest.TestCase):
         held = logs.read_log(self.log).flows["stars"]
         self.assertEqual((held.names, held.lists), (["clean", "labels", None], {1: ["pay_one"]}))
         fields = json.loads(held.line())  # of a field that is there twice the last one stands
-        self.assertEqual((fields["flow"], [node["op"] for node in fields["nodes"]]), ("stars", ["clean", "regions", "convolve"]))
+        self.assertEqual(
+            (fields["flow"], [node["op"] for node in fields["nodes"]]), ("stars", ["clean", "regions", "convolve"])
+        )
 
 
 class Locks(unittest.TestCase):

@@ -263,11 +263,7 @@ class Session:
     @property
     def arrays(self) -> Arrays:
         """The arrays that it holds: `session.arrays["sky"]` the last version, `session.arrays["sky", 1]` that one."""
-        held = self.holdings().arrays
-        for key, array in list(held.items()):
-            if key not in self._arrays:
-                self._arrays[key] = BaseArray(self, array)
-        return Arrays({key: self._arrays[key] for key in held})
+        return Arrays({key: self._array_of(key) for key in list(self.holdings().arrays)})
 
     @property
     def flows(self) -> Held[str, Flow]:
@@ -487,6 +483,12 @@ class Session:
         """Whether this is the session of that program."""
         return self._program is program
 
+    def _array_of(self, key: tuple[str, int]) -> BaseArray:
+        array = self._arrays.get(key)
+        if array is None:
+            array = self._arrays[key] = BaseArray(self, self._holdings.arrays[key])
+        return array
+
     def _flow_of(self, name: str) -> Flow:
         flow = self._flows.get(name)
         if flow is None:
@@ -498,8 +500,7 @@ class Session:
         run = self._runs.get(number)
         if run is None:
             held = self._holdings.versions[number]
-            arrays = self.arrays
-            run = Run(self, number, self._flow_of(held.flow), tuple(arrays[key] for key in held.base))
+            run = Run(self, number, self._flow_of(held.flow), tuple(self._array_of(key) for key in held.base))
             self._runs[number] = run
         return run
 
