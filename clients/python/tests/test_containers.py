@@ -13,7 +13,7 @@ try:
     import astropy.units as units
     from astropy.utils.masked import Masked
 except ImportError:
-    nddata = None  # type: ignore[assignment]
+    nddata = None
 
 DATA = np.array([[1, 2], [3, 4]])
 MASK = np.array([[False, True], [False, False]])
@@ -28,7 +28,7 @@ def listed(values: Any, scale: float | None = None) -> list[Any]:
 
 class Lists(unittest.TestCase):
     def test_masks_in_lists_are_honoured(self) -> None:
-        masked = np.ma.MaskedArray(DATA, MASK)
+        masked: Any = np.ma.MaskedArray(DATA, MASK)
         self.assertEqual(listed([masked, DATA]), [HELD, DATA.tolist()])
         self.assertEqual(listed([masked[0], DATA[1]]), HELD)
         self.assertEqual(listed([[1, np.ma.masked], [3, 4]]), HELD)
@@ -42,7 +42,7 @@ class Lists(unittest.TestCase):
             ([np.ma.MaskedArray(DATA, MASK), [1, 2]], "differ in shape"),
         ):
             with self.assertRaisesRegex(subzero.BadInput, why):
-                values_of(values)  # type: ignore[arg-type]
+                values_of(values)
 
     def test_a_mask_of_a_kind_that_is_not_known_is_not_lost(self) -> None:
         class Holder:
@@ -52,7 +52,7 @@ class Lists(unittest.TestCase):
                 return DATA
 
         with self.assertRaisesRegex(subzero.BadInput, "a mask of its own, which would be lost"):
-            values_of(Holder())  # type: ignore[call-overload,arg-type,unused-ignore]
+            values_of(Holder())
 
 
 @unittest.skipIf(nddata is None, "astropy is not here")

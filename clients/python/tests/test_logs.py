@@ -9,6 +9,7 @@ import tempfile
 import time
 import unittest
 from pathlib import Path
+from typing import Any
 
 import numpy as np
 
@@ -16,7 +17,7 @@ import subzero
 from subzero import logs
 from subzero.program import find
 
-SKY = np.ma.MaskedArray([[1, 9, 0], [9, 9, 5]], [[False, False, True], [False, False, False]])
+SKY: Any = np.ma.MaskedArray([[1, 9, 0], [9, 9, 5]], [[False, False, True], [False, False, False]])
 OPENS = """
 import subzero, sys, time
 session = subzero.Session(log=sys.argv[1])
@@ -64,6 +65,7 @@ class Logs(unittest.TestCase):
             self.assertEqual(flow.nodes[2].parameters["kernel"], [[0, -1, 2]])
             self.assertEqual(flow.nodes[2].sources, (flow.nodes[0],))
             self.assertIs(session.flows["stars"], flow)
+            key: Any
             for key in ("moon", ("sky", 3)):
                 with self.assertRaises(KeyError):
                     session.arrays[key]
@@ -94,11 +96,12 @@ class Logs(unittest.TestCase):
 
             matplotlib.use("Agg")
             from matplotlib import pyplot
+            from subzero import plot
         except ImportError:
             self.skipTest("matplotlib is not here")
         self.write()
         with subzero.Session(log=self.log) as session:
-            figure = subzero.plot.lineage(session.runs[1], "labels", (1, 2), to="sky")
+            figure = plot.lineage(session.runs[1], "labels", (1, 2), to="sky")
             self.assertGreaterEqual(len(figure.axes), 3)
             pyplot.close("all")
 

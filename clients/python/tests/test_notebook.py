@@ -17,9 +17,9 @@ import subzero
 from subzero import progress
 
 try:
-    from jupyter_client.manager import start_new_kernel
+    import jupyter_client.manager as jupyter
 except ImportError:
-    start_new_kernel = None
+    jupyter = None  # type: ignore[assignment]
 
 SKY = np.array([[0, 9, 0, 0], [9, 9, 0, 0], [0, 0, 7, 7], [0, 0, 7, 0]])
 
@@ -119,6 +119,7 @@ class Texts(WithSession):
     def test_texts_are_short(self) -> None:
         flow = self.stars(5)
         run = self.session.start(flow, self.sky)
+        thing: Any
         for thing, told in (
             (self.session, "<Session: 1 array, 1 flow, 1 run>"),
             (self.sky, "<BaseArray sky 1: 4 by 4>"),
@@ -171,6 +172,7 @@ class Formulas(WithSession):
         a, b = flow.inputs
         other = self.session.array("other", SKY * 3 - 4)
         x, y = SKY, SKY * 3 - 4
+        two: Any = np.int64(2)
         cases: list[tuple[subzero.Node, Any]] = [
             (a + b, x + y),
             (a - b, x - y),
@@ -181,7 +183,7 @@ class Formulas(WithSession):
             (3 - a, 3 - x),
             (a * 2, x * 2),
             (2 * a, 2 * x),
-            (np.int64(2) * a + np.int16(1), 2 * x + 1),
+            (two * a + np.int16(1), 2 * x + 1),
             (-b, -y),
             (abs(b), abs(y)),
             (a.T, x.T),
@@ -228,7 +230,7 @@ class Formulas(WithSession):
             lambda: x + 1.5,  # type: ignore[operator]
             lambda: x + True,
             lambda: SKY + x,
-            lambda: x * SKY,  # type: ignore[operator]
+            lambda: x * SKY,
             lambda: x + self.sky,  # type: ignore[operator]
             lambda: x / 2,  # type: ignore[operator]
             lambda: list(x),  # type: ignore[call-overload]
@@ -367,11 +369,12 @@ class Rooms(WithSession):
 
 
 class Kernel(unittest.TestCase):
-    @unittest.skipIf(start_new_kernel is None, "jupyter_client is not here")
+    @unittest.skipIf(jupyter is None, "jupyter_client is not here")
     def test_a_notebook_shows_what_is_waited_for(self) -> None:
         path = str(Path(subzero.__file__).parents[1])
         environment = {**os.environ, "PYTHONPATH": path, "PYDEVD_DISABLE_FILE_VALIDATION": "1"}
-        manager, client = start_new_kernel(kernel_name="python3", env=environment, stderr=subprocess.DEVNULL)
+        client: Any
+        manager, client = jupyter.start_new_kernel(kernel_name="python3", env=environment, stderr=subprocess.DEVNULL)
         try:
             code = (
                 "import os, signal, threading, subzero\n"

@@ -11,7 +11,7 @@ import threading
 import time
 import unittest
 from pathlib import Path
-from typing import Any
+from typing import Any, cast
 from unittest import mock
 
 import numpy as np
@@ -26,7 +26,7 @@ class Refusals(unittest.TestCase):
         self.session = subzero.Session()
         self.addCleanup(self.session.close)
 
-    def refused(self, call, *arguments, **named) -> subzero.Refused:
+    def refused(self, call: Any, *arguments: Any, **named: Any) -> subzero.Refused:
         with self.assertRaises(subzero.Refused) as caught:
             call(*arguments, **named)
         return caught.exception
@@ -113,9 +113,11 @@ class Refusals(unittest.TestCase):
         self.assertEqual(np.argwhere(run.back(labels, (0, 1), to=base)).tolist(), [[0, 1], [0, 2]])
 
     def test_what_is_refused_before_it_is_sent(self) -> None:
-        base = self.session.array("a", [[1, 2]])
-        flow, other = self.session.flow("f"), self.session.flow("g")
-        x = flow.input(0)
+        base: Any = self.session.array("a", [[1, 2]])
+        flow: Any = self.session.flow("f")
+        other = self.session.flow("g")
+        x, up = flow.input(0), cast(Any, "up")
+        call: Any
         node = flow.neg(x)
         for call, why in (
             (lambda: flow.add_k(x, 1.5), "must be a whole number"),
@@ -133,7 +135,7 @@ class Refusals(unittest.TestCase):
             (lambda: flow.input(1), "the number of an input"),
             (lambda: flow.keep(x, ["map"]), "no node of the flow f"),
             (lambda: self.session.flow("F"), "no name"),
-            (lambda: self.session.start(flow, [np.ones((2, 2))]), "hand it in"),
+            (lambda: self.session.start(flow, [cast(Any, np.ones((2, 2)))]), "hand it in"),
         ):
             with self.assertRaisesRegex(subzero.BadInput, why):
                 call()
@@ -145,7 +147,7 @@ class Refusals(unittest.TestCase):
             (lambda: run.back(node, (0, 2), to=base), "out of range"),
             (lambda: run.values(other.input(0)), "of another flow"),
             (lambda: run.values(self.session.array("a", [[1]])), "no array that the run was started on"),
-            (lambda: run.explain(node, (0, 0), to=base, direction="up"), "no direction"),
+            (lambda: run.explain(node, (0, 0), to=base, direction=up), "no direction"),
         ):
             with self.assertRaisesRegex(subzero.BadInput, why):
                 call()

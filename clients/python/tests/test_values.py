@@ -4,6 +4,7 @@ import json
 import tempfile
 import unittest
 from pathlib import Path
+from typing import Any
 
 import numpy as np
 
@@ -67,6 +68,7 @@ class Numerals(unittest.TestCase):
 
 class Values(unittest.TestCase):
     def test_what_is_taken(self) -> None:
+        given: Any
         for given, expected in (
             ([[1, 2], [3, 4]], [[1, 2], [3, 4]]),
             ([[1, None]], [[1, None]]),
@@ -89,6 +91,7 @@ class Values(unittest.TestCase):
         self.assertEqual(values_of([[-(2.0**63)]], scale=1)[0].tolist(), [[LEAST]])
         values, empty = values_of(np.ma.masked_invalid([[0.1, -2.55, np.nan]]), scale=100)
         self.assertEqual(np.ma.MaskedArray(values, empty).tolist(), [[10, -255, None]])
+        given: Any
         for given, scale, why in (
             ([[1.0]], None, "floats: say by scale"),
             ([[np.nan]], 10, "NaN"),
@@ -105,6 +108,7 @@ class Values(unittest.TestCase):
                 values_of(given, scale)
 
     def test_what_is_refused(self) -> None:
+        given: Any
         for given, why in (
             ([1, 2], "2 axes"),
             (5, "2 axes"),
@@ -133,8 +137,9 @@ class Values(unittest.TestCase):
         self.assertEqual(cells_of((1, 1, 2), (2, 3, 4)).tolist(), [[1, 1, 2]])
         self.assertEqual(cells_of(np.eye(2, dtype=bool), (2, 2)).tolist(), [[0, 0], [1, 1]])
         self.assertEqual(cells_of(np.argwhere(np.eye(2)), (2, 2)).tolist(), [[0, 0], [1, 1]])
-        mask = np.ma.MaskedArray([[True, True], [False, True]], [[False, True], [True, False]])
+        mask: Any = np.ma.MaskedArray([[True, True], [False, True]], [[False, True], [True, False]])
         self.assertEqual(cells_of(mask, (2, 2)).tolist(), [[0, 0], [1, 1]])
+        cells: Any
         for cells, why in (
             ([(3, 0)], r"\(3, 0\) is out of range"),
             ([(0, 0), (0, -1)], r"\(0, -1\) is out of range"),
@@ -151,6 +156,7 @@ class Values(unittest.TestCase):
     def test_an_index_means_what_numpy_means_by_it(self) -> None:
         image = np.arange(12).reshape(3, 4)
         cube = np.arange(24).reshape(2, 3, 4)
+        index: Any
         for array, index in (
             (image, np.where(image >= 10)),  # exactly two cells
             (image, np.where(image % 5 == 0)),
@@ -184,6 +190,7 @@ class Values(unittest.TestCase):
 
     def test_two_numbers_are_no_cell_of_an_array_with_layers(self) -> None:
         """numpy would take the first of them for the layer."""
+        cells: Any
         for cells in ((1, 2), [(1, 2)], np.array([[1, 2]])):
             with self.assertRaisesRegex(subzero.BadInput, r"as in \(0, 1, 2\), or np\.s_\[:, 1, 2\]"):
                 cells_of(cells, (2, 3, 4))
@@ -202,7 +209,7 @@ class Values(unittest.TestCase):
 class Arrays(unittest.TestCase):
     def test_versions_and_what_is_held(self) -> None:
         with subzero.Session() as session:
-            given = np.ma.MaskedArray([[1, 2]], [[False, True]])
+            given: Any = np.ma.MaskedArray([[1, 2]], [[False, True]])
             first, second = session.array("sky", given), session.array("sky", [[[5]], [[6]]])
             self.assertEqual(
                 (str(first), first.shape, str(second), second.shape), ("array sky 1", (1, 2), "array sky 2", (2, 1, 1))
@@ -211,6 +218,7 @@ class Arrays(unittest.TestCase):
             self.assertEqual(first.values.tolist(), [[1, None]])
             with self.assertRaises(ValueError):
                 first.values[0, 0] = 3
+            name: Any
             for name in ("", "Sky", "a" * 33, "é", "a b", 'a"', None):
                 with self.subTest(name=name), self.assertRaisesRegex(subzero.BadInput, "no name"):
                     session.array(name, [[1]])

@@ -10,7 +10,7 @@ from dataclasses import dataclass
 from typing import Any, TypeAlias, Union
 
 import numpy as np
-from numpy.typing import ArrayLike, NDArray
+from numpy.typing import NDArray
 
 from .faults import BadInput
 
@@ -176,7 +176,7 @@ def _mask(mask: Any, shape: Shape) -> Mask:
     return np.broadcast_to(array, shape)
 
 
-def values_of(values: ArrayLike, scale: float | None = None) -> tuple[Integers, Mask]:
+def values_of(values: Any, scale: float | None = None) -> tuple[Integers, Mask]:
     """The values as int64, and which of them are empty: two new arrays of the shape of `values`, of 2 or 3 axes.
 
     Empty are the masked cells of `given` and each None. Floats are multiplied by `scale` and rounded to the nearest

@@ -6,7 +6,7 @@ import html
 import weakref
 from collections.abc import Callable, Sequence
 from dataclasses import dataclass, field
-from typing import TYPE_CHECKING, Any, ClassVar, TypeAlias
+from typing import TYPE_CHECKING, Any, ClassVar, TypeAlias, TypeGuard
 
 import numpy as np
 from numpy.typing import ArrayLike
@@ -76,26 +76,32 @@ class Operand:
     def __add__(self, other: Place | int) -> Node:
         if _is_number(other):
             return self.flow.add_k(_place(self), other)
-        return self.flow.add(_place(self), other) if isinstance(other, Operand) else NotImplemented
+        if isinstance(other, (Input, Node)):
+            return self.flow.add(_place(self), other)
+        return NotImplemented
 
     def __radd__(self, other: int) -> Node:
-        return self.flow.add_k(_place(self), other) if _is_number(other) else NotImplemented
+        return self + other if _is_number(other) else NotImplemented  # type: ignore[return-value]
 
     def __sub__(self, other: Place | int) -> Node:
         if _is_number(other):
             return self.flow.add_k(_place(self), -int(other))
-        return self.flow.sub(_place(self), other) if isinstance(other, Operand) else NotImplemented
+        if isinstance(other, (Input, Node)):
+            return self.flow.sub(_place(self), other)
+        return NotImplemented
 
     def __rsub__(self, other: int) -> Node:
-        return self.flow.add_k(-self, other) if _is_number(other) else NotImplemented
+        return -self + other if _is_number(other) else NotImplemented  # type: ignore[return-value]
 
     def __mul__(self, other: Place | int) -> Node:
         if _is_number(other):
             return self.flow.mul_k(_place(self), other)
-        return self.flow.mul(_place(self), other) if isinstance(other, Operand) else NotImplemented
+        if isinstance(other, (Input, Node)):
+            return self.flow.mul(_place(self), other)
+        return NotImplemented
 
     def __rmul__(self, other: int) -> Node:
-        return self.flow.mul_k(_place(self), other) if _is_number(other) else NotImplemented
+        return self * other if _is_number(other) else NotImplemented  # type: ignore[return-value]
 
     def __neg__(self) -> Node:
         return self.flow.neg(_place(self))
@@ -245,57 +251,152 @@ class Flow:
         """The shape of an array of this flow, None where the shapes of its base arrays are not known yet."""
         if self._base is None:
             return None
-        place = _place(place)
-        return self._base[place.number] if isinstance(place, Input) else self.shapes(self._base)[place.number]
+        number = _place(place).number
+        return self._base[number] if isinstance(place, Input) else self.shapes(self._base)[number]
 
     def neg(self, x: Place, *, keep: Sequence[str] | None = None, name: str | None = None) -> Node:
-        """Each value negated."""
+        """Each value negated. Empty cells stay empty, and what is no whole number of 64 bits becomes empty: so in all
+        arithmetic.
+
+        Gives a node of the shape of `x`.
+
+        >>> flow = session.flow("f")
+        >>> node = flow.neg(flow.input(0))
+        >>> run = session.start(flow, session.array("a", [[1, -2, None]]))
+        >>> run.values(node).tolist()
+        [[-1, 2, None]]
+        """
         return self._node("neg", (x,), keep, name)
 
     def abs(self, x: Place, *, keep: Sequence[str] | None = None, name: str | None = None) -> Node:
-        """Each value's distance from 0."""
+        """Each value's distance from 0. Gives a node of the shape of `x`.
+
+        >>> flow = session.flow("f")
+        >>> node = flow.abs(flow.input(0))
+        >>> run = session.start(flow, session.array("a", [[1, -2, None]]))
+        >>> run.values(node).tolist()
+        [[1, 2, None]]
+        """
         return self._node("abs", (x,), keep, name)
 
     def add_k(self, x: Place, k: int, *, keep: Sequence[str] | None = None, name: str | None = None) -> Node:
-        """Each value plus `k`."""
+        """Each value plus the whole number `k`. Gives a node of the shape of `x`.
+
+        >>> flow = session.flow("f")
+        >>> node = flow.add_k(flow.input(0), 10)
+        >>> run = session.start(flow, session.array("a", [[1, -2, None]]))
+        >>> run.values(node).tolist()
+        [[11, 8, None]]
+        """
         return self._node("add_k", (x,), keep, name, k=number_of(k, "k"))
 
     def mul_k(self, x: Place, k: int, *, keep: Sequence[str] | None = None, name: str | None = None) -> Node:
-        """Each value times `k`."""
+        """Each value times the whole number `k`. Gives a node of the shape of `x`.
+
+        >>> flow = session.flow("f")
+        >>> node = flow.mul_k(flow.input(0), 3)
+        >>> run = session.start(flow, session.array("a", [[1, -2, None]]))
+        >>> run.values(node).tolist()
+        [[3, -6, None]]
+        """
         return self._node("mul_k", (x,), keep, name, k=number_of(k, "k"))
 
     def clip(self, x: Place, lo: int, hi: int, *, keep: Sequence[str] | None = None, name: str | None = None) -> Node:
-        """Each value, or `lo` where it is below, `hi` where it is above."""
+        """Each value, or `lo` where it is below, `hi` where it is above. Gives a node of the shape of `x`.
+
+        `lo` above `hi` is refused when the flow is defined.
+
+        >>> flow = session.flow("f")
+        >>> node = flow.clip(flow.input(0), 0, 9)
+        >>> run = session.start(flow, session.array("a", [[-5, 4, 12, None]]))
+        >>> run.values(node).tolist()
+        [[0, 4, 9, None]]
+        """
         return self._node("clip", (x,), keep, name, lo=number_of(lo, "lo"), hi=number_of(hi, "hi"))
 
     def add(self, a: Place, b: Place, *, keep: Sequence[str] | None = None, name: str | None = None) -> Node:
-        """The sum of two arrays of one shape, cell by cell."""
+        """The sum of two arrays of one shape, cell by cell; empty where one of them is. Gives a node of that shape.
+
+        Another shape of `b` is refused at the start, as for `sub`, `mul`, `min` and `max`.
+
+        >>> flow = session.flow("f")
+        >>> node = flow.add(flow.input(0), flow.neg(flow.input(0)))
+        >>> run = session.start(flow, session.array("a", [[3, 2, None]]))
+        >>> run.values(node).tolist()
+        [[0, 0, None]]
+        """
         return self._node("add", (a, b), keep, name)
 
     def sub(self, a: Place, b: Place, *, keep: Sequence[str] | None = None, name: str | None = None) -> Node:
-        """The first of two arrays of one shape less the second, cell by cell."""
+        """The first of two arrays of one shape less the second, cell by cell. Gives a node of that shape.
+
+        >>> flow = session.flow("f")
+        >>> node = flow.sub(flow.input(0), flow.mul_k(flow.input(0), 3))
+        >>> run = session.start(flow, session.array("a", [[3, 2, None]]))
+        >>> run.values(node).tolist()
+        [[-6, -4, None]]
+        """
         return self._node("sub", (a, b), keep, name)
 
     def mul(self, a: Place, b: Place, *, keep: Sequence[str] | None = None, name: str | None = None) -> Node:
-        """The product of two arrays of one shape, cell by cell."""
+        """The product of two arrays of one shape, cell by cell. Gives a node of that shape.
+
+        >>> flow = session.flow("f")
+        >>> node = flow.mul(flow.input(0), flow.input(0))
+        >>> run = session.start(flow, session.array("a", [[3, -2, None]]))
+        >>> run.values(node).tolist()
+        [[9, 4, None]]
+        """
         return self._node("mul", (a, b), keep, name)
 
     def min(self, a: Place, b: Place, *, keep: Sequence[str] | None = None, name: str | None = None) -> Node:
-        """The lesser of two arrays of one shape, cell by cell."""
+        """The lesser of two arrays of one shape, cell by cell. Gives a node of that shape.
+
+        >>> flow = session.flow("f")
+        >>> node = flow.min(flow.input(0), flow.neg(flow.input(0)))
+        >>> run = session.start(flow, session.array("a", [[3, -2, None]]))
+        >>> run.values(node).tolist()
+        [[-3, -2, None]]
+        """
         return self._node("min", (a, b), keep, name)
 
     def max(self, a: Place, b: Place, *, keep: Sequence[str] | None = None, name: str | None = None) -> Node:
-        """The greater of two arrays of one shape, cell by cell."""
+        """The greater of two arrays of one shape, cell by cell. Gives a node of that shape.
+
+        >>> flow = session.flow("f")
+        >>> node = flow.max(flow.input(0), flow.neg(flow.input(0)))
+        >>> run = session.start(flow, session.array("a", [[3, -2, None]]))
+        >>> run.values(node).tolist()
+        [[3, 2, None]]
+        """
         return self._node("max", (a, b), keep, name)
 
     def transpose(self, x: Place, *, keep: Sequence[str] | None = None, name: str | None = None) -> Node:
-        """Rows as columns, in each layer."""
+        """Rows as columns, in each layer. Gives a node of shape (width, height), or (layers, width, height).
+
+        >>> flow = session.flow("f")
+        >>> node = flow.transpose(flow.input(0))
+        >>> run = session.start(flow, session.array("a", [[1, 2, 3], [4, 5, 6]]))
+        >>> run.values(node).tolist()
+        [[1, 4], [2, 5], [3, 6]]
+        """
         return self._node("transpose", (x,), keep, name, shape_from=lambda shape: (*shape[:-2], shape[-1], shape[-2]))
 
     def slice(
         self, x: Place, r0: int, c0: int, h: int, w: int, *, keep: Sequence[str] | None = None, name: str | None = None
     ) -> Node:
-        """The `h` by `w` cells from row `r0` and column `c0` on, in each layer."""
+        """The `h` by `w` cells from row `r0` and column `c0` on, in each layer. Gives a node of shape (h, w), or
+        (layers, h, w).
+
+        `flow.sliced`, and `x[2:5, 1:4]`, take a slice as numpy writes it. One that leaves the array is refused at the
+        start.
+
+        >>> flow = session.flow("f")
+        >>> node = flow.slice(flow.input(0), 0, 1, 2, 2)
+        >>> run = session.start(flow, session.array("a", [[1, 2, 3], [4, 5, 6]]))
+        >>> run.values(node).tolist()
+        [[2, 3], [5, 6]]
+        """
         sizes = {"r0": r0, "c0": c0, "h": h, "w": w}
         sizes = {what: number_of(size, what, 0, _GREATEST_NUMBER) for what, size in sizes.items()}
         return self._node(
@@ -307,7 +408,16 @@ class Flow:
     ) -> Node:
         """The sum of the cells round each cell, weighted by `kernel`: whole numbers, odd by odd, at most 9 by 9.
 
-        The kernel is laid on the image as it is, not turned round: as `scipy.ndimage.correlate` does.
+        Gives a node of the shape of `x`.
+
+        The kernel is laid on the image as it is, not turned round: as `scipy.ndimage.correlate` does with
+        `mode="constant"`. The sum is empty where one of its cells is, of those in range whose weight is not 0.
+
+        >>> flow = session.flow("f")
+        >>> node = flow.convolve(flow.input(0), [[1, 2, 3], [4, 5, 6], [7, 8, 9]])
+        >>> run = session.start(flow, session.array("a", [[0, 0, 0], [0, 1, 0], [0, 0, 0]]))
+        >>> run.values(node).tolist()
+        [[9, 8, 7], [6, 5, 4], [3, 2, 1]]
         """
         weights = np.asarray(kernel)
         if weights.ndim != 2 or weights.size == 0 or weights.dtype.kind not in "iu":
@@ -317,7 +427,18 @@ class Flow:
     def block(
         self, x: Place, fold: str, h: int, w: int, *, keep: Sequence[str] | None = None, name: str | None = None
     ) -> Node:
-        """Each `h` by `w` block of a layer folded into one cell by `fold`: sum, min, max or count."""
+        """Each `h` by `w` block of a layer folded into one cell by `fold`: "sum", "min", "max" or "count", of the cells
+        that are not empty.
+
+        Gives a node of shape (height / h, width / w), rounded up, or of as many layers of it: the last blocks may be
+        shorter.
+
+        >>> flow = session.flow("f")
+        >>> node = flow.block(flow.input(0), "sum", 2, 2)
+        >>> run = session.start(flow, session.array("a", [[1, 2, 3], [4, 5, 6], [7, 8, 9]]))
+        >>> run.values(node).tolist()
+        [[12, 9], [15, 9]]
+        """
         high, wide = (number_of(size, name, 0, _GREATEST_NUMBER) for name, size in (("h", h), ("w", w)))
         return self._node(
             "block",
@@ -331,25 +452,56 @@ class Flow:
         )
 
     def fold_layers(self, x: Place, fold: str, *, keep: Sequence[str] | None = None, name: str | None = None) -> Node:
-        """All layers folded into one, cell by cell, by `fold`: sum, min, max or count. The output has 2 axes."""
+        """All layers folded into one, cell by cell, by `fold`: "sum", "min", "max" or "count". Gives a node of shape
+        (height, width).
+
+        >>> flow = session.flow("f")
+        >>> node = flow.fold_layers(flow.input(0), "max")
+        >>> run = session.start(flow, session.array("a", [[[1, 2]], [[3, None]]]))
+        >>> run.values(node).tolist()
+        [[3, 2]]
+        """
         return self._node("fold_layers", (x,), keep, name, shape_from=lambda shape: shape[-2:], fold=_fold(fold))
 
     def lookup(self, a: Place, table: Place, *, keep: Sequence[str] | None = None, name: str | None = None) -> Node:
-        """For each value of `a` that is a column of `table`, an array of one row, the table's value there; else
-        empty.
+        """For each value of `a` that is a column of `table`, an array of one row, the table's value there; else empty.
+        Gives a node of the shape of `a`.
+
+        A table of more rows is refused at the start.
+
+        >>> flow = session.flow("f", inputs=2)
+        >>> node = flow.lookup(flow.input(0), flow.input(1))
+        >>> run = session.start(flow, [session.array("a", [[0, 2, 7, None]]), session.array("t", [[10, 20, 30]])])
+        >>> run.values(node).tolist()
+        [[10, 30, None, None]]
         """
         return self._node("lookup", (a, table), keep, name)
 
     def regions(self, x: Place, t: int, *, keep: Sequence[str] | None = None, name: str | None = None) -> Node:
-        """Labels of the regions of cells of `t` and more, joined by their four neighbours; 0 elsewhere.
+        """Labels of the regions of cells of `t` and more, joined by their four neighbours; 0 elsewhere. Gives a node of
+        the shape of `x`.
 
         A label is 1 plus the least row-major index of the cells of its region, counted through the layers.
+
+        >>> flow = session.flow("f")
+        >>> node = flow.regions(flow.input(0), t=5)
+        >>> run = session.start(flow, session.array("a", [[9, 9, 0], [0, 9, 0], [9, 0, 0]]))
+        >>> run.values(node).tolist()
+        [[1, 1, 0], [0, 1, 0], [7, 0, 0]]
         """
         return self._node("regions", (x,), keep, name, t=number_of(t, "t"))
 
     def clean(self, x: Place, t: int, *, keep: Sequence[str] | None = None, name: str | None = None) -> Node:
         """Each cell of `t` and more replaced by the least of its up to eight neighbours below `t`; other cells as they
-        are.
+        are. Gives a node of the shape of `x`.
+
+        Where there is no such neighbour the cell becomes empty.
+
+        >>> flow = session.flow("f")
+        >>> node = flow.clean(flow.input(0), t=100)
+        >>> run = session.start(flow, session.array("a", [[1, 2], [300, 4]]))
+        >>> run.values(node).tolist()
+        [[1, 2], [1, 4]]
         """
         return self._node("clean", (x,), keep, name, t=number_of(t, "t"))
 
@@ -574,7 +726,7 @@ def _shape(base: BaseArray | Shape) -> Shape:
     return tuple(number_of(size, "a size", 1) for size in shape)
 
 
-def _is_number(value: object) -> bool:
+def _is_number(value: object) -> TypeGuard[int]:
     return isinstance(value, (int, np.integer)) and not isinstance(value, (bool, np.bool_))
 
 

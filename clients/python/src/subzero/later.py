@@ -79,7 +79,7 @@ class Pipeline:
     >>> with session.pipeline() as ahead:
     ...     answers = [ahead.back(run, labels, (row, 1), to=sky) for row in range(4)]
     >>> [int(answer.result().sum()) for answer in answers]
-    [1, 2, 2, 1]
+    [3, 3, 1, 1]
     """
 
     def __init__(self, program: Program) -> None:
@@ -89,7 +89,7 @@ class Pipeline:
     def __enter__(self) -> Pipeline:
         return self
 
-    def __exit__(self, kind: object, *_: object) -> None:
+    def __exit__(self, kind: object, *rest: object) -> None:
         try:
             if kind is None:
                 for number, (doing, reply) in enumerate(self._sent):

@@ -26,7 +26,7 @@ from typing import Any, BinaryIO
 
 import numpy as np
 
-from .cells import Integers, Mask, Values, values_of
+from .cells import Integers, Mask, Shape, Values, values_of
 from .faults import OutOfStep, SubZeroError
 
 HEADER = b"\x01SubZero log 1\r\n"
@@ -66,6 +66,12 @@ class HeldArray:
         if self.known is None:
             self.known = frozen(*values_of_line(self.line()))
         return self.known
+
+    @property
+    def shape(self) -> Shape:
+        """(height, width), or (layers, height, width)."""
+        shape: Shape = self.values.shape
+        return shape
 
 
 def size_told(values: Values) -> str:

@@ -1,5 +1,5 @@
-"""What is shown while something takes long: on a terminal a line that is taken off again, in a notebook a text below the
-cell. Where standard error is neither, nothing is.
+"""What is shown while something takes long: on a terminal a line that is taken off again, in a notebook a text below
+the cell. Where standard error is neither, nothing is.
 """
 
 from __future__ import annotations

@@ -219,8 +219,7 @@ class Run:
         if isinstance(array, (Input, Node)):
             if not array.flow.is_same(self.flow):
                 raise BadInput(f"{array} is of another flow than the run's")
-            own = self.flow.inputs if isinstance(array, Input) else self.flow.nodes
-            return [own[array.number]]
+            return [self.flow.inputs[array.number] if isinstance(array, Input) else self.flow.nodes[array.number]]
         places: list[Place] = [self.flow.inputs[number] for number, base in enumerate(self.base) if base is array]
         if not places:
             raise BadInput(f"{short(array)} is no array that the run was started on, and no node of its flow")

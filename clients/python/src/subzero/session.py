@@ -13,8 +13,6 @@ from dataclasses import dataclass
 from types import TracebackType
 from typing import Any, Generic, TypeVar
 
-from numpy.typing import ArrayLike
-
 from . import files, numerals
 from .cells import MOST_CELLS, Shape, Values, given, name_of, number_of, short, whole_numbers
 from .faults import BadInput, OutOfStep, ProgramEnded, Refused, SubZeroError
@@ -63,7 +61,7 @@ class BaseArray:
     @property
     def shape(self) -> Shape:
         """(height, width), or (layers, height, width)."""
-        return self._held.values.shape
+        return self._held.shape
 
     def is_of(self, session: Session) -> bool:
         """Whether it is an array of this session."""
@@ -130,8 +128,8 @@ class Arrays(Mapping["str | tuple[str, int]", BaseArray]):
 
 @dataclass(frozen=True)
 class Room:
-    """How much a session holds, of what it can hold. `cells` are those of all arrays, and of the outputs of all nodes of
-    all runs. Nothing can be taken out of a session.
+    """How much a session holds, of what it can hold. `cells` are those of all arrays, and of the outputs of all nodes
+    of all runs. Nothing can be taken out of a session.
 
     >>> print(session.room)
     48 of 4,194,304 cells (16 of arrays, 32 of runs), 1 of 4,096 arrays, 1 of 1,024 flows, 1 of 4,096 runs
@@ -286,7 +284,7 @@ class Session:
         of_runs = sum(self._run_of(number).size for number in held.versions)
         return Room(of_arrays, of_runs, len(held.arrays), len(held.flows), len(held.versions))
 
-    def array(self, name: str, values: ArrayLike, *, scale: float | None = None) -> BaseArray:
+    def array(self, name: str, values: Any, *, scale: float | None = None) -> BaseArray:
         """Hand in an array, the next version of this name.
 
         `values` has 2 axes (row, column) or 3 (layer, row, column), and holds whole numbers that are an i64; masked
