@@ -1,5 +1,6 @@
 """Logs that are opened again: what they hold is read from them; one session at a time has one."""
 
+import errno
 import json
 import os
 import signal
@@ -10,6 +11,7 @@ import time
 import unittest
 from pathlib import Path
 from typing import Any
+from unittest import mock
 
 import numpy as np
 
@@ -231,6 +233,13 @@ class Locks(unittest.TestCase):
         with self.assertRaises(subzero.ProgramEnded):
             session.close()
         subzero.Session(log=self.log).close()
+
+    def test_a_file_system_without_locks_is_told(self) -> None:
+        with mock.patch("fcntl.flock", side_effect=OSError(errno.ENOLCK, "No locks available")):
+            with self.assertWarnsRegex(UserWarning, "cannot be locked .No locks available.: keep other sessions away"):
+                session = subzero.Session(log=self.log)
+        self.assertEqual(session.array("a", [[1]]).version, 1)
+        session.close()
 
     def test_a_log_that_cannot_be_opened_leaves_no_lock(self) -> None:
         self.log.write_text("this is no log at all\n")

@@ -597,6 +597,22 @@ class Progress(unittest.TestCase):
             session.array("a", [[1]])
         self.assertEqual(stream.getvalue(), "")
 
+    def test_many_short_waits_are_shown(self) -> None:
+        """Of many lines none takes long, and all together do: how many are done is shown."""
+        stream = Terminal()
+        with tempfile.TemporaryDirectory() as folder:
+            slow = Path(folder) / "slow"
+            slow.write_text(
+                '#!/bin/sh\nwhile read line; do number=$((number+1)); sleep 0.1; echo "$number done 1"; done\n'
+            )
+            slow.chmod(0o755)
+            with subzero.Session(program=slow) as session:
+                run = subzero.Run(session, 1, session.flow("f"), ())
+                with mock.patch.object(sys, "stderr", stream), session.pipeline() as ahead:
+                    for _ in range(10):
+                        ahead.wait(run)
+        self.assertRegex(stream.getvalue(), r"subzero: a pipeline, [4-6] of 10 lines, 0\.\d s")
+
     def test_a_long_wait_is_shown(self) -> None:
         stream = Terminal()
         with tempfile.TemporaryDirectory() as folder:

@@ -7,7 +7,7 @@ from typing import TYPE_CHECKING, Any, Generic, TypeVar
 
 from .cells import Cells, Mask, Values
 from .faults import BadInput, SubZeroError
-from .program import Program, Reply
+from .program import Program, Reply, come_each
 
 if TYPE_CHECKING:
     from .run import Array, Explanation, Run
@@ -38,6 +38,7 @@ class Future(Generic[T]):
         """
         if not self._answer:
             try:
+                come_each(self._replies, self._doing)
                 texts = [reply.wait(self._doing) for reply in self._replies]
             except SubZeroError:
                 raise
@@ -84,7 +85,7 @@ class Pipeline:
 
     def __init__(self, program: Program) -> None:
         self._program = program
-        self._sent: list[tuple[str, Reply]] = []
+        self._sent: list[Reply] = []
 
     def __enter__(self) -> Pipeline:
         return self
@@ -92,10 +93,9 @@ class Pipeline:
     def __exit__(self, kind: object, *rest: object) -> None:
         try:
             if kind is None:
-                for number, (doing, reply) in enumerate(self._sent):
-                    reply.come_by(f"{doing}, {number} of {len(self._sent)} lines")
+                come_each(self._sent, "a pipeline")
         finally:
-            for _, reply in self._sent:
+            for reply in self._sent:
                 if not reply.done():
                     reply.cancel()
 
@@ -125,5 +125,5 @@ class Pipeline:
         return run
 
     def _hold(self, later: Future[T]) -> Future[T]:
-        self._sent += [(later._doing, reply) for reply in later._replies]
+        self._sent += later._replies
         return later

@@ -7,6 +7,7 @@ let go of it: one that is killed leaves the log locked until its program has rea
 from __future__ import annotations
 
 import os
+import warnings
 from pathlib import Path
 
 from .faults import LogHeld
@@ -21,7 +22,7 @@ def lock_log(path: str, *, alone: bool = True) -> int:
     """Open the file, which is made where it is not there, and lock it: gives the open file, which holds the lock.
 
     Where not `alone`, others may read beside it, and the file has to be there. Raises LogHeld where another one has it,
-    and OSError where it cannot be opened.
+    and OSError where it cannot be opened; warns where the file system has no locks.
     """
     file = os.open(path, os.O_RDWR | os.O_CREAT if alone else os.O_RDONLY, 0o666)
     if fcntl is None:
@@ -35,8 +36,8 @@ def lock_log(path: str, *, alone: bool = True) -> int:
             f"{path} is open in another session{f', of {by}' if by else ''}: close that one first, since two at a time "
             "would destroy the log"
         ) from None
-    except OSError:
-        pass  # a file system that has no locks
+    except OSError as fault:
+        warnings.warn(f"{path} cannot be locked ({fault.strerror}): keep other sessions away from it", stacklevel=3)
     return file
 
 

@@ -16,6 +16,7 @@ import threading
 import time
 import weakref
 from collections import deque
+from collections.abc import Sequence
 from pathlib import Path
 from queue import SimpleQueue
 from typing import BinaryIO
@@ -107,8 +108,12 @@ class Reply:
         """Wait until the reply has come, or no reply can come any more."""
         if not self._come.is_set():
             with progress.shown(doing) as step:
-                while not self._come.wait(step.seconds) and self._program.reads():
-                    step.show()
+                self.come_during(step)
+
+    def come_during(self, step: progress.Step) -> None:
+        """The same, as a part of something that is shown."""
+        while not self._come.wait(step.seconds) and self._program.reads():
+            step.show()
 
     def wait(self, doing: str) -> bytes:
         """The reply's text without the line's number; `doing` is shown while it is waited for.
@@ -127,6 +132,15 @@ class Reply:
         if text.startswith(b"refused "):
             raise Refused([int(word) for word in text.split()[1:]], self._line, self._sent)
         return text
+
+
+def come_each(replies: Sequence[Reply], doing: str) -> None:
+    """Wait until all these replies have come, or none can come any more."""
+    if any(not reply.done() for reply in replies):
+        with progress.shown(doing) as step:
+            for number, reply in enumerate(replies):
+                step.show_in_turn(f"{doing}, {number} of {len(replies)} lines" if len(replies) > 1 else doing)
+                reply.come_during(step)
 
 
 class Program:

@@ -20,16 +20,24 @@ class Step:
     """Something that is waited for, with what is shown of it."""
 
     def __init__(self, doing: str) -> None:
-        self._doing = doing
+        self.doing = doing
         self._begun = time.monotonic()
+        self._next = self._begun + _FIRST
         self._wide = 0
         self._display: Any = None
         self.seconds = _FIRST
 
+    def show_in_turn(self, doing: str) -> None:
+        """Go on to another thing, and show that where it is time to: for many things of which each is short."""
+        self.doing = doing
+        if time.monotonic() >= self._next:
+            self.show()
+
     def show(self) -> None:
         """Show what is done, and for how long now."""
         self.seconds = _NEXT
-        text = f"subzero: {self._doing}, {time.monotonic() - self._begun:.1f} s"
+        self._next = time.monotonic() + _NEXT
+        text = f"subzero: {self.doing}, {time.monotonic() - self._begun:.1f} s"
         if in_notebook():
             self._show_below(text)
         elif sys.stderr is not None and sys.stderr.isatty():

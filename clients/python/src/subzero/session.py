@@ -126,7 +126,7 @@ class Arrays(Mapping["str | tuple[str, int]", BaseArray]):
         return f"<{len(self._held)} held: {', '.join(map(str, self._held.values()))}>"
 
 
-@dataclass(frozen=True)
+@dataclass(frozen=True, repr=False)
 class Room:
     """How much a session holds, of what it can hold. `cells` are those of all arrays, and of the outputs of all nodes
     of all runs. Nothing can be taken out of a session.
@@ -150,6 +150,9 @@ class Room:
     def free(self) -> int:
         """How many further cells can be held."""
         return MOST_HELD - self.cells
+
+    def __repr__(self) -> str:
+        return f"<Room: {self}>"
 
     def __str__(self) -> str:
         return (
