@@ -243,8 +243,11 @@ class Flow:
         named = ", ".join(node.name for node in self.nodes if node.name) or "none"
         raise BadInput(f"the flow {self.name} has no node named {short(name)}; its named nodes: {named}")
 
+    def _ipython_key_completions_(self) -> list[str]:
+        return [node.name for node in self.nodes if node.name]
+
     def input(self, number: int) -> Input:
-        """The base array of this number, from 0."""
+        """The base array of this number, from 0. Raises BadInput where the flow takes fewer."""
         return self.inputs[number_of(number, "the number of an input", 0, len(self.inputs) - 1)]
 
     def shape_of(self, place: Operand) -> Shape | None:
@@ -508,7 +511,8 @@ class Flow:
     def sliced(self, x: Place, index: Any) -> Node:
         """The cells of a slice as numpy writes it, in each layer: `flow.sliced(x, np.s_[2:5, :])` is `x[2:5, :]`.
 
-        Raises BadInput for what is no slice of rows and columns, and for bounds that need a shape that is not known.
+        Gives a node of the shape of the slice. Raises BadInput for what is no slice of rows and columns, and for bounds
+        that need a shape that is not known.
         """
         parts = index if isinstance(index, tuple) else (index,)
         shape = self.shape_of(x)
@@ -534,8 +538,16 @@ class Flow:
         return node
 
     def keep(self, node: Node, strategies: Sequence[str]) -> None:
-        """Set how a node's lineage is kept, for runs started later. Raises Refused where the flow is defined
-        already.
+        """Set how a node's lineage is kept, for runs started later: one to three names of strategies.
+
+        It is sent with the flow, and at once where that is defined. Raises BadInput for what is no strategy, and
+        Refused with number 18, which says why, for one that the node cannot have.
+
+        >>> flow.keep(labels, ["comp_one"])
+        >>> run = session.start(flow, sky)
+        >>> run.wait()
+        >>> print(run.explain(labels, (0, 1), to=sky)[0])
+        regions by comp_one, clean by blackbox: 16 cells traced
         """
         if not isinstance(node, Node) or node.flow is not self:
             raise BadInput(f"{short(node)} is no node of the flow {self.name}")
@@ -552,6 +564,11 @@ class Flow:
 
         Raises Refused: with number 8 and the fault and the node of a flow against the rules; with number 9 for a name
         under which another flow is held, and says what differs; with 18 for a strategy that a node cannot have.
+
+        >>> again = session.flow("stars", replace=True)
+        >>> labels = again.regions(again.input(0), t=8, name="labels")
+        >>> again.define().program_name
+        'stars_2'
         """
         if not self._defined:
             held = self.session.holdings().flows

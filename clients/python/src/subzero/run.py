@@ -45,7 +45,16 @@ class Run:
     """A version of a flow. `number` is the program's, `base` the arrays on which it was started.
 
     In its calls `array` and `to` are arrays of the run: a `BaseArray` that it was started on, `flow.input(n)`, or a
-    node.
+    node; or the name of a base array or of a node that was given one.
+
+    >>> run
+    <Run 1 of stars on sky 1>
+    >>> run.values("labels").tolist()
+    [[0, 2, 0, 0], [2, 2, 0, 0], [0, 0, 11, 11], [0, 0, 11, 0]]
+    >>> np.argwhere(run.back("labels", (0, 1), to="sky")).tolist()
+    [[0, 1], [1, 0], [1, 1]]
+    >>> int(run.forward(sky, sky.values == 7, to=labels).sum())
+    3
     """
 
     def __init__(self, session: Session, number: int, flow: Flow, base: tuple[BaseArray, ...]) -> None:
@@ -71,6 +80,9 @@ class Run:
         """The node of this name, or the place of the base array of this name. Raises BadInput where there is none."""
         return self.places(name)[0]
 
+    def _ipython_key_completions_(self) -> list[str]:
+        return [node.name for node in self.flow.nodes if node.name] + [base.name for base in self.base]
+
     @property
     def size(self) -> int:
         """How many cells the outputs of all nodes have."""
@@ -83,20 +95,38 @@ class Run:
         return self._known
 
     def wait(self) -> None:
-        """Wait until all is computed and kept; `explain` can be called from then on."""
+        """Wait until all is computed and kept; `explain` can be called from then on, and a log has the run.
+
+        Raises Refused with number 15 where the session holds no such run.
+        """
         self.wait_later().result()
 
     def shape(self, array: Array) -> Shape:
-        """The shape of an array of the run: (height, width), or (layers, height, width)."""
+        """The shape of an array of the run: (height, width), or (layers, height, width).
+
+        >>> run.shape("labels")
+        (4, 4)
+        """
         place = self.places(array)[0]
         return self.base[place.number].shape if isinstance(place, Input) else self._shapes[place.number]
 
     def values(self, array: Array) -> Values:
-        """The values of an array of the run, int64 of its shape; empty cells are masked, and hold 0."""
+        """The values of an array of the run, a masked array of int64 and of its shape; empty cells are masked, and hold
+        0. Raises BadInput where it is no array of the run.
+
+        >>> run.values("labels")[2:, 2:].tolist()
+        [[11, 11], [11, 0]]
+        """
         return self.values_later(array).result()
 
     def paths(self, array: Array, *, to: Array, limit: int = MOST_PATHS) -> list[Path]:
-        """All paths from `array` back to `to`. Raises BadInput where there is none, TooManyPaths above `limit`."""
+        """All paths from `array` back to `to`, each a tuple of steps: a node's number and the number of its input.
+
+        Raises BadInput where there is none, TooManyPaths above `limit`.
+
+        >>> [run.told(path) for path in run.paths("labels", to="sky")]
+        ['regions < clean < input 0']
+        """
         found: list[Path] = []
         for place in self.places(array):
             found += paths_between(place, self.places(to), limit)
@@ -146,7 +176,11 @@ class Run:
         path: Sequence[Sequence[int | Node]] | None = None,
         limit: int = MOST_PATHS,
     ) -> list[Explanation]:
-        """How that ask is answered, for each path. Raises Refused with number 19 before `wait`."""
+        """How that ask is answered: an Explanation for each path. Raises Refused with number 19 before `wait`.
+
+        >>> print(run.explain("labels", (0, 1), to="sky")[0])
+        regions by blackbox, clean by blackbox: 32 cells traced
+        """
         return self.explained_later(array, cells, to=to, direction=direction, path=path, limit=limit).result()
 
     def wait_later(self) -> Future[None]:
@@ -206,7 +240,7 @@ class Run:
         return Future([self.session.say(line) for line in lines], "explaining", read)
 
     def told(self, path: Path) -> str:
-        """A path in words."""
+        """A path in words, from the output back."""
         return told(self.flow, path)
 
     def places(self, array: Array) -> list[Place]:

@@ -263,19 +263,33 @@ class Session:
 
     @property
     def arrays(self) -> Arrays:
-        """The arrays that it holds: `session.arrays["sky"]` the last version, `session.arrays["sky", 1]` that one."""
+        """The arrays that it holds: `session.arrays["sky"]` the last version, `session.arrays["sky", 1]` that one.
+
+        >>> session.arrays
+        <1 held: array sky 1>
+        >>> session.arrays["sky"] is sky
+        True
+        """
         return Arrays({key: self._array_of(key) for key in list(self.holdings().arrays)})
 
     @property
     def flows(self) -> Held[str, Flow]:
-        """The flows that it holds, by their shown names, with their nodes; of a name that was replaced the last."""
+        """The flows that it holds, by their shown names, with their nodes; of a name that was replaced the last.
+
+        >>> session.flows["stars"].nodes
+        [<Node 0 of stars: clean (100 and more)>, <Node 1 labels of stars: regions (5 and more)>]
+        """
         held = {flow.shown or flow.name: flow.name for flow in self.holdings().flows.values()}
         held.update({name: name for name in self.holdings().flows if name not in held})
         return Held(list(held), lambda name: self._flow_of(held[name]))
 
     @property
     def runs(self) -> Held[int, Run]:
-        """The runs that it holds, by number, with their flows and base arrays."""
+        """The runs that it holds, by number, with their flows and base arrays.
+
+        >>> session.runs[1].values("labels").max()
+        11
+        """
         return Held(list(self.holdings().versions), self._run_of)
 
     @property
@@ -350,6 +364,11 @@ class Session:
         `inputs` is over how many base arrays, or the arrays (or shapes) themselves, so that nodes know their `shape`.
         With `replace`, a flow under a name that another flow has takes the next free name in the program and keeps the
         shown one, so that a notebook's cell can be run again.
+
+        Raises BadInput for what is no name, and for an array of another session.
+
+        >>> session.flow("shifted", inputs=[sky]).input(0).shape
+        (4, 4)
         """
         if not isinstance(inputs, (list, tuple)):
             inputs = number_of(inputs, "inputs", 0, 2**32 - 1)
@@ -364,6 +383,9 @@ class Session:
         Gives the run, whose values are computed then. Raises BadInput for a flow or an array of another session, and
         Refused: 12 for another number of arrays than the flow's, 13 with the node where shapes do not fit, 14 where too
         much is held.
+
+        >>> session.start(flow, sky)
+        <Run 2 of stars on sky 1>
         """
         arrays = [base] if isinstance(base, BaseArray) else list(base)
         if not isinstance(flow, Flow):
@@ -413,13 +435,13 @@ class Session:
         return run if flow is None else Run(self, number, flow, run.base)
 
     def pipeline(self) -> Pipeline:
-        """Lines sent ahead, whose replies are taken later: `with session.pipeline() as ahead: ..`."""
+        """Lines sent ahead, whose replies are taken later: `with session.pipeline() as ahead: ..`. See `Pipeline`."""
         return Pipeline(self._program)
 
     def record(self, path: str | os.PathLike[str]) -> None:
         """Write all lines of this session to a file that `subzero play` reads: those sent so far, and each further one.
 
-        Of a session on a log, what the log held before is not in the file.
+        Of a session on a log, what the log held before is not in the file. Raises OSError where it cannot be written.
         """
         self._program.record(path)
 
