@@ -10,6 +10,7 @@ from subzero.cells import given, values_of
 
 try:
     import astropy.nddata as nddata
+    import astropy.table as table
     import astropy.units as units
     from astropy.utils.masked import Masked
 except ImportError:
@@ -82,6 +83,8 @@ class Containers(unittest.TestCase):
                 (nddata.NDData(DATA * units.Jy), units.Jy),
                 (Masked(DATA, mask=MASK) * units.Jy, units.Jy),
                 ([DATA[0] * units.Jy, DATA[1] * units.Jy], units.Jy),
+                (table.Column(DATA, unit="Jy"), units.Jy),
+                (table.MaskedColumn(DATA, mask=MASK, unit="Jy"), units.Jy),
                 (DATA, None),
             ):
                 scale = 1.0 if np.asarray(given(values).data).dtype.kind == "f" else None

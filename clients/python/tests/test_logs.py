@@ -139,6 +139,17 @@ class Logs(unittest.TestCase):
             self.assertEqual(session.arrays["a"].values.tolist(), [[3, 4, 5]])
             self.assertEqual(session.runs[1].values(session.flows["f"].nodes[0]).tolist(), [[-3, -4, -5]])
 
+    def test_raw_lines_are_not_kept_twice(self) -> None:
+        """What was said by a line is taken from the lines that were sent, as long as the session is open."""
+        with subzero.Session() as session:
+            session.say(b'{"array":"a","cells":[[' + b"1," * 5000 + b"2]]}\n").wait("saying")
+            session.say(b'{"csv":"c","text":"1,2\\n3,4\\n"}\n')
+            kept, late = session.arrays["a"], session.arrays["c"]
+            self.assertEqual((kept.shape, int(kept.values.sum())), ((1, 5001), 5002))
+        self.assertEqual(int(kept.values.sum()), 5002)
+        with self.assertRaisesRegex(subzero.SubZeroError, "the session is closed"):
+            late.values
+
     def test_values_of_a_log_can_be_taken_after_the_session(self) -> None:
         self.write()
         with subzero.Session(log=self.log) as session:

@@ -91,6 +91,12 @@ class Shell(unittest.TestCase):
         self.assertEqual((status, out), (7, ""))
         self.assertRegex(err, r"^subzero: bad log at \d+\n$")
 
+    def test_what_is_not_installed_is_a_line(self) -> None:
+        out = io.StringIO()
+        with mock.patch.dict(sys.modules, {"subzero.view": None}), contextlib.redirect_stderr(out):
+            self.assertEqual(shell.main(["view", "x.log"]), 1)
+        self.assertRegex(out.getvalue(), "^subzero: .*subzero.view.*\n$")
+
     def test_view_is_loaded_when_it_is_wanted(self) -> None:
         page = types.ModuleType("subzero.view")
         asked: list[list[str]] = []

@@ -74,7 +74,7 @@ def main(words: Sequence[str] | None = None) -> int:
         return 2
     try:
         return COMMANDS[given[0]][0](given[1:])
-    except (SubZeroError, OSError) as fault:
+    except (SubZeroError, OSError, ImportError) as fault:
         print(f"subzero: {fault}", file=sys.stderr)
         return 1
 

@@ -108,9 +108,10 @@ def given(values: Any) -> Given:
             )
         data = np.asarray(array)
         empty = np.zeros(data.shape, dtype=bool)
+    unit = getattr(values, "unit", None) if isinstance(values, np.ndarray) else None  # as columns of tables have
     if data.dtype == object:
         empty |= np.asarray(data == None, dtype=bool)  # noqa: E711, cell by cell
-    return Given(data, empty)
+    return Given(data, empty, unit)
 
 
 def _is(values: object, module: str, name: str) -> bool:

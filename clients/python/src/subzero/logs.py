@@ -167,7 +167,7 @@ class Holdings:
 
         `again` gives the line once more, where it is not to be kept.
         """
-        if (name := _name_of_array(line)) is not None:
+        if (name := name_of_array(line)) is not None:
             version = self.latest(name) + 1 if reply is None else int(reply.split()[-1])
             self.add(HeldArray(name, version, again or (lambda: line)))
             return
@@ -215,7 +215,7 @@ class Holdings:
         self.versions[number] = HeldVersion(number, flow, base)
 
 
-def _name_of_array(line: bytes) -> str | None:
+def name_of_array(line: bytes) -> str | None:
     """The name of the array that a line hands in, None for a line of another form."""
     plain = _PLAIN_ARRAY.match(line)
     if plain is not None and line.count(b'"') == 6:  # no field is there twice: the line is not read whole

@@ -25,7 +25,8 @@ from . import progress
 from .faults import Cancelled, OutOfStep, ProgramEnded, ProgramMissing, Refused, SubZeroError
 
 AHEAD = 32
-"""How many lines are with the program at most before their replies have come; further ones wait on this side."""
+"""How many lines are with the program at most before their replies have come; further ones wait on this side. Where
+it is to answer many asks at the same time, it has twice as many."""
 
 _PIECE = 1 << 20
 _KEPT_IN_MEMORY = 1 << 26
@@ -62,6 +63,7 @@ class Reply:
         self._program = program
         self._sent = text
         self._line = 0
+        self._at = (0, 0)  # where the line begins among all that were sent, and how long it is
         self._text: bytes | None = None
         self._fault: BaseException | None = None
         self._come = threading.Event()
@@ -71,13 +73,18 @@ class Reply:
         """Whether the caller is the first to ask: one line is sent, or cancelled, and never both."""
         return self._claim.acquire(blocking=False)
 
-    def sending(self, line: int) -> bytes:
-        """Called by the sending thread alone: the line that is sent now, as the session's line of this number."""
+    def sending(self, line: int, at: int) -> None:
+        """Called by the sending thread alone: the line is sent now, as the session's line of this number, and begins at
+        this byte of all that were sent.
+        """
         text = self._sent
-        self._line = line
+        self._line, self._at = line, (at, len(text))
         if len(text) > _SHOWN:  # what may be large is not kept: a refusal shows its beginning and its end
             self._sent = text[: _SHOWN // 2] + b" .. " + text[-_SHOWN // 2 :]
-        return text
+
+    def line(self) -> bytes:
+        """The line as it was sent. Raises SubZeroError where the session is closed."""
+        return self._program.sent_line(*self._at)
 
     def come(self, text: bytes | None) -> None:
         """Called by the two threads alone: the reply is `text`, or there is none."""
@@ -145,9 +152,10 @@ def come_each(replies: Sequence[Reply], doing: str) -> None:
 
 class Program:
     """A running program. `words` are its mode and options; `held` are open files that it inherits, such as the one
-    that is locked, which are closed here when the program is closed or let go."""
+    that is locked, which are closed here when the program is closed or let go; `ahead` is how many lines are with it at
+    most before their replies have come."""
 
-    def __init__(self, path: str, words: list[str], held: tuple[int, ...] = ()) -> None:
+    def __init__(self, path: str, words: list[str], held: tuple[int, ...] = (), ahead: int = AHEAD) -> None:
         self._errors = tempfile.TemporaryFile()
         self._process = subprocess.Popen(
             [path, *words],
@@ -162,6 +170,7 @@ class Program:
         self._to, self._from = self._process.stdin, self._process.stdout
         self._owner = os.getpid()
         self._held = held
+        self._ahead = ahead
         self._queue: SimpleQueue[Reply | None] = SimpleQueue()
         self._awaited: deque[Reply] = deque()
         self._turn, self._books = threading.Lock(), threading.Lock()
@@ -221,6 +230,14 @@ class Program:
             shutil.copyfileobj(self._sent, out)
             self._records.append(out)
 
+    def sent_line(self, at: int, length: int) -> bytes:
+        """The bytes that were sent from one on. Raises SubZeroError where the session is closed."""
+        with self._books:
+            if self._sent.closed:
+                raise SubZeroError("the session is closed, and what was said in it by lines is no longer there")
+            self._sent.seek(at)
+            return self._sent.read(length)
+
     def ended(self) -> ProgramEnded:
         """The exception that says how the program ended, once it has."""
         if os.getpid() == self._owner:
@@ -275,7 +292,7 @@ class Program:
         ahead: deque[Reply] = deque()
         lines = 0
         while (reply := self._queue.get()) is not None:
-            while len(ahead) >= AHEAD and not self._let_go and self.reads():
+            while len(ahead) >= self._ahead and not self._let_go and self.reads():
                 if ahead[0]._come.wait(0.5):
                     ahead.popleft()
             self._taken += len(reply._sent)
@@ -286,12 +303,12 @@ class Program:
                 continue
             line = reply._sent
             try:
-                self._keep(line)
+                at = self._keep(line)
             except (OSError, ValueError) as fault:  # the disk is full, or the session was let go meanwhile
                 reply.fail(fault)
                 continue
             lines += 1
-            reply.sending(lines)
+            reply.sending(lines, at)
             self._awaited.append(reply)
             ahead.append(reply)
             try:
@@ -310,12 +327,14 @@ class Program:
             self._reader.join()
             self._close_files()
 
-    def _keep(self, line: bytes) -> None:
+    def _keep(self, line: bytes) -> int:
+        """Keep a line that is sent; gives at which byte of all of them it begins."""
         with self._books:
-            self._sent.seek(0, os.SEEK_END)
+            at = self._sent.seek(0, os.SEEK_END)
             self._sent.write(line)
             for out in self._records:
                 out.write(line)
+            return at
 
     def _write(self, line: bytes) -> None:
         view = memoryview(line)

@@ -19,8 +19,8 @@ from .faults import BadInput, OutOfStep, ProgramEnded, Refused, SubZeroError
 from .flow import MOST_FLOWS, Flow, table
 from .later import Pipeline
 from .locks import lock_log
-from .logs import HeldArray, HeldFlow, HeldVersion, Holdings, frozen, read_log, size_told
-from .program import Program, Reply, find
+from .logs import HeldArray, HeldFlow, HeldVersion, Holdings, frozen, name_of_array, read_log, size_told
+from .program import AHEAD, Program, Reply, find
 from .run import Run
 
 MOST_ARRAYS, MOST_VERSIONS, MOST_HELD = 4096, 4096, 4 * MOST_CELLS
@@ -209,7 +209,7 @@ class Session:
         try:
             if self.log is not None and os.path.getsize(self.log) == 0:
                 _make_log(path, self.log)
-            self._program = Program(path, words, locked)
+            self._program = Program(path, words, locked, max(AHEAD, 2 * (askers or 0)))
         except BaseException:
             for file in locked:
                 os.close(file)
@@ -463,30 +463,48 @@ class Session:
             raise BadInput(f"{short(line)} has {line.count(10)} newlines: say one line at a time")
         if not line.strip(b" \t\r\n"):
             raise BadInput("a blank line has no reply")
-        if _may_hold(line):
+        if not _may_hold(line):
+            return self._program.send(line)
+        try:
+            name = name_of_array(line)
+        except (ValueError, TypeError):  # it is no JSON, which the program refuses
+            return self._program.send(line)
+        if name is None:
             return self.order(line, lambda session, text: session._holdings.take(line, text))
-        return self._program.send(line)
+        with self._settling:  # the line may be large, and is taken again when its values are wanted
+            reply = self._send_and_settle(line)
+            self._ordered.append((reply, _hold_line_of(name, reply)))
+        return reply
 
     def order(self, line: bytes, hold: Hold) -> Reply:
         """Send a line, and take in what it makes the session hold once its reply has come and is no refusal."""
         with self._settling:
-            reply = self._program.send(line)
+            reply = self._send_and_settle(line)
             self._ordered.append((reply, hold))
         return reply
+
+    def _send_and_settle(self, line: bytes) -> Reply:
+        """Send a line, and take in what came meanwhile of those before it."""
+        while self._ordered and self._ordered[0][0].done():
+            self._settle_first()
+        return self._program.send(line)
 
     def holdings(self) -> Holdings:
         """What the session holds by all lines that were sent."""
         with self._settling:
             while self._ordered:
-                reply, hold = self._ordered[0]
-                try:
-                    text = reply.wait("settling")
-                except SubZeroError:
-                    text = b""
-                self._ordered.popleft()
-                if text:
-                    hold(self, text)
+                self._settle_first()
         return self._holdings
+
+    def _settle_first(self) -> None:
+        reply, hold = self._ordered[0]
+        try:
+            text = reply.wait("settling")
+        except SubZeroError:
+            text = b""
+        self._ordered.popleft()
+        if text:
+            hold(self, text)
 
     def hold_flow(self, flow: HeldFlow) -> None:
         """Take in a flow that the program accepted."""
@@ -579,6 +597,11 @@ def _size(shape: Shape) -> int:
     for length in shape:
         size *= length
     return size
+
+
+def _hold_line_of(name: str, reply: Reply) -> Hold:
+    """What the reply to a raw line of an array makes a session hold."""
+    return lambda session, text: session._holdings.add(HeldArray(name, int(text.split()[-1]), reply.line))
 
 
 def _may_hold(line: bytes) -> bool:
