@@ -120,6 +120,7 @@ class Refusals(unittest.TestCase):
         call: Any
         node = flow.neg(x)
         for call, why in (
+            (lambda: self.session.flow("f").neg(x), "no array of the flow f, but of another of that name"),
             (lambda: flow.add_k(x, 1.5), "must be a whole number"),
             (lambda: flow.add_k(x, True), "must be a whole number"),
             (lambda: flow.mul_k(x, 2**63), "must lie from"),

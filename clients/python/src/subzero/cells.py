@@ -157,8 +157,8 @@ def _given_container(values: Any) -> Given:
     for what in ("uncertainty", "flags"):
         if getattr(values, what, None) is not None:
             raise BadInput(
-                f"the {what} of a {kind} cannot be kept: hand it in without (numpy.ma.MaskedArray(x.data, x.mask)), "
-                "or as an array of its own"
+                f"the {what} of a {kind} cannot be kept: set x.{what} = None, or hand in "
+                f"numpy.ma.MaskedArray(x.data, x.mask); the {what} can be an array of its own"
             )
     inner = given(values.data)
     empty = inner.empty
