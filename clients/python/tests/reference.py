@@ -4,8 +4,11 @@ Arrays here have 3 axes (layer, row, column), and are a pair: values, Python's w
 which of them are empty. Lineage is told by boolean arrays.
 """
 
+# mypy: disable-error-code="no-any-return"
+
 from __future__ import annotations
 
+from collections.abc import Callable
 from typing import Any
 
 import numpy as np
@@ -15,7 +18,8 @@ SQUARE = np.ones((1, 3, 3), dtype=bool)
 CROSS = np.zeros((3, 3, 3), dtype=bool)
 CROSS[1] = [[0, 1, 0], [1, 1, 1], [0, 1, 0]]
 
-Grid = tuple[np.ndarray, np.ndarray]
+Array = np.ndarray[Any, Any]
+Grid = tuple[Array, Array]
 
 
 def grid_of(array: Any) -> Grid:
@@ -26,18 +30,18 @@ def grid_of(array: Any) -> Grid:
     return (values[None], empty[None].copy()) if values.ndim == 2 else (values, empty.copy())
 
 
-def fitted(values: np.ndarray, empty: np.ndarray) -> Grid:
+def fitted(values: Array, empty: Array) -> Grid:
     """What is no whole number of 64 bits is empty; empty cells hold 0."""
     with np.errstate(all="ignore"):
         empty = empty | (values < -(2**63)).astype(bool) | (values > 2**63 - 1).astype(bool)
     return np.where(empty, 0, values), empty
 
 
-def high(grid: Grid, t: int) -> np.ndarray:
+def high(grid: Grid, t: int) -> Array:
     return (grid[0] >= t).astype(bool) & ~grid[1]
 
 
-def moved(array: np.ndarray, rows: int, cols: int, outside: Any) -> np.ndarray:
+def moved(array: Array, rows: int, cols: int, outside: Any) -> Array:
     """The array with each cell holding what stands so many rows down and columns right of it, `outside` beyond the
     edge.
     """
@@ -55,7 +59,7 @@ def offsets(kernel: list[list[int]]) -> list[tuple[int, int, int]]:
     return [(r - high_half, c - wide_half, w) for r, row in enumerate(kernel) for c, w in enumerate(row) if w != 0]
 
 
-def folded(values: np.ndarray, empty: np.ndarray, fold: str) -> Grid:
+def folded(values: Array, empty: Array, fold: str) -> Grid:
     """The fold over the last axis."""
     there = (~empty).sum(axis=-1)
     if fold == "count":
@@ -73,16 +77,16 @@ def evaluate(op: str, p: dict[str, Any], grids: list[Grid]) -> Grid:
     """The operator's output."""
     values, empty = grids[0]
     if op in ("neg", "abs", "add_k", "mul_k", "clip"):
-        told = {
+        calls: dict[str, Callable[[], Any]] = {
             "neg": lambda: -values,
             "abs": lambda: abs(values),
             "add_k": lambda: values + p["k"],
             "mul_k": lambda: values * p["k"],
             "clip": lambda: np.minimum(np.maximum(values, p["lo"]), p["hi"]),
-        }[op]()
-        return fitted(told, empty)
+        }
+        return fitted(calls[op](), empty)
     if op in ("add", "sub", "mul", "min", "max"):
-        call = {"add": np.add, "sub": np.subtract, "mul": np.multiply, "min": np.minimum, "max": np.maximum}[op]
+        call: Any = {"add": np.add, "sub": np.subtract, "mul": np.multiply, "min": np.minimum, "max": np.maximum}[op]
         return fitted(call(values, grids[1][0]), empty | grids[1][1])
     if op == "transpose":
         return values.swapaxes(1, 2), empty.swapaxes(1, 2)
@@ -130,14 +134,14 @@ def evaluate(op: str, p: dict[str, Any], grids: list[Grid]) -> Grid:
     return np.where(out == 2**64, 0, out), empty | (hot & (least == 2**64).astype(bool))
 
 
-def matches(grids: list[Grid]) -> tuple[np.ndarray, np.ndarray]:
+def matches(grids: list[Grid]) -> tuple[Array, Array]:
     """The column that each cell names, and whether it names one."""
     (values, empty), (table, _) = grids
     found = ~empty & (values >= 0).astype(bool) & (values < table.shape[2]).astype(bool)
     return np.where(found, values, 0).astype(int), found
 
 
-def back(op: str, p: dict[str, Any], grids: list[Grid], number: int, cells: np.ndarray) -> np.ndarray:
+def back(op: str, p: dict[str, Any], grids: list[Grid], number: int, cells: Array) -> Array:
     """The cells of input `number` behind `cells` of the output."""
     shape = grids[0][0].shape
     if op == "lookup" and number == 1:
@@ -167,7 +171,7 @@ def back(op: str, p: dict[str, Any], grids: list[Grid], number: int, cells: np.n
     return cells.copy()
 
 
-def forward(op: str, p: dict[str, Any], grids: list[Grid], number: int, cells: np.ndarray) -> np.ndarray:
+def forward(op: str, p: dict[str, Any], grids: list[Grid], number: int, cells: Array) -> Array:
     """The cells of the output that `cells` of input `number` touched."""
     if op == "lookup" and number == 1:
         column, found = matches(grids)
@@ -187,7 +191,7 @@ def forward(op: str, p: dict[str, Any], grids: list[Grid], number: int, cells: n
     return back(op, p, grids, number, cells)
 
 
-def footprint(kernel: list[list[int]]) -> np.ndarray:
+def footprint(kernel: list[list[int]]) -> Array:
     return (np.array(kernel) != 0)[None]
 
 

@@ -59,7 +59,7 @@ class Paths(unittest.TestCase):
 
     def test_too_many_paths_are_an_error_that_counts_them(self) -> None:
         flow = self.session.flow("many")
-        total = flow.input(0)
+        total: Any = flow.input(0)
         for _ in range(20):
             total = flow.add(total, total)
         run = self.session.start(flow, [self.base])
@@ -82,6 +82,7 @@ class Paths(unittest.TestCase):
             run.back(left, (0, 0), to=other)
         with self.assertRaisesRegex(subzero.BadInput, "no path leads"):
             run.back(left, (0, 0), to=left)
+        path: Any
         for path, why in (
             ([], "no step"),
             ([(left, 1)], "no input 1"),
@@ -102,7 +103,7 @@ class Paths(unittest.TestCase):
             masks = [ahead.back(run, node, (row, col), to=self.base) for row in range(3) for col in range(2)]
             touched = ahead.forward(run, self.base, (4, 5), to=node)
             told = ahead.explain(run, node, (0, 0), to=self.base)
-            missing = ahead.wait(self.session.held_run(99, flow, [self.base]))
+            missing = ahead.wait(subzero.Run(self.session, 99, flow, (self.base,)))
         self.assertIsNone(waited.result())
         self.assertEqual(values.result().tolist(), [[24, 42], [96, 114], [75, 84]])
         self.assertEqual(np.sum([mask.result() for mask in masks], axis=0).tolist(), np.ones((5, 6)).tolist())
@@ -164,8 +165,8 @@ class RandomFlows(unittest.TestCase):
         draw = np.random.RandomState(seed)
         shape = tuple(int(size) for size in draw.randint(1, 9, 2))
         shape = shape if draw.rand() < 0.5 else (int(draw.randint(2, 5)), *shape)
-        image = np.ma.MaskedArray(draw.randint(-30, 60, shape), draw.rand(*shape) < 0.1)
-        table = np.ma.MaskedArray(draw.randint(-30, 60, (1, 20)), draw.rand(1, 20) < 0.1)
+        image: Any = np.ma.MaskedArray(draw.randint(-30, 60, shape), draw.rand(*shape) < 0.1)
+        table: Any = np.ma.MaskedArray(draw.randint(-30, 60, (1, 20)), draw.rand(1, 20) < 0.1)
         with subzero.Session() as session:
             held = [session.array("image", image), session.array("table", table)]
             flow = session.flow("f", inputs=2)

@@ -2,11 +2,14 @@
 
 import unittest
 from collections.abc import Iterator
+from typing import Any
 
 import numpy as np
 
 import reference
 import subzero
+
+Array = np.ndarray[Any, Any]
 
 CROSS = [[0, 1, 0], [1, 1, 1], [0, 1, 0]]
 LOPSIDED = [[0, 2, 0], [0, 0, -1], [3, 0, 0]]
@@ -43,13 +46,13 @@ UNARY = [
 BINARY = ["add", "sub", "mul", "min", "max"]
 
 
-def some(draw: np.random.RandomState, shape: tuple[int, ...]) -> np.ma.MaskedArray:
+def some(draw: np.random.RandomState, shape: tuple[int, ...]) -> Array:
     """Whole numbers from -50 to 99, a tenth of them empty."""
     return np.ma.MaskedArray(draw.randint(-50, 100, shape), draw.rand(*shape) < 0.1)
 
 
 # what is asked of a node: which of its inputs, the direction, the cells that are asked, and those that are related to them
-Question = tuple[int, str, np.ndarray, np.ndarray]
+Question = tuple[int, str, Array, Array]
 
 
 class Operators(unittest.TestCase):
@@ -57,6 +60,7 @@ class Operators(unittest.TestCase):
         """Run every operator on arrays of this shape, with its lineage kept by each strategy that it supports."""
         draw = np.random.RandomState(len(shape))
         first, second = some(draw, shape), some(draw, shape)
+        small: Array
         small, table = np.ma.MaskedArray(draw.randint(-2, 9, shape), draw.rand(*shape) < 0.1), some(draw, (1, 6))
         given = {"a": first, "b": second, "c": small, "t": table}
         asked: dict[int, list[Question]] = {}
@@ -130,12 +134,12 @@ class Operators(unittest.TestCase):
 
     def test_what_is_no_i64_is_empty(self) -> None:
         greatest, least = 2**63 - 1, -(2**63)
-        given = np.ma.MaskedArray([[greatest, least, 0, 5]], [[False, False, False, True]])
+        given: Array = np.ma.MaskedArray([[greatest, least, 0, 5]], [[False, False, False, True]])
         with subzero.Session() as session:
             held = session.array("a", given)
             flow = session.flow("f")
             a = flow.input(0)
-            nodes = {
+            nodes: dict[subzero.Node, list[list[Any]]] = {
                 flow.neg(a): [[-greatest, None, 0, None]],
                 flow.abs(a): [[greatest, None, 0, None]],
                 flow.add_k(a, 1): [[None, least + 1, 1, None]],

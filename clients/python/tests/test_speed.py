@@ -10,6 +10,7 @@ import tempfile
 import time
 import unittest
 from pathlib import Path
+from typing import Any
 
 import numpy as np
 
@@ -24,7 +25,7 @@ def children() -> float:
 
 
 class Speed(unittest.TestCase):
-    def through_client(self, image: np.ndarray, answer: str, record: str) -> float:
+    def through_client(self, image: np.ndarray[Any, Any], answer: str, record: str) -> float:
         """The processor seconds, on both sides, of one session that takes a million cells back."""
         begun = time.process_time() + children()
         with subzero.Session() as session:

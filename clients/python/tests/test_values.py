@@ -4,6 +4,7 @@ import json
 import tempfile
 import unittest
 from pathlib import Path
+from typing import Any
 
 import numpy as np
 
@@ -67,6 +68,7 @@ class Numerals(unittest.TestCase):
 
 class Values(unittest.TestCase):
     def test_what_is_taken(self) -> None:
+        given: Any
         for given, expected in (
             ([[1, 2], [3, 4]], [[1, 2], [3, 4]]),
             ([[1, None]], [[1, None]]),
@@ -89,6 +91,7 @@ class Values(unittest.TestCase):
         self.assertEqual(values_of([[-(2.0**63)]], scale=1)[0].tolist(), [[LEAST]])
         values, empty = values_of(np.ma.masked_invalid([[0.1, -2.55, np.nan]]), scale=100)
         self.assertEqual(np.ma.MaskedArray(values, empty).tolist(), [[10, -255, None]])
+        given: Any
         for given, scale, why in (
             ([[1.0]], None, "floats: say by scale"),
             ([[np.nan]], 10, "NaN"),
@@ -105,6 +108,7 @@ class Values(unittest.TestCase):
                 values_of(given, scale)
 
     def test_what_is_refused(self) -> None:
+        given: Any
         for given, why in (
             ([1, 2], "2 axes"),
             (5, "2 axes"),
@@ -130,24 +134,82 @@ class Values(unittest.TestCase):
         self.assertEqual(cells_of((1, 2), (3, 4)).tolist(), [[1, 2]])
         self.assertEqual(cells_of([(1, 2), (0, 0)], (3, 4)).tolist(), [[1, 2], [0, 0]])
         self.assertEqual(cells_of([], (3, 4)).tolist(), [])
-        self.assertEqual(cells_of([(1, 2)], (2, 3, 4)).tolist(), [[0, 1, 2]])
         self.assertEqual(cells_of((1, 1, 2), (2, 3, 4)).tolist(), [[1, 1, 2]])
         self.assertEqual(cells_of(np.eye(2, dtype=bool), (2, 2)).tolist(), [[0, 0], [1, 1]])
-        for given, why in (
+        self.assertEqual(cells_of(np.argwhere(np.eye(2)), (2, 2)).tolist(), [[0, 0], [1, 1]])
+        mask: Any = np.ma.MaskedArray([[True, True], [False, True]], [[False, True], [True, False]])
+        self.assertEqual(cells_of(mask, (2, 2)).tolist(), [[0, 0], [1, 1]])
+        cells: Any
+        for cells, why in (
             ([(3, 0)], r"\(3, 0\) is out of range"),
             ([(0, 0), (0, -1)], r"\(0, -1\) is out of range"),
             ([(0, 0, 0)], "2 numbers"),
             ([(0.0, 0.0)], "whole numbers"),
             (np.ones((2, 2), dtype=bool), "the mask has the shape"),
+            (((1, 2), (0, 0)), "a tuple of lists"),
+            (([1, 2], [0, 0]), "a tuple of lists"),
+            (np.ma.MaskedArray([[1, 2]], [[False, True]]), "masked"),
         ):
-            with self.subTest(given=str(given)), self.assertRaisesRegex(subzero.BadInput, why):
-                cells_of(given, (3, 4))
+            with self.subTest(given=str(cells)), self.assertRaisesRegex(subzero.BadInput, why):
+                cells_of(cells, (3, 4))
+
+    def test_an_index_means_what_numpy_means_by_it(self) -> None:
+        image = np.arange(12).reshape(3, 4)
+        cube = np.arange(24).reshape(2, 3, 4)
+        index: Any
+        for array, index in (
+            (image, np.where(image >= 10)),  # exactly two cells
+            (image, np.where(image % 5 == 0)),
+            (image, np.where(image < 0)),
+            (image, np.nonzero(image == 6)),
+            (image, np.s_[1:, 2]),
+            (image, np.s_[::2, ::3]),
+            (image, np.s_[1:2]),
+            (image, np.s_[:, -1]),
+            (image, np.s_[..., 0]),
+            (image, np.ix_([0, 2], [1, 3])),
+            (cube, np.where(cube % 7 == 0)),
+            (cube, np.s_[:, 1, 2]),
+            (cube, np.s_[1, 1:, :2]),
+        ):
+            with self.subTest(index=str(index)):
+                expected = np.zeros(array.shape, dtype=bool)
+                expected[index] = True
+                self.assertEqual(cells_of(index, array.shape).tolist(), np.argwhere(expected).tolist())
+        for shape, index, why in (
+            ((3, 4), (np.array([0]), np.array([4])), "none of an array"),
+            ((3, 4), (np.array([0]), np.array([-1])), "out of range"),
+            ((3, 4), (np.array([0]),), "1 arrays"),
+            ((3, 4), (np.array([0, 1]), np.array([0, 1, 2])), "none of an array"),
+            ((3, 4), (np.array([0.5]), np.array([0.5])), "no part of an index"),
+            ((3, 4), (slice(None), None), "no part of an index"),
+            ((2, 3, 4), np.where(image >= 10), "2 arrays"),
+        ):
+            with self.subTest(index=str(index)), self.assertRaisesRegex(subzero.BadInput, why):
+                cells_of(index, shape)
+
+    def test_two_numbers_are_no_cell_of_an_array_with_layers(self) -> None:
+        """numpy would take the first of them for the layer."""
+        cells: Any
+        for cells in ((1, 2), [(1, 2)], np.array([[1, 2]])):
+            with self.assertRaisesRegex(subzero.BadInput, r"as in \(0, 1, 2\), or np\.s_\[:, 1, 2\]"):
+                cells_of(cells, (2, 3, 4))
+
+    def test_where_asks_what_the_mask_asks(self) -> None:
+        with subzero.Session() as session:
+            sky = session.array("sky", np.arange(12).reshape(3, 4))
+            flow = session.flow("f")
+            node = flow.transpose(flow.input(0))
+            run = session.start(flow, [sky])
+            mask = np.zeros((4, 3), dtype=bool)
+            mask[1, 2] = mask[3, 0] = True
+            self.assertEqual(np.argwhere(run.back(node, np.where(mask), to=sky)).tolist(), [[0, 3], [2, 1]])
 
 
 class Arrays(unittest.TestCase):
     def test_versions_and_what_is_held(self) -> None:
         with subzero.Session() as session:
-            given = np.ma.MaskedArray([[1, 2]], [[False, True]])
+            given: Any = np.ma.MaskedArray([[1, 2]], [[False, True]])
             first, second = session.array("sky", given), session.array("sky", [[[5]], [[6]]])
             self.assertEqual(
                 (str(first), first.shape, str(second), second.shape), ("array sky 1", (1, 2), "array sky 2", (2, 1, 1))
@@ -156,6 +218,7 @@ class Arrays(unittest.TestCase):
             self.assertEqual(first.values.tolist(), [[1, None]])
             with self.assertRaises(ValueError):
                 first.values[0, 0] = 3
+            name: Any
             for name in ("", "Sky", "a" * 33, "é", "a b", 'a"', None):
                 with self.subTest(name=name), self.assertRaisesRegex(subzero.BadInput, "no name"):
                     session.array(name, [[1]])

@@ -12,23 +12,38 @@
         behind = run.back(labels, [(3, 3)], to=sky)
 
 `Session` starts the program; `Flow` builds a flow; `Run` gives values and answers lineage. `subzero.plot` draws (with
-matplotlib), `python -m subzero.demo` makes the tutorial's pictures.
+matplotlib), `python -m subzero` tells what can be done from a shell.
 """
 
-from .faults import BadInput, OutOfStep, ProgramEnded, ProgramMissing, Refused, SubZeroError, TooManyPaths
+from .faults import (
+    BadInput,
+    Cancelled,
+    LogHeld,
+    OutOfStep,
+    ProgramEnded,
+    ProgramMissing,
+    Refused,
+    SubZeroError,
+    TooManyPaths,
+)
 from .flow import Flow, Input, Node
-from .later import Later, Pipeline
+from .later import Future, Later, Pipeline
 from .paths import Path
 from .run import Explanation, Run
-from .session import BaseArray, Session
+from .session import BaseArray, Room, Session
+
+__version__ = "0.1.0"
 
 __all__ = [
     "BadInput",
     "BaseArray",
+    "Cancelled",
     "Explanation",
     "Flow",
+    "Future",
     "Input",
     "Later",
+    "LogHeld",
     "Node",
     "OutOfStep",
     "Path",
@@ -36,6 +51,7 @@ __all__ = [
     "ProgramEnded",
     "ProgramMissing",
     "Refused",
+    "Room",
     "Run",
     "Session",
     "SubZeroError",
@@ -44,9 +60,9 @@ __all__ = [
 
 
 def __getattr__(name: str) -> object:
-    """`subzero.plot` is loaded when it is first used, since matplotlib is an extra and slow to load."""
-    if name == "plot":
+    """`subzero.plot` and `subzero.view` are loaded when they are first used: they are slow to load, and need more."""
+    if name in ("plot", "view"):
         import importlib
 
-        return importlib.import_module("subzero.plot")
+        return importlib.import_module(f"subzero.{name}")
     raise AttributeError(f"module 'subzero' has no attribute {name!r}")

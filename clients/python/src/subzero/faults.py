@@ -60,6 +60,14 @@ class BadInput(SubZeroError, ValueError):
     """A value that is refused before it is sent; the text says why."""
 
 
+class Cancelled(SubZeroError):
+    """A line was given up before it was sent, as what stands behind an interrupt in a pipeline is."""
+
+
+class LogHeld(SubZeroError):
+    """Another session holds the log's file; the text says which process it is, where the system tells."""
+
+
 class TooManyPaths(SubZeroError):
     """There are more paths between two arrays than the limit.
 
@@ -100,14 +108,16 @@ class Refused(SubZeroError):
 
     `number` is the refusal's number and `rule` what it says in words. `line` is the line's number in the session, from
     1, and `text` the line that was sent. Where they are printed, `fault` is the number of the flow's fault, `node` the
-    node, `input` the number of its input and `source` the number that is no source; else each of them is None.
+    node, `input` the number of its input and `source` the number that is no source; else each of them is None. `cause`
+    says which part of the rule it was, with numbers, and what can be done, where the client counts it; else it is None.
     """
 
     def __init__(self, printed: list[int], line: int, text: bytes) -> None:
         self.number = printed[0]
         self.rule = _RULES.get(self.number, "for a rule that this client does not know")
         self.line = line
-        self.text = text.decode().rstrip("\n")
+        self.text = text.decode(errors="replace").rstrip("\n")
+        self.cause: str | None = None
         rest: list[int | None] = [*printed[1:]]
         if self.number == 8:
             self.fault, self.node, self.input, self.source = (rest + [None] * 4)[:4]
@@ -116,8 +126,14 @@ class Refused(SubZeroError):
             self.node = rest[0] if rest else None
         super().__init__(self._told())
 
+    def because(self, cause: str | None) -> None:
+        """Say by which cause it was refused."""
+        if cause is not None:
+            self.cause = cause
+            self.args = (self._told(),)
+
     def _told(self) -> str:
-        told = f"refused {self.number}: {self.rule}"
+        told = f"refused {self.number}: {self.cause or self.rule}"
         if self.fault is not None:
             told += f" ({_FAULTS.get(self.fault, f'fault {self.fault}')})"
         if self.node is not None:

@@ -5,69 +5,125 @@ from __future__ import annotations
 from collections.abc import Callable
 from typing import TYPE_CHECKING, Any, Generic, TypeVar
 
-from .program import Reply
+from .cells import Cells, Mask, Values
+from .faults import BadInput, SubZeroError
+from .program import Program, Reply, come_each
 
 if TYPE_CHECKING:
-    from .cells import Cells
     from .run import Array, Explanation, Run
 
 T = TypeVar("T")
 
 
-class Later(Generic[T]):
-    """An answer whose lines are sent. `result` waits for the replies, and gives it or raises what they say."""
+class Future(Generic[T]):
+    """An answer whose lines are handed over. `result` waits for the replies, and gives it or raises what they say.
+
+    >>> ahead = run.values_later(labels)
+    >>> ahead.result().shape
+    (4, 4)
+    >>> ahead.done()
+    True
+    """
 
     def __init__(self, replies: list[Reply], doing: str, read: Callable[[list[bytes]], T]) -> None:
-        self._replies: list[Reply] | None = replies
+        self._replies = replies
         self._doing = doing
         self._read = read
-        self._answer: T | None = None
+        self._answer: list[T] = []
 
     def result(self) -> T:
-        """The answer. Raises Refused or ProgramEnded, as the call that it stands for would."""
-        if self._replies is not None:
-            self._answer = self._read([reply.wait(self._doing) for reply in self._replies])
-            self._replies = None
-        return self._answer  # type: ignore[return-value]
+        """The answer. Raises Refused, Cancelled or ProgramEnded, as the call that it stands for would.
+
+        An interrupt (Ctrl-C) gives up those of its lines that were not sent yet.
+        """
+        if not self._answer:
+            try:
+                come_each(self._replies, self._doing)
+                texts = [reply.wait(self._doing) for reply in self._replies]
+            except SubZeroError:
+                raise
+            except BaseException:
+                self.cancel()
+                raise
+            self._answer = [self._read(texts)]
+            self._replies = []
+        return self._answer[0]
+
+    def done(self) -> bool:
+        """Whether `result` need not wait."""
+        return all(reply.done() for reply in self._replies)
+
+    def cancel(self) -> bool:
+        """Give up the lines that were not sent yet; whether all were, so that nothing is asked."""
+        return all([reply.cancel() for reply in self._replies]) and bool(self._replies)
+
+    def cancelled(self) -> bool:
+        """Whether one of its lines was given up, so that there is no answer."""
+        return any(reply.cancelled() for reply in self._replies)
+
+    def __repr__(self) -> str:
+        state = "cancelled" if self.cancelled() else "done" if self.done() else "pending"
+        return f"<Future: {self._doing or 'an answer'}, {state}>"
+
+
+Later = Future
+"""The name that `Future` had before."""
 
 
 class Pipeline:
-    """Lines sent ahead: each call is that of `Run` with the run put first, and gives a `Later`.
+    """Lines sent ahead: each call is that of `Run` with the run put first, and gives a `Future`.
 
-    At the end of the `with` all replies have come; what one of them refuses is raised by its `result`.
+    At the end of the `with` all replies have come; what one of them refuses is raised by its `result`. Where the `with`
+    is left by an exception, an interrupt (Ctrl-C) among them, what was not sent yet is given up: its `result` raises
+    Cancelled, and the session goes on. At most 32 lines are with the program before their replies have come.
+
+    >>> with session.pipeline() as ahead:
+    ...     answers = [ahead.back(run, labels, (row, 1), to=sky) for row in range(4)]
+    >>> [int(answer.result().sum()) for answer in answers]
+    [3, 3, 1, 1]
     """
 
-    def __init__(self) -> None:
-        self._sent: list[tuple[str, Reply]] = []
+    def __init__(self, program: Program) -> None:
+        self._program = program
+        self._sent: list[Reply] = []
 
     def __enter__(self) -> Pipeline:
         return self
 
-    def __exit__(self, kind: object, *_: object) -> None:
-        if kind is None:
-            for number, (doing, reply) in enumerate(self._sent):
-                reply.come_by(f"{doing}, {number} of {len(self._sent)} lines")
+    def __exit__(self, kind: object, *rest: object) -> None:
+        try:
+            if kind is None:
+                come_each(self._sent, "a pipeline")
+        finally:
+            for reply in self._sent:
+                if not reply.done():
+                    reply.cancel()
 
-    def wait(self, run: Run) -> Later[None]:
+    def wait(self, run: Run) -> Future[None]:
         """As `Run.wait`."""
-        return self._hold(run.wait_later())
+        return self._hold(self._own(run).wait_later())
 
-    def values(self, run: Run, array: Array) -> Later[Any]:
+    def values(self, run: Run, array: Array) -> Future[Values]:
         """As `Run.values`."""
-        return self._hold(run.values_later(array))
+        return self._hold(self._own(run).values_later(array))
 
-    def back(self, run: Run, array: Array, cells: Cells, **how: Any) -> Later[Any]:
+    def back(self, run: Run, array: Array, cells: Cells, **how: Any) -> Future[Mask]:
         """As `Run.back`."""
-        return self._hold(run.asked_later("back", array, cells, **how))
+        return self._hold(self._own(run).asked_later("back", array, cells, **how))
 
-    def forward(self, run: Run, array: Array, cells: Cells, **how: Any) -> Later[Any]:
+    def forward(self, run: Run, array: Array, cells: Cells, **how: Any) -> Future[Mask]:
         """As `Run.forward`."""
-        return self._hold(run.asked_later("forward", array, cells, **how))
+        return self._hold(self._own(run).asked_later("forward", array, cells, **how))
 
-    def explain(self, run: Run, array: Array, cells: Cells, **how: Any) -> Later[list[Explanation]]:
+    def explain(self, run: Run, array: Array, cells: Cells, **how: Any) -> Future[list[Explanation]]:
         """As `Run.explain`."""
-        return self._hold(run.explained_later(array, cells, **how))
+        return self._hold(self._own(run).explained_later(array, cells, **how))
 
-    def _hold(self, later: Later[T]) -> Later[T]:
-        self._sent += [(later._doing, reply) for reply in later._replies or []]
+    def _own(self, run: Run) -> Run:
+        if not run.session.runs_on(self._program):
+            raise BadInput(f"{run!r} is of another session than the pipeline")
+        return run
+
+    def _hold(self, later: Future[T]) -> Future[T]:
+        self._sent += later._replies
         return later

@@ -8,7 +8,10 @@ dropped at the end.
 
 from __future__ import annotations
 
+from typing import Any
+
 import numpy as np
+from numpy.typing import NDArray
 
 from .faults import OutOfStep
 
@@ -17,10 +20,11 @@ _GROUP = 10_000
 
 def _word(text: bytes) -> np.uint32:
     """Up to four bytes as a word, bytes 0 behind them."""
-    return np.frombuffer(text.ljust(4, b"\0"), dtype=np.uint32)[0]
+    word: np.uint32 = np.frombuffer(text.ljust(4, b"\0"), dtype=np.uint32)[0]
+    return word
 
 
-def _table(last: bool) -> np.ndarray:
+def _table(last: bool) -> NDArray[np.uint32]:
     """The words of the numbers below 10,000: first with all four digits, as behind further digits; then without leading
     zeros.
 
@@ -30,7 +34,8 @@ def _table(last: bool) -> np.ndarray:
     places = np.array([1000, 100, 10, 1])
     inner = (numbers[:, None] // places % 10 + ord("0")).astype(np.uint8)
     first = np.where((numbers[:, None] < places) & ((places > 1) | (not last)), 0, inner).astype(np.uint8)
-    return np.concatenate([inner, first]).view(np.uint32).ravel()
+    words: NDArray[np.uint32] = np.concatenate([inner, first]).view(np.uint32).ravel()
+    return words
 
 
 _UPPER, _LAST = _table(last=False), _table(last=True)
@@ -41,7 +46,7 @@ def _groups(greatest: int) -> int:
     return (len(str(greatest)) + 3) // 4
 
 
-def _put_digits(words: np.ndarray, sizes: np.ndarray, groups: int) -> None:
+def _put_digits(words: NDArray[np.uint32], sizes: NDArray[Any], groups: int) -> None:
     """Write each of `sizes`, whole numbers of shape (N,) and none below 0, into its row of `words`, uint32 of shape (N,
     groups).
     """
@@ -55,7 +60,7 @@ def _put_digits(words: np.ndarray, sizes: np.ndarray, groups: int) -> None:
     words[:, 0] = table[left + ten_thousand]  # nothing stands before it
 
 
-def rows_text(cells: np.ndarray, empty: np.ndarray | None) -> bytes:
+def rows_text(cells: NDArray[np.int64], empty: NDArray[np.bool_] | None) -> bytes:
     """The JSON text of one layer, `[[1,2],[3,null]]`.
 
     `cells` is int64 of shape (H, W), `empty` boolean of the same shape or None where no cell is empty.
@@ -77,7 +82,7 @@ def rows_text(cells: np.ndarray, empty: np.ndarray | None) -> bytes:
     return b"[" + words.tobytes().translate(None, b"\0")[2:] + b"]]"
 
 
-def cells_text(cells: np.ndarray) -> bytes:
+def cells_text(cells: NDArray[np.int64]) -> bytes:
     """The JSON text of cells, `[[0,1],[2,3]]`; `cells` are whole numbers of shape (N, 2) or (N, 3), none below 0."""
     count, axes = cells.shape
     if count == 0:
@@ -92,7 +97,7 @@ def cells_text(cells: np.ndarray) -> bytes:
     return b"[" + words.tobytes().translate(None, b"\0")[2:] + b"]]"
 
 
-def read_numbers(text: bytes, count: int) -> np.ndarray:
+def read_numbers(text: bytes, count: int) -> NDArray[np.int64]:
     """The `count` numbers, int64, that stand in `text` with one blank between them."""
     if count == 0:
         return np.zeros(0, dtype=np.int64)
@@ -102,7 +107,7 @@ def read_numbers(text: bytes, count: int) -> np.ndarray:
     return numbers
 
 
-def read_values(text: bytes, count: int) -> tuple[np.ndarray, np.ndarray]:
+def read_values(text: bytes, count: int) -> tuple[NDArray[np.int64], NDArray[np.bool_]]:
     """The `count` values in `text`, and which of them are empty (written `-`), where the number is 0."""
     empty = np.zeros(count, dtype=bool)
     if b"- " not in text and not text.endswith(b"-"):
@@ -117,6 +122,6 @@ def read_values(text: bytes, count: int) -> tuple[np.ndarray, np.ndarray]:
     return read_numbers(filled.tobytes(), count), empty
 
 
-def read_cells(text: bytes, count: int, axes: int) -> np.ndarray:
+def read_cells(text: bytes, count: int, axes: int) -> NDArray[np.int64]:
     """The `count` cells in `text`, each of `axes` numbers with commas between: int64 of shape (count, axes)."""
     return read_numbers(text.replace(b",", b" "), count * axes).reshape(count, axes)

@@ -9,17 +9,18 @@ from typing import TYPE_CHECKING, Literal, TypeAlias
 import numpy as np
 
 from . import numerals
-from .cells import Cells, Shape, cells_of, mask_of
+from .cells import Cells, Mask, Shape, Values, cells_of, mask_of, short
 from .faults import BadInput, OutOfStep
-from .flow import Flow, Input, Node, Place
-from .later import Later
+from .flow import Flow, Input, Node, Place, table
+from .later import Future
 from .paths import Path, path_of, paths_between, told
 
 if TYPE_CHECKING:
     from .session import BaseArray, Session
 
-Array: TypeAlias = "BaseArray | Place"
-"""An array of a run: a base array that it was started on, a base array's place in its flow, or a node of it."""
+Array: TypeAlias = "BaseArray | Place | str"
+"""An array of a run: a base array that it was started on, a base array's place in its flow, or a node of it; or the
+name of a node or of a base array."""
 
 Direction: TypeAlias = Literal["back", "forward"]
 
@@ -44,7 +45,16 @@ class Run:
     """A version of a flow. `number` is the program's, `base` the arrays on which it was started.
 
     In its calls `array` and `to` are arrays of the run: a `BaseArray` that it was started on, `flow.input(n)`, or a
-    node.
+    node; or the name of a base array or of a node that was given one.
+
+    >>> run
+    <Run 1 of stars on sky 1>
+    >>> run.values("labels").tolist()
+    [[0, 2, 0, 0], [2, 2, 0, 0], [0, 0, 11, 11], [0, 0, 11, 0]]
+    >>> np.argwhere(run.back("labels", (0, 1), to="sky")).tolist()
+    [[0, 1], [1, 0], [1, 1]]
+    >>> int(run.forward(sky, sky.values == 7, to=labels).sum())
+    3
     """
 
     def __init__(self, session: Session, number: int, flow: Flow, base: tuple[BaseArray, ...]) -> None:
@@ -52,23 +62,71 @@ class Run:
         self.number = number
         self.flow = flow
         self.base = base
-        self._shapes = flow.shapes([array.shape for array in base])
+        self._known: list[Shape] = []
+
+    def __repr__(self) -> str:
+        return (
+            f"<Run {self.number} of {self.flow.name} on {', '.join(f'{one.name} {one.version}' for one in self.base)}>"
+        )
+
+    def _repr_html_(self) -> str:
+        rows = [
+            (str(node.number), node.name or "", node.label, " by ".join(map(str, self.shape(node))))
+            for node in self.flow.nodes
+        ]
+        return table(repr(self)[1:-1], ("node", "name", "operator", "shape"), rows)
+
+    def __getitem__(self, name: str) -> Place:
+        """The node of this name, or the place of the base array of this name. Raises BadInput where there is none."""
+        return self.places(name)[0]
+
+    def _ipython_key_completions_(self) -> list[str]:
+        return [node.name for node in self.flow.nodes if node.name] + [base.name for base in self.base]
+
+    @property
+    def size(self) -> int:
+        """How many cells the outputs of all nodes have."""
+        return sum(int(np.prod(shape)) for shape in self._shapes)
+
+    @property
+    def _shapes(self) -> list[Shape]:
+        if not self._known:
+            self._known = self.flow.shapes([array.shape for array in self.base])
+        return self._known
 
     def wait(self) -> None:
-        """Wait until all is computed and kept; `explain` can be called from then on."""
+        """Wait until all is computed and kept; `explain` can be called from then on, and a log has the run.
+
+        Raises Refused with number 15 where the session holds no such run.
+        """
         self.wait_later().result()
 
     def shape(self, array: Array) -> Shape:
-        """The shape of an array of the run: (height, width), or (layers, height, width)."""
+        """The shape of an array of the run: (height, width), or (layers, height, width).
+
+        >>> run.shape("labels")
+        (4, 4)
+        """
         place = self.places(array)[0]
         return self.base[place.number].shape if isinstance(place, Input) else self._shapes[place.number]
 
-    def values(self, array: Array) -> np.ma.MaskedArray:
-        """The values of an array of the run, int64 of its shape; empty cells are masked, and hold 0."""
+    def values(self, array: Array) -> Values:
+        """The values of an array of the run, a masked array of int64 and of its shape; empty cells are masked, and hold
+        0. Raises BadInput where it is no array of the run.
+
+        >>> run.values("labels")[2:, 2:].tolist()
+        [[11, 11], [11, 0]]
+        """
         return self.values_later(array).result()
 
     def paths(self, array: Array, *, to: Array, limit: int = MOST_PATHS) -> list[Path]:
-        """All paths from `array` back to `to`. Raises BadInput where there is none, TooManyPaths above `limit`."""
+        """All paths from `array` back to `to`, each a tuple of steps: a node's number and the number of its input.
+
+        Raises BadInput where there is none, TooManyPaths above `limit`.
+
+        >>> [run.told(path) for path in run.paths("labels", to="sky")]
+        ['regions < clean < input 0']
+        """
         found: list[Path] = []
         for place in self.places(array):
             found += paths_between(place, self.places(to), limit)
@@ -84,7 +142,7 @@ class Run:
         to: Array,
         path: Sequence[Sequence[int | Node]] | None = None,
         limit: int = MOST_PATHS,
-    ) -> np.ndarray:
+    ) -> Mask:
         """Which cells of `to` stand behind these cells of `array`: a boolean array of the shape of `to`.
 
         It is the union over all paths between the two, at most `limit`, or follows the one `path`, steps from `array`
@@ -101,7 +159,7 @@ class Run:
         to: Array,
         path: Sequence[Sequence[int | Node]] | None = None,
         limit: int = MOST_PATHS,
-    ) -> np.ndarray:
+    ) -> Mask:
         """Which cells of `to` these cells of `array` touched: a boolean array of the shape of `to`.
 
         As `back`, and a `path` is told in the same way, from the output `to` back to `array`.
@@ -118,28 +176,27 @@ class Run:
         path: Sequence[Sequence[int | Node]] | None = None,
         limit: int = MOST_PATHS,
     ) -> list[Explanation]:
-        """How that ask is answered, for each path. Raises Refused with number 19 before `wait`."""
+        """How that ask is answered: an Explanation for each path. Raises Refused with number 19 before `wait`.
+
+        >>> print(run.explain("labels", (0, 1), to="sky")[0])
+        regions by blackbox, clean by blackbox: 32 cells traced
+        """
         return self.explained_later(array, cells, to=to, direction=direction, path=path, limit=limit).result()
 
-    def wait_later(self) -> Later[None]:
+    def wait_later(self) -> Future[None]:
         """`wait`, sent ahead."""
         reply = self.session.say(b'{"await":%d}\n' % self.number)
-        return Later([reply], f"waiting for run {self.number}", lambda texts: None)
+        return Future([reply], f"waiting for run {self.number}", lambda texts: None)
 
-    def values_later(self, array: Array) -> Later[np.ma.MaskedArray]:
+    def values_later(self, array: Array) -> Future[Values]:
         """`values`, sent ahead."""
         place = self.places(array)[0]
         if isinstance(place, Input):
-            held = self.base[place.number].values
-            if held is None:
-                raise BadInput(
-                    f"{self.base[place.number]} came from the log, and the program does not show base arrays"
-                )
-            values: np.ma.MaskedArray = held
-            return Later([], "", lambda texts: values)
+            values = self.base[place.number].values
+            return Future([], "", lambda texts: values)
         shape = self.shape(place)
         reply = self.session.say(b'{"show":%d,"node":%d}\n' % (self.number, place.number))
-        return Later([reply], f"taking the values of {place.op}", lambda texts: _values(texts[0], shape))
+        return Future([reply], f"taking the values of {place.op}", lambda texts: _values(texts[0], shape))
 
     def asked_later(
         self,
@@ -150,19 +207,19 @@ class Run:
         to: Array,
         path: Sequence[Sequence[int | Node]] | None = None,
         limit: int = MOST_PATHS,
-    ) -> Later[np.ndarray]:
+    ) -> Future[Mask]:
         """`back` or `forward`, sent ahead."""
         shape = self.shape(to)
         paths, lines = self._lines(b"ask", direction, array, cells, to, path, limit)
         doing = f"asking {direction}" + (f" along {len(paths)} paths" if len(paths) > 1 else "")
 
-        def read(texts: list[bytes]) -> np.ndarray:
+        def read(texts: list[bytes]) -> Mask:
             mask = np.zeros(shape, dtype=bool)
             for text in texts:
                 mask |= _mask(text, shape)
             return mask
 
-        return Later([self.session.say(line) for line in lines], doing, read)
+        return Future([self.session.say(line) for line in lines], doing, read)
 
     def explained_later(
         self,
@@ -173,28 +230,46 @@ class Run:
         direction: Direction = "back",
         path: Sequence[Sequence[int | Node]] | None = None,
         limit: int = MOST_PATHS,
-    ) -> Later[list[Explanation]]:
+    ) -> Future[list[Explanation]]:
         """`explain`, sent ahead."""
         paths, lines = self._lines(b"explain", direction, array, cells, to, path, limit)
 
         def read(texts: list[bytes]) -> list[Explanation]:
             return [self._explanation(one, direction, text) for one, text in zip(paths, texts)]
 
-        return Later([self.session.say(line) for line in lines], "explaining", read)
+        return Future([self.session.say(line) for line in lines], "explaining", read)
 
     def told(self, path: Path) -> str:
-        """A path in words."""
+        """A path in words, from the output back."""
         return told(self.flow, path)
 
     def places(self, array: Array) -> list[Place]:
-        """The places of an array in the flow: a base array may be taken as several inputs."""
+        """The places of an array in the flow: a base array may be taken as several inputs.
+
+        Raises BadInput where it is no array of the run.
+        """
+        if isinstance(array, str):
+            return self._named(array)
         if isinstance(array, (Input, Node)):
-            if array.flow is not self.flow:
+            if not array.flow.is_same(self.flow):
                 raise BadInput(f"{array} is of another flow than the run's")
-            return [array]
+            return [self.flow.inputs[array.number] if isinstance(array, Input) else self.flow.nodes[array.number]]
         places: list[Place] = [self.flow.inputs[number] for number, base in enumerate(self.base) if base is array]
         if not places:
-            raise BadInput(f"{array} is no array that the run was started on, and no node of its flow")
+            raise BadInput(f"{short(array)} is no array that the run was started on, and no node of its flow")
+        return places
+
+    def _named(self, name: str) -> list[Place]:
+        for node in self.flow.nodes:
+            if node.name == name:
+                return [node]
+        versions = {base.version for base in self.base if base.name == name}
+        if len(versions) > 1:
+            raise BadInput(f"the run has several versions of {name}: name one by session.arrays[{name!r}, version]")
+        places: list[Place] = [self.flow.inputs[at] for at, base in enumerate(self.base) if base.name == name]
+        if not places:
+            names = [node.name for node in self.flow.nodes if node.name] + [base.name for base in self.base]
+            raise BadInput(f"the run has no array named {short(name)}: it has {', '.join(dict.fromkeys(names))}")
         return places
 
     def _lines(
@@ -238,7 +313,7 @@ class Run:
         return Explanation(path, tuple((self.flow.nodes[node], way) for (node, _), way in zip(steps, ways)), int(count))
 
 
-def _values(text: bytes, shape: Shape) -> np.ma.MaskedArray:
+def _values(text: bytes, shape: Shape) -> Values:
     """The values of a `values` or `layers` reply, of the shape that is known from the flow."""
     numbers = 2 if text.startswith(b"values ") else 3
     words = text.split(b" ", numbers + 1)
@@ -249,7 +324,7 @@ def _values(text: bytes, shape: Shape) -> np.ma.MaskedArray:
     return np.ma.MaskedArray(values.reshape(shape), empty.reshape(shape))
 
 
-def _mask(text: bytes, shape: Shape) -> np.ndarray:
+def _mask(text: bytes, shape: Shape) -> Mask:
     """The cells of a `cells` reply as a boolean array of the shape."""
     word, count, *rest = text.split(b" ", 2)
     if word != b"cells":
