@@ -3,6 +3,7 @@ is kept by strategies drawn at random."""
 
 import unittest
 from typing import Any
+from unittest import mock
 
 import numpy as np
 
@@ -64,14 +65,28 @@ class Paths(unittest.TestCase):
             total = flow.add(total, total)
         run = self.session.start(flow, [self.base])
         with self.assertRaises(subzero.TooManyPaths) as caught:
-            run.back(total, (0, 0), to=self.base)
+            run.paths(total, to=self.base)
         self.assertEqual((caught.exception.count, caught.exception.limit), (2**20, 64))
         self.assertIn("1048576 paths", str(caught.exception))
         near = flow.nodes[2]
         self.assertEqual(len(run.paths(near, to=self.base)), 8)
+        run.wait()
         with self.assertRaises(subzero.TooManyPaths):
-            run.back(near, (0, 0), to=self.base, limit=7)
-        self.assertEqual(run.back(near, (0, 0), to=self.base, limit=8).sum(), 1)
+            run.explain(near, (0, 0), to=self.base, limit=7)
+        self.assertEqual(len(run.explain(near, (0, 0), to=self.base, limit=8)), 8)
+
+    def test_an_ask_over_a_million_paths_is_one_ask_a_source(self) -> None:
+        flow = self.session.flow("million")
+        total = flow.input(0)
+        for _ in range(20):
+            total = flow.add(total, total)
+        run = self.session.start(flow, [self.base])
+        sent = []
+        say = self.session.say
+        with mock.patch.object(self.session, "say", side_effect=lambda line: sent.append(line) or say(line)):
+            self.assertEqual(np.argwhere(run.back(total, [(0, 0), (2, 3)], to=self.base)).tolist(), [[0, 0], [2, 3]])
+            self.assertEqual(np.argwhere(run.forward(self.base, (4, 5), to=total)).tolist(), [[4, 5]])
+        self.assertEqual(len(sent), 80)
 
     def test_paths_that_are_none(self) -> None:
         flow = self.session.flow("none", inputs=2)
@@ -209,9 +224,9 @@ class RandomFlows(unittest.TestCase):
             for step, at in reversed(steps):
                 mask = reference.forward(step.op, step.parameters, [grids[source] for source in step.sources], at, mask)
             touched |= mask
-        got = run.back(node, asked, to=place, limit=1000)
+        got = run.back(node, asked, to=place)
         self.assertTrue(np.array_equal(got, behind.reshape(got.shape)), (node, place))
-        got = run.forward(place, hit, to=node, limit=1000)
+        got = run.forward(place, hit, to=node)
         self.assertTrue(np.array_equal(got, touched.reshape(got.shape)), (place, node))
 
     def test_random_flows(self) -> None:
