@@ -228,7 +228,7 @@ class Table(unittest.TestCase):
         run = self.session.start(flow, [base])
         self.assertEqual(len(subzero.suspects_table(run, labels, [], base)), 0)
         with self.assertRaisesRegex(subzero.BadInput, "no node of regions"):
-            subzero.suspects_table(run, flow.input(0), [], base)  # type: ignore[arg-type]
+            subzero.suspects_table(run, flow.input(0), [], base)
 
 
 def supported(op: str, p: dict[str, Any], grids: list[reference.Grid], number: int, mask: np.ndarray) -> np.ndarray:

@@ -43,7 +43,7 @@ def support(run: Run, array: Array, cells: Cells, to: Array) -> np.ndarray:
     return spread_later(run, "back", array, cells_of(cells, run.shape(array)), to, supports=True).result()
 
 
-def suspects_table(run: Run, labels: Node, bad: Cells, base: Array) -> np.ndarray:
+def suspects_table(run: Run, labels: Array, bad: Cells, base: Array) -> np.ndarray:
     """What stands behind each region of a run, and what could change it: a structured array of one row a region, in
     the order of their labels.
 
@@ -60,15 +60,16 @@ def suspects_table(run: Run, labels: Node, bad: Cells, base: Array) -> np.ndarra
     Raises BadInput where `labels` is no `regions` node, where no path leads from it back to `base`, and for cells out
     of range.
     """
-    if not isinstance(labels, Node) or labels.op != "regions":
-        raise BadInput(f"{labels} is no node of regions")
-    shape = run.shape(labels)
+    node = run.places(labels)[0]
+    if not isinstance(node, Node) or node.op != "regions":
+        raise BadInput(f"{node} is no node of regions")
+    shape = run.shape(node)
     where = mask_of(cells_of(bad, run.shape(base)), run.shape(base))
-    Spread(run, "back", labels, base)  # raises where no path leads there
-    values = run.values(labels).filled(0)
+    Spread(run, "back", node, [base])  # raises where no path leads there
+    values = run.values(node).filled(0)
     groups = _groups(values)
     counts = np.concatenate(
-        [_counted(run, labels, base, groups[at : at + _AT_ONCE], where) for at in range(0, len(groups), _AT_ONCE)]
+        [_counted(run, node, base, groups[at : at + _AT_ONCE], where) for at in range(0, len(groups), _AT_ONCE)]
         or [np.zeros((0, 3), dtype=np.int64)]
     )
     axes = ["layer", "row", "column"][-len(shape) :]
@@ -119,18 +120,25 @@ def spread_later(
 
     The first asks are sent ahead; those that want their answers are sent when the result is taken.
     """
-    spread = Spread(run, direction, array, to, supports=supports)
-    return Later(spread.begin(cells), f"asking {direction}", lambda texts: spread.end())
+    spread = Spread(run, direction, array, [to], supports=supports)
+
+    def end(texts: list[bytes]) -> np.ndarray:
+        masks = spread.end()
+        return np.logical_or.reduce([masks[place] for place in run.places(to) if place in masks])
+
+    return Later(spread.begin(cells), f"asking {direction}", end)
 
 
 def masks_between(
-    run: Run, direction: Direction, array: Array, cells: np.ndarray, to: Array, *, supports: bool = False
+    run: Run, direction: Direction, array: Array, cells: np.ndarray, to: Sequence[Array], *, supports: bool = False
 ) -> dict[Place, np.ndarray]:
-    """The set of cells in each array on the paths between `array` and `to`, both of them too, in the flow's order."""
+    """The set of cells in each array on the paths between `array` and those of `to`, their ends too, in the flow's
+    order.
+    """
     spread = Spread(run, direction, array, to, supports=supports, everywhere=True)
     spread.begin(cells)
-    spread.end()
-    return {place: spread.masks[place] for place in spread.chain}
+    masks = spread.end()
+    return {place: masks[place] for place in spread.chain}
 
 
 @dataclass(frozen=True)
@@ -175,10 +183,10 @@ def stretches(
 
 
 class Spread:
-    """A set of cells on its way from `array` to `to`, in one direction.
+    """A set of cells on its way from `array` to the arrays `to`, in one direction.
 
     With `supports` the set is that of the cells that could be changed (forward), or that fix the values (back); without
-    it the lineage. With `everywhere` the set of each array between is kept.
+    it the lineage. Its cells in the ends are kept, and with `everywhere` those in each array between.
     """
 
     def __init__(
@@ -186,7 +194,7 @@ class Spread:
         run: Run,
         direction: Direction,
         array: Array,
-        to: Array,
+        to: Sequence[Array],
         *,
         supports: bool = False,
         everywhere: bool = False,
@@ -196,49 +204,43 @@ class Spread:
         self._run = run
         self._direction: Direction = direction
         self._supports = supports
-        starts, goals = run.places(array), run.places(to)
-        outputs, bases = (starts, goals) if direction == "back" else (goals, starts)
-        chain = places_between(run.flow, outputs, bases)
+        starts, goals = run.places(array), [place for end in to for place in run.places(end)]
+        chain = places_between(run.flow, *((starts, goals) if direction == "back" else (goals, starts)))
         if not chain:
-            output, base = (array, to) if direction == "back" else (to, array)
+            ends = " or ".join(map(str, to))
+            output, base = (array, ends) if direction == "back" else (ends, array)
             raise BadInput(f"no path leads from {output} back to {base}")
         self.chain: list[Place] = chain
         self._starts = [place for place in starts if place in chain]
-        self._goals = [place for place in goals if place in chain]
-        joints = chain if everywhere else [*self._starts, *self._goals]
-        self._stretches = stretches(direction, chain, joints, by_steps_at="regions" if supports else None)
+        self._kept = chain if everywhere else [place for place in goals if place in chain]
+        self._stretches = stretches(
+            direction, chain, [*self._starts, *self._kept], by_steps_at="regions" if supports else None
+        )
         self._coming: dict[Place, list[tuple[Stretch, Reply]]] = {place: [] for place in self._stretches}
-        self._high: dict[Place, np.ndarray] = {}
-        self.masks: dict[Place, np.ndarray] = {}
-        self._kept = chain if everywhere else self._goals
+        self._high: dict[Node, np.ndarray] = {}
 
     def begin(self, cells: np.ndarray) -> list[Reply]:
         """Send the first asks, of these cells of `array`: whole numbers of shape (N, axes). Gives their replies."""
+        self._cells = cells
         for place in self._starts:
             for stretch in self._stretches[place]:
                 self._send(stretch, cells)
-            if place in self._kept:
-                self.masks[place] = mask_of(cells, self._run.shape(place))
         return [reply for coming in self._coming.values() for _, reply in coming]
 
-    def end(self) -> np.ndarray:
-        """The cells of `to`: take the replies and send the further asks, array by array."""
+    def end(self) -> dict[Place, np.ndarray]:
+        """The cells in each array that is kept: take the replies and send the further asks, array by array."""
+        masks: dict[Place, np.ndarray] = {}
         for place, onward in self._stretches.items():
-            if place in self._starts:
-                continue
-            mask = np.zeros(self._run.shape(place), dtype=bool)
+            shape = self._run.shape(place)
+            mask = mask_of(self._cells, shape) if place in self._starts else np.zeros(shape, dtype=bool)
             for stretch, reply in self._coming[place]:
                 mask |= self._answer(stretch, reply)
             if place in self._kept:
-                self.masks[place] = mask
-            if onward and mask.any():
-                cells = np.argwhere(mask)
+                masks[place] = mask
+            if place not in self._starts and mask.any():
                 for stretch in onward:
-                    self._send(stretch, cells)
-        found = np.zeros(self._run.shape(self._goals[0]), dtype=bool)
-        for place in self._goals:
-            found |= self.masks[place]
-        return found
+                    self._send(stretch, np.argwhere(mask))
+        return masks
 
     def _send(self, stretch: Stretch, cells: np.ndarray) -> None:
         if self._supports and self._direction == "forward":
