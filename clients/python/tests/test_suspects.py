@@ -364,36 +364,41 @@ class ByForce(unittest.TestCase):
         the dead pixel changed it; forward lineage has none of them.
         """
         seen = demo.field()
-        placed = changing = told = 0
-        for row, col in ((44, 22), (50, 41), (17, 24)):
+        placed = behind = changing = told = 0
+        for row, col in ((44, 22), (30, 10), (38, 52)):
             part = seen.image[row - 10 : row + 11, col - 10 : col + 11].copy()
             with subzero.Session() as session:
                 flow = session.flow("f")
                 smooth = flow.convolve(flow.clean(flow.input(0), t=demo.HOT), demo.KERNEL)
                 labels = flow.regions(smooth, t=demo.BRIGHT)
-                sound = session.start(flow, [session.array("sky", part)]).values(labels)
-                star = sound == sound[10, 10]
+                sky = session.array("sky", part)
+                run = session.start(flow, [sky])
+                sound = run.values(labels)
+                star = (sound == sound[10, 10]).filled(False)
                 self.assertGreater(sound[10, 10], 0)
+                behind += int(run.back(labels, star, to=sky).sum())
                 for at in np.ndindex(15, 15):
                     pixel = (at[0] + 3, at[1] + 3)
                     image = part.copy()
                     image[pixel] = np.ma.masked
                     sky = session.array("sky", image)
                     run = session.start(flow, [sky])
-                    changed = differs(run.values(labels), sound)
+                    found = run.values(labels)
+                    changed, high = differs(found, sound), (found > 0).filled(False)
                     suspects = run.suspects(pixel, sky, to=labels)
                     self.assertFalse((changed & ~suspects).any(), pixel)
                     placed += 1
                     if (changed & star).any():
                         changing += 1
-                        self.assertTrue((suspects & (run.values(labels) > 0)).any(), pixel)
-                        told += bool((run.forward(sky, pixel, to=labels) & (run.values(labels) > 0)).any())
+                        self.assertTrue((suspects & high).any(), pixel)
+                        told += bool((run.forward(sky, pixel, to=labels) & high).any())
         print(
             f"suspects: a dead pixel at {placed} places changed its star in {changing}; the suspects have the star in "
             f"all of these, forward lineage in {told}",
             file=sys.stderr,
         )
-        self.assertGreater(changing, 200)
+        self.assertEqual((changing, told), (behind, 0))
+        self.assertGreater(behind, 200)
 
 
 if __name__ == "__main__":
