@@ -1,0 +1,210 @@
+"""The tiles of a run: made stage by stage, and again where a program no longer holds one."""
+
+from __future__ import annotations
+
+import threading
+from collections.abc import Callable, Mapping, Sequence
+from concurrent.futures import ThreadPoolExecutor
+from dataclasses import dataclass
+from typing import Any
+
+import numpy as np
+
+from ..cells import Shape
+from ..faults import SubZeroError
+from ..flow import Input, Node, Place
+from .crew import Crew, side_by_side
+from .geometry import CUT, Rect, layers_of, whole
+from .grids import Spot
+from .orders import Ask, Key, Order, Show, flow_of, numbers_in, window_of
+from .seams import Labels, empty_labels, join, place_part
+from .sources import TiledArray
+from .stages import Plan, Stage
+from .windows import TilePlan, cells_of_tile, inputs_of
+
+_TRIES = 4
+
+
+@dataclass
+class Whole:
+    """The output of a node that is kept whole and is no `regions`: values and which are empty, of 3 axes."""
+
+    values: np.ndarray
+    empty: np.ndarray
+
+
+class Making:
+    """The tiles of one run."""
+
+    def __init__(
+        self,
+        number: int,
+        plan: Plan,
+        base: Sequence[TiledArray],
+        strategies: Mapping[int, Sequence[str]],
+        crew: Crew,
+        pool: ThreadPoolExecutor,
+    ) -> None:
+        self.number = number
+        self.plan = plan
+        self.base = base
+        self.crew = crew
+        self._strategies = strategies
+        self._pool = pool
+        self._labels: dict[int, Labels] = {}
+        self._wholes: dict[int, Whole] = {}
+        self._made = 0
+        self._turn = threading.Lock()
+
+    def labels(self, node: Node) -> Labels:
+        """The joined labels of a `regions`."""
+        self.make_before(self.plan.stage_of[node.number].number + 1)
+        return self._labels[node.number]
+
+    def make_before(self, stage: int) -> None:
+        """Make all that tiles of this stage take: what the stages before it keep."""
+        with self._turn:
+            while self._made < stage:
+                self._make(self.plan.stages[self._made])
+                self._made += 1
+
+    def values(self, place: Place, window: Rect) -> tuple[np.ndarray, np.ndarray]:
+        """The values in a window of an array of the flow, and which are empty, of 3 axes."""
+        if isinstance(place, Node) and place.number not in self.plan.kept:
+            return self._gathered(place, window)
+        if isinstance(place, Node):
+            self.make_before(self.plan.stage_of[place.number].number + 1)
+        return self._read(place, window)
+
+    def ask(self, stage: Stage, asks: Sequence[tuple[TilePlan, list[Ask]]], doing: str) -> list[list[Any]]:
+        """Put questions to tiles of a stage, side by side; gives the answers tile by tile."""
+        self.make_before(stage.number)
+        jobs: list[Callable[[], list[Any]]] = [
+            lambda plan=plan, asked=asked: self._tile(stage, plan, [], asked)[1] for plan, asked in asks  # type: ignore[misc]
+        ]
+        return side_by_side(self._pool, jobs, doing)
+
+    def _make(self, stage: Stage) -> None:
+        """Make what a stage keeps."""
+        keeps = [node for node in stage.members.nodes if node.number in stage.members.own and node.number in self.plan.kept]
+        parts: dict[int, list[tuple[Rect, np.ndarray]]] = {node.number: [] for node in keeps}
+        labels: dict[int, np.ndarray] = {}
+        for node in keeps:
+            shape = self.plan.shapes[node]
+            if node.op == CUT:
+                labels[node.number] = empty_labels(shape)
+            else:
+                room = (layers_of(shape), *shape[-2:])
+                self._wholes[node.number] = Whole(np.zeros(room, dtype=np.int64), np.zeros(room, dtype=bool))
+
+        def tile(plan: TilePlan) -> None:
+            taken = [node for node in keeps if node.number in plan.own]
+            shows = [self._show(stage, plan, node, plan.own[node.number]) for node in taken]
+            found, _ = self._tile(stage, plan, shows, [])
+            for node, (values, empty) in zip(taken, found):
+                rect = plan.own[node.number]
+                if node.op == CUT:
+                    different = place_part(labels[node.number], self.plan.shapes[node], rect, values)
+                    parts[node.number].append((rect, different))
+                else:
+                    at = np.s_[:, rect.top : rect.bottom, rect.left : rect.right]
+                    self._wholes[node.number].values[at] = values
+                    self._wholes[node.number].empty[at] = empty
+
+        wanted = [plan for plan in stage.tiles.values() if any(node.number in plan.own for node in keeps)]
+        jobs: list[Callable[[], None]] = [lambda plan=plan: tile(plan) for plan in wanted]  # type: ignore[misc]
+        side_by_side(self._pool, jobs, f"making stage {stage.number + 1} of {len(self.plan.stages)}")
+        for number, array in labels.items():
+            node = next(node for node in keeps if node.number == number)
+            self._labels[number] = join(self.plan.shapes[node], array, sorted(parts[number], key=lambda part: part[0]))
+
+    def _gathered(self, node: Node, window: Rect) -> tuple[np.ndarray, np.ndarray]:
+        """The values in a window of a node's output, taken from the tiles whose own they are."""
+        stage = self.plan.stage_of[node.number]
+        self.make_before(stage.number)
+        shape = (layers_of(self.plan.shapes[node]), window.height, window.width)
+        values, empty = np.zeros(shape, dtype=np.int64), np.zeros(shape, dtype=bool)
+
+        def tile(plan: TilePlan, part: Rect) -> None:
+            found, _ = self._tile(stage, plan, [self._show(stage, plan, node, part)], [])
+            to = part.moved(-window.top, -window.left)
+            at = np.s_[:, to.top : to.bottom, to.left : to.right]
+            values[at], empty[at] = found[0]
+
+        jobs: list[Callable[[], None]] = []
+        for plan in stage.tiles.values():
+            part = plan.own[node.number].common(window) if node.number in plan.own else None
+            if part is not None:
+                jobs.append(lambda plan=plan, part=part: tile(plan, part))  # type: ignore[misc]
+        side_by_side(self._pool, jobs, f"taking the values of {node.op}")
+        return values, empty
+
+    def _tile(
+        self, stage: Stage, plan: TilePlan, shows: list[Show], asks: list[Ask]
+    ) -> tuple[list[tuple[np.ndarray, np.ndarray]], list[Any]]:
+        """Parts of a tile's outputs and answers; the tile is made where no program holds it."""
+        key: Key = (self.number, stage.number, *plan.spot)
+        program = self._program(stage, plan.spot)
+        order: Order | None = None
+        why: Any = None
+        for _ in range(_TRIES):
+            state, found = self.crew.tile(program, key, shows, asks, order)
+            if state == "ok":
+                parts, answers = found
+                return parts, answers
+            if state == "fault":
+                raise SubZeroError(f"tile {plan.spot} of stage {stage.number}: {found}")
+            why = found or why
+            order = order or self._order(key, stage, plan)
+        raise SubZeroError(f"tile {plan.spot} of stage {stage.number} could not be made in {_TRIES} tries: {why}")
+
+    def _program(self, stage: Stage, spot: Spot) -> int:
+        wide = 1 + max(column for _, column in stage.tiles)
+        return (spot[0] * wide + spot[1]) % self.crew.count
+
+    def _order(self, key: Key, stage: Stage, plan: TilePlan) -> Order:
+        windows = []
+        for place, rect in inputs_of(stage.members, plan):
+            values, empty = self._read(place, rect)
+            shape = self.plan.shapes[place]
+            windows.append(window_of(self._name(place, rect), *(one.reshape(_local(shape, rect)) for one in (values, empty))))
+        flow, keep = flow_of(stage.members, plan, self._strategies)
+        return Order(key, flow, keep, windows, cells_of_tile(stage.members, plan))
+
+    def _name(self, place: Place, rect: Rect) -> tuple[Any, ...]:
+        """By what a program knows a window again."""
+        if isinstance(place, Input):
+            base = self.base[place.number]
+            return (base.name, base.version, *rect)
+        return (self.number, place.number, *rect)
+
+    def _read(self, place: Place, rect: Rect) -> tuple[np.ndarray, np.ndarray]:
+        """The values in a window of an array that is kept, and which are empty, of 3 axes."""
+        at = np.s_[:, rect.top : rect.bottom, rect.left : rect.right]
+        if isinstance(place, Input):
+            values, empty = self.base[place.number].read(rect)
+            room = (layers_of(self.plan.shapes[place]), rect.height, rect.width)
+            return values.reshape(room), empty.reshape(room)
+        if place.op == CUT:
+            labels = self._labels[place.number].values[at].astype(np.int64)
+            return labels, np.zeros(labels.shape, dtype=bool)
+        kept = self._wholes[place.number]
+        return kept.values[at], kept.empty[at]
+
+    def _show(self, stage: Stage, plan: TilePlan, node: Node, part: Rect) -> Show:
+        local = plan.local[node.number]
+        shape = (layers_of(self.plan.shapes[node]), local.height, local.width)
+        number = numbers_in(stage.members, plan)[node.number]
+        return Show(number, shape, part.moved(-local.top, -local.left))
+
+
+def window_rect(shape: Shape, window: Any) -> Rect | None:
+    """The rectangle that a caller's window is: two slices, of rows and of columns; None or () for all of it."""
+    if window is None:
+        return whole(shape)
+    rows, columns = (slice(*one.indices(size)) for one, size in zip(window, shape[-2:]))
+    return Rect(rows.start, rows.stop, columns.start, columns.stop)
+
+
+def _local(shape: Shape, rect: Rect) -> Shape:
+    return (*shape[:-2], rect.height, rect.width)

@@ -1,0 +1,99 @@
+"""Base arrays of any size, of which a window at a time is read."""
+
+from __future__ import annotations
+
+import os
+from dataclasses import dataclass, field
+from pathlib import Path
+from typing import Any, Protocol
+
+import numpy as np
+
+from ..cells import MOST_LAYERS, Shape, values_of
+from ..faults import BadInput
+from .geometry import Rect
+
+
+class Windows(Protocol):
+    """What is asked of an array: its shape, and its cells at slices of its axes."""
+
+    @property
+    def shape(self) -> Shape:
+        """2 or 3 sizes."""
+
+    def __getitem__(self, at: tuple[slice, ...]) -> Any:
+        """The cells there."""
+
+
+@dataclass(frozen=True, eq=False)
+class TiledArray:
+    """A base array of a mosaic: its name, its version from 1, and its shape. Its values stay where they are, and are
+    read when tiles are made."""
+
+    name: str
+    version: int
+    shape: Shape
+    _windows: Windows = field(repr=False)
+    _scale: float | None = field(repr=False, default=None)
+    _nan_is_empty: bool = field(repr=False, default=False)
+
+    def __str__(self) -> str:
+        return f"array {self.name} {self.version}"
+
+    def read(self, rect: Rect) -> tuple[np.ndarray, np.ndarray]:
+        """The values in a rectangle, int64, and which are empty, of the array's axes. Raises BadInput as
+        `Session.array`."""
+        at = (slice(None),) * (len(self.shape) - 2) + (slice(rect.top, rect.bottom), slice(rect.left, rect.right))
+        part = self._windows[at]
+        if hasattr(part, "compute"):
+            part = part.compute()
+        if self._nan_is_empty:
+            part = np.ma.masked_invalid(part, copy=False) if part.dtype.kind == "f" else part
+        try:
+            return values_of(part, self._scale)
+        except BadInput as fault:
+            raise BadInput(f"{self}, rows {rect.top} to {rect.bottom}, columns {rect.left} to {rect.right}: {fault}") from None
+
+
+class _Sections:
+    """The image of a FITS file, read in sections."""
+
+    def __init__(self, unit: Any) -> None:
+        self._unit = unit
+        self.shape: Shape = tuple(unit.shape)
+
+    def __getitem__(self, at: tuple[slice, ...]) -> Any:
+        return np.asarray(self._unit.section[at])
+
+
+def windows_of(values: Any) -> Windows:
+    """The windows of an array, or of a `.npy` or FITS file that is named. Raises BadInput."""
+    if isinstance(values, (str, os.PathLike)):
+        values = _opened(values)
+    if not (hasattr(values, "shape") and hasattr(values, "__getitem__")):
+        values = np.asarray(values)
+    shape = tuple(values.shape)
+    if len(shape) not in (2, 3):
+        raise BadInput(f"an array has 2 axes (row, column) or 3 (layer, row, column), and this one has {len(shape)}")
+    if 0 in shape:
+        raise BadInput(f"an array of shape {shape} has no cells")
+    if len(shape) == 3 and shape[0] > MOST_LAYERS:
+        raise BadInput(f"an array has at most {MOST_LAYERS} layers (its first axis), and this one has {shape[0]}")
+    windows: Windows = values
+    return windows
+
+
+def _opened(path: str | os.PathLike[str]) -> Any:
+    name = Path(path).name.lower()
+    if name.endswith(".npy"):
+        return np.load(path, mmap_mode="r", allow_pickle=False)
+    if name.removesuffix(".gz").endswith((".fits", ".fit", ".fts")):
+        try:
+            from astropy.io import fits
+        except ImportError:
+            raise BadInput("reading FITS needs astropy") from None
+        for unit in fits.open(path, memmap=True):
+            if unit.is_image and unit.header.get("NAXIS", 0) > 0:
+                return _Sections(unit)
+        raise BadInput(f"{path} has no image")
+    raise BadInput(f"{path} is no .npy and no FITS file")
