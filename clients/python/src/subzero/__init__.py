@@ -49,4 +49,8 @@ def __getattr__(name: str) -> object:
         import importlib
 
         return importlib.import_module("subzero.plot")
+    if name == "tiled":
+        from .tiles import tiled
+
+        return tiled
     raise AttributeError(f"module 'subzero' has no attribute {name!r}")

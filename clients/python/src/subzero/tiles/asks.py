@@ -7,7 +7,7 @@ that takes them, and of its answer the tile's own cells count. The step through 
 from __future__ import annotations
 
 from collections.abc import Iterator
-from dataclasses import dataclass
+from dataclasses import dataclass, replace
 from typing import Any
 
 import numpy as np
@@ -41,9 +41,9 @@ def image(making: Making, chain: Chain, cells: Indexes, *, forward: bool, wide: 
         return making.labels(chain.output).related(cells, wide, forward)
     stage, shapes = making.plan.stage_of[chain.output.number], making.plan.shapes
     tiles = list(_tiles(making, chain, cells, forward))
-    answers = making.ask(stage, [(tile.plan, [tile.ask]) for tile in tiles], f"asking {'forward' if forward else 'back'}")
+    answers = making.ask(stage, [(tile.plan, tile.ask) for tile in tiles], f"asking {'forward' if forward else 'back'}")
     parts = []
-    for tile, (found,) in zip(tiles, answers):
+    for tile, found in zip(tiles, answers):
         if forward:
             own, shape = tile.plan.own[chain.output.number], shapes[chain.output]
             parts.append(within(to_whole(found, shape, tile.output), own, shape))
@@ -61,10 +61,10 @@ def explained(making: Making, chain: Chain, cells: Indexes, *, forward: bool) ->
     if not tiles:
         plan = next(plan for plan in stage.tiles.values() if chain.output.number in plan.own)
         tiles = [_tile(making, chain, stage, plan, NONE, forward)]
-    asks = [(tile.plan, [Ask(**{**tile.ask.__dict__, "explain": True})]) for tile in tiles]
+    asks = [(tile.plan, replace(tile.ask, explain=True)) for tile in tiles]
     ways: list[str] = []
     traced = 0
-    for (text,) in making.ask(stage, asks, "explaining"):
+    for text in making.ask(stage, asks, "explaining"):
         _, *ways, _, count = text.split(" ")
         traced += int(count)
     return Steps(ways[::-1] if forward else ways, traced)
@@ -119,7 +119,9 @@ def _base_rect(chain: Chain, plan: TilePlan) -> Rect:
     return plan.local[chain.base.number] if window is None else window
 
 
-def follow(making: Making, chains: list[Chain], start: dict[Place, Indexes], *, forward: bool, wide: bool) -> dict[Place, Indexes]:
+def follow(
+    making: Making, chains: list[Chain], start: dict[Place, Indexes], *, forward: bool, wide: bool
+) -> dict[Place, Indexes]:
     """The cells to which these lead through all chains, of each array that is reached. `chains` begin at what is made
     last."""
     found: dict[Place, list[Indexes]] = {place: [cells] for place, cells in start.items()}
@@ -139,7 +141,9 @@ def along(making: Making, path: list[Chain], cells: Indexes, *, forward: bool) -
     return cells
 
 
-def explained_along(making: Making, path: list[Chain], cells: Indexes, *, forward: bool) -> tuple[list[tuple[Node, str]], int]:
+def explained_along(
+    making: Making, path: list[Chain], cells: Indexes, *, forward: bool
+) -> tuple[list[tuple[Node, str]], int]:
     """How an ask along one path is answered: each step in the order of the ask with its strategy, and the cells
     traced."""
     steps: list[tuple[Node, str]] = []

@@ -5,15 +5,13 @@ from __future__ import annotations
 import os
 from collections.abc import Callable, Sequence
 from concurrent.futures import FIRST_COMPLETED, Future, ThreadPoolExecutor, wait
-from typing import Protocol, TypeVar
+from typing import Protocol
 
 from .. import progress
 from ..program import find
 from .holder import Answer, Holder
-from .orders import Ask, Key, Order, Show
+from .orders import Request
 from .windows import Limits
-
-T = TypeVar("T")
 
 
 class Crew(Protocol):
@@ -21,8 +19,8 @@ class Crew(Protocol):
 
     count: int
 
-    def tile(self, number: int, key: Key, shows: list[Show], asks: list[Ask], order: Order | None) -> Answer:
-        """`Holder.tile` of a program. A program that is gone is replaced, and holds no tile then."""
+    def tiles(self, number: int, requests: list[Request]) -> list[Answer]:
+        """`Holder.tiles` of a program. A program that is gone is replaced, and holds no tile then."""
 
     def pids(self) -> list[int | None]:
         """The numbers of the programs' processes, None where none runs."""
@@ -42,9 +40,9 @@ class LocalCrew:
         self.count = count
         self._holders = [Holder(path, limits.cells, workers) for _ in range(count)]
 
-    def tile(self, number: int, key: Key, shows: list[Show], asks: list[Ask], order: Order | None) -> Answer:
-        """`Holder.tile` of a program."""
-        return self._holders[number].tile(key, shows, asks, order)
+    def tiles(self, number: int, requests: list[Request]) -> list[Answer]:
+        """`Holder.tiles` of a program."""
+        return self._holders[number].tiles(requests)
 
     def pids(self) -> list[int | None]:
         """The numbers of the programs' processes."""
@@ -66,12 +64,12 @@ def processors() -> int:
     return len(os.sched_getaffinity(0)) if hasattr(os, "sched_getaffinity") else os.cpu_count() or 1
 
 
-def side_by_side(pool: ThreadPoolExecutor, jobs: Sequence[Callable[[], T]], doing: str) -> list[T]:
-    """Do all jobs, some at the same time, and give their results in order; `doing` is shown on a terminal.
+def side_by_side(pool: ThreadPoolExecutor, jobs: Sequence[Callable[[], None]], doing: str) -> None:
+    """Do all jobs, some at the same time; `doing` is shown on a terminal.
 
     What a job raises is raised, and an interrupt too, once the jobs that had begun are over; the others are not begun.
     """
-    futures: list[Future[T]] = [pool.submit(job) for job in jobs]
+    futures: list[Future[None]] = [pool.submit(job) for job in jobs]
     try:
         with progress.shown(doing) as step:
             left = set(futures)
@@ -80,11 +78,10 @@ def side_by_side(pool: ThreadPoolExecutor, jobs: Sequence[Callable[[], T]], doin
                 for future in done:
                     future.result()
                 if not done:
-                    step._doing = f"{doing}, {len(futures) - len(left)} of {len(futures)} tiles"
+                    step._doing = f"{doing}, {len(futures) - len(left)} of {len(futures)}"
                     step.show()
     except BaseException:
         for future in futures:
             future.cancel()
         wait(futures)
         raise
-    return [future.result() for future in futures]

@@ -50,7 +50,9 @@ class Grid:
 
     def spots(self, rows: np.ndarray, columns: np.ndarray) -> np.ndarray:
         """The tiles whose own cells these are: of shape (N, 2)."""
-        found = [np.searchsorted(cuts, at, side="right") - 1 for cuts, at in ((self.rows, rows), (self.columns, columns))]
+        found = [
+            np.searchsorted(cuts, at, side="right") - 1 for cuts, at in ((self.rows, rows), (self.columns, columns))
+        ]
         return np.stack(found[::-1] if self.turned else found, axis=1)
 
     def spot(self, row: int, column: int) -> Spot:

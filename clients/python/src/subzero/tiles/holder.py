@@ -15,8 +15,9 @@ import numpy as np
 
 from ..faults import ProgramEnded, SubZeroError
 from ..numerals import read_cells, read_values
+from ..program import Reply
 from ..session import Session
-from .orders import Ask, Key, Order, Show, Window
+from .orders import Ask, Key, Order, Request, Show, Window
 from .windows import Limits
 
 Answer: TypeAlias = "tuple[Literal['ok', 'missing', 'ended', 'fault'], Any]"
@@ -38,6 +39,26 @@ class _Held:
     cells: int = 0
 
 
+@dataclass
+class _Sent:
+    """A request whose lines are sent: the replies to those that make the tile, None where it is missing; to its shows;
+    and to its asks."""
+
+    request: Request
+    made: list[Reply] | None
+    shown: list[Reply]
+    asked: list[Reply]
+
+    def taken(self) -> Answer:
+        """The answer, once all replies have come."""
+        if self.made is None:
+            return "missing", None
+        for reply in self.made:
+            reply.wait("making a tile")
+        parts = [_part(reply.wait("taking a tile"), show) for reply, show in zip(self.shown, self.request.shows)]
+        return "ok", (parts, [_answer(reply.wait("asking"), ask) for reply, ask in zip(self.asked, self.request.asks)])
+
+
 class Holder:
     """A program for tiles. Its calls give an `Answer`, and raise nothing that another process could not take."""
 
@@ -48,22 +69,33 @@ class Holder:
         self._held: _Held | None = None
         self._turn = threading.Lock()
 
-    def tile(self, key: Key, shows: list[Show], asks: list[Ask], order: Order | None) -> Answer:
-        """Give parts of a tile's outputs and answer questions to it; make it first where it is not held and there is an
-        order.
+    def tiles(self, requests: list[Request]) -> list[Answer]:
+        """Give parts of tiles' outputs and answer questions to them; make those first that are not held and have an
+        order. One answer for each request.
 
-        The result is two lists: of each show the values and which are empty, of 3 axes; of each ask the cells, (N, 3),
-        or the text of the explanation.
+        A result is two lists: of each show the values and which are empty, of 3 axes; of each ask the cells, (N, 3), or
+        the text of the explanation.
         """
         with self._turn:
+            answers: list[Answer] = []
+            sent: list[_Sent] = []
             try:
-                return self._tile(key, shows, asks, order)
+                for request in requests:
+                    if not self._fits(request):
+                        answers += [one.taken() for one in sent]
+                        sent = []
+                        self._renew()
+                    sent.append(self._send(request))
+                while sent:
+                    answers.append(sent[0].taken())
+                    sent = sent[1:]
             except ProgramEnded as fault:
                 self._end()
-                return "ended", str(fault)
+                answers += [("ended", str(fault))] * (len(requests) - len(answers))
             except SubZeroError as fault:
                 self._end()
-                return "fault", str(fault)
+                answers += [("fault", str(fault))] * (len(requests) - len(answers))
+            return answers
 
     def pid(self) -> Answer:
         """The number of the program's process, None where none runs."""
@@ -79,39 +111,42 @@ class Holder:
         """Stop the program at once."""
         held = self._held
         if held is not None:
-            held.session.kill()
+            held.session._program.kill()
 
-    def _tile(self, key: Key, shows: list[Show], asks: list[Ask], order: Order | None) -> Answer:
-        held = self._held
-        if held is None or key not in held.versions:
-            if order is None:
-                return "missing", None
-            held = self._room(order)
-            self._start(held, order)
-        version = held.versions[key]
-        shown = [held.session.say(b'{"show":%d,"node":%d}\n' % (version, show.node)) for show in shows]
-        asked = [held.session.say(ask.line(version)) for ask in asks]
-        parts = [_part(reply.wait("taking a tile"), show) for reply, show in zip(shown, shows)]
-        return "ok", (parts, [_answer(reply.wait("asking a tile"), ask) for reply, ask in zip(asked, asks)])
+    def _fits(self, request: Request) -> bool:
+        """Whether the tile is held, has no order, or fits into the running program."""
+        held, order = self._held, request.order
+        if order is None or (held is not None and request.key in held.versions):
+            return True
+        if held is None:
+            return False
+        new = [window for window in order.windows if window.name not in held.arrays]
+        known = sum(window.count for window in order.windows) - sum(window.count for window in new)
+        return (
+            held.cells + order.cells - known <= self._most
+            and held.sent + len(new) <= _MOST_ARRAYS
+            and len(held.flows) < _MOST_FLOWS
+            and held.started < _MOST_VERSIONS
+        )
 
-    def _room(self, order: Order) -> _Held:
-        """The running program where the tile fits into it, else a new one."""
-        held = self._held
-        if held is not None:
-            new = [window for window in order.windows if window.name not in held.arrays]
-            known = sum(window.count for window in order.windows) - sum(window.count for window in new)
-            if (
-                held.cells + order.cells - known <= self._most
-                and held.sent + len(new) <= _MOST_ARRAYS
-                and len(held.flows) < _MOST_FLOWS
-                and held.started < _MOST_VERSIONS
-            ):
-                return held
+    def _renew(self) -> None:
+        """End the program, and start a new one."""
         self._end()
         self._held = _Held(Session(program=self._program, workers=self._workers), {}, {}, {})
-        return self._held
 
-    def _start(self, held: _Held, order: Order) -> None:
+    def _send(self, request: Request) -> _Sent:
+        """Send all lines of a request."""
+        held = self._held
+        if held is None or (request.key not in held.versions and request.order is None):
+            return _Sent(request, None, [], [])
+        made = [] if request.key in held.versions or request.order is None else self._start(held, request.order)
+        version = held.versions[request.key]
+        shown = [held.session.say(b'{"show":%d,"node":%d}\n' % (version, show.node)) for show in request.shows]
+        return _Sent(request, made, shown, [held.session.say(ask.line(version)) for ask in request.asks])
+
+    def _start(self, held: _Held, order: Order) -> list[Reply]:
+        """Send the lines that make a tile. Versions and names are counted here, since nobody else talks to the
+        program."""
         replies = []
         for window in order.windows:
             if window.name not in held.arrays:
@@ -132,10 +167,8 @@ class Holder:
         held.started += 1
         replies.append(held.session.say(b'{"await":%d}\n' % held.started))
         held.cells += order.cells - sum(window.count for window in order.windows)
-        for reply in replies:
-            text = reply.wait("making a tile")
-        assert text == b"done %d" % held.started, text
         held.versions[order.key] = held.started
+        return replies
 
     def _end(self) -> None:
         held, self._held = self._held, None

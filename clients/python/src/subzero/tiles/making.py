@@ -6,6 +6,8 @@ import threading
 from collections.abc import Callable, Mapping, Sequence
 from concurrent.futures import ThreadPoolExecutor
 from dataclasses import dataclass
+from functools import partial
+from itertools import zip_longest
 from typing import Any
 
 import numpy as np
@@ -14,15 +16,16 @@ from ..cells import Shape
 from ..faults import SubZeroError
 from ..flow import Input, Node, Place
 from .crew import Crew, side_by_side
-from .geometry import CUT, Rect, layers_of, whole
+from .geometry import CUT, Rect, layers_of
 from .grids import Spot
-from .orders import Ask, Key, Order, Show, flow_of, numbers_in, window_of
+from .orders import Ask, Key, Order, Request, Show, flow_of, numbers_in, window_of
 from .seams import Labels, empty_labels, join, place_part
 from .sources import TiledArray
 from .stages import Plan, Stage
 from .windows import TilePlan, cells_of_tile, inputs_of
 
 _TRIES = 4
+_BATCH = 1 << 18
 
 
 @dataclass
@@ -31,6 +34,21 @@ class Whole:
 
     values: np.ndarray
     empty: np.ndarray
+
+    def put(self, rect: Rect, values: np.ndarray, empty: np.ndarray) -> None:
+        """Write a part of it."""
+        at = np.s_[:, rect.top : rect.bottom, rect.left : rect.right]
+        self.values[at], self.empty[at] = values, empty
+
+
+@dataclass
+class Want:
+    """What is wanted of a tile, and what takes it when it is there."""
+
+    plan: TilePlan
+    shows: list[Show]
+    asks: list[Ask]
+    take: Callable[[list[tuple[np.ndarray, np.ndarray]], list[Any]], None]
 
 
 class Making:
@@ -55,6 +73,7 @@ class Making:
         self._wholes: dict[int, Whole] = {}
         self._made = 0
         self._turn = threading.Lock()
+        self._held: set[Key] = set()
 
     def labels(self, node: Node) -> Labels:
         """The joined labels of a `regions`."""
@@ -76,17 +95,22 @@ class Making:
             self.make_before(self.plan.stage_of[place.number].number + 1)
         return self._read(place, window)
 
-    def ask(self, stage: Stage, asks: Sequence[tuple[TilePlan, list[Ask]]], doing: str) -> list[list[Any]]:
-        """Put questions to tiles of a stage, side by side; gives the answers tile by tile."""
+    def ask(self, stage: Stage, asks: Sequence[tuple[TilePlan, Ask]], doing: str) -> list[Any]:
+        """Put questions to tiles of a stage, side by side; gives the answers in their order."""
         self.make_before(stage.number)
-        jobs: list[Callable[[], list[Any]]] = [
-            lambda plan=plan, asked=asked: self._tile(stage, plan, [], asked)[1] for plan, asked in asks  # type: ignore[misc]
-        ]
-        return side_by_side(self._pool, jobs, doing)
+        answers: list[Any] = [None] * len(asks)
+
+        def take(at: int) -> Callable[[list[tuple[np.ndarray, np.ndarray]], list[Any]], None]:
+            return lambda parts, found: answers.__setitem__(at, found[0])
+
+        self._get(stage, [Want(plan, [], [ask], take(at)) for at, (plan, ask) in enumerate(asks)], doing)
+        return answers
 
     def _make(self, stage: Stage) -> None:
         """Make what a stage keeps."""
-        keeps = [node for node in stage.members.nodes if node.number in stage.members.own and node.number in self.plan.kept]
+        keeps = [
+            node for node in stage.members.nodes if node.number in stage.members.own and node.number in self.plan.kept
+        ]
         parts: dict[int, list[tuple[Rect, np.ndarray]]] = {node.number: [] for node in keeps}
         labels: dict[int, np.ndarray] = {}
         for node in keeps:
@@ -97,23 +121,24 @@ class Making:
                 room = (layers_of(shape), *shape[-2:])
                 self._wholes[node.number] = Whole(np.zeros(room, dtype=np.int64), np.zeros(room, dtype=bool))
 
-        def tile(plan: TilePlan) -> None:
+        def want(plan: TilePlan) -> Want:
             taken = [node for node in keeps if node.number in plan.own]
             shows = [self._show(stage, plan, node, plan.own[node.number]) for node in taken]
-            found, _ = self._tile(stage, plan, shows, [])
-            for node, (values, empty) in zip(taken, found):
-                rect = plan.own[node.number]
-                if node.op == CUT:
-                    different = place_part(labels[node.number], self.plan.shapes[node], rect, values)
-                    parts[node.number].append((rect, different))
-                else:
-                    at = np.s_[:, rect.top : rect.bottom, rect.left : rect.right]
-                    self._wholes[node.number].values[at] = values
-                    self._wholes[node.number].empty[at] = empty
+
+            def take(found: list[tuple[np.ndarray, np.ndarray]], _: list[Any]) -> None:
+                for node, (values, empty) in zip(taken, found):
+                    rect = plan.own[node.number]
+                    if node.op == CUT:
+                        different = place_part(labels[node.number], self.plan.shapes[node], rect, values)
+                        parts[node.number].append((rect, different))
+                    else:
+                        self._wholes[node.number].put(rect, values, empty)
+
+            return Want(plan, shows, [], take)
 
         wanted = [plan for plan in stage.tiles.values() if any(node.number in plan.own for node in keeps)]
-        jobs: list[Callable[[], None]] = [lambda plan=plan: tile(plan) for plan in wanted]  # type: ignore[misc]
-        side_by_side(self._pool, jobs, f"making stage {stage.number + 1} of {len(self.plan.stages)}")
+        doing = f"making stage {stage.number + 1} of {len(self.plan.stages)}"
+        self._get(stage, [want(plan) for plan in wanted], doing)
         for number, array in labels.items():
             node = next(node for node in keeps if node.number == number)
             self._labels[number] = join(self.plan.shapes[node], array, sorted(parts[number], key=lambda part: part[0]))
@@ -123,40 +148,69 @@ class Making:
         stage = self.plan.stage_of[node.number]
         self.make_before(stage.number)
         shape = (layers_of(self.plan.shapes[node]), window.height, window.width)
-        values, empty = np.zeros(shape, dtype=np.int64), np.zeros(shape, dtype=bool)
+        room = Whole(np.zeros(shape, dtype=np.int64), np.zeros(shape, dtype=bool))
 
-        def tile(plan: TilePlan, part: Rect) -> None:
-            found, _ = self._tile(stage, plan, [self._show(stage, plan, node, part)], [])
-            to = part.moved(-window.top, -window.left)
-            at = np.s_[:, to.top : to.bottom, to.left : to.right]
-            values[at], empty[at] = found[0]
+        def want(plan: TilePlan, part: Rect) -> Want:
+            return Want(
+                plan,
+                [self._show(stage, plan, node, part)],
+                [],
+                lambda found, _: room.put(part.moved(-window.top, -window.left), *found[0]),
+            )
 
-        jobs: list[Callable[[], None]] = []
+        wants = []
         for plan in stage.tiles.values():
             part = plan.own[node.number].common(window) if node.number in plan.own else None
             if part is not None:
-                jobs.append(lambda plan=plan, part=part: tile(plan, part))  # type: ignore[misc]
-        side_by_side(self._pool, jobs, f"taking the values of {node.op}")
-        return values, empty
+                wants.append(want(plan, part))
+        self._get(stage, wants, f"taking the values of {node.op}")
+        return room.values, room.empty
 
-    def _tile(
-        self, stage: Stage, plan: TilePlan, shows: list[Show], asks: list[Ask]
-    ) -> tuple[list[tuple[np.ndarray, np.ndarray]], list[Any]]:
-        """Parts of a tile's outputs and answers; the tile is made where no program holds it."""
-        key: Key = (self.number, stage.number, *plan.spot)
-        program = self._program(stage, plan.spot)
-        order: Order | None = None
+    def _get(self, stage: Stage, wants: list[Want], doing: str) -> None:
+        """Get what is wanted of tiles of a stage, side by side."""
+        batches: dict[int, list[tuple[int, list[Want]]]] = {}
+        for want in wants:
+            program = self._program(stage, want.plan.spot)
+            size = cells_of_tile(stage.members, want.plan)
+            mine = batches.setdefault(program, [])
+            if not mine or mine[-1][0] + size > _BATCH:
+                mine.append((0, []))
+            mine[-1] = (mine[-1][0] + size, [*mine[-1][1], want])
+        jobs: list[Callable[[], None]] = []
+        for turn in zip_longest(*([(program, batch) for _, batch in mine] for program, mine in batches.items())):
+            jobs += [partial(self._get_batch, stage, *one) for one in turn if one is not None]
+        side_by_side(self._pool, jobs, doing)
+
+    def _get_batch(self, stage: Stage, program: int, wants: list[Want]) -> None:
+        """Get what is wanted of tiles of one program; a tile that it does not hold is made."""
         why: Any = None
-        for _ in range(_TRIES):
-            state, found = self.crew.tile(program, key, shows, asks, order)
-            if state == "ok":
-                parts, answers = found
-                return parts, answers
-            if state == "fault":
-                raise SubZeroError(f"tile {plan.spot} of stage {stage.number}: {found}")
-            why = found or why
-            order = order or self._order(key, stage, plan)
-        raise SubZeroError(f"tile {plan.spot} of stage {stage.number} could not be made in {_TRIES} tries: {why}")
+        for turn in range(_TRIES):
+            requests = [self._request(stage, want, sure=turn == 0) for want in wants]
+            left = []
+            for want, (state, found) in zip(wants, self.crew.tiles(program, requests)):
+                key = self._key(stage, want.plan)
+                if state == "ok":
+                    self._held.add(key)
+                    want.take(*found)
+                elif state == "fault":
+                    raise SubZeroError(f"tile {want.plan.spot} of stage {stage.number}: {found}")
+                else:
+                    self._held.discard(key)
+                    why = found or why
+                    left.append(want)
+            wants = left
+            if not wants:
+                return
+        raise SubZeroError(f"tile {wants[0].plan.spot} of stage {stage.number} was not made in {_TRIES} tries: {why}")
+
+    def _request(self, stage: Stage, want: Want, sure: bool) -> Request:
+        """The request for a tile; without its order where a program surely holds it."""
+        key = self._key(stage, want.plan)
+        held = sure and key in self._held
+        return Request(key, want.shows, want.asks, None if held else self._order(key, stage, want.plan))
+
+    def _key(self, stage: Stage, plan: TilePlan) -> Key:
+        return self.number, stage.number, *plan.spot
 
     def _program(self, stage: Stage, spot: Spot) -> int:
         wide = 1 + max(column for _, column in stage.tiles)
@@ -167,7 +221,9 @@ class Making:
         for place, rect in inputs_of(stage.members, plan):
             values, empty = self._read(place, rect)
             shape = self.plan.shapes[place]
-            windows.append(window_of(self._name(place, rect), *(one.reshape(_local(shape, rect)) for one in (values, empty))))
+            windows.append(
+                window_of(self._name(place, rect), *(one.reshape(_local(shape, rect)) for one in (values, empty)))
+            )
         flow, keep = flow_of(stage.members, plan, self._strategies)
         return Order(key, flow, keep, windows, cells_of_tile(stage.members, plan))
 
@@ -196,14 +252,6 @@ class Making:
         shape = (layers_of(self.plan.shapes[node]), local.height, local.width)
         number = numbers_in(stage.members, plan)[node.number]
         return Show(number, shape, part.moved(-local.top, -local.left))
-
-
-def window_rect(shape: Shape, window: Any) -> Rect | None:
-    """The rectangle that a caller's window is: two slices, of rows and of columns; None or () for all of it."""
-    if window is None:
-        return whole(shape)
-    rows, columns = (slice(*one.indices(size)) for one, size in zip(window, shape[-2:]))
-    return Rect(rows.start, rows.stop, columns.start, columns.stop)
 
 
 def _local(shape: Shape, rect: Rect) -> Shape:

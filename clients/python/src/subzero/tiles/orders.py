@@ -78,6 +78,17 @@ class Ask:
         )
 
 
+@dataclass(frozen=True)
+class Request:
+    """What is wanted of a tile: parts of its outputs, and answers; with the order to make it by, where it may not be
+    held."""
+
+    key: Key
+    shows: list[Show]
+    asks: list[Ask]
+    order: Order | None
+
+
 def window_of(name: tuple[Any, ...], values: np.ndarray, empty: np.ndarray) -> Window:
     """The window of these values, int64 of 2 or 3 axes."""
     layers = values if values.ndim == 3 else values[None]

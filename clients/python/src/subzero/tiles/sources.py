@@ -52,7 +52,9 @@ class TiledArray:
         try:
             return values_of(part, self._scale)
         except BadInput as fault:
-            raise BadInput(f"{self}, rows {rect.top} to {rect.bottom}, columns {rect.left} to {rect.right}: {fault}") from None
+            raise BadInput(
+                f"{self}, rows {rect.top} to {rect.bottom}, columns {rect.left} to {rect.right}: {fault}"
+            ) from None
 
 
 class _Sections:
