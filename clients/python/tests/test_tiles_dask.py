@@ -12,6 +12,7 @@ from typing import Any
 import numpy as np
 
 import subzero
+from subzero.tiles import Mosaic
 from test_tiles import Both, draw_flow, some
 
 try:
@@ -73,7 +74,7 @@ class OnDask(unittest.TestCase):
             self.assertTrue(lost.is_set())
             both.check(self, draw, pairs=12)
 
-    def kill_one(self, mosaic: subzero.Mosaic, lost: threading.Event) -> None:
+    def kill_one(self, mosaic: Mosaic, lost: threading.Event) -> None:
         """Kill a worker process once its program runs."""
         until = time.monotonic() + 60
         while not any(mosaic.pids) and time.monotonic() < until:

@@ -15,9 +15,10 @@ from .windows import Limits
 
 
 class Crew(Protocol):
-    """So many programs, counted from 0."""
+    """So many programs, counted from 0, and how many of them are to work at the same time."""
 
     count: int
+    at_once: int
 
     def tiles(self, number: int, requests: list[Request]) -> list[Answer]:
         """`Holder.tiles` of a program. A program that is gone is replaced, and holds no tile then."""
@@ -38,6 +39,7 @@ class LocalCrew:
     def __init__(self, count: int, program: str | os.PathLike[str] | None, limits: Limits, workers: int | None) -> None:
         path = find(program)
         self.count = count
+        self.at_once = min(count, processors())
         self._holders = [Holder(path, limits.cells, workers) for _ in range(count)]
 
     def tiles(self, number: int, requests: list[Request]) -> list[Answer]:

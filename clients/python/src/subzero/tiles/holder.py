@@ -17,7 +17,7 @@ from ..faults import ProgramEnded, SubZeroError
 from ..numerals import read_cells, read_values
 from ..program import Reply
 from ..session import Session
-from .orders import Ask, Key, Order, Request, Show, Window
+from .orders import Ask, Key, Order, Request, Show
 from .windows import Limits
 
 Answer: TypeAlias = "tuple[Literal['ok', 'missing', 'ended', 'fault'], Any]"
@@ -150,7 +150,7 @@ class Holder:
         replies = []
         for window in order.windows:
             if window.name not in held.arrays:
-                replies.append(held.session.say(_array_line(window)))
+                replies.append(held.session.say(window.line()))
                 held.sent += 1
                 held.arrays[window.name] = held.sent
                 held.cells += window.count
@@ -177,11 +177,6 @@ class Holder:
                 held.session.close()
             except SubZeroError:
                 pass
-
-
-def _array_line(window: Window) -> bytes:
-    form = b"layers" if window.layered else b"array"
-    return b'{"%s":"a","cells":%s}\n' % (form, window.text)
 
 
 def _part(text: bytes, show: Show) -> tuple[np.ndarray, np.ndarray]:

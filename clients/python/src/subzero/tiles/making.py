@@ -12,13 +12,12 @@ from typing import Any
 
 import numpy as np
 
-from ..cells import Shape
 from ..faults import SubZeroError
 from ..flow import Input, Node, Place
 from .crew import Crew, side_by_side
 from .geometry import CUT, Rect, layers_of
 from .grids import Spot
-from .orders import Ask, Key, Order, Request, Show, flow_of, numbers_in, window_of
+from .orders import Ask, Key, Order, Request, Show, Window, flow_of, numbers_in
 from .seams import Labels, empty_labels, join, place_part
 from .sources import TiledArray
 from .stages import Plan, Stage
@@ -221,9 +220,9 @@ class Making:
         for place, rect in inputs_of(stage.members, plan):
             values, empty = self._read(place, rect)
             shape = self.plan.shapes[place]
-            windows.append(
-                window_of(self._name(place, rect), *(one.reshape(_local(shape, rect)) for one in (values, empty)))
-            )
+            room = (*shape[:-2], rect.height, rect.width)
+            holes = empty.reshape(room) if empty.any() else None
+            windows.append(Window(self._name(place, rect), values.reshape(room), holes))
         flow, keep = flow_of(stage.members, plan, self._strategies)
         return Order(key, flow, keep, windows, cells_of_tile(stage.members, plan))
 
@@ -252,7 +251,3 @@ class Making:
         shape = (layers_of(self.plan.shapes[node]), local.height, local.width)
         number = numbers_in(stage.members, plan)[node.number]
         return Show(number, shape, part.moved(-local.top, -local.left))
-
-
-def _local(shape: Shape, rect: Rect) -> Shape:
-    return (*shape[:-2], rect.height, rect.width)

@@ -16,7 +16,7 @@ from ..session import Session
 from .crew import Crew, LocalCrew, processors
 from .making import Making
 from .run import TiledRun
-from .sources import TiledArray, windows_of
+from .sources import TiledArray, check_kind, windows_of
 from .stages import plan_flow
 from .windows import Limits
 
@@ -32,7 +32,7 @@ class Mosaic:
         self._crew = crew
         self._judge = judge
         self._limits = limits
-        self._pool = ThreadPoolExecutor(min(crew.count, 64), thread_name_prefix="subzero tiles")
+        self._pool = ThreadPoolExecutor(crew.at_once, thread_name_prefix="subzero tiles")
         self._versions: dict[str, int] = {}
         self._kept: dict[str, dict[int, list[str]]] = {}
         self._runs = 0
@@ -65,6 +65,7 @@ class Mosaic:
         not be changed while it is in use. Raises BadInput.
         """
         windows = windows_of(values)
+        check_kind(windows, scale)
         version = self._versions[name_of(name)] = self._versions.get(name, 0) + 1
         return TiledArray(name, version, tuple(windows.shape), windows, scale, nan_is_empty)
 

@@ -38,7 +38,7 @@ class DaskCrew:
             raise BadInput("the Dask client is asynchronous: take one that waits")
         self._client = client
         self._arguments = (None if program is None else os.fspath(program), limits.cells, workers)
-        self.count = count or len(self._workers())
+        self.count = self.at_once = count or len(self._workers())
         self._actors: list[Any] = [None] * self.count
         self._futures: list[Any] = [None] * self.count
         self._turns = [threading.Lock() for _ in range(self.count)]

@@ -35,12 +35,25 @@ class Order:
 
 @dataclass
 class Window:
-    """Cells of a kept array as one line of text; `count` is how many they are, `layered` whether it is of 3 axes."""
+    """Cells of a kept array, int64 of 2 or 3 axes, and which of them are empty, or None."""
 
     name: tuple[Any, ...]
-    text: bytes
-    layered: bool
-    count: int
+    values: np.ndarray
+    empty: np.ndarray | None
+
+    @property
+    def count(self) -> int:
+        """How many cells they are."""
+        return self.values.size
+
+    def line(self) -> bytes:
+        """The line that hands them in."""
+        layers = self.values if self.values.ndim == 3 else self.values[None]
+        holes = None if self.empty is None else self.empty.reshape(layers.shape)
+        texts = [rows_text(layer, None if holes is None else holes[at]) for at, layer in enumerate(layers)]
+        if self.values.ndim == 3:
+            return b'{"layers":"a","cells":[%s]}\n' % b",".join(texts)
+        return b'{"array":"a","cells":%s}\n' % texts[0]
 
 
 @dataclass(frozen=True)
@@ -87,15 +100,6 @@ class Request:
     shows: list[Show]
     asks: list[Ask]
     order: Order | None
-
-
-def window_of(name: tuple[Any, ...], values: np.ndarray, empty: np.ndarray) -> Window:
-    """The window of these values, int64 of 2 or 3 axes."""
-    layers = values if values.ndim == 3 else values[None]
-    holes = empty.reshape(layers.shape) if empty.any() else None
-    texts = [rows_text(layer, None if holes is None else holes[at]) for at, layer in enumerate(layers)]
-    text = b"[%s]" % b",".join(texts) if values.ndim == 3 else texts[0]
-    return Window(name, text, values.ndim == 3, values.size)
 
 
 def numbers_in(members: Members, plan: TilePlan) -> dict[int, int]:

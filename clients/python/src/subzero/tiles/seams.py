@@ -78,13 +78,17 @@ def empty_labels(shape: Shape) -> np.ndarray:
 def place_part(labels: np.ndarray, shape: Shape, rect: Rect, local: np.ndarray) -> np.ndarray:
     """Write a tile's own labels, as its program gave them, into those of the whole; gives the different ones, which
     rise."""
-    found, place = np.unique(local, return_inverse=True)
-    height, width = rect.height, rect.width
-    layers, rows, columns = apart(np.maximum(found - 1, 0), (height, width))
-    moved = np.where(found > 0, 1 + together(layers, rows + rect.top, columns + rect.left, shape), 0)
-    part = moved[place].reshape(layers_of(shape), height, width)
+    numbers = local.reshape(-1)
+    stands = np.zeros(numbers.size + 1, dtype=bool)
+    stands[numbers] = True
+    stands[0] = False
+    found = np.flatnonzero(stands)
+    layers, rows, columns = apart(found - 1, (rect.height, rect.width))
+    different: np.ndarray = 1 + together(layers, rows + rect.top, columns + rect.left, shape)
+    moved = np.zeros(stands.size, dtype=labels.dtype)
+    moved[found] = different
+    part = moved[numbers].reshape(layers_of(shape), rect.height, rect.width)
     labels[:, rect.top : rect.bottom, rect.left : rect.right] = part
-    different: np.ndarray = moved[moved > 0]
     return different
 
 

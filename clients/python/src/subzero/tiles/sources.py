@@ -85,6 +85,13 @@ def windows_of(values: Any) -> Windows:
     return windows
 
 
+def check_kind(windows: Windows, scale: float | None) -> None:
+    """Refuse at once values of a kind that would be refused when tiles are made. Raises BadInput."""
+    kind = getattr(windows, "dtype", None)
+    if kind is not None and kind != object:
+        values_of(np.zeros((1, 1), dtype=kind), scale)
+
+
 def _opened(path: str | os.PathLike[str]) -> Any:
     name = Path(path).name.lower()
     if name.endswith(".npy"):
