@@ -380,11 +380,10 @@ class Fit(unittest.TestCase):
         def blocks(flow: subzero.Flow) -> None:
             flow.block(flow.clean(flow.input(0), 5), "sum", 700, 900)
 
-        for build, further in ((chain, None), (turned, {0}), (far, {0}), (blocks, set())):
+        for build, further in ((chain, 4), (turned, 1), (far, 1), (blocks, 1)):
             with self.subTest(flow=build.__name__):
                 plan, flow = self.planned(build, [(8192, 8192)], 800)
-                if further is not None:
-                    self.assertEqual(plan.kept, further)
+                self.assertLessEqual(len(plan.kept), further)
                 for stage in plan.stages:
                     self.assertGreaterEqual(stage.side, 200)
                     for tile in stage.tiles.values():

@@ -14,9 +14,9 @@ from ..flow import Flow, Input, Node, Place
 from ..paths import Path, path_of, paths_between, told
 from ..run import MOST_PATHS, Direction, Explanation
 from .asks import along, explained_along, follow
-from .cellsets import Indexes, indexes_of, listed, mask_of
+from .cellsets import Indexes, indexes_of, listed, mask_of, union
 from .chains import Chain, chains_along, chains_between
-from .geometry import rect_of, whole
+from .geometry import Rect, rect_of, whole
 from .making import Making
 from .sources import TiledArray
 
@@ -210,8 +210,6 @@ class TiledRun:
         start: dict[Place, Indexes] = {place: cells for place in bases} if forward else {last: cells}
         found = follow(self._making, chains, start, forward=forward, wide=wide)
         wanted = [last] if forward else bases
-        from .cellsets import union
-
         return union([found[place] for place in wanted if place in found])
 
     def _along(self, path: Path) -> list[Chain]:
@@ -226,8 +224,12 @@ class TiledRun:
         return path
 
 
-def _rect(window: Window, shape: Shape):
-    if len(window) != 2 or not all(isinstance(one, slice) and one.step in (None, 1) for one in window):
+def _rect(window: Window, shape: Shape) -> Rect:
+    if (
+        not isinstance(window, tuple)
+        or len(window) != 2
+        or not all(isinstance(one, slice) and one.step in (None, 1) for one in window)
+    ):
         raise BadInput("a window is two slices without a step, of rows and of columns: numpy.s_[100:200, 50:80]")
     rows, columns = (one.indices(size) for one, size in zip(window, shape[-2:]))
     rect = rect_of(rows[0], rows[1], columns[0], columns[1])

@@ -3,6 +3,7 @@
 from __future__ import annotations
 
 import os
+from collections.abc import Callable
 from dataclasses import dataclass, field
 from pathlib import Path
 from typing import Any, Protocol
@@ -58,14 +59,19 @@ class TiledArray:
 
 
 class _Sections:
-    """The image of a FITS file, read in sections."""
+    """An image of a FITS file whose values have to be scaled, read in sections: `opened` opens the file anew."""
 
-    def __init__(self, unit: Any) -> None:
-        self._unit = unit
-        self.shape: Shape = tuple(unit.shape)
+    def __init__(self, opened: Callable[[], Any], number: int) -> None:
+        self._opened = opened
+        self._number = number
+        with opened() as units:
+            self.shape: Shape = tuple(units[number].shape)
+        self.dtype = self[(slice(0, 1),) * len(self.shape)].dtype
 
     def __getitem__(self, at: tuple[slice, ...]) -> Any:
-        return np.asarray(self._unit.section[at])
+        with self._opened() as units:
+            unit = units[self._number]
+            return np.array(unit.section[at] if hasattr(unit, "section") else unit.data[at])
 
 
 def windows_of(values: Any) -> Windows:
@@ -97,12 +103,21 @@ def _opened(path: str | os.PathLike[str]) -> Any:
     if name.endswith(".npy"):
         return np.load(path, mmap_mode="r", allow_pickle=False)
     if name.removesuffix(".gz").endswith((".fits", ".fit", ".fts")):
-        try:
-            from astropy.io import fits
-        except ImportError:
-            raise BadInput("reading FITS needs astropy") from None
-        for unit in fits.open(path, memmap=True):
-            if unit.is_image and unit.header.get("NAXIS", 0) > 0:
-                return _Sections(unit)
-        raise BadInput(f"{path} has no image")
+        return _image_of(path)
     raise BadInput(f"{path} is no .npy and no FITS file")
+
+
+def _image_of(path: str | os.PathLike[str]) -> Any:
+    """The first image of a FITS file, read where it is asked for."""
+    try:
+        from astropy.io import fits
+    except ImportError:
+        raise BadInput("reading FITS needs astropy") from None
+    with fits.open(path, memmap=True) as units:
+        images = [at for at, unit in enumerate(units) if unit.is_image and unit.header.get("NAXIS", 0) > 0]
+        if not images:
+            raise BadInput(f"{path} has no image")
+        scaled = any(word in units[images[0]].header for word in ("BZERO", "BSCALE", "BLANK"))
+        if not scaled:
+            return units[images[0]].data
+    return _Sections(lambda: fits.open(path, memmap=False), images[0])
