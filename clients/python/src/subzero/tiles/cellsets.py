@@ -5,14 +5,15 @@ A question about one cell of a large image so costs what is found, and not what 
 
 from __future__ import annotations
 
-from typing import TypeAlias
+from typing import Any, TypeAlias
 
 import numpy as np
+from numpy.typing import NDArray
 
 from ..cells import Cells, Shape, cells_of
 from .geometry import Rect, layers_of
 
-Indexes: TypeAlias = "np.ndarray"
+Indexes: TypeAlias = NDArray[Any]
 """Rising row-major indexes of cells of an array, int64, each once."""
 
 NONE = np.zeros(0, dtype=np.int64)
@@ -23,23 +24,26 @@ def indexes_of(cells: Cells, shape: Shape) -> Indexes:
     given = np.asarray(cells)
     if given.dtype == bool and given.shape == shape:
         return np.flatnonzero(given)
-    listed = cells_of(cells, shape)
-    return np.unique(np.ravel_multi_index(tuple(listed.T), shape)).astype(np.int64) if len(listed) else NONE
+    one_by_one = cells_of(cells, shape)
+    if not len(one_by_one):
+        return NONE
+    found: Indexes = np.unique(np.ravel_multi_index(tuple(one_by_one.T), shape)).astype(np.int64)
+    return found
 
 
-def mask_of(indexes: Indexes, shape: Shape) -> np.ndarray:
+def mask_of(indexes: Indexes, shape: Shape) -> NDArray[Any]:
     """The boolean array of the shape that is True in these cells."""
     mask = np.zeros(shape, dtype=bool)
     mask.reshape(-1)[indexes] = True
     return mask
 
 
-def listed(indexes: Indexes, shape: Shape) -> np.ndarray:
+def listed(indexes: Indexes, shape: Shape) -> NDArray[Any]:
     """The cells one by one, int64 of shape (N, axes)."""
     return np.stack(np.unravel_index(indexes, shape), axis=1).astype(np.int64).reshape(-1, len(shape))
 
 
-def apart(indexes: Indexes, shape: Shape) -> tuple[np.ndarray, np.ndarray, np.ndarray]:
+def apart(indexes: Indexes, shape: Shape) -> tuple[NDArray[Any], NDArray[Any], NDArray[Any]]:
     """The layers, rows and columns of cells."""
     height, width = shape[-2:]
     rows, columns = np.divmod(indexes, width)
@@ -47,10 +51,10 @@ def apart(indexes: Indexes, shape: Shape) -> tuple[np.ndarray, np.ndarray, np.nd
     return layers, rows, columns
 
 
-def together(layers: np.ndarray, rows: np.ndarray, columns: np.ndarray, shape: Shape) -> Indexes:
+def together(layers: NDArray[Any], rows: NDArray[Any], columns: NDArray[Any], shape: Shape) -> Indexes:
     """The row-major indexes of cells, in their order."""
     height, width = shape[-2:]
-    found: np.ndarray = (layers * height + rows) * width + columns
+    found: NDArray[Any] = (layers * height + rows) * width + columns
     return found
 
 
@@ -59,7 +63,8 @@ def union(parts: list[Indexes]) -> Indexes:
     parts = [part for part in parts if part.size]
     if len(parts) <= 1:
         return parts[0] if parts else NONE
-    return np.unique(np.concatenate(parts))
+    every: Indexes = np.unique(np.concatenate(parts))
+    return every
 
 
 def within(indexes: Indexes, rect: Rect, shape: Shape) -> Indexes:
@@ -75,13 +80,13 @@ def within(indexes: Indexes, rect: Rect, shape: Shape) -> Indexes:
     return parts[0] if len(parts) == 1 else np.concatenate(parts)
 
 
-def to_local(indexes: Indexes, shape: Shape, rect: Rect) -> np.ndarray:
+def to_local(indexes: Indexes, shape: Shape, rect: Rect) -> NDArray[Any]:
     """Cells as the array of a tile counts them that holds `rect` alone: (N, 3), layer, row, column."""
     layers, rows, columns = apart(indexes, shape)
     return np.stack([layers, rows - rect.top, columns - rect.left], axis=1)
 
 
-def to_whole(cells: np.ndarray, shape: Shape, rect: Rect) -> Indexes:
+def to_whole(cells: NDArray[Any], shape: Shape, rect: Rect) -> Indexes:
     """The cells, (N, 3), of a tile's array that holds `rect`, as indexes of the whole."""
     return np.sort(together(cells[:, 0], cells[:, 1] + rect.top, cells[:, 2] + rect.left, shape))
 

@@ -8,9 +8,10 @@ from __future__ import annotations
 
 from bisect import bisect_right
 from dataclasses import dataclass
-from typing import TypeAlias
+from typing import Any, TypeAlias
 
 import numpy as np
+from numpy.typing import NDArray
 
 from ..cells import Shape
 from ..flow import Node
@@ -48,7 +49,7 @@ class Grid:
         row, column = reversed(spot) if self.turned else spot
         return rect_of(self.rows[row], self.rows[row + 1], self.columns[column], self.columns[column + 1])
 
-    def spots(self, rows: np.ndarray, columns: np.ndarray) -> np.ndarray:
+    def spots(self, rows: NDArray[Any], columns: NDArray[Any]) -> NDArray[Any]:
         """The tiles whose own cells these are: of shape (N, 2)."""
         found = [
             np.searchsorted(cuts, at, side="right") - 1 for cuts, at in ((self.rows, rows), (self.columns, columns))

@@ -12,6 +12,7 @@ from dataclasses import dataclass
 from typing import Any, Literal, TypeAlias
 
 import numpy as np
+from numpy.typing import NDArray
 
 from ..faults import ProgramEnded, SubZeroError
 from ..numerals import read_cells, read_values
@@ -179,7 +180,7 @@ class Holder:
                 pass
 
 
-def _part(text: bytes, show: Show) -> tuple[np.ndarray, np.ndarray]:
+def _part(text: bytes, show: Show) -> tuple[NDArray[Any], NDArray[Any]]:
     """The wanted part of a node's output: values and which are empty, of 3 axes."""
     words = text.split(b" ", 3 if text.startswith(b"values ") else 4)
     size = int(np.prod(show.shape))

@@ -11,6 +11,7 @@ from itertools import zip_longest
 from typing import Any
 
 import numpy as np
+from numpy.typing import NDArray
 
 from ..faults import SubZeroError
 from ..flow import Input, Node, Place
@@ -31,10 +32,10 @@ _BATCH = 1 << 18
 class Whole:
     """The output of a node that is kept whole and is no `regions`: values and which are empty, of 3 axes."""
 
-    values: np.ndarray
-    empty: np.ndarray
+    values: NDArray[Any]
+    empty: NDArray[Any]
 
-    def put(self, rect: Rect, values: np.ndarray, empty: np.ndarray) -> None:
+    def put(self, rect: Rect, values: NDArray[Any], empty: NDArray[Any]) -> None:
         """Write a part of it."""
         at = np.s_[:, rect.top : rect.bottom, rect.left : rect.right]
         self.values[at], self.empty[at] = values, empty
@@ -47,7 +48,7 @@ class Want:
     plan: TilePlan
     shows: list[Show]
     asks: list[Ask]
-    take: Callable[[list[tuple[np.ndarray, np.ndarray]], list[Any]], None]
+    take: Callable[[list[tuple[NDArray[Any], NDArray[Any]]], list[Any]], None]
 
 
 class Making:
@@ -86,7 +87,7 @@ class Making:
                 self._make(self.plan.stages[self._made])
                 self._made += 1
 
-    def values(self, place: Place, window: Rect) -> tuple[np.ndarray, np.ndarray]:
+    def values(self, place: Place, window: Rect) -> tuple[NDArray[Any], NDArray[Any]]:
         """The values in a window of an array of the flow, and which are empty, of 3 axes."""
         if isinstance(place, Node) and place.number not in self.plan.kept:
             return self._gathered(place, window)
@@ -99,7 +100,7 @@ class Making:
         self.make_before(stage.number)
         answers: list[Any] = [None] * len(asks)
 
-        def take(at: int) -> Callable[[list[tuple[np.ndarray, np.ndarray]], list[Any]], None]:
+        def take(at: int) -> Callable[[list[tuple[NDArray[Any], NDArray[Any]]], list[Any]], None]:
             return lambda parts, found: answers.__setitem__(at, found[0])
 
         self._get(stage, [Want(plan, [], [ask], take(at)) for at, (plan, ask) in enumerate(asks)], doing)
@@ -110,8 +111,8 @@ class Making:
         keeps = [
             node for node in stage.members.nodes if node.number in stage.members.own and node.number in self.plan.kept
         ]
-        parts: dict[int, list[tuple[Rect, np.ndarray]]] = {node.number: [] for node in keeps}
-        labels: dict[int, np.ndarray] = {}
+        parts: dict[int, list[tuple[Rect, NDArray[Any]]]] = {node.number: [] for node in keeps}
+        labels: dict[int, NDArray[Any]] = {}
         for node in keeps:
             shape = self.plan.shapes[node]
             if node.op == CUT:
@@ -124,7 +125,7 @@ class Making:
             taken = [node for node in keeps if node.number in plan.own]
             shows = [self._show(stage, plan, node, plan.own[node.number]) for node in taken]
 
-            def take(found: list[tuple[np.ndarray, np.ndarray]], _: list[Any]) -> None:
+            def take(found: list[tuple[NDArray[Any], NDArray[Any]]], _: list[Any]) -> None:
                 for node, (values, empty) in zip(taken, found):
                     rect = plan.own[node.number]
                     if node.op == CUT:
@@ -142,7 +143,7 @@ class Making:
             node = next(node for node in keeps if node.number == number)
             self._labels[number] = join(self.plan.shapes[node], array, sorted(parts[number], key=lambda part: part[0]))
 
-    def _gathered(self, node: Node, window: Rect) -> tuple[np.ndarray, np.ndarray]:
+    def _gathered(self, node: Node, window: Rect) -> tuple[NDArray[Any], NDArray[Any]]:
         """The values in a window of a node's output, taken from the tiles whose own they are."""
         stage = self.plan.stage_of[node.number]
         self.make_before(stage.number)
@@ -233,7 +234,7 @@ class Making:
             return (base.name, base.version, *rect)
         return (self.number, place.number, *rect)
 
-    def _read(self, place: Place, rect: Rect) -> tuple[np.ndarray, np.ndarray]:
+    def _read(self, place: Place, rect: Rect) -> tuple[NDArray[Any], NDArray[Any]]:
         """The values in a window of an array that is kept, and which are empty, of 3 axes."""
         at = np.s_[:, rect.top : rect.bottom, rect.left : rect.right]
         if isinstance(place, Input):

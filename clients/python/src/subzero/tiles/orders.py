@@ -7,7 +7,7 @@ from collections.abc import Mapping, Sequence
 from dataclasses import dataclass
 from typing import Any, TypeAlias
 
-import numpy as np
+from numpy.typing import NDArray
 
 from ..flow import Node, Place
 from ..numerals import cells_text, rows_text
@@ -38,8 +38,8 @@ class Window:
     """Cells of a kept array, int64 of 2 or 3 axes, and which of them are empty, or None."""
 
     name: tuple[Any, ...]
-    values: np.ndarray
-    empty: np.ndarray | None
+    values: NDArray[Any]
+    empty: NDArray[Any] | None
 
     @property
     def count(self) -> int:
@@ -73,7 +73,7 @@ class Ask:
 
     forward: bool
     path: tuple[Edge, ...]
-    cells: np.ndarray
+    cells: NDArray[Any]
     layered: bool
     explain: bool = False
 

@@ -4,9 +4,10 @@ from __future__ import annotations
 
 from collections.abc import Sequence
 from dataclasses import dataclass
-from typing import TypeAlias
+from typing import Any, TypeAlias
 
 import numpy as np
+from numpy.typing import NDArray
 
 from ..cells import Cells, Shape
 from ..faults import BadInput
@@ -84,7 +85,7 @@ class TiledRun:
         """The shape of an array of the run: (height, width), or (layers, height, width)."""
         return self._making.plan.shapes[self.places(array)[0]]
 
-    def values(self, array: Array, window: Window | None = None) -> np.ma.MaskedArray:
+    def values(self, array: Array, window: Window | None = None) -> np.ma.MaskedArray[Any, Any]:
         """The values of an array of the run in a window, or all of them: int64 of the window's shape, all layers; empty
         cells are masked, and hold 0.
 
@@ -94,7 +95,7 @@ class TiledRun:
         rect = whole(shape) if window is None else _rect(window, shape)
         values, empty = self._making.values(place, rect)
         room = (*shape[:-2], rect.height, rect.width)
-        return np.ma.MaskedArray(values.reshape(room), empty.reshape(room))
+        return np.ma.MaskedArray(values.reshape(room), empty.reshape(room))  # type: ignore[no-untyped-call]
 
     def paths(self, array: Array, *, to: Array, limit: int = MOST_PATHS) -> list[Path]:
         """All paths from `array` back to `to`. Raises BadInput where there is none, TooManyPaths above `limit`."""
@@ -113,7 +114,7 @@ class TiledRun:
         to: Array,
         path: Sequence[Sequence[int | Node]] | None = None,
         as_cells: bool = False,
-    ) -> np.ndarray:
+    ) -> NDArray[Any]:
         """Which cells of `to` stand behind these cells of `array`, over all paths between the two or along one `path`.
 
         Gives a boolean array of the shape of `to`; with `as_cells` the cells one by one, int64 of shape (N, axes).
@@ -129,17 +130,17 @@ class TiledRun:
         to: Array,
         path: Sequence[Sequence[int | Node]] | None = None,
         as_cells: bool = False,
-    ) -> np.ndarray:
+    ) -> NDArray[Any]:
         """Which cells of `to` these cells of `array` touched. As `back`, and a `path` is told in the same way, from the
         output `to` back to `array`."""
         return self._asked(to, array, cells, to=to, path=path, as_cells=as_cells, forward=True)
 
-    def suspects(self, bad: Cells, base: Array, *, to: Array, as_cells: bool = False) -> np.ndarray:
+    def suspects(self, bad: Cells, base: Array, *, to: Array, as_cells: bool = False) -> NDArray[Any]:
         """Which cells of `to` could be others, whatever these cells of `base` would have held. As `forward`, but that a
         region can also be changed by the four neighbours of its cells."""
         return self._asked(to, base, bad, to=to, path=None, as_cells=as_cells, forward=True, wide=True)
 
-    def support(self, array: Array, cells: Cells, *, to: Array, as_cells: bool = False) -> np.ndarray:
+    def support(self, array: Array, cells: Cells, *, to: Array, as_cells: bool = False) -> NDArray[Any]:
         """Which cells of `to` fix the values of these cells of `array`: where all of them stay, so do the values. As
         `back`, but that a region stands on the four neighbours of its cells too."""
         return self._asked(array, to, cells, to=to, path=None, as_cells=as_cells, forward=False, wide=True)
@@ -193,7 +194,7 @@ class TiledRun:
         as_cells: bool,
         forward: bool,
         wide: bool = False,
-    ) -> np.ndarray:
+    ) -> NDArray[Any]:
         asked = indexes_of(cells, self.shape(base if forward else output))
         if path is not None:
             found = along(self._making, self._along(self._one(path, output, base)), asked, forward=forward)

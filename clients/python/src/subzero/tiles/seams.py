@@ -8,11 +8,13 @@ least of their numbers: that is 1 plus the least index of the component in the w
 from __future__ import annotations
 
 from dataclasses import dataclass
+from typing import Any
 
 import numpy as np
+from numpy.typing import NDArray
 
 from ..cells import Shape
-from .cellsets import Indexes, NONE, apart, neighbours, together, union, within
+from .cellsets import NONE, Indexes, apart, neighbours, together, union
 from .geometry import Rect, layers_of
 
 
@@ -25,14 +27,14 @@ class Labels:
     """
 
     shape: Shape
-    values: np.ndarray
+    values: NDArray[Any]
     rects: list[Rect]
-    part_label: np.ndarray
-    part_rect: np.ndarray
+    part_label: NDArray[Any]
+    part_rect: NDArray[Any]
 
-    def at(self, indexes: Indexes) -> np.ndarray:
+    def at(self, indexes: Indexes) -> NDArray[Any]:
         """The labels at cells."""
-        found: np.ndarray = self.values.reshape(-1)[indexes]
+        found: NDArray[Any] = self.values.reshape(-1)[indexes]
         return found
 
     def related(self, indexes: Indexes, wide: bool, forward: bool) -> Indexes:
@@ -50,7 +52,7 @@ class Labels:
             component = neighbours(component, self.shape)
         return union([low, component])
 
-    def cells_of(self, labels: np.ndarray) -> Indexes:
+    def cells_of(self, labels: NDArray[Any]) -> Indexes:
         """The cells of components: looked for in every tile in which one of them lies."""
         if not labels.size:
             return NONE
@@ -59,7 +61,7 @@ class Labels:
         rects = np.unique(np.concatenate([self.part_rect[start:end] for start, end in zip(starts, ends)]))
         return union([self._cells_in(self.rects[number], labels) for number in rects])
 
-    def _cells_in(self, rect: Rect, labels: np.ndarray) -> Indexes:
+    def _cells_in(self, rect: Rect, labels: NDArray[Any]) -> Indexes:
         part = self.values[:, rect.top : rect.bottom, rect.left : rect.right]
         if labels.size == 1:
             found = part == labels[0]
@@ -69,13 +71,13 @@ class Labels:
         return together(layers, rows + rect.top, columns + rect.left, self.shape)
 
 
-def empty_labels(shape: Shape) -> np.ndarray:
+def empty_labels(shape: Shape) -> NDArray[Any]:
     """Room for the labels of a whole array, in as few bytes a label as the array's size allows."""
     size = int(np.prod(shape, dtype=object))
     return np.zeros((layers_of(shape), *shape[-2:]), dtype=np.int32 if size < 2**31 else np.int64)
 
 
-def place_part(labels: np.ndarray, shape: Shape, rect: Rect, local: np.ndarray) -> np.ndarray:
+def place_part(labels: NDArray[Any], shape: Shape, rect: Rect, local: NDArray[Any]) -> NDArray[Any]:
     """Write a tile's own labels, as its program gave them, into those of the whole; gives the different ones, which
     rise."""
     numbers = local.reshape(-1)
@@ -84,7 +86,7 @@ def place_part(labels: np.ndarray, shape: Shape, rect: Rect, local: np.ndarray) 
     stands[0] = False
     found = np.flatnonzero(stands)
     layers, rows, columns = apart(found - 1, (rect.height, rect.width))
-    different: np.ndarray = 1 + together(layers, rows + rect.top, columns + rect.left, shape)
+    different: NDArray[Any] = 1 + together(layers, rows + rect.top, columns + rect.left, shape)
     moved = np.zeros(stands.size, dtype=labels.dtype)
     moved[found] = different
     part = moved[numbers].reshape(layers_of(shape), rect.height, rect.width)
@@ -92,12 +94,12 @@ def place_part(labels: np.ndarray, shape: Shape, rect: Rect, local: np.ndarray) 
     return different
 
 
-def join(shape: Shape, labels: np.ndarray, parts: list[tuple[Rect, np.ndarray]]) -> Labels:
+def join(shape: Shape, labels: NDArray[Any], parts: list[tuple[Rect, NDArray[Any]]]) -> Labels:
     """Join the parts that meet over seams. `parts` are the tiles' own rectangles with the different labels in each."""
     seams = [_touching(labels, rect) for rect, _ in parts]
     old, new = _roots(np.concatenate([*seams, np.zeros((0, 2), dtype=labels.dtype)]))
-    rows: list[np.ndarray] = []
-    tiles: list[np.ndarray] = []
+    rows: list[NDArray[Any]] = []
+    tiles: list[NDArray[Any]] = []
     for number, (rect, different) in enumerate(parts):
         if old.size and different.size:
             renamed = _renamed(different, old, new)
@@ -113,7 +115,7 @@ def join(shape: Shape, labels: np.ndarray, parts: list[tuple[Rect, np.ndarray]])
     return Labels(shape, labels, rects, every[order], np.concatenate([*tiles, np.zeros(0, dtype=np.int32)])[order])
 
 
-def _touching(labels: np.ndarray, rect: Rect) -> np.ndarray:
+def _touching(labels: NDArray[Any], rect: Rect) -> NDArray[Any]:
     """The pairs of labels that meet over the lower and the right edge of a rectangle: of shape (N, 2), each once."""
     pairs = [np.zeros((0, 2), dtype=labels.dtype)]
     _, height, width = labels.shape
@@ -126,12 +128,13 @@ def _touching(labels: np.ndarray, rect: Rect) -> np.ndarray:
     return np.concatenate(pairs)
 
 
-def _pairs(one: np.ndarray, other: np.ndarray) -> np.ndarray:
+def _pairs(one: NDArray[Any], other: NDArray[Any]) -> NDArray[Any]:
     both = (one > 0) & (other > 0)
-    return np.unique(np.stack([one[both], other[both]], axis=1), axis=0)
+    pairs: NDArray[Any] = np.unique(np.stack([one[both], other[both]], axis=1), axis=0)
+    return pairs
 
 
-def _roots(pairs: np.ndarray) -> tuple[np.ndarray, np.ndarray]:
+def _roots(pairs: NDArray[Any]) -> tuple[NDArray[Any], NDArray[Any]]:
     """The labels in pairs, rising, and beside each the least label to which pairs join it."""
     old, places = np.unique(pairs, return_inverse=True)
     ends = places.reshape(-1, 2)
@@ -146,12 +149,12 @@ def _roots(pairs: np.ndarray) -> tuple[np.ndarray, np.ndarray]:
         _shorten(root)
 
 
-def _shorten(root: np.ndarray) -> None:
+def _shorten(root: NDArray[Any]) -> None:
     """Let each name the end of its chain."""
     while not np.array_equal(further := root[root], root):
         root[...] = further
 
 
-def _renamed(labels: np.ndarray, old: np.ndarray, new: np.ndarray) -> np.ndarray:
+def _renamed(labels: NDArray[Any], old: NDArray[Any], new: NDArray[Any]) -> NDArray[Any]:
     place = np.minimum(np.searchsorted(old, labels), old.size - 1)
     return np.where(old[place] == labels, new[place], labels)

@@ -9,6 +9,7 @@ from pathlib import Path
 from typing import Any, Protocol
 
 import numpy as np
+from numpy.typing import NDArray
 
 from ..cells import MOST_LAYERS, Shape, values_of
 from ..faults import BadInput
@@ -41,7 +42,7 @@ class TiledArray:
     def __str__(self) -> str:
         return f"array {self.name} {self.version}"
 
-    def read(self, rect: Rect) -> tuple[np.ndarray, np.ndarray]:
+    def read(self, rect: Rect) -> tuple[NDArray[Any], NDArray[Any]]:
         """The values in a rectangle, int64, and which are empty, of the array's axes. Raises BadInput as
         `Session.array`."""
         at = (slice(None),) * (len(self.shape) - 2) + (slice(rect.top, rect.bottom), slice(rect.left, rect.right))
@@ -49,7 +50,7 @@ class TiledArray:
         if hasattr(part, "compute"):
             part = part.compute()
         if self._nan_is_empty:
-            part = np.ma.masked_invalid(part, copy=False) if part.dtype.kind == "f" else part
+            part = np.ma.MaskedArray(part, ~np.isfinite(part)) if part.dtype.kind == "f" else part  # type: ignore[no-untyped-call]
         try:
             return values_of(part, self._scale)
         except BadInput as fault:
@@ -110,7 +111,7 @@ def _opened(path: str | os.PathLike[str]) -> Any:
 def _image_of(path: str | os.PathLike[str]) -> Any:
     """The first image of a FITS file, read where it is asked for."""
     try:
-        from astropy.io import fits
+        from astropy.io import fits  # type: ignore[import]
     except ImportError:
         raise BadInput("reading FITS needs astropy") from None
     with fits.open(path, memmap=True) as units:

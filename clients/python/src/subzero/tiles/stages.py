@@ -12,7 +12,7 @@ from collections.abc import Iterator, Sequence
 from dataclasses import dataclass
 
 from ..cells import MOST_LAYERS, Shape
-from ..flow import Flow, Input, Node, Place
+from ..flow import Flow, Node, Place
 from .faults import CannotTile
 from .geometry import CUT, PAIRS, layers_of
 from .grids import Grid, Spot, even
