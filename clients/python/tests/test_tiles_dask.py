@@ -8,6 +8,7 @@ import threading
 import time
 import unittest
 from typing import Any
+from unittest import mock
 
 import numpy as np
 
@@ -39,7 +40,7 @@ class OnDask(unittest.TestCase):
     def test_flows_of_all_operators(self) -> None:
         cases = 0
         with subzero.Session() as session, subzero.tiled(tile=7, client=self.client) as mosaic:
-            for seed in range(12):
+            for seed in range(8):
                 draw = np.random.RandomState(3000 + seed)
                 shape = tuple(int(size) for size in draw.randint(1, 24, 2))
                 arrays = [some(draw, shape), some(draw, shape), some(draw, (1, 20))]
@@ -58,7 +59,7 @@ class OnDask(unittest.TestCase):
 
     def test_a_worker_that_is_killed_in_the_middle(self) -> None:
         draw = np.random.RandomState(5)
-        image = draw.randint(0, 100, (120, 90))
+        image = draw.randint(0, 100, (80, 70))
 
         def build(flow: subzero.Flow) -> None:
             smooth = flow.convolve(flow.clean(flow.input(0), 90), np.ones((3, 3), dtype=int))
@@ -69,7 +70,8 @@ class OnDask(unittest.TestCase):
             lost = threading.Event()
             killer = threading.Thread(target=self.kill_one, args=(mosaic, lost))
             killer.start()
-            both.tiled.wait()
+            with mock.patch("subzero.tiles.making._BATCH", 1):  # one tile a turn
+                both.tiled.wait()
             killer.join()
             self.assertTrue(lost.is_set())
             both.check(self, draw, pairs=12)

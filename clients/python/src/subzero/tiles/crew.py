@@ -8,6 +8,7 @@ from concurrent.futures import FIRST_COMPLETED, Future, ThreadPoolExecutor, wait
 from typing import Protocol
 
 from .. import progress
+from ..faults import SubZeroError
 from ..program import find
 from .holder import Answer, Holder
 from .orders import Request
@@ -71,7 +72,10 @@ def side_by_side(pool: ThreadPoolExecutor, jobs: Sequence[Callable[[], None]], d
 
     What a job raises is raised, and an interrupt too, once the jobs that had begun are over; the others are not begun.
     """
-    futures: list[Future[None]] = [pool.submit(job) for job in jobs]
+    try:
+        futures: list[Future[None]] = [pool.submit(job) for job in jobs]
+    except RuntimeError:
+        raise SubZeroError("the mosaic is closed") from None
     try:
         with progress.shown(doing) as step:
             left = set(futures)

@@ -116,8 +116,11 @@ def tiled(
     """Programs for arrays larger than one session holds, cut into tiles of at most `tile` rows and columns.
 
     `programs` is how many run at the same time: as many as processors, or with `client`, a `dask.distributed.Client`,
-    as many as the cluster has workers, each an actor of one. `program` is the program's path where they run, and
-    `workers` its option. `limits` are those of one session, and may be made smaller. Raises ProgramMissing, BadInput.
+    as many as the cluster has workers, each an actor of one. Together they hold as many tiles as fit; a tile that none
+    holds any more is made again when it is asked for, so that more programs than processors make questions faster where
+    there is memory for them. `program` is the program's path, here and on the cluster (one more runs here, which judges
+    flows), and `workers` its option. `limits` are those of one session, and may be made smaller. Raises ProgramMissing,
+    BadInput.
     """
     side = number_of(tile, "tile", 1)
     if programs is not None:
