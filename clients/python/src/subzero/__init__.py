@@ -67,4 +67,8 @@ def __getattr__(name: str) -> object:
         import importlib
 
         return importlib.import_module(f"subzero.{name}")
+    if name == "tiled":
+        from .tiles import tiled
+
+        return tiled
     raise AttributeError(f"module 'subzero' has no attribute {name!r}")
