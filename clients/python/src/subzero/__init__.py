@@ -21,6 +21,7 @@ from .later import Later, Pipeline
 from .paths import Path
 from .run import Explanation, Run
 from .session import BaseArray, Session
+from .spread import suspects_table
 
 __all__ = [
     "BadInput",
@@ -40,6 +41,7 @@ __all__ = [
     "Session",
     "SubZeroError",
     "TooManyPaths",
+    "suspects_table",
 ]
 
 
