@@ -46,9 +46,9 @@ __all__ = [
 
 
 def __getattr__(name: str) -> object:
-    """`subzero.plot` is loaded when it is first used, since matplotlib is an extra and slow to load."""
-    if name == "plot":
+    """`subzero.plot` and `subzero.view` are loaded when they are first used: matplotlib is an extra, and slow to load."""
+    if name in ("plot", "view"):
         import importlib
 
-        return importlib.import_module("subzero.plot")
+        return importlib.import_module(f"subzero.{name}")
     raise AttributeError(f"module 'subzero' has no attribute {name!r}")
