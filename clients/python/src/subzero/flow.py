@@ -698,11 +698,11 @@ class Flow:
             if not isinstance(place, (Input, Node)) or place.flow is not self:
                 other = isinstance(place, Operand) and place.flow.name == self.name
                 raise BadInput(
-                    f"{short(place)} is no array of the flow {self.name}{', but of another of that name' if other else ''}"
-                    ": take flow.input(0), or a node of it"
+                    f"{short(place)} is no array of the flow {self.name}"
+                    f"{', but of another of that name' if other else ''}: take flow.input(0), or a node of it"
                 )
-        if name is not None and (not isinstance(name, str) or not 1 <= len(name) <= 64):
-            raise BadInput(f"{short(name)} is no name of a node: a text of 1 to 64 characters")
+        if name is not None and (not isinstance(name, str) or not 1 <= len(name) <= 64 or not name.isprintable()):
+            raise BadInput(f"{short(name)} is no name of a node: a text of 1 to 64 characters that can be shown")
         if name is not None and any(node.name == name for node in self.nodes):
             raise BadInput(f"the flow {self.name} has a node named {name!r} already")
         strategies = None if keep is None else _strategies(keep)

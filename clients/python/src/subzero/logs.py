@@ -263,6 +263,12 @@ def groups(file: BinaryIO) -> Iterator[Group]:
         at += 10 + length
 
 
+def is_unmade(path: str | os.PathLike[str]) -> bool:
+    """Whether a file is empty, or holds what a stop in the making of a log leaves, and nothing else."""
+    with open(path, "rb") as file:
+        return (b"\0" + HEADER[1:] + b"\0").startswith(file.read(len(HEADER) + 2))
+
+
 def read_log(path: str | os.PathLike[str]) -> Holdings:
     """What a log holds. Values of its arrays are read from the file again, when they are wanted.
 

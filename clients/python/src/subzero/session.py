@@ -19,7 +19,7 @@ from .faults import BadInput, OutOfStep, ProgramEnded, Refused, SubZeroError
 from .flow import MOST_FLOWS, Flow, table
 from .later import Pipeline
 from .locks import lock_log
-from .logs import HeldArray, HeldFlow, HeldVersion, Holdings, frozen, name_of_array, read_log, size_told
+from .logs import HeldArray, HeldFlow, HeldVersion, Holdings, frozen, is_unmade, name_of_array, read_log, size_told
 from .program import AHEAD, Program, Reply, find
 from .run import Run
 
@@ -165,9 +165,9 @@ class Room:
 class Session:
     """The program, started and talked to over its standard streams.
 
-    `log` is the file in which arrays, flows and awaited runs are kept; where it is not there it is made, and what it
-    holds stands in `arrays`, `flows` and `runs`. `workers` and `askers` are the program's options, `program` its path
-    (see `subzero.program.find`). Raises ProgramMissing; LogHeld where another session has the log open; ProgramEnded
+    `log` is the file in which arrays, flows and awaited runs are kept; where it is not there, or is empty, it is made.
+    What it holds stands in `arrays`, `flows` and `runs`. `workers` and `askers` are the program's options, `program`
+    its path (see `subzero.program.find`). Raises ProgramMissing; LogHeld where another session has the log open; ProgramEnded
     where the program does not know such words or cannot read the log.
 
     The program itself has no locks, and two of them on one log destroy it. So a session locks the log's file from
@@ -202,12 +202,13 @@ class Session:
         self._holdings = Holdings()
         self._arrays: dict[tuple[str, int], BaseArray] = {}
         self._flows: weakref.WeakValueDictionary[str, Flow] = weakref.WeakValueDictionary()
+        self._shown: dict[str, str] = {}
         self._runs: weakref.WeakValueDictionary[int, Run] = weakref.WeakValueDictionary()
         self._ordered: deque[tuple[Reply, Hold]] = deque()
         self._settling = threading.RLock()
         locked = () if self.log is None else (lock_log(self.log),)
         try:
-            if self.log is not None and os.path.getsize(self.log) == 0:
+            if self.log is not None and is_unmade(self.log):
                 _make_log(path, self.log)
             self._program = Program(path, words, locked, max(AHEAD, 2 * (askers or 0)))
         except BaseException:
@@ -280,7 +281,8 @@ class Session:
         [<Node 0 of stars: clean (100 and more)>, <Node 1 labels of stars: regions (5 and more)>]
         """
         held = {flow.shown or flow.name: flow.name for flow in self.holdings().flows.values()}
-        held.update({name: name for name in self.holdings().flows if name not in held})
+        held.update({name: name for name in self._holdings.flows if name not in held})
+        held.update(self._shown)
         return Held(list(held), lambda name: self._flow_of(held[name]))
 
     @property
@@ -543,6 +545,7 @@ class Session:
     def remember(self, flow: Flow) -> None:
         """Give this flow from now on where its name is asked for, as long as somebody has it."""
         self._flows.setdefault(flow.program_name, flow)
+        self._shown[flow.name] = flow.program_name
 
     def set_strategies(self, flow: str, node: int, strategies: list[str]) -> None:
         """Send how a node's lineage is kept."""
@@ -612,7 +615,7 @@ class Session:
 
 
 def _make_log(path: str, log: str) -> None:
-    """Make an empty file the empty log."""
+    """Make a file the empty log."""
     made = subprocess.run([path, "init", log], stdin=subprocess.DEVNULL, capture_output=True)
     if made.returncode != 0:
         raise ProgramEnded(made.returncode, made.stderr.decode(errors="replace").strip())
