@@ -3,11 +3,13 @@ is kept by strategies drawn at random."""
 
 import unittest
 from typing import Any
+from unittest import mock
 
 import numpy as np
 
 import reference
 import subzero
+from drawn import draw_flow
 
 
 class Paths(unittest.TestCase):
@@ -64,14 +66,26 @@ class Paths(unittest.TestCase):
             total = flow.add(total, total)
         run = self.session.start(flow, [self.base])
         with self.assertRaises(subzero.TooManyPaths) as caught:
-            run.back(total, (0, 0), to=self.base)
+            run.paths(total, to=self.base)
         self.assertEqual((caught.exception.count, caught.exception.limit), (2**20, 64))
         self.assertIn("1048576 paths", str(caught.exception))
         near = flow.nodes[2]
         self.assertEqual(len(run.paths(near, to=self.base)), 8)
+        run.wait()
         with self.assertRaises(subzero.TooManyPaths):
-            run.back(near, (0, 0), to=self.base, limit=7)
-        self.assertEqual(run.back(near, (0, 0), to=self.base, limit=8).sum(), 1)
+            run.explain(near, (0, 0), to=self.base, limit=7)
+        self.assertEqual(len(run.explain(near, (0, 0), to=self.base, limit=8)), 8)
+
+    def test_an_ask_over_a_million_paths_is_one_ask_a_source(self) -> None:
+        flow = self.session.flow("million")
+        total: Any = flow.input(0)
+        for _ in range(20):
+            total = flow.add(total, total)
+        run = self.session.start(flow, [self.base])
+        with mock.patch.object(self.session, "say", side_effect=self.session.say) as sent:
+            self.assertEqual(np.argwhere(run.back(total, [(0, 0), (2, 3)], to=self.base)).tolist(), [[0, 0], [2, 3]])
+            self.assertEqual(np.argwhere(run.forward(self.base, (4, 5), to=total)).tolist(), [[4, 5]])
+        self.assertEqual(sent.call_count, 80)
 
     def test_paths_that_are_none(self) -> None:
         flow = self.session.flow("none", inputs=2)
@@ -117,50 +131,6 @@ class Paths(unittest.TestCase):
 class RandomFlows(unittest.TestCase):
     """Values of all nodes, and lineage over all paths between two arrays, of flows with fixed seeds."""
 
-    def draw_flow(self, flow: subzero.Flow, shapes: list[tuple[int, ...]], draw: np.random.RandomState) -> None:
-        places: list[Any] = [*flow.inputs]
-        shapes = [*shapes]
-        for _ in range(draw.randint(2, 9)):
-            at = draw.randint(len(places))
-            x, shape = places[at], shapes[at]
-            like = [place for place, other in zip(places, shapes) if other == shape]
-            height, width = shape[-2:]
-            op = draw.choice(
-                ["neg", "abs", "add_k", "mul_k", "clip", "add", "sub", "mul", "min", "max", "transpose"]
-                + ["slice", "convolve", "block", "fold_layers", "lookup", "regions", "clean"] * 2
-            )
-            if op in ("add_k", "mul_k"):
-                node = getattr(flow, op)(x, int(draw.randint(-3, 4)))
-            elif op == "clip":
-                node = flow.clip(x, -20, int(draw.randint(-20, 60)))
-            elif op in ("add", "sub", "mul", "min", "max"):
-                node = getattr(flow, op)(x, like[draw.randint(len(like))])
-            elif op == "slice":
-                h, w = int(draw.randint(1, height + 1)), int(draw.randint(1, width + 1))
-                node = flow.slice(x, int(draw.randint(height - h + 1)), int(draw.randint(width - w + 1)), h, w)
-            elif op == "convolve":
-                node = flow.convolve(x, draw.randint(-1, 2, (draw.choice([1, 3, 5]), draw.choice([1, 3]))))
-            elif op == "block":
-                node = flow.block(
-                    x,
-                    str(draw.choice(["sum", "min", "max", "count"])),
-                    int(draw.randint(1, 4)),
-                    int(draw.randint(1, 4)),
-                )
-            elif op == "fold_layers":
-                node = flow.fold_layers(x, str(draw.choice(["sum", "min", "max", "count"])))
-            elif op == "lookup":
-                node = flow.lookup(x, flow.input(1))
-            elif op in ("regions", "clean"):
-                node = getattr(flow, op)(x, int(draw.randint(-20, 60)))
-            else:
-                node = getattr(flow, op)(x)
-            if draw.rand() < 0.7:
-                supported = [kept for kept in reference.STRATEGIES if reference.supports(op, kept)]
-                flow.keep(node, [str(kept) for kept in draw.choice(supported, draw.randint(1, 4), replace=False)])
-            places.append(node)
-            shapes.append(node.shape_from(shape))
-
     def check(self, seed: int) -> None:
         draw = np.random.RandomState(seed)
         shape = tuple(int(size) for size in draw.randint(1, 9, 2))
@@ -170,7 +140,7 @@ class RandomFlows(unittest.TestCase):
         with subzero.Session() as session:
             held = [session.array("image", image), session.array("table", table)]
             flow = session.flow("f", inputs=2)
-            self.draw_flow(flow, [shape, (1, 20)], draw)
+            draw_flow(flow, [shape, (1, 20)], draw)
             run = session.start(flow, held)
             run.wait()
             grids: dict[Any, reference.Grid] = {
@@ -210,9 +180,9 @@ class RandomFlows(unittest.TestCase):
             for step, at in reversed(steps):
                 mask = reference.forward(step.op, step.parameters, [grids[source] for source in step.sources], at, mask)
             touched |= mask
-        got = run.back(node, asked, to=place, limit=1000)
+        got = run.back(node, asked, to=place)
         self.assertTrue(np.array_equal(got, behind.reshape(got.shape)), (node, place))
-        got = run.forward(place, hit, to=node, limit=1000)
+        got = run.forward(place, hit, to=node)
         self.assertTrue(np.array_equal(got, touched.reshape(got.shape)), (place, node))
 
     def test_random_flows(self) -> None:

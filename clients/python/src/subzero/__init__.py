@@ -31,6 +31,7 @@ from .later import Future, Later, Pipeline
 from .paths import Path
 from .run import Explanation, Run
 from .session import BaseArray, Room, Session
+from .spread import suspects_table
 
 __version__ = "0.1.0"
 
@@ -56,6 +57,7 @@ __all__ = [
     "Session",
     "SubZeroError",
     "TooManyPaths",
+    "suspects_table",
 ]
 
 

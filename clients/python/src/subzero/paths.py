@@ -44,6 +44,28 @@ def _counts(output: Place, targets: Collection[Place]) -> dict[Place, int]:
     return counts
 
 
+def places_between(flow: Flow, outputs: Collection[Place], bases: Collection[Place]) -> list[Place]:
+    """The arrays on the paths of at least one step from `outputs` back to `bases`, with both their ends, in the order
+    of the flow; none where there is no path.
+    """
+    order: list[Place] = [*flow.inputs, *flow.nodes]
+    above: set[Place] = set()
+    for place in order:
+        if place in bases or any(source in above for source in sources_of(place)):
+            above.add(place)
+    below: set[Place] = set(outputs)
+    for node in reversed(flow.nodes):
+        if node in below:
+            below.update(node.sources)
+    chain = [place for place in order if place in above and place in below]
+    return chain if any(source in chain for place in chain for source in sources_of(place)) else []
+
+
+def sources_of(place: Place) -> tuple[Place, ...]:
+    """What an array of a flow is made of: nothing for a base array."""
+    return place.sources if isinstance(place, Node) else ()
+
+
 def path_of(flow: Flow, steps: Sequence[Sequence[int | Node]]) -> tuple[Path, Place]:
     """The path that the caller names, nodes given by themselves or by number, and the array to which it leads back.
 

@@ -8,8 +8,8 @@ from typing import TYPE_CHECKING, Literal, TypeAlias
 
 import numpy as np
 
-from . import numerals
-from .cells import Cells, Mask, Shape, Values, cells_of, mask_of, short
+from . import numerals, spread
+from .cells import Cells, Mask, Shape, Values, cells_of, short
 from .faults import BadInput, OutOfStep
 from .flow import Flow, Input, Node, Place, table
 from .later import Future
@@ -141,15 +141,14 @@ class Run:
         *,
         to: Array,
         path: Sequence[Sequence[int | Node]] | None = None,
-        limit: int = MOST_PATHS,
     ) -> Mask:
         """Which cells of `to` stand behind these cells of `array`: a boolean array of the shape of `to`.
 
-        It is the union over all paths between the two, at most `limit`, or follows the one `path`, steps from `array`
-        back, each a node and the number of its input. Raises BadInput for cells out of range and where no path leads
-        there; TooManyPaths.
+        It is the union over all paths between the two, however many there are, or follows the one `path`, steps from
+        `array` back, each a node and the number of its input. Raises BadInput for cells out of range and where no path
+        leads there.
         """
-        return self.asked_later("back", array, cells, to=to, path=path, limit=limit).result()
+        return self.asked_later("back", array, cells, to=to, path=path).result()
 
     def forward(
         self,
@@ -158,13 +157,37 @@ class Run:
         *,
         to: Array,
         path: Sequence[Sequence[int | Node]] | None = None,
-        limit: int = MOST_PATHS,
     ) -> Mask:
         """Which cells of `to` these cells of `array` touched: a boolean array of the shape of `to`.
 
-        As `back`, and a `path` is told in the same way, from the output `to` back to `array`.
+        As `back`, and a `path` is told in the same way, from the output `to` back to `array`. Through `regions` it says
+        what the cells touched as they were; what they could change, had they other values, `suspects` says.
         """
-        return self.asked_later("forward", array, cells, to=to, path=path, limit=limit).result()
+        return self.asked_later("forward", array, cells, to=to, path=path).result()
+
+    def suspects(self, bad: Cells, base: Array, *, to: Array) -> Mask:
+        """Which cells of `to` could be others, had the `bad` cells of `base` held anything else, values or none: a
+        boolean array of the shape of `to`.
+
+        A cell outside it has the same value, whatever they would have held. Not every cell in it must differ for some
+        values. Raises BadInput for cells out of range, and where no path leads from `to` back to `base`.
+
+        >>> np.argwhere(run.suspects((0, 2), sky, to=labels)).tolist()
+        [[0, 1], [0, 2], [1, 0], [1, 1]]
+        """
+        return spread.suspects(self, bad, base, to)
+
+    def support(self, array: Array, cells: Cells, *, to: Array) -> Mask:
+        """Which cells of `to` fix the values of these cells of `array`: a boolean array of the shape of `to`.
+
+        As long as they hold what they hold, these values stay, whatever stands elsewhere in `to`. They are those that
+        `back` gives and, through `regions`, what is beside: a region stays as it is while its four neighbours do.
+        Raises BadInput as `back` does.
+
+        >>> np.argwhere(run.support(labels, (3, 2), to=sky)).tolist()
+        [[1, 2], [1, 3], [2, 1], [2, 2], [2, 3], [3, 1], [3, 2], [3, 3]]
+        """
+        return spread.support(self, array, cells, to)
 
     def explain(
         self,
@@ -206,20 +229,16 @@ class Run:
         *,
         to: Array,
         path: Sequence[Sequence[int | Node]] | None = None,
-        limit: int = MOST_PATHS,
     ) -> Future[Mask]:
-        """`back` or `forward`, sent ahead."""
+        """`back` or `forward`, sent ahead. Where a flow branches, the asks that stand on answers of others are sent
+        when the result is taken.
+        """
+        if path is None:
+            return spread.spread_later(self, direction, array, cells_of(cells, self.shape(array)), to)
         shape = self.shape(to)
-        paths, lines = self._lines(b"ask", direction, array, cells, to, path, limit)
-        doing = f"asking {direction}" + (f" along {len(paths)} paths" if len(paths) > 1 else "")
-
-        def read(texts: list[bytes]) -> Mask:
-            mask = np.zeros(shape, dtype=bool)
-            for text in texts:
-                mask |= _mask(text, shape)
-            return mask
-
-        return Future([self.session.say(line) for line in lines], doing, read)
+        _, lines = self._lines(b"ask", direction, array, cells, to, path)
+        replies = [self.session.say(line) for line in lines]
+        return Future(replies, f"asking {direction}", lambda texts: spread.read_mask(texts[0], shape))
 
     def explained_later(
         self,
@@ -280,7 +299,7 @@ class Run:
         cells: Cells,
         to: Array,
         path: Sequence[Sequence[int | Node]] | None,
-        limit: int,
+        limit: int = MOST_PATHS,
     ) -> tuple[list[Path], list[bytes]]:
         """The paths of an ask, and its line for each."""
         if direction not in ("back", "forward"):
@@ -288,14 +307,7 @@ class Run:
         output, base = (array, to) if direction == "back" else (to, array)
         paths = [self._one(path, output, base)] if path is not None else self.paths(output, to=base, limit=limit)
         told = numerals.cells_text(cells_of(cells, self.shape(array)))
-        lines = []
-        for one in paths:
-            steps = one if direction == "back" else reversed(one)
-            text = ",".join(f"[{node},{number}]" for node, number in steps).encode()
-            lines.append(
-                b'{"%s":%d,"dir":"%s","path":[%s],"cells":%s}\n' % (form, self.number, direction.encode(), text, told)
-            )
-        return paths, lines
+        return paths, [spread.ask_line(form, self.number, direction, one, told) for one in paths]
 
     def _one(self, steps: Sequence[Sequence[int | Node]], output: Array, base: Array) -> Path:
         path, reached = path_of(self.flow, steps)
@@ -322,13 +334,3 @@ def _values(text: bytes, shape: Shape) -> Values:
         raise OutOfStep(f"an output of shape {shape} has the reply {text[:40]!r}")
     values, empty = numerals.read_values(words[-1], int(np.prod(said)))
     return np.ma.MaskedArray(values.reshape(shape), empty.reshape(shape))
-
-
-def _mask(text: bytes, shape: Shape) -> Mask:
-    """The cells of a `cells` reply as a boolean array of the shape."""
-    word, count, *rest = text.split(b" ", 2)
-    if word != b"cells":
-        raise OutOfStep(f"an ask has the reply {text[:40]!r}")
-    layered = len(shape) == 3 and shape[0] > 1
-    cells = numerals.read_cells(rest[0] if rest else b"", int(count), 3 if layered else 2)
-    return mask_of(cells, shape[-cells.shape[1] :]).reshape(shape)
