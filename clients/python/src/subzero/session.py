@@ -11,7 +11,7 @@ from collections import deque
 from collections.abc import Callable, Iterator, Mapping, Sequence
 from dataclasses import dataclass
 from types import TracebackType
-from typing import Any, Generic, TypeVar
+from typing import Any, Generic, Literal, TypeVar
 
 from . import files, numerals
 from .cells import MOST_CELLS, Shape, Values, given, name_of, number_of, short, whole_numbers
@@ -341,9 +341,30 @@ class Session:
         self.holdings()
         return self._arrays[name, int(reply.split()[-1])]
 
-    def load(self, name: str, path: str | os.PathLike[str], *, scale: float | None = None) -> BaseArray:
-        """Hand in the array of a `.npy` or FITS file: `array` of `subzero.files.read`."""
-        return self.array(name, files.read(path), scale=scale)
+    def load(
+        self,
+        name: str,
+        path: str | os.PathLike[str],
+        *,
+        scale: float | None = None,
+        ext: files.Extension | None = None,
+        empty: Literal["nan"] | None = None,
+        squeeze: bool = False,
+    ) -> BaseArray:
+        """Hand in the array of a file, the next version of this name.
+
+        A `.npy` or FITS file is read here: `array` of `subzero.files.read`, which says what `ext` (which part of a FITS
+        file), `empty` ("nan": NaN and BLANK are empty cells) and `squeeze` (axes of length 1 are dropped) do. The text
+        of a `.csv` file is handed in as it is, and the program reads it: whole numbers with commas between, a row a
+        line, a field of no characters being an empty cell; it takes none of these options. Raises BadInput and Refused
+        as `array` does, and for a `.csv` file Refused with number 5 where it is anything else.
+        """
+        if not files.is_csv(path):
+            return self.array(name, files.read(path, ext=ext, empty=empty, squeeze=squeeze), scale=scale)
+        if scale is not None or ext is not None or empty is not None or squeeze:
+            raise BadInput("a .csv file is read by the program as it is: scale, ext, empty and squeeze are for others")
+        reply = self.say(files.csv_line(name_of(name), path)).wait(f"handing in {name}")
+        return self.arrays[name, int(reply.split()[-1])]
 
     def held_array(self, name: str, version: int, shape: Shape | None = None) -> BaseArray:
         """An array that the session holds already, as from its log: `session.arrays[name, version]`.
