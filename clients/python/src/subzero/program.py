@@ -35,15 +35,17 @@ _SHOWN = 4096
 
 
 def find(program: str | os.PathLike[str] | None = None) -> str:
-    """The program's path: the one given, else what the variable SUBZERO names, else `subzero` on the search path, else
-    `crates/subzero/out/subzero` of the checkout in which this file lies. Raises ProgramMissing where there is none."""
+    """The program's path: the one given, else what the variable SUBZERO names, else the one that was installed with this
+    package, else `subzero` on the search path, else `crates/subzero/out/subzero` of the checkout in which this file
+    lies. Raises ProgramMissing where there is none."""
     named = program or os.environ.get("SUBZERO")
     if named:
         found = shutil.which(os.fspath(named))
         if found is None:
             raise ProgramMissing(f"{os.fspath(named)} is no program that can be run")
         return found
-    found = shutil.which("subzero")
+    packed = Path(__file__).resolve().parent / "bin" / "subzero"
+    found = shutil.which(str(packed)) or shutil.which("subzero")
     if found is not None:
         return found
     for folder in Path(__file__).resolve().parents:
