@@ -10,6 +10,7 @@ from pathlib import Path
 
 import numpy as np
 
+from .cells import Mask, Values
 from .flow import Flow, Node
 from .run import Run
 from .session import BaseArray, Session
@@ -25,19 +26,19 @@ class Field:
     """A synthetic image of stars, and what is wrong with it.
 
     `image` is a masked array of whole numbers, of shape (64, 64), with the dead column masked. `hot` is True in the two
-    hot pixels, `tracks` in the pixels of the tracks of two cosmic rays, both of the same shape; `dead` is the dead
-    column's number.
+    hot pixels, `tracks` in the pixels of the tracks of two cosmic rays, `dead` in the dead column: boolean arrays of
+    the same shape.
     """
 
-    image: np.ma.MaskedArray
-    hot: np.ndarray
-    tracks: np.ndarray
-    dead: int
+    image: Values
+    hot: Mask
+    tracks: Mask
+    dead: Mask
 
     @property
-    def bad(self) -> np.ndarray:
-        """The pixels that cannot be trusted, but for the dead ones, which have no value: hot ones and tracks."""
-        return self.hot | self.tracks
+    def bad(self) -> Mask:
+        """The pixels that cannot be trusted: the hot ones, the tracks, and the dead ones, which have no value."""
+        return self.hot | self.tracks | self.dead
 
 
 def field() -> Field:
@@ -69,9 +70,10 @@ def field() -> Field:
         tracks[row + down * steps, col + right * steps] = True
     light[hot] = 5000
     light[tracks] = draw.uniform(2000, 4000, tracks.sum())
-    dead = 31
-    image: np.ma.MaskedArray = np.ma.MaskedArray(light.astype(np.int64))
-    image[:, dead] = np.ma.masked
+    dead = np.zeros((SIDE, SIDE), dtype=bool)
+    dead[:, 31] = True
+    image: Values = np.ma.MaskedArray(light.astype(np.int64), dead)
+    image[dead] = np.ma.masked
     return Field(image, hot, tracks, dead)
 
 

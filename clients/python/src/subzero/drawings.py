@@ -4,7 +4,6 @@ from __future__ import annotations
 
 from collections.abc import Iterator
 
-import matplotlib.pyplot as plt
 import numpy as np
 from matplotlib.figure import Figure
 from matplotlib.patches import Patch
@@ -14,8 +13,9 @@ from .demo import Field
 from .flow import Node
 from .run import Array, Run
 from .session import BaseArray
+from .spread import suspects_table
 
-_TRUSTED, _DOUBTED, _BAD = "#3fa34d", "#ff8c1a", "#e63946"
+_TRUSTED, _BESIDE, _RESTING, _BAD = "#3fa34d", "#f2d024", "#ff8c1a", "#e63946"
 
 
 def all_of(
@@ -29,11 +29,17 @@ def all_of(
     yield "back.png", plot.lineage(run, bins, (4, 6), to=sky, zoom=True, title=title)
     hot, title = np.argwhere(seen.hot)[:1], "What did one hot pixel touch?"
     yield "touched.png", plot.lineage(run, sky, hot, to=bins, direction="forward", zoom=True, title=title)
+    dead, title = np.argwhere(seen.dead)[31:32], "What could one dead pixel change?"
+    yield "changed.png", plot.lineage(
+        run, sky, dead, to=labels, direction="forward", supports=True, zoom=True, title=title
+    )
 
 
 def field(seen: Field) -> Figure:
     """The raw image, with what is wrong in it pointed out."""
-    figure, axes = plt.subplots(figsize=(6.4, 6.2), layout="constrained")
+    drawn = plot.figure(6.4, 6.2)
+    axes = drawn.subplots()
+    drawn.subplots_adjust(left=0.09, right=0.98, top=0.95, bottom=0.08)
     plot.image(axes, seen.image, title="The raw image, 64 by 64 pixels")
     plot.mark(axes, seen.bad, _BAD, filled=False)
     for text, at, where in (
@@ -55,13 +61,14 @@ def field(seen: Field) -> Figure:
         )
     axes.set_xlabel("column")
     axes.set_ylabel("row")
-    return figure
+    return drawn
 
 
 def steps(run: Run, sky: BaseArray, clean: Node, smooth: Node, labels: Node, bins: Node) -> Figure:
     """The values of each array of the flow."""
-    figure, panels = plt.subplots(1, 5, figsize=(13.2, 3.2))
-    figure.subplots_adjust(left=0.025, right=0.99, top=0.9, bottom=0.14, wspace=0.15)
+    drawn = plot.figure(13.2, 3.2)
+    panels = drawn.subplots(1, 5)
+    drawn.subplots_adjust(left=0.025, right=0.99, top=0.9, bottom=0.14, wspace=0.15)
     told = (
         "1. sky: as it was taken",
         "2. clean: hot cells replaced",
@@ -72,34 +79,32 @@ def steps(run: Run, sky: BaseArray, clean: Node, smooth: Node, labels: Node, bin
     arrays: list[Array] = [sky, clean, smooth, labels, bins]
     for axes, array, title in zip(panels, arrays, told):
         plot.image(axes, run.values(array), title=title, labels=array in (labels, bins))
-    figure.legend(handles=[Patch(color=plot.EMPTY, label="empty cells")], loc="lower center", fontsize=9, frameon=False)
-    return figure
+    drawn.legend(handles=[Patch(color=plot.EMPTY, label="empty cells")], loc="lower center", fontsize=9, frameon=False)
+    return drawn
 
 
 def suspects(seen: Field, run: Run, sky: BaseArray, labels: Node) -> Figure:
-    """The stars, those that rest on a bad pixel in another colour."""
+    """The stars: those that rest on a bad pixel, and those that could be others for what is beside them, in colours."""
     found = run.values(labels).filled(0)
-    touched = run.forward(sky, seen.bad, to=labels)
-    doubted = np.isin(found, found[touched & (found > 0)]) & (found > 0)
-    figure, axes = plt.subplots(figsize=(6.4, 7.0))
-    figure.subplots_adjust(left=0.09, right=0.97, top=0.95, bottom=0.17)
-    plot.image(axes, seen.image, title="Which stars rest on a bad pixel?")
-    plot.mark(axes, (found > 0) & ~doubted, _TRUSTED)
-    plot.mark(axes, doubted, _DOUBTED)
+    table = suspects_table(run, labels, seen.bad, sky)
+    resting = np.isin(found, table["label"][table["bad_behind"] > 0])
+    beside = np.isin(found, table["label"][(table["bad_behind"] == 0) & (table["bad_could_change"] > 0)])
+    drawn = plot.figure(6.4, 7.2)
+    axes = drawn.subplots()
+    drawn.subplots_adjust(left=0.09, right=0.97, top=0.95, bottom=0.19)
+    plot.image(axes, seen.image, title="Which stars could be others, had the bad pixels other values?")
+    plot.mark(axes, (found > 0) & ~resting & ~beside, _TRUSTED)
+    plot.mark(axes, beside, _BESIDE)
+    plot.mark(axes, resting, _RESTING)
     plot.mark(axes, seen.bad, _BAD, filled=False)
     keys = (
-        (_TRUSTED, "stars to be trusted"),
-        (_DOUBTED, "stars that rest on a bad pixel"),
-        (_BAD, "bad pixels"),
-        (plot.EMPTY, "empty"),
+        (_TRUSTED, "stars that no bad pixel can change"),
+        (_BESIDE, "stars beside a bad pixel, that it could change"),
+        (_RESTING, "stars that rest on a bad pixel"),
+        (_BAD, "bad pixels: hot ones, tracks, a dead column"),
     )
-    figure.legend(
-        handles=[Patch(color=colour, label=text) for colour, text in keys],
-        loc="lower center",
-        ncol=2,
-        fontsize=10,
-        frameon=False,
-    )
+    patches = [Patch(color=colour, label=text) for colour, text in keys]
+    drawn.legend(handles=patches, loc="lower center", ncol=1, fontsize=10, frameon=False)
     axes.set_xlabel("column")
     axes.set_ylabel("row")
-    return figure
+    return drawn
