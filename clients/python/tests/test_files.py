@@ -62,16 +62,16 @@ class Plain(InFolder):
         np.save(self.folder / "a.npy", np.array([[1]]))
         (self.folder / "a.csv").write_text("1\n")
         (self.folder / "a.txt").write_text("1\n")
-        for name, options, why in (
+        cases: list[tuple[str, dict[str, Any], str]] = [
             ("a.npy", {"ext": 1}, "ext is for FITS files"),
             ("a.npy", {"empty": "zero"}, "empty is 'zero'"),
             ("a.txt", {}, "no .npy, .csv or FITS file"),
             ("a.csv", {"scale": 10}, "a .csv file is read by the program"),
             ("a.csv", {"empty": "nan"}, "a .csv file is read by the program"),
-        ):
-            keywords: dict[str, Any] = options
+        ]
+        for name, options, why in cases:
             with self.subTest(name=name, options=options), self.assertRaisesRegex(subzero.BadInput, why):
-                self.session.load("a", self.folder / name, **keywords)
+                self.session.load("a", self.folder / name, **options)
 
 
 class Csv(InFolder):
@@ -126,12 +126,13 @@ class Fits(InFolder):
 
     def test_blank_cells_are_empty_where_asked_for_and_else_refused(self) -> None:
         whole = np.array([[1, 2, -99], [4, 5, 6]])
-        for values, blank in (
+        cases: list[tuple[Any, int]] = [
             (whole.astype(np.int16), -99),
             (whole.astype(np.int32), -99),
             (whole, -99),
             (np.array([[1, 2, 60_000], [4, 5, 6]], dtype=np.uint16), 60_000 - 32_768),
-        ):
+        ]
+        for values, blank in cases:
             with self.subTest(kind=values.dtype):
                 path = self.write(self.image(values, BLANK=blank))
                 with self.assertRaisesRegex(subzero.BadInput, "1 cells of .* are BLANK"):
@@ -174,12 +175,14 @@ class Fits(InFolder):
         table = fits.BinTableHDU.from_columns([fits.Column("x", "J", array=[1])], name="LIST")
         science = [fits.ImageHDU(np.array([[number]]), name="SCI", ver=number) for number in (1, 2)]
         path = self.write(fits.PrimaryHDU(), table, *science)
-        for ext, value in ((None, 1), (2, 1), (3, 2), ("sci", 1), (("SCI", 2), 2)):
+        parts: list[tuple[Any, int]] = [(None, 1), (2, 1), (3, 2), ("sci", 1), (("SCI", 2), 2)]
+        for ext, value in parts:
             with self.subTest(ext=ext):
-                self.assertEqual(self.session.load("a", path, ext=ext).values.tolist(), [[value]])  # type: ignore[arg-type]
-        for ext, why in ((9, "has no part 9: it has 0 PRIMARY, 1 LIST, 2 SCI"), ("DQ", "has no part 'DQ'")):
+                self.assertEqual(self.session.load("a", path, ext=ext).values.tolist(), [[value]])
+        missing: list[tuple[Any, str]] = [(9, "no part 9: it has 0 PRIMARY, 1 LIST, 2 SCI"), ("DQ", "no part 'DQ'")]
+        for ext, why in missing:
             with self.subTest(ext=ext), self.assertRaisesRegex(subzero.BadInput, why):
-                self.session.load("a", path, ext=ext)  # type: ignore[arg-type]
+                self.session.load("a", path, ext=ext)
         for ext in (0, "LIST"):
             with self.subTest(ext=ext), self.assertRaisesRegex(subzero.BadInput, "is no image"):
                 self.session.load("a", path, ext=ext)

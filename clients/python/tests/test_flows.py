@@ -78,16 +78,14 @@ class Paths(unittest.TestCase):
 
     def test_an_ask_over_a_million_paths_is_one_ask_a_source(self) -> None:
         flow = self.session.flow("million")
-        total = flow.input(0)
+        total: Any = flow.input(0)
         for _ in range(20):
             total = flow.add(total, total)
         run = self.session.start(flow, [self.base])
-        sent = []
-        say = self.session.say
-        with mock.patch.object(self.session, "say", side_effect=lambda line: sent.append(line) or say(line)):
+        with mock.patch.object(self.session, "say", side_effect=self.session.say) as sent:
             self.assertEqual(np.argwhere(run.back(total, [(0, 0), (2, 3)], to=self.base)).tolist(), [[0, 0], [2, 3]])
             self.assertEqual(np.argwhere(run.forward(self.base, (4, 5), to=total)).tolist(), [[4, 5]])
-        self.assertEqual(len(sent), 80)
+        self.assertEqual(sent.call_count, 80)
 
     def test_paths_that_are_none(self) -> None:
         flow = self.session.flow("none", inputs=2)

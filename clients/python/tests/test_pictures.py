@@ -14,6 +14,7 @@ from typing import Any
 from unittest import mock
 
 import numpy as np
+from numpy.typing import NDArray
 
 import subzero
 
@@ -28,7 +29,7 @@ try:
     from matplotlib.transforms import Bbox
     from subzero import layout, plot
 except ImportError:
-    matplotlib = None  # type: ignore[assignment]
+    matplotlib = None
 
 ROOT = Path(__file__).resolve().parents[3]
 TUTORIAL = ROOT / "docs" / "TUTORIAL.md"
@@ -40,7 +41,7 @@ def titles(figure: Figure) -> list[str]:
     return sorted(text.get_text() for text in figure.texts if text is not figure._suptitle)
 
 
-def arrows(figure: Figure) -> list[np.ndarray]:
+def arrows(figure: Figure) -> list[NDArray[Any]]:
     """The points of each arrow, in pixels, many on each curve."""
     figure.canvas.draw()
     found = [artist for artist in figure.artists if type(artist) is FancyArrowPatch]
@@ -148,7 +149,7 @@ class Lineage(unittest.TestCase):
         self.assertEqual(titles(drawn), ["regions (5 and more)\n1 of 3 cells", "sky\n2 of 3 cells"])
 
     def test_a_cube_shows_the_layers_that_have_cells_and_says_which(self) -> None:
-        image = np.ma.MaskedArray(np.arange(8000).reshape(5, 40, 40), False)
+        image: Any = np.ma.MaskedArray(np.arange(8000).reshape(5, 40, 40), False)
         image[0, 3] = np.ma.masked
         cube = self.session.array("cube", image)
         flow = self.session.flow("f")
@@ -167,7 +168,8 @@ class Lineage(unittest.TestCase):
 
     def test_row_0_is_at_the_bottom_where_asked_for(self) -> None:
         run, sky, last = self.branched()
-        for origin, lower in (("upper", False), ("lower", True)):
+        origins: list[tuple[plot.Origin, bool]] = [("upper", False), ("lower", True)]
+        for origin, lower in origins:
             drawn = plot.lineage(run, last, (0, 1), to=sky, zoom=True, origin=origin)
             self.assertEqual({axes.get_ylim()[0] < axes.get_ylim()[1] for axes in drawn.axes}, {lower})
 
@@ -208,17 +210,19 @@ class Images(unittest.TestCase):
         cube = np.arange(24).reshape(2, 3, 4)
         marked = np.zeros(cube.shape, dtype=bool)
         marked[1, 2, 3] = True
-        for given, layer in (({}, 0), ({"layer": 1}, 1), ({"marked": marked}, 1), ({"marked": marked, "layer": 0}, 0)):
+        cases: list[tuple[dict[str, Any], int]] = [({}, 0), ({"layer": 1}, 1)]
+        cases += [({"marked": marked}, 1), ({"marked": marked, "layer": 0}, 0)]
+        for given, layer in cases:
             axes = self.axes()
-            keywords: dict[str, Any] = given
-            plot.image(axes, cube, title="cube", **keywords)
+            plot.image(axes, cube, title="cube", **given)
             self.assertEqual(axes.get_title(), f"cube\nlayer {layer} of 0 to 1")
             self.assertEqual(axes.images[0].get_array().tolist(), cube[layer].tolist())
             edges = len(axes.collections[0].get_segments()) if axes.collections else 0
             self.assertEqual(edges, 4 if "marked" in given and layer == 1 else 0)
 
     def test_origin(self) -> None:
-        for origin, limits in (("upper", (1.5, -0.5)), ("lower", (-0.5, 1.5))):
+        origins: list[tuple[plot.Origin, tuple[float, float]]] = [("upper", (1.5, -0.5)), ("lower", (-0.5, 1.5))]
+        for origin, limits in origins:
             axes = self.axes()
             plot.image(axes, np.array([[1, 2], [3, 4]]), marked=np.eye(2, dtype=bool), origin=origin)
             self.assertEqual(axes.get_ylim(), limits)

@@ -11,6 +11,7 @@ from typing import Any
 from unittest import mock
 
 import numpy as np
+from numpy.typing import NDArray
 from scipy import ndimage
 
 import reference
@@ -19,14 +20,16 @@ from drawn import draw_flow
 from subzero import demo
 
 
-def cells(mask: np.ndarray) -> list[list[int]]:
+def cells(mask: NDArray[Any]) -> list[list[int]]:
     """The cells of a mask, in row-major order."""
-    return np.argwhere(mask).tolist()
+    found: list[list[int]] = np.argwhere(mask).tolist()
+    return found
 
 
-def differs(new: Any, old: Any) -> np.ndarray:
+def differs(new: Any, old: Any) -> NDArray[Any]:
     """Where the values of two arrays differ, or one is empty."""
-    return (np.ma.getmaskarray(new) != np.ma.getmaskarray(old)) | (new.filled(0) != old.filled(0))
+    found: NDArray[Any] = (np.ma.getmaskarray(new) != np.ma.getmaskarray(old)) | (new.filled(0) != old.filled(0))
+    return found
 
 
 class ByHand(unittest.TestCase):
@@ -149,16 +152,15 @@ class ByHand(unittest.TestCase):
     def test_as_many_asks_as_steps_however_many_paths(self) -> None:
         base = self.session.array("image", [[9, 0, 9]])
         flow = self.session.flow("paths")
-        total = flow.input(0)
+        total: Any = flow.input(0)
         for _ in range(16):
             total = flow.max(total, total)
         labels = flow.regions(total, t=5)
         run = self.session.start(flow, [base])
-        sent, say = [], self.session.say
-        with mock.patch.object(self.session, "say", side_effect=lambda line: sent.append(line) or say(line)):
+        with mock.patch.object(self.session, "say", side_effect=self.session.say) as sent:
             self.assertEqual(run.suspects((0, 1), base, to=labels).sum(), 3)
             self.assertEqual(cells(run.support(labels, (0, 0), to=base)), [[0, 0], [0, 1]])
-        asks = [line for line in sent if line.startswith(b'{"ask"')]
+        asks = [call for call in sent.call_args_list if call.args[0].startswith(b'{"ask"')]
         self.assertEqual(len(asks), 2 * (2 * 16 + 1))
 
 
@@ -192,12 +194,12 @@ class Table(unittest.TestCase):
         labels = flow.regions(flow.input(0), t=5)
         run = self.session.start(flow, [base])
         table = subzero.suspects_table(run, labels, [(0, 1, 0), (1, 0, 0)], base)
-        self.assertEqual(table.dtype.names[:4], ("label", "layer", "row", "column"))
+        self.assertEqual((table.dtype.names or ())[:4], ("label", "layer", "row", "column"))
         self.assertEqual(table.tolist(), [(1, 0, 0, 0, 1, 1, 0, 1, True), (14, 1, 1, 1, 1, 1, 0, 0, False)])
 
     def test_it_says_what_the_asks_say(self) -> None:
         draw = np.random.RandomState(3)
-        image = np.ma.MaskedArray(draw.randint(0, 100, (40, 50)), draw.rand(40, 50) < 0.02)
+        image: Any = np.ma.MaskedArray(draw.randint(0, 100, (40, 50)), draw.rand(40, 50) < 0.02)
         base = self.session.array("image", image)
         flow = self.session.flow("f")
         first = flow.regions(flow.clean(flow.input(0), t=95), t=55)
@@ -231,7 +233,7 @@ class Table(unittest.TestCase):
             subzero.suspects_table(run, flow.input(0), [], base)
 
 
-def supported(op: str, p: dict[str, Any], grids: list[reference.Grid], number: int, mask: np.ndarray) -> np.ndarray:
+def supported(op: str, p: dict[str, Any], grids: list[reference.Grid], number: int, mask: NDArray[Any]) -> NDArray[Any]:
     """The cells of an input that support cells of the output, by scipy."""
     behind = reference.back(op, p, grids, number, mask)
     if op == "regions":
@@ -246,8 +248,8 @@ class ByTheDefinition(unittest.TestCase):
         draw = np.random.RandomState(seed)
         shape = tuple(int(size) for size in draw.randint(1, 9, 2))
         shape = shape if draw.rand() < 0.5 else (int(draw.randint(2, 5)), *shape)
-        image = np.ma.MaskedArray(draw.randint(-30, 60, shape), draw.rand(*shape) < 0.1)
-        table = np.ma.MaskedArray(draw.randint(-30, 60, (1, 20)), draw.rand(1, 20) < 0.1)
+        image: Any = np.ma.MaskedArray(draw.randint(-30, 60, shape), draw.rand(*shape) < 0.1)
+        table: Any = np.ma.MaskedArray(draw.randint(-30, 60, (1, 20)), draw.rand(1, 20) < 0.1)
         with subzero.Session() as session:
             held = [session.array("image", image), session.array("table", table)]
             flow = session.flow("f", inputs=2)
@@ -270,9 +272,9 @@ class ByTheDefinition(unittest.TestCase):
                         self.assertEqual(meets, (got & hit).any(), (node, place))
 
     def back(
-        self, flow: subzero.Flow, grids: dict[Any, reference.Grid], node: subzero.Node, asked: np.ndarray
-    ) -> dict[Any, np.ndarray]:
-        masks: dict[Any, np.ndarray] = {node: asked.reshape(grids[node][1].shape)}
+        self, flow: subzero.Flow, grids: dict[Any, reference.Grid], node: subzero.Node, asked: NDArray[Any]
+    ) -> dict[Any, NDArray[Any]]:
+        masks: dict[Any, NDArray[Any]] = {node: asked.reshape(grids[node][1].shape)}
         for at in reversed(flow.nodes):
             if at in masks:
                 for number, source in enumerate(at.sources):
@@ -295,7 +297,7 @@ class ByForce(unittest.TestCase):
             answers = [ahead.values(run, node) for node in run.flow.nodes]
         return [answer.result() for answer in answers]
 
-    def replaced(self, image: Any, bad: np.ndarray, draw: np.random.RandomState, times: int) -> Iterator[Any]:
+    def replaced(self, image: Any, bad: NDArray[Any], draw: np.random.RandomState, times: int) -> Iterator[Any]:
         """The image with other values in the bad cells: empty, low, high, huge, and such as it has itself."""
         kinds = [lambda n: draw.randint(-30, 60, n), lambda n: np.full(n, -1000), lambda n: np.full(n, 1000)]
         kinds += [lambda n: draw.choice([-(2**62), 2**62, 2**63 - 1, -(2**63)], n)]
@@ -313,8 +315,8 @@ class ByForce(unittest.TestCase):
         draw = np.random.RandomState(seed)
         shape = tuple(int(size) for size in draw.randint(2, 9, 2))
         shape = shape if draw.rand() < 0.5 else (int(draw.randint(2, 4)), *shape)
-        image = np.ma.MaskedArray(draw.randint(-30, 60, shape), draw.rand(*shape) < 0.1)
-        table = np.ma.MaskedArray(draw.randint(-30, 60, (1, 20)), draw.rand(1, 20) < 0.1)
+        image: Any = np.ma.MaskedArray(draw.randint(-30, 60, shape), draw.rand(*shape) < 0.1)
+        table: Any = np.ma.MaskedArray(draw.randint(-30, 60, (1, 20)), draw.rand(1, 20) < 0.1)
         tried = told = differing = 0
         with subzero.Session() as session:
             held = [session.array("image", image), session.array("table", table)]
@@ -374,7 +376,7 @@ class ByForce(unittest.TestCase):
                 sky = session.array("sky", part)
                 run = session.start(flow, [sky])
                 sound = run.values(labels)
-                star = (sound == sound[10, 10]).filled(False)
+                star = sound.filled(0) == sound[10, 10]
                 self.assertGreater(sound[10, 10], 0)
                 behind += int(run.back(labels, star, to=sky).sum())
                 for at in np.ndindex(15, 15):
@@ -384,7 +386,7 @@ class ByForce(unittest.TestCase):
                     sky = session.array("sky", image)
                     run = session.start(flow, [sky])
                     found = run.values(labels)
-                    changed, high = differs(found, sound), (found > 0).filled(False)
+                    changed, high = differs(found, sound), found.filled(0) > 0
                     suspects = run.suspects(pixel, sky, to=labels)
                     self.assertFalse((changed & ~suspects).any(), pixel)
                     placed += 1

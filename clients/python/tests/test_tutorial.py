@@ -27,7 +27,7 @@ try:
 
     matplotlib.use("Agg")
 except ImportError:
-    matplotlib = None  # type: ignore[assignment]
+    matplotlib = None
 
 TUTORIAL = Path(__file__).resolve().parents[3] / "docs" / "TUTORIAL.md"
 MADE = ["back.png", "changed.png", "touched.png", "x.session"]

@@ -12,6 +12,7 @@ from typing import Any, TypeAlias
 import numpy as np
 from numpy.typing import NDArray
 
+from .cells import Mask, Values
 from .flow import Flow, Node
 from .run import Run
 from .session import BaseArray, Session

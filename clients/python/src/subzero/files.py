@@ -2,8 +2,6 @@
 
 from __future__ import annotations
 
-import csv
-import io
 import json
 import os
 from pathlib import Path
@@ -118,9 +116,3 @@ def _scaled(raw: NDArray[Any], factor: float, offset: float) -> NDArray[Any]:
             return raw.astype(np.int64).view(np.uint64) + np.uint64(2**63)
         return raw.astype(np.int64) + int(offset)
     return raw.astype(np.float64) * factor + offset
-
-
-def csv_values(line: bytes) -> tuple[NDArray[np.int64], NDArray[np.bool_]]:
-    """The values of a line of `.csv` text that the program has accepted, and which of them are empty."""
-    records = csv.reader(io.StringIO(json.loads(line)["text"].removeprefix("\ufeff"), newline=""))
-    return values_of([[int(field) if field else None for field in record] for record in records if record])

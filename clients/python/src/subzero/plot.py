@@ -17,14 +17,13 @@ from matplotlib.patches import ConnectionPatch, FancyArrowPatch, Patch, Rectangl
 from numpy.typing import NDArray
 
 from . import layout
-from .cells import Cells, Shape, cells_of
+from .cells import Cells, Mask, Shape, cells_of
 from .flow import Input, Node, Place
 from .spread import masks_between
 
 if TYPE_CHECKING:
     from .run import Array, Direction, Run
 
-Mask: TypeAlias = NDArray[np.bool_]
 Origin: TypeAlias = Literal["upper", "lower"]
 
 ASKED, FOUND, EMPTY, NEAR = "#00b4d8", "#ff8c1a", "#c9b8e8", "#d4b106"
@@ -149,8 +148,10 @@ class _Group:
         self.values, self.mask, self.colour = run.values(place), mask, colour
         self.labels = isinstance(place, Node) and _is_labelled(place)
         name = run.base[place.number].name if isinstance(place, Input) else place.label
+        if isinstance(place, Node) and place.name:
+            name = f"{place.name}: {name}"
         self.title = [*textwrap.wrap(name, 30), f"{mask.sum():,} of {mask.size:,} cells"]
-        found = _layers_of(mask) if mask.ndim == 3 else [None]
+        found: list[int | None] = [*_layers_of(mask)] if mask.ndim == 3 else [None]
         self.layers, left_out = found[:most_layers], found[most_layers:]
         if left_out:
             self.title.append(
@@ -219,7 +220,7 @@ def _grey(flat: np.ma.MaskedArray[Any, Any]) -> tuple[Any, Any, float, float]:
 def _coloured(flat: np.ma.MaskedArray[Any, Any], bright: bool) -> tuple[Any, Any, float, float]:
     """The same of labels: each in the order of their numbers, in colours, or in greys where they are not `bright`."""
     _, order = np.unique(flat.filled(0), return_inverse=True)
-    shown = np.ma.MaskedArray(order.reshape(flat.shape), np.ma.getmaskarray(flat))
+    shown: Any = np.ma.MaskedArray(order.reshape(flat.shape), np.ma.getmaskarray(flat))
     greys = [(0.42 + 0.05 * (number * 3 % 7),) * 3 for number in range(20)]
     colours = [_GROUND, *((_LABELS if bright else greys)[number % 20] for number in range(int(order.max())))]
     return shown, ListedColormap(colours), -0.5, len(colours) - 0.5
@@ -302,4 +303,5 @@ def _edges(mask: Mask) -> NDArray[np.float64]:
     flat = np.stack([np.stack([cols, cols + 1], axis=1), np.stack([rows, rows], axis=1)], axis=2)
     rows, cols = np.nonzero(wide[1:-1, 1:] != wide[1:-1, :-1])
     steep = np.stack([np.stack([cols, cols], axis=1), np.stack([rows, rows + 1], axis=1)], axis=2)
-    return np.concatenate([flat, steep]) - 0.5
+    pieces: NDArray[np.float64] = np.concatenate([flat, steep]) - 0.5
+    return pieces

@@ -165,21 +165,27 @@ class Run:
         """
         return self.asked_later("forward", array, cells, to=to, path=path).result()
 
-    def suspects(self, bad: Cells, base: Array, *, to: Array) -> np.ndarray:
+    def suspects(self, bad: Cells, base: Array, *, to: Array) -> Mask:
         """Which cells of `to` could be others, had the `bad` cells of `base` held anything else, values or none: a
         boolean array of the shape of `to`.
 
         A cell outside it has the same value, whatever they would have held. Not every cell in it must differ for some
         values. Raises BadInput for cells out of range, and where no path leads from `to` back to `base`.
+
+        >>> np.argwhere(run.suspects((0, 2), sky, to=labels)).tolist()
+        [[0, 1], [0, 2], [1, 0], [1, 1]]
         """
         return spread.suspects(self, bad, base, to)
 
-    def support(self, array: Array, cells: Cells, *, to: Array) -> np.ndarray:
+    def support(self, array: Array, cells: Cells, *, to: Array) -> Mask:
         """Which cells of `to` fix the values of these cells of `array`: a boolean array of the shape of `to`.
 
         As long as they hold what they hold, these values stay, whatever stands elsewhere in `to`. They are those that
         `back` gives and, through `regions`, what is beside: a region stays as it is while its four neighbours do.
         Raises BadInput as `back` does.
+
+        >>> np.argwhere(run.support(labels, (3, 2), to=sky)).tolist()
+        [[1, 2], [1, 3], [2, 1], [2, 2], [2, 3], [3, 1], [3, 2], [3, 3]]
         """
         return spread.support(self, array, cells, to)
 

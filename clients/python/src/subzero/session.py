@@ -365,17 +365,8 @@ class Session:
             return self.array(name, files.read(path, ext=ext, empty=empty, squeeze=squeeze), scale=scale)
         if scale is not None or ext is not None or empty is not None or squeeze:
             raise BadInput("a .csv file is read by the program as it is: scale, ext, empty and squeeze are for others")
-        line = files.csv_line(name_of(name), path)
-        held = frozen(*files.csv_values(line))
-
-        def hold(session: Session, text: bytes) -> None:
-            array = HeldArray(name, int(text.split()[-1]), known=held)
-            session._holdings.add(array)
-            session._arrays[name, array.version] = BaseArray(session, array)
-
-        reply = self.order(line, hold).wait(f"handing in {name}")
-        self.holdings()
-        return self._arrays[name, int(reply.split()[-1])]
+        reply = self.say(files.csv_line(name_of(name), path)).wait(f"handing in {name}")
+        return self.arrays[name, int(reply.split()[-1])]
 
     def held_array(self, name: str, version: int, shape: Shape | None = None) -> BaseArray:
         """An array that the session holds already, as from its log: `session.arrays[name, version]`.

@@ -13,15 +13,16 @@ other cell of it rests on itself. The cells of `regions` that are high are those
 
 from __future__ import annotations
 
-from collections.abc import Collection, Sequence
+from collections.abc import Callable, Collection, Sequence
 from dataclasses import dataclass
 from typing import TYPE_CHECKING
 
 import numpy as np
+from numpy.typing import NDArray
 
 from . import numerals
-from .cells import Cells, Shape, cells_of, mask_of
-from .faults import BadInput, OutOfStep
+from .cells import Cells, Integers, Mask, Shape, cells_of, mask_of
+from .faults import BadInput, OutOfStep, SubZeroError
 from .flow import Node, Place
 from .later import Future
 from .paths import Path, places_between
@@ -33,17 +34,17 @@ if TYPE_CHECKING:
 _AT_ONCE = 32
 
 
-def suspects(run: Run, bad: Cells, base: Array, to: Array) -> np.ndarray:
+def suspects(run: Run, bad: Cells, base: Array, to: Array) -> Mask:
     """As `Run.suspects`."""
     return spread_later(run, "forward", base, cells_of(bad, run.shape(base)), to, supports=True).result()
 
 
-def support(run: Run, array: Array, cells: Cells, to: Array) -> np.ndarray:
+def support(run: Run, array: Array, cells: Cells, to: Array) -> Mask:
     """As `Run.support`."""
     return spread_later(run, "back", array, cells_of(cells, run.shape(array)), to, supports=True).result()
 
 
-def suspects_table(run: Run, labels: Array, bad: Cells, base: Array) -> np.ndarray:
+def suspects_table(run: Run, labels: Array, bad: Cells, base: Array) -> NDArray[np.void]:
     """What stands behind each region of a run, and what could change it: a structured array of one row a region, in
     the order of their labels.
 
@@ -59,6 +60,9 @@ def suspects_table(run: Run, labels: Array, bad: Cells, base: Array) -> np.ndarr
 
     Raises BadInput where `labels` is no `regions` node, where no path leads from it back to `base`, and for cells out
     of range.
+
+    >>> subzero.suspects_table(run, labels, [(0, 2)], sky).tolist()
+    [(2, 0, 1, 3, 3, 0, 1, True), (11, 2, 2, 3, 3, 0, 0, True)]
     """
     node = run.places(labels)[0]
     if not isinstance(node, Node) or node.op != "regions":
@@ -81,7 +85,7 @@ def suspects_table(run: Run, labels: Array, bad: Cells, base: Array) -> np.ndarr
     return table
 
 
-def _groups(labels: np.ndarray) -> list[np.ndarray]:
+def _groups(labels: Integers) -> list[Integers]:
     """The cells of each label above 0, by rising labels, whole numbers of shape (N, axes) in row-major order."""
     flat = labels.ravel()
     order = np.argsort(flat, kind="stable")[np.count_nonzero(flat <= 0) :]
@@ -89,7 +93,7 @@ def _groups(labels: np.ndarray) -> list[np.ndarray]:
     return [np.stack(np.unravel_index(part, labels.shape), axis=1) for part in parts]
 
 
-def _counted(run: Run, labels: Node, base: Array, groups: Sequence[np.ndarray], bad: np.ndarray) -> np.ndarray:
+def _counted(run: Run, labels: Node, base: Array, groups: Sequence[Integers], bad: Mask) -> Integers:
     """Of each region how many cells of `base` are behind it, how many of them are bad, and how many bad cells could
     change it: of shape (regions, 3). `regions` relates each of a region's cells to exactly the region, so that it is
     asked from there on.
@@ -105,7 +109,7 @@ def _counted(run: Run, labels: Node, base: Array, groups: Sequence[np.ndarray], 
     )
 
 
-def _raw_later(run: Run, labels: Node, mask: np.ndarray, base: Array, *, supports: bool) -> Future[np.ndarray]:
+def _raw_later(run: Run, labels: Node, mask: Mask, base: Array, *, supports: bool) -> Future[Mask]:
     """The cells of `base` behind these cells of what `labels` takes."""
     source = labels.sources[0]
     if source in run.places(base):
@@ -114,24 +118,40 @@ def _raw_later(run: Run, labels: Node, mask: np.ndarray, base: Array, *, support
 
 
 def spread_later(
-    run: Run, direction: Direction, array: Array, cells: np.ndarray, to: Array, *, supports: bool = False
-) -> Future[np.ndarray]:
+    run: Run, direction: Direction, array: Array, cells: Integers, to: Array, *, supports: bool = False
+) -> Future[Mask]:
     """The cells of `to` to which these cells of `array`, whole numbers of shape (N, axes), lead over all paths.
 
     The first asks are sent ahead; those that want their answers are sent when the result is taken.
     """
     spread = Spread(run, direction, array, [to], supports=supports)
 
-    def end(texts: list[bytes]) -> np.ndarray:
+    def end(texts: list[bytes]) -> Mask:
         masks = spread.end()
-        return np.logical_or.reduce([masks[place] for place in run.places(to) if place in masks])
+        found = np.zeros(run.shape(to), dtype=bool)
+        for place in run.places(to):
+            if place in masks:
+                found |= masks[place]
+        return found
 
-    return Future(spread.begin(cells), f"asking {direction}", end)
+    return _Asked(spread, spread.begin(cells), f"asking {direction}", end)
+
+
+class _Asked(Future[Mask]):
+    """An answer whose `result` may have to send further lines."""
+
+    def __init__(self, spread: Spread, replies: list[Reply], doing: str, read: Callable[[list[bytes]], Mask]) -> None:
+        super().__init__(replies, doing, read)
+        self._spread = spread
+
+    def done(self) -> bool:
+        """Whether `result` need not wait."""
+        return super().done() and (bool(self._answer) or self._spread.is_sent)
 
 
 def masks_between(
-    run: Run, direction: Direction, array: Array, cells: np.ndarray, to: Sequence[Array], *, supports: bool = False
-) -> dict[Place, np.ndarray]:
+    run: Run, direction: Direction, array: Array, cells: Integers, to: Sequence[Array], *, supports: bool = False
+) -> dict[Place, Mask]:
     """The set of cells in each array on the paths between `array` and those of `to`, their ends too, in the flow's
     order.
     """
@@ -217,9 +237,9 @@ class Spread:
             direction, chain, [*self._starts, *self._kept], by_steps_at="regions" if supports else None
         )
         self._coming: dict[Place, list[tuple[Stretch, Reply]]] = {place: [] for place in self._stretches}
-        self._high: dict[Node, np.ndarray] = {}
+        self._high: dict[Node, Mask] = {}
 
-    def begin(self, cells: np.ndarray) -> list[Reply]:
+    def begin(self, cells: Integers) -> list[Reply]:
         """Send the first asks, of these cells of `array`: whole numbers of shape (N, axes). Gives their replies."""
         self._cells = cells
         for place in self._starts:
@@ -227,9 +247,28 @@ class Spread:
                 self._send(stretch, cells)
         return [reply for coming in self._coming.values() for _, reply in coming]
 
-    def end(self) -> dict[Place, np.ndarray]:
-        """The cells in each array that is kept: take the replies and send the further asks, array by array."""
-        masks: dict[Place, np.ndarray] = {}
+    @property
+    def is_sent(self) -> bool:
+        """Whether `begin` sends all that is to be asked."""
+        return all(place in self._starts or not onward for place, onward in self._stretches.items())
+
+    def end(self) -> dict[Place, Mask]:
+        """The cells in each array that is kept: take the replies and send the further asks, array by array.
+
+        An interrupt (Ctrl-C) gives up what was not sent yet.
+        """
+        try:
+            return self._end()
+        except SubZeroError:
+            raise
+        except BaseException:
+            for coming in self._coming.values():
+                for _, reply in coming:
+                    reply.cancel()
+            raise
+
+    def _end(self) -> dict[Place, Mask]:
+        masks: dict[Place, Mask] = {}
         for place, onward in self._stretches.items():
             shape = self._run.shape(place)
             mask = mask_of(self._cells, shape) if place in self._starts else np.zeros(shape, dtype=bool)
@@ -242,13 +281,13 @@ class Spread:
                     self._send(stretch, np.argwhere(mask))
         return masks
 
-    def _send(self, stretch: Stretch, cells: np.ndarray) -> None:
+    def _send(self, stretch: Stretch, cells: Integers) -> None:
         if self._supports and self._direction == "forward":
             cells = self._with_regions_beside(stretch, cells)
         line = ask_line(b"ask", self._run.number, self._direction, stretch.path, numerals.cells_text(cells))
         self._coming[stretch.end].append((stretch, self._run.session.say(line)))
 
-    def _answer(self, stretch: Stretch, reply: Reply) -> np.ndarray:
+    def _answer(self, stretch: Stretch, reply: Reply) -> Mask:
         shape = self._run.shape(stretch.end)
         mask = read_mask(reply.wait(f"asking {self._direction}"), shape)
         last = self._run.flow.nodes[stretch.path[-1][0]]
@@ -256,7 +295,7 @@ class Spread:
             mask |= beside(mask & self._high_of(last))
         return mask
 
-    def _with_regions_beside(self, stretch: Stretch, cells: np.ndarray) -> np.ndarray:
+    def _with_regions_beside(self, stretch: Stretch, cells: Integers) -> Integers:
         """Of a step through `regions`, the cells and the high ones beside them."""
         first = self._run.flow.nodes[stretch.path[-1][0]]
         if first.op != "regions":
@@ -264,14 +303,14 @@ class Spread:
         mask = mask_of(cells, self._run.shape(stretch.start))
         return np.argwhere(mask | beside(mask) & self._high_of(first))
 
-    def _high_of(self, node: Node) -> np.ndarray:
+    def _high_of(self, node: Node) -> Mask:
         """Which cells of the input of a `regions` node are high: those that have a label."""
         if node not in self._high:
             self._high[node] = self._run.values(node).filled(0) > 0
         return self._high[node]
 
 
-def beside(mask: np.ndarray) -> np.ndarray:
+def beside(mask: Mask) -> Mask:
     """The four neighbours, in their layer, of the cells of a mask."""
     found = np.zeros_like(mask)
     found[..., 1:, :] |= mask[..., :-1, :]
@@ -290,7 +329,7 @@ def ask_line(form: bytes, run: int, direction: Direction, path: Path, cells: byt
     return b'{"%s":%d,"dir":"%s","path":[%s],"cells":%s}\n' % (form, run, direction.encode(), text, cells)
 
 
-def read_mask(text: bytes, shape: Shape) -> np.ndarray:
+def read_mask(text: bytes, shape: Shape) -> Mask:
     """The cells of a `cells` reply as a boolean array of the shape."""
     word, count, *rest = text.split(b" ", 2)
     if word != b"cells":
