@@ -459,7 +459,7 @@ class Fit(unittest.TestCase):
             layout = mosaic.start(flow, [mosaic.array("a", np.zeros((2000, 900), dtype=np.int8))]).layout
             self.assertEqual((layout.tiles, layout.stages, layout.sides), (6, 1, (800,)))
             self.assertEqual((layout.cells, layout.bytes), (3 * 800 * 800, 16 * 3 * 800 * 800))
-            self.assertEqual(str(layout), "6 tiles in 1 stages, of side 800; the largest takes 29.3 MiB in its program")
+            self.assertEqual(str(layout), "6 tiles in 1 stage, of side 800; the largest takes 29.3 MiB in its program")
 
 
 class Use(unittest.TestCase):
