@@ -199,6 +199,28 @@ def spiral(side: int) -> np.ndarray:
     return image
 
 
+class Edges(unittest.TestCase):
+    def test_what_is_wrong_near_the_edge_of_a_tile_does_not_show(self) -> None:
+        """Beyond its own cells a tile sums less than there is, and would take cells for hot that are not."""
+        image = np.ones((6, 12), dtype=int)
+        with subzero.tiled(tile=4, programs=2) as mosaic:
+            base = mosaic.array("a", image)
+            flow = mosaic.flow("f")
+            cleaned = flow.clean(flow.convolve(flow.input(0), [[1, 0, -1]]), 1)
+            run = mosaic.start(flow, [base])
+            change = np.zeros((6, 12), dtype=int)
+            change[:, 0], change[:, -1] = -1, 1
+            hot = change >= 1
+            self.assertEqual(run.values(cleaned)[:, :-1].tolist(), change[:, :-1].tolist())
+            for column in range(12):
+                asked = np.zeros((1, 6, 12), dtype=bool)
+                asked[0, 2, column] = True
+                near = ndimage.binary_dilation(asked, [[[1, 0, 1]]])[0]
+                expected = near & ~hot | ndimage.binary_dilation(near, np.ones((3, 3))) & hot
+                found = run.forward(base, (2, column), to=cleaned)
+                self.assertEqual(np.argwhere(found).tolist(), np.argwhere(expected).tolist(), column)
+
+
 class Regions(unittest.TestCase):
     """Components that lie in many tiles."""
 
