@@ -167,7 +167,7 @@ class RandomFlows(unittest.TestCase):
         mosaic.side = int(draw.randint(5, 18)) if seed % 8 else int(draw.randint(1, 5))
         shape = tuple(int(size) for size in draw.randint(1, 28 if seed % 8 else 9, 2))
         shape = (shape[0], shape[0]) if draw.rand() < 0.3 else shape
-        shape = shape if draw.rand() < 0.6 else (int(draw.randint(2, 4)), *shape)
+        shape = shape if draw.rand() < 0.6 else (int(draw.randint(1, 4)), *shape)
         arrays = [some(draw, shape), some(draw, shape), some(draw, (1, 20))]
         state = draw.get_state()
 
@@ -693,12 +693,24 @@ class Ends(unittest.TestCase):
         self.assertEqual(self.run_.values(self.last).tolist(), self.expected)
 
     def test_an_interrupt_that_leaves_the_mosaic_stops_its_programs(self) -> None:
-        with self.assertRaises(KeyboardInterrupt):
-            with self.mosaic:
-                self.run_.wait()
-                pids = self.mosaic.pids
-                raise KeyboardInterrupt
-        self.assertEqual(len([pid for pid in pids if pid is not None]), 2)
+        tiles = Holder.tiles
+        pids: list[int] = []
+
+        def interrupting(holder: Holder, requests: list[Any]) -> Any:
+            answers = tiles(holder, requests)
+            if holder.pid()[1] is not None:
+                pids.append(holder.pid()[1])
+            if len(pids) == 3:
+                os.kill(os.getpid(), signal.SIGINT)
+            time.sleep(0.1)
+            return answers
+
+        with mock.patch.object(Holder, "tiles", interrupting), mock.patch("subzero.tiles.making._BATCH", 1):
+            with self.assertRaises(KeyboardInterrupt):
+                with self.mosaic:
+                    self.run_.wait()
+        self.assertGreaterEqual(len(pids), 3)
+        self.assertLess(len(pids), len(self.run_._making.plan.stages[0].tiles))
         for pid in pids:
             with self.assertRaises(ProcessLookupError):
                 os.kill(pid, 0)
