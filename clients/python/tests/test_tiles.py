@@ -167,7 +167,7 @@ class RandomFlows(unittest.TestCase):
         mosaic.side = int(draw.randint(5, 18)) if seed % 8 else int(draw.randint(1, 5))
         shape = tuple(int(size) for size in draw.randint(1, 28 if seed % 8 else 9, 2))
         shape = (shape[0], shape[0]) if draw.rand() < 0.3 else shape
-        shape = shape if draw.rand() < 0.6 else (int(draw.randint(2, 4)), *shape)
+        shape = shape if draw.rand() < 0.6 else (int(draw.randint(1, 4)), *shape)
         arrays = [some(draw, shape), some(draw, shape), some(draw, (1, 20))]
         state = draw.get_state()
 
@@ -197,6 +197,28 @@ def spiral(side: int) -> np.ndarray:
             image[row, column] = 1
         down, right = right, -down
     return image
+
+
+class Edges(unittest.TestCase):
+    def test_what_is_wrong_near_the_edge_of_a_tile_does_not_show(self) -> None:
+        """Beyond its own cells a tile sums less than there is, and would take cells for hot that are not."""
+        image = np.ones((6, 12), dtype=int)
+        with subzero.tiled(tile=4, programs=2) as mosaic:
+            base = mosaic.array("a", image)
+            flow = mosaic.flow("f")
+            cleaned = flow.clean(flow.convolve(flow.input(0), [[1, 0, -1]]), 1)
+            run = mosaic.start(flow, [base])
+            change = np.zeros((6, 12), dtype=int)
+            change[:, 0], change[:, -1] = -1, 1
+            hot = change >= 1
+            self.assertEqual(run.values(cleaned)[:, :-1].tolist(), change[:, :-1].tolist())
+            for column in range(12):
+                asked = np.zeros((1, 6, 12), dtype=bool)
+                asked[0, 2, column] = True
+                near = ndimage.binary_dilation(asked, [[[1, 0, 1]]])[0]
+                expected = near & ~hot | ndimage.binary_dilation(near, np.ones((3, 3))) & hot
+                found = run.forward(base, (2, column), to=cleaned)
+                self.assertEqual(np.argwhere(found).tolist(), np.argwhere(expected).tolist(), column)
 
 
 class Regions(unittest.TestCase):
@@ -459,7 +481,7 @@ class Fit(unittest.TestCase):
             layout = mosaic.start(flow, [mosaic.array("a", np.zeros((2000, 900), dtype=np.int8))]).layout
             self.assertEqual((layout.tiles, layout.stages, layout.sides), (6, 1, (800,)))
             self.assertEqual((layout.cells, layout.bytes), (3 * 800 * 800, 16 * 3 * 800 * 800))
-            self.assertEqual(str(layout), "6 tiles in 1 stages, of side 800; the largest takes 29.3 MiB in its program")
+            self.assertEqual(str(layout), "6 tiles in 1 stage, of side 800; the largest takes 29.3 MiB in its program")
 
 
 class Use(unittest.TestCase):
@@ -671,12 +693,24 @@ class Ends(unittest.TestCase):
         self.assertEqual(self.run_.values(self.last).tolist(), self.expected)
 
     def test_an_interrupt_that_leaves_the_mosaic_stops_its_programs(self) -> None:
-        with self.assertRaises(KeyboardInterrupt):
-            with self.mosaic:
-                self.run_.wait()
-                pids = self.mosaic.pids
-                raise KeyboardInterrupt
-        self.assertEqual(len([pid for pid in pids if pid is not None]), 2)
+        tiles = Holder.tiles
+        pids: list[int] = []
+
+        def interrupting(holder: Holder, requests: list[Any]) -> Any:
+            answers = tiles(holder, requests)
+            if holder.pid()[1] is not None:
+                pids.append(holder.pid()[1])
+            if len(pids) == 3:
+                os.kill(os.getpid(), signal.SIGINT)
+            time.sleep(0.1)
+            return answers
+
+        with mock.patch.object(Holder, "tiles", interrupting), mock.patch("subzero.tiles.making._BATCH", 1):
+            with self.assertRaises(KeyboardInterrupt):
+                with self.mosaic:
+                    self.run_.wait()
+        self.assertGreaterEqual(len(pids), 3)
+        self.assertLess(len(pids), len(self.run_._making.plan.stages[0].tiles))
         for pid in pids:
             with self.assertRaises(ProcessLookupError):
                 os.kill(pid, 0)

@@ -7,6 +7,7 @@ import signal
 import threading
 import time
 import unittest
+import warnings
 from typing import Any
 from unittest import mock
 
@@ -21,16 +22,19 @@ try:
     from dask.distributed import Client, LocalCluster
 except ImportError:
     Client = None
+    print("test_tiles_dask: SKIPPED, since Dask is not there: apt-get install python3-dask python3-distributed")
 
 
 @unittest.skipIf(Client is None, "Dask is not there: apt-get install python3-dask python3-distributed")
 class OnDask(unittest.TestCase):
     @classmethod
     def setUpClass(cls) -> None:
-        cls.cluster = LocalCluster(
-            n_workers=2, threads_per_worker=1, host="127.0.0.1", dashboard_address=None, silence_logs=50
-        )
-        cls.client = Client(cls.cluster)
+        with warnings.catch_warnings():
+            warnings.simplefilter("ignore", DeprecationWarning)
+            cls.cluster = LocalCluster(
+                n_workers=2, threads_per_worker=1, host="127.0.0.1", dashboard_address=None, silence_logs=50
+            )
+            cls.client = Client(cls.cluster)
 
     @classmethod
     def tearDownClass(cls) -> None:

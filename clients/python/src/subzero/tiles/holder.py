@@ -68,6 +68,7 @@ class Holder:
         self._most = most
         self._workers = workers
         self._held: _Held | None = None
+        self._stopped = False
         self._turn = threading.Lock()
 
     def tiles(self, requests: list[Request]) -> list[Answer]:
@@ -109,7 +110,8 @@ class Holder:
         return "ok", None
 
     def kill(self) -> None:
-        """Stop the program at once."""
+        """Stop the program at once, and start no other."""
+        self._stopped = True
         held = self._held
         if held is not None:
             held.session._program.kill()
@@ -133,6 +135,8 @@ class Holder:
     def _renew(self) -> None:
         """End the program, and start a new one."""
         self._end()
+        if self._stopped:
+            raise SubZeroError("the mosaic is closed")
         self._held = _Held(Session(program=self._program, workers=self._workers), {}, {}, {})
 
     def _send(self, request: Request) -> _Sent:

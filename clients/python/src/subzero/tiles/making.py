@@ -13,6 +13,7 @@ from typing import Any
 import numpy as np
 from numpy.typing import NDArray
 
+from ..cells import Shape
 from ..faults import SubZeroError
 from ..flow import Input, Node, Place
 from .crew import Crew, side_by_side
@@ -39,6 +40,11 @@ class Whole:
         """Write a part of it."""
         at = np.s_[:, rect.top : rect.bottom, rect.left : rect.right]
         self.values[at], self.empty[at] = values, empty
+
+
+def whole_of(shape: Shape) -> Whole:
+    """Room for an output of 3 axes."""
+    return Whole(np.zeros(shape, dtype=np.int64), np.zeros(shape, dtype=bool))
 
 
 @dataclass
@@ -111,44 +117,52 @@ class Making:
         keeps = [
             node for node in stage.members.nodes if node.number in stage.members.own and node.number in self.plan.kept
         ]
+        rooms = {node.number: self._room(node) for node in keeps}
         parts: dict[int, list[tuple[Rect, NDArray[Any]]]] = {node.number: [] for node in keeps}
-        labels: dict[int, NDArray[Any]] = {}
-        for node in keeps:
-            shape = self.plan.shapes[node]
-            if node.op == CUT:
-                labels[node.number] = empty_labels(shape)
-            else:
-                room = (layers_of(shape), *shape[-2:])
-                self._wholes[node.number] = Whole(np.zeros(room, dtype=np.int64), np.zeros(room, dtype=bool))
-
-        def want(plan: TilePlan) -> Want:
-            taken = [node for node in keeps if node.number in plan.own]
-            shows = [self._show(stage, plan, node, plan.own[node.number]) for node in taken]
-
-            def take(found: list[tuple[NDArray[Any], NDArray[Any]]], _: list[Any]) -> None:
-                for node, (values, empty) in zip(taken, found):
-                    rect = plan.own[node.number]
-                    if node.op == CUT:
-                        different = place_part(labels[node.number], self.plan.shapes[node], rect, values)
-                        parts[node.number].append((rect, different))
-                    else:
-                        self._wholes[node.number].put(rect, values, empty)
-
-            return Want(plan, shows, [], take)
-
         wanted = [plan for plan in stage.tiles.values() if any(node.number in plan.own for node in keeps)]
         doing = f"making stage {stage.number + 1} of {len(self.plan.stages)}"
-        self._get(stage, [want(plan) for plan in wanted], doing)
-        for number, array in labels.items():
-            node = next(node for node in keeps if node.number == number)
-            self._labels[number] = join(self.plan.shapes[node], array, sorted(parts[number], key=lambda part: part[0]))
+        self._get(stage, [self._part_wanted(stage, plan, keeps, rooms, parts) for plan in wanted], doing)
+        for node in keeps:
+            room = rooms[node.number]
+            if isinstance(room, Whole):
+                self._wholes[node.number] = room
+            else:
+                pieces = sorted(parts[node.number], key=lambda part: part[0])
+                self._labels[node.number] = join(self.plan.shapes[node], room, pieces)
+
+    def _room(self, node: Node) -> Whole | NDArray[Any]:
+        """Room for the output of a node that is kept: of a `regions` for labels."""
+        shape = self.plan.shapes[node]
+        if node.op == CUT:
+            return empty_labels(shape)
+        return whole_of((layers_of(shape), *shape[-2:]))
+
+    def _part_wanted(
+        self,
+        stage: Stage,
+        plan: TilePlan,
+        keeps: list[Node],
+        rooms: dict[int, Whole | NDArray[Any]],
+        parts: dict[int, list[tuple[Rect, NDArray[Any]]]],
+    ) -> Want:
+        """A tile's own part of what its stage keeps; of labels `parts` takes which stand in it."""
+        taken = [node for node in keeps if node.number in plan.own]
+
+        def take(found: list[tuple[NDArray[Any], NDArray[Any]]], _: list[Any]) -> None:
+            for node, (values, empty) in zip(taken, found):
+                rect, room = plan.own[node.number], rooms[node.number]
+                if isinstance(room, Whole):
+                    room.put(rect, values, empty)
+                else:
+                    parts[node.number].append((rect, place_part(room, self.plan.shapes[node], rect, values)))
+
+        return Want(plan, [self._show(stage, plan, node, plan.own[node.number]) for node in taken], [], take)
 
     def _gathered(self, node: Node, window: Rect) -> tuple[NDArray[Any], NDArray[Any]]:
         """The values in a window of a node's output, taken from the tiles whose own they are."""
         stage = self.plan.stage_of[node.number]
         self.make_before(stage.number)
-        shape = (layers_of(self.plan.shapes[node]), window.height, window.width)
-        room = Whole(np.zeros(shape, dtype=np.int64), np.zeros(shape, dtype=bool))
+        room = whole_of((layers_of(self.plan.shapes[node]), window.height, window.width))
 
         def want(plan: TilePlan, part: Rect) -> Want:
             return Want(
@@ -213,8 +227,9 @@ class Making:
         return self.number, stage.number, *plan.spot
 
     def _program(self, stage: Stage, spot: Spot) -> int:
+        """The program that makes a tile: in turn, and shifted by one where each column of tiles would have the same."""
         wide = 1 + max(column for _, column in stage.tiles)
-        return (spot[0] * wide + spot[1]) % self.crew.count
+        return (spot[0] * (wide + (wide % self.crew.count == 0)) + spot[1]) % self.crew.count
 
     def _order(self, key: Key, stage: Stage, plan: TilePlan) -> Order:
         windows = []

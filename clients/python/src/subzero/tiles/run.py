@@ -48,7 +48,7 @@ class Layout:
     def __str__(self) -> str:
         sides = ", ".join(str(side) for side in self.sides)
         return (
-            f"{self.tiles} tiles in {self.stages} stages, of side {sides}; "
+            f"{self.tiles} tiles in {self.stages} stage{'s' * (self.stages != 1)}, of side {sides}; "
             f"the largest takes {self.bytes / 2**20:.1f} MiB in its program"
         )
 

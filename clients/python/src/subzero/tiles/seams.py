@@ -57,8 +57,9 @@ class Labels:
         if not labels.size:
             return NONE
         starts = np.searchsorted(self.part_label, labels, side="left")
-        ends = np.searchsorted(self.part_label, labels, side="right")
-        rects = np.unique(np.concatenate([self.part_rect[start:end] for start, end in zip(starts, ends)]))
+        counts = np.searchsorted(self.part_label, labels, side="right") - starts
+        first = np.repeat(starts - np.concatenate([[0], np.cumsum(counts)[:-1]]), counts)
+        rects = np.unique(self.part_rect[first + np.arange(first.size)])
         return union([self._cells_in(self.rects[number], labels) for number in rects])
 
     def _cells_in(self, rect: Rect, labels: NDArray[Any]) -> Indexes:
