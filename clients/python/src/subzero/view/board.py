@@ -1,0 +1,190 @@
+"""What the page shows of a run: its arrays, where they stand, and the arrows between them."""
+
+from __future__ import annotations
+
+from collections.abc import Mapping, Sequence
+from dataclasses import dataclass
+from typing import TYPE_CHECKING, Any, TypeAlias
+
+import numpy as np
+import numpy.typing as npt
+
+from ..cells import Shape
+from ..faults import BadInput
+from ..flow import Input, Node, Place
+from . import marks
+
+if TYPE_CHECKING:
+    from ..run import Array, Run
+
+Values: TypeAlias = "np.ma.MaskedArray[tuple[int, ...], np.dtype[np.int64]]"
+
+PERCENTILES = (90.0, 95.0, 98.0, 99.0, 99.5, 99.9, 100.0)
+
+
+@dataclass(frozen=True)
+class Panel:
+    """One array on the page: a node's output, or a base array, which may be taken in several places of the flow."""
+
+    number: int
+    title: str
+    detail: str
+    places: tuple[Place, ...]
+    shape: Shape
+
+    @property
+    def layers(self) -> int:
+        """How many layers the array has."""
+        return self.shape[0] if len(self.shape) == 3 else 1
+
+
+@dataclass(frozen=True)
+class Arrow:
+    """That one array is taken by another, as its input of this number."""
+
+    begin: int
+    end: int
+    input: int
+
+
+Slot: TypeAlias = tuple[str, int]
+"""What stands in a column: ("array", the panel's number), or ("lane", the number of an arrow that passes there)."""
+
+
+class Board:
+    """The arrays of a run, base arrays first, with their values."""
+
+    def __init__(self, run: Run) -> None:
+        self.run = run
+        self.panels = _panels(run)
+        self._of = {place: panel for panel in self.panels for place in panel.places}
+        self.arrows = [
+            Arrow(self._of[source].number, self._of[node].number, number)
+            for node in run.flow.nodes
+            for number, source in enumerate(node.sources)
+        ]
+        self.columns = columns_of(len(self.panels), self.arrows)
+        self._values: dict[int, Values | None] = {}
+
+    def panel(self, array: Array) -> Panel:
+        """The panel of an array of the run. Raises BadInput for another one."""
+        return self._of[self.run.places(array)[0]]
+
+    def panel_of(self, place: Place) -> Panel:
+        """The panel of a place of the run's flow."""
+        return self._of[place]
+
+    def values(self, number: int) -> Values | None:
+        """The values of a panel's array, taken once; None where nobody holds them (a base array that a log gave)."""
+        if number not in self._values:
+            try:
+                self._values[number] = self.run.values(self.panels[number].places[0])
+            except BadInput:
+                self._values[number] = None
+        return self._values[number]
+
+    def told(self) -> dict[str, Any]:
+        """The board as the page's script reads it."""
+        return {
+            "flow": self.run.flow.name,
+            "run": self.run.number,
+            "arrays": [self._panel_told(panel) for panel in self.panels],
+            "arrows": [[arrow.begin, arrow.end, arrow.input] for arrow in self.arrows],
+            "columns": self.columns,
+            "percentiles": PERCENTILES,
+        }
+
+    def _panel_told(self, panel: Panel) -> dict[str, Any]:
+        values = self.values(panel.number)
+        place = panel.places[0]
+        told: dict[str, Any] = {
+            "title": panel.title,
+            "detail": panel.detail,
+            "base": isinstance(place, Input),
+            "op": place.op if isinstance(place, Node) else None,
+            "shape": [panel.layers, *panel.shape[-2:]],
+            "axes": len(panel.shape),
+            "labels": isinstance(place, Node) and _is_labelled(place),
+            "held": values is not None,
+        }
+        if values is not None:
+            told["kind"] = marks.kind_of(np.ma.getdata(values))
+            told["empty"] = int(np.ma.getmaskarray(values).sum())
+            told["limits"] = limits_of(values.compressed())
+        return told
+
+
+def limits_of(values: npt.NDArray[np.int64]) -> list[list[int]]:
+    """For each of `PERCENTILES` the values between which so many of a hundred lie, the last from least to greatest."""
+    if values.size == 0:
+        return [[0, 1]] * len(PERCENTILES)
+    whole = [int(values.min()), max(int(values.max()), int(values.min()) + 1)]
+    wanted = [(100 - within) / 2 for within in PERCENTILES] + [100 - (100 - within) / 2 for within in PERCENTILES]
+    found = np.percentile(values, wanted, method="nearest").reshape(2, -1).T.tolist()
+    return [[int(low), int(high)] if low < high else whole for low, high in found[:-1]] + [whole]
+
+
+def columns_of(count: int, arrows: Sequence[Arrow]) -> list[list[Slot]]:
+    """The columns of the page from left to right, each array behind all that it takes; what stands from top to bottom.
+
+    A base array stands just before the first node that takes it. Where an arrow passes a column, a lane is kept free
+    for it there. The order in a column is one in which few arrows cross.
+    """
+    column = [0] * count
+    for arrow in arrows:  # they come in the order of the flow
+        column[arrow.end] = max(column[arrow.end], column[arrow.begin] + 1)
+    made = {arrow.end for arrow in arrows}
+    for number in set(range(count)) - made:
+        column[number] = min((column[arrow.end] for arrow in arrows if arrow.begin == number), default=1) - 1
+    columns: list[list[Slot]] = [[] for _ in range(max(column, default=0) + 1)]
+    for number in range(count):
+        columns[column[number]].append(("array", number))
+    before: dict[Slot, list[Slot]] = {}
+    behind: dict[Slot, list[Slot]] = {}
+    for number, arrow in enumerate(arrows):
+        last: Slot = ("array", arrow.begin)
+        for passed in range(column[arrow.begin] + 1, column[arrow.end] + 1):
+            slot: Slot = ("array", arrow.end) if passed == column[arrow.end] else ("lane", number)
+            if slot[0] == "lane":
+                columns[passed].append(slot)
+            behind.setdefault(last, []).append(slot)
+            before.setdefault(slot, []).append(last)
+            last = slot
+    for _ in range(4):
+        _sort(columns, before)
+        _sort(columns[::-1], behind)
+    return columns
+
+
+def _sort(columns: Sequence[list[Slot]], near: Mapping[Slot, Sequence[Slot]]) -> None:
+    """Put each column in the order of the places that its neighbours in the columns before it have, on the mean."""
+    place: dict[Slot, float] = {}
+    for column in columns:
+        wanted = {
+            slot: sum(found) / len(found) if (found := [place[one] for one in near.get(slot, ())]) else float(number)
+            for number, slot in enumerate(column)
+        }
+        column.sort(key=wanted.__getitem__)
+        for number, slot in enumerate(column):
+            place[slot] = number - (len(column) - 1) / 2
+
+
+def _panels(run: Run) -> list[Panel]:
+    """The arrays of a run: its base arrays, each once, and then the outputs of its nodes."""
+    found: list[Panel] = []
+    for base in dict.fromkeys(run.base):
+        detail = f"array of version {base.version}"
+        found.append(Panel(len(found), base.name, detail, tuple(run.places(base)), run.shape(base)))
+    for node in run.flow.nodes:
+        name = getattr(node, "name", None) or node.op
+        told = node.label if name != node.op else node.label.removeprefix(node.op).strip(" ()")
+        found.append(Panel(len(found), name, told, (node,), run.shape(node)))
+    return found
+
+
+def _is_labelled(node: Node) -> bool:
+    """Whether a node's values are labels of regions, which a slice, a transpose or the greatest of blocks keep so."""
+    if node.op in ("slice", "transpose") or (node.op == "block" and node.parameters["fold"] in ("min", "max")):
+        source = node.sources[0]
+        return isinstance(source, Node) and _is_labelled(source)
+    return node.op == "regions"
