@@ -2,7 +2,7 @@
 
 from __future__ import annotations
 
-from collections.abc import Mapping, Sequence
+from collections.abc import Iterable, Mapping, Sequence
 from dataclasses import dataclass
 from typing import TYPE_CHECKING, Any, TypeAlias
 
@@ -125,56 +125,53 @@ def limits_of(values: npt.NDArray[np.int64]) -> list[list[int]]:
 
 
 def columns_of(count: int, arrows: Sequence[Arrow]) -> list[list[Slot]]:
-    """The columns of the page from left to right, each array behind all that it takes; what stands from top to bottom.
+    """The columns of the page from left to right, and what stands in each from top to bottom.
 
-    A base array stands just before the first node that takes it. Where an arrow passes a column, a lane is kept free
-    for it there. The order in a column is one in which few arrows cross.
+    Base arrays are in the first column, a node behind all that it takes. Where an arrow passes a column, a lane is kept
+    free for it there. The order in a column is one in which few arrows cross.
     """
     column = [0] * count
     for arrow in arrows:  # they come in the order of the flow
         column[arrow.end] = max(column[arrow.end], column[arrow.begin] + 1)
-    made = {arrow.end for arrow in arrows}
-    for number in set(range(count)) - made:
-        column[number] = min((column[arrow.end] for arrow in arrows if arrow.begin == number), default=1) - 1
     columns: list[list[Slot]] = [[] for _ in range(max(column, default=0) + 1)]
     for number in range(count):
         columns[column[number]].append(("array", number))
-    before: dict[Slot, list[Slot]] = {}
-    behind: dict[Slot, list[Slot]] = {}
+    before: dict[_Stop, list[_Stop]] = {}
+    behind: dict[_Stop, list[_Stop]] = {}
     for number, arrow in enumerate(arrows):
-        last: Slot = ("array", arrow.begin)
-        for passed in range(column[arrow.begin] + 1, column[arrow.end] + 1):
-            slot: Slot = ("array", arrow.end) if passed == column[arrow.end] else ("lane", number)
-            if slot[0] == "lane":
-                columns[passed].append(slot)
-            behind.setdefault(last, []).append(slot)
-            before.setdefault(slot, []).append(last)
-            last = slot
+        stops: list[_Stop] = [(column[arrow.begin], ("array", arrow.begin))]
+        for passed in range(column[arrow.begin] + 1, column[arrow.end]):
+            columns[passed].append(("lane", number))
+            stops.append((passed, ("lane", number)))
+        stops.append((column[arrow.end], ("array", arrow.end)))
+        for one, next_one in zip(stops, stops[1:]):
+            behind.setdefault(one, []).append(next_one)
+            before.setdefault(next_one, []).append(one)
     for _ in range(4):
-        _sort(columns, before)
-        _sort(columns[::-1], behind)
+        _sort(columns, range(len(columns)), before)
+        _sort(columns, range(len(columns) - 1, -1, -1), behind)
     return columns
 
 
-def _sort(columns: Sequence[list[Slot]], near: Mapping[Slot, Sequence[Slot]]) -> None:
-    """Put each column in the order of the places that its neighbours in the columns before it have, on the mean."""
-    place: dict[Slot, float] = {}
-    for column in columns:
-        wanted = {
-            slot: sum(found) / len(found) if (found := [place[one] for one in near.get(slot, ())]) else float(number)
-            for number, slot in enumerate(column)
-        }
-        column.sort(key=wanted.__getitem__)
-        for number, slot in enumerate(column):
-            place[slot] = number - (len(column) - 1) / 2
+def _sort(columns: Sequence[list[Slot]], order: Iterable[int], near: Mapping[_Stop, Sequence[_Stop]]) -> None:
+    """Column by column, put the slots into the order of the places on which their neighbours stand, on the mean."""
+    place: dict[_Stop, float] = {}
+    for at in order:
+        wanted = {slot: _mean([place[one] for one in near.get((at, slot), ())]) for slot in columns[at]}
+        columns[at].sort(key=lambda slot: wanted[slot])
+        for number, slot in enumerate(columns[at]):
+            place[at, slot] = number - (len(columns[at]) - 1) / 2
+
+
+def _mean(numbers: Sequence[float]) -> float:
+    return sum(numbers) / len(numbers) if numbers else 0.0
 
 
 def _panels(run: Run) -> list[Panel]:
     """The arrays of a run: its base arrays, each once, and then the outputs of its nodes."""
     found: list[Panel] = []
     for base in dict.fromkeys(run.base):
-        detail = f"array of version {base.version}"
-        found.append(Panel(len(found), base.name, detail, tuple(run.places(base)), run.shape(base)))
+        found.append(Panel(len(found), base.name, "", tuple(run.places(base)), run.shape(base)))
     for node in run.flow.nodes:
         name = getattr(node, "name", None) or node.op
         told = node.label if name != node.op else node.label.removeprefix(node.op).strip(" ()")

@@ -6,10 +6,11 @@
 "use strict";
 
 const COLOURS = { back: [255, 162, 74], forward: [86, 182, 255], asked: [255, 255, 255] };
-const FILLS = { back: 125, forward: 125, asked: 70 };
-const HEAD = 46, FOOT = 46, LAYERS = 26, GAP = 58, BETWEEN = 20, EDGE = 18, LANE = 26;
+const FILLS = { back: 105, forward: 105, asked: 70 };
+const HEAD = 46, FOOT = 46, LAYERS = 26, BETWEEN = 20, EDGE = 18, LANE = 26;
 const NARROWEST = 150, WIDEST = 440;
 const POLL = 700;
+const GROUND = 0xff110f0d;
 
 const by = (id) => document.getElementById(id);
 
@@ -22,6 +23,10 @@ const state = {
 window.page = {
   state,
   timing: null,
+  geometry: (panel) => geometry(panel),
+  asking: () => asking || wanted !== null,
+  value: (number, cell) => valueWords(state.panels[number], cell),
+  npy: async (number) => new Uint8Array(await npyOf(state.panels[number]).arrayBuffer()),
   marked(number) {
     const marks = state.panels[number].marks;
     if (!marks) return null;
@@ -33,8 +38,12 @@ window.page = {
   },
   place(number, row, column) {
     const panel = state.panels[number], g = geometry(panel), box = panel.view.getBoundingClientRect();
-    const ratio = devicePixelRatio;
-    return [box.left + g.x(column + 0.5) / ratio, box.top + g.y(row + 0.5) / ratio];
+    return [box.left + g.x(column + 0.5) / devicePixelRatio, box.top + g.y(row + 0.5) / devicePixelRatio];
+  },
+  zoom(number, row, column, zoom) {
+    Object.assign(viewOf(state.panels[number]), { row, column, zoom });
+    bound(state.panels[number]);
+    drawAlike(state.panels[number]);
   },
 };
 
@@ -66,6 +75,8 @@ function selectedWords() {
   const raw = panel.told.base ? "raw " : "";
   return count === 1 ? `this ${raw}cell of ${panel.told.title}` : `these ${figure(count)} ${raw}cells of ${panel.told.title}`;
 }
+
+const isShown = (marks) => marks.as === "asked" || state.shown[marks.as];
 
 function joined(words) {
   return words.length < 2 ? words.join("") : `${words.slice(0, -1).join(", ")} and ${words[words.length - 1]}`;
@@ -108,13 +119,14 @@ function countWords(panel) {
   const marks = panel.marks;
   if (!state.answer) return panel.told.empty ? `${figure(panel.told.empty)} of ${figure(size(panel))} cells empty` : `${figure(size(panel))} cells`;
   if (!marks) return "no path leads here";
-  if (marks.as !== "asked" && !state.shown[marks.as]) return "hidden";
-  const one = state.answer.count === 1;
+  if (!isShown(marks)) return "not shown";
+  const one = state.answer.count === 1, narrow = panel.root.offsetWidth < 205;
   if (marks.as === "asked") {
     if (!one) return `${cellsWord(marks.count)} selected`;
     const [layer, row, column] = placeOf(panel, marks.runs[0]);
-    return `${placeWords(panel, layer, row, column)}: ${valueWords(panel, marks.runs[0])}`;
+    return `${narrow ? `${row}, ${column}` : placeWords(panel, layer, row, column)}: ${valueWords(panel, marks.runs[0])}`;
   }
+  if (narrow) return cellsWord(marks.count, panel.told.base && marks.as === "back");
   return `${cellsWord(marks.count, panel.told.base && marks.as === "back")} ${SENSES[state.sense].of[marks.as](one, panel.told.base)}`;
 }
 
@@ -127,7 +139,7 @@ function wayWords(panel) {
   const ways = [...new Set(steps.map((step) => step[3]))];
   const traced = steps.reduce((sum, step) => sum + step[4], 0);
   if (!ways.length) return "";
-  return `found by ${ways.join(", ")}${traced ? `, ${figure(traced)} cells traced` : ""}`;
+  return `by ${ways.join(", ")}${traced ? `, ${figure(traced)} cells traced` : ""}`;
 }
 
 function valueWords(panel, cell) {
@@ -193,16 +205,25 @@ function bound(panel) {
 
 const STRETCHES = { linear: (x) => x, sqrt: Math.sqrt, log: (x) => Math.log(1000 * x + 1) / Math.log(1001) };
 
-/** A quiet colour for each label, none of them near the colours of the marks. */
-function labelColour(label) {
-  const turn = ((Number(label) * 0.61803398875) % 1) * 215; // degrees that are neither orange nor blue
-  const hue = turn < 115 ? 62 + turn : 130 + turn;
-  const light = 0.5 + 0.09 * (Number(label) % 3), rich = 0.42 * Math.min(light, 1 - light);
+/** A colour for each label, one turn of the golden section behind the other in the order of the labels. */
+function labelColour(rank) {
+  const hue = (40 + rank * 222.492) % 360, light = 0.52 + 0.08 * (rank % 3), rich = 0.5 * Math.min(light, 1 - light);
   const part = (n) => {
     const k = (n + hue / 30) % 12;
     return Math.round(255 * (light - rich * Math.max(-1, Math.min(k - 3, 9 - k, 1))));
   };
   return 0xff000000 | (part(4) << 16) | (part(8) << 8) | part(0);
+}
+
+/** The colours of a panel's labels. Labels of several arrays that are alike have like colours. */
+function colourLabels() {
+  if (!state.colours) {
+    const labels = new Set([0]);
+    for (const one of state.panels) if (one.told.labels) for (const label of one.numbers ?? []) labels.add(label);
+    const sorted = [...labels].sort((a, b) => a - b);
+    state.colours = new Map(sorted.map((label, rank) => [label, label > 0 ? labelColour(rank) : GROUND]));
+  }
+  return state.colours;
 }
 
 /** Paint a panel's shown layer, a pixel a cell; empty cells stay clear. */
@@ -213,12 +234,8 @@ function paintValues(panel) {
   const context = panel.sheet.getContext("2d"), image = context.createImageData(width, height);
   const pixels = new Uint32Array(image.data.buffer), numbers = panel.numbers;
   if (panel.told.labels) {
-    const colours = new Map();
-    for (let at = 0; at < pixels.length; at++) {
-      const label = numbers[first + at];
-      if (!colours.has(label)) colours.set(label, label > 0 ? labelColour(label) : 0xff211d1b);
-      pixels[at] = colours.get(label);
-    }
+    const colours = colourLabels();
+    for (let at = 0; at < pixels.length; at++) pixels[at] = colours.get(numbers[first + at]);
   } else {
     const [low, high] = panel.told.limits[state.limits], steps = 1023, factor = steps / (high - low);
     const greys = new Uint32Array(steps + 1);
@@ -307,7 +324,7 @@ function seenCells(panel, g) {
 function drawMarks(panel) {
   const context = panel.over.getContext("2d"), g = geometry(panel), marks = panel.marks;
   context.clearRect(0, 0, g.wide, g.high);
-  if (!marks || !marks.runs.length || (marks.as !== "asked" && !state.shown[marks.as])) return;
+  if (!marks || !marks.runs.length || !isShown(marks)) return;
   const box = fillMask(panel, g, marks.runs);
   if (!box) return;
   const [left, top, right, bottom] = box, wide = right - left, high = bottom - top;
@@ -412,11 +429,11 @@ function makePanel(told, number) {
   const panel = { told, number, marks: null, values: null, numbers: null, empty: null };
   const [layers, height, width] = told.shape, root = element("section", "panel");
   root.dataset.array = number;
-  const head = element("div", "head"), ways = waysOf(number);
-  if (ways) head.append(Object.assign(element("span", "chip", ways), { title: "how the lineage of this step is answered" }));
-  const shape = `${layers > 1 ? `${layers} layers of ` : ""}${height} × ${width}`;
-  head.append(element("h2", "", told.title), element("div", "detail", told.detail ? `${told.detail} · ${shape}` : shape));
-  head.title = `${told.title}: ${told.detail}`;
+  const head = element("div", "head"), shape = `${told.axes === 3 ? `${layers} × ` : ""}${height} × ${width}`;
+  const chip = element("span", "chip", told.base ? "raw" : waysOf(number)), detail = told.detail ? `${told.detail} · ${shape}` : shape;
+  chip.title = told.base ? "a base array" : "how the lineage of this step is kept";
+  head.append(chip, element("h2", "", told.title), element("div", "detail", detail));
+  head.title = `${told.title}, ${detail}`;
   panel.view = element("div", "view");
   panel.base = element("canvas", "values");
   panel.over = element("canvas", "marks");
@@ -468,10 +485,12 @@ function showLayer(layers, layer) {
 
 function tellLayer(panel) {
   if (!panel.slider) return;
-  const layer = layerOf(panel), layers = panel.told.shape[0], marked = panel.marks?.layers ?? [];
+  const layer = layerOf(panel), layers = panel.told.shape[0], seen = panel.marks && isShown(panel.marks);
+  const marked = seen ? panel.marks.layers : [];
   panel.slider.value = layer;
   const others = marked.filter((one) => one !== layer).length;
-  panel.layerWords.textContent = `layer ${layer} of 0 to ${layers - 1}${others ? `, marks in ${others} more` : ""}`;
+  panel.layerWords.textContent = `layer ${layer}${others ? `, ${others} more marked` : ""}`;
+  panel.slider.title = `layers 0 to ${layers - 1}${marked.length ? `, marks in ${marked.join(", ")}` : ""}`;
 }
 
 /** How high a panel stands, when it is so wide. */
@@ -483,19 +502,19 @@ function heights(panel, wide) {
 
 /** Put the panels into their columns, as large as the window allows, and draw the arrows. */
 function layOut() {
-  const board = by("board"), columns = state.run.columns, places = new Map();
-  const most = (board.clientWidth - 2 * EDGE - (columns.length - 1) * GAP) / columns.length;
+  const board = by("board"), columns = state.run.columns, places = new Map(), gap = columns.length > 6 ? 42 : 58;
+  const most = (board.clientWidth - 2 * EDGE - (columns.length - 1) * gap) / columns.length;
   const high = (wide) => Math.max(...columns.map((slots) =>
     slots.reduce((sum, [kind, number]) => sum + (kind === "lane" ? LANE : heights(state.panels[number], wide).all) + BETWEEN, -BETWEEN)));
   let wide = Math.floor(Math.max(NARROWEST, Math.min(WIDEST, most)));
   while (wide > NARROWEST * 1.2 && high(wide) > board.clientHeight - 2 * EDGE) wide -= 4;
-  const all = high(wide), across = columns.length * wide + (columns.length - 1) * GAP;
+  const all = high(wide), across = columns.length * wide + (columns.length - 1) * gap;
   const from = Math.max(EDGE, (board.clientWidth - across) / 2), down = Math.max(EDGE, Math.min(60, (board.clientHeight - all) / 2));
   columns.forEach((slots, number) => {
     const tall = slots.reduce((sum, [kind, one]) => sum + (kind === "lane" ? LANE : heights(state.panels[one], wide).all) + BETWEEN, -BETWEEN);
     let y = down + (all - tall) / 2;
     for (const [kind, one] of slots) {
-      const x = from + number * (wide + GAP), tallness = kind === "lane" ? LANE : heights(state.panels[one], wide).all;
+      const x = from + number * (wide + gap), tallness = kind === "lane" ? LANE : heights(state.panels[one], wide).all;
       places.set(kind === "lane" ? `lane ${one} ${number}` : `array ${one}`, { x, y, wide, tall: tallness });
       if (kind === "array") placePanel(state.panels[one], x, y, wide);
       y += tallness + BETWEEN;
@@ -504,6 +523,7 @@ function layOut() {
   by("arrows").setAttribute("width", from + across + EDGE);
   by("arrows").setAttribute("height", down + all + EDGE);
   drawArrows(places);
+  for (const panel of state.panels) panel.count.textContent = countWords(panel);
 }
 
 function placePanel(panel, x, y, wide) {
@@ -518,15 +538,33 @@ function placePanel(panel, x, y, wide) {
 
 const SVG = "http://www.w3.org/2000/svg";
 
+function drawn(name, attributes, text = "") {
+  const made = document.createElementNS(SVG, name);
+  for (const [attribute, value] of Object.entries(attributes)) made.setAttribute(attribute, value);
+  made.textContent = text;
+  return made;
+}
+
+/** The arrows that end at an array, in the order from top to bottom in which they come. */
+function entries(end, places) {
+  const from = (arrow) => {
+    const lanes = state.run.columns.map((_, column) => places.get(`lane ${arrow} ${column}`)).filter(Boolean);
+    const place = lanes.length ? lanes[lanes.length - 1] : places.get(`array ${state.run.arrows[arrow][0]}`);
+    return place.y + place.tall / 2;
+  };
+  const found = state.run.arrows.flatMap((arrow, one) => (arrow[1] === end ? [one] : []));
+  return found.sort((one, other) => from(one) - from(other) || one - other);
+}
+
 /** An arrow for each source of a node, through the lanes that are kept free for it. */
 function drawArrows(places) {
   const drawing = by("arrows");
   drawing.replaceChildren();
   const middle = (panel, place) => place.y + HEAD + heights(panel, place.wide).view / 2;
-  state.run.arrows.forEach(([begin, end], number) => {
+  state.run.arrows.forEach(([begin, end, input], number) => {
     const source = state.panels[begin], target = state.panels[end];
     const out = places.get(`array ${begin}`), into = places.get(`array ${end}`);
-    const beside = state.run.arrows.filter((one) => one[1] === end), rank = beside.indexOf(state.run.arrows[number]);
+    const beside = entries(end, places), rank = beside.indexOf(number);
     const y1 = middle(source, out), y2 = middle(target, into) + (rank - (beside.length - 1) / 2) * 26;
     let path = `M ${out.x + out.wide} ${y1}`, x = out.x + out.wide, y = y1;
     const bend = (toX, toY) => {
@@ -540,13 +578,9 @@ function drawArrows(places) {
       x = lane.x + lane.wide;
     }
     bend(into.x - 9, y2);
-    const group = document.createElementNS(SVG, "g");
-    group.dataset.arrow = number;
-    const line = document.createElementNS(SVG, "path"), head = document.createElementNS(SVG, "path");
-    line.setAttribute("d", path);
-    head.setAttribute("d", `M ${into.x - 1} ${y2} l -10 -5 l 0 10 z`);
-    head.setAttribute("class", "head");
-    group.append(line, head);
+    const group = drawn("g", { "data-arrow": number });
+    group.append(drawn("path", { d: path }), drawn("path", { d: `M ${into.x - 1} ${y2} l -10 -5 l 0 10 z`, class: "head" }));
+    if (beside.length > 1) group.append(drawn("text", { x: into.x - 15, y: y2 - 5 }, String(input + 1)));
     drawing.append(group);
   });
   colourArrows();
@@ -608,7 +642,8 @@ function show(asked, bytes) {
   else followViews(asked.selection.array);
   drawAll();
   const drawn = performance.now();
-  window.page.timing = { all: drawn - asked.begun, arrived: arrived - asked.begun, program: told.milliseconds };
+  const number = (window.page.timing?.number ?? 0) + 1;
+  window.page.timing = { number, all: drawn - asked.begun, arrived: arrived - asked.begun, program: told.milliseconds };
   tell();
   remember();
 }
@@ -672,6 +707,7 @@ function boxOf(panel) {
 
 /** Zoom these panels' views onto their marks, those of arrays of one shape together; or show all arrays whole. */
 function closeUp(close, panels = state.panels) {
+  hover(null, null);
   for (const view of new Set(panels.map(viewOf))) {
     const same = state.panels.filter((panel) => viewOf(panel) === view), [, height, width] = same[0].told.shape;
     const boxes = close ? same.map((panel) => panel.marks && boxOf(panel)).filter(Boolean) : [];
@@ -730,7 +766,7 @@ function tell() {
     button.setAttribute("aria-pressed", state.shown[direction]);
   }
   for (const panel of state.panels) {
-    const as = panel.marks && (panel.marks.as === "asked" || state.shown[panel.marks.as]) ? panel.marks.as : "";
+    const as = panel.marks && isShown(panel.marks) ? panel.marks.as : "";
     panel.root.className = `panel ${as || (state.answer ? "none" : "")}`;
     panel.count.className = `count ${as}`;
     panel.count.textContent = countWords(panel);
@@ -1036,12 +1072,13 @@ function drawPicture() {
   for (const [text, as] of sentence()) x = write(text, x, 36, colour(as ?? "text"), `${as ? 600 : 400} 18px`);
   pen.translate(0, down);
   for (const group of board.children) {
-    const [line, head] = group.children, ink = getComputedStyle(line).stroke;
+    const [line, head, number] = group.children, ink = getComputedStyle(line).stroke;
     pen.strokeStyle = ink;
     pen.lineWidth = parseFloat(getComputedStyle(line).strokeWidth);
     pen.stroke(new Path2D(line.getAttribute("d")));
     pen.fillStyle = ink;
     pen.fill(new Path2D(head.getAttribute("d")));
+    if (number) write(number.textContent, Number(number.getAttribute("x")), Number(number.getAttribute("y")), ink, "10px");
   }
   for (const panel of state.panels) {
     const { offsetLeft: left, offsetTop: top, offsetWidth: across, offsetHeight: tall } = panel.root;
@@ -1050,7 +1087,8 @@ function drawPicture() {
     pen.roundRect(left, top, across, tall, 8);
     pen.fillStyle = colour("panel");
     pen.fill();
-    pen.strokeStyle = as && (as === "asked" || state.shown[as]) ? colour(as) : colour("line");
+    const shown = panel.marks && isShown(panel.marks);
+    pen.strokeStyle = colour(shown ? as : "line");
     pen.stroke();
     write(panel.told.title, left + 10, top + 20, colour("text"), "600 13px", across - 20);
     write(panel.root.querySelector(".detail").textContent, left + 10, top + 36, colour("quiet"), "11.5px", across - 20);
@@ -1061,7 +1099,7 @@ function drawPicture() {
     pen.drawImage(panel.base, left, at, across, view);
     pen.filter = "none";
     pen.drawImage(panel.over, left, at, across, view);
-    write(panel.count.textContent, left + 10, top + tall - FOOT + 18, colour(as && (as === "asked" || state.shown[as]) ? as : "quiet"), "12px", across - 20);
+    write(panel.count.textContent, left + 10, top + tall - FOOT + 18, colour(shown ? as : "quiet"), "12px", across - 20);
     write(panel.way.textContent, left + 10, top + tall - 10, colour("quiet"), "11px", across - 20);
   }
   return canvas;
@@ -1084,8 +1122,7 @@ async function loadValues(panel) {
   panel.numbers = panel.told.kind === "i8" ? Float64Array.from(panel.values, Number) : panel.values;
   const behind = count * Kind.BYTES_PER_ELEMENT;
   panel.empty = bytes.byteLength > behind ? new Uint8Array(bytes, behind) : null;
-  paintValues(panel);
-  drawValues(panel);
+  state.colours = null; // its labels may be new ones
 }
 
 /** Ask now and then what was selected from Python, and whether the program still runs. */
@@ -1155,6 +1192,7 @@ async function begin() {
   tell();
   layOut();
   await Promise.all(state.panels.map(loadValues));
+  repaint();
   tell();
   const now = await (await fetch("state")).json();
   if (recall()) state.told = now.told?.kept ?? 0;
