@@ -41,7 +41,8 @@ def started_browser(folder: str, wide: int = 1500, high: int = 800) -> webdriver
         f"--window-size={wide},{high}",
     ):
         options.add_argument(word)
-    options.add_experimental_option("prefs", {"download.default_directory": folder})
+    several = "profile.default_content_setting_values.automatic_downloads"
+    options.add_experimental_option("prefs", {"download.default_directory": folder, several: 1})
     options.set_capability("goog:loggingPrefs", {"browser": "ALL"})
     return webdriver.Chrome(service=Service(shutil.which("chromedriver") or "chromedriver"), options=options)
 
@@ -49,7 +50,7 @@ def started_browser(folder: str, wide: int = 1500, high: int = 800) -> webdriver
 class Browser(unittest.TestCase):
     """One browser for all tests of a class. At the end of each test its console holds no error."""
 
-    expected: tuple[str, ...] = ()
+    expected: tuple[str, ...] = ("willReadFrequently",)  # these tests read pixels
 
     @classmethod
     def setUpClass(cls) -> None:
@@ -103,28 +104,31 @@ class Browser(unittest.TestCase):
     def click(self, array: int, row: int, column: int, *, held: str = "") -> None:
         """Click a cell, with a key held, and wait for the answer."""
         before = self.script("return page.timing && page.timing.number")
-        actions = ActionChains(self.browser)
-        if held:
-            actions.key_down(held)
-        actions.w3c_actions.pointer_action.move_to_location(*self.place(array, row, column))
-        actions.w3c_actions.pointer_action.click()
-        if held:
-            actions.key_up(held)
-        actions.perform()
+        self.drag(array, (row, column), (row, column), *([held] if held else []))
         self.until(lambda: self.script("return page.timing && page.timing.number") != before)
 
     def drag(self, array: int, begin: tuple[int, int], end: tuple[int, int], *held: str) -> None:
         """Drag from one cell to another, with keys held."""
-        actions = ActionChains(self.browser)
+        keys = ActionChains(self.browser, duration=0)
         for key in held:
-            actions.key_down(key)
-        pointer = actions.w3c_actions.pointer_action
-        pointer.move_to_location(*self.place(array, *begin))
-        pointer.pointer_down()
-        pointer.move_to_location(*self.place(array, *end))
-        pointer.pointer_up()
+            keys.key_down(key)
+        keys.perform()
+        self.point(array, *begin)
+        actions = ActionChains(self.browser, duration=0)
+        actions.w3c_actions.pointer_action.pointer_down()
+        if end != begin:
+            actions.w3c_actions.pointer_action.move_to_location(*self.place(array, *end))
+        actions.w3c_actions.pointer_action.pointer_up()
+        actions.perform()
+        keys = ActionChains(self.browser, duration=0)
         for key in held:
-            actions.key_up(key)
+            keys.key_up(key)
+        keys.perform()
+
+    def point(self, array: int, row: int, column: int) -> None:
+        """Move the pointer to the middle of a cell."""
+        actions = ActionChains(self.browser, duration=0)
+        actions.w3c_actions.pointer_action.move_to_location(*self.place(array, row, column))
         actions.perform()
 
     def press(self, *keys: str) -> None:
@@ -141,7 +145,9 @@ class Browser(unittest.TestCase):
         return None if told is None else (told["as"], told["cells"])
 
     def painted(self, array: int, colour: tuple[int, int, int]) -> list[list[int]]:
-        """The cells of the shown layer in whose middle a colour of the marks is painted, read from the pixels."""
+        """The cells of the shown layer in which a colour of the marks is painted, read from a pixel beside the middle,
+        where no line of a reticle runs.
+        """
         return list(
             self.script(
                 """
@@ -150,7 +156,7 @@ class Browser(unittest.TestCase):
                 const pixels = pen.getImageData(0, 0, g.wide, g.high).data;
                 for (let row = 0; row < height; row++) {
                   for (let column = 0; column < width; column++) {
-                    const at = 4 * (Math.floor(g.y(row + 0.5)) * g.wide + Math.floor(g.x(column + 0.5)));
+                    const at = 4 * (Math.floor(g.y(row + 0.3)) * g.wide + Math.floor(g.x(column + 0.3)));
                     if (pixels[at + 3] > 60 && wanted.every((part, k) => Math.abs(pixels[at + k] - part) < 6)) {
                       found.push([row, column]);
                     }
@@ -326,17 +332,13 @@ class Stars(Browser):
         self.until(lambda: self.page.selected is None)
 
     def test_the_value_below_the_pointer(self) -> None:
-        actions = ActionChains(self.browser)
-        actions.w3c_actions.pointer_action.move_to_location(*self.place(0, 18, 25))
-        actions.perform()
+        self.point(0, 18, 25)
         self.assertEqual(self.text("readout").split(), "sky row 18, column 25: 5,000".split())
         tips = self.script(
             "return page.state.panels.map((one) => one.tip.style.display === 'block' && one.tip.textContent)"
         )
         self.assertEqual(tips, ["5,000", "190", "6,606", "855", False])
-        actions = ActionChains(self.browser)
-        actions.w3c_actions.pointer_action.move_to_location(*self.place(0, 5, 31))
-        actions.perform()
+        self.point(0, 5, 31)
         self.assertTrue(self.text("readout").endswith("column 31: empty"))
 
     def test_greys_follow_the_stretch_and_empty_cells_are_hatched(self) -> None:
@@ -478,9 +480,7 @@ class Layers(Browser):
             self.assertEqual(self.script("return page.state.panels[0].slider.value"), str(layer))
             self.assertEqual(self.painted(0, BACK), np.argwhere(wanted[layer]).tolist())
         self.assertIn("layer 0, 2 more marked", self.script("return page.state.panels[0].layerWords.textContent"))
-        actions = ActionChains(self.browser)
-        actions.w3c_actions.pointer_action.move_to_location(*self.place(0, 0, 7))
-        actions.perform()
+        self.point(0, 0, 7)
         self.assertEqual(self.text("readout").split(), "cube layer 0, row 0, column 7: empty".split())
 
     def test_a_selection_in_another_layer_turns_to_it(self) -> None:
@@ -510,7 +510,7 @@ class Values(Browser):
 
 
 class Faults(Browser):
-    expected = ("503", "403", "ERR_CONNECTION_REFUSED")
+    expected = ("willReadFrequently", "400", "503", "ERR_CONNECTION_REFUSED")
 
     def test_a_program_that_is_killed_is_told(self) -> None:
         session = subzero.Session()
@@ -537,8 +537,6 @@ class Faults(Browser):
         self.until(lambda: "out of range" in self.text("fault"))
         self.click(0, 1, 1)
         self.assertTrue(self.script("return document.getElementById('fault').hidden"))
-
-    expected += ("400",)
 
 
 class Speed(Browser):

@@ -1,7 +1,7 @@
 // The page of a run: its arrays as canvases, and the lineage of what is selected in each of them.
 //
-// Values come once, as bytes. A selection is sent to the page's server, and its answer is the marked cells of all arrays
-// as runs within rows, which are drawn over the values. Nothing here computes lineage.
+// Values come once, as bytes. A selection is sent to the page's server, and its answer is the marked cells of all
+// arrays as runs within rows, which are drawn over the values. Nothing here computes lineage.
 
 "use strict";
 
@@ -50,18 +50,25 @@ window.page = {
 // ---- Words ----------------------------------------------------------------------------------------------------------
 
 const figure = (number) => number.toLocaleString("en");
-const cellsWord = (number, raw) => `${number === 0 ? "no" : figure(number)} ${raw ? "raw " : ""}cell${number === 1 ? "" : "s"}`;
+const capital = (words) => words[0].toUpperCase() + words.slice(1);
 
+function cellsWord(number, raw) {
+  return `${number === 0 ? "no" : figure(number)} ${raw ? "raw " : ""}cell${number === 1 ? "" : "s"}`;
+}
+
+// What is asked, in words: of one selected cell, or of several.
 const SENSES = {
   stood: {
     meaning: "The cells that the selected one was made of, and those that were made of it, as the run went.",
-    back: "stood behind it", forward: "were touched by it",
-    of: { back: (one, base) => `stood behind ${one ? "this cell" : "these cells"}`, forward: (one) => `touched by ${one ? "it" : "them"}` },
+    legend: { back: "stood behind it", forward: "were touched by it" },
+    one: { back: "stood behind this cell", forward: "touched by it" },
+    several: { back: "stood behind these cells", forward: "touched by them" },
   },
   could: {
-    meaning: "The cells that fix the selected one's value, whatever the others hold, and those that could be others if it were another.",
-    back: "could change it", forward: "could change with it",
-    of: { back: (one) => `could change ${one ? "this cell" : "these cells"}`, forward: (one) => `could change with ${one ? "it" : "them"}` },
+    meaning: "The cells that fix the selected one's value, and those that could be others, had it another value.",
+    legend: { back: "could change it", forward: "could change with it" },
+    one: { back: "could change this cell", forward: "could change with it" },
+    several: { back: "could change these cells", forward: "could change with them" },
   },
 };
 
@@ -71,9 +78,9 @@ function placeWords(panel, layer, row, column) {
 }
 
 function selectedWords() {
-  const panel = state.panels[state.selection.array], count = state.answer.count;
-  const raw = panel.told.base ? "raw " : "";
-  return count === 1 ? `this ${raw}cell of ${panel.told.title}` : `these ${figure(count)} ${raw}cells of ${panel.told.title}`;
+  const { title, base } = state.panels[state.selection.array].told, raw = base ? "raw " : "";
+  const count = state.answer.count;
+  return count === 1 ? `this ${raw}cell of ${title}` : `these ${figure(count)} ${raw}cells of ${title}`;
 }
 
 const isShown = (marks) => marks.as === "asked" || state.shown[marks.as];
@@ -82,59 +89,61 @@ function joined(words) {
   return words.length < 2 ? words.join("") : `${words.slice(0, -1).join(", ")} and ${words[words.length - 1]}`;
 }
 
-/** The arrays that a direction reached and that nothing leads on from: base arrays, or the last nodes. */
+/** The shown arrays that a direction reached and from which nothing leads on: base arrays, or the last nodes. */
 function ends(direction) {
-  const at = direction === "back" ? 1 : 0;
-  return state.panels.filter((panel) => panel.marks?.as === direction && !state.run.arrows.some((arrow) => arrow[at] === panel.number));
+  if (!state.shown[direction]) return [];
+  const onward = new Set(state.run.arrows.map((arrow) => arrow[direction === "back" ? 1 : 0]));
+  return state.panels.filter((panel) => panel.marks?.as === direction && !onward.has(panel.number));
 }
 
-/** The sentence above the arrays, as pieces: text, or text with the class of its colour. */
+function endsWords(panels, raw) {
+  if (raw && panels.length === 1) return cellsWord(panels[0].marks.count, true);
+  return joined(panels.map((panel) => `${cellsWord(panel.marks.count)} of ${panel.told.title}`));
+}
+
+/** The sentence above the arrays, as pieces: a text, and where it has one the name of its colour. */
 function sentence() {
   if (!state.answer) return [["Click a cell of any array."]];
-  const self = selectedWords(), one = state.answer.count === 1, pieces = [];
-  const behind = state.shown.back ? ends("back") : [], ahead = state.shown.forward ? ends("forward") : [];
   if (state.answer.count === 0) return [["No cell is selected."]];
+  const self = selectedWords(), one = state.answer.count === 1, behind = ends("back"), ahead = ends("forward");
+  const pieces = [];
   if (behind.length) {
-    const words = behind.length === 1
-      ? cellsWord(behind[0].marks.count, true)
-      : joined(behind.map((panel) => `${cellsWord(panel.marks.count)} of ${panel.told.title}`));
-    pieces.push([words[0].toUpperCase() + words.slice(1), "back"], [state.sense === "stood" ? ` stood behind ${self}` : ` could change ${self}`]);
+    pieces.push([capital(endsWords(behind, true)), "back"]);
+    pieces.push([state.sense === "stood" ? ` stood behind ${self}` : ` could change ${self}`]);
   }
-  if (ahead.length) {
-    const words = joined(ahead.map((panel) => `${cellsWord(panel.marks.count)} of ${panel.told.title}`));
-    if (state.sense === "stood") {
-      pieces.push([pieces.length ? (one ? "; it touched " : "; they touched ") : `${self[0].toUpperCase()}${self.slice(1)} touched `], [words, "forward"]);
-    } else {
-      pieces.push([pieces.length ? "; " : ""], [pieces.length ? words : words[0].toUpperCase() + words.slice(1), "forward"],
-        [` could change with ${pieces.length ? (one ? "it" : "them") : self}`]);
-    }
+  if (ahead.length && state.sense === "stood") {
+    pieces.push([behind.length ? `; ${one ? "it" : "they"} touched ` : `${capital(self)} touched `]);
+    pieces.push([endsWords(ahead), "forward"]);
+  } else if (ahead.length) {
+    pieces.push([behind.length ? "; " : ""], [behind.length ? endsWords(ahead) : capital(endsWords(ahead)), "forward"]);
+    pieces.push([` could change with ${behind.length ? (one ? "it" : "them") : self}`]);
   }
-  if (!pieces.length) pieces.push([`${self[0].toUpperCase()}${self.slice(1)}`]);
-  pieces.push(["."]);
-  return pieces;
+  return pieces.length ? [...pieces, ["."]] : [[capital(self)], ["."]];
 }
 
 /** The line below an array. */
 function countWords(panel) {
-  const marks = panel.marks;
-  if (!state.answer) return panel.told.empty ? `${figure(panel.told.empty)} of ${figure(size(panel))} cells empty` : `${figure(size(panel))} cells`;
+  const marks = panel.marks, { empty, base } = panel.told;
+  const all = `${figure(size(panel))} cells`;
+  if (!state.answer) return empty ? `${figure(empty)} of ${all} empty` : all;
   if (!marks) return "no path leads here";
   if (!isShown(marks)) return "not shown";
   const one = state.answer.count === 1, narrow = panel.root.offsetWidth < 205;
-  if (marks.as === "asked") {
-    if (!one) return `${cellsWord(marks.count)} selected`;
+  if (marks.as === "asked" && one) {
     const [layer, row, column] = placeOf(panel, marks.runs[0]);
-    return `${narrow ? `${row}, ${column}` : placeWords(panel, layer, row, column)}: ${valueWords(panel, marks.runs[0])}`;
+    const words = narrow ? `${row}, ${column}` : placeWords(panel, layer, row, column);
+    return `${words}: ${valueWords(panel, marks.runs[0])}`;
   }
-  if (narrow) return cellsWord(marks.count, panel.told.base && marks.as === "back");
-  return `${cellsWord(marks.count, panel.told.base && marks.as === "back")} ${SENSES[state.sense].of[marks.as](one, panel.told.base)}`;
+  const cells = cellsWord(marks.count, base && marks.as === "back");
+  if (marks.as === "asked") return `${cells} selected`;
+  return narrow ? cells : `${cells} ${SENSES[state.sense][one ? "one" : "several"][marks.as]}`;
 }
 
 /** How the steps into an array were answered. */
 function wayWords(panel) {
   const steps = (state.answer?.steps ?? []).filter(([node, input, direction]) => {
-    const arrow = state.run.arrows.find((one) => one[1] === node && one[2] === input);
-    return arrow && state.shown[direction] && (direction === "back" ? arrow[0] === panel.number : arrow[1] === panel.number);
+    const [source] = state.run.arrows.find((arrow) => arrow[1] === node && arrow[2] === input);
+    return state.shown[direction] && panel.number === (direction === "back" ? source : node);
   });
   const ways = [...new Set(steps.map((step) => step[3]))];
   const traced = steps.reduce((sum, step) => sum + step[4], 0);
@@ -230,7 +239,7 @@ function colourLabels() {
 function paintValues(panel) {
   if (!panel.numbers) return;
   const [, height, width] = panel.told.shape, first = layerOf(panel) * height * width;
-  panel.sheet ??= Object.assign(document.createElement("canvas"), { width, height });
+  panel.sheet ??= sheet(width, height);
   const context = panel.sheet.getContext("2d"), image = context.createImageData(width, height);
   const pixels = new Uint32Array(image.data.buffer), numbers = panel.numbers;
   if (panel.told.labels) {
@@ -256,10 +265,11 @@ function paintValues(panel) {
   context.putImageData(image, 0, 0);
 }
 
+const sheet = (width, height) => Object.assign(document.createElement("canvas"), { width, height });
+
 /** The hatch of empty cells. */
 function hatch(context) {
-  const side = Math.round(6 * devicePixelRatio), tile = Object.assign(document.createElement("canvas"), { width: side, height: side });
-  const pen = tile.getContext("2d");
+  const side = Math.round(6 * devicePixelRatio), tile = sheet(side, side), pen = tile.getContext("2d");
   pen.fillStyle = "#33303d";
   pen.fillRect(0, 0, side, side);
   pen.strokeStyle = "#8d82ad";
@@ -320,7 +330,7 @@ function seenCells(panel, g) {
   return { top: Math.min(...rows), bottom: Math.max(...rows), left: columns[0], right: columns[1] };
 }
 
-/** Draw a panel's marks: each cell filled half through, and an edge round all; each at least as large as can be seen. */
+/** Draw a panel's marks: the cells filled half through, and an edge round all. Each is as large as can be seen. */
 function drawMarks(panel) {
   const context = panel.over.getContext("2d"), g = geometry(panel), marks = panel.marks;
   context.clearRect(0, 0, g.wide, g.high);
@@ -430,7 +440,8 @@ function makePanel(told, number) {
   const [layers, height, width] = told.shape, root = element("section", "panel");
   root.dataset.array = number;
   const head = element("div", "head"), shape = `${told.axes === 3 ? `${layers} × ` : ""}${height} × ${width}`;
-  const chip = element("span", "chip", told.base ? "raw" : waysOf(number)), detail = told.detail ? `${told.detail} · ${shape}` : shape;
+  const chip = element("span", "chip", told.base ? "raw" : waysOf(number));
+  const detail = told.detail ? `${told.detail} · ${shape}` : shape;
   chip.title = told.base ? "a base array" : "how the lineage of this step is kept";
   head.append(chip, element("h2", "", told.title), element("div", "detail", detail));
   head.title = `${told.title}, ${detail}`;
@@ -447,7 +458,8 @@ function makePanel(told, number) {
   const foot = element("div", "foot");
   panel.count = Object.assign(element("button", "count"), { title: "close up on these cells" });
   panel.way = element("div", "way");
-  panel.save = Object.assign(element("button", "save", "npy"), { hidden: true, title: "save these cells as a boolean numpy array" });
+  panel.save = Object.assign(element("button", "save", "npy"), { title: "save these cells as a boolean numpy array" });
+  panel.save.hidden = true;
   panel.count.addEventListener("click", () => countClicked(panel));
   panel.save.addEventListener("click", () => saveCells(panel));
   foot.append(panel.count, panel.way, panel.save);
@@ -500,24 +512,30 @@ function heights(panel, wide) {
   return { view, all: HEAD + view + (layers > 1 ? LAYERS : 0) + FOOT };
 }
 
+/** How high a column stands, when it is so wide. */
+function columnHeight(slots, wide) {
+  const tall = ([kind, number]) => (kind === "lane" ? LANE : heights(state.panels[number], wide).all);
+  return slots.reduce((sum, slot) => sum + tall(slot) + BETWEEN, -BETWEEN);
+}
+
 /** Put the panels into their columns, as large as the window allows, and draw the arrows. */
 function layOut() {
   const board = by("board"), columns = state.run.columns, places = new Map(), gap = columns.length > 6 ? 42 : 58;
   const most = (board.clientWidth - 2 * EDGE - (columns.length - 1) * gap) / columns.length;
-  const high = (wide) => Math.max(...columns.map((slots) =>
-    slots.reduce((sum, [kind, number]) => sum + (kind === "lane" ? LANE : heights(state.panels[number], wide).all) + BETWEEN, -BETWEEN)));
+  const high = (wide) => Math.max(...columns.map((slots) => columnHeight(slots, wide)));
   let wide = Math.floor(Math.max(NARROWEST, Math.min(WIDEST, most)));
   while (wide > NARROWEST * 1.2 && high(wide) > board.clientHeight - 2 * EDGE) wide -= 4;
   const all = high(wide), across = columns.length * wide + (columns.length - 1) * gap;
-  const from = Math.max(EDGE, (board.clientWidth - across) / 2), down = Math.max(EDGE, Math.min(60, (board.clientHeight - all) / 2));
-  columns.forEach((slots, number) => {
-    const tall = slots.reduce((sum, [kind, one]) => sum + (kind === "lane" ? LANE : heights(state.panels[one], wide).all) + BETWEEN, -BETWEEN);
-    let y = down + (all - tall) / 2;
-    for (const [kind, one] of slots) {
-      const x = from + number * (wide + gap), tallness = kind === "lane" ? LANE : heights(state.panels[one], wide).all;
-      places.set(kind === "lane" ? `lane ${one} ${number}` : `array ${one}`, { x, y, wide, tall: tallness });
-      if (kind === "array") placePanel(state.panels[one], x, y, wide);
-      y += tallness + BETWEEN;
+  const from = Math.max(EDGE, (board.clientWidth - across) / 2);
+  const down = Math.max(EDGE, Math.min(60, (board.clientHeight - all) / 2));
+  columns.forEach((slots, column) => {
+    const x = from + column * (wide + gap);
+    let y = down + (all - columnHeight(slots, wide)) / 2;
+    for (const [kind, number] of slots) {
+      const tall = kind === "lane" ? LANE : heights(state.panels[number], wide).all;
+      places.set(kind === "lane" ? `lane ${number} ${column}` : `array ${number}`, { x, y, wide, tall });
+      if (kind === "array") placePanel(state.panels[number], x, y, wide);
+      y += tall + BETWEEN;
     }
   });
   by("arrows").setAttribute("width", from + across + EDGE);
@@ -527,7 +545,7 @@ function layOut() {
 }
 
 function placePanel(panel, x, y, wide) {
-  const { view } = heights(panel, wide), ratio = devicePixelRatio, pixels = [Math.round(wide * ratio), Math.round(view * ratio)];
+  const { view } = heights(panel, wide), pixels = [wide, view].map((side) => Math.round(side * devicePixelRatio));
   Object.assign(panel.root.style, { left: `${x}px`, top: `${y}px`, width: `${wide}px` });
   panel.view.style.height = `${view}px`;
   for (const canvas of [panel.base, panel.over]) [canvas.width, canvas.height] = pixels;
@@ -579,7 +597,8 @@ function drawArrows(places) {
     }
     bend(into.x - 9, y2);
     const group = drawn("g", { "data-arrow": number });
-    group.append(drawn("path", { d: path }), drawn("path", { d: `M ${into.x - 1} ${y2} l -10 -5 l 0 10 z`, class: "head" }));
+    const head = `M ${into.x - 1} ${y2} l -10 -5 l 0 10 z`;
+    group.append(drawn("path", { d: path }), drawn("path", { d: head, class: "head" }));
     if (beside.length > 1) group.append(drawn("text", { x: into.x - 15, y: y2 - 5 }, String(input + 1)));
     drawing.append(group);
   });
@@ -619,7 +638,8 @@ async function select(selection, begun = performance.now()) {
 }
 
 async function post(name, body) {
-  const reply = await fetch(name, { method: "POST", headers: { "Content-Type": "application/json" }, body: JSON.stringify(body) });
+  const headers = { "Content-Type": "application/json" };
+  const reply = await fetch(name, { method: "POST", headers, body: JSON.stringify(body) });
   if (!reply.ok) throw new Error((await reply.text()).trim());
   return reply.arrayBuffer();
 }
@@ -669,8 +689,8 @@ function followLayers() {
   for (const panel of state.panels) {
     const marked = panel.marks?.layers ?? [];
     if (panel.slider && marked.length && !marked.includes(layerOf(panel))) {
-      const selected = state.panels[state.selection.array];
-      if (panel === selected || selected.told.shape[0] !== panel.told.shape[0]) showLayer(panel.told.shape[0], marked[0]);
+      const selected = state.panels[state.selection.array], layers = panel.told.shape[0];
+      if (panel === selected || selected.told.shape[0] !== layers) showLayer(layers, marked[0]);
     }
   }
 }
@@ -693,7 +713,8 @@ function followViews(array) {
 
 /** The least rectangle that holds a panel's marks in the layer that is shown. */
 function boxOf(panel) {
-  const [, height, width] = panel.told.shape, cells = height * width, first = layerOf(panel) * cells, runs = panel.marks.runs;
+  const [, height, width] = panel.told.shape, cells = height * width, first = layerOf(panel) * cells;
+  const runs = panel.marks.runs;
   let top = height, left = width, bottom = -1, right = -1;
   for (let at = firstRun(runs, first); at < runs.length && runs[at] < first + cells; at += 2) {
     const row = Math.floor((runs[at] - first) / width), column = (runs[at] - first) % width;
@@ -718,7 +739,8 @@ function closeUp(close, panels = state.panels) {
       const left = Math.min(...boxes.map((box) => box.left)), right = Math.max(...boxes.map((box) => box.right)) + 1;
       const tall = Math.max(8, (bottom - top) * 1.35 + 2), wide = Math.max(8, (right - left) * 1.35 + 2);
       const { base } = same[0], fit = Math.min(base.width / width, base.height / height);
-      Object.assign(view, { zoom: Math.min(base.width / wide, base.height / tall) / fit, row: (top + bottom) / 2, column: (left + right) / 2 });
+      const zoom = Math.min(base.width / wide, base.height / tall) / fit;
+      Object.assign(view, { zoom, row: (top + bottom) / 2, column: (left + right) / 2 });
     }
     for (const panel of same) {
       bound(panel);
@@ -758,11 +780,11 @@ function drawAll() {
 function tell() {
   const line = by("sentence"), sense = SENSES[state.sense];
   line.className = state.answer ? "" : "idle";
-  line.replaceChildren(...sentence().map(([text, colour]) => (colour ? element("b", colour, text) : document.createTextNode(text))));
+  line.replaceChildren(...sentence().map(([text, colour]) => (colour ? element("b", colour, text) : text)));
   by("meaning").textContent = sense.meaning;
   for (const direction of ["back", "forward"]) {
     const button = by("legend").querySelector(`.${direction}`);
-    button.textContent = sense[direction];
+    button.textContent = sense.legend[direction];
     button.setAttribute("aria-pressed", state.shown[direction]);
   }
   for (const panel of state.panels) {
@@ -786,7 +808,7 @@ function timeWords() {
   if (!state.answer) return "";
   const traced = state.answer.steps.reduce((sum, step) => sum + step[4], 0), steps = state.answer.steps.length;
   const took = window.page.timing ? `, in ${window.page.timing.all.toFixed(0)} ms` : "";
-  return `${steps} step${steps === 1 ? "" : "s"}, ${traced ? `${figure(traced)} cells traced` : "no cell traced"}${took}`;
+  return `${steps} step${steps === 1 ? "" : "s"}, ${traced ? figure(traced) : "no"} cells traced${took}`;
 }
 
 function tellFault(text) {
@@ -796,19 +818,28 @@ function tellFault(text) {
 
 // ---- Mouse and keys -------------------------------------------------------------------------------------------------
 
+/** The place on a panel's canvas where the pointer is, as a row and a column, which may lie outside the array. */
+function pointed(panel, event) {
+  const box = panel.view.getBoundingClientRect(), g = geometry(panel), ratio = devicePixelRatio;
+  return { row: g.row((event.clientY - box.top) * ratio), column: g.column((event.clientX - box.left) * ratio) };
+}
+
 /** The cell below the pointer, null where there is none. */
 function cellAt(panel, event) {
-  const box = panel.view.getBoundingClientRect(), g = geometry(panel), [, height, width] = panel.told.shape;
-  const row = g.row((event.clientY - box.top) * devicePixelRatio), column = g.column((event.clientX - box.left) * devicePixelRatio);
+  const { row, column } = pointed(panel, event), [, height, width] = panel.told.shape;
   return row >= 0 && row < height && column >= 0 && column < width ? { row, column } : null;
 }
 
-function within(panel, event) {
-  const box = panel.view.getBoundingClientRect(), g = geometry(panel), [, height, width] = panel.told.shape;
-  return {
-    row: Math.max(0, Math.min(height - 1, g.row((event.clientY - box.top) * devicePixelRatio))),
-    column: Math.max(0, Math.min(width - 1, g.column((event.clientX - box.left) * devicePixelRatio))),
-  };
+/** The cell that is nearest to the pointer. */
+function nearest(panel, event) {
+  const { row, column } = pointed(panel, event), [, height, width] = panel.told.shape;
+  return { row: Math.max(0, Math.min(height - 1, row)), column: Math.max(0, Math.min(width - 1, column)) };
+}
+
+/** The rectangle from one cell to another, in the layer that is shown. */
+function rectangle(panel, one, other) {
+  const rows = [one.row, other.row].sort((a, b) => a - b), columns = [one.column, other.column].sort((a, b) => a - b);
+  return [layerOf(panel), rows[0], columns[0], rows[1], columns[1]];
 }
 
 function listen(panel) {
@@ -816,15 +847,15 @@ function listen(panel) {
   let down = null;
   view.addEventListener("pointerdown", (event) => {
     if (event.button !== 0) return;
-    const seen = viewOf(panel);
-    down = { x: event.clientX, y: event.clientY, from: within(panel, event), row: seen.row, column: seen.column, moved: false, shift: event.shiftKey };
+    const { row, column } = viewOf(panel), shift = event.shiftKey;
+    down = { x: event.clientX, y: event.clientY, from: nearest(panel, event), row, column, moved: false, shift };
     view.setPointerCapture(event.pointerId);
   });
   view.addEventListener("pointermove", (event) => {
     hover(panel, cellAt(panel, event));
     if (!down) return;
     down.moved ||= Math.hypot(event.clientX - down.x, event.clientY - down.y) > 4;
-    if (down.moved && down.shift) outline(panel, down.from, within(panel, event));
+    if (down.moved && down.shift) outline(panel, down.from, nearest(panel, event));
     else if (down.moved) pan(panel, down, event);
   });
   view.addEventListener("pointerup", (event) => {
@@ -832,10 +863,8 @@ function listen(panel) {
     down = null;
     panel.drag.style.display = "none";
     if (!was || (was.moved && !was.shift)) return;
-    const to = was.moved ? within(panel, event) : cellAt(panel, event), from = was.moved ? was.from : to;
-    if (!to) return;
-    const part = [layerOf(panel), Math.min(from.row, to.row), Math.min(from.column, to.column), Math.max(from.row, to.row), Math.max(from.column, to.column)];
-    add(panel, part, event.ctrlKey || event.metaKey, begun);
+    const to = was.moved ? nearest(panel, event) : cellAt(panel, event), from = was.moved ? was.from : to;
+    if (to) add(panel, rectangle(panel, from, to), event.ctrlKey || event.metaKey, begun);
   });
   view.addEventListener("pointercancel", () => {
     down = null;
@@ -905,15 +934,19 @@ function hover(panel, cell) {
     other.tip.style.display = "block";
     other.tip.textContent = valueWords(other, cellOf(other, layerOf(other), cell.row, cell.column));
   }
-  const words = cell && placeWords(panel, layerOf(panel), cell.row, cell.column);
-  by("readout").textContent = cell ? `${panel.told.title}   ${words}: ${valueWords(panel, cellOf(panel, layerOf(panel), cell.row, cell.column))}` : "";
+  by("readout").textContent = "";
+  if (!cell) return;
+  const words = placeWords(panel, layerOf(panel), cell.row, cell.column);
+  const value = valueWords(panel, cellOf(panel, layerOf(panel), cell.row, cell.column));
+  by("readout").textContent = `${panel.told.title}  ${words}: ${value}`;
 }
 
 /** Move the selected cell, or the last one that was added. */
 function move(down, right) {
   const held = state.selection;
   if (!held || !held.parts.length) return;
-  const panel = state.panels[held.array], [, height, width] = panel.told.shape, last = held.parts[held.parts.length - 1];
+  const panel = state.panels[held.array], [, height, width] = panel.told.shape;
+  const last = held.parts[held.parts.length - 1];
   const row = Math.max(0, Math.min(height - 1, last[1] + (state.origin === "lower" ? -down : down)));
   const column = Math.max(0, Math.min(width - 1, last[2] + right));
   const view = viewOf(panel), seen = seenCells(panel, geometry(panel));
@@ -964,12 +997,14 @@ function zoomAll() {
 }
 
 function turnLayer(by) {
-  const panel = state.panels[state.selection?.array ?? -1], layered = panel?.slider ? panel : state.panels.find((one) => one.slider);
+  const selected = state.panels[state.selection?.array ?? -1];
+  const layered = selected?.slider ? selected : state.panels.find((panel) => panel.slider);
   if (layered) showLayer(layered.told.shape[0], layerOf(layered) + by);
 }
 
 const KEYS = {
-  ArrowUp: (far) => move(-far, 0), ArrowDown: (far) => move(far, 0), ArrowLeft: (far) => move(0, -far), ArrowRight: (far) => move(0, far),
+  ArrowUp: (far) => move(-far, 0), ArrowDown: (far) => move(far, 0),
+  ArrowLeft: (far) => move(0, -far), ArrowRight: (far) => move(0, far),
   Escape: clear, b: () => alone("back"), f: () => alone("forward"), z: zoomAll,
   s: () => setSense(state.sense === "stood" ? "could" : "stood"),
   "[": () => turnLayer(-1), "]": () => turnLayer(1), "?": () => by("keys").showModal(),
@@ -994,7 +1029,8 @@ function remember() {
   }
   if (state.sense !== "stood") words.set("sense", state.sense);
   if (state.origin !== state.run.origin) words.set("origin", state.origin);
-  if (!state.shown.back || !state.shown.forward) words.set("shown", state.shown.back ? "back" : state.shown.forward ? "forward" : "none");
+  const shown = ["back", "forward"].filter((direction) => state.shown[direction]);
+  if (shown.length < 2) words.set("shown", shown[0] ?? "none");
   const fragment = words.toString();
   if (fragment.length < 60000) history.replaceState(null, "", fragment ? `#${fragment}` : location.pathname);
 }
@@ -1038,7 +1074,8 @@ function save(blob, name) {
 function npyOf(panel) {
   const shape = panel.told.axes === 3 ? panel.told.shape : panel.told.shape.slice(1);
   const text = `{'descr': '|b1', 'fortran_order': False, 'shape': (${shape.join(", ")}), }`;
-  const padded = text.padEnd(Math.ceil((text.length + 11) / 64) * 64 - 11) + "\n", header = new Uint8Array(10 + padded.length);
+  const padded = text.padEnd(Math.ceil((text.length + 11) / 64) * 64 - 11) + "\n";
+  const header = new Uint8Array(10 + padded.length);
   header.set([0x93, 0x4e, 0x55, 0x4d, 0x50, 0x59, 1, 0, padded.length & 255, padded.length >> 8]);
   header.set(new TextEncoder().encode(padded), 10);
   const cells = new Uint8Array(size(panel)), runs = panel.marks.runs;
@@ -1047,17 +1084,18 @@ function npyOf(panel) {
 }
 
 function saveCells(panel) {
-  const asked = state.panels[state.selection.array].told.title;
-  const names = { back: state.sense === "stood" ? "behind" : "that_could_change", forward: state.sense === "stood" ? "touched_by" : "changing_with" };
-  save(npyOf(panel), panel.marks.as === "asked" ? `${asked}.npy` : `${panel.told.title}_${names[panel.marks.as]}_${asked}.npy`);
+  const asked = state.panels[state.selection.array].told.title, as = panel.marks.as;
+  const stood = { back: "behind", forward: "touched_by" }, could = { back: "changing", forward: "changing_with" };
+  const name = (state.sense === "stood" ? stood : could)[as];
+  save(npyOf(panel), name ? `${panel.told.title}_${name}_${asked}.npy` : `${asked}.npy`);
 }
 
 /** Draw the whole view, sentence and arrays and arrows, on one canvas. */
 function drawPicture() {
   const ratio = Math.max(2, devicePixelRatio), board = by("arrows"), style = getComputedStyle(document.documentElement);
   const colour = (name) => style.getPropertyValue(`--${name}`).trim(), down = 56;
-  const wide = Math.max(board.clientWidth || 0, Number(board.getAttribute("width"))), high = down + Number(board.getAttribute("height"));
-  const canvas = Object.assign(document.createElement("canvas"), { width: wide * ratio, height: high * ratio }), pen = canvas.getContext("2d");
+  const wide = Number(board.getAttribute("width")), high = down + Number(board.getAttribute("height"));
+  const canvas = sheet(wide * ratio, high * ratio), pen = canvas.getContext("2d");
   const family = getComputedStyle(document.body).fontFamily;
   const write = (text, x, y, ink, font, most) => {
     pen.fillStyle = ink;
@@ -1078,7 +1116,7 @@ function drawPicture() {
     pen.stroke(new Path2D(line.getAttribute("d")));
     pen.fillStyle = ink;
     pen.fill(new Path2D(head.getAttribute("d")));
-    if (number) write(number.textContent, Number(number.getAttribute("x")), Number(number.getAttribute("y")), ink, "10px");
+    if (number) write(number.textContent, number.getAttribute("x") - 3, Number(number.getAttribute("y")), ink, "10px");
   }
   for (const panel of state.panels) {
     const { offsetLeft: left, offsetTop: top, offsetWidth: across, offsetHeight: tall } = panel.root;
@@ -1099,8 +1137,9 @@ function drawPicture() {
     pen.drawImage(panel.base, left, at, across, view);
     pen.filter = "none";
     pen.drawImage(panel.over, left, at, across, view);
-    write(panel.count.textContent, left + 10, top + tall - FOOT + 18, colour(shown ? as : "quiet"), "12px", across - 20);
-    write(panel.way.textContent, left + 10, top + tall - 10, colour("quiet"), "11px", across - 20);
+    const foot = top + tall - FOOT;
+    write(panel.count.textContent, left + 10, foot + 18, colour(shown ? as : "quiet"), "12px", across - 20);
+    write(panel.way.textContent, left + 10, foot + 36, colour("quiet"), "11px", across - 20);
   }
   return canvas;
 }
@@ -1138,7 +1177,8 @@ async function watch() {
       select({ array: told.array, parts: [], kept: told.kept });
     }
   } catch (fault) {
-    tellFault(fault instanceof TypeError ? "The page has lost its server: the Python process has ended, or the page was closed." : fault.message);
+    const lost = "The page has lost its server: the Python process has ended, or the page was closed.";
+    tellFault(fault instanceof TypeError ? lost : fault.message);
   }
   setTimeout(watch, POLL);
 }
@@ -1164,7 +1204,9 @@ function listenTools() {
     repaint();
     tell();
   });
-  state.run.percentiles.forEach((within, number) => by("limits").append(new Option(within === 100 ? "all values" : `${within} %`, number)));
+  for (const [number, within] of state.run.percentiles.entries()) {
+    by("limits").append(new Option(within === 100 ? "all values" : `${within} %`, number));
+  }
   by("limits").value = state.limits;
   by("limits").addEventListener("change", () => {
     state.limits = Number(by("limits").value);
