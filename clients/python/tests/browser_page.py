@@ -547,9 +547,9 @@ class Speed(Browser):
             draw = np.random.RandomState(1)
             sky = session.array("sky", draw.randint(0, 1000, (512, 512)))
             flow = session.flow("five")
-            clean = flow.clean(flow.input(0), t=990, keep=["comp_one"])
+            clean = flow.clean(flow.input(0), t=990)
             smooth = flow.convolve(clean, np.ones((3, 3), dtype=int))
-            labels = flow.regions(smooth, t=5200, keep=["comp_one"])
+            labels = flow.regions(smooth, t=5200)
             flow.clip(labels, 0, 2**40)
             return session.start(flow, [sky])
 

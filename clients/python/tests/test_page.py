@@ -135,7 +135,9 @@ class Answers(Pages):
         self.assertIs(self.page.selected_in, self.nodes[2])
         state = json.loads(self.get("state")[1])
         self.assertEqual(state["told"], {"kept": 2, "array": 3, "name": None})
-        self.assertEqual(state["offered"], [{"kept": 1, "name": "bad pixels", "array": 0, "count": 17}])
+        self.assertEqual(
+            state["offered"], [{"kept": 1, "name": "bad pixels", "array": 0, "count": self.field.bad.sum()}]
+        )
         self.assertIsNone(state["fault"])
         status, body = self.question(array=0, parts=[], kept=1)
         told = Told(body, self.shapes)
@@ -221,9 +223,15 @@ class Answers(Pages):
     def test_a_closed_page_answers_no_more(self) -> None:
         with subzero.view(self.stars) as second:
             self.assertNotEqual(second.url, self.page.url)
-            port = urllib.parse.urlsplit(second.url).port
+            address = urllib.parse.urlsplit(second.url)
+            link = http.client.HTTPConnection("127.0.0.1", address.port, timeout=60)
+            self.addCleanup(link.close)
+            link.request("GET", address.path)
+            self.assertEqual(link.getresponse().read()[:15], b"<!doctype html>")
+        link.request("GET", address.path)
+        self.assertEqual(link.getresponse().status, 503)
         with self.assertRaises(OSError):
-            socket.create_connection(("127.0.0.1", port), timeout=5)
+            socket.create_connection(("127.0.0.1", address.port or 0), timeout=5)
         self.assertEqual(self.question()[0], 200)
 
 
@@ -376,13 +384,12 @@ class Walks(unittest.TestCase):
             labels = flow.regions(flow.input(0), t=5)
             run = session.start(flow, [base])
             lineage = Lineage(run)
-            place = flow.input(0)
 
             def cells(direction: Any, sense: Any, cell: tuple[int, int]) -> list[list[int]]:
                 mask = np.zeros((3, 6), dtype=bool)
                 mask[cell] = True
-                start, end = (labels, place) if direction == "back" else (place, labels)
-                return np.argwhere(lineage.walk({start: mask}, direction, sense)[0][end]).tolist()
+                start, end = (labels, flow.input(0)) if direction == "back" else (base, labels)
+                return np.argwhere(lineage.masks(start, mask, direction, sense)[end]).tolist()
 
             self.assertEqual(cells("back", "stood", (1, 1)), [[1, 1], [1, 2]])
             self.assertEqual(

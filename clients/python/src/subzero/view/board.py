@@ -70,6 +70,11 @@ class Board:
         """The panel of an array of the run. Raises BadInput for another one."""
         return self._of[self.run.places(array)[0]]
 
+    def array(self, panel: Panel) -> Array:
+        """The array of a panel: a base array of the run, or a node."""
+        place = panel.places[0]
+        return self.run.base[place.number] if isinstance(place, Input) else place
+
     def panel_of(self, place: Place) -> Panel:
         """The panel of a place of the run's flow."""
         return self._of[place]

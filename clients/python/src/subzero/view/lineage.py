@@ -1,13 +1,10 @@
-"""The lineage of a selection in all arrays of a run at once: one walk through the flow each way, node by node.
+"""The lineage of a selection in all arrays of a run at once, each way, by sets that go through the flow node by node.
 
-Forward the walk takes the nodes in the flow's order, backward the other way round. Each step asks the program once, for
-all cells that the walk found so far, and what two steps find in one array is one set: so a flow of many paths costs
-what its nodes cost, and each array's cells are those of all paths.
+`subzero.spread` carries the sets; here is which of them the page wants, and over which steps they came.
 """
 
 from __future__ import annotations
 
-from collections.abc import Mapping
 from dataclasses import dataclass
 from typing import TYPE_CHECKING, Literal, TypeAlias
 
@@ -15,9 +12,10 @@ import numpy as np
 import numpy.typing as npt
 
 from ..flow import Node, Place
+from ..spread import masks_between
 
 if TYPE_CHECKING:
-    from ..run import Direction, Run
+    from ..run import Array, Direction, Run
 
 Mask: TypeAlias = npt.NDArray[np.bool_]
 
@@ -28,7 +26,7 @@ cells that fix the values of the selected ones, and those that could be others i
 
 @dataclass(frozen=True)
 class Step:
-    """A step that a walk took: a node, the number of its input, and in which direction it was asked."""
+    """A step that sets went over: a node, the number of its input, and in which direction it was asked."""
 
     node: Node
     input: int
@@ -36,67 +34,36 @@ class Step:
 
 
 class Lineage:
-    """The walks of one run; what they need of its values is taken once."""
+    """What cells of a run lead to; what is needed of its values for that is taken once."""
 
     def __init__(self, run: Run) -> None:
         self.run = run
         self._high: dict[Node, Mask] = {}
 
-    def walk(
-        self, starts: Mapping[Place, Mask], direction: Direction, sense: Sense
-    ) -> tuple[dict[Place, Mask], list[Step]]:
-        """The cells of every other array to which these cells lead in one direction, and the steps that led there.
+    def masks(self, array: Array, mask: Mask, direction: Direction, sense: Sense) -> dict[Place, Mask]:
+        """The cells of every array to which these cells of `array` lead in one direction, `array` itself included:
+        boolean arrays of their shapes. An array that lies on no path from there is not among them.
 
-        `starts` are boolean arrays of the shapes of their places: one array, or all places of one base array. What
-        comes back are boolean arrays too; an array that lies on no path from there is not among them. Raises Refused
-        and ProgramEnded.
+        Raises Refused and ProgramEnded.
         """
-        cells = dict(starts)
-        steps: list[Step] = []
-        nodes = self.run.flow.nodes
-        for node in nodes if direction == "forward" else reversed(nodes):
-            for number, source in enumerate(node.sources):
-                come, into = (source, node) if direction == "forward" else (node, source)
-                if come not in cells:
-                    continue
-                found = self._step(Step(node, number, direction), cells[come], sense)
-                if cells[come].any():
-                    steps.append(Step(node, number, direction))
-                cells[into] = cells[into] | found if into in cells else found
-        return {place: mask for place, mask in cells.items() if place not in starts}, steps
+        starts = self.run.places(array)
+        ends: list[Array] = list(self.run.base if direction == "back" else self.run.flow.nodes)
+        if not any(self._leads_on(place, direction) for place in starts):
+            return dict.fromkeys(starts, mask)
+        cells = np.stack(np.unravel_index(np.flatnonzero(mask), mask.shape), axis=1).astype(np.int64)
+        return masks_between(self.run, direction, array, cells, ends, supports=sense == "could", high=self._high)
 
-    def _step(self, step: Step, mask: Mask, sense: Sense) -> Mask:
-        """What the cells of one array lead to over one step."""
-        node, source = step.node, step.node.sources[step.input]
-        begin, end = (node, source) if step.direction == "back" else (source, node)
-        wide = sense == "could" and node.op == "regions"
-        if wide and step.direction == "forward":
-            mask = mask | (_beside(mask) & self._is_high(node))
-        if not mask.any():
-            return np.zeros(self.run.shape(end), dtype=bool)
-        path = [(node.number, step.input)]
-        found: Mask = self.run.asked_later(step.direction, begin, _cells(mask), to=end, path=path).result()
-        if wide and step.direction == "back":
-            found = found | _beside(found & self._is_high(node))
-        return found
+    def steps(self, masks: dict[Place, Mask], direction: Direction) -> list[Step]:
+        """The steps over which sets of cells came from one of these arrays to another, in the order in which they went."""
+        nodes = [node for node in self.run.flow.nodes if node in masks]
+        return [
+            Step(node, number, direction)
+            for node in (nodes if direction == "forward" else reversed(nodes))
+            for number, source in enumerate(node.sources)
+            if source in masks and masks[source if direction == "forward" else node].any()
+        ]
 
-    def _is_high(self, node: Node) -> Mask:
-        """Which cells of a `regions` node are in a region."""
-        if node not in self._high:
-            self._high[node] = np.asarray(self.run.values(node).filled(0) > 0)
-        return self._high[node]
-
-
-def _cells(mask: Mask) -> npt.NDArray[np.int64]:
-    """The cells of a boolean array, row by row; faster than numpy's `argwhere` where few are True."""
-    return np.stack(np.unravel_index(np.flatnonzero(mask), mask.shape), axis=1).astype(np.int64)
-
-
-def _beside(mask: Mask) -> Mask:
-    """The four neighbours, in their layer, of the cells of a boolean array."""
-    beside = np.zeros_like(mask)
-    beside[..., 1:, :] |= mask[..., :-1, :]
-    beside[..., :-1, :] |= mask[..., 1:, :]
-    beside[..., :, 1:] |= mask[..., :, :-1]
-    beside[..., :, :-1] |= mask[..., :, 1:]
-    return beside
+    def _leads_on(self, place: Place, direction: Direction) -> bool:
+        if direction == "back":
+            return isinstance(place, Node)
+        return any(place in node.sources for node in self.run.flow.nodes)

@@ -98,8 +98,7 @@ class Page:
         """The array in which the cells were selected last: a base array of the run, or a node; None for none."""
         if self._selected is None:
             return None
-        place = self._selected[0].places[0]
-        return place if place in self.run.flow.nodes else self.run.base[place.number]
+        return self._board.array(self._selected[0])
 
     def select(self, array: Array, cells: Cells, *, name: str | None = None) -> None:
         """Select these cells of an array on the page, for all who look at it.
@@ -153,6 +152,7 @@ class Page:
         if question.array >= len(self._board.panels):
             raise BadInput(f"there is no array {question.array}")
         panel = self._board.panels[question.array]
+        array = self._board.array(panel)
         mask = question.mask(panel.shape)
         if question.kept is not None:
             kept = self._kept.get(question.kept)
@@ -164,9 +164,11 @@ class Page:
             found: list[tuple[Panel, str, Mask]] = [(panel, "asked", mask)]
             steps: list[Step] = []
             for direction in DIRECTIONS:
-                cells, taken = self._lineage.walk(dict.fromkeys(panel.places, mask), direction, question.sense)
-                found += [(self._board.panel_of(place), direction, one) for place, one in cells.items()]
-                steps += taken
+                masks = self._lineage.masks(array, mask, direction, question.sense)
+                steps += self._lineage.steps(masks, direction)
+                for place, one in masks.items():
+                    if place not in panel.places:
+                        found.append((self._board.panel_of(place), direction, one))
             seconds = time.perf_counter() - begun
             self._selected = (panel, mask)
         return _packed(self._merged(found), self._steps_told(steps), seconds)

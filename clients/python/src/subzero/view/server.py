@@ -66,7 +66,8 @@ class Server:
         self._thread.start()
 
     def close(self) -> None:
-        """Take no further request."""
+        """Take no further request, on no connection."""
+        self._listener.closed = True
         self._listener.shutdown()
         self._listener.server_close()
 
@@ -76,6 +77,7 @@ class _Listener(ThreadingHTTPServer):
     block_on_close = False
     page: Page
     key: bytes
+    closed = False
 
     def server_bind(self) -> None:
         """Bind without asking for this machine's name, which may take long."""
@@ -122,7 +124,9 @@ class _Handler(BaseHTTPRequestHandler):
             self._say(200, kind, body)
 
     def _name(self) -> str:
-        """What is asked for, behind the key. Raises Denied for a foreign host and a wrong key."""
+        """What is asked for, behind the key. Raises Denied for a foreign host and a wrong key, and after the end."""
+        if self.server.closed:
+            raise Denied(503, "the page is closed")
         hosts = self.headers.get_all("Host", [])
         if len(hosts) != 1 or not HOST.fullmatch(hosts[0]):
             raise Denied(403, "this is not the host that is asked for")
