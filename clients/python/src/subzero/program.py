@@ -290,7 +290,19 @@ class Program:
             os.close(file)
 
     def _send_each(self) -> None:
-        """Send line after line, up to the end of the session."""
+        """Send line after line, up to the end of the session, and end the program's input."""
+        try:
+            self._send_lines()
+        finally:
+            try:
+                self._to.close()
+            except OSError:
+                pass
+            if self._let_go:
+                self._reader.join()
+                self._close_files()
+
+    def _send_lines(self) -> None:
         ahead: deque[Reply] = deque()
         lines = 0
         while (reply := self._queue.get()) is not None:
@@ -321,13 +333,6 @@ class Program:
                 self._process.kill()  # half a line was written: nothing more can be said in this session
             if self._over:  # the reading thread may have left before the line was among those awaited
                 self._answer_rest()
-        try:
-            self._to.close()
-        except OSError:
-            pass
-        if self._let_go:
-            self._reader.join()
-            self._close_files()
 
     def _keep(self, line: bytes) -> int:
         """Keep a line that is sent; gives at which byte of all of them it begins."""

@@ -167,8 +167,8 @@ class Session:
 
     `log` is the file in which arrays, flows and awaited runs are kept; where it is not there, or is empty, it is made.
     What it holds stands in `arrays`, `flows` and `runs`. `workers` and `askers` are the program's options, `program`
-    its path (see `subzero.program.find`). Raises ProgramMissing; LogHeld where another session has the log open; ProgramEnded
-    where the program does not know such words or cannot read the log.
+    its path (see `subzero.program.find`). Raises ProgramMissing; LogHeld where another session has the log open;
+    ProgramEnded where the program does not know such words or cannot read the log.
 
     The program itself has no locks, and two of them on one log destroy it. So a session locks the log's file from
     opening to close (`flock`), and the lock lasts until its program has ended. That keeps out other sessions of this
