@@ -65,7 +65,7 @@ class Plain(InFolder):
         cases: list[tuple[str, dict[str, Any], str]] = [
             ("a.npy", {"ext": 1}, "ext is for FITS files"),
             ("a.npy", {"empty": "zero"}, "empty is 'zero'"),
-            ("a.txt", {}, "no .npy, .csv or FITS file"),
+            ("a.txt", {}, "no .npy, no .csv and no FITS file"),
             ("a.csv", {"scale": 10}, "a .csv file is read by the program"),
             ("a.csv", {"empty": "nan"}, "a .csv file is read by the program"),
         ]

@@ -199,17 +199,17 @@ class Table(unittest.TestCase):
 
     def test_it_says_what_the_asks_say(self) -> None:
         draw = np.random.RandomState(3)
-        image: Any = np.ma.MaskedArray(draw.randint(0, 100, (40, 50)), draw.rand(40, 50) < 0.02)
+        image: Any = np.ma.MaskedArray(draw.randint(0, 100, (20, 30)), draw.rand(20, 30) < 0.02)
         base = self.session.array("image", image)
         flow = self.session.flow("f")
         first = flow.regions(flow.clean(flow.input(0), t=95), t=55)
         labels = flow.regions(flow.add(first, flow.convolve(flow.input(0), [[0, 0, 1]])), t=90)
         run = self.session.start(flow, [base])
-        bad = draw.rand(40, 50) < 0.01
+        bad = draw.rand(20, 30) < 0.02
         table = subzero.suspects_table(run, labels, bad, base)
         found = run.values(labels).filled(0)
         self.assertEqual(table["label"].tolist(), np.unique(found[found > 0]).tolist())
-        self.assertGreater(len(table), 60)
+        self.assertGreater(len(table), 20)
         suspects = run.suspects(bad, base, to=labels)
         for row in table:
             mask = found == row["label"]

@@ -60,7 +60,7 @@ def read(
     elif name.endswith(".npy"):
         values, blank = np.load(path, allow_pickle=False), None
     else:
-        raise BadInput(f"{path} is no .npy, .csv or FITS file")
+        raise BadInput(f"{path} is no .npy, no .csv and no FITS file")
     if empty == "nan":
         holes = np.isnan(values) if values.dtype.kind == "f" else np.zeros(values.shape, dtype=bool)
         values = np.ma.MaskedArray(values, holes if blank is None else holes | blank)

@@ -245,14 +245,16 @@ class Spread:
             direction, chain, [*self._starts, *self._kept], by_steps_at="regions" if supports else None
         )
         self._coming: dict[Place, list[tuple[Stretch, Reply]]] = {place: [] for place in self._stretches}
-        self._high: dict[Node, Mask] = {} if high is None else high
+        self._high: dict[Node, Mask] = {}
+        self._masks: dict[Place, Mask] = {}
 
     def begin(self, cells: Integers) -> list[Reply]:
         """Send the first asks, of these cells of `array`: whole numbers of shape (N, axes). Gives their replies."""
-        self._cells = cells
         for place in self._starts:
             for stretch in self._stretches[place]:
                 self._send(stretch, cells)
+            if place in self._kept:
+                self._masks[place] = mask_of(cells, self._run.shape(place))
         return [reply for coming in self._coming.values() for _, reply in coming]
 
     @property
@@ -276,18 +278,19 @@ class Spread:
             raise
 
     def _end(self) -> dict[Place, Mask]:
-        masks: dict[Place, Mask] = {}
         for place, onward in self._stretches.items():
-            shape = self._run.shape(place)
-            mask = mask_of(self._cells, shape) if place in self._starts else np.zeros(shape, dtype=bool)
+            if place in self._starts:
+                continue
+            mask = np.zeros(self._run.shape(place), dtype=bool)
             for stretch, reply in self._coming[place]:
                 mask |= self._answer(stretch, reply)
             if place in self._kept:
-                masks[place] = mask
-            if place not in self._starts and mask.any():
+                self._masks[place] = mask
+            if onward and mask.any():
+                cells = np.argwhere(mask)
                 for stretch in onward:
-                    self._send(stretch, np.argwhere(mask))
-        return masks
+                    self._send(stretch, cells)
+        return self._masks
 
     def _send(self, stretch: Stretch, cells: Integers) -> None:
         if self._supports and self._direction == "forward":
