@@ -111,7 +111,7 @@ class Both:
         self.tiled = mosaic.start(self.tiled_flow, self.tiled_base)
         self.cases = 0
 
-    def check(self, test: unittest.TestCase, draw: np.random.RandomState, pairs: int = 5, limit: int = 300) -> None:
+    def check(self, test: unittest.TestCase, draw: np.random.RandomState, pairs: int = 7, limit: int = 300) -> None:
         """Values of all nodes; lineage of some cells of some pairs of arrays, in both directions."""
         with self.whole.session.pipeline() as ahead:
             values = [ahead.values(self.whole, node) for node in self.whole_flow.nodes]
@@ -180,10 +180,10 @@ class RandomFlows(unittest.TestCase):
         return both.cases
 
     def test_tiles_that_fit(self) -> None:
-        self.check(range(120))
+        self.check(range(80))
 
     def test_tiles_that_are_made_smaller_and_flows_cut_further(self) -> None:
-        self.check(range(1000, 1080), limits=Limits(cells=700, array=200, nodes=6, inputs=4))
+        self.check(range(1000, 1050), limits=Limits(cells=700, array=200, nodes=6, inputs=4))
 
 
 def spiral(side: int) -> np.ndarray:
