@@ -15,12 +15,17 @@
 matplotlib), `python -m subzero.demo` makes the tutorial's pictures.
 """
 
+from typing import TYPE_CHECKING
+
 from .faults import BadInput, OutOfStep, ProgramEnded, ProgramMissing, Refused, SubZeroError, TooManyPaths
 from .flow import Flow, Input, Node
 from .later import Later, Pipeline
 from .paths import Path
 from .run import Explanation, Run
 from .session import BaseArray, Session
+
+if TYPE_CHECKING:
+    from .tiles import tiled as tiled
 
 __all__ = [
     "BadInput",
