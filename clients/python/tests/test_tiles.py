@@ -5,6 +5,7 @@ from __future__ import annotations
 import os
 import signal
 import tempfile
+import threading
 import time
 import unittest
 from collections.abc import Callable
@@ -582,6 +583,17 @@ class Use(unittest.TestCase):
         told = run.explain(base, (9, 9), to=labels, direction="forward", path=path)
         self.assertEqual([node.op for node, _ in told[0].steps], ["convolve", "add", "regions"])
 
+    def test_a_base_array_that_is_taken_twice(self) -> None:
+        image = np.arange(12 * 25).reshape(12, 25)
+        base = self.mosaic.array("a", image)
+        flow = self.mosaic.flow("f", inputs=2)
+        total = flow.add(flow.convolve(flow.input(0), [[1, 0, 0]]), flow.input(1))
+        run = self.mosaic.start(flow, [base, base])
+        self.assertEqual(run.values(total, np.s_[4:5, 9:12]).tolist(), [[217, 219, 221]])
+        self.assertEqual(run.back(total, (4, 10), to=base, as_cells=True).tolist(), [[4, 9], [4, 10]])
+        self.assertEqual(run.back(total, (4, 10), to=flow.input(1), as_cells=True).tolist(), [[4, 10]])
+        self.assertEqual(run.forward(base, (4, 9), to=total, as_cells=True).tolist(), [[4, 9], [4, 10]])
+
     def test_many_paths_cost_what_nodes_cost(self) -> None:
         base = self.mosaic.array("a", np.zeros((12, 12), dtype=int))
         flow = self.mosaic.flow("f")
@@ -663,9 +675,10 @@ class Ends(unittest.TestCase):
         tiles = Holder.tiles
 
         def killing(holder: Holder, requests: list[Any]) -> Any:
-            if holder.pid()[1] is None:
-                holder._renew()
-            os.kill(holder.pid()[1], signal.SIGKILL)
+            with holder._turn:
+                if holder._held is None:
+                    holder._renew()
+                os.kill(holder._held.session.pid, signal.SIGKILL)
             return tiles(holder, requests)
 
         with mock.patch.object(Holder, "tiles", killing):
@@ -694,14 +707,15 @@ class Ends(unittest.TestCase):
 
     def test_an_interrupt_that_leaves_the_mosaic_stops_its_programs(self) -> None:
         tiles = Holder.tiles
-        pids: list[int] = []
+        pids: list[int | None] = []
+        turn = threading.Lock()
 
         def interrupting(holder: Holder, requests: list[Any]) -> Any:
             answers = tiles(holder, requests)
-            if holder.pid()[1] is not None:
+            with turn:
                 pids.append(holder.pid()[1])
-            if len(pids) == 3:
-                os.kill(os.getpid(), signal.SIGINT)
+                if len(pids) == 3:
+                    os.kill(os.getpid(), signal.SIGINT)
             time.sleep(0.1)
             return answers
 
@@ -712,8 +726,9 @@ class Ends(unittest.TestCase):
         self.assertGreaterEqual(len(pids), 3)
         self.assertLess(len(pids), len(self.run_._making.plan.stages[0].tiles))
         for pid in pids:
-            with self.assertRaises(ProcessLookupError):
-                os.kill(pid, 0)
+            if pid is not None:
+                with self.assertRaises(ProcessLookupError):
+                    os.kill(pid, 0)
 
     def test_a_mosaic_that_is_closed_leaves_no_program(self) -> None:
         self.run_.wait()
