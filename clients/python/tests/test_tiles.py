@@ -359,6 +359,28 @@ class Spread(unittest.TestCase):
             cases += 1
         return cases
 
+    def test_a_region_stands_on_no_cell_of_another_layer(self) -> None:
+        """A region in the last row of one layer, and one in the first row of the next."""
+        image = np.zeros((3, 6, 7), dtype=int)
+        image[0, 5] = image[1, 0] = image[2, 2, 6] = image[2, 3, 0] = 9
+        with subzero.tiled(tile=4, programs=2) as mosaic:
+            base = mosaic.array("a", image)
+            flow = mosaic.flow("f")
+            labels = flow.regions(flow.input(0), 5)
+            run = mosaic.start(flow, [base])
+            for asked, expected in (
+                ((0, 5, 3), [(0, 4, column) for column in range(7)] + [(0, 5, column) for column in range(7)]),
+                ((1, 0, 3), [(1, 0, column) for column in range(7)] + [(1, 1, column) for column in range(7)]),
+                ((2, 2, 6), [(2, 1, 6), (2, 2, 5), (2, 2, 6), (2, 3, 6)]),
+                ((2, 3, 0), [(2, 2, 0), (2, 3, 0), (2, 3, 1), (2, 4, 0)]),
+            ):
+                found = run.support(labels, asked, to=base, as_cells=True)
+                self.assertEqual([tuple(cell) for cell in found.tolist()], expected)
+                for bad in np.argwhere(np.ones(image.shape)).tolist():
+                    if image[tuple(bad)] == 0:
+                        touched = run.suspects(bad, base, to=labels)
+                        self.assertEqual(touched[asked], tuple(bad) in expected, (bad, asked))
+
     def test_a_dead_pixel_between_two_regions(self) -> None:
         image = np.ma.MaskedArray(np.full((5, 12), 9), np.zeros((5, 12), dtype=bool))
         image[:, 6] = 0
