@@ -15,17 +15,9 @@
 matplotlib), `python -m subzero` tells what can be done from a shell.
 """
 
-from .faults import (
-    BadInput,
-    Cancelled,
-    LogHeld,
-    OutOfStep,
-    ProgramEnded,
-    ProgramMissing,
-    Refused,
-    SubZeroError,
-    TooManyPaths,
-)
+from typing import TYPE_CHECKING
+
+from .faults import BadInput, OutOfStep, ProgramEnded, ProgramMissing, Refused, SubZeroError, TooManyPaths
 from .flow import Flow, Input, Node
 from .later import Future, Later, Pipeline
 from .paths import Path
@@ -34,6 +26,9 @@ from .session import BaseArray, Room, Session
 from .spread import suspects_table
 
 __version__ = "0.1.0"
+
+if TYPE_CHECKING:
+    from .tiles import tiled as tiled
 
 __all__ = [
     "BadInput",

@@ -25,8 +25,8 @@ from .windows import TilePlan
 
 @dataclass
 class Steps:
-    """What a chain was answered with: for each of its steps, from the output back, the strategy; and how many cells were
-    traced."""
+    """What a chain was answered with: for each of its steps, from the output back, the strategy; and how many cells
+    were traced."""
 
     ways: list[str]
     traced: int

@@ -70,8 +70,8 @@ def processors() -> int:
 def side_by_side(pool: ThreadPoolExecutor, jobs: Sequence[Callable[[], None]], doing: str) -> None:
     """Do all jobs, some at the same time; `doing` is shown on a terminal.
 
-    What a job raises is raised at once, and an interrupt too; jobs that are not begun are not begun then, and those that
-    are end by themselves.
+    What a job raises is raised at once, and an interrupt too; jobs that are not begun are not begun then, and those
+    that are end by themselves.
     """
     try:
         futures: list[Future[None]] = [pool.submit(job) for job in jobs]

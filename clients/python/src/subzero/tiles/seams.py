@@ -1,8 +1,8 @@
 """Components joined over the seams between tiles.
 
-Each tile's program numbers the components of its own cells. Their numbers are first made ones of the whole array: 1 plus
-the least index of the part that lies in the tile. Parts that meet over a seam are then joined, and all of them take the
-least of their numbers: that is 1 plus the least index of the component in the whole.
+Each tile's program numbers the components of its own cells. Their numbers are first made ones of the whole array: 1
+plus the least index of the part that lies in the tile. Parts that meet over a seam are then joined, and all of them
+take the least of their numbers: that is 1 plus the least index of the component in the whole.
 """
 
 from __future__ import annotations

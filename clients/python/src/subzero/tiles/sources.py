@@ -49,8 +49,8 @@ class TiledArray:
         part = self._windows[at]
         if hasattr(part, "compute"):
             part = part.compute()
-        if self._nan_is_empty:
-            part = np.ma.MaskedArray(part, ~np.isfinite(part)) if part.dtype.kind == "f" else part  # type: ignore[no-untyped-call]
+        if self._nan_is_empty and part.dtype.kind == "f":
+            part = np.ma.MaskedArray(part, ~np.isfinite(part))  # type: ignore[no-untyped-call]
         try:
             return values_of(part, self._scale)
         except BadInput as fault:

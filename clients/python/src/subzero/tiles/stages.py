@@ -2,8 +2,8 @@
 
 The output of a `regions` is kept whole, since a label counts through the whole array, and what follows takes it as a
 base array. So does what follows a node that is kept for another reason: a table of `lookup` that is made by the flow,
-and a node that is read at places so far apart that no tile could hold both. Between kept arrays all nodes of a stage are
-made together, tile by tile. A node that two stages need is made again in each.
+and a node that is read at places so far apart that no tile could hold both. Between kept arrays all nodes of a stage
+are made together, tile by tile. A node that two stages need is made again in each.
 """
 
 from __future__ import annotations
