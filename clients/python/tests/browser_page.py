@@ -16,12 +16,15 @@ from typing import Any
 
 import numpy as np
 from selenium import webdriver
+from selenium.common.exceptions import SessionNotCreatedException
 from selenium.webdriver.chrome.service import Service
 from selenium.webdriver.common.action_chains import ActionChains
 from selenium.webdriver.common.keys import Keys
 
 import subzero
 from subzero import demo
+from subzero.cells import Mask
+from subzero.view import Page, show
 
 BACK, FORWARD = (255, 162, 74), (86, 182, 255)
 
@@ -44,12 +47,20 @@ def started_browser(folder: str, wide: int = 1500, high: int = 800) -> webdriver
     several = "profile.default_content_setting_values.automatic_downloads"
     options.add_experimental_option("prefs", {"download.default_directory": folder, several: 1})
     options.set_capability("goog:loggingPrefs", {"browser": "ALL"})
-    return webdriver.Chrome(service=Service(shutil.which("chromedriver") or "chromedriver"), options=options)
+    for _ in range(4):  # on a machine that is busy it may come up too late
+        try:
+            return webdriver.Chrome(service=Service(shutil.which("chromedriver") or "chromedriver"), options=options)
+        except SessionNotCreatedException as fault:
+            late = fault
+    raise late
 
 
 class Browser(unittest.TestCase):
     """One browser for all tests of a class. At the end of each test its console holds no error."""
 
+    browser: webdriver.Chrome
+    folder: str
+    arrays: list[subzero.BaseArray | subzero.Node]
     expected: tuple[str, ...] = ("willReadFrequently",)  # these tests read pixels
 
     @classmethod
@@ -57,6 +68,7 @@ class Browser(unittest.TestCase):
         cls.folder = tempfile.mkdtemp()
         cls.addClassCleanup(shutil.rmtree, cls.folder)
         cls.browser = started_browser(cls.folder)
+        cls.browser.set_script_timeout(120)
         cls.addClassCleanup(cls.browser.quit)
 
     def tearDown(self) -> None:
@@ -70,9 +82,9 @@ class Browser(unittest.TestCase):
         self.addCleanup(session.close)
         return build(session)
 
-    def open(self, run: subzero.Run, fragment: str = "", **how: Any) -> subzero.view.Page:
+    def open(self, run: subzero.Run, fragment: str = "", **how: Any) -> Page:
         """A page over the run, open in the browser."""
-        page = subzero.view(run, **how)
+        page = show(run, **how)
         self.addCleanup(page.close)
         self.arrays = [*dict.fromkeys(run.base), *run.flow.nodes]
         self.go(page.url + fragment)
@@ -86,7 +98,7 @@ class Browser(unittest.TestCase):
     def script(self, text: str, *words: Any) -> Any:
         return self.browser.execute_script(text, *words)
 
-    def until(self, holds: Callable[[], Any], seconds: float = 60) -> None:
+    def until(self, holds: Callable[[], Any], seconds: float = 120) -> None:
         """Wait until something holds."""
         end = time.monotonic() + seconds
         while not holds():
@@ -169,7 +181,7 @@ class Browser(unittest.TestCase):
             )
         )
 
-    def cells(self, mask: np.ndarray) -> list[int]:
+    def cells(self, mask: Mask) -> list[int]:
         return [int(cell) for cell in np.flatnonzero(mask)]
 
 
@@ -190,6 +202,9 @@ def cube(session: subzero.Session) -> subzero.Run:
 
 class Stars(Browser):
     """The tutorial's flow."""
+
+    session: subzero.Session
+    stars: subzero.Run
 
     @classmethod
     def setUpClass(cls) -> None:

@@ -9,15 +9,13 @@ from dataclasses import dataclass
 from typing import TYPE_CHECKING, Literal, TypeAlias
 
 import numpy as np
-import numpy.typing as npt
 
+from ..cells import Mask
 from ..flow import Node, Place
 from ..spread import masks_between
 
 if TYPE_CHECKING:
     from ..run import Array, Direction, Run
-
-Mask: TypeAlias = npt.NDArray[np.bool_]
 
 Sense: TypeAlias = Literal["stood", "could"]
 """What is asked: `stood`, the cells that stood behind the selected ones and those that they touched; or `could`, the

@@ -152,7 +152,7 @@ function wayWords(panel) {
 }
 
 function valueWords(panel, cell) {
-  if (!panel.values) return "value not held";
+  if (!panel.values) return "";
   if (panel.empty && panel.empty[cell >> 3] & (128 >> (cell & 7))) return "empty";
   return panel.values[cell].toLocaleString("en");
 }
@@ -452,7 +452,6 @@ function makePanel(told, number) {
   panel.drag = element("div", "drag");
   panel.tip = element("div", "tip");
   panel.view.append(panel.base, panel.over, panel.cross, panel.drag, panel.tip);
-  if (!told.held) panel.view.append(element("div", "absent", "values not held"));
   root.append(head, panel.view);
   if (layers > 1) root.append(makeSlider(panel, layers));
   const foot = element("div", "foot");
@@ -1153,7 +1152,6 @@ function savePicture() {
 const KINDS = { i1: Int8Array, i2: Int16Array, i4: Int32Array, i8: BigInt64Array };
 
 async function loadValues(panel) {
-  if (!panel.told.held) return;
   const reply = await fetch(`values/${panel.number}`);
   if (!reply.ok) throw new Error((await reply.text()).trim());
   const bytes = await reply.arrayBuffer(), Kind = KINDS[panel.told.kind], count = size(panel);
