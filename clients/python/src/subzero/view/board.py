@@ -46,6 +46,9 @@ class Arrow:
 Slot: TypeAlias = tuple[str, int]
 """What stands in a column: ("array", the panel's number), or ("lane", the number of an arrow that passes there)."""
 
+_Stop: TypeAlias = tuple[int, Slot]
+"""A slot, with the number of its column."""
+
 
 class Board:
     """The arrays of a run, base arrays first, with their values."""

@@ -45,7 +45,7 @@ class Lineage:
         Raises Refused and ProgramEnded.
         """
         starts = self.run.places(array)
-        ends: list[Array] = list(self.run.base if direction == "back" else self.run.flow.nodes)
+        ends: list[Array] = [*self.run.base] if direction == "back" else [*self.run.flow.nodes]
         if not any(self._leads_on(place, direction) for place in starts):
             return dict.fromkeys(starts, mask)
         cells = np.stack(np.unravel_index(np.flatnonzero(mask), mask.shape), axis=1).astype(np.int64)
