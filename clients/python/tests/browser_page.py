@@ -1,4 +1,7 @@
-"""The page in a real browser: headless Chromium, driven by chromium-driver. `.ci/page` runs these tests."""
+"""The page in a real browser: headless Chromium, driven by chromium-driver. `.ci/page` runs these tests.
+
+`python3 browser_page.py pictures FOLDER` writes the tutorial's pictures of the page.
+"""
 
 from __future__ import annotations
 
@@ -6,6 +9,7 @@ import http.server
 import os
 import shutil
 import signal
+import sys
 import tempfile
 import threading
 import time
@@ -29,7 +33,7 @@ from subzero.view import Page, show
 BACK, FORWARD = (255, 162, 74), (86, 182, 255)
 
 
-def started_browser(folder: str, wide: int = 1500, high: int = 800) -> webdriver.Chrome:
+def started_browser(folder: str, wide: int, high: int) -> webdriver.Chrome:
     """Chromium without a window, that writes what it saves into a folder."""
     options = webdriver.ChromeOptions()
     options.binary_location = shutil.which("chromium") or "chromium"
@@ -61,13 +65,14 @@ class Browser(unittest.TestCase):
     browser: webdriver.Chrome
     folder: str
     arrays: list[subzero.BaseArray | subzero.Node]
+    wide, high = 1500, 800
     expected: tuple[str, ...] = ("willReadFrequently",)  # these tests read pixels
 
     @classmethod
     def setUpClass(cls) -> None:
         cls.folder = tempfile.mkdtemp()
         cls.addClassCleanup(shutil.rmtree, cls.folder)
-        cls.browser = started_browser(cls.folder)
+        cls.browser = started_browser(cls.folder, cls.wide, cls.high)
         cls.browser.set_script_timeout(120)
         cls.addClassCleanup(cls.browser.quit)
 
@@ -287,7 +292,7 @@ class Stars(Browser):
         beside = {(r + a, c + b) for r, c in zip(rows, columns) for a, b in ((0, 0), (1, 0), (-1, 0), (0, 1), (0, -1))}
         self.assertEqual(could[1], sorted(int(r * 64 + c) for r, c in beside))
         self.assertIn("could change this cell of regions", self.text("sentence"))
-        self.assertIn("fix the selected one's value", self.text("meaning"))
+        self.assertIn("fixes the selected cell's value", self.text("meaning"))
 
     def test_a_rectangle_and_further_cells(self) -> None:
         self.drag(1, (10, 12), (13, 18), Keys.SHIFT)
@@ -578,5 +583,32 @@ class Speed(Browser):
         self.assertLess(added, 50)
 
 
+def pictures(folder: str) -> None:
+    """Write the tutorial's pictures of the page. How long an answer took is not in them."""
+
+    class Pictures(Browser):
+        def runTest(self) -> None:
+            self.open(self.run_of(stars))
+            views: list[tuple[str, int, int, int, str]] = [
+                ("page-back.png", 4, 4, 6, ""),
+                ("page-forward.png", 0, 18, 25, ""),
+                ("page-could.png", 3, 18, 24, "sz"),
+            ]
+            for name, array, row, column, keys in views:
+                self.click(array, row, column)
+                self.press(*keys)
+                self.settled()
+                self.script("page.unpoint()")
+                self.script("document.getElementById('time').textContent = ''")
+                time.sleep(0.5)  # colours change by and by
+                self.browser.save_screenshot(os.path.join(folder, name))
+
+    Pictures.wide, Pictures.high = 1400, 660
+    result = unittest.TextTestRunner().run(unittest.TestSuite([Pictures()]))
+    sys.exit(not result.wasSuccessful())
+
+
 if __name__ == "__main__":
+    if sys.argv[1:2] == ["pictures"]:
+        pictures(sys.argv[2])
     unittest.main()

@@ -14,6 +14,7 @@ import tempfile
 import threading
 import unittest
 import urllib.parse
+from collections.abc import Sequence
 from pathlib import Path
 from typing import Any
 
@@ -31,7 +32,7 @@ from subzero.view.server import MOST_BODY
 class Told:
     """An answer of the page, read as its script reads it."""
 
-    def __init__(self, body: bytes, shapes: list[tuple[int, ...]]) -> None:
+    def __init__(self, body: bytes, shapes: Sequence[tuple[int, ...]]) -> None:
         (length,) = struct.unpack_from("<I", body)
         self.head: dict[str, Any] = json.loads(body[4 : 4 + length])
         words = np.frombuffer(body, dtype="<u4", offset=4 + length)
@@ -324,7 +325,7 @@ class Refusals(Pages):
             status, said = self.ask("POST", f"/{self.key}/ask", body)
             self.assertEqual((status, said.count(b"\n")), (400, 1))
             self.assertIn(why, said.decode())
-        for changed, why in (
+        wrong: tuple[tuple[dict[str, Any], str], ...] = (
             ({"array": 5}, "no array 5"),
             ({"array": -1}, "numbers"),
             ({"array": True}, "numbers"),
@@ -338,7 +339,8 @@ class Refusals(Pages):
             ({"parts": [[0, 0, 0, 0, 0]] * 5000}, "at most 4096"),
             ({"kept": 7}, "not held"),
             ({"more": 1}, "fields"),
-        ):
+        )
+        for changed, why in wrong:
             status, said = self.question(**changed)
             self.assertEqual((status, said.count(b"\n")), (400, 1), changed)
             self.assertIn(why, said.decode())
@@ -365,7 +367,7 @@ class Refusals(Pages):
         for kind, *_, address in socket.getaddrinfo(socket.gethostname(), None, type=socket.SOCK_STREAM):
             if kind == socket.AF_INET and not str(address[0]).startswith("127."):
                 with self.assertRaises(OSError):
-                    socket.create_connection((address[0], self.address.port), timeout=5)
+                    socket.create_connection((str(address[0]), self.address.port or 0), timeout=5)
 
     def test_each_answer_forbids_what_the_page_does_not_need(self) -> None:
         link = http.client.HTTPConnection("127.0.0.1", self.address.port, timeout=60)

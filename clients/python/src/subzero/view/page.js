@@ -25,6 +25,7 @@ window.page = {
   timing: null,
   geometry: (panel) => geometry(panel),
   asking: () => asking || wanted !== null,
+  unpoint: () => hover(null, null),
   value: (number, cell) => valueWords(state.panels[number], cell),
   npy: async (number) => new Uint8Array(await npyOf(state.panels[number]).arrayBuffer()),
   marked(number) {
@@ -59,16 +60,16 @@ function cellsWord(number, raw) {
 // What is asked, in words: of one selected cell, or of several.
 const SENSES = {
   stood: {
-    meaning: "The cells that the selected one was made of, and those that were made of it, as the run went.",
+    meaning: "What the selected cell was made of, and what was made of it, as the run went.",
     legend: { back: "stood behind it", forward: "were touched by it" },
     one: { back: "stood behind this cell", forward: "touched by it" },
     several: { back: "stood behind these cells", forward: "touched by them" },
   },
   could: {
-    meaning: "The cells that fix the selected one's value, and those that could be others, had it another value.",
+    meaning: "What fixes the selected cell's value, and what could have another value if this cell had.",
     legend: { back: "could change it", forward: "could change with it" },
-    one: { back: "could change this cell", forward: "could change with it" },
-    several: { back: "could change these cells", forward: "could change with them" },
+    one: { back: "could change it", forward: "could change with it" },
+    several: { back: "could change them", forward: "could change with them" },
   },
 };
 
