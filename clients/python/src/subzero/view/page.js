@@ -62,8 +62,8 @@ const SENSES = {
   stood: {
     meaning: "What the selected cell was made of, and what was made of it, as the run went.",
     legend: { back: "stood behind it", forward: "were touched by it" },
-    one: { back: "stood behind this cell", forward: "touched by it" },
-    several: { back: "stood behind these cells", forward: "touched by them" },
+    one: { back: "stood behind it", forward: "touched by it" },
+    several: { back: "stood behind them", forward: "touched by them" },
   },
   could: {
     meaning: "What fixes the selected cell's value, and what could have another value if this cell had.",
