@@ -233,8 +233,8 @@ class Stars(Browser):
             colours = self.script(
                 """
                 const base = page.state.panels[arguments[0]].base;
-                const pixels = new Uint32Array(base.getContext("2d").getImageData(0, 0, base.width, base.height).data.buffer);
-                return new Set(pixels).size;
+                const image = base.getContext("2d").getImageData(0, 0, base.width, base.height);
+                return new Set(new Uint32Array(image.data.buffer)).size;
                 """,
                 array,
             )

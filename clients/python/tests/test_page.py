@@ -383,7 +383,7 @@ class Refusals(Pages):
 
 class Walks(unittest.TestCase):
     def test_paths_that_meet_and_a_base_array_that_is_taken_twice(self) -> None:
-        """By hand: left takes the cell to the left, right the one to the right, and their sum both, of one base array."""
+        """By hand: one step takes the cell to the left, one that to the right, their sum both, of one base array."""
         with subzero.Session() as session:
             row = session.array("row", [[1, 2, 3, 4, 5]])
             flow = session.flow("meet", inputs=2)
@@ -476,8 +476,12 @@ class Bytes(unittest.TestCase):
 
     def test_the_narrowest_kind_of_values(self) -> None:
         for values, kind in (
-            ([-128, 127], "i1"), ([-129, 0], "i2"), ([0, 32768], "i4"), ([2**31, 0], "i8"), ([-(2**63), 2**63 - 1], "i8")
-        ):  # fmt: skip
+            ([-128, 127], "i1"),
+            ([-129, 0], "i2"),
+            ([0, 32768], "i4"),
+            ([2**31, 0], "i8"),
+            ([-(2**63), 2**63 - 1], "i8"),
+        ):
             self.assertEqual(marks.kind_of(np.array(values)), kind)
 
     def test_limits_leave_out_what_lies_far_off(self) -> None:

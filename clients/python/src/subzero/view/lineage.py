@@ -52,7 +52,7 @@ class Lineage:
         return masks_between(self.run, direction, array, cells, ends, supports=sense == "could", high=self._high)
 
     def steps(self, masks: dict[Place, Mask], direction: Direction) -> list[Step]:
-        """The steps over which sets of cells came from one of these arrays to another, in the order in which they went."""
+        """The steps over which sets of cells came from one of these arrays to another, in the order of the walk."""
         nodes = [node for node in self.run.flow.nodes if node in masks]
         return [
             Step(node, number, direction)

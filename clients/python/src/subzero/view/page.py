@@ -191,7 +191,7 @@ class Page:
         return ways
 
     def _ways_told(self) -> list[list[Any]]:
-        """For each step the panel of its node, its input, its direction, the strategy, and how many cells are traced."""
+        """For each step its node's panel, its input, its direction, the strategy, and how many cells are traced."""
         return [self._step_told(step) for step in self._ways]
 
     def _steps_told(self, steps: list[Step]) -> list[list[Any]]:
