@@ -1,4 +1,7 @@
-"""The page in a real browser: headless Chromium, driven by chromium-driver. `.ci/page` runs these tests."""
+"""The page in a real browser: headless Chromium, driven by chromium-driver. `.ci/page` runs these tests.
+
+`python3 browser_page.py pictures FOLDER` writes the tutorial's pictures of the page.
+"""
 
 from __future__ import annotations
 
@@ -6,6 +9,7 @@ import http.server
 import os
 import shutil
 import signal
+import sys
 import tempfile
 import threading
 import time
@@ -16,17 +20,20 @@ from typing import Any
 
 import numpy as np
 from selenium import webdriver
+from selenium.common.exceptions import SessionNotCreatedException
 from selenium.webdriver.chrome.service import Service
 from selenium.webdriver.common.action_chains import ActionChains
 from selenium.webdriver.common.keys import Keys
 
 import subzero
 from subzero import demo
+from subzero.cells import Mask
+from subzero.view import Page, show
 
 BACK, FORWARD = (255, 162, 74), (86, 182, 255)
 
 
-def started_browser(folder: str, wide: int = 1500, high: int = 800) -> webdriver.Chrome:
+def started_browser(folder: str, wide: int, high: int) -> webdriver.Chrome:
     """Chromium without a window, that writes what it saves into a folder."""
     options = webdriver.ChromeOptions()
     options.binary_location = shutil.which("chromium") or "chromium"
@@ -44,19 +51,29 @@ def started_browser(folder: str, wide: int = 1500, high: int = 800) -> webdriver
     several = "profile.default_content_setting_values.automatic_downloads"
     options.add_experimental_option("prefs", {"download.default_directory": folder, several: 1})
     options.set_capability("goog:loggingPrefs", {"browser": "ALL"})
-    return webdriver.Chrome(service=Service(shutil.which("chromedriver") or "chromedriver"), options=options)
+    for _ in range(4):  # on a machine that is busy it may come up too late
+        try:
+            return webdriver.Chrome(service=Service(shutil.which("chromedriver") or "chromedriver"), options=options)
+        except SessionNotCreatedException as fault:
+            late = fault
+    raise late
 
 
 class Browser(unittest.TestCase):
     """One browser for all tests of a class. At the end of each test its console holds no error."""
 
+    browser: webdriver.Chrome
+    folder: str
+    arrays: list[subzero.BaseArray | subzero.Node]
+    wide, high = 1500, 800
     expected: tuple[str, ...] = ("willReadFrequently",)  # these tests read pixels
 
     @classmethod
     def setUpClass(cls) -> None:
         cls.folder = tempfile.mkdtemp()
         cls.addClassCleanup(shutil.rmtree, cls.folder)
-        cls.browser = started_browser(cls.folder)
+        cls.browser = started_browser(cls.folder, cls.wide, cls.high)
+        cls.browser.set_script_timeout(120)
         cls.addClassCleanup(cls.browser.quit)
 
     def tearDown(self) -> None:
@@ -70,9 +87,9 @@ class Browser(unittest.TestCase):
         self.addCleanup(session.close)
         return build(session)
 
-    def open(self, run: subzero.Run, fragment: str = "", **how: Any) -> subzero.view.Page:
+    def open(self, run: subzero.Run, fragment: str = "", **how: Any) -> Page:
         """A page over the run, open in the browser."""
-        page = subzero.view(run, **how)
+        page = show(run, **how)
         self.addCleanup(page.close)
         self.arrays = [*dict.fromkeys(run.base), *run.flow.nodes]
         self.go(page.url + fragment)
@@ -86,7 +103,7 @@ class Browser(unittest.TestCase):
     def script(self, text: str, *words: Any) -> Any:
         return self.browser.execute_script(text, *words)
 
-    def until(self, holds: Callable[[], Any], seconds: float = 60) -> None:
+    def until(self, holds: Callable[[], Any], seconds: float = 120) -> None:
         """Wait until something holds."""
         end = time.monotonic() + seconds
         while not holds():
@@ -169,7 +186,7 @@ class Browser(unittest.TestCase):
             )
         )
 
-    def cells(self, mask: np.ndarray) -> list[int]:
+    def cells(self, mask: Mask) -> list[int]:
         return [int(cell) for cell in np.flatnonzero(mask)]
 
 
@@ -190,6 +207,9 @@ def cube(session: subzero.Session) -> subzero.Run:
 
 class Stars(Browser):
     """The tutorial's flow."""
+
+    session: subzero.Session
+    stars: subzero.Run
 
     @classmethod
     def setUpClass(cls) -> None:
@@ -213,8 +233,8 @@ class Stars(Browser):
             colours = self.script(
                 """
                 const base = page.state.panels[arguments[0]].base;
-                const pixels = new Uint32Array(base.getContext("2d").getImageData(0, 0, base.width, base.height).data.buffer);
-                return new Set(pixels).size;
+                const image = base.getContext("2d").getImageData(0, 0, base.width, base.height);
+                return new Set(new Uint32Array(image.data.buffer)).size;
                 """,
                 array,
             )
@@ -244,8 +264,8 @@ class Stars(Browser):
         self.click(4, 4, 6)
         self.assertEqual(self.text("sentence"), "109 raw cells stood behind this cell of block.")
         counts = self.script("return page.state.panels.map((panel) => panel.count.textContent)")
-        self.assertEqual(counts[0], "109 raw cells stood behind this cell")
-        self.assertEqual(counts[3:], ["16 cells stood behind this cell", "row 4, column 6: 855"])
+        self.assertEqual(counts[0], "109 raw cells stood behind it")
+        self.assertEqual(counts[3:], ["16 cells stood behind it", "row 4, column 6: 855"])
         ways = self.script("return page.state.panels.map((panel) => panel.way.textContent)")
         self.assertEqual(ways[0], "by blackbox, 4,096 cells traced")
         self.assertEqual(ways[3], "by map")
@@ -272,7 +292,7 @@ class Stars(Browser):
         beside = {(r + a, c + b) for r, c in zip(rows, columns) for a, b in ((0, 0), (1, 0), (-1, 0), (0, 1), (0, -1))}
         self.assertEqual(could[1], sorted(int(r * 64 + c) for r, c in beside))
         self.assertIn("could change this cell of regions", self.text("sentence"))
-        self.assertIn("fix the selected one's value", self.text("meaning"))
+        self.assertIn("fixes the selected cell's value", self.text("meaning"))
 
     def test_a_rectangle_and_further_cells(self) -> None:
         self.drag(1, (10, 12), (13, 18), Keys.SHIFT)
@@ -563,5 +583,32 @@ class Speed(Browser):
         self.assertLess(added, 50)
 
 
+def pictures(folder: str) -> None:
+    """Write the tutorial's pictures of the page. How long an answer took is not in them."""
+
+    class Pictures(Browser):
+        def runTest(self) -> None:
+            self.open(self.run_of(stars))
+            views: list[tuple[str, int, int, int, str]] = [
+                ("page-back.png", 4, 4, 6, ""),
+                ("page-forward.png", 0, 18, 25, ""),
+                ("page-could.png", 3, 18, 24, "sz"),
+            ]
+            for name, array, row, column, keys in views:
+                self.click(array, row, column)
+                self.press(*keys)
+                self.settled()
+                self.script("page.unpoint()")
+                self.script("document.getElementById('time').textContent = ''")
+                time.sleep(0.5)  # colours change by and by
+                self.browser.save_screenshot(os.path.join(folder, name))
+
+    Pictures.wide, Pictures.high = 1400, 660
+    result = unittest.TextTestRunner().run(unittest.TestSuite([Pictures()]))
+    sys.exit(not result.wasSuccessful())
+
+
 if __name__ == "__main__":
+    if sys.argv[1:2] == ["pictures"]:
+        pictures(sys.argv[2])
     unittest.main()

@@ -14,6 +14,7 @@ import tempfile
 import threading
 import unittest
 import urllib.parse
+from collections.abc import Sequence
 from pathlib import Path
 from typing import Any
 
@@ -21,7 +22,8 @@ import numpy as np
 
 import subzero
 from subzero import demo
-from subzero.view import Page, marks
+from subzero.cells import Mask
+from subzero.view import Page, command, marks, show
 from subzero.view.board import Arrow, columns_of, limits_of
 from subzero.view.lineage import Lineage
 from subzero.view.server import MOST_BODY
@@ -30,11 +32,11 @@ from subzero.view.server import MOST_BODY
 class Told:
     """An answer of the page, read as its script reads it."""
 
-    def __init__(self, body: bytes, shapes: list[tuple[int, ...]]) -> None:
+    def __init__(self, body: bytes, shapes: Sequence[tuple[int, ...]]) -> None:
         (length,) = struct.unpack_from("<I", body)
         self.head: dict[str, Any] = json.loads(body[4 : 4 + length])
         words = np.frombuffer(body, dtype="<u4", offset=4 + length)
-        self.cells: dict[int, tuple[str, np.ndarray]] = {}
+        self.cells: dict[int, tuple[str, Mask]] = {}
         for told in self.head["marks"]:
             runs = words[told["at"] : told["at"] + 2 * told["runs"]].reshape(-1, 2)
             mask = marks.mask_of_runs(runs, shapes[told["array"]])
@@ -44,6 +46,15 @@ class Told:
 
 class Pages(unittest.TestCase):
     """A page over the tutorial's stars; the session is the same for all tests of a class."""
+
+    session: subzero.Session
+    field: demo.Field
+    sky: subzero.BaseArray
+    nodes: list[subzero.Node]
+    stars: subzero.Run
+    arrays: list[subzero.BaseArray | subzero.Node]
+    shapes: list[tuple[int, ...]]
+    page: Page
 
     @classmethod
     def setUpClass(cls) -> None:
@@ -61,7 +72,7 @@ class Pages(unittest.TestCase):
 
     def show(self, run: subzero.Run) -> None:
         """Make the page over a run, which the test asks."""
-        self.page = subzero.view(run)
+        self.page = show(run)
         self.addCleanup(self.page.close)
         self.address = urllib.parse.urlsplit(self.page.url)
         self.key = self.address.path.strip("/")
@@ -149,6 +160,8 @@ class Answers(Pages):
             self.page.select(self.sky, (64, 0))
         with self.assertRaises(subzero.BadInput):
             self.page.select(self.session.array("other", [[1]]), (0, 0))
+        self.page.select("sky", np.where(self.field.hot))
+        self.assertIs(self.page.selected_in, self.sky)
 
     def test_the_way_of_each_step_and_the_cells_traced_are_told(self) -> None:
         steps = Told(self.question()[1], self.shapes).head["steps"]
@@ -201,6 +214,16 @@ class Answers(Pages):
             thread.join(60)
         self.assertEqual(faults, [])
 
+    def test_the_package_is_called(self) -> None:
+        page = getattr(subzero, "view")(self.stars, origin="lower")
+        self.addCleanup(page.close)
+        self.assertIsInstance(page, Page)
+        self.assertEqual(json.loads(self.get("run")[1])["origin"], "upper")
+        self.assertEqual(page.origin, "lower")
+        with self.assertRaisesRegex(subzero.BadInput, "no origin"):
+            show(self.stars, origin="left")  # type: ignore[arg-type]
+        self.assertIs(getattr(subzero, "view").command, command)
+
     def test_a_page_is_shown_in_place_in_a_notebook(self) -> None:
         self.assertIn(f'<iframe src="{self.page.url}"', self.page._repr_html_())
         self.assertIn(self.page.url, repr(self.page))
@@ -221,7 +244,7 @@ class Answers(Pages):
         self.assertEqual(self.question(array=1, parts=[[0, 0, 1, 0, 1]])[0], 503)
 
     def test_a_closed_page_answers_no_more(self) -> None:
-        with subzero.view(self.stars) as second:
+        with show(self.stars) as second:
             self.assertNotEqual(second.url, self.page.url)
             address = urllib.parse.urlsplit(second.url)
             link = http.client.HTTPConnection("127.0.0.1", address.port, timeout=60)
@@ -246,7 +269,7 @@ class Refusals(Pages):
         self.assertEqual(self.get("")[0], 200)
 
     def test_a_stale_key_is_refused(self) -> None:
-        with subzero.view(self.stars) as second:
+        with show(self.stars) as second:
             stale = urllib.parse.urlsplit(second.url).path.strip("/")
         self.assertEqual(self.ask("GET", f"/{stale}/run")[0], 403)
 
@@ -302,7 +325,7 @@ class Refusals(Pages):
             status, said = self.ask("POST", f"/{self.key}/ask", body)
             self.assertEqual((status, said.count(b"\n")), (400, 1))
             self.assertIn(why, said.decode())
-        for changed, why in (
+        wrong: tuple[tuple[dict[str, Any], str], ...] = (
             ({"array": 5}, "no array 5"),
             ({"array": -1}, "numbers"),
             ({"array": True}, "numbers"),
@@ -316,7 +339,8 @@ class Refusals(Pages):
             ({"parts": [[0, 0, 0, 0, 0]] * 5000}, "at most 4096"),
             ({"kept": 7}, "not held"),
             ({"more": 1}, "fields"),
-        ):
+        )
+        for changed, why in wrong:
             status, said = self.question(**changed)
             self.assertEqual((status, said.count(b"\n")), (400, 1), changed)
             self.assertIn(why, said.decode())
@@ -343,7 +367,7 @@ class Refusals(Pages):
         for kind, *_, address in socket.getaddrinfo(socket.gethostname(), None, type=socket.SOCK_STREAM):
             if kind == socket.AF_INET and not str(address[0]).startswith("127."):
                 with self.assertRaises(OSError):
-                    socket.create_connection((address[0], self.address.port), timeout=5)
+                    socket.create_connection((str(address[0]), self.address.port or 0), timeout=5)
 
     def test_each_answer_forbids_what_the_page_does_not_need(self) -> None:
         link = http.client.HTTPConnection("127.0.0.1", self.address.port, timeout=60)
@@ -359,7 +383,7 @@ class Refusals(Pages):
 
 class Walks(unittest.TestCase):
     def test_paths_that_meet_and_a_base_array_that_is_taken_twice(self) -> None:
-        """By hand: left takes the cell to the left, right the one to the right, and their sum both, of one base array."""
+        """By hand: one step takes the cell to the left, one that to the right, their sum both, of one base array."""
         with subzero.Session() as session:
             row = session.array("row", [[1, 2, 3, 4, 5]])
             flow = session.flow("meet", inputs=2)
@@ -367,7 +391,7 @@ class Walks(unittest.TestCase):
             right = flow.convolve(flow.input(1), [[0, 0, 1]])
             both = flow.add(left, right)
             run = session.start(flow, [row, row])
-            with subzero.view(run) as page:
+            with show(run) as page:
                 self.assertEqual([panel.title for panel in page._board.panels], ["row", "convolve", "convolve", "add"])
                 shapes = [(1, 5)] * 4
                 told = Told(page.answer(_question(3, 0, 2)), shapes)
@@ -388,8 +412,10 @@ class Walks(unittest.TestCase):
             def cells(direction: Any, sense: Any, cell: tuple[int, int]) -> list[list[int]]:
                 mask = np.zeros((3, 6), dtype=bool)
                 mask[cell] = True
-                start, end = (labels, flow.input(0)) if direction == "back" else (base, labels)
-                return np.argwhere(lineage.masks(start, mask, direction, sense)[end]).tolist()
+                start: Any = labels if direction == "back" else base
+                end: Any = flow.input(0) if direction == "back" else labels
+                found: list[list[int]] = np.argwhere(lineage.masks(start, mask, direction, sense)[end]).tolist()
+                return found
 
             self.assertEqual(cells("back", "stood", (1, 1)), [[1, 1], [1, 2]])
             self.assertEqual(
@@ -408,7 +434,7 @@ def _question(array: int, row: int, column: int) -> Any:
 
 
 def _columns(told: Told, number: int) -> list[int]:
-    return np.flatnonzero(told.cells[number][1].ravel()).tolist()
+    return [int(column) for column in np.flatnonzero(told.cells[number][1])]
 
 
 class Layouts(unittest.TestCase):
@@ -450,8 +476,12 @@ class Bytes(unittest.TestCase):
 
     def test_the_narrowest_kind_of_values(self) -> None:
         for values, kind in (
-            ([-128, 127], "i1"), ([-129, 0], "i2"), ([0, 32768], "i4"), ([2**31, 0], "i8"), ([-(2**63), 2**63 - 1], "i8")
-        ):  # fmt: skip
+            ([-128, 127], "i1"),
+            ([-129, 0], "i2"),
+            ([0, 32768], "i4"),
+            ([2**31, 0], "i8"),
+            ([-(2**63), 2**63 - 1], "i8"),
+        ):
             self.assertEqual(marks.kind_of(np.array(values)), kind)
 
     def test_limits_leave_out_what_lies_far_off(self) -> None:
@@ -466,9 +496,8 @@ class Bytes(unittest.TestCase):
 class Commands(unittest.TestCase):
     def start(self, *words: str) -> subprocess.Popen[str]:
         environment = {**os.environ, "PYTHONPATH": str(Path(subzero.__file__).parents[1])}
-        code = "import sys; from subzero.view import command; sys.exit(command(sys.argv[1:]))"
         process = subprocess.Popen(
-            [sys.executable, "-c", code, *words],
+            [sys.executable, "-m", "subzero", "view", *words],
             stdout=subprocess.PIPE, stderr=subprocess.PIPE, text=True, env=environment,
         )  # fmt: skip
         self.addCleanup(process.communicate)
@@ -508,6 +537,20 @@ class Commands(unittest.TestCase):
             self.assertEqual([one["empty"] for one in told["arrays"]], [1, 1, 0])
             told = self.described(self.start(place, "--version", "1", "--origin", "lower"))
             self.assertEqual((told["run"], told["origin"]), (1, "lower"))
+
+    def test_a_log_is_shown(self) -> None:
+        with tempfile.TemporaryDirectory() as folder:
+            log = os.path.join(folder, "survey.log")
+            with subzero.Session(log) as session:
+                sky = session.array("sky", np.ma.masked_equal(np.arange(12).reshape(3, 4), 5))
+                flow = session.flow("f")
+                flow.clean(flow.input(0), t=9, name="sound", keep=["comp_one"])
+                session.start(flow, [sky]).wait()
+            told = self.described(self.start(log))
+            self.assertEqual([one["title"] for one in told["arrays"]], ["sky", "sound"])
+            self.assertEqual([one["detail"] for one in told["arrays"]], ["", "clean (9 and more)"])
+            self.assertEqual([one["empty"] for one in told["arrays"]], [1, 1])
+            self.assertEqual({way[3] for way in told["ways"]}, {"comp_one"})
 
     def test_what_cannot_be_shown_is_told_in_a_line(self) -> None:
         with tempfile.TemporaryDirectory() as folder:

@@ -7,17 +7,13 @@ from dataclasses import dataclass
 from typing import TYPE_CHECKING, Any, TypeAlias
 
 import numpy as np
-import numpy.typing as npt
 
-from ..cells import Shape
-from ..faults import BadInput
+from ..cells import Integers, Shape, Values
 from ..flow import Input, Node, Place
 from . import marks
 
 if TYPE_CHECKING:
     from ..run import Array, Run
-
-Values: TypeAlias = "np.ma.MaskedArray[tuple[int, ...], np.dtype[np.int64]]"
 
 PERCENTILES = (90.0, 95.0, 98.0, 99.0, 99.5, 99.9, 100.0)
 
@@ -50,6 +46,9 @@ class Arrow:
 Slot: TypeAlias = tuple[str, int]
 """What stands in a column: ("array", the panel's number), or ("lane", the number of an arrow that passes there)."""
 
+_Stop: TypeAlias = tuple[int, Slot]
+"""A slot, with the number of its column."""
+
 
 class Board:
     """The arrays of a run, base arrays first, with their values."""
@@ -64,7 +63,7 @@ class Board:
             for number, source in enumerate(node.sources)
         ]
         self.columns = columns_of(len(self.panels), self.arrows)
-        self._values: dict[int, Values | None] = {}
+        self._values: dict[int, Values] = {}
 
     def panel(self, array: Array) -> Panel:
         """The panel of an array of the run. Raises BadInput for another one."""
@@ -79,13 +78,10 @@ class Board:
         """The panel of a place of the run's flow."""
         return self._of[place]
 
-    def values(self, number: int) -> Values | None:
-        """The values of a panel's array, taken once; None where nobody holds them (a base array that a log gave)."""
+    def values(self, number: int) -> Values:
+        """The values of a panel's array, taken once."""
         if number not in self._values:
-            try:
-                self._values[number] = self.run.values(self.panels[number].places[0])
-            except BadInput:
-                self._values[number] = None
+            self._values[number] = self.run.values(self.panels[number].places[0])
         return self._values[number]
 
     def told(self) -> dict[str, Any]:
@@ -102,7 +98,7 @@ class Board:
     def _panel_told(self, panel: Panel) -> dict[str, Any]:
         values = self.values(panel.number)
         place = panel.places[0]
-        told: dict[str, Any] = {
+        return {
             "title": panel.title,
             "detail": panel.detail,
             "base": isinstance(place, Input),
@@ -110,16 +106,13 @@ class Board:
             "shape": [panel.layers, *panel.shape[-2:]],
             "axes": len(panel.shape),
             "labels": isinstance(place, Node) and _is_labelled(place),
-            "held": values is not None,
+            "kind": marks.kind_of(np.ma.getdata(values)),
+            "empty": int(np.ma.getmaskarray(values).sum()),
+            "limits": limits_of(values.compressed()),
         }
-        if values is not None:
-            told["kind"] = marks.kind_of(np.ma.getdata(values))
-            told["empty"] = int(np.ma.getmaskarray(values).sum())
-            told["limits"] = limits_of(values.compressed())
-        return told
 
 
-def limits_of(values: npt.NDArray[np.int64]) -> list[list[int]]:
+def limits_of(values: Integers) -> list[list[int]]:
     """For each of `PERCENTILES` the values between which so many of a hundred lie, the last from least to greatest."""
     if values.size == 0:
         return [[0, 1]] * len(PERCENTILES)
@@ -178,7 +171,7 @@ def _panels(run: Run) -> list[Panel]:
     for base in dict.fromkeys(run.base):
         found.append(Panel(len(found), base.name, "", tuple(run.places(base)), run.shape(base)))
     for node in run.flow.nodes:
-        name = getattr(node, "name", None) or node.op
+        name = node.name or node.op
         told = node.label if name != node.op else node.label.removeprefix(node.op).strip(" ()")
         found.append(Panel(len(found), name, told, (node,), run.shape(node)))
     return found

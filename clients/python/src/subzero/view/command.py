@@ -34,8 +34,10 @@ def command(arguments: Sequence[str]) -> int:
     told = words.parse_args(arguments)
     try:
         with _opened(told.place) as session:
-            runs = getattr(session, "runs", {}) if _is_log(told.place) else replay(session, told.place)
-            with Page(_chosen(runs, told.version, told.place), origin=told.origin, port=told.port) as page:
+            if not _is_log(told.place):
+                replay(session, told.place)
+            run = _chosen(session.runs, told.version, told.place)
+            with Page(run, origin=told.origin, port=told.port) as page:
                 print(f"{page.url}\nCtrl-C ends it", flush=True)
                 if told.open:
                     page.open()

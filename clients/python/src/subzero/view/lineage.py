@@ -9,15 +9,13 @@ from dataclasses import dataclass
 from typing import TYPE_CHECKING, Literal, TypeAlias
 
 import numpy as np
-import numpy.typing as npt
 
+from ..cells import Mask
 from ..flow import Node, Place
 from ..spread import masks_between
 
 if TYPE_CHECKING:
     from ..run import Array, Direction, Run
-
-Mask: TypeAlias = npt.NDArray[np.bool_]
 
 Sense: TypeAlias = Literal["stood", "could"]
 """What is asked: `stood`, the cells that stood behind the selected ones and those that they touched; or `could`, the
@@ -47,14 +45,14 @@ class Lineage:
         Raises Refused and ProgramEnded.
         """
         starts = self.run.places(array)
-        ends: list[Array] = list(self.run.base if direction == "back" else self.run.flow.nodes)
+        ends: list[Array] = [*self.run.base] if direction == "back" else [*self.run.flow.nodes]
         if not any(self._leads_on(place, direction) for place in starts):
             return dict.fromkeys(starts, mask)
         cells = np.stack(np.unravel_index(np.flatnonzero(mask), mask.shape), axis=1).astype(np.int64)
         return masks_between(self.run, direction, array, cells, ends, supports=sense == "could", high=self._high)
 
     def steps(self, masks: dict[Place, Mask], direction: Direction) -> list[Step]:
-        """The steps over which sets of cells came from one of these arrays to another, in the order in which they went."""
+        """The steps over which sets of cells came from one of these arrays to another, in the order of the walk."""
         nodes = [node for node in self.run.flow.nodes if node in masks]
         return [
             Step(node, number, direction)

@@ -25,6 +25,7 @@ window.page = {
   timing: null,
   geometry: (panel) => geometry(panel),
   asking: () => asking || wanted !== null,
+  unpoint: () => hover(null, null),
   value: (number, cell) => valueWords(state.panels[number], cell),
   npy: async (number) => new Uint8Array(await npyOf(state.panels[number]).arrayBuffer()),
   marked(number) {
@@ -59,16 +60,16 @@ function cellsWord(number, raw) {
 // What is asked, in words: of one selected cell, or of several.
 const SENSES = {
   stood: {
-    meaning: "The cells that the selected one was made of, and those that were made of it, as the run went.",
+    meaning: "What the selected cell was made of, and what was made of it, as the run went.",
     legend: { back: "stood behind it", forward: "were touched by it" },
-    one: { back: "stood behind this cell", forward: "touched by it" },
-    several: { back: "stood behind these cells", forward: "touched by them" },
+    one: { back: "stood behind it", forward: "touched by it" },
+    several: { back: "stood behind them", forward: "touched by them" },
   },
   could: {
-    meaning: "The cells that fix the selected one's value, and those that could be others, had it another value.",
+    meaning: "What fixes the selected cell's value, and what could have another value if this cell had.",
     legend: { back: "could change it", forward: "could change with it" },
-    one: { back: "could change this cell", forward: "could change with it" },
-    several: { back: "could change these cells", forward: "could change with them" },
+    one: { back: "could change it", forward: "could change with it" },
+    several: { back: "could change them", forward: "could change with them" },
   },
 };
 
@@ -152,7 +153,7 @@ function wayWords(panel) {
 }
 
 function valueWords(panel, cell) {
-  if (!panel.values) return "value not held";
+  if (!panel.values) return "";
   if (panel.empty && panel.empty[cell >> 3] & (128 >> (cell & 7))) return "empty";
   return panel.values[cell].toLocaleString("en");
 }
@@ -452,7 +453,6 @@ function makePanel(told, number) {
   panel.drag = element("div", "drag");
   panel.tip = element("div", "tip");
   panel.view.append(panel.base, panel.over, panel.cross, panel.drag, panel.tip);
-  if (!told.held) panel.view.append(element("div", "absent", "values not held"));
   root.append(head, panel.view);
   if (layers > 1) root.append(makeSlider(panel, layers));
   const foot = element("div", "foot");
@@ -1153,7 +1153,6 @@ function savePicture() {
 const KINDS = { i1: Int8Array, i2: Int16Array, i4: Int32Array, i8: BigInt64Array };
 
 async function loadValues(panel) {
-  if (!panel.told.held) return;
   const reply = await fetch(`values/${panel.number}`);
   if (!reply.ok) throw new Error((await reply.text()).trim());
   const bytes = await reply.arrayBuffer(), Kind = KINDS[panel.told.kind], count = size(panel);

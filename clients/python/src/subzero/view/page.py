@@ -14,17 +14,16 @@ from typing import TYPE_CHECKING, Any, Literal
 import numpy as np
 import numpy.typing as npt
 
-from ..cells import Cells, cells_of, mask_of
-from ..faults import BadInput, ProgramEnded, SubZeroError
-from ..flow import Place
+from ..cells import Cells, Mask, cells_of, mask_of
+from ..faults import BadInput
 from . import marks
 from .board import Board, Panel
-from .lineage import Lineage, Mask, Step
+from .lineage import Lineage, Step
 from .selection import Question
 from .server import Server
 
 if TYPE_CHECKING:
-    from ..later import Later
+    from ..later import Future
     from ..run import Array, Direction, Explanation, Run
 
 DIRECTIONS: tuple[Direction, Direction] = ("back", "forward")
@@ -135,8 +134,6 @@ class Page:
             if not 0 <= number < len(self._board.panels):
                 raise BadInput(f"there is no array {number}")
             values = self._board.values(number)
-            if values is None:
-                raise BadInput(f"the values of array {number} are not held")
             return marks.bytes_of(values, marks.kind_of(np.ma.getdata(values)))
 
     def clear(self) -> None:
@@ -181,9 +178,9 @@ class Page:
             merged[panel.number] = (panel, direction, mask if held is None else held[2] | mask)
         return list(merged.values())
 
-    def _explained(self) -> dict[Step, Later[list[Explanation]]]:
+    def _explained(self) -> dict[Step, Future[list[Explanation]]]:
         """How each step is answered, asked ahead: it is the same for all cells."""
-        ways: dict[Step, Later[list[Explanation]]] = {}
+        ways: dict[Step, Future[list[Explanation]]] = {}
         for node in self.run.flow.nodes:
             for number, source in enumerate(node.sources):
                 for direction in DIRECTIONS:
@@ -194,7 +191,7 @@ class Page:
         return ways
 
     def _ways_told(self) -> list[list[Any]]:
-        """For each step the panel of its node, its input, its direction, the strategy, and how many cells are traced."""
+        """For each step its node's panel, its input, its direction, the strategy, and how many cells are traced."""
         return [self._step_told(step) for step in self._ways]
 
     def _steps_told(self, steps: list[Step]) -> list[list[Any]]:
@@ -206,14 +203,11 @@ class Page:
         return [panel.number, step.input, step.direction, explanation.steps[0][1], explanation.traced]
 
     def _fault(self) -> str | None:
-        """In words how the program ended, where it has."""
-        program = self.run.session._program
-        if program.reads():
-            return None
-        try:
-            return str(program.ended())
-        except SubZeroError as fault:
-            return str(fault)
+        """In words that the session is closed, or how the program ended, where it has."""
+        session = self.run.session
+        if session.closed:
+            return "the session is closed"
+        return None if session._program.reads() else str(session._program.ended())
 
 
 def _packed(found: list[tuple[Panel, str, Mask]], steps: list[list[Any]], seconds: float) -> bytes:

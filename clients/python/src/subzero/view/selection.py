@@ -7,9 +7,9 @@ from typing import Any
 
 import numpy as np
 
-from ..cells import Shape
+from ..cells import Mask, Shape
 from ..faults import BadInput
-from .lineage import Mask, Sense
+from .lineage import Sense
 
 MOST_PARTS = 4096
 
@@ -42,7 +42,7 @@ class Question:
         for part in parts:
             if not isinstance(part, list) or len(part) != 5 or not all(map(_is_number, part)):
                 raise BadInput("a rectangle is five numbers: layer, first row and column, last row and column")
-        return cls(array, tuple(tuple(part) for part in parts), kept, sense)
+        return cls(array, tuple((part[0], part[1], part[2], part[3], part[4]) for part in parts), kept, sense)
 
     def mask(self, shape: Shape) -> Mask:
         """The cells of the rectangles in an array of this shape, as a boolean array. Raises BadInput out of range."""

@@ -13,6 +13,7 @@ import re
 import secrets
 import socketserver
 import threading
+from collections.abc import Callable
 from http.server import BaseHTTPRequestHandler, ThreadingHTTPServer
 from importlib import resources
 from typing import TYPE_CHECKING, Any
@@ -109,7 +110,7 @@ class _Handler(BaseHTTPRequestHandler):
         self.close_connection = True
         self._say(code, "text/plain; charset=utf-8", f"{message or 'refused'}\n".encode())
 
-    def _answer(self, route: Any) -> None:
+    def _answer(self, route: Callable[[str], tuple[str, bytes]]) -> None:
         """Answer a request, or say in a line why not."""
         try:
             kind, body = route(self._name())
@@ -127,7 +128,7 @@ class _Handler(BaseHTTPRequestHandler):
         """What is asked for, behind the key. Raises Denied for a foreign host and a wrong key, and after the end."""
         if self.server.closed:
             raise Denied(503, "the page is closed")
-        hosts = self.headers.get_all("Host", [])
+        hosts: list[str] = self.headers.get_all("Host") or []
         if len(hosts) != 1 or not HOST.fullmatch(hosts[0]):
             raise Denied(403, "this is not the host that is asked for")
         origin = self.headers.get("Origin")
