@@ -484,7 +484,7 @@ class Session:
             raise BadInput(f"{short(line)} does not end in its newline, so that the program would wait for more")
         if line.count(b"\n") > 1:
             raise BadInput(f"{short(line)} has {line.count(10)} newlines: say one line at a time")
-        if not line.strip(b" \t\r\n"):
+        if line[0] in b" \t\r\n" and not line.strip(b" \t\r\n"):
             raise BadInput("a blank line has no reply")
         if not _may_hold(line):
             return self._program.send(line)
@@ -629,5 +629,7 @@ def _hold_line_of(name: str, reply: Reply) -> Hold:
 
 
 def _may_hold(line: bytes) -> bool:
-    """Whether a line may be of a form that makes the session hold more."""
+    """Whether a line may be of a form that makes the session hold more: none that has a field of another form is."""
+    if line.startswith((b'{"ask":', b'{"explain":', b'{"show":', b'{"await":')):
+        return False
     return any(form in line for form in (b'"array"', b'"layers"', b'"csv"', b'"flow"', b'"strategy"', b'"start"'))
