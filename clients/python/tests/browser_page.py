@@ -78,6 +78,8 @@ class Browser(unittest.TestCase):
 
     def tearDown(self) -> None:
         faults = [one["message"] for one in self.browser.get_log("browser") if one["level"] in ("SEVERE", "WARNING")]
+        self.browser.get("about:blank")  # the page is left before it is closed
+        self.browser.get_log("browser")
         left = [fault for fault in faults if not any(word in fault for word in self.expected)]
         self.assertEqual(left, [])
 
@@ -103,7 +105,7 @@ class Browser(unittest.TestCase):
     def script(self, text: str, *words: Any) -> Any:
         return self.browser.execute_script(text, *words)
 
-    def until(self, holds: Callable[[], Any], seconds: float = 120) -> None:
+    def until(self, holds: Callable[[], Any], seconds: float = 300) -> None:
         """Wait until something holds."""
         end = time.monotonic() + seconds
         while not holds():

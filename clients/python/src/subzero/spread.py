@@ -245,8 +245,7 @@ class Spread:
             direction, chain, [*self._starts, *self._kept], by_steps_at="regions" if supports else None
         )
         self._coming: dict[Place, list[tuple[Stretch, Reply]]] = {place: [] for place in self._stretches}
-        self._high: dict[Node, Mask] = {}
-        self._masks: dict[Place, Mask] = {}
+        self._high: dict[Node, Mask] = {} if high is None else high
 
     def begin(self, cells: Integers) -> list[Reply]:
         """Send the first asks, of these cells of `array`: whole numbers of shape (N, axes). Gives their replies."""

@@ -27,16 +27,20 @@ if TYPE_CHECKING:
     from ..run import Array, Direction, Explanation, Run
 
 DIRECTIONS: tuple[Direction, Direction] = ("back", "forward")
+MOST_UNNAMED = 64
 
 
 @dataclass(frozen=True)
 class Kept:
-    """A set of cells that came from Python, by its number on the page, and the name under which it is offered."""
+    """A set of cells that came from Python: its number on the page, the name under which it is offered, its cells and
+    how many they are. Of those without a name the last `MOST_UNNAMED` are kept.
+    """
 
     number: int
     name: str | None
     panel: Panel
     mask: Mask
+    count: int
 
 
 class Page:
@@ -55,6 +59,7 @@ class Page:
         self._board = Board(run)
         self._lineage = Lineage(run)
         self._turn = threading.Lock()  # one ask at a time
+        self._desk = threading.Lock()  # what is kept
         self._ways = self._explained()
         self._kept: dict[int, Kept] = {}
         self._told = 0
@@ -107,10 +112,14 @@ class Page:
         """
         panel = self._board.panel(array)
         mask = mask_of(cells_of(cells, panel.shape), panel.shape)
-        number = self._told + 1
-        self._kept[number] = Kept(number, name, panel, mask)
-        self._selected = (panel, mask)
-        self._told = number
+        with self._desk:
+            number = self._told + 1
+            unnamed = [kept.number for kept in self._kept.values() if kept.name is None]
+            for old in unnamed[: len(unnamed) - MOST_UNNAMED + 1]:
+                del self._kept[old]
+            self._kept[number] = Kept(number, name, panel, mask, int(mask.sum()))
+            self._selected = (panel, mask)
+            self._told = number
 
     def told(self) -> dict[str, Any]:
         """What the page's script is to know of the run at first."""
@@ -119,12 +128,13 @@ class Page:
 
     def state(self) -> dict[str, Any]:
         """What may have changed: what was selected from Python, what is offered, and whether the program runs."""
+        with self._desk:
+            held, last = list(self._kept.values()), self._kept.get(self._told)
         offered = [
-            {"kept": kept.number, "name": kept.name, "array": kept.panel.number, "count": int(kept.mask.sum())}
-            for kept in list(self._kept.values())
+            {"kept": kept.number, "name": kept.name, "array": kept.panel.number, "count": kept.count}
+            for kept in held
             if kept.name is not None
         ]
-        last = self._kept.get(self._told)
         told = None if last is None else {"kept": last.number, "array": last.panel.number, "name": last.name}
         return {"told": told, "offered": offered, "fault": self._fault()}
 
