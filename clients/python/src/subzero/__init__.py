@@ -17,7 +17,17 @@ matplotlib), `python -m subzero` tells what can be done from a shell.
 
 from typing import TYPE_CHECKING
 
-from .faults import BadInput, OutOfStep, ProgramEnded, ProgramMissing, Refused, SubZeroError, TooManyPaths
+from .faults import (
+    BadInput,
+    Cancelled,
+    LogHeld,
+    OutOfStep,
+    ProgramEnded,
+    ProgramMissing,
+    Refused,
+    SubZeroError,
+    TooManyPaths,
+)
 from .flow import Flow, Input, Node
 from .later import Future, Later, Pipeline
 from .paths import Path

@@ -7,18 +7,13 @@ from __future__ import annotations
 import argparse
 from dataclasses import dataclass
 from pathlib import Path
-from typing import Any, TypeAlias
 
 import numpy as np
-from numpy.typing import NDArray
 
 from .cells import Mask, Values
 from .flow import Flow, Node
 from .run import Run
 from .session import BaseArray, Session
-
-Mask: TypeAlias = NDArray[np.bool_]
-Values: TypeAlias = "np.ma.MaskedArray[Any, np.dtype[np.int64]]"
 
 SIDE = 64
 KERNEL = [[1, 2, 1], [2, 4, 2], [1, 2, 1]]

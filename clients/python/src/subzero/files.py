@@ -10,7 +10,6 @@ from typing import Any, Literal, TypeAlias
 import numpy as np
 from numpy.typing import NDArray
 
-from .cells import values_of
 from .faults import BadInput
 
 Extension: TypeAlias = "int | str | tuple[str, int]"
