@@ -246,6 +246,7 @@ class Spread:
         )
         self._coming: dict[Place, list[tuple[Stretch, Reply]]] = {place: [] for place in self._stretches}
         self._high: dict[Node, Mask] = {} if high is None else high
+        self._masks: dict[Place, Mask] = {}
 
     def begin(self, cells: Integers) -> list[Reply]:
         """Send the first asks, of these cells of `array`: whole numbers of shape (N, axes). Gives their replies."""
