@@ -2,7 +2,6 @@
 
 from __future__ import annotations
 
-import json
 import os
 from collections.abc import Sequence
 from concurrent.futures import ThreadPoolExecutor
@@ -11,7 +10,6 @@ from typing import Any
 from ..cells import name_of, number_of
 from ..faults import BadInput
 from ..flow import Flow
-from ..program import Reply
 from ..session import Session
 from .crew import Crew, LocalCrew, processors
 from .making import Making
@@ -34,7 +32,6 @@ class Mosaic:
         self._limits = limits
         self._pool = ThreadPoolExecutor(crew.at_once, thread_name_prefix="subzero tiles")
         self._versions: dict[str, int] = {}
-        self._kept: dict[str, dict[int, list[str]]] = {}
         self._runs = 0
 
     def __enter__(self) -> Mosaic:
@@ -73,9 +70,9 @@ class Mosaic:
         """Name the array of a `.npy` or FITS file, which is read window by window."""
         return self.array(name, path, scale=scale)
 
-    def flow(self, name: str, inputs: int = 1) -> Flow:
-        """A flow to be built over so many base arrays, as of a session."""
-        return Flow(self, name_of(name), number_of(inputs, "inputs", 0, 2**32 - 1))  # type: ignore[arg-type]
+    def flow(self, name: str, inputs: int = 1, *, replace: bool = False) -> Flow:
+        """A flow to be built over so many base arrays, as of a session: one program judges it."""
+        return self._judge.flow(name, number_of(inputs, "inputs", 0, 2**32 - 1), replace=replace)
 
     def start(self, flow: Flow, base: Sequence[TiledArray]) -> TiledRun:
         """Start a flow on base arrays: cut it into stages and tiles. Tiles are made by `wait`, and by questions.
@@ -86,22 +83,16 @@ class Mosaic:
         for array in base:
             if not isinstance(array, TiledArray):
                 raise BadInput(f"{array!r} is no array of the mosaic: name it by mosaic.array")
+        if not isinstance(flow, Flow) or not flow.is_of(self._judge):
+            raise BadInput(f"{flow!r} is no flow of the mosaic: build it by mosaic.flow")
         flow.define()
+        kept = self._judge.holdings().flows[flow.program_name].lists
         if len(base) != len(flow.inputs):
             raise BadInput(f"the flow {flow.name} takes {len(flow.inputs)} base arrays, and {len(base)} are given")
         plan = plan_flow(flow, [array.shape for array in base], self.side, self._limits)
         self._runs += 1
-        making = Making(self._runs, plan, tuple(base), dict(self._kept.get(flow.name, {})), self._crew, self._pool)
+        making = Making(self._runs, plan, tuple(base), dict(kept), self._crew, self._pool)
         return TiledRun(self._runs, flow, tuple(base), making)
-
-    def say(self, line: bytes) -> Reply:
-        """Let a program judge a line that defines a flow or sets a strategy. Raises Refused."""
-        reply = self._judge.say(line)
-        reply.wait("defining a flow")
-        told = json.loads(line)
-        if "strategy" in told:
-            self._kept.setdefault(told["strategy"], {})[told["node"]] = told["list"]
-        return reply
 
 
 def tiled(
