@@ -150,12 +150,19 @@ class _Asked(Future[Mask]):
 
 
 def masks_between(
-    run: Run, direction: Direction, array: Array, cells: Integers, to: Sequence[Array], *, supports: bool = False
+    run: Run,
+    direction: Direction,
+    array: Array,
+    cells: Integers,
+    to: Sequence[Array],
+    *,
+    supports: bool = False,
+    high: dict[Node, Mask] | None = None,
 ) -> dict[Place, Mask]:
     """The set of cells in each array on the paths between `array` and those of `to`, their ends too, in the flow's
-    order.
+    order. Where `high` is given, which cells of `regions` nodes are high is kept in it from one call to the next.
     """
-    spread = Spread(run, direction, array, to, supports=supports, everywhere=True)
+    spread = Spread(run, direction, array, to, supports=supports, everywhere=True, high=high)
     spread.begin(cells)
     masks = spread.end()
     return {place: masks[place] for place in spread.chain}
@@ -218,6 +225,7 @@ class Spread:
         *,
         supports: bool = False,
         everywhere: bool = False,
+        high: dict[Node, Mask] | None = None,
     ) -> None:
         if direction not in ("back", "forward"):
             raise BadInput(f"{direction!r} is no direction: back or forward")
@@ -237,7 +245,7 @@ class Spread:
             direction, chain, [*self._starts, *self._kept], by_steps_at="regions" if supports else None
         )
         self._coming: dict[Place, list[tuple[Stretch, Reply]]] = {place: [] for place in self._stretches}
-        self._high: dict[Node, Mask] = {}
+        self._high: dict[Node, Mask] = {} if high is None else high
         self._masks: dict[Place, Mask] = {}
 
     def begin(self, cells: Integers) -> list[Reply]:

@@ -1,0 +1,42 @@
+"""The page: click a cell, see its lineage in every array.
+
+    page = subzero.view(run)      # a local web page; in a notebook it is shown in place
+    print(page.url)               # its link, for a browser on this machine
+    page.select(sky, bad)         # select cells from Python
+    page.selected                 # what was selected last, a boolean array
+
+`python -m subzero view SESSION_OR_LOG` shows a recorded session, or a log.
+"""
+
+from __future__ import annotations
+
+import sys
+from types import ModuleType
+from typing import TYPE_CHECKING, Literal
+
+from .command import command
+from .page import Page
+
+if TYPE_CHECKING:
+    from ..run import Run
+
+__all__ = ["Page", "command", "show"]
+
+
+def show(run: Run, *, origin: Literal["upper", "lower"] = "upper", port: int = 0) -> Page:
+    """Serve a page over a run, which is waited for; `subzero.view(run)` is the same call.
+
+    `origin` says whether row 0 is drawn at the top, or at the bottom; the page can change it. `port` is the port on the
+    loopback address, a free one where it is 0. Raises OSError where the port is taken, and BadInput for another origin.
+    """
+    return Page(run, origin=origin, port=port)
+
+
+class _Callable(ModuleType):
+    """This module, which is called as `subzero.view(run)`."""
+
+    def __call__(self, run: Run, *, origin: Literal["upper", "lower"] = "upper", port: int = 0) -> Page:
+        return show(run, origin=origin, port=port)
+
+
+sys.modules[__name__].__class__ = _Callable
