@@ -1,6 +1,7 @@
 """The page in a real browser: headless Chromium, driven by chromium-driver. `.ci/page` runs these tests.
 
-`python3 browser_page.py pictures FOLDER` writes the tutorial's pictures of the page.
+`python3 browser_page.py pictures FOLDER` writes the tutorial's pictures of the page, and `python3 browser_page.py speed
+SIDE [STRATEGY]` times clicks.
 """
 
 from __future__ import annotations
@@ -561,28 +562,66 @@ class Faults(Browser):
         self.assertTrue(self.script("return document.getElementById('fault').hidden"))
 
 
+def sized(side: int, keep: list[str] | None = None) -> Callable[[subzero.Session], subzero.Run]:
+    """The tutorial's flow, five arrays, on its image laid side by side, `side` by `side` cells with some noise."""
+
+    def build(session: subzero.Session) -> subzero.Run:
+        tiles = np.tile(demo.field().image.filled(20), (side // 64, side // 64))
+        sky = session.array("sky", tiles + np.random.RandomState(1).randint(0, 3, (side, side)))
+        flow = session.flow("five")
+        clean = flow.clean(flow.input(0), t=demo.HOT, keep=keep)
+        smooth = flow.convolve(clean, demo.KERNEL)
+        flow.block(flow.regions(smooth, t=demo.BRIGHT, keep=keep), "max", 4, 4)
+        return session.start(flow, [sky])
+
+    return build
+
+
 class Speed(Browser):
-    def test_what_the_page_adds_to_the_program_s_time(self) -> None:
+    def test_values_go_once_and_answers_are_small_and_soon_there(self) -> None:
         """Five arrays of 512 by 512. What the program takes is told apart, since it may be one with checks."""
-
-        def build(session: subzero.Session) -> subzero.Run:
-            draw = np.random.RandomState(1)
-            sky = session.array("sky", draw.randint(0, 1000, (512, 512)))
-            flow = session.flow("five")
-            clean = flow.clean(flow.input(0), t=990)
-            smooth = flow.convolve(clean, np.ones((3, 3), dtype=int))
-            labels = flow.regions(smooth, t=5200)
-            flow.clip(labels, 0, 2**40)
-            return session.start(flow, [sky])
-
-        self.open(self.run_of(build))
+        self.open(self.run_of(sized(512)))
         took = []
-        for row in range(100, 400, 60):
-            self.click(2, row, row)
+        for star in (64 * 2, 64 * 3, 64 * 5):
+            self.click(2, star + 17, star + 24)
             took.append(self.script("return [page.timing.all, page.timing.program]"))
+        sent = self.script(
+            "return performance.getEntriesByType('resource').map((one) => [one.name, one.encodedBodySize])"
+        )
+        self.assertEqual(sum("/values/" in name for name, _ in sent), 5)
+        asks = [size for name, size in sent if name.endswith("/ask")]
+        self.assertEqual(len(asks), 3)
+        self.assertLess(max(asks), 4000)
         added = min(whole - program for whole, program in took)
-        print(f"\nfive arrays of 512 by 512: {min(took)[0]:.0f} ms a click, of which the page takes {added:.0f} ms")
-        self.assertLess(added, 50)
+        busy = os.getloadavg()[0] > (os.cpu_count() or 1)
+        print(
+            f"\nfive arrays of 512 by 512: {min(took)[0]:.0f} ms a click, of which the page takes {added:.0f} ms"
+            + (", on a machine that is busy: not held against its limit" if busy else "")
+        )
+        if not busy:
+            self.assertLess(added, 50)
+
+
+def speeds(side: int, keep: list[str] | None) -> None:
+    """Time clicks on the tutorial's flow over an image of `side` by `side`."""
+
+    class Clicks(Browser):
+        def runTest(self) -> None:
+            self.open(self.run_of(sized(side, keep)))
+            for sense in ("stood", "could"):
+                if sense == "could":
+                    self.press("s")
+                for array, name in ((0, "sky"), (2, "convolve"), (4, "block")):
+                    took = []
+                    for star in range(0, side, 64):
+                        row, column = star + 17, star + 24
+                        self.click(array, *((row // 4, column // 4) if array == 4 else (row, column)))
+                        took.append(self.script("return [page.timing.all, page.timing.arrived, page.timing.program]"))
+                    whole, arrived, program = np.median(np.array(took), axis=0)
+                    told = f"{side} by {side}, {sense}, a click on {name}: {whole:.0f} ms to the drawn marks"
+                    print(f"{told}, of them asks {program:.0f}, drawing {whole - arrived:.0f}", flush=True)
+
+    sys.exit(not unittest.TextTestRunner().run(unittest.TestSuite([Clicks()])).wasSuccessful())
 
 
 def pictures(folder: str) -> None:
@@ -613,4 +652,6 @@ def pictures(folder: str) -> None:
 if __name__ == "__main__":
     if sys.argv[1:2] == ["pictures"]:
         pictures(sys.argv[2])
+    if sys.argv[1:2] == ["speed"]:
+        speeds(int(sys.argv[2]), sys.argv[3:] or None)
     unittest.main()
