@@ -134,10 +134,8 @@ class Both:
                 except (subzero.BadInput, subzero.TooManyPaths):
                     continue
                 behind, hit = (draw.rand(*self.whole.shape(one)) < draw.choice([0.03, 0.3]) for one in (node, place))
-                back = ahead.back(self.whole, node, behind, to=place, limit=limit)
-                asked.append(
-                    (node, place, behind, hit, back, ahead.forward(self.whole, place, hit, to=node, limit=limit))
-                )
+                back = ahead.back(self.whole, node, behind, to=place)
+                asked.append((node, place, behind, hit, back, ahead.forward(self.whole, place, hit, to=node)))
         for node, place, behind, hit, back, forward in asked:
             node, place = self.twin(node), self.twin(place)
             found = self.tiled.back(node, behind, to=place)
@@ -399,11 +397,18 @@ class Spread(unittest.TestCase):
             self.assertEqual(run.support(labels, (0, 0), to=base).tolist(), expected.tolist())
 
 
+class Nothing:
+    """What a flow that is only planned is written for."""
+
+
+NO_SESSION: Any = Nothing()
+
+
 class Fit(unittest.TestCase):
     """Tiles keep within a session, and what they cannot keep within is refused."""
 
     def planned(self, build: Callable[[subzero.Flow], None], shapes: list[tuple[int, ...]], side: int) -> Any:
-        flow = subzero.Flow(None, "f", len(shapes))
+        flow = subzero.Flow(NO_SESSION, "f", len(shapes))
         build(flow)
         return plan_flow(flow, shapes, side), flow
 
