@@ -41,6 +41,9 @@ class OnDask(unittest.TestCase):
         cls.client.close()
         cls.cluster.close()
 
+    def setUp(self) -> None:
+        self.client.wait_for_workers(2, timeout=300)  # one that a test killed is made anew by its cluster
+
     def test_flows_of_all_operators(self) -> None:
         cases = 0
         with subzero.Session() as session, subzero.tiled(tile=7, client=self.client) as mosaic:
