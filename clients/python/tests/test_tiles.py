@@ -8,7 +8,7 @@ import tempfile
 import threading
 import time
 import unittest
-from collections.abc import Callable
+from collections.abc import Callable, Sequence
 from pathlib import Path
 from typing import Any
 from unittest import mock
@@ -35,7 +35,7 @@ OPERATORS = ["neg", "abs", "add_k", "mul_k", "clip", "add", "sub", "mul", "min",
 ] * 2
 
 
-def some(draw: np.random.RandomState, shape: tuple[int, ...]) -> np.ma.MaskedArray:
+def some(draw: np.random.RandomState, shape: tuple[int, ...]) -> np.ma.MaskedArray[Any, Any]:
     """Whole numbers from -30 to 59, a tenth of them empty; in one of four arrays some are huge."""
     values = draw.randint(-30, 60, shape)
     if draw.rand() < 0.25:
@@ -58,6 +58,12 @@ def draw_flow(flow: subzero.Flow, shapes: list[tuple[int, ...]], draw: np.random
         shapes.append(node.shape_from(shape))
 
 
+def applied(flow: subzero.Flow, op: str, *rest: Any) -> subzero.Node:
+    """The node of a flow's call of this name."""
+    node: subzero.Node = getattr(flow, op)(*rest)
+    return node
+
+
 def draw_node(
     flow: subzero.Flow,
     x: Any,
@@ -69,12 +75,12 @@ def draw_node(
     height, width = shape[-2:]
     op = str(draw.choice(OPERATORS))
     if op in ("add_k", "mul_k"):
-        return getattr(flow, op)(x, int(draw.randint(-3, 4)))
+        return applied(flow, op, x, int(draw.randint(-3, 4)))
     if op == "clip":
         return flow.clip(x, -20, int(draw.randint(-20, 60)))
     if op in ("add", "sub", "mul", "min", "max"):
         like = [place for place, other in zip(places, shapes) if other == shape]
-        return getattr(flow, op)(x, like[draw.randint(len(like))])
+        return applied(flow, op, x, like[draw.randint(len(like))])
     if op == "slice":
         h, w = int(draw.randint(1, height + 1)), int(draw.randint(1, width + 1))
         return flow.slice(x, int(draw.randint(height - h + 1)), int(draw.randint(width - w + 1)), h, w)
@@ -88,8 +94,8 @@ def draw_node(
         tables = [place for place, other in zip(places, shapes) if int(np.prod(other[:-1])) == 1]
         return flow.lookup(x, tables[draw.randint(len(tables))])
     if op in ("regions", "clean"):
-        return getattr(flow, op)(x, int(draw.randint(-20, 60)))
-    return getattr(flow, op)(x)
+        return applied(flow, op, x, int(draw.randint(-20, 60)))
+    return applied(flow, op, x)
 
 
 class Both:
@@ -105,7 +111,8 @@ class Both:
     ) -> None:
         self.whole_base = [session.array(f"a{number}", array) for number, array in enumerate(arrays)]
         self.tiled_base = [mosaic.array(f"a{number}", array) for number, array in enumerate(arrays)]
-        self.whole_flow, self.tiled_flow = (one.flow(name, inputs=len(arrays)) for one in (session, mosaic))
+        self.whole_flow = session.flow(name, inputs=len(arrays))
+        self.tiled_flow = mosaic.flow(name, inputs=len(arrays))
         for flow in (self.whole_flow, self.tiled_flow):
             build(flow)
         self.whole = session.start(self.whole_flow, self.whole_base)
@@ -121,7 +128,7 @@ class Both:
             test.assertEqual((found.shape, found.dtype), (expected.shape, expected.dtype), node)
             test.assertEqual(found.tolist(), expected.tolist(), node)
             self.cases += 1
-        chosen = [
+        chosen: list[Any] = [
             (node, place) for node in self.whole_flow.nodes for place in (*self.whole_flow.inputs, *node.flow.nodes)
         ]
         draw.shuffle(chosen)
@@ -137,16 +144,18 @@ class Both:
                 back = ahead.back(self.whole, node, behind, to=place)
                 asked.append((node, place, behind, hit, back, ahead.forward(self.whole, place, hit, to=node)))
         for node, place, behind, hit, back, forward in asked:
-            node, place = self.twin(node), self.twin(place)
-            found = self.tiled.back(node, behind, to=place)
-            test.assertTrue(np.array_equal(found, back.result()), ("back", str(node), str(place)))
-            found = self.tiled.forward(place, hit, to=node)
-            test.assertTrue(np.array_equal(found, forward.result()), ("forward", str(node), str(place)))
+            last, first = self.twin(node), self.twin(place)
+            answer = self.tiled.back(last, behind, to=first)
+            test.assertTrue(np.array_equal(answer, back.result()), ("back", str(node), str(place)))
+            answer = self.tiled.forward(first, hit, to=last)
+            test.assertTrue(np.array_equal(answer, forward.result()), ("forward", str(node), str(place)))
             self.cases += 2
 
     def twin(self, place: subzero.Input | subzero.Node) -> subzero.Input | subzero.Node:
         flow = self.tiled_flow
-        return flow.nodes[place.number] if isinstance(place, subzero.Node) else flow.inputs[place.number]
+        inner = isinstance(place, subzero.Node)
+        here: subzero.Input | subzero.Node = flow.nodes[place.number] if inner else flow.inputs[place.number]
+        return here
 
 
 class RandomFlows(unittest.TestCase):
@@ -185,7 +194,7 @@ class RandomFlows(unittest.TestCase):
         self.check(range(1000, 1050), limits=Limits(cells=700, array=200, nodes=6, inputs=4))
 
 
-def spiral(side: int) -> np.ndarray:
+def spiral(side: int) -> np.ndarray[Any, Any]:
     """A line one cell wide that winds inward, 1 on 0."""
     image = np.zeros((side, side), dtype=int)
     row, column, down, right = 0, 0, 0, 1
@@ -223,7 +232,7 @@ class Edges(unittest.TestCase):
 class Regions(unittest.TestCase):
     """Components that lie in many tiles."""
 
-    def check(self, image: np.ndarray, t: int, tile: int, asked: tuple[int, ...]) -> None:
+    def check(self, image: np.ndarray[Any, Any], t: int, tile: int, asked: tuple[int, ...]) -> None:
         """Labels, and lineage of one cell in both directions, against scipy.ndimage."""
         grid = reference.grid_of(image)
         expected = reference.evaluate("regions", {"t": t}, [grid])[0].reshape(image.shape)
@@ -289,7 +298,7 @@ class Spread(unittest.TestCase):
     too."""
 
     def step(
-        self, node: subzero.Node, grids: list[reference.Grid], number: int, cells: np.ndarray, forward: bool
+        self, node: subzero.Node, grids: list[reference.Grid], number: int, cells: np.ndarray[Any, Any], forward: bool
     ) -> Any:
         if node.op != "regions":
             return (reference.forward if forward else reference.back)(node.op, node.parameters, grids, number, cells)
@@ -300,8 +309,12 @@ class Spread(unittest.TestCase):
         return (cells & ~high) | (component if forward else ndimage.binary_dilation(component, reference.CROSS))
 
     def spread(
-        self, flow: subzero.Flow, grids: dict[Any, reference.Grid], start: dict[Any, np.ndarray], forward: bool
-    ) -> dict[Any, np.ndarray]:
+        self,
+        flow: subzero.Flow,
+        grids: dict[Any, reference.Grid],
+        start: dict[Any, np.ndarray[Any, Any]],
+        forward: bool,
+    ) -> dict[Any, np.ndarray[Any, Any]]:
         sets = {place: np.zeros(grid[1].shape, dtype=bool) for place, grid in grids.items()} | start
         for node in flow.nodes if forward else reversed(flow.nodes):
             taken = [grids[source] for source in node.sources]
@@ -380,7 +393,7 @@ class Spread(unittest.TestCase):
                         self.assertEqual(touched[asked], tuple(bad) in expected, (bad, asked))
 
     def test_a_dead_pixel_between_two_regions(self) -> None:
-        image = np.ma.MaskedArray(np.full((5, 12), 9), np.zeros((5, 12), dtype=bool))
+        image: np.ma.MaskedArray[Any, Any] = np.ma.MaskedArray(np.full((5, 12), 9), np.zeros((5, 12), dtype=bool))
         image[:, 6] = 0
         image[2, 6] = np.ma.masked
         with subzero.tiled(tile=6, programs=2) as mosaic:
@@ -407,10 +420,10 @@ NO_SESSION: Any = Nothing()
 class Fit(unittest.TestCase):
     """Tiles keep within a session, and what they cannot keep within is refused."""
 
-    def planned(self, build: Callable[[subzero.Flow], None], shapes: list[tuple[int, ...]], side: int) -> Any:
+    def planned(self, build: Callable[[subzero.Flow], None], shapes: Sequence[tuple[int, ...]], side: int) -> Any:
         flow = subzero.Flow(NO_SESSION, "f", len(shapes))
         build(flow)
-        return plan_flow(flow, shapes, side), flow
+        return plan_flow(flow, list(shapes), side), flow
 
     def test_a_large_mosaic_keeps_within_sessions_and_is_shared_out_once(self) -> None:
         def chain(flow: subzero.Flow) -> None:
@@ -494,6 +507,7 @@ class Fit(unittest.TestCase):
 
             def watched(holder: Holder, *arguments: Any) -> Any:
                 replies = start(holder, *arguments)
+                assert holder._held is not None
                 held.append(holder._held.cells)
                 return replies
 
@@ -553,7 +567,9 @@ class Use(unittest.TestCase):
                     self.assertEqual(run.values(array).tolist(), image.reshape(array.shape).tolist())
 
     def test_empty_cells(self) -> None:
-        image = np.ma.MaskedArray(np.arange(600).reshape(20, 30), np.arange(600).reshape(20, 30) % 7 == 0)
+        image: np.ma.MaskedArray[Any, Any] = np.ma.MaskedArray(
+            np.arange(600).reshape(20, 30), np.arange(600).reshape(20, 30) % 7 == 0
+        )
         run, node = self.negated(self.mosaic.array("a", image), "masked")
         self.assertEqual(run.values(node).tolist(), (-image).tolist())
         floats = np.where(image.mask, np.nan, image.data / 2)
@@ -582,7 +598,8 @@ class Use(unittest.TestCase):
             [[0, 0], [0, 1], [39, 48], [39, 49]],
         )
         self.assertEqual(run.back(total, [], to=base, as_cells=True).shape, (0, 2))
-        for window in (np.s_[3:3, :], np.s_[::2, :], np.s_[3:5], (3, 4)):
+        wrong: list[Any] = [np.s_[3:3, :], np.s_[::2, :], np.s_[3:5], (3, 4)]
+        for window in wrong:
             with self.subTest(window=window), self.assertRaisesRegex(subzero.BadInput, "window"):
                 run.values(total, window)
 
@@ -596,7 +613,7 @@ class Use(unittest.TestCase):
         run = self.mosaic.start(flow, [base])
         run.wait()
         self.assertEqual(len(run.paths(labels, to=base)), 2)
-        path = [(labels, 0), (labels.sources[0], 0), (left, 0)]
+        path: list[Any] = [(labels, 0), (labels.sources[0], 0), (left, 0)]
         self.assertEqual(run.back(labels, (9, 10), to=base, path=path, as_cells=True).tolist(), [[9, 9]])
         self.assertEqual(run.forward(base, (9, 9), to=labels, path=path, as_cells=True).tolist(), [[9, 10]])
         told = run.explain(labels, (9, 10), to=base)
@@ -643,6 +660,8 @@ class Use(unittest.TestCase):
             wrong.convolve(wrong.input(0), [[1, 1]])
             self.mosaic.start(wrong, [base])
         self.assertEqual((caught.exception.number, caught.exception.node), (8, 0))
+        floats: Any = np.zeros((2, 2))
+        up: Any = "up"
         for call, why in (
             (lambda: self.mosaic.array("A", [[1]]), "no name"),
             (lambda: self.mosaic.array("a", [1, 2]), "2 axes"),
@@ -650,12 +669,12 @@ class Use(unittest.TestCase):
             (lambda: self.mosaic.array("a", np.zeros((0, 2), dtype=int)), "no cells"),
             (lambda: self.mosaic.array("a", np.zeros((2, 2))), "the values are floats"),
             (lambda: self.mosaic.start(other, [base]), "takes 2 base arrays"),
-            (lambda: self.mosaic.start(run.flow, [np.zeros((2, 2))]), "no array of the mosaic"),
+            (lambda: self.mosaic.start(run.flow, [floats]), "no array of the mosaic"),
             (lambda: run.back(node, (0, 12), to=base), "out of range"),
             (lambda: run.back(node, (0, 0), to=node), "no path leads"),
             (lambda: run.back(node, (0, 0), to=base, path=[(node, 1)]), "no input 1"),
             (lambda: run.values(other.nodes[0]), "another flow"),
-            (lambda: run.explain(node, (0, 0), to=base, direction="up"), "no direction"),
+            (lambda: run.explain(node, (0, 0), to=base, direction=up), "no direction"),
             (lambda: subzero.tiled(tile=0), "tile is 0"),
         ):
             with self.assertRaisesRegex(subzero.BadInput, why):
@@ -694,6 +713,7 @@ class Ends(unittest.TestCase):
         self.assertEqual(self.run_.values(self.last).tolist(), self.expected)
         before = self.run_.back(self.last, (2, 2), to=self.base)
         for pid in self.mosaic.pids:
+            assert pid is not None
             os.kill(pid, signal.SIGKILL)
         self.assertEqual(self.run_.values(self.last).tolist(), self.expected)
         self.assertTrue(np.array_equal(self.run_.back(self.last, (2, 2), to=self.base), before))
@@ -705,6 +725,7 @@ class Ends(unittest.TestCase):
             with holder._turn:
                 if holder._held is None:
                     holder._renew()
+                assert holder._held is not None
                 os.kill(holder._held.session.pid, signal.SIGKILL)
             return tiles(holder, requests)
 
@@ -766,6 +787,7 @@ class Ends(unittest.TestCase):
         with self.assertRaisesRegex(subzero.SubZeroError, "the mosaic is closed"):
             self.run_.values(self.last)
         for pid in pids:
+            assert pid is not None
             with self.assertRaises(ProcessLookupError):
                 os.kill(pid, 0)
 

@@ -8,7 +8,8 @@ import threading
 import time
 import unittest
 import warnings
-from typing import Any
+from importlib import import_module
+from typing import Any, ClassVar
 from unittest import mock
 
 import numpy as np
@@ -17,24 +18,27 @@ import subzero
 from subzero.tiles import Mosaic
 from test_tiles import Both, draw_flow, some
 
+distributed: Any = None
+dask_array: Any = None
 try:
-    import dask.array
-    from dask.distributed import Client, LocalCluster
+    distributed, dask_array = import_module("dask.distributed"), import_module("dask.array")
 except ImportError:
-    Client = None
     print("test_tiles_dask: SKIPPED, since Dask is not there: apt-get install python3-dask python3-distributed")
 
 
-@unittest.skipIf(Client is None, "Dask is not there: apt-get install python3-dask python3-distributed")
+@unittest.skipIf(distributed is None, "Dask is not there: apt-get install python3-dask python3-distributed")
 class OnDask(unittest.TestCase):
+    cluster: ClassVar[Any]
+    client: ClassVar[Any]
+
     @classmethod
     def setUpClass(cls) -> None:
         with warnings.catch_warnings():
             warnings.simplefilter("ignore", DeprecationWarning)
-            cls.cluster = LocalCluster(
+            cls.cluster = distributed.LocalCluster(
                 n_workers=2, threads_per_worker=1, host="127.0.0.1", dashboard_address=None, silence_logs=50
             )
-            cls.client = Client(cls.cluster)
+            cls.client = distributed.Client(cls.cluster)
 
     @classmethod
     def tearDownClass(cls) -> None:
@@ -95,12 +99,12 @@ class OnDask(unittest.TestCase):
     def test_a_dask_array_is_read_window_by_window(self) -> None:
         read: list[Any] = []
 
-        def chunk(block: np.ndarray) -> np.ndarray:
+        def chunk(block: np.ndarray[Any, Any]) -> np.ndarray[Any, Any]:
             read.append(block.shape)
             return block * 2
 
         image = np.arange(40 * 30).reshape(40, 30)
-        lazy = dask.array.from_array(image, chunks=(10, 10)).map_blocks(chunk, dtype=image.dtype)
+        lazy = dask_array.from_array(image, chunks=(10, 10)).map_blocks(chunk, dtype=image.dtype)
         read.clear()
         with subzero.tiled(tile=10, client=self.client) as mosaic:
             flow = mosaic.flow("f")

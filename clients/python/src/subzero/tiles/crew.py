@@ -85,7 +85,7 @@ def side_by_side(pool: ThreadPoolExecutor, jobs: Sequence[Callable[[], None]], d
                 for future in done:
                     future.result()
                 if not done:
-                    step._doing = f"{doing}, {len(futures) - len(left)} of {len(futures)}"
+                    step.doing = f"{doing}, {len(futures) - len(left)} of {len(futures)}"
                     step.show()
     except BaseException:
         for future in futures:

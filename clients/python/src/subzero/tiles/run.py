@@ -95,7 +95,7 @@ class TiledRun:
         rect = whole(shape) if window is None else _rect(window, shape)
         values, empty = self._making.values(place, rect)
         room = (*shape[:-2], rect.height, rect.width)
-        return np.ma.MaskedArray(values.reshape(room), empty.reshape(room))  # type: ignore[no-untyped-call]
+        return np.ma.MaskedArray(values.reshape(room), empty.reshape(room))
 
     def paths(self, array: Array, *, to: Array, limit: int = MOST_PATHS) -> list[Path]:
         """All paths from `array` back to `to`. Raises BadInput where there is none, TooManyPaths above `limit`."""

@@ -50,7 +50,7 @@ class TiledArray:
         if hasattr(part, "compute"):
             part = part.compute()
         if self._nan_is_empty and part.dtype.kind == "f":
-            part = np.ma.MaskedArray(part, ~np.isfinite(part))  # type: ignore[no-untyped-call]
+            part = np.ma.MaskedArray(part, ~np.isfinite(part))
         try:
             return values_of(part, self._scale)
         except BadInput as fault:
@@ -111,7 +111,7 @@ def _opened(path: str | os.PathLike[str]) -> Any:
 def _image_of(path: str | os.PathLike[str]) -> Any:
     """The first image of a FITS file, read where it is asked for."""
     try:
-        from astropy.io import fits  # type: ignore[import]
+        from astropy.io import fits
     except ImportError:
         raise BadInput("reading FITS needs astropy") from None
     with fits.open(path, memmap=True) as units:
