@@ -1,4 +1,0 @@
-pub mod Laws
-pub mod Before
-pub mod Changes
-pub mod Outputs
