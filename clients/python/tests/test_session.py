@@ -514,7 +514,11 @@ class Interrupts(unittest.TestCase):
                 answers = [ahead.back(self.run_, self.node, (0, 0), to=self.sky) for _ in range(100)]
                 1 / 0
         self.check()
-        self.assertEqual(sum(answer.cancelled() for answer in answers), 100 - AHEAD)
+        sent = [answer for answer in answers if not answer.cancelled()]
+        self.assertLessEqual(len(sent), AHEAD)  # fewer, where the exception came before they were sent
+        self.assertEqual(answers[: len(sent)], sent)
+        for answer in sent:
+            self.assertEqual(np.argwhere(answer.result()).tolist(), [[0, 0]])
 
     def test_an_ask(self) -> None:
         with self.assertRaises(KeyboardInterrupt):
