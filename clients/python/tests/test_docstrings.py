@@ -10,7 +10,7 @@ import numpy as np
 
 import subzero
 
-MODULES = "session flow run spread later cells logs locks program faults progress numerals".split()
+MODULES = "session flow run spread catalogue later cells logs locks program faults progress numerals".split()
 FLAGS = doctest.ELLIPSIS | doctest.NORMALIZE_WHITESPACE
 
 

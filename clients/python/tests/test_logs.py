@@ -249,7 +249,7 @@ class Locks(unittest.TestCase):
         with self.assertRaises(subzero.LogHeld):
             subzero.Session(log=self.log)
         os.kill(program, signal.SIGCONT)
-        self.open_within(20).close()
+        self.open_within(300).close()
 
     def test_a_lock_ends_with_a_killed_program(self) -> None:
         session = subzero.Session(log=self.log)

@@ -2,6 +2,7 @@
 waits.
 """
 
+import importlib
 import os
 import queue
 import re
@@ -22,10 +23,11 @@ import subzero
 from subzero import progress
 
 os.environ.setdefault("PYDEVD_DISABLE_FILE_VALIDATION", "1")  # a kernel's debugger would warn
+jupyter: Any
 try:
-    import jupyter_client.manager as jupyter
+    jupyter = importlib.import_module("jupyter_client.manager")
 except ImportError:
-    jupyter = None  # type: ignore[assignment]
+    jupyter = None
 
 SKY = np.array([[0, 9, 0, 0], [9, 9, 0, 0], [0, 0, 7, 7], [0, 0, 7, 0]])
 
@@ -401,27 +403,25 @@ class Kernel(unittest.TestCase):
                 "sky = session.array('sky', [[1, 2]])\n"
                 "sky"
             )
-            client.execute(code)
+            asked = client.execute(code)
             seen: list[Any] = []
-            until = time.monotonic() + 60
+            until = time.monotonic() + 300
             while time.monotonic() < until:
                 try:
                     message = client.get_iopub_msg(timeout=1)
                 except queue.Empty:
                     continue
+                if message["parent_header"].get("msg_id") != asked:  # of what the kernel was asked as it came up
+                    continue
                 seen.append((message["msg_type"], message["content"]))
-                if (
-                    message["msg_type"] == "status"
-                    and message["content"]["execution_state"] == "idle"
-                    and len(seen) > 3
-                ):
+                if message["msg_type"] == "status" and message["content"]["execution_state"] == "idle":
                     break
             shown = [
                 content["data"]["text/plain"]
                 for kind, content in seen
                 if kind in ("display_data", "update_display_data")
             ]
-            self.assertTrue(re.fullmatch(r"subzero: handing in sky, \d\.\d s", shown[0]), seen)
+            self.assertTrue(re.fullmatch(r"subzero: handing in sky, \d+\.\d s", shown[0]), seen)
             self.assertEqual(shown[-1], "")
             results = [content["data"] for kind, content in seen if kind == "execute_result"]
             self.assertEqual(results[0]["text/plain"], "<BaseArray sky 1: 1 by 2>")
@@ -450,7 +450,7 @@ class Kernel(unittest.TestCase):
                 step.show()
                 step.show()
         self.assertEqual([what for what, _ in shown], ["made", "changed", "changed"])
-        self.assertEqual(shown[0][1], "<small>subzero: too soon, 0.0 s</small>")
+        self.assertRegex(shown[0][1], r"^<small>subzero: too soon, \d+\.\d s</small>$")
         self.assertEqual(shown[-1][1], "<small></small>")
 
     def test_no_notebook_is_none(self) -> None:

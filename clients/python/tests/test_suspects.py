@@ -223,6 +223,60 @@ class Table(unittest.TestCase):
             border = mask[0].any() or mask[-1].any() or mask[:, 0].any() or mask[:, -1].any()
             self.assertEqual(row["border"], border)
 
+    def test_random_flows(self) -> None:
+        """Regions that are asked about together have the rows that each alone would have."""
+        rows = 0
+        for seed in range(12):
+            draw = np.random.RandomState(400 + seed)
+            shape = [(24, 30), (3, 17, 12), (1, 40), (9, 1)][seed % 4]
+            sky = self.session.array("image", draw.randint(-20, 60, shape))
+            table = self.session.array("table", draw.randint(-20, 60, (1, 20)))
+            state = draw.get_state()
+            first, flow = (self.session.flow(f"f{seed}{part}", inputs=2) for part in "ab")
+            for one in (first, flow):
+                draw.set_state(state)
+                draw_flow(one, [shape, (1, 20)], draw)
+            values = [self.session.start(first, [sky, table]).values(node).compressed() for node in first.nodes]
+            most = max(range(len(values)), key=lambda number: len(np.unique(values[number])))
+            labels = flow.regions(flow.nodes[most], t=int(np.percentile(values[most], 70)) if values[most].size else 0)
+            run = self.session.start(flow, [sky, table])
+            found = run.values(labels).filled(0)
+            for base in (sky, table):
+                bad = draw.rand(*base.shape) < 0.1
+                with self.subTest(seed=seed, base=base):
+                    try:
+                        run.paths(labels, to=base, limit=1_000_000)
+                    except subzero.BadInput:
+                        with self.assertRaisesRegex(subzero.BadInput, "no path leads from"):
+                            subzero.suspects_table(run, labels, bad, base)
+                        continue
+                    told = subzero.suspects_table(run, labels, bad, base)
+                    self.assertEqual(told["label"].tolist(), np.unique(found[found > 0]).tolist())
+                    for row in told[:: 1 + len(told) // 40]:
+                        mask = found == row["label"]
+                        behind, fixed = run.back(labels, mask, to=base), run.support(labels, mask, to=base)
+                        self.assertEqual(
+                            [row[name] for name in ("cells", "raw", "bad_behind", "bad_could_change")],
+                            [mask.sum(), behind.sum(), (behind & bad).sum(), (fixed & bad).sum()],
+                        )
+                        rows += 1
+        self.assertGreater(rows, 200)
+
+    def test_stars_that_stand_apart_are_asked_about_together(self) -> None:
+        image = np.zeros((128, 128), dtype=int)
+        image[4::8, 4::8] = 90  # 256 stars
+        base = self.session.array("image", image)
+        flow = self.session.flow("f")
+        labels = flow.regions(flow.convolve(flow.clean(flow.input(0), t=100), np.ones((3, 3), dtype=int)), t=50)
+        run = self.session.start(flow, [base])
+        with mock.patch.object(self.session, "say", side_effect=self.session.say) as sent:
+            table = subzero.suspects_table(run, labels, [(4, 4), (12, 14)], base)
+        self.assertEqual(len(table), 256)
+        self.assertEqual(table["raw"].tolist(), [25] * 256)
+        self.assertEqual(np.flatnonzero(table["bad_behind"]).tolist(), [0, 17])
+        asks = [call for call in sent.call_args_list if call.args[0].startswith(b'{"ask"')]
+        self.assertLessEqual(len(asks), 8)  # what can change a star lies within 7 by 7 cells, and stars 8 cells off
+
     def test_no_region_is_no_row(self) -> None:
         base = self.session.array("image", [[0, 0]])
         flow = self.session.flow("f")

@@ -6,7 +6,6 @@ import os
 import signal
 import tempfile
 import threading
-import time
 import unittest
 from collections.abc import Callable, Sequence
 from pathlib import Path
@@ -19,6 +18,7 @@ from scipy import ndimage
 import reference
 import subzero
 from subzero.tiles import CannotTile, Limits, Mosaic, TiledArray, TiledRun
+from subzero.tiles.crew import LocalCrew
 from subzero.tiles.holder import Holder
 from subzero.tiles.stages import plan_flow
 from subzero.tiles.windows import cells_of_tile, excess
@@ -738,25 +738,27 @@ class Ends(unittest.TestCase):
     def test_an_interrupt_stops_what_is_not_begun_and_it_goes_on_when_asked_again(self) -> None:
         tiles = Holder.tiles
         calls: list[int] = []
+        raised = threading.Event()
 
         def interrupting(holder: Holder, requests: list[Any]) -> Any:
             calls.append(len(requests))
             if len(calls) == 1:
                 os.kill(os.getpid(), signal.SIGINT)
-                time.sleep(0.2)
+            raised.wait(300)  # what is begun goes on once the interrupt was raised
             return tiles(holder, requests)
 
         with mock.patch.object(Holder, "tiles", interrupting), mock.patch("subzero.tiles.making._BATCH", 1):
             with self.assertRaises(KeyboardInterrupt):
                 self.run_.wait()
+            raised.set()
         self.assertLess(len(calls), len(self.run_._making.plan.stages[0].tiles))
         self.run_.wait()
         self.assertEqual(self.run_.values(self.last).tolist(), self.expected)
 
     def test_an_interrupt_that_leaves_the_mosaic_stops_its_programs(self) -> None:
-        tiles = Holder.tiles
+        tiles, kill = Holder.tiles, LocalCrew.kill
         pids: list[int | None] = []
-        turn = threading.Lock()
+        turn, stopping = threading.Lock(), threading.Event()
 
         def interrupting(holder: Holder, requests: list[Any]) -> Any:
             answers = tiles(holder, requests)
@@ -764,11 +766,16 @@ class Ends(unittest.TestCase):
                 pids.append(holder.pid()[1])
                 if len(pids) == 3:
                     os.kill(os.getpid(), signal.SIGINT)
-            time.sleep(0.1)
+            if len(pids) >= 3:
+                stopping.wait(300)
             return answers
 
+        def killing(crew: LocalCrew) -> None:
+            stopping.set()
+            kill(crew)
+
         with mock.patch.object(Holder, "tiles", interrupting), mock.patch("subzero.tiles.making._BATCH", 1):
-            with self.assertRaises(KeyboardInterrupt):
+            with mock.patch.object(LocalCrew, "kill", killing), self.assertRaises(KeyboardInterrupt):
                 with self.mosaic:
                     self.run_.wait()
         self.assertGreaterEqual(len(pids), 3)

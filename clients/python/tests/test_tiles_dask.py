@@ -89,7 +89,7 @@ class OnDask(unittest.TestCase):
 
     def kill_one(self, mosaic: Mosaic, lost: threading.Event) -> None:
         """Kill a worker process once its program runs."""
-        until = time.monotonic() + 60
+        until = time.monotonic() + 300
         while not any(mosaic.pids) and time.monotonic() < until:
             time.sleep(0.01)
         victim = next(iter(self.client.run(os.getpid).values()))

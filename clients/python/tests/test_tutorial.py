@@ -63,7 +63,7 @@ class Terminal:
 
     def _shown(self) -> str:
         """What is shown up to the next prompt."""
-        shown, until = "", time.monotonic() + 60
+        shown, until = "", time.monotonic() + 300
         while not shown.endswith((">>> ", "... ")):
             ready, _, _ = select.select([self._here], [], [], 1)
             if ready:

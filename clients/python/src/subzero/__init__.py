@@ -17,6 +17,7 @@ matplotlib), `python -m subzero` tells what can be done from a shell.
 
 from typing import TYPE_CHECKING
 
+from .catalogue import suspects_table
 from .faults import (
     BadInput,
     Cancelled,
@@ -33,7 +34,6 @@ from .later import Future, Later, Pipeline
 from .paths import Path
 from .run import Explanation, Run
 from .session import BaseArray, Room, Session
-from .spread import suspects_table
 
 __version__ = "0.1.0"
 

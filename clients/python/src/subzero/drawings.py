@@ -9,11 +9,11 @@ from matplotlib.figure import Figure
 from matplotlib.patches import Patch
 
 from . import plot
+from .catalogue import suspects_table
 from .demo import Field
 from .flow import Node
 from .run import Array, Run
 from .session import BaseArray
-from .spread import suspects_table
 
 _TRUSTED, _BESIDE, _RESTING, _BAD = "#3fa34d", "#f2d024", "#ff8c1a", "#e63946"
 

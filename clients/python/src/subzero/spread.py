@@ -18,7 +18,6 @@ from dataclasses import dataclass
 from typing import TYPE_CHECKING
 
 import numpy as np
-from numpy.typing import NDArray
 
 from . import numerals
 from .cells import Cells, Integers, Mask, Shape, cells_of, mask_of
@@ -31,8 +30,6 @@ if TYPE_CHECKING:
     from .program import Reply
     from .run import Array, Direction, Run
 
-_AT_ONCE = 32
-
 
 def suspects(run: Run, bad: Cells, base: Array, to: Array) -> Mask:
     """As `Run.suspects`."""
@@ -42,79 +39,6 @@ def suspects(run: Run, bad: Cells, base: Array, to: Array) -> Mask:
 def support(run: Run, array: Array, cells: Cells, to: Array) -> Mask:
     """As `Run.support`."""
     return spread_later(run, "back", array, cells_of(cells, run.shape(array)), to, supports=True).result()
-
-
-def suspects_table(run: Run, labels: Array, bad: Cells, base: Array) -> NDArray[np.void]:
-    """What stands behind each region of a run, and what could change it: a structured array of one row a region, in
-    the order of their labels.
-
-    `labels` is a `regions` node, and `bad` are cells of `base`, an array of the run that it was made of. The fields
-    are:
-
-    - `label`; `row` and `column` of the region's first cell (in an array of 3 axes `layer` too); `cells`, how many it
-      has
-    - `raw`: how many cells of `base` it was made of, as `run.back` gives them; `bad_behind`: how many of them are bad
-    - `bad_could_change`: how many bad cells its labels rest on, as `run.support` gives them. Where it is 0 each of its
-      cells has the same label, whatever the bad cells would have held
-    - `border`: whether it touches the border of its layer, so that a part of it may lie outside
-
-    Raises BadInput where `labels` is no `regions` node, where no path leads from it back to `base`, and for cells out
-    of range.
-
-    >>> subzero.suspects_table(run, labels, [(0, 2)], sky).tolist()
-    [(2, 0, 1, 3, 3, 0, 1, True), (11, 2, 2, 3, 3, 0, 0, True)]
-    """
-    node = run.places(labels)[0]
-    if not isinstance(node, Node) or node.op != "regions":
-        raise BadInput(f"{node} is no node of regions")
-    shape = run.shape(node)
-    where = mask_of(cells_of(bad, run.shape(base)), run.shape(base))
-    Spread(run, "back", node, [base])  # raises where no path leads there
-    values = run.values(node).filled(0)
-    groups = _groups(values)
-    counts = np.concatenate(
-        [_counted(run, node, base, groups[at : at + _AT_ONCE], where) for at in range(0, len(groups), _AT_ONCE)]
-        or [np.zeros((0, 3), dtype=np.int64)]
-    )
-    axes = ["layer", "row", "column"][-len(shape) :]
-    names = ["label", *axes, "cells", "raw", "bad_behind", "bad_could_change"]
-    table = np.zeros(len(groups), dtype=[*((name, np.int64) for name in names), ("border", np.bool_)])
-    for number, cells in enumerate(groups):
-        ends = (cells[:, -2:] == 0) | (cells[:, -2:] == np.array(shape[-2:]) - 1)
-        table[number] = (values[tuple(cells[0])], *cells[0], len(cells), *counts[number], ends.any())
-    return table
-
-
-def _groups(labels: Integers) -> list[Integers]:
-    """The cells of each label above 0, by rising labels, whole numbers of shape (N, axes) in row-major order."""
-    flat = labels.ravel()
-    order = np.argsort(flat, kind="stable")[np.count_nonzero(flat <= 0) :]
-    parts = np.split(order, np.flatnonzero(np.diff(flat[order])) + 1) if order.size else []
-    return [np.stack(np.unravel_index(part, labels.shape), axis=1) for part in parts]
-
-
-def _counted(run: Run, labels: Node, base: Array, groups: Sequence[Integers], bad: Mask) -> Integers:
-    """Of each region how many cells of `base` are behind it, how many of them are bad, and how many bad cells could
-    change it: of shape (regions, 3). `regions` relates each of a region's cells to exactly the region, so that it is
-    asked from there on.
-    """
-    asked = []
-    for cells in groups:
-        region = mask_of(cells, run.shape(labels))
-        asked.append(_raw_later(run, labels, region, base, supports=False))
-        asked.append(_raw_later(run, labels, region | beside(region), base, supports=True))
-    masks = [later.result() for later in asked]
-    return np.array(
-        [(behind.sum(), (behind & bad).sum(), (fixed & bad).sum()) for behind, fixed in zip(masks[::2], masks[1::2])]
-    )
-
-
-def _raw_later(run: Run, labels: Node, mask: Mask, base: Array, *, supports: bool) -> Future[Mask]:
-    """The cells of `base` behind these cells of what `labels` takes."""
-    source = labels.sources[0]
-    if source in run.places(base):
-        return Future([], "", lambda texts: mask)
-    return spread_later(run, "back", source, np.argwhere(mask), base, supports=supports)
 
 
 def spread_later(

@@ -10,8 +10,9 @@
 
 From the user down: `mosaic` (arrays, flows, starts), `run` (values and lineage), `asks` (a question and its tiles) and
 `chains` (the steps of a question), `making` (tiles made and kept), `seams` (components joined), `stages` (where a flow
-is cut), `windows` (what a tile holds), `grids` and `geometry` (which cells those are), `orders` (what a program is
-told), `holder` (one program), `crew` and `on_dask` (many), `sources` (arrays of any size), `cellsets` (sets of cells).
+is cut), `windows` (what a tile holds), `grids` and `subzero.geometry` (which cells those are), `orders` (what a
+program is told), `holder` (one program), `crew` and `on_dask` (many), `sources` (arrays of any size), `cellsets` (sets
+of cells).
 """
 
 from .faults import CannotTile

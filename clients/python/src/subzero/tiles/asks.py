@@ -14,9 +14,9 @@ import numpy as np
 
 from ..cells import Shape
 from ..flow import Node, Place
+from ..geometry import CUT, Rect, layers_of
 from .cellsets import NONE, Indexes, apart, to_local, to_whole, union, within
 from .chains import Chain
-from .geometry import CUT, Rect, layers_of
 from .making import Making
 from .orders import Ask, numbers_in
 from .stages import Stage

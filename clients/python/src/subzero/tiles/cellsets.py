@@ -11,7 +11,7 @@ import numpy as np
 from numpy.typing import NDArray
 
 from ..cells import Cells, Shape, cells_of
-from .geometry import Rect, layers_of
+from ..geometry import Rect, layers_of
 
 Indexes: TypeAlias = NDArray[Any]
 """Rising row-major indexes of cells of an array, int64, each once."""

@@ -11,7 +11,7 @@ from collections.abc import Collection, Sequence
 from dataclasses import dataclass
 
 from ..flow import Flow, Node, Place
-from .geometry import CUT
+from ..geometry import CUT
 
 
 @dataclass(frozen=True)

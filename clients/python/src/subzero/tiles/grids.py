@@ -15,7 +15,7 @@ from numpy.typing import NDArray
 
 from ..cells import Shape
 from ..flow import Node
-from .geometry import Rect, rect_of
+from ..geometry import Rect, rect_of
 
 Spot: TypeAlias = tuple[int, int]
 """A tile of a stage: its row and its column among the tiles."""

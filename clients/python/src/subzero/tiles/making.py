@@ -16,8 +16,8 @@ from numpy.typing import NDArray
 from ..cells import Shape
 from ..faults import SubZeroError
 from ..flow import Input, Node, Place
+from ..geometry import CUT, Rect, layers_of
 from .crew import Crew, side_by_side
-from .geometry import CUT, Rect, layers_of
 from .grids import Spot
 from .orders import Ask, Key, Order, Request, Show, Window, flow_of, numbers_in
 from .seams import Labels, empty_labels, join, place_part

@@ -10,8 +10,8 @@ from typing import Any, TypeAlias
 from numpy.typing import NDArray
 
 from ..flow import Node, Place
+from ..geometry import CUT, Rect
 from ..numerals import cells_text, rows_text
-from .geometry import CUT, Rect
 from .windows import Edge, Members, TilePlan, inputs_of, source_rect
 
 Key: TypeAlias = tuple[int, int, int, int]

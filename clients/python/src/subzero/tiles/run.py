@@ -12,12 +12,12 @@ from numpy.typing import NDArray
 from ..cells import Cells, Shape
 from ..faults import BadInput
 from ..flow import Flow, Input, Node, Place
+from ..geometry import Rect, rect_of, whole
 from ..paths import Path, path_of, paths_between, told
 from ..run import MOST_PATHS, Direction, Explanation
 from .asks import along, explained_along, follow
 from .cellsets import Indexes, indexes_of, listed, mask_of, union
 from .chains import Chain, chains_along, chains_between
-from .geometry import Rect, rect_of, whole
 from .making import Making
 from .sources import TiledArray
 

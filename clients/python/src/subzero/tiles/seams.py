@@ -14,8 +14,8 @@ import numpy as np
 from numpy.typing import NDArray
 
 from ..cells import Shape
+from ..geometry import Rect, layers_of
 from .cellsets import NONE, Indexes, apart, neighbours, together, union
-from .geometry import Rect, layers_of
 
 
 @dataclass

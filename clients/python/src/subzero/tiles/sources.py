@@ -13,7 +13,7 @@ from numpy.typing import NDArray
 
 from ..cells import MOST_LAYERS, Shape, values_of
 from ..faults import BadInput
-from .geometry import Rect
+from ..geometry import Rect
 
 
 class Windows(Protocol):

@@ -13,8 +13,8 @@ from dataclasses import dataclass
 
 from ..cells import MOST_LAYERS, Shape
 from ..flow import Flow, Node, Place
+from ..geometry import CUT, PAIRS, layers_of
 from .faults import CannotTile
-from .geometry import CUT, PAIRS, layers_of
 from .grids import Grid, Spot, even
 from .windows import Limits, Members, TilePlan, cells_of_tile, excess, plan_tile
 

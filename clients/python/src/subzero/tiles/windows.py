@@ -14,7 +14,7 @@ from typing import TypeAlias
 
 from ..cells import MOST_CELLS, Shape
 from ..flow import Node, Place
-from .geometry import CUT, Rect, demanded, layers_of, needed, placed
+from ..geometry import CUT, Rect, demanded, layers_of, needed, placed
 from .grids import Grid, Spot
 
 Edge: TypeAlias = tuple[int, int]

@@ -10,8 +10,8 @@ from __future__ import annotations
 
 from typing import NamedTuple, TypeAlias
 
-from ..cells import Shape
-from ..flow import Node
+from .cells import Shape
+from .flow import Node
 
 CUT = "regions"
 """The operator at which a flow is cut into stages: its labels need the whole array."""
