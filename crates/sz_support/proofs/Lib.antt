@@ -17,3 +17,4 @@ pub mod MatterClean
 pub mod RowsSupports
 pub mod RowsSuspects
 pub mod RowsMatter
+pub mod RowsExactly
