@@ -10,6 +10,11 @@ pub mod MatterConvolve
 pub mod MatterTwo
 pub mod MatterLookup
 pub mod MatterRegions
+pub mod MatterPassages
+pub mod Extremes
+pub mod MatterExtremes
+pub mod MatterClean
 pub mod RowsSupports
 pub mod RowsSuspects
 pub mod RowsMatter
+pub mod RowsExactly

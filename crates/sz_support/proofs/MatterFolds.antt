@@ -109,11 +109,11 @@ around-kept g p x v w held =
 -- ---- folds
 
 -- an operator that folds the numbers of the cells that it is mapped to
-record IsFolding (op : Op) (fold : Fold) : Type 0 where
-  one : arity op ≡ 1
-  value : (gs : List Grid) (o : Cell) → value_of op gs o ≡ fold_of fold (mapped_numbers op gs o)
-  supported : (gs : List Grid) (i : ℕ) (o x : Cell) → supports op gs i o x ≡ related op gs i o x
-  mapping : (gs : List Grid) (i : ℕ) (o x : Cell) → supports op gs i o x ≡ mapped op (extents_of gs) i o x
+pub record IsFolding (op : Op) (fold : Fold) : Type 0 where
+  pub one : arity op ≡ 1
+  pub value : (gs : List Grid) (o : Cell) → value_of op gs o ≡ fold_of fold (mapped_numbers op gs o)
+  pub supported : (gs : List Grid) (i : ℕ) (o x : Cell) → supports op gs i o x ≡ related op gs i o x
+  pub mapping : (gs : List Grid) (i : ℕ) (o x : Cell) → supports op gs i o x ≡ mapped op (extents_of gs) i o x
 
 reads-folded : (op : Op) (fold : Fold) → IsFolding op fold → (s : Site) (inputs : List Grid) (i : ℕ) (o x : Cell)
     → s.op ≡ op → IsSupported s inputs i o x
@@ -151,11 +151,11 @@ reads-folded op fold folding s inputs i o x is known =
           ∙ ap (fold_of fold) (around-kept g p x v v held);
     }
 
-folding-block : (fold : Fold) (height width : ℕ) → IsFolding (Block fold height width) fold
+pub folding-block : (fold : Fold) (height width : ℕ) → IsFolding (Block fold height width) fold
 folding-block fold height width =
     record { one = refl; value = λ gs o. refl; supported = λ gs i o x. refl; mapping = λ gs i o x. refl }
 
-folding-layers : (fold : Fold) → IsFolding (FoldLayers fold) fold
+pub folding-layers : (fold : Fold) → IsFolding (FoldLayers fold) fold
 folding-layers fold =
     record { one = refl; value = λ gs o. refl; supported = λ gs i o x. refl; mapping = λ gs i o x. refl }
 

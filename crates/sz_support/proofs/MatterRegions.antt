@@ -34,7 +34,7 @@ use Rattle.sz_support.proofs.ChangedInputs.{with-there, with-others, changed-the
 -- ---- labels
 
 -- a number is at least itself
-at-least_own : (t : ℤ) → int_le t t ≡ true
+pub at-least_own : (t : ℤ) → int_le t t ≡ true
 at-least_own t = grind (arith, ints)
 
 -- the label of a high cell is no 0
@@ -49,13 +49,13 @@ label-some t g o held high h =
 -- ---- changed inputs of regions
 
 -- what is known of inputs of regions that are changed at a cell
-record Changed (t : ℤ) (s : Site) (inputs : List Grid) (x : Cell) : Type 0 where
-  extent : (input_at inputs 0).extent ≡ extent_at s.ins 0
-  out : extent_at s.ins 0 ≡ s.out
-  value : (gs : List Grid) (o : Cell) → value_of s.op gs o ≡ labelled_at t (input_at gs 0) o
-  there : (v : Option ℤ) → input_at (changed_at inputs 0 x v) 0 ≡ with_value (input_at inputs 0) x v
+pub record Changed (t : ℤ) (s : Site) (inputs : List Grid) (x : Cell) : Type 0 where
+  pub extent : (input_at inputs 0).extent ≡ extent_at s.ins 0
+  pub out : extent_at s.ins 0 ≡ s.out
+  pub value : (gs : List Grid) (o : Cell) → value_of s.op gs o ≡ labelled_at t (input_at gs 0) o
+  pub there : (v : Option ℤ) → input_at (changed_at inputs 0 x v) 0 ≡ with_value (input_at inputs 0) x v
 
-changed-of : (t : ℤ) (s : Site) (inputs : List Grid) (x : Cell) → s.op ≡ Regions t → IsAtWork s inputs
+pub changed-of : (t : ℤ) (s : Site) (inputs : List Grid) (x : Cell) → s.op ≡ Regions t → IsAtWork s inputs
     → Changed t s inputs x
 changed-of t s inputs x is work =
     let told : shape_of (Regions t) s.ins ≡ Ok s.out = ap (λ (p : Op). shape_of p s.ins) (sym is) ∙ (work.site).shape in

@@ -34,7 +34,7 @@ use Rattle.sz_support.specs.LawsSupports.{LowCellsRestOnThemselves, ValuesDepend
 use Rattle.sz_support.specs.LawsSupports.{SupportsDependOnSupportingCells}
 
 -- an array of a shape with other values, and an array as one of a shape that is its own
-abbrev sheet : Extent → List (Option ℤ) → Grid
+abbrev pub sheet : Extent → List (Option ℤ) → Grid
 sheet e values = record { extent = e; values = values }
 
 as-sheet : (g : Grid) (e : Extent) → g.extent ≡ e → g ≡ sheet e g.values

@@ -1,11 +1,11 @@
 -- Inputs of an operator with a new value in one cell.
-use Rattle.std.specs.Prelude.{◌≡◌, ℕ, zero, suc, ℤ, List, [], ◌∷◌, map, true, not, ◌&&◌, ◌==◌}
-use Rattle.std.specs.Prelude.{if◌then◌else◌, Option, Some}
+use Rattle.std.specs.Prelude.{◌≡◌, ℕ, zero, suc, ◌<◌, ℤ, List, [], ◌∷◌, map, length, true, not}
+use Rattle.std.specs.Prelude.{◌&&◌, ◌==◌, if◌then◌else◌, Option, Some}
 use Rattle.std.specs.List.{range_with_len}
 use Rattle.sz_cells.specs.declared.Cell.{Cell}
 use Rattle.sz_cells.specs.Extent.{size_of, index_of, cell_of, holds}
 use Rattle.sz_cells.specs.Cells.{is_same}
-use Rattle.sz_spec.specs.Values.{Grid, fit, value_at, input_at, extent_at}
+use Rattle.sz_spec.specs.Values.{Grid, fit, value_at, input_at, extent_at, with_number}
 use Rattle.sz_spec.specs.Shapes.{Site}
 use Rattle.sz_spec.specs.Evaluation.{value_of}
 use Rattle.sz_spec.specs.Supports.{supports}
@@ -56,3 +56,16 @@ MattersByNumber s inputs i o x =
 abbrev pub CanBeNumber : Site → List Grid → ℕ → Cell → Cell → Type 0
 CanBeNumber s inputs i o x = (z : ℤ) × (fit z ≡ Some z)
     × (r : ℤ) × (value_of s.op (changed_at inputs i x (Some z)) o ≡ Some r)
+
+-- a value is an i64 or nothing, as each value in the program is
+abbrev pub IsValue : Option ℤ → Type 0
+IsValue v = with_number fit v ≡ v
+
+-- each cell of the inputs holds such a value
+abbrev pub HoldValues : Site → List Grid → Type 0
+HoldValues s inputs = (i : ℕ) (x : Cell) → i < length s.ins → holds (extent_at s.ins i) x ≡ true
+    → IsValue (value_at (input_at inputs i) x)
+
+-- by some new value at x, an i64 or nothing, the value of o differs
+abbrev pub Matters : Site → List Grid → ℕ → Cell → Cell → Type 0
+Matters s inputs i o x = (v : Option ℤ) × IsValue v × ValueDiffers s inputs i o x v

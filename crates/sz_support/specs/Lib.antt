@@ -3,3 +3,4 @@ pub mod Suspects
 pub mod LawsSuspects
 pub mod Changes
 pub mod LawsMatter
+pub mod LawsExactly

@@ -39,6 +39,12 @@ ghost use Rattle.sz_support.specs.LawsMatter.{MultipliedCellsMatter, LesserCells
 ghost use Rattle.sz_support.specs.LawsMatter.{GreaterCellsMatter, MatchedCellsMatter};
 ghost use Rattle.sz_support.specs.LawsMatter.{MatchingCellsMatter, OwnCellsOfRegionsMatter};
 ghost use Rattle.sz_support.specs.LawsMatter.{RimCellsBeforeMatter};
+ghost use Rattle.sz_support.specs.LawsExactly.{CellsOfLeastMatter, CellsOfLeastOfLayersMatter};
+ghost use Rattle.sz_support.specs.LawsExactly.{CellsOfGreatestMatter};
+ghost use Rattle.sz_support.specs.LawsExactly.{CellsOfGreatestOfLayersMatter};
+ghost use Rattle.sz_support.specs.LawsExactly.{OwnCellsOfCleanMatter, CellsRoundHotOnesMatter};
+ghost use Rattle.sz_support.specs.LawsExactly.{RegionsHaveFirstCells, InnerCellsOfRegionsMatter};
+ghost use Rattle.sz_support.specs.LawsExactly.{RimCellsOfRegionsMatter};
 
 /// The cells to which an output cell is related support it, and no others but for regions: a cell
 /// of a region rests on the region and on the neighbours of the region's cells, and a cell that is
@@ -115,6 +121,25 @@ pub fn folded_cells_matter()
     ensures sum_layers { SummedCellsOfLayersMatter }
 {}
 
+/// Of a fold of the least each cell that stands behind an output cell matters, by a number, exactly
+/// where no other one holds the least i64; and of the greatest where none holds the greatest. Beside
+/// one that does it is idle: no value there makes a difference.
+pub fn cells_of_extremes_matter()
+    ensures least { CellsOfLeastMatter }
+    ensures least_layers { CellsOfLeastOfLayersMatter }
+    ensures greatest { CellsOfGreatestMatter }
+    ensures greatest_layers { CellsOfGreatestOfLayersMatter }
+{}
+
+/// Of a clean whose threshold is above the least i64 each cell can matter to what it becomes, by
+/// being empty or the least i64; and to what a hot cell becomes each other cell in the square round
+/// it matters, by a number, exactly where no third one there holds the least i64. Where the
+/// threshold is not above it, all that is made is empty, and no cell matters.
+pub fn cleaned_cells_matter()
+    ensures own { OwnCellsOfCleanMatter }
+    ensures round { CellsRoundHotOnesMatter }
+{}
+
 /// Of a convolution each cell that lies under a weight other than 0 can matter by a number, where
 /// the weighted sum is an i64 for some number there: so no other cell under a weight is empty.
 pub fn convolved_cells_matter()
@@ -139,10 +164,15 @@ pub fn looked_up_cells_matter()
     ensures matching { MatchingCellsMatter }
 {}
 
-/// Of regions each cell can matter to its own label, and so can a neighbour of a region that comes
-/// before each of the region's cells. Of the other cells that support it nothing is said: a cell
-/// inside a region may be idle.
+/// Of regions each cell can matter to its own label. A cell of a region matters to the label of
+/// another, by being emptied, exactly where each way through the region from that one to the
+/// region's first cell passes it; and a neighbour of a region, by being raised to the threshold,
+/// exactly where it is before the region's first cell, or would join the region to a cell that is.
+/// All other cells that support a label are idle: no value of one of them makes a difference.
 pub fn cells_of_regions_matter()
     ensures own { OwnCellsOfRegionsMatter }
-    ensures rim { RimCellsBeforeMatter }
+    ensures before { RimCellsBeforeMatter }
+    ensures first { RegionsHaveFirstCells }
+    ensures inner { InnerCellsOfRegionsMatter }
+    ensures rim { RimCellsOfRegionsMatter }
 {}
