@@ -436,6 +436,8 @@ class Flow:
         [[9, 8, 7], [6, 5, 4], [3, 2, 1]]
         """
         weights = np.asarray(kernel)
+        if weights.ndim == 2 and weights.dtype.kind == "f":
+            raise BadInput("a kernel has whole numbers, and this one floats: multiply and round them, as .astype(int) does")
         if weights.ndim != 2 or weights.size == 0 or weights.dtype.kind not in "iu":
             raise BadInput("a kernel is an array of whole numbers with 2 axes")
         return self._node("convolve", (x,), keep, name, kernel=weights.tolist())

@@ -10,7 +10,7 @@ import numpy as np
 
 from . import numerals, spread
 from .cells import Cells, Mask, Shape, Values, cells_of, short
-from .faults import BadInput, OutOfStep
+from .faults import BadInput, OutOfStep, Refused
 from .flow import Flow, Input, Node, Place, table
 from .later import Future
 from .paths import Path, path_of, paths_between, told
@@ -218,7 +218,12 @@ class Run:
         >>> print(run.explain("labels", (0, 1), to="sky")[0])
         regions by blackbox, clean by blackbox: 32 cells traced
         """
-        return self.explained_later(array, cells, to=to, direction=direction, path=path, limit=limit).result()
+        try:
+            return self.explained_later(array, cells, to=to, direction=direction, path=path, limit=limit).result()
+        except Refused as fault:
+            if fault.number == 19:
+                fault.because("the run was not waited for, so that it is not known yet: call its wait() first")
+            raise
 
     def wait_later(self) -> Future[None]:
         """`wait`, sent ahead: a Future.

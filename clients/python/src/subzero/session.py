@@ -610,7 +610,10 @@ class Session:
     def _why_full(self, size: int, what: str, kind: str, most: int) -> str | None:
         """By which part of its rule a line for so many cells is refused, and what can be done."""
         room = self.room
-        do = "nothing can be taken out of a session: begin another one, or hand in less (a part of the image, blocks)"
+        do = (
+            "nothing can be taken out of a session: begin another one, hand in less (a part of the image, blocks), "
+            "or have it cut into tiles by subzero.tiled"
+        )
         if getattr(room, kind) >= most:
             return f"{most:,} {kind} are held, which is all that a session can; {do}"
         if size > room.free:
