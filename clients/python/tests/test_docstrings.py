@@ -3,6 +3,7 @@
 import doctest
 import importlib
 import inspect
+import re
 import unittest
 from typing import Any
 
@@ -11,6 +12,14 @@ import numpy as np
 import subzero
 
 MODULES = "session flow run spread catalogue later cells logs locks program faults progress numerals".split()
+MODULES += ["view", "tiles.mosaic"]
+WITHIN = {  # calls from one module of the client to another, and what a class above has an example of
+    "BaseArray": {"is_of"},
+    "Flow": {"session", "defined", "is_of", "is_same", "shapes", "check_start", "started_on", "of_held"},
+    "Refused": {"because"},
+    "Room": {"cells"},
+    "Session": {"closed", "pid", "order", "holdings", "hold_flow", "remember", "set_strategies", "runs_on"},
+}
 FLAGS = doctest.ELLIPSIS | doctest.NORMALIZE_WHITESPACE
 
 
@@ -39,6 +48,22 @@ class Docstrings(unittest.TestCase):
                         tried += runner.run(test, out=told.append).attempted
                         self.assertEqual(runner.failures, 0, "".join(told))
         self.assertGreater(tried, 30)
+
+    def test_each_public_call_stands_in_an_example(self) -> None:
+        finder = doctest.DocTestFinder()
+        tests = [test for name in MODULES for test in finder.find(importlib.import_module(f"subzero.{name}"))]
+        shown = "".join(example.source for test in tests for example in test.examples)
+        missing = [name for name in ("tiled", "view", "suspects_table") if f"subzero.{name}(" not in shown]
+        for name in subzero.__all__:
+            thing = getattr(subzero, name)
+            if inspect.isclass(thing) and not issubclass(thing, Exception):
+                missing += [
+                    f"{name}.{call}"
+                    for call, value in vars(thing).items()
+                    if not call.startswith("_") and (callable(value) or isinstance(value, property))
+                    if call not in WITHIN.get(name, ()) and not re.search(rf"\.{call}\b", shown)
+                ]
+        self.assertEqual(missing, [])
 
     def test_each_public_call_has_a_docstring(self) -> None:
         missing = []

@@ -337,6 +337,7 @@ class Rooms(WithSession):
         self.session.start(one, held[0])
         fault = self.refused(self.session.array, "a", np.zeros((2, 1000), dtype=int))
         self.assertEqual(fault.number, 7)
+        self.assertIn("or have it cut into tiles by subzero.tiled", str(fault))
         self.assertIn("the array has 2,000 cells, and 1,008 of 4,194,304 are free (arrays hold 3,145,744, ", str(fault))
         self.assertEqual(self.session.array("a", np.zeros((1, 1008), dtype=int)).version, 1)
         self.assertEqual(self.session.room.free, 0)

@@ -73,7 +73,9 @@ class Refusals(unittest.TestCase):
         for line, number in ((b'{"start":"f","base":[["a",2]]}', 11), (b'{"start":"g","base":[["a",1]]}', 10)):
             self.assertEqual(self.refused(self.session.say(line + b"\n").wait, "starting").number, number)
         run = self.session.start(flow, [base])
-        self.assertEqual(self.refused(run.explain, node, (0, 0), to=base).number, 19)
+        fault = self.refused(run.explain, node, (0, 0), to=base)
+        self.assertEqual(fault.number, 19)
+        self.assertIn("call its wait() first", str(fault))
         run.wait()
         self.assertEqual(run.explain(node, (0, 0), to=base)[0].traced, 0)
         other = subzero.Run(self.session, run.number + 1, flow, (base,))

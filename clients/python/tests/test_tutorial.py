@@ -19,6 +19,7 @@ import termios
 import time
 import unittest
 from pathlib import Path
+from typing import Any
 
 import subzero
 
@@ -29,7 +30,8 @@ try:
 except ImportError:
     matplotlib = None
 
-TUTORIAL = Path(__file__).resolve().parents[3] / "docs" / "TUTORIAL.md"
+ROOT = Path(__file__).resolve().parents[3]
+TUTORIAL, README = ROOT / "docs" / "TUTORIAL.md", ROOT / "README.md"
 MADE = ["back.png", "changed.png", "touched.png", "x.session"]
 
 
@@ -85,6 +87,24 @@ def _overwritten(line: str) -> str:
     for part in line.split("\r"):
         left = part + left[len(part) :]
     return left if left.endswith((">>> ", "... ")) else left.rstrip(" ")
+
+
+class Readme(unittest.TestCase):
+    def test_its_lines_of_python_print_what_it_says(self) -> None:
+        text = README.read_text()
+        names: dict[str, Any] = {}
+        (code, _), out = blocks(text)[0], io.StringIO()
+        with contextlib.redirect_stdout(out):
+            exec(compile(code, str(README), "exec"), names)
+        told = re.search(r"It prints `([^`]*)`: (\d+) raw pixels .* touched (\d+) cells", text, re.S)
+        assert told is not None
+        self.assertEqual(out.getvalue(), f"{told[1]}\n")
+        self.assertEqual(told[1], f"{told[2]} {told[3]}")
+        suspects = re.search(r"`run\.suspects\(field\.bad, sky, to=labels\)` tells the (\d+) cells", text)
+        assert suspects is not None
+        found = names["run"].suspects(names["field"].bad, names["sky"], to=names["labels"])
+        self.assertEqual(int(found.sum()), int(suspects[1]))
+        names["session"].close()
 
 
 @unittest.skipIf(matplotlib is None, "matplotlib is not here")

@@ -115,7 +115,7 @@ class Values(unittest.TestCase):
             (np.zeros((1, 1, 1, 1), dtype=int), "2 axes"),
             ([[]], "no cells"),
             (np.zeros((17, 1, 1), dtype=int), "16 layers"),
-            (np.zeros((1025, 1024), dtype=int), "1048576 cells"),
+            (np.zeros((1025, 1024), dtype=int), "1,048,576 cells, .*: subzero.tiled cuts it"),
             ([[1, 2], [3]], "make no array|2 axes"),
             ([[True, False]], "True and False"),
             ([["a"]], "no numbers"),

@@ -206,7 +206,10 @@ def _check_shape(shape: Shape) -> None:
     if len(shape) == 3 and shape[0] > MOST_LAYERS:
         raise BadInput(f"an array has at most {MOST_LAYERS} layers (its first axis), and this one has {shape[0]}")
     if np.prod(shape, dtype=object) > MOST_CELLS:
-        raise BadInput(f"an array of shape {shape} has more than {MOST_CELLS} cells")
+        raise BadInput(
+            f"an array of shape {shape} has more than {MOST_CELLS:,} cells, which is all that a session takes: "
+            "subzero.tiled cuts it into tiles"
+        )
 
 
 def _plain(values: NDArray[Any]) -> NDArray[Any]:

@@ -149,7 +149,11 @@ class Node(Operand):
 
     @property
     def label(self) -> str:
-        """The operator and its parameters in few words, as a picture shows them."""
+        """The operator and its parameters in few words, as a picture shows them.
+
+        >>> labels.label
+        'regions (5 and more)'
+        """
         told = _LABELS[self.op].format(**self.parameters) if self.op in _LABELS else ""
         if self.op == "convolve":
             told = f"{len(self.parameters['kernel'])} by {len(self.parameters['kernel'][0])}"
@@ -247,11 +251,20 @@ class Flow:
         return [node.name for node in self.nodes if node.name]
 
     def input(self, number: int) -> Input:
-        """The base array of this number, from 0. Raises BadInput where the flow takes fewer."""
+        """The base array of this number, from 0. Raises BadInput where the flow takes fewer.
+
+        >>> session.flow("both", inputs=2).input(1)
+        <Input 1 of both>
+        """
         return self.inputs[number_of(number, "the number of an input", 0, len(self.inputs) - 1)]
 
     def shape_of(self, place: Operand) -> Shape | None:
-        """The shape of an array of this flow, None where the shapes of its base arrays are not known yet."""
+        """The shape of an array of this flow, None where the shapes of its base arrays are not known yet.
+
+        >>> flow = session.flow("shifted", inputs=[sky])
+        >>> flow.shape_of(flow.block(flow.input(0), "max", 2, 2))
+        (2, 2)
+        """
         if self._base is None:
             return None
         number = _place(place).number
@@ -423,6 +436,8 @@ class Flow:
         [[9, 8, 7], [6, 5, 4], [3, 2, 1]]
         """
         weights = np.asarray(kernel)
+        if weights.ndim == 2 and weights.dtype.kind == "f":
+            raise BadInput("a kernel has whole numbers, and this one floats: multiply and round them, as .astype(int) does")
         if weights.ndim != 2 or weights.size == 0 or weights.dtype.kind not in "iu":
             raise BadInput("a kernel is an array of whole numbers with 2 axes")
         return self._node("convolve", (x,), keep, name, kernel=weights.tolist())
@@ -513,6 +528,10 @@ class Flow:
 
         Gives a node of the shape of the slice. Raises BadInput for what is no slice of rows and columns, and for bounds
         that need a shape that is not known.
+
+        >>> flow = session.flow("corner", inputs=[sky])
+        >>> flow.sliced(flow.input(0), np.s_[2:, 2:]).shape
+        (2, 2)
         """
         parts = index if isinstance(index, tuple) else (index,)
         shape = self.shape_of(x)
@@ -585,6 +604,12 @@ class Flow:
 
         `session.flows[name]` gives it with its nodes, so that it need not be told again. Raises BadInput where the
         session holds no flow of this name, or another one.
+
+        >>> again = session.flow("stars")
+        >>> again.regions(again.clean(again.input(0), t=100), t=5, name="labels")
+        <Node 1 labels of stars: regions (5 and more)>
+        >>> run.values(again.held()["labels"]).max()
+        11
         """
         held = self.session.holdings().flows
         known = held.get(self.name)

@@ -21,8 +21,8 @@ class Future(Generic[T]):
     >>> ahead = run.values_later(labels)
     >>> ahead.result().shape
     (4, 4)
-    >>> ahead.done()
-    True
+    >>> ahead.done(), ahead.cancel(), ahead.cancelled()
+    (True, False, False)
     """
 
     def __init__(self, replies: list[Reply], doing: str, read: Callable[[list[bytes]], T]) -> None:
@@ -81,6 +81,11 @@ class Pipeline:
     ...     answers = [ahead.back(run, labels, (row, 1), to=sky) for row in range(4)]
     >>> [int(answer.result().sum()) for answer in answers]
     [3, 3, 1, 1]
+    >>> with session.pipeline() as ahead:
+    ...     done, values = ahead.wait(run), ahead.values(run, labels)
+    ...     touched, way = ahead.forward(run, sky, (3, 2), to=labels), ahead.explain(run, labels, (2, 2), to=sky)
+    >>> done.result(), values.result().max(), int(touched.result().sum()), way.result()[0].traced
+    (None, 11, 3, 32)
     """
 
     def __init__(self, program: Program) -> None:

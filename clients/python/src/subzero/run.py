@@ -10,7 +10,7 @@ import numpy as np
 
 from . import numerals, spread
 from .cells import Cells, Mask, Shape, Values, cells_of, short
-from .faults import BadInput, OutOfStep
+from .faults import BadInput, OutOfStep, Refused
 from .flow import Flow, Input, Node, Place, table
 from .later import Future
 from .paths import Path, path_of, paths_between, told
@@ -85,7 +85,11 @@ class Run:
 
     @property
     def size(self) -> int:
-        """How many cells the outputs of all nodes have."""
+        """How many cells the outputs of all nodes have.
+
+        >>> run.size
+        32
+        """
         return sum(int(np.prod(shape)) for shape in self._shapes)
 
     @property
@@ -98,6 +102,8 @@ class Run:
         """Wait until all is computed and kept; `explain` can be called from then on, and a log has the run.
 
         Raises Refused with number 15 where the session holds no such run.
+
+        >>> session.start(flow, sky).wait()
         """
         self.wait_later().result()
 
@@ -147,6 +153,11 @@ class Run:
         It is the union over all paths between the two, however many there are, or follows the one `path`, steps from
         `array` back, each a node and the number of its input. Raises BadInput for cells out of range and where no path
         leads there.
+
+        >>> np.argwhere(run.back(labels, (2, 2), to=sky)).tolist()
+        [[2, 2], [2, 3], [3, 2]]
+        >>> int(run.back(labels, [(2, 2), (0, 1)], to=sky, path=[(labels, 0), (0, 0)]).sum())
+        6
         """
         return self.asked_later("back", array, cells, to=to, path=path).result()
 
@@ -162,6 +173,9 @@ class Run:
 
         As `back`, and a `path` is told in the same way, from the output `to` back to `array`. Through `regions` it says
         what the cells touched as they were; what they could change, had they other values, `suspects` says.
+
+        >>> np.argwhere(run.forward(sky, (3, 2), to=labels)).tolist()
+        [[2, 2], [2, 3], [3, 2]]
         """
         return self.asked_later("forward", array, cells, to=to, path=path).result()
 
@@ -204,15 +218,27 @@ class Run:
         >>> print(run.explain("labels", (0, 1), to="sky")[0])
         regions by blackbox, clean by blackbox: 32 cells traced
         """
-        return self.explained_later(array, cells, to=to, direction=direction, path=path, limit=limit).result()
+        try:
+            return self.explained_later(array, cells, to=to, direction=direction, path=path, limit=limit).result()
+        except Refused as fault:
+            if fault.number == 19:
+                fault.because("the run was not waited for, so that it is not known yet: call its wait() first")
+            raise
 
     def wait_later(self) -> Future[None]:
-        """`wait`, sent ahead."""
+        """`wait`, sent ahead: a Future.
+
+        >>> run.wait_later().result()
+        """
         reply = self.session.say(b'{"await":%d}\n' % self.number)
         return Future([reply], f"waiting for run {self.number}", lambda texts: None)
 
     def values_later(self, array: Array) -> Future[Values]:
-        """`values`, sent ahead."""
+        """`values`, sent ahead: a Future of them.
+
+        >>> run.values_later("labels").result().max()
+        11
+        """
         place = self.places(array)[0]
         if isinstance(place, Input):
             values = self.base[place.number].values
@@ -230,8 +256,11 @@ class Run:
         to: Array,
         path: Sequence[Sequence[int | Node]] | None = None,
     ) -> Future[Mask]:
-        """`back` or `forward`, sent ahead. Where a flow branches, the asks that stand on answers of others are sent
-        when the result is taken.
+        """`back` or `forward`, sent ahead: a Future of a boolean array. Where a flow branches, the asks that stand on
+        answers of others are sent when the result is taken.
+
+        >>> int(run.asked_later("back", labels, (2, 2), to=sky).result().sum())
+        3
         """
         if path is None:
             return spread.spread_later(self, direction, array, cells_of(cells, self.shape(array)), to)
@@ -250,7 +279,11 @@ class Run:
         path: Sequence[Sequence[int | Node]] | None = None,
         limit: int = MOST_PATHS,
     ) -> Future[list[Explanation]]:
-        """`explain`, sent ahead."""
+        """`explain`, sent ahead: a Future of it.
+
+        >>> run.explained_later(labels, (2, 2), to=sky).result()[0].traced
+        32
+        """
         paths, lines = self._lines(b"explain", direction, array, cells, to, path, limit)
 
         def read(texts: list[bytes]) -> list[Explanation]:
@@ -259,13 +292,20 @@ class Run:
         return Future([self.session.say(line) for line in lines], "explaining", read)
 
     def told(self, path: Path) -> str:
-        """A path in words, from the output back."""
+        """A path in words, from the output back.
+
+        >>> run.told(((1, 0),))
+        'regions < clean'
+        """
         return told(self.flow, path)
 
     def places(self, array: Array) -> list[Place]:
         """The places of an array in the flow: a base array may be taken as several inputs.
 
         Raises BadInput where it is no array of the run.
+
+        >>> run.places(sky)
+        [<Input 0 of stars>]
         """
         if isinstance(array, str):
             return self._named(array)

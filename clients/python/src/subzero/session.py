@@ -296,7 +296,11 @@ class Session:
 
     @property
     def room(self) -> Room:
-        """How much it holds, of what it can hold."""
+        """How much it holds, of what it can hold: a Room.
+
+        >>> session.room.free
+        4194256
+        """
         held = self.holdings()
         arrays = self.arrays
         of_arrays = sum(array.values.size for array in arrays.values())
@@ -360,6 +364,13 @@ class Session:
         of a `.csv` file is handed in as it is, and the program reads it: whole numbers with commas between, a row a
         line, a field of no characters being an empty cell; it takes none of these options. Raises BadInput and Refused
         as `array` does, and for a `.csv` file Refused with number 5 where it is anything else.
+
+        >>> import pathlib, tempfile
+        >>> with tempfile.TemporaryDirectory() as folder:
+        ...     path = pathlib.Path(folder) / "table.csv"
+        ...     _ = path.write_text("1,2\\n3,\\n")
+        ...     session.load("table", path).values.tolist()
+        [[1, 2], [3, None]]
         """
         if not files.is_csv(path):
             return self.array(name, files.read(path, ext=ext, empty=empty, squeeze=squeeze), scale=scale)
@@ -372,6 +383,9 @@ class Session:
         """An array that the session holds already, as from its log: `session.arrays[name, version]`.
 
         Raises BadInput where there is none, and where it has another shape than the given one.
+
+        >>> session.held_array("sky", 1, (4, 4))
+        <BaseArray sky 1: 4 by 4>
         """
         key = name_of(name), number_of(version, "a version", 1)
         if key not in self.arrays:
@@ -446,6 +460,9 @@ class Session:
         """A run that the session holds already, as from its log: `session.runs[number]`.
 
         Raises BadInput where there is none, and where it is of another flow, or on other arrays, than the given ones.
+
+        >>> session.held_run(1, flow, [sky])
+        <Run 1 of stars on sky 1>
         """
         number = number_of(number, "a version", 1)
         if number not in self.runs:
@@ -458,13 +475,26 @@ class Session:
         return run if flow is None else Run(self, number, flow, run.base)
 
     def pipeline(self) -> Pipeline:
-        """Lines sent ahead, whose replies are taken later: `with session.pipeline() as ahead: ..`. See `Pipeline`."""
+        """Lines sent ahead, whose replies are taken later: `with session.pipeline() as ahead: ..`. See `Pipeline`.
+
+        >>> with session.pipeline() as ahead:
+        ...     answers = [ahead.forward(run, sky, (row, 2), to=labels) for row in range(4)]
+        >>> [int(answer.result().sum()) for answer in answers]
+        [1, 1, 3, 3]
+        """
         return Pipeline(self._program)
 
     def record(self, path: str | os.PathLike[str]) -> None:
         """Write all lines of this session to a file that `subzero play` reads: those sent so far, and each further one.
 
         Of a session on a log, what the log held before is not in the file. Raises OSError where it cannot be written.
+
+        >>> import pathlib, tempfile
+        >>> with tempfile.TemporaryDirectory() as folder:
+        ...     path = pathlib.Path(folder) / "stars.session"
+        ...     session.record(path)
+        ...     path.read_text().splitlines()[-2:]
+        ['{"start":"stars","base":[["sky",1]]}', '{"await":1}']
         """
         self._program.record(path)
 
@@ -580,7 +610,10 @@ class Session:
     def _why_full(self, size: int, what: str, kind: str, most: int) -> str | None:
         """By which part of its rule a line for so many cells is refused, and what can be done."""
         room = self.room
-        do = "nothing can be taken out of a session: begin another one, or hand in less (a part of the image, blocks)"
+        do = (
+            "nothing can be taken out of a session: begin another one, hand in less (a part of the image, blocks), "
+            "or have it cut into tiles by subzero.tiled"
+        )
         if getattr(room, kind) >= most:
             return f"{most:,} {kind} are held, which is all that a session can; {do}"
         if size > room.free:

@@ -112,6 +112,14 @@ def tiled(
     there is memory for them. `program` is the program's path, here and on the cluster (one more runs here, which judges
     flows), and `workers` its option. `limits` are those of one session, and may be made smaller. Raises ProgramMissing,
     BadInput.
+
+    >>> with subzero.tiled(tile=2, programs=1) as mosaic:
+    ...     big, flow = mosaic.array("sky", sky.values), mosaic.flow("stars")
+    ...     labels = flow.regions(flow.clean(flow.input(0), t=100), t=5)
+    ...     run = mosaic.start(flow, [big])
+    ...     run.wait()
+    ...     run.values(labels).max(), int(run.back(labels, (0, 1), to=big).sum())
+    (11, 3)
     """
     side = number_of(tile, "tile", 1)
     if programs is not None:

@@ -28,6 +28,11 @@ def show(run: Run, *, origin: Literal["upper", "lower"] = "upper", port: int = 0
 
     `origin` says whether row 0 is drawn at the top, or at the bottom; the page can change it. `port` is the port on the
     loopback address, a free one where it is 0. Raises OSError where the port is taken, and BadInput for another origin.
+
+    >>> with subzero.view(run) as page:
+    ...     page.select("labels", (0, 1))
+    ...     page.url.startswith("http://127.0.0.1:"), page.selected_in, int(page.selected.sum())
+    (True, <Node 1 labels of stars: regions (5 and more)>, 1)
     """
     return Page(run, origin=origin, port=port)
 

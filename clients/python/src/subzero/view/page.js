@@ -784,7 +784,8 @@ function tell() {
   by("meaning").textContent = sense.meaning;
   for (const direction of ["back", "forward"]) {
     const button = by("legend").querySelector(`.${direction}`);
-    button.textContent = sense.legend[direction];
+    const one = !state.answer || state.answer.count === 1;
+    button.textContent = one ? sense.legend[direction] : sense.legend[direction].replace(/it$/, "them");
     button.setAttribute("aria-pressed", state.shown[direction]);
   }
   for (const panel of state.panels) {
