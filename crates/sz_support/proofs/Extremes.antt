@@ -3,12 +3,12 @@
 -- The key idea: what is gathered is one of the numbers, and the end is what it stays once it is met. So it is the end
 -- exactly where some cell holds the end.
 use Rattle.std.proofs.Common.{◌≡◌, ℕ, zero, suc, ◌+◌, ◌<◌, ◌≤◌, ◌^◌, ℤ, pos, negsuc, Bool, true, false, ◌⊎◌}
-use Rattle.std.proofs.Common.{if◌then◌else◌, List, [], ◌∷◌, Option, Some, None, refl, sym, ap, ap₂, ◌∙◌, arith, fold}
+use Rattle.std.proofs.Common.{if◌then◌else◌, List, [], ◌∷◌, Option, Some, None, refl, sym, ap, ◌∙◌, arith, fold}
 use Rattle.std.proofs.Common.{inl, inr, nat_lt}
 use Rattle.std.specs.Prelude.{int_lt, ◌≤ℤ◌}
 use Rattle.std.specs.Int.{int_min, int_max}
 use Rattle.std.specs.List.{filter, filter_map, range_with_len, reduce}
-use Rattle.std.proofs.lemmas.Bool.{cases_Bool, cases_order, true≢false}
+use Rattle.std.proofs.lemmas.Bool.{cases_Bool, cases_order}
 use Rattle.std.proofs.lemmas.Bool.Decides.{nat_tests}
 use Rattle.std.proofs.lemmas.Int.{ints}
 use Rattle.sz_cells.specs.declared.Cell.{Cell}
@@ -16,7 +16,7 @@ use Rattle.sz_cells.specs.Extent.{size_of, holds, index_of, cell_of}
 use Rattle.sz_cells.specs.Cells.{cells_where}
 use Rattle.sz_cells.proofs.Sets.{index-below, cell-index, cell-held}
 use Rattle.sz_spec.specs.Values.{Grid, fit, value_at, numbers_at, with_number}
-use Rattle.sz_support.specs.Changes.{IsValue, with_value}
+use Rattle.sz_support.specs.Changes.{IsValue}
 use Rattle.sz_support.specs.LawsExactly.{least_i64, greatest_i64}
 
 -- ---- the ends of i64s

@@ -14,6 +14,7 @@ pub mod MatterPassages
 pub mod Extremes
 pub mod MatterExtremes
 pub mod MatterClean
+pub mod MatterOnlyThere
 pub mod RowsSupports
 pub mod RowsSuspects
 pub mod RowsMatter

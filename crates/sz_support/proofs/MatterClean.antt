@@ -2,12 +2,11 @@
 --
 -- The key idea: what a hot cell becomes is the least of the sound numbers round it, so it goes as with a fold of the
 -- least; and where the threshold is not above the least i64, every number is hot, and all that is made is empty.
-use Rattle.std.proofs.Common.{◌≡◌, ℕ, ◌<◌, ℤ, pos, Bool, true, false, not, ◌&&◌, ◌==◌, if◌then◌else◌, List, length}
+use Rattle.std.proofs.Common.{◌≡◌, ◌<◌, ℤ, Bool, true, false, not, List, length}
 use Rattle.std.proofs.Common.{Option, Some, None, Ok, refl, sym, ap, ◌∙◌, arith, inl, inr}
 use Rattle.std.specs.Prelude.{int_lt, int_le, option_and_then}
 use Rattle.std.specs.Int.{int_min}
-use Rattle.std.proofs.lemmas.Bool.{cases_Bool, true≢false, and_parts, and_from, true_from_ne_false}
-use Rattle.std.proofs.lemmas.Bool.{false_from_ne_true}
+use Rattle.std.proofs.lemmas.Bool.{true≢false, true_from_ne_false}
 use Rattle.std.proofs.lemmas.Int.{ints}
 use Rattle.sz_cells.specs.declared.Cell.{Cell}
 use Rattle.sz_cells.specs.Extent.{Extent, holds}
@@ -22,12 +21,12 @@ use Rattle.sz_spec.specs.Operators.Clean.{is_at_least, is_hot, is_in_square, cle
 use Rattle.sz_spec.specs.Supports.{supports}
 use Rattle.sz_spec.specs.Work.{IsAtWork}
 use Rattle.sz_spec.proofs.PayloadLineage.{extent-of_site}
-use Rattle.sz_support.specs.Changes.{with_value, changed_at, IsSupported, IsValue, HoldValues, Matters}
+use Rattle.sz_support.specs.Changes.{with_value, changed_at, HoldValues, Matters}
 use Rattle.sz_support.specs.LawsExactly.{least_i64, OwnCellsOfCleanMatter, CellsRoundHotOnesMatter}
 use Rattle.sz_support.proofs.ChangedInputs.{with-there, with-others, changed-there, inputs-many}
 use Rattle.sz_support.proofs.Differing.{either-differs}
-use Rattle.sz_support.proofs.Extremes.{gathered, gathered-none, above-least, least-end}
-use Rattle.sz_support.proofs.MatterExtremes.{Another, Gathers, AreValues, changed-values, gathered-differs, gathered-idle}
+use Rattle.sz_support.proofs.Extremes.{gathered-none, above-least, least-end}
+use Rattle.sz_support.proofs.MatterExtremes.{Gathers, AreValues, changed-values, gathered-differs, gathered-idle}
 use Rattle.sz_support.proofs.MatterExtremes.{holds-values, another-supports}
 
 -- a number is sound where it is not hot
@@ -50,7 +49,8 @@ cleaned-none t g o low values held = by-value (value_at g o) refl where
   by-value None there = let cold : is_hot t g o ≡ false = ap (is_at_least t) there in rw cold there
   by-value (Some z) there =
       let hot : is_hot t g o ≡ true =
-      ap (is_at_least t) there ∙ each-hot t z low (sym (ap (λ (v : Option ℤ). option_and_then fit v) there) ∙ values o held ∙ there) in
+      ap (is_at_least t) there
+      ∙ each-hot t z low (sym (ap (λ (v : Option ℤ). option_and_then fit v) there) ∙ values o held ∙ there) in
       rw hot
       (gathered-none int_min (is_in_square g.extent o) (is_sound t) g values
       (λ y fits. rw (each-hot t y low fits) refl))

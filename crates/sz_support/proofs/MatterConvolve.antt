@@ -26,14 +26,14 @@ use Rattle.sz_spec.specs.declared.op.Op.{Op}
 use Rattle.sz_spec.specs.declared.op.Op.TheVariants.{Convolve}
 use Rattle.sz_spec.specs.Values.{Grid, fit, value_at, input_at, extent_at, extents_of, with_numbers}
 use Rattle.sz_spec.specs.Weights.{Weights, Tap, is_zero, tap_at}
-use Rattle.sz_spec.specs.Shapes.{arity, shape_of}
+use Rattle.sz_spec.specs.Shapes.{Site, arity, shape_of}
 use Rattle.sz_spec.specs.Evaluation.{value_of}
 use Rattle.sz_spec.specs.Operators.Convolve.{is_under, is_convolved, is_in_range, cell_under, taps_in_range, term_of}
 use Rattle.sz_spec.specs.Operators.Convolve.{sum_of_all, convolved_at}
 use Rattle.sz_spec.specs.Supports.{supports}
 use Rattle.sz_spec.proofs.OutputShapes.{extent-right}
 use Rattle.sz_spec.proofs.PayloadLineage.{extent-of_input, extent-of_site}
-use Rattle.sz_support.specs.Changes.{with_value, changed_at}
+use Rattle.sz_support.specs.Changes.{IsSupported, with_value, changed_at}
 use Rattle.sz_support.specs.LawsMatter.{ConvolvedCellsMatter}
 use Rattle.sz_support.proofs.ChangedInputs.{with-there, with-others, changed-there, inputs-many}
 use Rattle.sz_support.proofs.Differing.{ReadsAt, IsSharp, by-sharp, fit-number}
@@ -133,7 +133,7 @@ by-weight w z weighs none =
       small (negsuc n) h = absurd (omega arith)
 
 -- what the sum makes of the value under a weight, beside the others
-abbrev weighed : ℤ → Option ℤ → Option ℤ → Option ℤ
+abbrev pub weighed : ℤ → Option ℤ → Option ℤ → Option ℤ
 weighed w rest v =
     option_and_then fit (with_numbers (λ a b. Some (a +ℤ b)) (option_map (λ u. w *ℤ u) v) rest)
 
@@ -294,8 +294,12 @@ others-kept g w o x v i right held_o held under =
 
 -- ---- the law
 
-pub convolved-matter : ConvolvedCellsMatter
-convolved-matter w s inputs i o x is known can =
+-- the value is a weight times that of the cell, and the rest
+pub reads-convolved : (w : Weights) (s : Site) (inputs : List Grid) (i : ℕ) (o x : Cell) → s.op ≡ Convolve w
+    → IsSupported s inputs i o x
+    → (weight : ℤ) × (rest : Option ℤ) × (not (is_zero weight) ≡ true)
+    × ReadsAt s inputs i o x (weighed weight rest)
+reads-convolved w s inputs i o x is known =
     let g = input_at inputs 0 in
     let e = g.extent in
     let told : supports (Convolve w) inputs i o x ≡ true =
@@ -331,4 +335,9 @@ convolved-matter w s inputs i o x is known can =
           ∙ ap₂ (weighed (tap_at w tap.0).weight)
           (others-kept g w o x v tap.0 right held_o held tap.4) (with-there g x v held);
     } in
-    by-sharp s inputs i o x f reads (weighed-sharp (tap_at w tap.0).weight (others g w o tap.0) tap.3) can
+    ((tap_at w tap.0).weight, others g w o tap.0, tap.3, reads)
+
+pub convolved-matter : ConvolvedCellsMatter
+convolved-matter w s inputs i o x is known can =
+    let read = reads-convolved w s inputs i o x is known in
+    by-sharp s inputs i o x (weighed read.0 read.1) read.3 (weighed-sharp read.0 read.1 read.2) can

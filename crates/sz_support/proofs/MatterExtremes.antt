@@ -1,21 +1,21 @@
 -- What follows of operators that make the least or the greatest of many numbers: which cells matter, and which do not.
 --
--- The key idea: where no other cell holds the end of all i64s, the value is the end with the end in that cell and is not
+-- The key idea: where no other cell holds the end of all i64s, the value is the end with the end in that cell, and not
 -- with 0 there; where another one does, it is the end whatever that cell holds.
-use Rattle.std.proofs.Common.{◌≡◌, ℕ, ◌-◌, ◌<◌, ◌^◌, ℤ, pos, Bool, true, false, ◌⊎◌, List, [], ◌∷◌, length, Option, Some}
-use Rattle.std.proofs.Common.{None, refl, sym, ap, ap₂, subst, ◌∙◌, arith, inl, inr, ◌↔◌}
+use Rattle.std.proofs.Common.{◌≡◌, ℕ, ◌<◌, ℤ, pos, Bool, true, false, ◌⊎◌, List, [], ◌∷◌, length, Option, Some}
+use Rattle.std.proofs.Common.{refl, sym, ap, ap₂, subst, ◌∙◌, arith, inl, inr, ◌↔◌}
 use Rattle.std.specs.Int.{int_min, int_max}
 use Rattle.std.specs.List.{filter, reduce}
-use Rattle.std.proofs.lemmas.Bool.{cases_Bool, true≢false}
+use Rattle.std.proofs.lemmas.Bool.{cases_Bool}
 use Rattle.sz_cells.specs.declared.Cell.{Cell}
 use Rattle.sz_cells.specs.Extent.{Extent, holds}
 use Rattle.sz_cells.specs.Cells.{is_same, cells_where}
-use Rattle.sz_cells.proofs.Sets.{is_same-true, is_same-refl}
+use Rattle.sz_cells.proofs.Sets.{is_same-true}
 use Rattle.sz_spec.specs.declared.op.Op.{Op}
 use Rattle.sz_spec.specs.declared.op.Op.TheVariants.{Block, FoldLayers}
 use Rattle.sz_spec.specs.declared.op.Fold.{Fold}
 use Rattle.sz_spec.specs.declared.op.Fold.TheVariants.{Min, Max}
-use Rattle.sz_spec.specs.Values.{Grid, fit, value_at, numbers_at, input_at, extent_at, extents_of, with_number}
+use Rattle.sz_spec.specs.Values.{Grid, fit, value_at, numbers_at, input_at, extents_of, with_number}
 use Rattle.sz_spec.specs.Shapes.{Site, arity}
 use Rattle.sz_spec.specs.Lineage.{mapped}
 use Rattle.sz_spec.specs.Evaluation.{value_of, mapped_numbers}

@@ -60,16 +60,16 @@ numbers-around f q i r passes =
     ∙ ap (λ (zs : List ℤ). filter_map f (filter q (range_with_len 0 i)) ++ zs) behind
 
 -- the numbers of an array's cells around cell x, that of x apart
-abbrev before : Grid → (Cell → Bool) → Cell → List ℤ
+abbrev pub before : Grid → (Cell → Bool) → Cell → List ℤ
 before g p x = filter_map (λ k. value_at g (cell_of g.extent k))
     (filter (λ k. p (cell_of g.extent k)) (range_with_len 0 (index_of g.extent x)))
 
-abbrev behind : Grid → (Cell → Bool) → Cell → List ℤ
+abbrev pub behind : Grid → (Cell → Bool) → Cell → List ℤ
 behind g p x = filter_map (λ k. value_at g (cell_of g.extent k))
     (filter (λ k. p (cell_of g.extent k))
     (range_with_len (index_of g.extent x + 1) (size_of g.extent - (index_of g.extent x + 1))))
 
-abbrev around : Grid → (Cell → Bool) → Cell → Option ℤ → List ℤ
+abbrev pub around : Grid → (Cell → Bool) → Cell → Option ℤ → List ℤ
 around g p x v = before g p x ++ cons_option v (behind g p x)
 
 numbers-of : (g : Grid) (p : Cell → Bool) (x : Cell) → holds g.extent x ≡ true → p x ≡ true
@@ -115,7 +115,7 @@ pub record IsFolding (op : Op) (fold : Fold) : Type 0 where
   pub supported : (gs : List Grid) (i : ℕ) (o x : Cell) → supports op gs i o x ≡ related op gs i o x
   pub mapping : (gs : List Grid) (i : ℕ) (o x : Cell) → supports op gs i o x ≡ mapped op (extents_of gs) i o x
 
-reads-folded : (op : Op) (fold : Fold) → IsFolding op fold → (s : Site) (inputs : List Grid) (i : ℕ) (o x : Cell)
+pub reads-folded : (op : Op) (fold : Fold) → IsFolding op fold → (s : Site) (inputs : List Grid) (i : ℕ) (o x : Cell)
     → s.op ≡ op → IsSupported s inputs i o x
     → ReadsAt s inputs i o x
     (λ v. fold_of fold (around (input_at inputs 0) (mapped op (extents_of inputs) 0 o) x v))
@@ -194,7 +194,7 @@ total-from a (z ∷ zs) =
 total-cons : (z : ℤ) (zs : List ℤ) → total (z ∷ zs) ≡ z +ℤ total zs
 total-cons z zs = let first = total-from (pos 0 +ℤ z) zs in omega (arith, ints)
 
-total-around : (xs ys : List ℤ) (z : ℤ) → total (xs ++ z ∷ ys) ≡ z +ℤ total (xs ++ ys)
+pub total-around : (xs ys : List ℤ) (z : ℤ) → total (xs ++ z ∷ ys) ≡ z +ℤ total (xs ++ ys)
 total-around [] ys z = total-cons z ys
 total-around (x ∷ xs) ys z =
     let one = total-cons x (xs ++ z ∷ ys) in
@@ -203,7 +203,7 @@ total-around (x ∷ xs) ys z =
     omega (arith, ints)
 
 -- a sum with a number among those that are summed
-sum-around : (xs ys : List ℤ) (z : ℤ) → fold_of Sum (xs ++ z ∷ ys) ≡ fit (total (xs ++ z ∷ ys))
+pub sum-around : (xs ys : List ℤ) (z : ℤ) → fold_of Sum (xs ++ z ∷ ys) ≡ fit (total (xs ++ z ∷ ys))
 sum-around [] ys z = refl
 sum-around (x ∷ xs) ys z = refl
 

@@ -4,7 +4,7 @@
 -- leads to it. A list that does not pass x leads on whatever x holds; one that does no longer leads where x is emptied.
 -- Where x is raised, a list that passes it goes on, behind the last time, from a neighbour of x as it did before.
 use Rattle.std.proofs.Common.{◌≡◌, ℕ, ◌+◌, ◌<◌, ◌≤◌, ◌⊎◌, ℤ, pos, true, false, List, [], ◌∷◌, Option, Some, None}
-use Rattle.std.proofs.Common.{refl, sym, ap, subst, ◌∙◌, arith, inl, inr, nat_lt, ltb-true}
+use Rattle.std.proofs.Common.{refl, sym, ap, ◌∙◌, arith, inl, inr, nat_lt, ltb-true}
 use Rattle.std.specs.List.{list_any}
 use Rattle.std.proofs.lemmas.Bool.{cases_Bool, cases_order, true≢false, false_from_ne_true, true_from_ne_false}
 use Rattle.std.proofs.lemmas.Bool.{or_parts, or_from, ltb-false}
@@ -20,9 +20,9 @@ use Rattle.sz_spec.specs.Operators.Clean.{is_at_least}
 use Rattle.sz_spec.specs.Operators.Regions.{is_high, is_connected, are_neighbours, labelled_at}
 use Rattle.sz_spec.specs.Supports.{supports}
 use Rattle.sz_spec.specs.LawsRegions.{Leads}
-use Rattle.sz_spec.proofs.Components.{component-closed, connected-self, connected-led, led-connected, leads-first}
+use Rattle.sz_spec.proofs.Components.{component-closed, connected-led, led-connected}
 use Rattle.sz_spec.proofs.Components.{connected-both_high, connected-parts, label-low, label-high}
-use Rattle.sz_support.specs.Changes.{with_value, changed_at, Matters}
+use Rattle.sz_support.specs.Changes.{with_value, changed_at}
 use Rattle.sz_support.specs.LawsExactly.{IsFirst, RegionsHaveFirstCells, StandsBetween, InnerCellsOfRegionsMatter}
 use Rattle.sz_support.specs.LawsExactly.{JoinsBefore, RimCellsOfRegionsMatter}
 use Rattle.sz_support.proofs.OneOperator.{sheet, rim-supports}

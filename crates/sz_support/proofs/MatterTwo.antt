@@ -53,22 +53,23 @@ numbers-can s inputs i o x z r known there right told =
 -- ---- what is read
 
 -- an operator of two inputs that makes its output cell of the same cell of both
-record IsPaired (op : Op) (f : ℤ → ℤ → Option ℤ) : Type 0 where
-  two : arity op ≡ 2
-  value : (gs : List Grid) (o : Cell)
+pub record IsPaired (op : Op) (f : ℤ → ℤ → Option ℤ) : Type 0 where
+  pub two : arity op ≡ 2
+  pub value : (gs : List Grid) (o : Cell)
       → value_of op gs o ≡ with_numbers f (value_at (input_at gs 0) o) (value_at (input_at gs 1) o)
-  supported : (gs : List Grid) (i : ℕ) (o x : Cell) → supports op gs i o x ≡ (nat_lt i 2 && is_same x o)
+  pub supported : (gs : List Grid) (i : ℕ) (o x : Cell) → supports op gs i o x ≡ (nat_lt i 2 && is_same x o)
 
 -- what is made of a value of input i, beside that of the other one
-abbrev beside : (ℤ → ℤ → Option ℤ) → ℕ → Option ℤ → Option ℤ → Option ℤ
+abbrev pub beside : (ℤ → ℤ → Option ℤ) → ℕ → Option ℤ → Option ℤ → Option ℤ
 beside f zero other v = with_numbers f v other
 beside f (suc i) other v = with_numbers f other v
 
 -- the value of the other input
-abbrev other_at : List Grid → ℕ → Cell → Option ℤ
+abbrev pub other_at : List Grid → ℕ → Cell → Option ℤ
 other_at inputs i o = value_at (input_at inputs (1 - i)) o
 
-reads-paired : (op : Op) (f : ℤ → ℤ → Option ℤ) → IsPaired op f → (s : Site) (inputs : List Grid) (i : ℕ) (o x : Cell)
+pub reads-paired : (op : Op) (f : ℤ → ℤ → Option ℤ) → IsPaired op f
+    → (s : Site) (inputs : List Grid) (i : ℕ) (o x : Cell)
     → s.op ≡ op → IsSupported s inputs i o x → ReadsAt s inputs i o x (beside f i (other_at inputs i o))
 reads-paired op f paired s inputs i o x is known =
     let both = and_parts (nat_lt i 2) (is_same x o)

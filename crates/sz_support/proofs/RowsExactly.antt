@@ -2,18 +2,17 @@
 -- greatest, of clean and of regions.
 --
 -- The key idea: on written-out arrays every definition is a computation. Expected values by hand.
-use Rattle.std.proofs.Common.{◌≡◌, ℕ, zero, suc, ◌+◌, ◌-◌, ◌<◌, ◌^◌, ℤ, pos, neg_ℤ, true, false, [], ◌∷◌, List, map}
-use Rattle.std.proofs.Common.{Option, Some, None, refl, sym, ap, ap₂, subst, ◌∙◌, arith, inl, inr, unwrap_or, slice_get}
+use Rattle.std.proofs.Common.{◌≡◌, ℕ, zero, suc, ◌+◌, ◌-◌, ◌^◌, ℤ, pos, neg_ℤ, true, false, [], ◌∷◌, List}
+use Rattle.std.proofs.Common.{Option, Some, None, refl, sym, ap, ◌∙◌, arith, inl, inr, unwrap_or, slice_get}
 use Rattle.std.proofs.lemmas.Bool.{true≢false}
 use Rattle.std.proofs.lemmas.List.Elements.{All-cons, All-nil}
 use Rattle.sz_cells.specs.declared.Cell.{Cell}
-use Rattle.sz_cells.specs.Extent.{Extent, flat, layered, holds, index_of, cell_of, is_extent}
-use Rattle.sz_cells.specs.Cells.{is_same}
+use Rattle.sz_cells.specs.Extent.{Extent, flat, holds, index_of, cell_of, is_extent}
 use Rattle.sz_cells.proofs.Sets.{cell-index}
 use Rattle.sz_spec.specs.declared.op.Op.{Op}
 use Rattle.sz_spec.specs.declared.op.Op.TheVariants as op
 use Rattle.sz_spec.specs.declared.op.Fold.TheVariants as fold
-use Rattle.sz_spec.specs.Values.{Grid, value_at}
+use Rattle.sz_spec.specs.Values.{Grid}
 use Rattle.sz_spec.specs.Shapes.{Site, IsSite}
 use Rattle.sz_spec.specs.Evaluation.{value_of}
 use Rattle.sz_spec.specs.Operators.Regions.{is_high, is_connected, labelled_at}
@@ -23,7 +22,7 @@ use Rattle.sz_spec.proofs.Components.{connected-both_high}
 use Rattle.sz_spec.proofs.RowsArrays.{grid, stack, n, minus, none}
 use Rattle.sz_support.specs.Changes.{IsSupported, ValueDiffers, MattersByNumber, IsValue, HoldValues, Matters}
 use Rattle.sz_support.specs.LawsExactly.{AnotherHolds, IsFirst, StandsBetween, JoinsBefore}
-use Rattle.sz_support.proofs.MatterExtremes.{least-matter, greatest-matter}
+use Rattle.sz_support.proofs.MatterExtremes.{least-matter}
 use Rattle.sz_support.proofs.MatterClean.{own_clean-matter, round_hot-matter}
 use Rattle.sz_support.proofs.MatterPassages.{regions-first, inner-matter, rim_exactly-matter}
 
@@ -100,6 +99,37 @@ greatest-end_least = refl
 
 pub greatest-higher : greatest_of (n 5) least (n 6) ≡ n 6
 greatest-higher = refl
+
+-- ---- two inputs, and names in a table
+
+abbrev product : Option ℤ → Option ℤ → Option ℤ
+product v w = value_of op.Mul (grid 1 1 (v ∷ []) ∷ grid 1 1 (w ∷ []) ∷ []) (cell 0 0)
+
+-- beside 0 a cell matters by being empty, and beside an empty one by nothing
+pub product-zero : product (n 3) (n 0) ≡ n 0
+product-zero = refl
+
+pub product-zero_emptied : product none (n 0) ≡ none
+product-zero_emptied = refl
+
+pub product-empty : product (n 3) none ≡ none
+product-empty = refl
+
+pub product-empty_emptied : product none none ≡ none
+product-empty_emptied = refl
+
+-- where the table holds a number, the cell that names an empty column matters, and where it holds none, it does not
+abbrev found : Option ℤ → Option ℤ → Option ℤ
+found v w = value_of op.Lookup (grid 1 1 (v ∷ []) ∷ grid 1 2 (none ∷ w ∷ []) ∷ []) (cell 0 0)
+
+pub found-empty : found (n 0) (n 7) ≡ none
+found-empty = refl
+
+pub found-number : found (n 1) (n 7) ≡ n 7
+found-number = refl
+
+pub found-never : found (n 1) none ≡ none
+found-never = refl
 
 -- ---- sites of one array, whose values are i64s or nothing
 

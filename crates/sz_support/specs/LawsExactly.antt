@@ -1,23 +1,27 @@
--- Nothing idle, exactly: which of the supporting cells can matter, of folds of the least and the
--- greatest, of clean and of regions, whose answers may have idle cells. Each law says of a cell
--- where it matters, and that elsewhere no value of it, an i64 or nothing, makes a difference. Each
--- is proved of the definitions.
+-- Nothing idle, exactly: of operators whose answers may have idle cells, where a supporting cell
+-- can matter, and that elsewhere no value of it, an i64 or nothing, makes a difference. Each law is
+-- proved of the definitions.
 use Rattle.std.specs.Prelude.{◌≡◌, ℕ, ◌+◌, ◌-◌, ◌^◌, ◌<◌, ◌≤◌, ◌⊎◌, ℤ, pos, neg_ℤ, int_lt}
-use Rattle.std.specs.Prelude.{List, ◌∷◌, true, false, Option, Some, None}
+use Rattle.std.specs.Prelude.{List, ◌∷◌, Bool, true, false, Option, Some, None, ◌↔◌}
 use Rattle.std.specs.List.{list_any}
 use Rattle.sz_cells.specs.declared.Cell.{Cell}
 use Rattle.sz_cells.specs.Extent.{holds, index_of}
 use Rattle.sz_cells.specs.Cells.{is_same}
 use Rattle.sz_spec.specs.declared.op.Op.{Op}
-use Rattle.sz_spec.specs.declared.op.Op.TheVariants.{Block, FoldLayers, Clean, Regions}
-use Rattle.sz_spec.specs.declared.op.Fold.TheVariants.{Min, Max}
+use Rattle.sz_spec.specs.declared.op.Op.TheVariants.{Block, FoldLayers, Clean, Regions, Convolve}
+use Rattle.sz_spec.specs.declared.op.Op.TheVariants.{Add, Sub, Mul, Min, Max, Lookup}
+use Rattle.sz_spec.specs.declared.op.Fold.TheVariants as fold
 use Rattle.sz_spec.specs.Values.{Grid, value_at, input_at, extent_at}
 use Rattle.sz_spec.specs.Shapes.{Site}
+use Rattle.sz_spec.specs.Weights.{Weights}
+use Rattle.sz_spec.specs.Operators.Lookup.{entry_at}
 use Rattle.sz_spec.specs.Operators.Regions.{is_high, is_connected, are_neighbours, labelled_at}
 use Rattle.sz_spec.specs.Supports.{supports}
 use Rattle.sz_spec.specs.LawsRegions.{Leads}
 use Rattle.sz_spec.specs.Work.{IsAtWork}
-use Rattle.sz_support.specs.Changes.{IsSupported, ValueDiffers, MattersByNumber, HoldValues, Matters}
+use Rattle.sz_support.specs.Changes.{IsSupported, ValueDiffers, MattersByNumber, CanBeNumber}
+use Rattle.sz_support.specs.Changes.{HoldValues, Matters}
+use Rattle.sz_support.specs.LawsMatter.{ComparedCellsMatter}
 
 -- the least and the greatest i64
 abbrev pub least_i64 : ℤ
@@ -55,18 +59,18 @@ EachMattersUnlessAnother op z = (s : Site) (inputs : List Grid) (i : ℕ) (o x :
 -- of the least, unless another cell holds the least i64, below which nothing is
 abbrev pub CellsOfLeastMatter : Type 0
 CellsOfLeastMatter = (height width : ℕ)
-    → EachMattersUnlessAnother (Block Min height width) least_i64
+    → EachMattersUnlessAnother (Block fold.Min height width) least_i64
 
 abbrev pub CellsOfLeastOfLayersMatter : Type 0
-CellsOfLeastOfLayersMatter = EachMattersUnlessAnother (FoldLayers Min) least_i64
+CellsOfLeastOfLayersMatter = EachMattersUnlessAnother (FoldLayers fold.Min) least_i64
 
 -- of the greatest, unless another cell holds the greatest i64
 abbrev pub CellsOfGreatestMatter : Type 0
 CellsOfGreatestMatter = (height width : ℕ)
-    → EachMattersUnlessAnother (Block Max height width) greatest_i64
+    → EachMattersUnlessAnother (Block fold.Max height width) greatest_i64
 
 abbrev pub CellsOfGreatestOfLayersMatter : Type 0
-CellsOfGreatestOfLayersMatter = EachMattersUnlessAnother (FoldLayers Max) greatest_i64
+CellsOfGreatestOfLayersMatter = EachMattersUnlessAnother (FoldLayers fold.Max) greatest_i64
 
 -- ---- clean
 
@@ -86,6 +90,47 @@ CellsRoundHotOnesMatter = (t : ℤ) (s : Site) (inputs : List Grid) (o x : Cell)
     → IsSupported s inputs 0 o x → is_same x o ≡ false → HoldValues s inputs
     → MattersExactlyWhere
     ((int_lt least_i64 t ≡ true) × (AnotherHolds s inputs 0 o x least_i64 → ⊥)) s inputs 0 o x
+
+-- ---- sums, convolutions, and operators of two inputs
+
+-- each cell matters only where, by some number there, the value of o is a number
+abbrev pub EachMattersOnlyWhereNumber : Op → Type 0
+EachMattersOnlyWhereNumber op = (s : Site) (inputs : List Grid) (i : ℕ) (o x : Cell) → s.op ≡ op
+    → IsSupported s inputs i o x → HoldValues s inputs → Matters s inputs i o x
+    → CanBeNumber s inputs i o x
+
+abbrev pub SummedCellsMatterOnlyThere : Type 0
+SummedCellsMatterOnlyThere = (height width : ℕ)
+    → EachMattersOnlyWhereNumber (Block fold.Sum height width)
+
+abbrev pub SummedCellsOfLayersMatterOnlyThere : Type 0
+SummedCellsOfLayersMatterOnlyThere = EachMattersOnlyWhereNumber (FoldLayers fold.Sum)
+
+abbrev pub ConvolvedCellsMatterOnlyThere : Type 0
+ConvolvedCellsMatterOnlyThere = (kernel : Weights) → EachMattersOnlyWhereNumber (Convolve kernel)
+
+-- an operator that makes one number of two
+abbrev pub is_paired : Op → Bool
+is_paired Add = true
+is_paired Sub = true
+is_paired Mul = true
+is_paired Min = true
+is_paired Max = true
+is_paired _ = false
+
+abbrev pub PairedCellsMatterOnlyThere : Type 0
+PairedCellsMatterOnlyThere = (op : Op) → is_paired op ≡ true → EachMattersOnlyWhereNumber op
+
+-- of a product each cell matters there, at least by being empty or 0
+abbrev pub MultipliedCellsMatterByPresence : Type 0
+MultipliedCellsMatterByPresence = ComparedCellsMatter Mul
+
+-- the cell that names a column of a table matters exactly where the table holds some number
+abbrev pub NamingCellsMatter : Type 0
+NamingCellsMatter = (s : Site) (inputs : List Grid) (o x : Cell) → s.op ≡ Lookup
+    → IsSupported s inputs 0 o x
+    → Matters s inputs 0 o x ↔ ((k : ℕ) × (k < (input_at inputs 1).extent.cols)
+    × (r : ℤ) × (value_at (input_at inputs 1) (entry_at k) ≡ Some r))
 
 -- ---- regions: the threshold is an i64, as it always is in the program
 

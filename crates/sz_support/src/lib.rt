@@ -5,7 +5,8 @@
 //! cell of a region the neighbours of the region too (`supports`, of sz_spec). Whatever the other
 //! cells of the inputs hold, the output cell has the same value: of one operator, along the paths
 //! of a flow, and forward, for whole sets, node by node. The last laws say that nothing is idle:
-//! when a supporting cell can matter, operator by operator.
+//! when a supporting cell can matter, operator by operator, and that no value of it makes a
+//! difference elsewhere.
 //!
 //! A row of five pixels, of which `regions` at 5 makes the labels 1 1 0 4 4:
 //!
@@ -43,6 +44,11 @@ ghost use Rattle.sz_support.specs.LawsExactly.{CellsOfLeastMatter, CellsOfLeastO
 ghost use Rattle.sz_support.specs.LawsExactly.{CellsOfGreatestMatter};
 ghost use Rattle.sz_support.specs.LawsExactly.{CellsOfGreatestOfLayersMatter};
 ghost use Rattle.sz_support.specs.LawsExactly.{OwnCellsOfCleanMatter, CellsRoundHotOnesMatter};
+ghost use Rattle.sz_support.specs.LawsExactly.{SummedCellsMatterOnlyThere};
+ghost use Rattle.sz_support.specs.LawsExactly.{SummedCellsOfLayersMatterOnlyThere};
+ghost use Rattle.sz_support.specs.LawsExactly.{ConvolvedCellsMatterOnlyThere};
+ghost use Rattle.sz_support.specs.LawsExactly.{PairedCellsMatterOnlyThere, NamingCellsMatter};
+ghost use Rattle.sz_support.specs.LawsExactly.{MultipliedCellsMatterByPresence};
 ghost use Rattle.sz_support.specs.LawsExactly.{RegionsHaveFirstCells, InnerCellsOfRegionsMatter};
 ghost use Rattle.sz_support.specs.LawsExactly.{RimCellsOfRegionsMatter};
 
@@ -113,17 +119,19 @@ pub fn cells_of_one_matter()
 
 /// Of a fold that counts or sums, each cell that stands behind an output cell can matter: by being
 /// empty or not for a count, and for a sum by a number, where the sum is an i64 for some number
-/// there.
+/// there; where it is not, the cell is idle.
 pub fn folded_cells_matter()
     ensures count { CountedCellsMatter }
     ensures count_layers { CountedCellsOfLayersMatter }
     ensures sum { SummedCellsMatter }
     ensures sum_layers { SummedCellsOfLayersMatter }
+    ensures sum_only { SummedCellsMatterOnlyThere }
+    ensures sum_layers_only { SummedCellsOfLayersMatterOnlyThere }
 {}
 
 /// Of a fold of the least each cell that stands behind an output cell matters, by a number, exactly
-/// where no other one holds the least i64; and of the greatest where none holds the greatest. Beside
-/// one that does it is idle: no value there makes a difference.
+/// where no other one holds the least i64; and of the greatest where none holds the greatest i64.
+/// Beside one that does it is idle: no value there makes a difference.
 pub fn cells_of_extremes_matter()
     ensures least { CellsOfLeastMatter }
     ensures least_layers { CellsOfLeastOfLayersMatter }
@@ -142,26 +150,33 @@ pub fn cleaned_cells_matter()
 
 /// Of a convolution each cell that lies under a weight other than 0 can matter by a number, where
 /// the weighted sum is an i64 for some number there: so no other cell under a weight is empty.
+/// Where it is not, the cell is idle.
 pub fn convolved_cells_matter()
-    ensures { ConvolvedCellsMatter }
+    ensures there { ConvolvedCellsMatter }
+    ensures only { ConvolvedCellsMatterOnlyThere }
 {}
 
 /// Of an operator of two inputs each of the two cells can matter where the other one is not empty,
 /// and for a product not 0: by a number for a sum, a difference and a product, where the result is
-/// an i64 for some number there, and by being empty or not for the lesser and the greater.
+/// an i64 for some number there, and by being empty or not for the lesser and the greater, and for
+/// a product by 0 too. Where no number there makes the result an i64, the cell is idle.
 pub fn cells_of_two_matter()
     ensures add { AddedCellsMatter }
     ensures sub { SubtractedCellsMatter }
     ensures mul { MultipliedCellsMatter }
     ensures min { LesserCellsMatter }
     ensures max { GreaterCellsMatter }
+    ensures mul_presence { MultipliedCellsMatterByPresence }
+    ensures only { PairedCellsMatterOnlyThere }
 {}
 
 /// Of a lookup the matched cell of the table can matter by a number, and the cell that names its
-/// column by being empty, where the value is a number.
+/// column by being empty, where the value is a number; in any case it matters exactly where the
+/// table holds some number.
 pub fn looked_up_cells_matter()
     ensures matched { MatchedCellsMatter }
     ensures matching { MatchingCellsMatter }
+    ensures naming { NamingCellsMatter }
 {}
 
 /// Of regions each cell can matter to its own label. A cell of a region matters to the label of

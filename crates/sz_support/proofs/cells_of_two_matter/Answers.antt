@@ -1,6 +1,7 @@
 -- Each clause is a lemma of the definitions.
 use Rattle.sz_support.proofs.MatterTwo.{added-matter, subtracted-matter, multiplied-matter}
 use Rattle.sz_support.proofs.MatterTwo.{lesser-matter, greater-matter}
+use Rattle.sz_support.proofs.MatterOnlyThere.{multiplied-present, paired-only_there}
 use Rattle.sz_support.proofs.cells_of_two_matter.Goals as goal
 
 pub returns-clause-add : goal.returns-clause-add
@@ -17,3 +18,9 @@ returns-clause-min c = lesser-matter
 
 pub returns-clause-max : goal.returns-clause-max
 returns-clause-max c = greater-matter
+
+pub returns-clause-mul_presence : goal.returns-clause-mul_presence
+returns-clause-mul_presence c = multiplied-present
+
+pub returns-clause-only : goal.returns-clause-only
+returns-clause-only c = paired-only_there
