@@ -7,7 +7,7 @@ use Rattle.std.proofs.Common.{◌≡◌, ℕ, ◌+◌, ◌-◌, ◌<◌, ◌≤�
 use Rattle.std.proofs.Common.{Option, get_or, refl, sym, ap, ap₂, ◌∙◌, arith, inl, inr, ◌||◌, ◌&&◌, ◌==◌, nat_le}
 use Rattle.std.proofs.Common.{nat_lt}
 use Rattle.std.proofs.Common.{lt-ltb, ltb-true, le-leb, eq-eqb, eqb-true, true≢false}
-use Rattle.std.specs.Prelude.{ℤ}
+use Rattle.std.specs.Prelude.{ℤ, if◌then◌else◌}
 use Rattle.std.specs.List.{list_any, flat_map}
 use Rattle.std.proofs.lemmas.Bool.{cases_Bool, or_cases, and_parts, and_from, false_from_ne_true}
 use Rattle.std.proofs.lemmas.List.{ext_get_or, take_more, get_or-set_other}
@@ -27,7 +27,7 @@ use Rattle.sz_spec.specs.Evaluation.{value_of, output_of}
 use Rattle.sz_spec.specs.Work.{IsAtWork}
 use Rattle.sz_region.specs.Walks.{values_before}
 use Rattle.sz_region.proofs.Added.{values-all}
-use Rattle.sz_refresh.specs.Outputs.{KeepsOthers}
+use Rattle.sz_refresh.specs.Outputs.{KeepsOthers, renewed}
 
 -- the value of the cell of an index
 abbrev pub value : Site → List Grid → ℕ → Option ℤ
@@ -107,6 +107,20 @@ computed-all s inputs old values runs set done spelled same others =
       take-all : (rs : List Run) → take (length rs) rs ≡ rs
       take-all [] = refl
       take-all (r ∷ rs) = ap (λ (xs : List Run). r ∷ xs) (take-all rs)
+
+-- each value renewed
+pub renewed-all : (s : Site) (inputs : List Grid) (old : Grid) (values : List (Option ℤ)) (set : Cells)
+    → length values ≡ size_of s.out
+    → ((k : ℕ) → k < size_of s.out → get_or values k None ≡ renewed s inputs set k (get_or old.values k None))
+    → KeepsOthers s inputs old set → values ≡ values_before s inputs (size_of s.out)
+renewed-all s inputs old values set long each others =
+    values-all_made s inputs values long
+    (λ k low.
+    let here : Bool → Option ℤ = λ b. if b then value s inputs k else get_or old.values k None in
+    elim (cases_Bool (list_any (λ i. i == k) set.indexes)) [
+      | inl there ↦ each k low ∙ ap here there
+      | inr out ↦ each k low ∙ ap here out ∙ others k low out
+    ])
 
 -- ---- one value more
 

@@ -12,6 +12,7 @@ ghost use Rattle.sz_refresh.specs.Before.{IsBefore};
 use crate::node::refresh_node;
 use std::alloc::Global;
 use std::sync::Arc;
+use std::thread::Threads;
 use sz_cells::laws::a_shape_is_within_limits;
 use sz_cells::{CellSet, NoMemory};
 use sz_flow::NodeRun;
@@ -30,9 +31,10 @@ pub struct Refreshed {
 /// differ from them at most in the cells `changed` of base array `input`. A base array that the
 /// flow takes under another number too is changed under this one alone.
 ///
-/// The value of each affected cell is computed again and counted, and the others are copied. After
-/// `NoMemory` nothing is counted. It waits for nobody.
-pub fn refresh(
+/// The value of each affected cell is computed again and counted, side by side where that pays, and
+/// the others are copied. After `NoMemory` nothing is counted. It waits for nobody.
+pub fn refresh<R: Threads + Sync>(
+    rt: &R,
     alloc: Global,
     flow: &Flow,
     old: &[NodeRun],
@@ -65,6 +67,7 @@ pub fn refresh(
     let mut affected = Vec::new(alloc);
     for (number, node) in flow.nodes().iter().enumerate() {
         let (run, cells) = refresh_node(
+            rt,
             alloc,
             node,
             &old[number],

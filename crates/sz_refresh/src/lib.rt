@@ -10,7 +10,7 @@
 //! alone, and now all three cells are one region:
 //!
 //! ```
-//! let refreshed = refresh(alloc, &flow, &runs, &[after], 0, &middle, &mut tally)?;
+//! let refreshed = refresh(&rt, alloc, &flow, &runs, &[after], 0, &middle, &mut tally)?;
 //! // refreshed.runs[0].out.cells() == [Some(1), Some(1), Some(1)]
 //! // refreshed.affected[0].count() == 3, and tally.count() == 3
 //! ```

@@ -15,13 +15,15 @@ use crate::output::output_after;
 use crate::reached::affected_of;
 use std::alloc::Global;
 use std::sync::Arc;
+use std::thread::Threads;
 use sz_cells::{CellSet, NoMemory};
 use sz_flow::{NodeRun, inputs_of};
 use sz_spec::{Array, ArrayList, Node, Tally};
 
 /// The run of a node over the base arrays and the runs of the nodes before it, and its affected
 /// cells, given its run before some cells of a base array were changed.
-pub(crate) fn refresh_node(
+pub(crate) fn refresh_node<R: Threads + Sync>(
+    rt: &R,
     alloc: Global,
     node: &Node,
     old: &NodeRun,
@@ -70,13 +72,14 @@ pub(crate) fn refresh_node(
         changed,
         sets,
     )?;
-    let run = run_after(alloc, old, inputs, &cells, count)?;
+    let run = run_after(rt, alloc, old, inputs, &cells, count)?;
     Ok((run, cells))
 }
 
 /// The run of a node's operator over new arrays, given its run over others of the same shapes that
 /// makes the same values but in some cells.
-fn run_after(
+fn run_after<R: Threads + Sync>(
+    rt: &R,
     alloc: Global,
     old: &NodeRun,
     inputs: ArrayList,
@@ -95,7 +98,16 @@ fn run_after(
     old.at.out(); // its output has the shape that its rule gives
     let at = Arc::try_clone(&old.at)?;
     let aid = sz_ops::prepare(alloc, &at, inputs.as_slice())?;
-    let out = output_after(alloc, &at, inputs.as_slice(), &aid, &old.out, cells, count)?;
+    let out = output_after(
+        rt,
+        alloc,
+        &at,
+        inputs.as_slice(),
+        &aid,
+        &old.out,
+        cells,
+        count,
+    )?;
     Ok(NodeRun {
         at,
         inputs,

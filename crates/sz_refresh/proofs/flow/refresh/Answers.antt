@@ -13,7 +13,7 @@ use Rattle.sz_refresh.proofs.Steps.{there-of, olds-count, step-known, step-next}
 use Rattle.sz_refresh.proofs.flow.refresh.Goals as goal
 
 pub bounds-old-number : goal.bounds-old-number
-bounds-old-number c =
+bounds-old-number g c =
     let flow = c.args.flow.now in
     let base = map (λ a. arc_value a) c.args.base.now in
     let olds = c.args.old.now in
@@ -27,7 +27,7 @@ bounds-old-number c =
     omega (arith, many, slice_get_within flow.nodes n x there)
 
 pub refresh_node-requires-clause-right : goal.refresh_node-requires-clause-right
-refresh_node-requires-clause-right c =
+refresh_node-requires-clause-right g c κs within =
     let flow = c.args.flow.now in
     let base = map (λ a. arc_value a) c.args.base.now in
     let olds = c.args.old.now in
@@ -45,7 +45,7 @@ refresh_node-requires-clause-right c =
     (subst (λ (m : ℕ). IsRightNode flow.inputs m x) count ((well-formed_parts flow c.requires.well_formed).3 n x there))
 
 pub refresh_node-requires-clause-sets : goal.refresh_node-requires-clause-sets
-refresh_node-requires-clause-sets c =
+refresh_node-requires-clause-sets g c κs within =
     ap (λ (sets : List Cells). length sets) c.deref-in-loop-number.ensures.value
     ∙ c.loop-number.invariant.long
     ∙ sym c.loop-number.invariant.ran
@@ -53,7 +53,7 @@ refresh_node-requires-clause-sets c =
     ∙ sym (ap (λ (rs : List NodeRun). length rs) c.deref.ensures.value)
 
 pub refresh_node-requires-clause-op : goal.refresh_node-requires-clause-op
-refresh_node-requires-clause-op c =
+refresh_node-requires-clause-op g c κs within =
     let flow = c.args.flow.now in
     let base = map (λ a. arc_value a) c.args.base.now in
     let olds = c.args.old.now in
@@ -82,7 +82,7 @@ refresh_node-requires-clause-op c =
     node.op
 
 pub refresh_node-requires-clause-ins : goal.refresh_node-requires-clause-ins
-refresh_node-requires-clause-ins c =
+refresh_node-requires-clause-ins g c κs within =
     let flow = c.args.flow.now in
     let base = map (λ a. arc_value a) c.args.base.now in
     let olds = c.args.old.now in
@@ -111,7 +111,7 @@ refresh_node-requires-clause-ins c =
     node.ins
 
 pub refresh_node-requires-clause-out : goal.refresh_node-requires-clause-out
-refresh_node-requires-clause-out c =
+refresh_node-requires-clause-out g c κs within =
     let flow = c.args.flow.now in
     let base = map (λ a. arc_value a) c.args.base.now in
     let olds = c.args.old.now in
@@ -140,7 +140,7 @@ refresh_node-requires-clause-out c =
     node.out
 
 pub refresh_node-requires-clause-shapes : goal.refresh_node-requires-clause-shapes
-refresh_node-requires-clause-shapes c =
+refresh_node-requires-clause-shapes g c κs within =
     let flow = c.args.flow.now in
     let base = map (λ a. arc_value a) c.args.base.now in
     let olds = c.args.old.now in
@@ -169,7 +169,7 @@ refresh_node-requires-clause-shapes c =
     node.shapes
 
 pub refresh_node-requires-clause-others : goal.refresh_node-requires-clause-others
-refresh_node-requires-clause-others c =
+refresh_node-requires-clause-others g c κs within =
     let flow = c.args.flow.now in
     let base = map (λ a. arc_value a) c.args.base.now in
     let olds = c.args.old.now in
@@ -198,7 +198,7 @@ refresh_node-requires-clause-others c =
     node.others
 
 pub refresh_node-requires-clause-room : goal.refresh_node-requires-clause-room
-refresh_node-requires-clause-room c =
+refresh_node-requires-clause-room g c κs within =
     let flow = c.args.flow.now in
     let base = map (λ a. arc_value a) c.args.base.now in
     let olds = c.args.old.now in
@@ -229,7 +229,7 @@ refresh_node-requires-clause-room c =
     omega (arith, node.few, few, below, c.loop-number.invariant.few)
 
 pub loop-number-preserved : goal.loop-number-preserved
-loop-number-preserved c =
+loop-number-preserved g c =
     let flow = c.args.flow.now in
     let base = map (λ a. arc_value a) c.args.base.now in
     let olds = c.args.old.now in
@@ -256,7 +256,7 @@ loop-number-preserved c =
     c.in_ok-run.ensures.ticks c.in_ok-push.ensures.items c.in_ok-push-2.ensures.items
 
 pub returns-clause-runs : goal.returns-clause-runs
-returns-clause-runs c =
+returns-clause-runs g c =
     let flow = c.args.flow.now in
     let base = map (λ a. arc_value a) c.args.base.now in
     let n = c.loop-number.number in
@@ -270,7 +270,7 @@ returns-clause-runs c =
     known.0
 
 pub returns-clause-affected : goal.returns-clause-affected
-returns-clause-affected c =
+returns-clause-affected g c =
     let flow = c.args.flow.now in
     let base = map (λ a. arc_value a) c.args.base.now in
     let n = c.loop-number.number in
@@ -284,7 +284,7 @@ returns-clause-affected c =
     known.1
 
 pub add-requires : goal.add-requires
-add-requires c =
+add-requires g c =
     let flow = c.args.flow.now in
     let base = map (λ a. arc_value a) c.args.base.now in
     let n = c.loop-number.number in

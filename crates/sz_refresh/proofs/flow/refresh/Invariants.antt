@@ -6,6 +6,6 @@ use Rattle.sz_refresh.proofs.Nodes.{IsSoFar}
 use Rattle.sz_refresh.proofs.flow.refresh.Given as goal
 
 abbrev pub invariant-loop-number : goal.invariant-loop-number
-invariant-loop-number l =
+invariant-loop-number g l =
     IsSoFar l.flow (map execution_of l.old) (map (λ a. arc_value a) l.base) l.input l.changed
     (map execution_of l.runs.items) l.affected.items l.count l.number

@@ -14,7 +14,7 @@ use Rattle.sz_refresh.proofs.Runs.{out-over}
 use Rattle.sz_refresh.proofs.node.refresh_node.Goals as goal
 
 pub run_after-requires-clause-cells : goal.run_after-requires-clause-cells
-run_after-requires-clause-cells c =
+run_after-requires-clause-cells g c κs within =
     let s = arc_value c.args.old.now.at in
     let rule = subst (λ (z : Site). shape_of z.op z.ins ≡ Ok z.out) c.deref.ensures c.out.ensures.rule in
     let changes = changed_from c.args.input c.args.changed.now c.args.sets.now in
@@ -24,7 +24,7 @@ run_after-requires-clause-cells c =
     ∙ out-over s c.args.old.now.inputs c.args.old.now.shapes rule
 
 pub run_after-requires-clause-others : goal.run_after-requires-clause-others
-run_after-requires-clause-others c =
+run_after-requires-clause-others g c κs within =
     let s = arc_value c.args.old.now.at in
     let olds = c.args.old.now.inputs in
     let out = arc_value c.args.old.now.out in

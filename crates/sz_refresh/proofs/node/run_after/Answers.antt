@@ -8,7 +8,7 @@ use Rattle.sz_refresh.proofs.Runs.{execution-own}
 use Rattle.sz_refresh.proofs.node.run_after.Goals as goal
 
 pub returns-clause-run : goal.returns-clause-run
-returns-clause-run c =
+returns-clause-run g c =
     let s = arc_value c.args.old.now.at in
     let same : arc_value c.in_ok-at.at ≡ s = c.in_ok-at.ensures in
     let rule = subst (λ (z : Site). shape_of z.op z.ins ≡ Ok z.out) c.deref.ensures c.out.ensures.rule in

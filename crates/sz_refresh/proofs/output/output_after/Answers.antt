@@ -9,7 +9,7 @@ use Rattle.sz_refresh.proofs.Outputs.{held-all}
 use Rattle.sz_refresh.proofs.output.output_after.Goals as goal
 
 pub returns-in_ok-try_clone-clause-output : goal.returns-in_ok-try_clone-clause-output
-returns-in_ok-try_clone-clause-output c =
+returns-in_ok-try_clone-clause-output g c =
     let s = c.args.at.now in
     let inputs : List Grid = map (λ a. arc_value a) c.args.inputs.now in
     let old = arc_value c.args.old.now in

@@ -4,7 +4,7 @@ use Rattle.std.specs.Arc.{arc_value}
 use Rattle.std.specs.List.{flat_map}
 use Rattle.sz_cells.specs.Runs.{indexes_of}
 use Rattle.sz_refresh.proofs.Outputs.{IsComputed}
-use Rattle.sz_refresh.proofs.output.values_after.Given as goal
+use Rattle.sz_refresh.proofs.output.values_in_turn.Given as goal
 
 abbrev pub invariant-loop-run : goal.invariant-loop-run
 invariant-loop-run l =

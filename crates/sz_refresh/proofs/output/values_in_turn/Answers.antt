@@ -9,7 +9,7 @@ use Rattle.sz_cells.specs.Extent.{Extent, size_of}
 use Rattle.sz_cells.proofs.Runs.{runs-at, spelled-more}
 use Rattle.sz_spec.specs.Values.{Grid}
 use Rattle.sz_refresh.proofs.Outputs.{IsComputed, computed-next, computed-all, room-left}
-use Rattle.sz_refresh.proofs.output.values_after.Goals as goal
+use Rattle.sz_refresh.proofs.output.values_in_turn.Goals as goal
 
 -- what stands where no run does
 abbrev zero : Run
