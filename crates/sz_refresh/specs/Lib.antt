@@ -1,0 +1,4 @@
+pub mod Laws
+pub mod Before
+pub mod Changes
+pub mod Outputs

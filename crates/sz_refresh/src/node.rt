@@ -1,0 +1,117 @@
+//! A node over arrays of which some cells were changed, given its run over them as they were.
+
+ghost use Rattle.std.specs.Prelude.{◌≡◌, ◌+◌, ◌<◌, ◌^◌, length, map, All, true, IfOk};
+ghost use Rattle.std.specs.Arc.{arc_value};
+ghost use Rattle.sz_cells.specs.Extent.{size_of};
+ghost use Rattle.sz_spec.specs.Values.{extents_of};
+ghost use Rattle.sz_spec.specs.LawsFlows.{IsRightNode};
+ghost use Rattle.sz_spec.specs.Affected.{affected_by};
+ghost use Rattle.sz_flow.specs.Executions.{execution, execution_of};
+ghost use Rattle.sz_flow.specs.Nodes.{inputs_among};
+ghost use Rattle.sz_refresh.specs.Changes.{changed_from, HaveShapes};
+ghost use Rattle.sz_refresh.specs.Outputs.{KeepsOthers};
+
+use crate::output::output_after;
+use crate::reached::affected_of;
+use std::alloc::Global;
+use std::sync::Arc;
+use std::thread::Threads;
+use sz_cells::{CellSet, NoMemory};
+use sz_flow::{NodeRun, inputs_of};
+use sz_spec::{Array, ArrayList, Node, Tally};
+
+/// The run of a node over the base arrays and the runs of the nodes before it, and its affected
+/// cells, given its run before some cells of a base array were changed.
+pub(crate) fn refresh_node<R: Threads + Sync>(
+    rt: &R,
+    alloc: Global,
+    node: &Node,
+    old: &NodeRun,
+    base: &[Arc<Array>],
+    earlier: &[NodeRun],
+    input: u32,
+    changed: &CellSet,
+    sets: &[CellSet],
+    count: &mut Tally,
+) -> Result<(NodeRun, CellSet), NoMemory>
+    requires right { IsRightNode (length base.now) (length earlier.now) node.now }
+    requires sets { length sets.now ≡ length earlier.now }
+    requires op { (arc_value old.now.at).op ≡ node.now.op }
+    requires ins { extents_of (inputs_among (map (λ a. arc_value a) base.now)
+        (map (λ r. arc_value r.out) earlier.now) node.now) ≡ (arc_value old.now.at).ins }
+    requires out { (arc_value old.now.out).extent ≡ (arc_value old.now.at).out }
+    requires shapes { HaveShapes input changed.now sets.now (arc_value old.now.at).ins
+        node.now.from }
+    requires others { KeepsOthers (arc_value old.now.at)
+        (inputs_among (map (λ a. arc_value a) base.now) (map (λ r. arc_value r.out) earlier.now)
+        node.now)
+        (arc_value old.now.out)
+        (affected_by node.now.op old.now.inputs
+        (inputs_among (map (λ a. arc_value a) base.now) (map (λ r. arc_value r.out) earlier.now)
+        node.now)
+        (map (changed_from input changed.now sets.now) node.now.from)) }
+    requires room { count.old + size_of (arc_value old.now.at).out < 2 ^ 63 }
+    ensures run { IfOk result (λ p. execution_of p.0 ≡ execution node.now.op
+        (inputs_among (map (λ a. arc_value a) base.now) (map (λ r. arc_value r.out) earlier.now)
+        node.now)) }
+    ensures cells { IfOk result (λ p. p.1 ≡ affected_by node.now.op old.now.inputs
+        (inputs_among (map (λ a. arc_value a) base.now) (map (λ r. arc_value r.out) earlier.now)
+        node.now)
+        (map (changed_from input changed.now sets.now) node.now.from)) }
+    ensures ticks { IfOk result (λ p. count.new ≡ count.old + length p.1.indexes) }
+{
+    old.at.out(); // its output has the shape that its rule gives
+    let inputs = inputs_of(alloc, node, base, earlier)?;
+    let cells = affected_of(
+        alloc,
+        &old.at,
+        old.inputs.as_slice(),
+        inputs.as_slice(),
+        node.from.as_slice(),
+        input,
+        changed,
+        sets,
+    )?;
+    let run = run_after(rt, alloc, old, inputs, &cells, count)?;
+    Ok((run, cells))
+}
+
+/// The run of a node's operator over new arrays, given its run over others of the same shapes that
+/// makes the same values but in some cells.
+fn run_after<R: Threads + Sync>(
+    rt: &R,
+    alloc: Global,
+    old: &NodeRun,
+    inputs: ArrayList,
+    cells: &CellSet,
+    count: &mut Tally,
+) -> Result<NodeRun, NoMemory>
+    requires ins { extents_of inputs ≡ (arc_value old.now.at).ins }
+    requires out { (arc_value old.now.out).extent ≡ (arc_value old.now.at).out }
+    requires cells { cells.now.extent ≡ (arc_value old.now.at).out }
+    requires others { KeepsOthers (arc_value old.now.at) inputs (arc_value old.now.out) cells.now }
+    requires room { count.old + size_of (arc_value old.now.at).out < 2 ^ 63 }
+    ensures run { IfOk result
+        (λ r. execution_of r ≡ execution (arc_value old.now.at).op inputs) }
+    ensures ticks { IfOk result (λ r. count.new ≡ count.old + length cells.now.indexes) }
+{
+    old.at.out(); // its output has the shape that its rule gives
+    let at = Arc::try_clone(&old.at)?;
+    let aid = sz_ops::prepare(alloc, &at, inputs.as_slice())?;
+    let out = output_after(
+        rt,
+        alloc,
+        &at,
+        inputs.as_slice(),
+        &aid,
+        &old.out,
+        cells,
+        count,
+    )?;
+    Ok(NodeRun {
+        at,
+        inputs,
+        aid: Arc::new(alloc, aid)?,
+        out,
+    })
+}
