@@ -4,5 +4,7 @@ pub mod Loads
 pub mod Makings
 pub mod Checkings
 pub mod Continuing
-pub mod Jobs
+pub mod Modes
 pub mod Exactly
+pub mod Statuses
+pub mod Numbers

@@ -54,9 +54,10 @@ pub record EndsOpened {X : Type 0} (T : Ghosts X) (s : Status) (limit : ℕ)
   pub found : Only (T.disk old) (T.may_leave old)
       → FindsAll T (state_of_log c kept) (Some at) left old new
 
-abbrev pub EndsRun : {X : Type 0} → Ghosts X → Status → ℕ → Option (List ℕ) → Option (List ℕ)
+-- one or the other
+abbrev pub EndsOnLog : {X : Type 0} → Ghosts X → Status → ℕ → Option (List ℕ) → Option (List ℕ)
     → X → X → Type 0
-EndsRun T s limit left rest old new =
+EndsOnLog T s limit left rest old new =
     EndsUnopened T s old new ⊎ EndsOpened T s limit left rest old new
 
 -- What the counts of faults tell of a status, those of reads, of says and of the disk: where the

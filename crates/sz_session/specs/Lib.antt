@@ -2,3 +2,4 @@
 pub mod Checking
 pub mod Statuses
 pub mod Continuing
+pub mod Modes

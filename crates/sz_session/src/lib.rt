@@ -60,6 +60,7 @@
 #![tactic(auto)]
 
 mod checking;
+pub mod endings;
 pub mod laws;
 mod load;
 mod making;

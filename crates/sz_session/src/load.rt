@@ -8,7 +8,7 @@ ghost use Rattle.sz_commands.specs.Transcript.{transcript};
 ghost use Rattle.sz_feed.specs.Moments.{moment_before};
 ghost use Rattle.sz_feed.specs.Serving.{lines_in, load_line};
 ghost use Rattle.sz_commands.specs.States.{nothing_held};
-ghost use Rattle.sz_session.specs.Statuses.{EndsLoad, AreCounted};
+ghost use Rattle.sz_session.specs.Statuses.{SaysSummary, AreCounted};
 ghost use Rattle.sz_feed.specs.Disks.{OnlySays};
 ghost use Rattle.sz_words.specs.Job.{IsInRange};
 
@@ -29,7 +29,7 @@ pub(crate) fn load<
     R: Threads + Wait + Clone + Send + Sync + 'static,
 >(rt: &R, alloc: Global, job: Job, station: &mut T, gate: &Arc<G>) -> Status
     requires { IsInRange job }
-    ensures ends { EndsLoad result (load_line job) (T.said station.old) (T.said station.new) }
+    ensures ends { SaysSummary result (load_line job) (T.said station.old) (T.said station.new) }
     ensures fault { AreCounted result 0 0 (T.say_faults station.old) (T.say_faults station.new) }
     ensures disk { OnlySays T.Station (load_line job) station.old station.new }
 {
