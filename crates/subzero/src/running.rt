@@ -20,8 +20,8 @@ use sz_session::{Status, serve};
 
 /// Runs the program over any source and any station, and gives the exit number; the line of the
 /// status is printed on standard error. The number is that of one status, by
-/// [`sz_session::endings::numbers_tell_statuses`], and all that `serve` owes by it, mode by mode, is
-/// owed here; so each law of [`sz_session::endings`] holds of a run of the program. 0 comes only
+/// [`sz_session::endings::numbers_tell_statuses`], and all that `serve` owes by it, mode by mode,
+/// is owed here; so each law of [`sz_session::endings`] holds of a run of the program. 0 comes only
 /// where the words ask for a mode, all was done that it says, and no fault was counted.
 pub(crate) fn run<
     S: Source,

@@ -17,9 +17,10 @@ use Rattle.sz_feed.specs.Making.{IsSilent, IsSpared}
 use Rattle.sz_session.specs.Statuses.{is_of_disk}
 use Rattle.sz_session.specs.Checking.{IsUnlike, IsBadLog, IfNoLog, IfBadLog}
 use Rattle.sz_session.specs.Continuing.{IsUnopened, EndsOnLog, AreCountedOn}
-use Rattle.sz_session.specs.Modes.{AsksFor, Serves, is_for, is_of_lines, is_opened, is_of_log}
+use Rattle.sz_session.specs.Modes.{AsksFor, Serves, is_for, is_of_lines, is_opened}
 use Rattle.sz_session.specs.declared.serving.Status.{Status}
 use Rattle.sz_session.specs.declared.serving.Status.TheVariants as status
+use Rattle.sz_words.specs.Job.{is_on_log}
 use Rattle.sz_words.specs.declared.Job.{Job}
 use Rattle.sz_words.specs.declared.JobMode.{JobMode}
 use Rattle.sz_words.specs.declared.JobMode.TheVariants as mode
@@ -190,15 +191,15 @@ refused-not_disk s (inr none) is = true≢false (sym is ∙ ap is_of_disk none)
 -- a status that comes of it comes in a mode of a log
 pub disk-log : {Y X : Type 0} (S : source.Ghosts Y) (T : Ghosts X) (o : Option Job) (s : Status)
     (before after : Y) (old new : X) → Serves S T o s before after old new → is_of_disk s ≡ true
-    → is_for is_of_log o ≡ true
+    → is_for is_on_log o ≡ true
 disk-log {Y} {X} S T o s before after old new serves is =
     by-mode S T o s before after old new _ serves
     (λ none refused same. absurd (refused-not_disk s refused is))
     (λ asked e. absurd (counted-not_disk s _ _ _ _ e.counted is))
     (λ asked line e. absurd (counted-not_disk s _ _ _ _ e.counted is))
-    (λ asked e. for-mode is_of_log o mode.Init asked)
-    (λ asked e. for-mode is_of_log o mode.Check asked)
-    (λ asked e. for-mode is_of_log o mode.Run asked)
+    (λ asked e. for-mode is_on_log o mode.Init asked)
+    (λ asked e. for-mode is_on_log o mode.Check asked)
+    (λ asked e. for-mode is_on_log o mode.Run asked)
 
 -- and then nothing was said, but where a session goes on
 pub log-silent : {Y X : Type 0} (S : source.Ghosts Y) (T : Ghosts X) (o : Option Job) (s : Status)
@@ -216,10 +217,10 @@ log-silent {Y} {X} S T o s before after old new serves other is =
 -- a mode that uses no log leaves it as it was
 pub disk-same : {Y X : Type 0} (S : source.Ghosts Y) (T : Ghosts X) (o : Option Job) (s : Status)
     (before after : Y) (old new : X) → FindsNow T old → CountsNow T old → Serves S T o s before after old new
-    → is_for is_of_log o ≡ false → DiskStays T old new
+    → is_for is_on_log o ≡ false → DiskStays T old new
 disk-same {Y} {X} S T o s before after old new only counts serves other =
-    let of_log = λ (m : JobMode) (asked : AsksFor m o) (is : is_of_log m ≡ true).
-    true≢false (sym is ∙ sym (for-mode is_of_log o m asked) ∙ other) in
+    let of_log = λ (m : JobMode) (asked : AsksFor m o) (is : is_on_log m ≡ true).
+    true≢false (sym is ∙ sym (for-mode is_on_log o m asked) ∙ other) in
     by-mode S T o s before after old new _ serves
     (λ none refused same. subst (λ (x : X). DiskStays T old x) (sym same)
     (disk-stays T _ old old (stays-still T [] old only counts)))

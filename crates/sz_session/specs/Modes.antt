@@ -52,15 +52,7 @@ is_opened Run = true
 is_opened Check = true
 is_opened Load = false
 
--- the modes that use the disk
-abbrev pub is_of_log : JobMode → Bool
-is_of_log Play = false
-is_of_log Init = true
-is_of_log Run = true
-is_of_log Check = true
-is_of_log Load = false
-
--- There is a job, and its mode passes a test.
+-- There is a job, and its mode passes a test, as these or `is_on_log` of `sz_words`.
 abbrev pub is_for : (JobMode → Bool) → Option Job → Bool
 is_for test job = option_map_or test (option_map mode_in job) false
 

@@ -2,9 +2,9 @@
 //! the records of `specs/Modes`, for each call. Each function does nothing, and its contract is the
 //! law.
 //!
-//! In each `job` is what the words of a call ask for, none where they are refused, and `s` the status
-//! that the call ended with; `before` and `after` are its source, and `old` and `new` its station,
-//! as it began and as it ended.
+//! In each `job` is what the words of a call ask for, none where they are refused, and `s` the
+//! status that the call ended with; `before` and `after` are its source, and `old` and `new` its
+//! station, as it began and as it ended.
 
 ghost use Rattle.std.specs.Prelude.{◌≡◌, ◌⊎◌, ◌^◌, ℕ, true, false, [], None};
 ghost use Rattle.sz_outside.specs.Outside.{Rose, Stood, Says, SaysPart};
@@ -21,7 +21,8 @@ ghost use Rattle.sz_session.specs.Checking.{StopsChecking, IsUnlike, IsBadLog, I
 ghost use Rattle.sz_session.specs.Checking.{IsWellMadeLog};
 ghost use Rattle.sz_session.specs.Continuing.{EndsOnLog};
 ghost use Rattle.sz_session.specs.Modes.{AsksFor, IfLoad, OfEachCall};
-ghost use Rattle.sz_session.specs.Modes.{is_for, is_of_lines, is_opened, is_of_log};
+ghost use Rattle.sz_session.specs.Modes.{is_for, is_of_lines, is_opened};
+ghost use Rattle.sz_words.specs.Job.{is_on_log};
 
 use crate::serving::Status;
 use sz_log::LogFault;
@@ -57,7 +58,7 @@ pub fn statuses_have_their_modes<S: Source, T: Station>()
     ensures input_limit { OfEachCall S.Source T.Station (λ job s before after old new.
         s ≡ Status.InputLimit → IsPastLimit (2 ^ 62) (S.left before)) }
     ensures disk_in_log { OfEachCall S.Source T.Station (λ job s before after old new.
-        is_of_disk s ≡ true → is_for is_of_log job ≡ true) }
+        is_of_disk s ≡ true → is_for is_on_log job ≡ true) }
     ensures already_in_init { OfEachCall S.Source T.Station (λ job s before after old new.
         s ≡ Status.AlreadyALog → AsksFor JobMode.Init job) }
     ensures silent { OfEachCall S.Source T.Station (λ job s before after old new.
@@ -67,7 +68,7 @@ pub fn statuses_have_their_modes<S: Source, T: Station>()
 /// In a mode that uses no log the disk is as before, whatever the status.
 pub fn the_disk_stays<S: Source, T: Station>()
     ensures disk { OfEachCall S.Source T.Station (λ job s before after old new.
-        is_for is_of_log job ≡ false → DiskStays T.Station old new) }
+        is_for is_on_log job ≡ false → DiskStays T.Station old new) }
 {}
 
 // ---- a session of no log

@@ -1,31 +1,34 @@
 //! A session: lines in, reply lines out.
 //!
-//! [`serve`] is the program's one call: it does what the words of the command line ask for. In mode
-//! play it reads a source to its end, and for each line that is not blank it says one reply line to
-//! a station, before it reads on. Where source and station tell
-//! their bytes, its clauses say what was said by each of its endings: all of the session's
-//! transcript (`done`), the replies of the whole lines that were read (`after_read_fault`,
-//! `after_input_limit`), a first part of the transcript (`after_say_fault`), or the first so many
-//! of its lines (`after_no_memory`). `quiet` says that a session is done only where no fault was
-//! counted, and `completes` that there is no other ending without one. Nothing depends on how many
-//! bytes a read gives, nor on how many workers there are or what they do. The disk of the station
-//! is as before, whatever the status (`disk`), and a stop at any moment of the call finds a first
-//! part of what is said (`found_in_play`, `found_in_load`).
+//! [`serve`] is the program's one call: it does what the words of the command line ask for. Words
+//! that are refused end with Usage, or where there was no memory for reading them, and nothing was
+//! touched (`refused`, `untouched`); a mode that reads no lines leaves the source as it was
+//! (`unread`); and each mode has one clause, a record of `specs/Modes` with a field for each fact:
+//! what was read and said by each status (`ends`), what the counts of faults tell (`counted`), and
+//! what a stop at any moment of the call finds (`found`).
 //!
-//! In mode init the disk is made the empty log, and one line says so (`made`, `ready`), or it stays
-//! as it is, since it is a log already or too long (`barred`); a stop at any moment leaves the old
-//! bytes, at most 17 bytes that are no log, or the empty log (`found_in_init`).
+//! - `play` reads a source to its end, and for each line that is not blank it says one reply line
+//!   to a station, before it reads on. Where source and station tell their bytes, what was said is
+//!   all of the session's transcript, the replies of the whole lines that were read, a first part
+//!   of the transcript, or the first so many of its lines, by each of its endings. Nothing depends
+//!   on how many bytes a read gives, nor on how many workers there are or what they do.
+//! - `load` says the one line that sums up the replies of a session that is made from a seed and a
+//!   side (`sz_gen`).
+//! - `init` makes the disk the empty log, and one line says so, or the disk stays as it is, since
+//!   it is a log already or too long.
+//! - `check` opens the log on the disk and compares its stores with what the operators relate, and
+//!   one line says what was found (`specs/Checking`). A disk that does not begin as a log, and a
+//!   log with a bad group, have statuses of their own.
+//! - `run` opens the log, and the session goes on from it (`specs/Continuing`): what is said is the
+//!   transcript from what the log holds, and a stop at any moment finds the replies of so many
+//!   lines said, and perhaps a part of the next one, and leaves a well-made log of what is durable
+//!   behind those lines, or behind one more.
 //!
-//! In mode check the log on the disk is opened and its stores are compared with what the operators
-//! relate, and one line says what was found (`checked`, `specs/Checking`). A disk that does not
-//! begin as a log, and a log with a bad group, have statuses of their own (`no_log`, `unlike`,
-//! `bad_log`), and the disk is as before (`found_in_check`).
-//!
-//! In mode load the lines are those of a session that is made from a seed and a side (`sz_gen`),
-//! and what is said is the one line that sums up their replies (`load`); `load_after_say_fault` and
-//! `load_after_no_memory` say what was said of it by the other endings. Words that ask for no mode
-//! that there is end with Usage, or where there was no memory for reading them (`usage`,
-//! `refused`), and then nothing was touched.
+//! What follows of these clauses are the laws of [`endings`]: what was said by each status (`done`,
+//! `after_say_fault`, `ready`, `checked`, ..), that a call is done only where no fault was counted
+//! (`quiet`), that there is no other ending without one (`completes`, `init_completes`,
+//! `check_completes`, `run_completes`), which statuses come where and nowhere else (`unlike`,
+//! `broken`, `barred`, ..), and that each exit number is that of one status.
 //!
 //! ```text
 //! {"array":"a","cells":[[5]]}                                         1 array a 1
@@ -41,12 +44,6 @@
 //! ends and asks versions. `staff` is the threads. `docs/FORMATS.md` describes lines and replies,
 //! `docs/DEFINITIONS.md` reads the definitions aloud.
 //!
-//! In mode run the log of the station is opened, and the session goes on from it (`run`): what is
-//! said is the transcript from what the log holds, and a stop at any moment finds the replies of so
-//! many lines said, and perhaps a part of the next one, and leaves a well-made log of what is
-//! durable behind those lines, or behind one more. In mode check the log is opened, and one line
-//! says whether each of its stores stands for the relation (`checked`).
-//!
 //! Contracts see a session as a `State`: its catalogue, and beside it the stores that a log gave;
 //! of a session of no log the catalogue says all ([`laws::sessions_of_no_log_are_plain`]). What is
 //! written to a log, and what a stop leaves of it, `specs/Logged` of `sz_commands` says of one
@@ -56,7 +53,8 @@
 //! To whoever changes this crate: `serving` carries from turn to turn that every whole line so far
 //! has its reply said (`Answered` of `sz_feed`), and the one function that reads asks for it.
 //! `specs/Statuses` says what each status tells of what was read and said, `specs/Checking` what a
-//! check tells.
+//! check tells, and `specs/Modes` puts these together, mode by mode. `proofs/Modes` goes through
+//! the modes once (`by-mode`), and each law that speaks of a status in any of them goes by it.
 #![tactic(auto)]
 
 mod checking;

@@ -1,5 +1,5 @@
 -- What the command line gives is what the words ask for; where it gives none, nothing was done.
-use Rattle.std.proofs.Common.{◌≡◌, List, Ok, Err, None, refl, sym, ap, ◌∙◌, subst, inr}
+use Rattle.std.proofs.Common.{◌≡◌, List, Ok, None, refl, sym, ap, ◌∙◌, subst, inr}
 use Rattle.std.specs.Prelude.{Option, Result, map, string_bytes}
 use Rattle.std.specs.declared.alloc.Global.{Global}
 use Rattle.std.specs.declared.string.String.{String}
