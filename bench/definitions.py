@@ -7,7 +7,7 @@
     python3 bench/definitions.py --check    fails where the page has another one
 
 It follows the imports of specs/ files from those that the headline is read by: the transcript of a session of no log,
-by the law that says what the one of the clause `done` of sz_session::serve is, and the job and the summary line. Lines
+by the law that says what the one of the law `done` of sz_session::endings is, and the job and the summary line. Lines
 of comments, imports and blank lines do not count.
 """
 import pathlib
@@ -17,9 +17,9 @@ import sys
 ROOT = pathlib.Path(__file__).resolve().parent.parent
 PAGE = ROOT / "docs" / "DEFINITIONS.md"
 WIDTH = 120
-ALL = ["sz_session/specs/Serving"]
+ALL = ["sz_session/specs/Modes"]
 PLAIN = [
-    "sz_session/specs/Plain",
+    "sz_feed/specs/Plain",
     "sz_outside/specs/Outside",
     "sz_words/specs/Job",
     "sz_gen/specs/Session",

@@ -1,3 +1,2 @@
--- The lemmas of the program, and its worked rows.
-pub mod Numbers
+-- The worked rows of the program.
 mod Rows

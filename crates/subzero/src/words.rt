@@ -1,6 +1,6 @@
 //! The words of the command line, behind the program's name.
 
-ghost use Rattle.std.specs.Prelude.{◌≡◌, ◌≢◌, IfOk};
+ghost use Rattle.std.specs.Prelude.{◌≡◌, ◌≢◌, ◌⊎◌, IfOk};
 ghost use Rattle.std.specs.IoError.{error_kind};
 ghost use Rattle.subzero.specs.Words.{words_in};
 
@@ -26,6 +26,7 @@ pub(crate) fn words_of(alloc: Global, args: Args) -> Result<Vec<String>, AllocEr
 pub(crate) fn status_of_fault(fault: &io::Error) -> Status
     ensures memory { error_kind fault.now ≡ ErrorKind.OutOfMemory → result ≡ Status.NoMemory }
     ensures usage { error_kind fault.now ≢ ErrorKind.OutOfMemory → result ≡ Status.Usage }
+    ensures either { (result ≡ Status.Usage) ⊎ (result ≡ Status.NoMemory) }
 {
     if fault.kind() == ErrorKind::OutOfMemory {
         Status::NoMemory

@@ -9,23 +9,24 @@ use Rattle.sz_outside.specs.Disk.{Same, Said}
 use Rattle.sz_outside.specs.declared.stations.Station.{Ghosts}
 use Rattle.sz_catalogue.specs.Holdings.{Holdings}
 use Rattle.sz_recover.specs.Logs.{Kept, IsMade, IsBroken, IsNoLog}
-use Rattle.sz_session.specs.Making.{IsSilent}
-use Rattle.sz_session.specs.Disks.{StopsFinding, OnlySays}
+use Rattle.sz_feed.specs.Making.{IsSilent}
+use Rattle.sz_feed.specs.Disks.{OnlySays}
+use Rattle.sz_commands.specs.Stops.{StopsFinding}
 use Rattle.sz_session.specs.Checking.{IsLineOf, IfNoLog, BeginsAsLog, StopsChecking}
-use Rattle.sz_session.specs.Statuses.{is_of_disk, EndsCheck}
+use Rattle.sz_session.specs.Statuses.{is_of_disk, ChecksLog}
 use Rattle.sz_session.specs.declared.serving.Status.{Status}
 use Rattle.sz_session.specs.declared.serving.Status.TheVariants as status
-use Rattle.sz_session.proofs.Disks.{stops-both, stops-silent}
+use Rattle.sz_feed.proofs.Disks.{stops-both, stops-silent}
 
 -- ---- what a status tells
 
 -- where the check ended with it
-pub check-ends_with : {X : Type 0} (T : Ghosts X) (s t : Status) (a b : X) → EndsCheck T s a b → s ≡ t
-    → EndsCheck T t a b
-check-ends_with {X} T s t a b ends is = subst (λ (x : Status). EndsCheck T x a b) is ends
+pub check-ends_with : {X : Type 0} (T : Ghosts X) (s t : Status) (a b : X) → ChecksLog T s a b → s ≡ t
+    → ChecksLog T t a b
+check-ends_with {X} T s t a b ends is = subst (λ (x : Status). ChecksLog T x a b) is ends
 
 -- of the disk alone
-pub check-silent : {X : Type 0} (T : Ghosts X) (s : Status) (a b : X) → EndsCheck T s a b → is_of_disk s ≡ true
+pub check-silent : {X : Type 0} (T : Ghosts X) (s : Status) (a b : X) → ChecksLog T s a b → is_of_disk s ≡ true
     → IsSilent T a b
 check-silent {X} T status.Done a b ends is = absurd (true≢false (sym is))
 check-silent {X} T status.Usage a b ends is = absurd ends
@@ -63,7 +64,7 @@ no_log-each (Some disk) Claim is = λ other. is
 no_log-line : (o : Option (List ℕ)) (line : List ℕ) (Claim : Type 0) → IsLineOf o line → IfNoLog o Claim
 no_log-line o line Claim is = no_log-made o is.at is.c is.kept Claim is.made
 
-pub check-unlike : {X : Type 0} (T : Ghosts X) (s : Status) (a b : X) → EndsCheck T s a b
+pub check-unlike : {X : Type 0} (T : Ghosts X) (s : Status) (a b : X) → ChecksLog T s a b
     → IfNoLog (T.disk a) (StopsUnlike s)
 check-unlike {X} T status.Done a b ends = no_log-line (T.disk a) ends.0.0 _ ends.0.1
 check-unlike {X} T status.Usage a b ends = absurd ends
@@ -76,10 +77,6 @@ check-unlike {X} T (status.BadLog at) a b ends = no_log-broken (T.disk a) at _ e
 check-unlike {X} T status.NoMemory a b ends = no_log-each (T.disk a) _ (inr (inr refl))
 check-unlike {X} T status.InputLimit a b ends = absurd ends
 
--- no words, no job, and so no memory
-pub unlike-no_memory : (o : Option (List ℕ)) (s : Status) → s ≡ status.NoMemory → IfNoLog o (StopsUnlike s)
-unlike-no_memory o s is = no_log-each o _ (inr (inr is))
-
 -- ---- a disk that begins as a log
 
 -- the statuses by which the check of such a one ends where no count rose
@@ -90,7 +87,7 @@ begun-log : (o : Option (List ℕ)) → BeginsAsLog o → IsNoLog o → ⊥
 begun-log None begun other = begun
 begun-log (Some disk) begun other = true≢false (sym begun ∙ other)
 
-pub check-tells : {X : Type 0} (T : Ghosts X) (s : Status) (a b : X) → EndsCheck T s a b
+pub check-tells : {X : Type 0} (T : Ghosts X) (s : Status) (a b : X) → ChecksLog T s a b
     → BeginsAsLog (T.disk a) → (Rose (T.disk_faults a) (T.disk_faults b) → ⊥)
     → (Rose (T.say_faults a) (T.say_faults b) → ⊥) → StopsBegun s
 check-tells {X} T status.Done a b ends begun no_disk no_say = inl refl

@@ -3,7 +3,7 @@
 -- The key idea: that a disk does not begin as a log, that its first bad group stands at a place, and that it is a
 -- well-made log, are told by its bytes, and exclude each other; nor does the first bad group stand at two places. So
 -- each has statuses of its own, but for those of a call that failed and of want of memory.
-use Rattle.std.proofs.Common.{◌≡◌, ℕ, ◌<◌, ◌≤◌, length, List, true, Some, None, refl, sym, ap, ◌∙◌, subst, inl, inr}
+use Rattle.std.proofs.Common.{◌≡◌, ℕ, List, Some, None, refl, sym, ap, ◌∙◌, subst, inl, inr}
 use Rattle.std.proofs.Common.{arith, true≢false}
 use Rattle.std.specs.Prelude.{Option, ◌⊎◌}
 use Rattle.sz_outside.specs.Outside.{Rose}
@@ -11,20 +11,18 @@ use Rattle.sz_outside.specs.declared.stations.Station.{Ghosts}
 use Rattle.sz_catalogue.specs.Holdings.{Holdings}
 use Rattle.sz_recover.specs.Logs.{Kept, IsMade, IsNoLog, IsBroken}
 use Rattle.sz_recover.specs.OneReading.{WellMadeLogsAreNotBad, LogsAreFirstBadAtOnePlace}
-use Rattle.sz_session.specs.Serving.{is_check, is_run, is_opened, IsPastLimit, IsWithinLimit}
-use Rattle.sz_session.specs.States.{State}
-use Rattle.sz_session.specs.Running.{state_of_log}
-use Rattle.sz_session.specs.Continuing.{IsUnopened, EndsRun, AreCountedOn}
+use Rattle.sz_feed.specs.Serving.{IsPastLimit, IsWithinLimit}
+use Rattle.sz_commands.specs.States.{State}
+use Rattle.sz_feed.specs.Running.{state_of_log}
+use Rattle.sz_session.specs.Continuing.{IsUnopened, EndsOnLog, AreCountedOn}
 use Rattle.sz_session.specs.Checking.{IsLineOf, IsUnlike, IfNoLog, IfBadLog, IsWellMadeLog}
-use Rattle.sz_session.specs.Statuses.{EndsCheck, EndsLines}
+use Rattle.sz_session.specs.Statuses.{ChecksLog, EndsLines}
 use Rattle.sz_session.specs.declared.serving.Status.{Status}
 use Rattle.sz_session.specs.declared.serving.Status.TheVariants as status
-use Rattle.sz_words.specs.declared.JobMode.{JobMode}
-use Rattle.sz_words.specs.declared.JobMode.TheVariants as mode
 use Rattle.sz_session.proofs.Ends.{limit-passed}
-use Rattle.sz_session.proofs.Checkings.{StopsUnlike, check-ends_with, check-unlike}
+use Rattle.sz_session.proofs.Checkings.{StopsUnlike}
 use Rattle.sz_session.proofs.Checkings.{no_log-made, no_log-broken, no_log-each}
-use Rattle.sz_session.proofs.Jobs.{on-with, lines-with}
+use Rattle.sz_session.proofs.Modes.{on-with, lines-with}
 
 -- ---- a well-made log
 
@@ -71,46 +69,14 @@ broken-each : (o : Option (List ℕ)) (Claim : ℕ → Type 0) → ((at : ℕ) �
 broken-each None Claim is = tt
 broken-each (Some disk) Claim is = λ place bad. is place
 
--- no words, no job, and so no memory
-pub broken-no_memory : (o : Option (List ℕ)) (s : Status) → s ≡ status.NoMemory
-    → IfBadLog o (λ at. StopsBroken s at)
-broken-no_memory o s is = broken-each o (λ at. StopsBroken s at) (λ at. inr (inr is))
-
--- ---- how a mode that opens a log ended
-
--- mode run, and what was counted in it, or mode check
-abbrev pub EndsOpening : {X : Type 0} → Ghosts X → Status → ℕ → Option (List ℕ) → Option (List ℕ) → ℕ → ℕ → X → X
-    → Type 0
-EndsOpening T s limit left rest r r' old new =
-    (EndsRun T s limit left rest old new × AreCountedOn T s r r' old new) ⊎ EndsCheck T s old new
-
--- no other mode opens one
-pub ends-opening : {X : Type 0} (T : Ghosts X) (m : JobMode) (s : Status) (limit : ℕ) (left rest : Option (List ℕ))
-    (r r' : ℕ) (x y : X) → (is_check m ≡ true → EndsCheck T s x y)
-    → (is_run m ≡ true → EndsRun T s limit left rest x y) → (is_run m ≡ true → AreCountedOn T s r r' x y)
-    → is_opened m ≡ true → EndsOpening T s limit left rest r r' x y
-ends-opening {X} T mode.Play s limit left rest r r' x y check run counted asked = absurd (true≢false (sym asked))
-ends-opening {X} T mode.Init s limit left rest r r' x y check run counted asked = absurd (true≢false (sym asked))
-ends-opening {X} T mode.Run s limit left rest r r' x y check run counted asked = inl (run refl, counted refl)
-ends-opening {X} T mode.Check s limit left rest r r' x y check run counted asked = inr (check refl)
-ends-opening {X} T mode.Load s limit left rest r r' x y check run counted asked = absurd (true≢false (sym asked))
-
 -- ---- a disk that does not begin as a log
 
-run-no_log : {X : Type 0} (T : Ghosts X) (s : Status) (limit : ℕ) (left rest : Option (List ℕ)) (r r' : ℕ) (x y : X)
-    → EndsRun T s limit left rest x y → AreCountedOn T s r r' x y → s ≡ status.NotALog → IsUnlike T x y
+pub run-no_log : {X : Type 0} (T : Ghosts X) (s : Status) (limit : ℕ) (left rest : Option (List ℕ)) (r r' : ℕ) (x y : X)
+    → EndsOnLog T s limit left rest x y → AreCountedOn T s r r' x y → s ≡ status.NotALog → IsUnlike T x y
 run-no_log {X} T s limit left rest r r' x y (inl none) counted is =
     (subst (IsUnopened (T.disk x)) is none.why, on-with T s status.NotALog r r' x y counted is)
 run-no_log {X} T s limit left rest r r' x y (inr one) counted is =
     absurd (lines-with (state_of_log one.c one.kept) s status.NotALog limit left rest (T.said x) (T.said y) one.ends is)
-
--- the status that tells it comes of such a one alone
-pub opening-no_log : {X : Type 0} (T : Ghosts X) (s : Status) (limit : ℕ) (left rest : Option (List ℕ)) (r r' : ℕ)
-    (x y : X) → EndsOpening T s limit left rest r r' x y → s ≡ status.NotALog → IsUnlike T x y
-opening-no_log {X} T s limit left rest r r' x y (inl run) is =
-    run-no_log T s limit left rest r r' x y run.0 run.1 is
-opening-no_log {X} T s limit left rest r r' x y (inr check) is =
-    (check-ends_with T s status.NotALog x y check is).1
 
 unopened-unlike : (o : Option (List ℕ)) (s : Status) → IsUnopened o s → IfNoLog o (StopsUnlike s)
 unopened-unlike o status.Done why = absurd why
@@ -124,16 +90,10 @@ unopened-unlike o (status.BadLog at) why = no_log-broken o at _ why
 unopened-unlike o status.NoMemory why = no_log-each o _ (inr (inr refl))
 unopened-unlike o status.InputLimit why = absurd why
 
-run-unlike : {X : Type 0} (T : Ghosts X) (s : Status) (limit : ℕ) (left rest : Option (List ℕ)) (x y : X)
-    → EndsRun T s limit left rest x y → IfNoLog (T.disk x) (StopsUnlike s)
+pub run-unlike : {X : Type 0} (T : Ghosts X) (s : Status) (limit : ℕ) (left rest : Option (List ℕ)) (x y : X)
+    → EndsOnLog T s limit left rest x y → IfNoLog (T.disk x) (StopsUnlike s)
 run-unlike {X} T s limit left rest x y (inl none) = unopened-unlike (T.disk x) s none.why
 run-unlike {X} T s limit left rest x y (inr one) = no_log-made (T.disk x) one.at one.c one.kept _ one.made
-
--- such a one has that status
-pub opening-unlike : {X : Type 0} (T : Ghosts X) (s : Status) (limit : ℕ) (left rest : Option (List ℕ)) (r r' : ℕ)
-    (x y : X) → EndsOpening T s limit left rest r r' x y → IfNoLog (T.disk x) (StopsUnlike s)
-opening-unlike {X} T s limit left rest r r' x y (inl run) = run-unlike T s limit left rest x y run.0
-opening-unlike {X} T s limit left rest r r' x y (inr check) = check-unlike T s x y check
 
 -- ---- a log that is bad at a place has the status of that place
 
@@ -150,15 +110,15 @@ unopened-broken one o (status.BadLog at) why = broken-there one o at why
 unopened-broken one o status.NoMemory why = broken-each o _ (λ at. inr (inr refl))
 unopened-broken one o status.InputLimit why = absurd why
 
-run-broken : WellMadeLogsAreNotBad → LogsAreFirstBadAtOnePlace → {X : Type 0} (T : Ghosts X) (s : Status) (limit : ℕ)
-    (left rest : Option (List ℕ)) (x y : X) → EndsRun T s limit left rest x y
+pub run-broken : WellMadeLogsAreNotBad → LogsAreFirstBadAtOnePlace → {X : Type 0} (T : Ghosts X) (s : Status) (limit : ℕ)
+    (left rest : Option (List ℕ)) (x y : X) → EndsOnLog T s limit left rest x y
     → IfBadLog (T.disk x) (λ at. StopsBroken s at)
 run-broken whole place {X} T s limit left rest x y (inl none) = unopened-broken place (T.disk x) s none.why
 run-broken whole place {X} T s limit left rest x y (inr one) =
     broken-made whole (T.disk x) one.at one.c one.kept (λ at. StopsBroken s at) one.made
 
-check-broken : WellMadeLogsAreNotBad → LogsAreFirstBadAtOnePlace → {X : Type 0} (T : Ghosts X) (s : Status) (x y : X)
-    → EndsCheck T s x y → IfBadLog (T.disk x) (λ at. StopsBroken s at)
+pub check-broken : WellMadeLogsAreNotBad → LogsAreFirstBadAtOnePlace → {X : Type 0} (T : Ghosts X) (s : Status) (x y : X)
+    → ChecksLog T s x y → IfBadLog (T.disk x) (λ at. StopsBroken s at)
 check-broken whole place {X} T status.Done x y ends = broken-line whole (T.disk x) ends.0.0 _ ends.0.1
 check-broken whole place {X} T status.Usage x y ends = absurd ends
 check-broken whole place {X} T status.ReadFault x y ends = absurd ends
@@ -170,17 +130,10 @@ check-broken whole place {X} T (status.BadLog at) x y ends = broken-there place 
 check-broken whole place {X} T status.NoMemory x y ends = broken-each (T.disk x) _ (λ at. inr (inr refl))
 check-broken whole place {X} T status.InputLimit x y ends = absurd ends
 
-pub opening-broken : WellMadeLogsAreNotBad → LogsAreFirstBadAtOnePlace → {X : Type 0} (T : Ghosts X) (s : Status)
-    (limit : ℕ) (left rest : Option (List ℕ)) (r r' : ℕ) (x y : X) → EndsOpening T s limit left rest r r' x y
-    → IfBadLog (T.disk x) (λ at. StopsBroken s at)
-opening-broken whole place {X} T s limit left rest r r' x y (inl run) =
-    run-broken whole place T s limit left rest x y run.0
-opening-broken whole place {X} T s limit left rest r r' x y (inr check) = check-broken whole place T s x y check
-
 -- ---- a well-made log, where no count rose
 
 -- its check is done
-pub check-completes : WellMadeLogsAreNotBad → {X : Type 0} (T : Ghosts X) (s : Status) (x y : X) → EndsCheck T s x y
+pub check-completes : WellMadeLogsAreNotBad → {X : Type 0} (T : Ghosts X) (s : Status) (x y : X) → ChecksLog T s x y
     → IsWellMadeLog (T.disk x) → (Rose (T.disk_faults x) (T.disk_faults y) → ⊥)
     → (Rose (T.say_faults x) (T.say_faults y) → ⊥) → (s ≡ status.Done) ⊎ (s ≡ status.NoMemory)
 check-completes whole {X} T status.Done x y ends made no_disk no_say = inl refl
@@ -244,7 +197,7 @@ opened-completes {X} T z status.InputLimit limit left rest r r' x y ends counted
     absurd (within-past limit left within (limit-passed z limit left rest (T.said x) (T.said y) ends))
 
 pub run-completes : WellMadeLogsAreNotBad → {X : Type 0} (T : Ghosts X) (s : Status) (limit : ℕ)
-    (left rest : Option (List ℕ)) (r r' : ℕ) (x y : X) → EndsRun T s limit left rest x y
+    (left rest : Option (List ℕ)) (r r' : ℕ) (x y : X) → EndsOnLog T s limit left rest x y
     → AreCountedOn T s r r' x y → IsWellMadeLog (T.disk x) → IsWithinLimit limit left → (Rose r r' → ⊥)
     → (Rose (T.say_faults x) (T.say_faults y) → ⊥) → (Rose (T.disk_faults x) (T.disk_faults y) → ⊥)
     → (s ≡ status.Done) ⊎ (s ≡ status.NoMemory)

@@ -6,14 +6,15 @@ use Rattle.std.proofs.Common.{◌≡◌, ℕ, List, [], ◌++◌, Some, refl, sy
 use Rattle.std.specs.Prelude.{Option, ◌⊎◌}
 use Rattle.std.proofs.lemmas.Option.{same_Some}
 use Rattle.sz_outside.specs.Outside.{Says, Rose}
-use Rattle.sz_session.specs.Transcript.{transcript}
-use Rattle.sz_session.specs.Moments.{Moment, moment_before, told_in, moment_after, told_at_end}
-use Rattle.sz_session.specs.Serving.{nothing_held, Advances}
-use Rattle.sz_session.specs.Statuses.{EndsLoad, AreCounted}
+use Rattle.sz_commands.specs.Transcript.{transcript}
+use Rattle.sz_feed.specs.Moments.{Moment, moment_before, told_in, moment_after, told_at_end}
+use Rattle.sz_feed.specs.Serving.{Advances}
+use Rattle.sz_commands.specs.States.{nothing_held}
+use Rattle.sz_session.specs.Statuses.{SaysSummary, AreCounted}
 use Rattle.sz_session.specs.declared.serving.Status.{Status}
 use Rattle.sz_session.specs.declared.serving.Status.TheVariants as status
-use Rattle.sz_session.proofs.Moments.{transcript-told, told_at_end-alike}
-use Rattle.sz_session.proofs.Turns.{says-then}
+use Rattle.sz_feed.proofs.Moments.{transcript-told, told_at_end-alike}
+use Rattle.sz_feed.proofs.Turns.{says-then}
 
 -- before the first byte
 abbrev start : Moment
@@ -37,13 +38,13 @@ said-behind_nothing old new told none says = same_Some _ _ says ∙ ap (λ (xs :
 -- ---- statuses
 
 -- what a status tells, where the session ended with it
-pub load-ends_with : (s t : Status) (line : List ℕ) (a b : Option (List ℕ)) → EndsLoad s line a b → s ≡ t
-    → EndsLoad t line a b
-load-ends_with s t line a b h is = subst (λ (x : Status). EndsLoad x line a b) is h
+pub load-ends_with : (s t : Status) (line : List ℕ) (a b : Option (List ℕ)) → SaysSummary s line a b → s ≡ t
+    → SaysSummary t line a b
+load-ends_with s t line a b h is = subst (λ (x : Status). SaysSummary x line a b) is h
 
 -- with no fault counted it is done unless memory was refused
 pub load-completes : (s : Status) (line : List ℕ) (a b : Option (List ℕ)) (q q' : ℕ)
-    → EndsLoad s line a b → AreCounted s 0 0 q q' → (Rose q q' → ⊥) → (s ≡ status.Done) ⊎ (s ≡ status.NoMemory)
+    → SaysSummary s line a b → AreCounted s 0 0 q q' → (Rose q q' → ⊥) → (s ≡ status.Done) ⊎ (s ≡ status.NoMemory)
 load-completes status.Done line a b q q' ends fault no_say = inl refl
 load-completes status.Usage line a b q q' ends fault no_say = absurd ends
 load-completes status.ReadFault line a b q q' ends fault no_say = absurd ends

@@ -9,26 +9,26 @@ use Rattle.sz_outside.specs.Outside.{Rose}
 use Rattle.sz_outside.specs.declared.stations.Station.{Ghosts}
 use Rattle.sz_log.specs.declared.LogFault.{LogFault}
 use Rattle.sz_log.specs.declared.LogFault.TheVariants as log
-use Rattle.sz_session.specs.Making.{HasBar, IsFree, IfBarred, HasMade, IsSilent}
-use Rattle.sz_session.specs.Statuses.{log_status, is_of_disk, EndsInit, AreCounted}
+use Rattle.sz_feed.specs.Making.{HasBar, IsFree, IfBarred, HasMade, IsSilent}
+use Rattle.sz_session.specs.Statuses.{log_status, is_of_disk, MakesLog, AreCounted}
 use Rattle.sz_session.specs.declared.serving.Status.{Status}
 use Rattle.sz_session.specs.declared.serving.Status.TheVariants as status
 
 -- ---- what a status tells
 
 -- where the making ended with it
-pub init-ends_with : {X : Type 0} (T : Ghosts X) (s t : Status) (a b : X) → EndsInit T s a b → s ≡ t
-    → EndsInit T t a b
-init-ends_with {X} T s t a b ends is = subst (λ (x : Status). EndsInit T x a b) is ends
+pub init-ends_with : {X : Type 0} (T : Ghosts X) (s t : Status) (a b : X) → MakesLog T s a b → s ≡ t
+    → MakesLog T t a b
+init-ends_with {X} T s t a b ends is = subst (λ (x : Status). MakesLog T x a b) is ends
 
 -- the log was made, whether its line was said or not
-pub init-made : {X : Type 0} (T : Ghosts X) (s : Status) (a b : X) → EndsInit T s a b
+pub init-made : {X : Type 0} (T : Ghosts X) (s : Status) (a b : X) → MakesLog T s a b
     → (s ≡ status.Done) ⊎ (s ≡ status.SayFault) → HasMade T a b
 init-made {X} T s a b ends (inl is) = (init-ends_with T s status.Done a b ends is).0
 init-made {X} T s a b ends (inr is) = (init-ends_with T s status.SayFault a b ends is).0
 
 -- of the disk alone
-pub init-silent : {X : Type 0} (T : Ghosts X) (s : Status) (a b : X) → EndsInit T s a b → is_of_disk s ≡ true
+pub init-silent : {X : Type 0} (T : Ghosts X) (s : Status) (a b : X) → MakesLog T s a b → is_of_disk s ≡ true
     → IsSilent T a b
 init-silent {X} T status.Done a b ends is = absurd (true≢false (sym is))
 init-silent {X} T status.Usage a b ends is = absurd ends
@@ -38,7 +38,7 @@ init-silent {X} T status.DiskFault a b ends is = ends.0
 init-silent {X} T status.NotALog a b ends is = ends.0
 init-silent {X} T status.AlreadyALog a b ends is = ends.0
 init-silent {X} T (status.BadLog at) a b ends is = absurd ends
-init-silent {X} T status.NoMemory a b ends is = absurd ends
+init-silent {X} T status.NoMemory a b ends is = absurd (true≢false (sym is))
 init-silent {X} T status.InputLimit a b ends is = absurd ends
 
 -- which comes in no session of lines
@@ -79,7 +79,7 @@ free-no_bar (Some disk) f free bar = cc
 abbrev pub StopsAt : Status → LogFault → Type 0
 StopsAt s bar = (s ≡ log_status bar) ⊎ ((s ≡ status.DiskFault) ⊎ (s ≡ status.NoMemory))
 
-pub init-barred : {X : Type 0} (T : Ghosts X) (s : Status) (a b : X) → EndsInit T s a b
+pub init-barred : {X : Type 0} (T : Ghosts X) (s : Status) (a b : X) → MakesLog T s a b
     → IfBarred (T.disk a) (λ bar. StopsAt s bar)
 init-barred {X} T status.Done a b ends = free-none (T.disk a) _ ends.0.free
 init-barred {X} T status.Usage a b ends = absurd ends
@@ -91,16 +91,11 @@ init-barred {X} T status.NotALog a b ends =
 init-barred {X} T status.AlreadyALog a b ends =
     bar-this (T.disk a) log.AlreadyALog (λ bar. StopsAt status.AlreadyALog bar) ends.1.bar (inl refl)
 init-barred {X} T (status.BadLog at) a b ends = absurd ends
-init-barred {X} T status.NoMemory a b ends = absurd ends
+init-barred {X} T status.NoMemory a b ends = bar-each (T.disk a) _ (λ bar. inr (inr refl))
 init-barred {X} T status.InputLimit a b ends = absurd ends
 
--- no words, no job, and so no memory
-pub barred-no_memory : (o : Option (List ℕ)) (s : Status) → s ≡ status.NoMemory
-    → IfBarred o (λ bar. StopsAt s bar)
-barred-no_memory o s is = bar-each o _ (λ bar. inr (inr is))
-
 -- a disk that is free is made a log, where no count rose
-pub init-completes : {X : Type 0} (T : Ghosts X) (s : Status) (a b : X) → EndsInit T s a b → IsFree (T.disk a)
+pub init-completes : {X : Type 0} (T : Ghosts X) (s : Status) (a b : X) → MakesLog T s a b → IsFree (T.disk a)
     → (Rose (T.disk_faults a) (T.disk_faults b) → ⊥) → (Rose (T.say_faults a) (T.say_faults b) → ⊥)
     → (s ≡ status.Done) ⊎ (s ≡ status.NoMemory)
 init-completes {X} T status.Done a b ends free no_disk no_say = inl refl
@@ -113,5 +108,5 @@ init-completes {X} T status.NotALog a b ends free no_disk no_say =
 init-completes {X} T status.AlreadyALog a b ends free no_disk no_say =
     absurd (free-no_bar (T.disk a) log.AlreadyALog free ends.1.bar)
 init-completes {X} T (status.BadLog at) a b ends free no_disk no_say = absurd ends
-init-completes {X} T status.NoMemory a b ends free no_disk no_say = absurd ends
+init-completes {X} T status.NoMemory a b ends free no_disk no_say = inr refl
 init-completes {X} T status.InputLimit a b ends free no_disk no_say = absurd ends

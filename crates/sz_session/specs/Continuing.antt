@@ -10,9 +10,9 @@ use Rattle.sz_outside.specs.Disk.{Only, Same, Said}
 use Rattle.sz_outside.specs.declared.stations.Station.{Ghosts}
 use Rattle.sz_catalogue.specs.Holdings.{Holdings}
 use Rattle.sz_recover.specs.Logs.{Kept, IsMade, IsNoLog, IsBroken}
-use Rattle.sz_session.specs.Making.{IsSilent}
-use Rattle.sz_session.specs.Disks.{StopsFinding}
-use Rattle.sz_session.specs.Running.{FindsAll, StandsBehind, state_of_log}
+use Rattle.sz_feed.specs.Making.{IsSilent}
+use Rattle.sz_commands.specs.Stops.{StopsFinding}
+use Rattle.sz_feed.specs.Running.{FindsAll, StandsBehind, state_of_log}
 use Rattle.sz_session.specs.Statuses.{EndsLines}
 use Rattle.sz_session.specs.declared.serving.Status.{Status}
 use Rattle.sz_session.specs.declared.serving.Status.TheVariants as status
@@ -54,9 +54,10 @@ pub record EndsOpened {X : Type 0} (T : Ghosts X) (s : Status) (limit : ℕ)
   pub found : Only (T.disk old) (T.may_leave old)
       → FindsAll T (state_of_log c kept) (Some at) left old new
 
-abbrev pub EndsRun : {X : Type 0} → Ghosts X → Status → ℕ → Option (List ℕ) → Option (List ℕ)
+-- one or the other
+abbrev pub EndsOnLog : {X : Type 0} → Ghosts X → Status → ℕ → Option (List ℕ) → Option (List ℕ)
     → X → X → Type 0
-EndsRun T s limit left rest old new =
+EndsOnLog T s limit left rest old new =
     EndsUnopened T s old new ⊎ EndsOpened T s limit left rest old new
 
 -- What the counts of faults tell of a status, those of reads, of says and of the disk: where the

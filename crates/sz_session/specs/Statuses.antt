@@ -1,15 +1,15 @@
 -- The status that a session ends with, and what it tells.
-use Rattle.std.specs.Prelude.{ℕ, Bool, true, false, List, [], Option, Result, Ok, Err, ⊤}
+use Rattle.std.specs.Prelude.{◌≡◌, ℕ, Bool, true, false, List, [], Option, Result, Ok, Err, ⊤}
 use Rattle.sz_outside.specs.Outside.{Rose, Stood, Says, SaysPart}
 use Rattle.sz_outside.specs.declared.stations.Station.{Ghosts}
 use Rattle.sz_log.specs.declared.LogFault.{LogFault}
 use Rattle.sz_log.specs.declared.LogFault.TheVariants as log
-use Rattle.sz_session.specs.States.{State}
-use Rattle.sz_session.specs.Serving.{Done, SaidOfRead, SaidInPart, SaidInLines, SaidToLimit}
-use Rattle.sz_session.specs.Making.{ready_line, HasMade, IsSpared, IsSilent}
+use Rattle.sz_commands.specs.States.{State}
+use Rattle.sz_feed.specs.Serving.{Done, SaidOfRead, SaidInPart, SaidInLines, SaidToLimit}
+use Rattle.sz_feed.specs.Making.{ready_line, HasMade, IsSpared, IsSilent}
 use Rattle.sz_session.specs.Checking.{SaysLine, SaysPartOfLine, IsUnlike, IsBadLog}
-use Rattle.sz_session.specs.declared.feed.Halt.{Halt}
-use Rattle.sz_session.specs.declared.feed.Halt.TheVariants as halt
+use Rattle.sz_feed.specs.declared.feed.Halt.{Halt}
+use Rattle.sz_feed.specs.declared.feed.Halt.TheVariants as halt
 use Rattle.sz_session.specs.declared.serving.Status.{Status}
 use Rattle.sz_session.specs.declared.serving.Status.TheVariants as status
 use Rattle.sz_recover.specs.declared.opening.RecoverFault.{RecoverFault}
@@ -111,48 +111,48 @@ AreCountedInLines s reads_before reads says_before says =
     AreCounted s reads_before reads says_before says
 
 -- What was said by then of its line, for each status that the generated session ends with.
-abbrev pub EndsLoad : Status → List ℕ → Option (List ℕ) → Option (List ℕ) → Type 0
-EndsLoad status.Done line said_before said = Says said_before said line
-EndsLoad status.Usage line said_before said = ⊥
-EndsLoad status.ReadFault line said_before said = ⊥
-EndsLoad status.SayFault line said_before said = SaysPart said_before said line
-EndsLoad status.DiskFault line said_before said = ⊥
-EndsLoad status.NotALog line said_before said = ⊥
-EndsLoad status.AlreadyALog line said_before said = ⊥
-EndsLoad (status.BadLog at) line said_before said = ⊥
-EndsLoad status.NoMemory line said_before said = Says said_before said []
-EndsLoad status.InputLimit line said_before said = ⊥
+abbrev pub SaysSummary : Status → List ℕ → Option (List ℕ) → Option (List ℕ) → Type 0
+SaysSummary status.Done line said_before said = Says said_before said line
+SaysSummary status.Usage line said_before said = ⊥
+SaysSummary status.ReadFault line said_before said = ⊥
+SaysSummary status.SayFault line said_before said = SaysPart said_before said line
+SaysSummary status.DiskFault line said_before said = ⊥
+SaysSummary status.NotALog line said_before said = ⊥
+SaysSummary status.AlreadyALog line said_before said = ⊥
+SaysSummary (status.BadLog at) line said_before said = ⊥
+SaysSummary status.NoMemory line said_before said = Says said_before said []
+SaysSummary status.InputLimit line said_before said = ⊥
 
 -- What was said by then, and what the disk was made, for each status that the making of a log ends
--- with.
-abbrev pub EndsInit : {X : Type 0} → Ghosts X → Status → X → X → Type 0
-EndsInit T status.Done old new = HasMade T old new × Says (T.said old) (T.said new) ready_line
+-- with. It takes no memory but for its words, which are read before anything is done.
+abbrev pub MakesLog : {X : Type 0} → Ghosts X → Status → X → X → Type 0
+MakesLog T status.Done old new = HasMade T old new × Says (T.said old) (T.said new) ready_line
     × Stood (T.say_faults old) (T.say_faults new)
-EndsInit T status.Usage old new = ⊥
-EndsInit T status.ReadFault old new = ⊥
-EndsInit T status.SayFault old new = HasMade T old new
+MakesLog T status.Usage old new = ⊥
+MakesLog T status.ReadFault old new = ⊥
+MakesLog T status.SayFault old new = HasMade T old new
     × SaysPart (T.said old) (T.said new) ready_line × Rose (T.say_faults old) (T.say_faults new)
-EndsInit T status.DiskFault old new = IsSilent T old new
+MakesLog T status.DiskFault old new = IsSilent T old new
     × Rose (T.disk_faults old) (T.disk_faults new)
-EndsInit T status.NotALog old new = IsSilent T old new × IsSpared T log.NotALog old new
-EndsInit T status.AlreadyALog old new = IsSilent T old new × IsSpared T log.AlreadyALog old new
-EndsInit T (status.BadLog at) old new = ⊥
-EndsInit T status.NoMemory old new = ⊥
-EndsInit T status.InputLimit old new = ⊥
+MakesLog T status.NotALog old new = IsSilent T old new × IsSpared T log.NotALog old new
+MakesLog T status.AlreadyALog old new = IsSilent T old new × IsSpared T log.AlreadyALog old new
+MakesLog T (status.BadLog at) old new = ⊥
+MakesLog T status.NoMemory old new = new ≡ old
+MakesLog T status.InputLimit old new = ⊥
 
 -- What was said by then, and what is known of the log, for each status that the check of one ends
 -- with.
-abbrev pub EndsCheck : {X : Type 0} → Ghosts X → Status → X → X → Type 0
-EndsCheck T status.Done old new = SaysLine T old new × Stood (T.say_faults old) (T.say_faults new)
+abbrev pub ChecksLog : {X : Type 0} → Ghosts X → Status → X → X → Type 0
+ChecksLog T status.Done old new = SaysLine T old new × Stood (T.say_faults old) (T.say_faults new)
     × Stood (T.disk_faults old) (T.disk_faults new)
-EndsCheck T status.Usage old new = ⊥
-EndsCheck T status.ReadFault old new = ⊥
-EndsCheck T status.SayFault old new = SaysPartOfLine T old new
+ChecksLog T status.Usage old new = ⊥
+ChecksLog T status.ReadFault old new = ⊥
+ChecksLog T status.SayFault old new = SaysPartOfLine T old new
     × Rose (T.say_faults old) (T.say_faults new)
-EndsCheck T status.DiskFault old new = IsSilent T old new
+ChecksLog T status.DiskFault old new = IsSilent T old new
     × Rose (T.disk_faults old) (T.disk_faults new)
-EndsCheck T status.NotALog old new = IsSilent T old new × IsUnlike T old new
-EndsCheck T status.AlreadyALog old new = ⊥
-EndsCheck T (status.BadLog at) old new = IsSilent T old new × IsBadLog T at old new
-EndsCheck T status.NoMemory old new = IsSilent T old new
-EndsCheck T status.InputLimit old new = ⊥
+ChecksLog T status.NotALog old new = IsSilent T old new × IsUnlike T old new
+ChecksLog T status.AlreadyALog old new = ⊥
+ChecksLog T (status.BadLog at) old new = IsSilent T old new × IsBadLog T at old new
+ChecksLog T status.NoMemory old new = IsSilent T old new
+ChecksLog T status.InputLimit old new = ⊥

@@ -4,52 +4,35 @@
 //! what was said so far is the replies of all whole lines read so far, from the start of the
 //! session, and gives the same with the bytes read: so no read is made while a reply is still to be
 //! said.
-ghost use Rattle.std.specs.Prelude.{◌≡◌, ◌⊎◌, ℕ, ◌<◌, ◌≤◌, ◌+◌, ◌-◌, ◌^◌};
-ghost use Rattle.std.specs.Prelude.{◌↔◌, true, false, Ok, Err, IfOk, IfErr, OnOk, OnErr, length};
-ghost use Rattle.std.specs.Prelude.{map, string_bytes};
+ghost use Rattle.std.specs.Prelude.{◌≡◌, ◌⊎◌, ◌<◌, ◌≤◌, ◌+◌, ◌-◌, ◌^◌};
+ghost use Rattle.std.specs.Prelude.{false, Ok, Err, IfOk, IfErr, OnOk, OnErr, length};
+ghost use Rattle.std.specs.Prelude.{map, string_bytes, None, Some};
 ghost use Rattle.sz_outside.specs.Outside.{Rose, Stood, Gives, Keeps};
-ghost use Rattle.std.specs.Prelude.{[], None, Some};
-ghost use Rattle.sz_outside.specs.Outside.{Says, SaysPart};
-ghost use Rattle.sz_session.specs.Statuses.{end_status, words_status, log_status, is_of_disk};
-ghost use Rattle.sz_session.specs.Statuses.{status_number};
-ghost use Rattle.sz_session.specs.Statuses.{Ends, EndsLoad, EndsInit, EndsCheck, AreCounted};
-ghost use Rattle.sz_session.specs.Statuses.{EndsLines, AreCountedInLines};
-ghost use Rattle.sz_session.specs.Running.{IsBeside, StaysBeside, FindsRest, FindsNext, FindsAll};
-ghost use Rattle.sz_session.specs.Running.{StandsBehind, state_of_log};
-ghost use Rattle.sz_session.specs.Continuing.{EndsRun, AreCountedOn};
-ghost use Rattle.sz_session.specs.Logged.{IsLogOf};
-ghost use Rattle.sz_session.specs.Serving.{is_served, is_play, is_init, is_load};
-ghost use Rattle.sz_session.specs.Serving.{is_check, is_run, is_of_log, is_of_lines};
-ghost use Rattle.sz_session.specs.Serving.{are_served, are_play, are_init, are_load};
-ghost use Rattle.sz_session.specs.Serving.{are_check, are_run, are_of_log, are_of_lines};
-ghost use Rattle.sz_session.specs.Serving.{are_opened};
-ghost use Rattle.sz_session.specs.Serving.{load_line, IfLoad};
-ghost use Rattle.sz_session.specs.Serving.{Done, SaidOfRead, SaidToLimit, SaidInPart};
-ghost use Rattle.sz_session.specs.Serving.{SaidInLines, IsPastLimit, IsWithinLimit, Opening};
-ghost use Rattle.sz_session.specs.Serving.{Answered, AreAll, nothing_held};
-ghost use Rattle.sz_session.specs.Making.{ready_line, IsFree, IfBarred, HasMade, IsSpared};
-ghost use Rattle.sz_session.specs.Making.{IsSilent};
-ghost use Rattle.sz_session.specs.Disks.{DiskStays, StaysFinding, OnlySays, FoundInPart};
-ghost use Rattle.sz_session.specs.Disks.{StopsMaking};
-ghost use Rattle.sz_session.specs.Checking.{SaysLine, SaysPartOfLine, IfNoLog, BeginsAsLog};
-ghost use Rattle.sz_session.specs.Checking.{StopsChecking, IsUnlike, IsBadLog, IfBadLog};
-ghost use Rattle.sz_session.specs.Checking.{IsWellMadeLog};
+ghost use Rattle.sz_session.specs.Statuses.{end_status, words_status, status_number};
+ghost use Rattle.sz_session.specs.Statuses.{Ends, AreCounted, EndsLines, AreCountedInLines};
+ghost use Rattle.sz_session.specs.Continuing.{EndsOnLog, AreCountedOn};
+ghost use Rattle.sz_session.specs.Modes.{AsksFor, IfLoad, is_for, is_of_lines};
+ghost use Rattle.sz_session.specs.Modes.{EndsPlay, EndsLoad, EndsInit, EndsCheck, EndsRun};
+ghost use Rattle.sz_commands.specs.States.{nothing_held};
+ghost use Rattle.sz_commands.specs.Logged.{IsLogOf};
+ghost use Rattle.sz_feed.specs.Running.{IsBeside, StaysBeside, FindsRest, FindsNext, FindsAll};
+ghost use Rattle.sz_feed.specs.Running.{StandsBehind, state_of_log};
+ghost use Rattle.sz_feed.specs.Serving.{load_line, Opening, Answered, AreAll};
+ghost use Rattle.sz_feed.specs.Disks.{StaysFinding, FoundInPart};
 ghost use Rattle.sz_words.specs.Job.{job_of, IsInRange};
 
-use crate::carry::Carry;
 use crate::checking::check_log;
-use crate::feed::{Feed, Halt};
 use crate::load::load;
 use crate::making::make_log;
-use crate::session::Session;
 use crate::staff::Staff;
 use std::alloc::Global;
 use std::sync::{Arc, Wait};
 use std::thread::Threads;
-use sz_log::LogFault;
+use sz_commands::Session;
+use sz_feed::{Feed, Halt};
 use sz_outside::{Failed, Gate, Source, Station};
-use sz_recover::laws::logs_are_read_in_one_way;
 use sz_recover::{Recovered, catalogue_of};
+use sz_versions::Carry;
 use sz_words::{Job, JobMode, WordsFault, read_words};
 
 /// How a call of `serve` ended.
@@ -140,21 +123,26 @@ const LIMIT: u64 = 1 << 62;
 ///   line that sums up its replies. It makes no call on the source. It holds the text and the
 ///   replies once, and one line of the text a second time.
 /// - `init` makes the disk of the station the empty log, and says one line, `log ready`. A disk
-///   that begins as a log, or is none and has more than 17 bytes, stays as it is (`barred`).
+///   that begins as a log, or is none and has more than 17 bytes, stays as it is.
 /// - `check` opens the log on the disk of the station, compares the stores of its versions with
 ///   what their operators relate, and says one line: how many versions it has where each store is
 ///   sound (`sound 2`), or the first that is not (`unsound version 1 node 0 full_one_b`). A disk
 ///   that does not begin as a log, or a log with a bad group, has a status of its own.
 /// - `run` opens the log on the disk of the station, and answers the lines of the source as `play`
 ///   does, from what the log holds. What a line makes durable is in the log before its reply is
-///   said (`run`). Asks are answered one by one.
+///   said. Asks are answered one by one.
 ///
-/// But in init and run the disk of the station is as before, whatever the status (`disk`,
-/// `found_in_check`). A stop of the machine at any moment of the call finds a first part of what
-/// the mode says (`found_in_play`, `found_in_load`, `found_in_init`, `found_in_check`, and `found`
-/// of what `run` gives). In init it leaves of the disk the old bytes, at most 17 bytes that are no
-/// log, or the empty log; and in run a well-made log that holds what is durable behind the lines
-/// whose replies were said, or behind one line more.
+/// Words that are refused end with Usage or for want of memory, and nothing is touched; and each
+/// mode has one clause, its record in `specs/Modes`: what was read and said by each status, what
+/// the counts of faults tell, and what a stop of the machine at any moment of the call finds. What
+/// follows of these are the laws of [`crate::endings`]: that no fault is passed over, say, and that
+/// a session with none ends as Done or for want of memory.
+///
+/// But in init and run the disk of the station is as before, whatever the status. A stop at any
+/// moment finds a first part of what the mode says (`found` of each record). In init it leaves of
+/// the disk the old bytes, at most 17 bytes that are no log, or the empty log; and in run a
+/// well-made log that holds what is durable behind the lines whose replies were said, or behind one
+/// line more.
 ///
 /// As many threads as the words say work on what a start hands out, beside the lines; they are
 /// joined before the call returns. Nothing that is said depends on them.
@@ -164,146 +152,25 @@ pub fn serve<
     G: Gate + 'static,
     R: Threads + Wait + Clone + Send + Sync + 'static,
 >(rt: &R, alloc: Global, words: &[String], source: &mut S, station: &mut T, gate: &Arc<G>) -> Status
-    ensures done { are_play (map string_bytes words.now) ≡ true → result ≡ Status.Done
-        → Done nothing_held (2 ^ 62) (S.left source.old) (S.left source.new)
-        (T.said station.old) (T.said station.new) }
-    ensures usage { result ≡ Status.Usage → are_served (map string_bytes words.now) ≡ false }
-    ensures refused { are_served (map string_bytes words.now) ≡ false
+    ensures refused { job_of (map string_bytes words.now) ≡ None
         → (result ≡ Status.Usage) ⊎ (result ≡ Status.NoMemory) }
-    ensures untouched { are_served (map string_bytes words.now) ≡ false
+    ensures untouched { job_of (map string_bytes words.now) ≡ None
         → (source.new ≡ source.old) × (station.new ≡ station.old) }
-    ensures unread { are_of_lines (map string_bytes words.now) ≡ false
+    ensures unread { is_for is_of_lines (job_of (map string_bytes words.now)) ≡ false
         → source.new ≡ source.old }
-    ensures quiet { result ≡ Status.Done
-        → Stood (S.faults source.old) (S.faults source.new)
-        × Stood (T.say_faults station.old) (T.say_faults station.new)
-        × Stood (T.disk_faults station.old) (T.disk_faults station.new) }
-    ensures read_fault { result ≡ Status.ReadFault
-        → Rose (S.faults source.old) (S.faults source.new) }
-    ensures say_fault { result ≡ Status.SayFault
-        → Rose (T.say_faults station.old) (T.say_faults station.new) }
-    ensures input_limit { result ≡ Status.InputLimit → IsPastLimit (2 ^ 62) (S.left source.old) }
-    ensures reads_lines { (result ≡ Status.ReadFault) ⊎ (result ≡ Status.InputLimit)
-        → are_of_lines (map string_bytes words.now) ≡ true }
-    ensures after_read_fault { are_play (map string_bytes words.now) ≡ true
-        → result ≡ Status.ReadFault
-        → SaidOfRead nothing_held (S.left source.old) (S.left source.new)
-        (T.said station.old) (T.said station.new) }
-    ensures after_say_fault { are_play (map string_bytes words.now) ≡ true
-        → result ≡ Status.SayFault
-        → SaidInPart nothing_held (S.left source.old) (T.said station.old) (T.said station.new) }
-    ensures after_no_memory { are_play (map string_bytes words.now) ≡ true
-        → result ≡ Status.NoMemory
-        → SaidInLines nothing_held (S.left source.old) (T.said station.old) (T.said station.new) }
-    ensures after_input_limit { are_play (map string_bytes words.now) ≡ true
-        → result ≡ Status.InputLimit
-        → SaidToLimit nothing_held (2 ^ 62) (S.left source.old) (S.left source.new)
-        (T.said station.old) (T.said station.new) }
-    ensures completes { are_play (map string_bytes words.now) ≡ true
-        → IsWithinLimit (2 ^ 62) (S.left source.old)
-        → ¬ Rose (S.faults source.old) (S.faults source.new)
-        → ¬ Rose (T.say_faults station.old) (T.say_faults station.new)
-        → (result ≡ Status.Done) ⊎ (result ≡ Status.NoMemory) }
-
-    // The disk.
-    ensures disk { are_of_log (map string_bytes words.now) ≡ false
-        → DiskStays T.Station station.old station.new }
-    ensures found_in_play { are_play (map string_bytes words.now) ≡ true
-        → StaysFinding T.Station (FoundInPart nothing_held (S.left source.old) (T.said station.old))
-        station.old station.new }
-    ensures found_in_load { IfLoad (job_of (map string_bytes words.now))
-        (λ line. OnlySays T.Station line station.old station.new) }
-
-    // The generated session.
-    ensures load { result ≡ Status.Done → IfLoad (job_of (map string_bytes words.now))
-        (λ line. Says (T.said station.old) (T.said station.new) line) }
-    ensures load_after_say_fault { result ≡ Status.SayFault
-        → IfLoad (job_of (map string_bytes words.now))
-        (λ line. SaysPart (T.said station.old) (T.said station.new) line) }
-    ensures load_after_no_memory { are_load (map string_bytes words.now) ≡ true
-        → result ≡ Status.NoMemory → Says (T.said station.old) (T.said station.new) [] }
-    ensures load_completes { are_load (map string_bytes words.now) ≡ true
-        → ¬ Rose (T.say_faults station.old) (T.say_faults station.new)
-        → (result ≡ Status.Done) ⊎ (result ≡ Status.NoMemory) }
-
-    // The making of a log.
-    ensures made { are_init (map string_bytes words.now) ≡ true
-        → (result ≡ Status.Done) ⊎ (result ≡ Status.SayFault)
-        → HasMade T.Station station.old station.new }
-    ensures ready { are_init (map string_bytes words.now) ≡ true → result ≡ Status.Done
-        → Says (T.said station.old) (T.said station.new) ready_line }
-    ensures ready_after_say_fault { are_init (map string_bytes words.now) ≡ true
-        → result ≡ Status.SayFault
-        → SaysPart (T.said station.old) (T.said station.new) ready_line }
-    ensures disk_in_log { is_of_disk result ≡ true
-        → are_of_log (map string_bytes words.now) ≡ true }
-    ensures disk_fault { result ≡ Status.DiskFault
-        → Rose (T.disk_faults station.old) (T.disk_faults station.new) }
-    ensures not_a_log { are_init (map string_bytes words.now) ≡ true → result ≡ Status.NotALog
-        → IsSpared T.Station LogFault.NotALog station.old station.new }
-    ensures already_in_init { result ≡ Status.AlreadyALog
-        → are_init (map string_bytes words.now) ≡ true }
-    ensures already_a_log { result ≡ Status.AlreadyALog
-        → IsSpared T.Station LogFault.AlreadyALog station.old station.new }
-    ensures silent { are_run (map string_bytes words.now) ≡ false
-        → is_of_disk result ≡ true → IsSilent T.Station station.old station.new }
-    ensures init_after_no_memory { are_init (map string_bytes words.now) ≡ true
-        → result ≡ Status.NoMemory → station.new ≡ station.old }
-    ensures barred { are_init (map string_bytes words.now) ≡ true
-        → IfBarred (T.disk station.old) (λ bar. (result ≡ log_status bar)
-        ⊎ ((result ≡ Status.DiskFault) ⊎ (result ≡ Status.NoMemory))) }
-    ensures init_completes { are_init (map string_bytes words.now) ≡ true
-        → IsFree (T.disk station.old)
-        → ¬ Rose (T.disk_faults station.old) (T.disk_faults station.new)
-        → ¬ Rose (T.say_faults station.old) (T.say_faults station.new)
-        → (result ≡ Status.Done) ⊎ (result ≡ Status.NoMemory) }
-    ensures found_in_init { are_init (map string_bytes words.now) ≡ true
-        → StopsMaking T.Station station.old station.new }
-
-    // The check of a log.
-    ensures checked { are_check (map string_bytes words.now) ≡ true → result ≡ Status.Done
-        → SaysLine T.Station station.old station.new }
-    ensures check_after_say_fault { are_check (map string_bytes words.now) ≡ true
-        → result ≡ Status.SayFault → SaysPartOfLine T.Station station.old station.new }
-    ensures check_after_no_memory { are_check (map string_bytes words.now) ≡ true
-        → result ≡ Status.NoMemory → IsSilent T.Station station.old station.new }
-    ensures no_log { are_opened (map string_bytes words.now) ≡ true → result ≡ Status.NotALog
-        → IsUnlike T.Station station.old station.new }
-    ensures bad_log { (at : ℕ) → result ≡ Status.BadLog at
-        → (are_opened (map string_bytes words.now) ≡ true)
-        × IsBadLog T.Station at station.old station.new }
-    ensures unlike { are_opened (map string_bytes words.now) ≡ true
-        → IfNoLog (T.disk station.old) ((result ≡ Status.NotALog)
-        ⊎ ((result ≡ Status.DiskFault) ⊎ (result ≡ Status.NoMemory))) }
-    ensures broken { are_opened (map string_bytes words.now) ≡ true
-        → IfBadLog (T.disk station.old) (λ at. (result ≡ Status.BadLog at)
-        ⊎ ((result ≡ Status.DiskFault) ⊎ (result ≡ Status.NoMemory))) }
-    ensures check_completes { are_check (map string_bytes words.now) ≡ true
-        → IsWellMadeLog (T.disk station.old)
-        → ¬ Rose (T.disk_faults station.old) (T.disk_faults station.new)
-        → ¬ Rose (T.say_faults station.old) (T.say_faults station.new)
-        → (result ≡ Status.Done) ⊎ (result ≡ Status.NoMemory) }
-    ensures check_tells { are_check (map string_bytes words.now) ≡ true
-        → BeginsAsLog (T.disk station.old)
-        → ¬ Rose (T.disk_faults station.old) (T.disk_faults station.new)
-        → ¬ Rose (T.say_faults station.old) (T.say_faults station.new)
-        → (result ≡ Status.Done) ⊎ ((result ≡ Status.NoMemory)
-        ⊎ ((at : ℕ) × (result ≡ Status.BadLog at))) }
-    ensures found_in_check { are_check (map string_bytes words.now) ≡ true
-        → StopsChecking T.Station station.old station.new }
-
-    // A session on a log.
-    ensures run_completes { are_run (map string_bytes words.now) ≡ true
-        → IsWellMadeLog (T.disk station.old) → IsWithinLimit (2 ^ 62) (S.left source.old)
-        → ¬ Rose (S.faults source.old) (S.faults source.new)
-        → ¬ Rose (T.say_faults station.old) (T.say_faults station.new)
-        → ¬ Rose (T.disk_faults station.old) (T.disk_faults station.new)
-        → (result ≡ Status.Done) ⊎ (result ≡ Status.NoMemory) }
-    ensures run { are_run (map string_bytes words.now) ≡ true
-        → EndsRun T.Station result (2 ^ 62) (S.left source.old) (S.left source.new)
-        station.old station.new }
+    ensures play { AsksFor JobMode.Play (job_of (map string_bytes words.now))
+        → EndsPlay T.Station result (2 ^ 62) (S.faults source.old) (S.faults source.new)
+        (S.left source.old) (S.left source.new) station.old station.new }
+    ensures load { IfLoad (job_of (map string_bytes words.now))
+        (λ line. EndsLoad T.Station result line station.old station.new) }
+    ensures init { AsksFor JobMode.Init (job_of (map string_bytes words.now))
+        → EndsInit T.Station result station.old station.new }
+    ensures check { AsksFor JobMode.Check (job_of (map string_bytes words.now))
+        → EndsCheck T.Station result station.old station.new }
+    ensures run { AsksFor JobMode.Run (job_of (map string_bytes words.now))
+        → EndsRun T.Station result (2 ^ 62) (S.faults source.old) (S.faults source.new)
+        (S.left source.old) (S.left source.new) station.old station.new }
 {
-    logs_are_read_in_one_way();
     match read_words(alloc, words) {
         Ok(job) => run_job(rt, alloc, job, source, station, gate),
         Err(fault) => status_of_words(fault),
@@ -328,36 +195,17 @@ fn run_job<
     R: Threads + Wait + Clone + Send + Sync + 'static,
 >(rt: &R, alloc: Global, job: Job, source: &mut S, station: &mut T, gate: &Arc<G>) -> Status
     requires ranges { IsInRange job }
-    ensures play { is_play job.mode ≡ true
-        → Ends nothing_held result (2 ^ 62) (S.left source.old) (S.left source.new)
-        (T.said station.old) (T.said station.new) }
-    ensures play_fault { is_play job.mode ≡ true
-        → AreCounted result (S.faults source.old) (S.faults source.new)
-        (T.say_faults station.old) (T.say_faults station.new) }
-    ensures load { is_load job.mode ≡ true
-        → EndsLoad result (load_line job) (T.said station.old) (T.said station.new) }
-    ensures load_fault { is_load job.mode ≡ true
-        → AreCounted result 0 0 (T.say_faults station.old) (T.say_faults station.new) }
-    ensures init { is_init job.mode ≡ true → EndsInit T.Station result station.old station.new }
-    ensures check { is_check job.mode ≡ true → EndsCheck T.Station result station.old station.new }
-    ensures run { is_run job.mode ≡ true
-        → EndsRun T.Station result (2 ^ 62) (S.left source.old) (S.left source.new)
-        station.old station.new }
-    ensures run_counted { is_run job.mode ≡ true → AreCountedOn T.Station result
-        (S.faults source.old) (S.faults source.new) station.old station.new }
     ensures unread { is_of_lines job.mode ≡ false → source.new ≡ source.old }
-    ensures refused { is_served job.mode ≡ false
-        → (result ≡ Status.Usage) × (station.new ≡ station.old) }
-    ensures disk { is_of_log job.mode ≡ false → DiskStays T.Station station.old station.new }
-    ensures found_in_play { is_play job.mode ≡ true
-        → StaysFinding T.Station (FoundInPart nothing_held (S.left source.old) (T.said station.old))
-        station.old station.new }
-    ensures found_in_load { is_load job.mode ≡ true
-        → OnlySays T.Station (load_line job) station.old station.new }
-    ensures found_in_init { is_init job.mode ≡ true
-        → StopsMaking T.Station station.old station.new }
-    ensures found_in_check { is_check job.mode ≡ true
-        → StopsChecking T.Station station.old station.new }
+    ensures play { job.mode ≡ JobMode.Play
+        → EndsPlay T.Station result (2 ^ 62) (S.faults source.old) (S.faults source.new)
+        (S.left source.old) (S.left source.new) station.old station.new }
+    ensures load { job.mode ≡ JobMode.Load
+        → EndsLoad T.Station result (load_line job) station.old station.new }
+    ensures init { job.mode ≡ JobMode.Init → EndsInit T.Station result station.old station.new }
+    ensures check { job.mode ≡ JobMode.Check → EndsCheck T.Station result station.old station.new }
+    ensures run { job.mode ≡ JobMode.Run
+        → EndsRun T.Station result (2 ^ 62) (S.faults source.old) (S.faults source.new)
+        (S.left source.old) (S.left source.new) station.old station.new }
 {
     match job.mode {
         JobMode::Play => play(rt, alloc, job, source, station, gate, LIMIT),
@@ -423,7 +271,7 @@ fn run_log<
 ) -> Status
     requires limit { limit ≤ LIMIT }
     requires ranges { IsInRange job }
-    ensures ends { EndsRun T.Station result limit (S.left source.old) (S.left source.new)
+    ensures ends { EndsOnLog T.Station result limit (S.left source.old) (S.left source.new)
         station.old station.new }
     ensures counted { AreCountedOn T.Station result (S.faults source.old) (S.faults source.new)
         station.old station.new }

@@ -1,0 +1,300 @@
+-- What the status of a call tells, whatever its mode.
+--
+-- The key idea: what a status tells is found in the record of the mode that was asked for, and in the others the status
+-- does not come.
+use Rattle.std.proofs.Common.{◌≡◌, ℕ, ◌^◌, List, [], true, false, None, refl, sym, ap, ◌∙◌, subst, inl, inr, true≢false}
+use Rattle.std.specs.Prelude.{Option, ◌⊎◌}
+use Rattle.sz_outside.specs.Outside.{Rose, Stood}
+use Rattle.sz_outside.specs.declared.sources.Source as source
+use Rattle.sz_outside.specs.declared.stations.Station.{Ghosts}
+use Rattle.sz_log.specs.declared.LogFault.TheVariants as log
+use Rattle.sz_recover.specs.OneReading.{WellMadeLogsAreNotBad, LogsAreFirstBadAtOnePlace}
+use Rattle.sz_commands.specs.States.{nothing_held}
+use Rattle.sz_feed.specs.Serving.{IsPastLimit}
+use Rattle.sz_feed.specs.Running.{state_of_log}
+use Rattle.sz_feed.specs.Disks.{DiskStays}
+use Rattle.sz_feed.specs.Making.{IsSilent, IsSpared}
+use Rattle.sz_session.specs.Statuses.{is_of_disk}
+use Rattle.sz_session.specs.Checking.{IsUnlike, IsBadLog, IfNoLog, IfBadLog}
+use Rattle.sz_session.specs.Continuing.{IsUnopened, EndsOnLog, AreCountedOn}
+use Rattle.sz_session.specs.Modes.{AsksFor, Serves, is_for, is_of_lines, is_opened}
+use Rattle.sz_session.specs.declared.serving.Status.{Status}
+use Rattle.sz_session.specs.declared.serving.Status.TheVariants as status
+use Rattle.sz_words.specs.Job.{is_on_log}
+use Rattle.sz_words.specs.declared.Job.{Job}
+use Rattle.sz_words.specs.declared.JobMode.{JobMode}
+use Rattle.sz_words.specs.declared.JobMode.TheVariants as mode
+use Rattle.sz_feed.proofs.Disks.{stays-still, disk-stays}
+use Rattle.sz_session.proofs.Ends.{ends-with, counted-with, limit-passed}
+use Rattle.sz_session.proofs.Loads.{load-ends_with}
+use Rattle.sz_session.proofs.Makings.{init-ends_with, init-silent, counted-not_disk}
+use Rattle.sz_session.proofs.Checkings.{check-ends_with, check-silent, check-unlike, StopsUnlike}
+use Rattle.sz_session.proofs.Modes.{by-mode, for-mode, for-none, not-for, not-refused, on-with, lines-with}
+use Rattle.sz_session.proofs.Modes.{FindsNow, CountsNow}
+use Rattle.sz_session.proofs.Exactly.{StopsBroken, run-no_log, run-unlike, run-broken, check-broken}
+
+-- ---- counts of faults
+
+-- where it is done no count rose
+pub quiet-done : {Y X : Type 0} (S : source.Ghosts Y) (T : Ghosts X) (o : Option Job) (s : Status)
+    (before after : Y) (old new : X) → Serves S T o s before after old new → s ≡ status.Done
+    → Stood (S.faults before) (S.faults after) × Stood (T.say_faults old) (T.say_faults new)
+    × Stood (T.disk_faults old) (T.disk_faults new)
+quiet-done {Y} {X} S T o s before after old new serves is =
+    let unread = λ (m : JobMode) (asked : AsksFor m o) (other : is_of_lines m ≡ false).
+    ap S.faults (serves.unread (for-mode is_of_lines o m asked ∙ other)) in
+    by-mode S T o s before after old new _ serves
+    (λ none refused same. absurd (not-refused s status.Done refused is refl))
+    (λ asked e.
+    let quiet = counted-with s status.Done _ _ _ _ e.counted is in
+    (quiet.0, quiet.1, e.found.quiet))
+    (λ asked line e.
+    let quiet = counted-with s status.Done 0 0 _ _ e.counted is in
+    (unread mode.Load asked refl, quiet.1, e.found.quiet))
+    (λ asked e.
+    let ends = init-ends_with T s status.Done old new e.ends is in
+    (unread mode.Init asked refl, ends.2, ends.0.quiet))
+    (λ asked e.
+    let ends = check-ends_with T s status.Done old new e.ends is in
+    (unread mode.Check asked refl, ends.1, ends.2))
+    (λ asked e. on-with T s status.Done _ _ old new e.counted is)
+
+-- a fault in reading was counted
+pub read-counted : {Y X : Type 0} (S : source.Ghosts Y) (T : Ghosts X) (o : Option Job) (s : Status)
+    (before after : Y) (old new : X) → Serves S T o s before after old new → s ≡ status.ReadFault
+    → Rose (S.faults before) (S.faults after)
+read-counted {Y} {X} S T o s before after old new serves is =
+    by-mode S T o s before after old new _ serves
+    (λ none refused same. absurd (not-refused s status.ReadFault refused is refl))
+    (λ asked e. counted-with s status.ReadFault _ _ _ _ e.counted is)
+    (λ asked line e. absurd (load-ends_with s status.ReadFault line _ _ e.ends is))
+    (λ asked e. absurd (init-ends_with T s status.ReadFault old new e.ends is))
+    (λ asked e. absurd (check-ends_with T s status.ReadFault old new e.ends is))
+    (λ asked e. on-with T s status.ReadFault _ _ old new e.counted is)
+
+-- one in saying was
+pub say-counted : {Y X : Type 0} (S : source.Ghosts Y) (T : Ghosts X) (o : Option Job) (s : Status)
+    (before after : Y) (old new : X) → Serves S T o s before after old new → s ≡ status.SayFault
+    → Rose (T.say_faults old) (T.say_faults new)
+say-counted {Y} {X} S T o s before after old new serves is =
+    by-mode S T o s before after old new _ serves
+    (λ none refused same. absurd (not-refused s status.SayFault refused is refl))
+    (λ asked e. counted-with s status.SayFault _ _ _ _ e.counted is)
+    (λ asked line e. counted-with s status.SayFault 0 0 _ _ e.counted is)
+    (λ asked e. (init-ends_with T s status.SayFault old new e.ends is).2)
+    (λ asked e. (check-ends_with T s status.SayFault old new e.ends is).1)
+    (λ asked e. on-with T s status.SayFault _ _ old new e.counted is)
+
+-- one of the disk was
+pub disk-counted : {Y X : Type 0} (S : source.Ghosts Y) (T : Ghosts X) (o : Option Job) (s : Status)
+    (before after : Y) (old new : X) → Serves S T o s before after old new → s ≡ status.DiskFault
+    → Rose (T.disk_faults old) (T.disk_faults new)
+disk-counted {Y} {X} S T o s before after old new serves is =
+    by-mode S T o s before after old new _ serves
+    (λ none refused same. absurd (not-refused s status.DiskFault refused is refl))
+    (λ asked e. absurd (ends-with nothing_held s status.DiskFault _ _ _ _ _ e.ends is))
+    (λ asked line e. absurd (load-ends_with s status.DiskFault line _ _ e.ends is))
+    (λ asked e. (init-ends_with T s status.DiskFault old new e.ends is).1)
+    (λ asked e. (check-ends_with T s status.DiskFault old new e.ends is).1)
+    (λ asked e. on-with T s status.DiskFault _ _ old new e.counted is)
+
+-- ---- statuses of some modes alone
+
+-- Usage is of refused words
+pub usage-refused : {Y X : Type 0} (S : source.Ghosts Y) (T : Ghosts X) (o : Option Job) (s : Status)
+    (before after : Y) (old new : X) → Serves S T o s before after old new → s ≡ status.Usage
+    → o ≡ None
+usage-refused {Y} {X} S T o s before after old new serves is =
+    by-mode S T o s before after old new _ serves
+    (λ none refused same. none)
+    (λ asked e. absurd (ends-with nothing_held s status.Usage _ _ _ _ _ e.ends is))
+    (λ asked line e. absurd (load-ends_with s status.Usage line _ _ e.ends is))
+    (λ asked e. absurd (init-ends_with T s status.Usage old new e.ends is))
+    (λ asked e. absurd (check-ends_with T s status.Usage old new e.ends is))
+    (λ asked e. absurd (on-with T s status.Usage _ _ old new e.counted is))
+
+-- a fault in reading comes where lines are read
+pub read-lines : {Y X : Type 0} (S : source.Ghosts Y) (T : Ghosts X) (o : Option Job) (s : Status)
+    (before after : Y) (old new : X) → Serves S T o s before after old new → s ≡ status.ReadFault
+    → is_for is_of_lines o ≡ true
+read-lines {Y} {X} S T o s before after old new serves is =
+    by-mode S T o s before after old new _ serves
+    (λ none refused same. absurd (not-refused s status.ReadFault refused is refl))
+    (λ asked e. for-mode is_of_lines o mode.Play asked)
+    (λ asked line e. absurd (load-ends_with s status.ReadFault line _ _ e.ends is))
+    (λ asked e. absurd (init-ends_with T s status.ReadFault old new e.ends is))
+    (λ asked e. absurd (check-ends_with T s status.ReadFault old new e.ends is))
+    (λ asked e. for-mode is_of_lines o mode.Run asked)
+
+-- and so does the limit
+pub limit-lines : {Y X : Type 0} (S : source.Ghosts Y) (T : Ghosts X) (o : Option Job) (s : Status)
+    (before after : Y) (old new : X) → Serves S T o s before after old new → s ≡ status.InputLimit
+    → is_for is_of_lines o ≡ true
+limit-lines {Y} {X} S T o s before after old new serves is =
+    by-mode S T o s before after old new _ serves
+    (λ none refused same. absurd (not-refused s status.InputLimit refused is refl))
+    (λ asked e. for-mode is_of_lines o mode.Play asked)
+    (λ asked line e. absurd (load-ends_with s status.InputLimit line _ _ e.ends is))
+    (λ asked e. absurd (init-ends_with T s status.InputLimit old new e.ends is))
+    (λ asked e. absurd (check-ends_with T s status.InputLimit old new e.ends is))
+    (λ asked e. for-mode is_of_lines o mode.Run asked)
+
+-- of a source that has more bytes than a session may have
+limit-run : {X : Type 0} (T : Ghosts X) (x y : X) (s : Status) (limit : ℕ) (all left : Option (List ℕ))
+    → EndsOnLog T s limit all left x y → s ≡ status.InputLimit → IsPastLimit limit all
+limit-run {X} T x y s limit all left (inl none) is = absurd (subst (IsUnopened (T.disk x)) is none.why)
+limit-run {X} T x y s limit all left (inr one) is =
+    let z = state_of_log one.c one.kept in
+    limit-passed z limit all left (T.said x) (T.said y)
+    (lines-with z s status.InputLimit limit all left (T.said x) (T.said y) one.ends is)
+
+pub limit-past : {Y X : Type 0} (S : source.Ghosts Y) (T : Ghosts X) (o : Option Job) (s : Status)
+    (before after : Y) (old new : X) → Serves S T o s before after old new → s ≡ status.InputLimit
+    → IsPastLimit (2 ^ 62) (S.left before)
+limit-past {Y} {X} S T o s before after old new serves is =
+    by-mode S T o s before after old new _ serves
+    (λ none refused same. absurd (not-refused s status.InputLimit refused is refl))
+    (λ asked e. limit-passed nothing_held (2 ^ 62) _ _ _ _
+    (ends-with nothing_held s status.InputLimit _ _ _ _ _ e.ends is))
+    (λ asked line e. absurd (load-ends_with s status.InputLimit line _ _ e.ends is))
+    (λ asked e. absurd (init-ends_with T s status.InputLimit old new e.ends is))
+    (λ asked e. absurd (check-ends_with T s status.InputLimit old new e.ends is))
+    (λ asked e. limit-run T old new s (2 ^ 62) _ _ e.ends is)
+
+-- a log is there already in init
+pub already-init : {Y X : Type 0} (S : source.Ghosts Y) (T : Ghosts X) (o : Option Job) (s : Status)
+    (before after : Y) (old new : X) → Serves S T o s before after old new → s ≡ status.AlreadyALog
+    → AsksFor mode.Init o
+already-init {Y} {X} S T o s before after old new serves is =
+    by-mode S T o s before after old new _ serves
+    (λ none refused same. absurd (not-refused s status.AlreadyALog refused is refl))
+    (λ asked e. absurd (ends-with nothing_held s status.AlreadyALog _ _ _ _ _ e.ends is))
+    (λ asked line e. absurd (load-ends_with s status.AlreadyALog line _ _ e.ends is))
+    (λ asked e. asked)
+    (λ asked e. absurd (check-ends_with T s status.AlreadyALog old new e.ends is))
+    (λ asked e. absurd (on-with T s status.AlreadyALog _ _ old new e.counted is))
+
+pub already-spared : {Y X : Type 0} (S : source.Ghosts Y) (T : Ghosts X) (o : Option Job) (s : Status)
+    (before after : Y) (old new : X) → Serves S T o s before after old new → s ≡ status.AlreadyALog
+    → IsSpared T log.AlreadyALog old new
+already-spared {Y} {X} S T o s before after old new serves is =
+    let one = serves.init (already-init S T o s before after old new serves is) in
+    (init-ends_with T s status.AlreadyALog old new one.ends is).1
+
+-- ---- the disk
+
+-- no status of refused words comes of it
+refused-not_disk : (s : Status) → (s ≡ status.Usage) ⊎ (s ≡ status.NoMemory) → is_of_disk s ≡ true → ⊥
+refused-not_disk s (inl usage) is = true≢false (sym is ∙ ap is_of_disk usage)
+refused-not_disk s (inr none) is = true≢false (sym is ∙ ap is_of_disk none)
+
+-- a status that comes of it comes in a mode of a log
+pub disk-log : {Y X : Type 0} (S : source.Ghosts Y) (T : Ghosts X) (o : Option Job) (s : Status)
+    (before after : Y) (old new : X) → Serves S T o s before after old new → is_of_disk s ≡ true
+    → is_for is_on_log o ≡ true
+disk-log {Y} {X} S T o s before after old new serves is =
+    by-mode S T o s before after old new _ serves
+    (λ none refused same. absurd (refused-not_disk s refused is))
+    (λ asked e. absurd (counted-not_disk s _ _ _ _ e.counted is))
+    (λ asked line e. absurd (counted-not_disk s _ _ _ _ e.counted is))
+    (λ asked e. for-mode is_on_log o mode.Init asked)
+    (λ asked e. for-mode is_on_log o mode.Check asked)
+    (λ asked e. for-mode is_on_log o mode.Run asked)
+
+-- and then nothing was said, but where a session goes on
+pub log-silent : {Y X : Type 0} (S : source.Ghosts Y) (T : Ghosts X) (o : Option Job) (s : Status)
+    (before after : Y) (old new : X) → Serves S T o s before after old new → (AsksFor mode.Run o → ⊥)
+    → is_of_disk s ≡ true → IsSilent T old new
+log-silent {Y} {X} S T o s before after old new serves other is =
+    by-mode S T o s before after old new _ serves
+    (λ none refused same. absurd (refused-not_disk s refused is))
+    (λ asked e. absurd (counted-not_disk s _ _ _ _ e.counted is))
+    (λ asked line e. absurd (counted-not_disk s _ _ _ _ e.counted is))
+    (λ asked e. init-silent T s old new e.ends is)
+    (λ asked e. check-silent T s old new e.ends is)
+    (λ asked e. absurd (other asked))
+
+-- a mode that uses no log leaves it as it was
+pub disk-same : {Y X : Type 0} (S : source.Ghosts Y) (T : Ghosts X) (o : Option Job) (s : Status)
+    (before after : Y) (old new : X) → FindsNow T old → CountsNow T old → Serves S T o s before after old new
+    → is_for is_on_log o ≡ false → DiskStays T old new
+disk-same {Y} {X} S T o s before after old new only counts serves other =
+    let of_log = λ (m : JobMode) (asked : AsksFor m o) (is : is_on_log m ≡ true).
+    true≢false (sym is ∙ sym (for-mode is_on_log o m asked) ∙ other) in
+    by-mode S T o s before after old new _ serves
+    (λ none refused same. subst (λ (x : X). DiskStays T old x) (sym same)
+    (disk-stays T _ old old (stays-still T [] old only counts)))
+    (λ asked e. disk-stays T _ old new e.found)
+    (λ asked line e. disk-stays T _ old new e.found)
+    (λ asked e. absurd (of_log mode.Init asked refl))
+    (λ asked e. absurd (of_log mode.Check asked refl))
+    (λ asked e. absurd (of_log mode.Run asked refl))
+
+-- ---- the modes that open a log
+
+-- the status that tells of no log comes of such a disk alone
+pub opening-no_log : {Y X : Type 0} (S : source.Ghosts Y) (T : Ghosts X) (o : Option Job) (s : Status)
+    (before after : Y) (old new : X) → Serves S T o s before after old new → is_for is_opened o ≡ true
+    → s ≡ status.NotALog → IsUnlike T old new
+opening-no_log {Y} {X} S T o s before after old new serves opened is =
+    by-mode S T o s before after old new _ serves
+    (λ none refused same. absurd (not-refused s status.NotALog refused is refl))
+    (λ asked e. absurd (not-for is_opened o mode.Play asked refl opened))
+    (λ asked line e. absurd (not-for is_opened o mode.Load asked refl opened))
+    (λ asked e. absurd (not-for is_opened o mode.Init asked refl opened))
+    (λ asked e. (check-ends_with T s status.NotALog old new e.ends is).1)
+    (λ asked e. run-no_log T s (2 ^ 62) _ _ _ _ old new e.ends e.counted is)
+
+-- and such a one has that status
+pub opening-unlike : {Y X : Type 0} (S : source.Ghosts Y) (T : Ghosts X) (o : Option Job) (s : Status)
+    (before after : Y) (old new : X) → Serves S T o s before after old new → is_for is_opened o ≡ true
+    → IfNoLog (T.disk old) (StopsUnlike s)
+opening-unlike {Y} {X} S T o s before after old new serves opened =
+    by-mode S T o s before after old new _ serves
+    (λ none refused same. absurd (true≢false (sym opened ∙ for-none is_opened o none)))
+    (λ asked e. absurd (not-for is_opened o mode.Play asked refl opened))
+    (λ asked line e. absurd (not-for is_opened o mode.Load asked refl opened))
+    (λ asked e. absurd (not-for is_opened o mode.Init asked refl opened))
+    (λ asked e. check-unlike T s old new e.ends)
+    (λ asked e. run-unlike T s (2 ^ 62) _ _ old new e.ends)
+
+-- a bad log is one that was opened, and its first bad group stands there
+bad-run : {X : Type 0} (T : Ghosts X) (x y : X) (s : Status) (at limit r r' : ℕ) (all left : Option (List ℕ))
+    → EndsOnLog T s limit all left x y → AreCountedOn T s r r' x y → s ≡ status.BadLog at → IsBadLog T at x y
+bad-run {X} T x y s at limit r r' all left (inl none) counted is =
+    (subst (IsUnopened (T.disk x)) is none.why, on-with T s (status.BadLog at) r r' x y counted is)
+bad-run {X} T x y s at limit r r' all left (inr one) counted is =
+    absurd (lines-with (state_of_log one.c one.kept) s (status.BadLog at) limit all left (T.said x)
+    (T.said y) one.ends is)
+
+pub bad-place : {Y X : Type 0} (S : source.Ghosts Y) (T : Ghosts X) (o : Option Job) (s : Status)
+    (before after : Y) (old new : X) (at : ℕ) → Serves S T o s before after old new → s ≡ status.BadLog at
+    → (is_for is_opened o ≡ true) × IsBadLog T at old new
+bad-place {Y} {X} S T o s before after old new at serves is =
+    by-mode S T o s before after old new _ serves
+    (λ none refused same. absurd (not-refused s (status.BadLog at) refused is refl))
+    (λ asked e. absurd (ends-with nothing_held s (status.BadLog at) _ _ _ _ _ e.ends is))
+    (λ asked line e. absurd (load-ends_with s (status.BadLog at) line _ _ e.ends is))
+    (λ asked e. absurd (init-ends_with T s (status.BadLog at) old new e.ends is))
+    (λ asked e. (
+      for-mode is_opened o mode.Check asked,
+      (check-ends_with T s (status.BadLog at) old new e.ends is).1,
+    ))
+    (λ asked e. (
+      for-mode is_opened o mode.Run asked,
+      bad-run T old new s at (2 ^ 62) _ _ _ _ e.ends e.counted is,
+    ))
+
+-- and such a one has the status of that place
+pub opening-broken : WellMadeLogsAreNotBad → LogsAreFirstBadAtOnePlace → {Y X : Type 0} (S : source.Ghosts Y)
+    (T : Ghosts X) (o : Option Job) (s : Status) (before after : Y) (old new : X)
+    → Serves S T o s before after old new → is_for is_opened o ≡ true
+    → IfBadLog (T.disk old) (λ at. StopsBroken s at)
+opening-broken whole place {Y} {X} S T o s before after old new serves opened =
+    by-mode S T o s before after old new _ serves
+    (λ none refused same. absurd (true≢false (sym opened ∙ for-none is_opened o none)))
+    (λ asked e. absurd (not-for is_opened o mode.Play asked refl opened))
+    (λ asked line e. absurd (not-for is_opened o mode.Load asked refl opened))
+    (λ asked e. absurd (not-for is_opened o mode.Init asked refl opened))
+    (λ asked e. check-broken whole place T s old new e.ends)
+    (λ asked e. run-broken whole place T s (2 ^ 62) _ _ old new e.ends)
