@@ -25,9 +25,8 @@
 //!
 //! - After `work` each piece is claimed by the task's pass or was met claimed, and each was tried
 //!   once. Where it answers, each piece that it claimed is placed, the tally rose by exactly their
-//!   cells, and its reply says exactly what the pass has seen. A piece that is refused for memory
-//!   is left undone, the others are still claimed and made, and then it answers that there was no
-//!   memory.
+//!   cells, and its reply says exactly what the pass has seen. Where a piece is refused for memory,
+//!   it answers that there was no memory, and each piece is claimed all the same.
 //! - After `finish` the pass saw the seal, or there was no memory. The tally rose by at most the
 //!   cells of the pieces that the pass had not seen.
 //! - Passes only grow, in whatever they saw and claimed, and a lineage that does not fit is never
@@ -40,6 +39,7 @@
 //! - Nothing is said of how long a turn at a shelf is waited for. A promise holds if its call
 //!   returns.
 //! - Where a piece is refused for memory, its cells are in no tally, though some were looked at.
+//!   Nothing is said of which pieces behind it are made.
 //! - A piece that a worker is making may be made by `finish` as well. One of the two is placed.
 //!
 //! To whoever changes this crate: `src/maker.rt` makes one piece and places it, for `work` and

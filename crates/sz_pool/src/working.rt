@@ -23,8 +23,9 @@ use sz_shelf::SealReply;
 use sz_spec::{Tally, pieces_of};
 
 /// Claims each piece of a task, and for each that it wins calls the gate, makes it and places it.
-/// Its last turn is a seal, whose reply it gives. A piece that is refused for memory is left
-/// undone, the others are still claimed and made, and the answer is then `NoMemory`, with no seal.
+/// Its last turn is a seal, whose reply it gives. Where a piece that it won is refused for memory,
+/// the answer is `NoMemory`, with no seal; the pieces behind it are claimed all the same, and which
+/// of those that it won are made is not said.
 ///
 /// Each piece costs one claim, and each that is won one turn and a look at its 64 cells.
 pub fn work<G: Gate, R: Wait>(

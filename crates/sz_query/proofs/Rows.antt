@@ -19,7 +19,8 @@ use Rattle.sz_shelf.specs.Places.{Place}
 use Rattle.sz_shelf.specs.Passes.{Onlooker, newcomer}
 use Rattle.sz_query.specs.declared.used.Used.TheVariants as used
 use Rattle.sz_query.specs.Views.{View, by_map, by_store, by_shelf, by_growth, by_trace, used_of, traced_by, IsUsable}
-use Rattle.sz_query.specs.Turns.{IsAsked}
+use Rattle.sz_query.specs.Laws.{may_change}
+use Rattle.sz_query.specs.Turns.{LookedOnce, IsAsked}
 use Rattle.sz_query.specs.Answers.{answered, traced_of, most_traced_of, AreSteps}
 
 abbrev at : Extent → List ℕ → Cells
@@ -275,6 +276,13 @@ pub growing-other_arrays : (z : TableId)
     → IsUsable (by_growth opposite [] (shelf_at z) (fresh z) strategy.FullOneB) → ⊥
 growing-other_arrays z ready = absurd (omega (arith, ap (λ (gs : List Grid). length gs) ready.inputs))
 
+-- how a step goes is told before it is taken, but for a view of a shelf that may grow
+pub told-before : map may_change (turned ∷ kept_back ∷ traced_turned ∷ []) ≡ false ∷ false ∷ false ∷ []
+told-before = refl
+
+pub told-shelf : (z : TableId) → map may_change (stored z ∷ growing z ∷ grown z ∷ []) ≡ false ∷ true ∷ true ∷ []
+told-shelf z = refl
+
 -- how many turns the pass of a view made
 abbrev turns_of : View → ℕ
 turns_of (by_map s) = 0
@@ -289,3 +297,16 @@ asked-mapping = refl
 
 pub asked-no_turn : (z : TableId) → IsAsked (growing z) (growing z) → ⊥
 asked-no_turn z asked = absurd (omega (arith, asked.1.turn.turns, ap turns_of asked.2))
+
+-- a pass that took one turn in which it placed the piece, and one that sealed in it: neither looked
+abbrev placing : TableId → Onlooker
+placing z = record (fresh z) { seen = 0 ∷ []; turns = 1 }
+
+abbrev sealing : TableId → Onlooker
+sealing z = record (fresh z) { seen = 0 ∷ []; saw = true; turns = 1; found = 0 ∷ [] }
+
+pub looked-placing : (z : TableId) → LookedOnce (fresh z) (placing z) → ⊥
+looked-placing z looked = absurd (omega (arith, ap (λ (ks : List ℕ). length ks) looked.seen))
+
+pub looked-sealing : (z : TableId) → LookedOnce (fresh z) (sealing z) → ⊥
+looked-sealing z looked = true≢false looked.saw

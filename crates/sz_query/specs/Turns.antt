@@ -3,10 +3,13 @@ use Rattle.std.specs.Prelude.{◌≡◌, ◌⊎◌}
 use Rattle.sz_shelf.specs.Passes.{Onlooker, TookTurn}
 use Rattle.sz_query.specs.Views.{View, by_map, by_store, by_shelf, by_growth, by_trace}
 
--- a pass looked once: it took one turn, and keeps what it kept
+-- A pass looked once: it took one turn, in which it placed nothing and did not seal, so it has seen
+-- and saw what it found; and it keeps what it kept.
 pub record LookedOnce (p q : Onlooker) : Type 0 where
   pub turn : TookTurn p q
   pub kept : q.kept ≡ p.kept
+  pub seen : q.seen ≡ q.found
+  pub saw : q.saw ≡ q.found_sealed
 
 -- A view before its step and after it: one by a shelf has a pass that looked once, and all else of
 -- it, and each other view, is the same.

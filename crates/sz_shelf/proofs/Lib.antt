@@ -1,6 +1,7 @@
 -- The lemmas: of what lineages placed one after another stand for, of marks of placed pieces, and of the stores of a
 -- tag; then of lists, of the kinds of step, of a turn, of the machine's replies, and of the laws; and of what crosses
 -- threads.
+pub mod Fitting
 pub mod Lineages
 pub mod Marks
 pub mod Stores
@@ -9,7 +10,10 @@ mod Moves
 mod Slots
 mod Turning
 mod Telling
+mod Pairs
 mod Reading
 mod Effects
 pub mod Crossing
 mod Rows
+mod RowsSteps
+mod RowsPairs

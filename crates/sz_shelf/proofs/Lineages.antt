@@ -25,16 +25,18 @@ use Rattle.sz_spec.specs.Shapes.{Site}
 use Rattle.sz_spec.specs.Modes.{mode_of, is_stored}
 use Rattle.sz_spec.specs.Pieces.{pieces_of, is_in_piece}
 use Rattle.sz_region.specs.Parts.{Pairing, Entry, Parts}
-use Rattle.sz_region.specs.Fits.{Fits, StandsOn, IsRegion, IsEntry, needs, is_mode}
+use Rattle.sz_region.specs.Fits.{StandsOn, IsRegion, IsEntry, needs, is_mode}
 use Rattle.sz_region.specs.Images.{measure_of}
+use Rattle.sz_region.specs.Laws.{IsTheRelation}
 use Rattle.sz_store.specs.Kept.{Holding, regions, entries, NodeLineage, with_part, keep_with, with_lineage}
 use Rattle.sz_store.specs.Kept.{with_lineages, empty_keep, no_lineage, stored_in, nothing_for, is_placed}
-use Rattle.sz_store.specs.Kept.{holding_stands}
+use Rattle.sz_store.specs.Kept.{holding_stands, is_whole}
+use Rattle.sz_store.specs.Laws.{HasEachPiece}
 use Rattle.sz_store.specs.Stocks.{mode_in}
-use Rattle.sz_store.specs.Laws.{AllFit}
+use Rattle.sz_shelf.specs.Fitting.{FitsAsNeeded, AllFitAsNeeded}
 use Rattle.sz_store.proofs.Parting.{holding_has, part_in, or-cases, has-more, stands-old, stands-new, any-inside}
 use Rattle.sz_store.proofs.Parting.{piece-number}
-use Rattle.sz_store.proofs.Standing.{placed-same, placed-more, placed-cases, is-false}
+use Rattle.sz_store.proofs.Standing.{placed-same, placed-more, placed-cases, is-false, all-placed, own-piece}
 
 -- a store of the list is right so far
 pub record IsRight (s : Site) (inputs : List Grid) (list : List Strategy) (placed : List Bool)
@@ -50,8 +52,8 @@ pub record AreRight (s : Site) (inputs : List Grid) (list : List Strategy) (st :
 -- ---- the part of a lineage that fits
 
 part-inside : (s : Site) (inputs : List Grid) (list : List Strategy) (p : Parts) (h : Holding) (o : Cell)
-    → Fits (measure_of s inputs) list p.piece p → needs list (mode_in h) ≡ true → holding_has (part_in p h) o ≡ true
-    → is_in_piece s.out p.piece o ≡ true
+    → FitsAsNeeded (measure_of s inputs) list p.piece p → needs list (mode_in h) ≡ true
+    → holding_has (part_in p h) o ≡ true → is_in_piece s.out p.piece o ≡ true
 part-inside s inputs list p (regions rs) o fits need there =
     any-inside s.out p.piece o (IsRegion (measure_of s inputs) p.piece) (λ (r : Pairing). has r.out o) p.regions
     (λ r is. is.out.inside o) (fits.full need).each there
@@ -63,7 +65,7 @@ part-inside s inputs list p (entries true es) o fits need there =
     (λ e is. is.out.inside o) (fits.comp need).each there
 
 part-stands : (s : Site) (inputs : List Grid) (list : List Strategy) (p : Parts) (h : Holding)
-    → Fits (measure_of s inputs) list p.piece p → needs list (mode_in h) ≡ true
+    → FitsAsNeeded (measure_of s inputs) list p.piece p → needs list (mode_in h) ≡ true
     → StandsOn (measure_of s inputs) p.piece (holding_stands s (part_in p h))
 part-stands s inputs list p (regions rs) fits need = (fits.full need).stands
 part-stands s inputs list p (entries false es) fits need = (fits.pay need).stands
@@ -77,7 +79,7 @@ mode-more p (entries true es) = refl
 -- ---- one lineage more
 
 right-more : (s : Site) (inputs : List Grid) (list : List Strategy) (placed : List Bool) (p : Parts) (h : Holding)
-    → is_placed placed p.piece ≡ false → p.piece < length placed → Fits (measure_of s inputs) list p.piece p
+    → is_placed placed p.piece ≡ false → p.piece < length placed → FitsAsNeeded (measure_of s inputs) list p.piece p
     → IsRight s inputs list placed h → IsRight s inputs list (set placed p.piece true) (with_part p h)
 right-more s inputs list placed p h new below fits right = record {
   needed = ap (needs list) (mode-more p h) ∙ right.needed;
@@ -120,7 +122,7 @@ record IsStep (s : Site) (inputs : List Grid) (list : List Strategy) (k : ℕ) (
   back : (j : ℕ) → is_placed next.placed j ≡ true → (j ≡ k) ⊎ (is_placed st.placed j ≡ true)
 
 step-more : (s : Site) (inputs : List Grid) (list : List Strategy) (st : NodeLineage) (p : Parts)
-    → AreRight s inputs list st → p.piece < pieces_of s.out → Fits (measure_of s inputs) list p.piece p
+    → AreRight s inputs list st → p.piece < pieces_of s.out → FitsAsNeeded (measure_of s inputs) list p.piece p
     → IsStep s inputs list p.piece st (with_lineage st p)
 step-more s inputs list st p right below fits =
     elim (cases_Bool (is_placed st.placed p.piece)) [
@@ -158,7 +160,7 @@ or-right true c there = refl
 or-right false c there = there
 
 pub run-all : (s : Site) (inputs : List Grid) (list : List Strategy) (ps : List Parts) (st : NodeLineage)
-    → AreRight s inputs list st → AllFit s inputs list ps → IsRun s inputs list ps st (with_lineages st ps)
+    → AreRight s inputs list st → AllFitAsNeeded s inputs list ps → IsRun s inputs list ps st (with_lineages st ps)
 run-all s inputs list [] st right fit = record {
   right = right;
   own = λ k none. absurd (true≢false (sym none));
@@ -166,7 +168,7 @@ run-all s inputs list [] st right fit = record {
   back = λ j placed. inr placed;
 }
 run-all s inputs list (p ∷ ps) st right fit =
-    let Q : Parts → Type 0 = λ q. (q.piece < pieces_of s.out) × Fits (measure_of s inputs) list q.piece q in
+    let Q : Parts → Type 0 = λ q. (q.piece < pieces_of s.out) × FitsAsNeeded (measure_of s inputs) list q.piece q in
     let first = All-head Q p ps fit in
     let step = step-more s inputs list st p right first.0 first.1 in
     let rest = run-all s inputs list ps (with_lineage st p) step.right (All-tail Q p ps fit) in
@@ -252,3 +254,21 @@ empty-right s inputs list =
             stands = λ j there. absurd (true≢false (sym there ∙ none-placed n j));
           });
     }
+
+-- ---- all pieces
+
+pub needed-make-relation : (s : Site) (inputs : List Grid) (list : List Strategy) (ps : List Parts)
+    → AllFitAsNeeded s inputs list ps → HasEachPiece s ps
+    → let kept = with_lineages (no_lineage s list) ps in (is_whole kept ≡ true)
+    × All (λ f. IsTheRelation (measure_of s inputs) (holding_stands s f.holding)) kept.stores
+needed-make-relation s inputs list ps fit each =
+    let last = with_lineages (no_lineage s list) ps in
+    let run = run-all s inputs list ps (no_lineage s list) (empty-right s inputs list) fit in
+    let long = run.right.long in (
+      all-placed last.placed (λ k below. run.own k (each k (omega (arith, long, below)))),
+      λ k d inside i o x few held there.
+          let right = run.right.each k d inside in
+          let own = own-piece s.out o held in
+          right.stands (index_of s.out o / 64) (run.own (index_of s.out o / 64) (each (index_of s.out o / 64) own.0))
+          i o x few own.1 there,
+    )

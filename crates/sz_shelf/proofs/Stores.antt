@@ -23,15 +23,14 @@ use Rattle.sz_spec.specs.Modes.{number_of, is_stored, is_listed}
 use Rattle.sz_spec.specs.Pieces.{pieces_of}
 use Rattle.sz_spec.specs.Sides.{near_side, image_in}
 use Rattle.sz_region.specs.Parts.{Parts}
-use Rattle.sz_region.specs.Fits.{Fits}
+use Rattle.sz_shelf.specs.Fitting.{FitsAsNeeded}
 use Rattle.sz_region.specs.Images.{measure_of}
 use Rattle.sz_region.specs.Laws.{IsTheRelation}
 use Rattle.sz_region.proofs.Passing.{any-map}
 use Rattle.sz_store.specs.Kept.{Holding, regions, entries, Keep, NodeLineage, keep_with, with_lineage, with_lineages}
 use Rattle.sz_store.specs.Kept.{empty_keep, no_lineage, stored_in, is_placed, holding_for, holding_stands}
 use Rattle.sz_store.proofs.Parting.{holding_has, or-cases, stands-old}
-use Rattle.sz_store.proofs.Placing.{fitting-placed}
-use Rattle.sz_store.proofs.Standing.{is-false, own-piece, pieces-make-relation}
+use Rattle.sz_store.proofs.Standing.{is-false, own-piece}
 use Rattle.sz_shelf.specs.Tags.{Tag, StandsFor, tag_pieces, tag_relation, tag_image}
 use Rattle.sz_shelf.specs.Contents.{is_in, missing_in}
 use Rattle.sz_shelf.specs.LawsStores.{LineagesStandOnTheirPieces, LineagesOfAllPiecesStandForTheTag}
@@ -41,7 +40,8 @@ use Rattle.sz_shelf.specs.Placed.{StandsOnPlaced, unplaced_stands}
 use Rattle.sz_shelf.specs.Keeping.{IsMadeOf, AreStores, store_in, IsSharedFrom, CanTake, with_more}
 use Rattle.sz_shelf.specs.declared.stored.Stored.{Stored}
 use Rattle.sz_shelf.specs.declared.stored.Stored.TheVariants.{Open, Shared, Moved}
-use Rattle.sz_shelf.proofs.Lineages.{run-all, empty-right, none-placed}
+use Rattle.sz_shelf.proofs.Fitting.{needed-placed}
+use Rattle.sz_shelf.proofs.Lineages.{run-all, empty-right, none-placed, needed-make-relation}
 use Rattle.sz_shelf.proofs.Marks.{each-placed}
 
 -- ---- what lineages leave as it is
@@ -119,7 +119,7 @@ pub made-whole : LineagesOfAllPiecesStandForTheTag
 made-whole t ps fit none =
     let start = no_lineage t.site t.list in
     let same = same-all start ps in
-    let made = pieces-make-relation t.site t.inputs t.list ps fit
+    let made = needed-make-relation t.site t.inputs t.list ps fit
     (λ k below. sym (piece-in ps k) ∙ each-placed (tag_pieces t) (map (λ p. p.piece) ps) none k below) in
     record {
       site = same.site;
@@ -194,11 +194,11 @@ pieces-last [] p = refl
 pieces-last (q ∷ ps) p = ap (λ (ks : List ℕ). q.piece ∷ ks) (pieces-last ps p)
 
 pub made-more : (t : Tag) (placed : List ℕ) (kept : NodeLineage) (p : Parts) → IsMadeOf t placed kept
-    → p.piece < tag_pieces t → Fits (measure_of t.site t.inputs) t.list p.piece p
+    → p.piece < tag_pieces t → FitsAsNeeded (measure_of t.site t.inputs) t.list p.piece p
     → IsMadeOf t (placed ++ p.piece ∷ []) (with_lineage kept p)
 made-more t placed kept p made below fits =
     let Q : Parts → Type 0 =
-    λ q. (q.piece < pieces_of t.site.out) × Fits (measure_of t.site t.inputs) t.list q.piece q in
+    λ q. (q.piece < pieces_of t.site.out) × FitsAsNeeded (measure_of t.site t.inputs) t.list q.piece q in
     record {
       lineages = made.lineages ++ p ∷ [];
       fit = All-append Q made.lineages (p ∷ []) made.fit (All-cons Q p [] (below, fits) (All-nil Q));
@@ -211,13 +211,13 @@ made-more t placed kept p made below fits =
 -- open stores can be given a lineage that fits
 pub can-take : (t : Tag) (placed : List ℕ) (sealed : Bool) (s : Stored) (p : Parts) → sealed ≡ false
     → AreStores t placed sealed s → p.piece < tag_pieces t
-    → Fits (measure_of t.site t.inputs) t.list p.piece p → CanTake p s
+    → FitsAsNeeded (measure_of t.site t.inputs) t.list p.piece p → CanTake p s
 can-take t placed sealed (Open kept) p free are below fits =
     let same = same-all (no_lineage t.site t.list) are.lineages in
     let site : kept.site ≡ t.site = ap (λ (x : NodeLineage). x.site) are.made ∙ same.site in
     let list : kept.list ≡ t.list = ap (λ (x : NodeLineage). x.list) are.made ∙ same.list in (
       rw site below,
-      rw (site, list) (fitting-placed t.site t.inputs t.list p fits),
+      rw (site, list) (needed-placed t.site t.inputs t.list p fits),
     )
 can-take t placed sealed (Shared a) p free are below fits = absurd (true≢false (sym are.0 ∙ free))
 can-take t placed sealed Moved p free are below fits = absurd are
@@ -225,7 +225,7 @@ can-take t placed sealed Moved p free are below fits = absurd are
 -- and are then the tag's still
 pub stores-more : (t : Tag) (placed : List ℕ) (sealed : Bool) (s : Stored) (p : Parts) → sealed ≡ false
     → AreStores t placed sealed s → p.piece < tag_pieces t
-    → Fits (measure_of t.site t.inputs) t.list p.piece p
+    → FitsAsNeeded (measure_of t.site t.inputs) t.list p.piece p
     → AreStores t (placed ++ p.piece ∷ []) sealed (with_more p s)
 stores-more t placed sealed (Open kept) p free are below fits = made-more t placed kept p are below fits
 stores-more t placed sealed (Shared a) p free are below fits = absurd (true≢false (sym are.0 ∙ free))
@@ -234,7 +234,9 @@ stores-more t placed sealed Moved p free are below fits = absurd are
 pub made-none : (t : Tag) → IsMadeOf t [] (no_lineage t.site t.list)
 made-none t = record {
   lineages = [];
-  fit = All-nil (λ (q : Parts). (q.piece < pieces_of t.site.out) × Fits (measure_of t.site t.inputs) t.list q.piece q);
+  fit =
+      All-nil
+      (λ (q : Parts). (q.piece < pieces_of t.site.out) × FitsAsNeeded (measure_of t.site t.inputs) t.list q.piece q);
   pieces = refl;
   made = refl;
 }

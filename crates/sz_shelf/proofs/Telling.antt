@@ -32,7 +32,7 @@ as-many : (t : Tag) (found : List ℕ) (sealed : Bool) → length (shelf_of t fo
 as-many t found sealed = length-map-range_with_len (pairs_of_piece t) 0 (tag_pieces t)
 
 -- it misses the same piece
-misses : (t : Tag) (found : List ℕ) (sealed : Bool)
+pub misses : (t : Tag) (found : List ℕ) (sealed : Bool)
     → missing_piece (shelf_of t found sealed) ≡ missing_in (tag_pieces t) found
 misses t found sealed = ap (λ n. missing_in n found) (as-many t found sealed)
 

@@ -9,7 +9,7 @@ use Rattle.std.specs.Arc.{arc_value}
 use Rattle.sz_spec.specs.Pieces.{pieces_of}
 use Rattle.sz_region.specs.Parts.{Parts}
 use Rattle.sz_store.specs.Kept.{NodeLineage, AreParts, no_lineage, with_lineage, with_lineages}
-use Rattle.sz_store.specs.Laws.{AllFit}
+use Rattle.sz_shelf.specs.Fitting.{AllFitAsNeeded}
 use Rattle.sz_shelf.specs.Tags.{Tag, IsTag, StandsFor, tag_pieces}
 use Rattle.sz_shelf.specs.Contents.{is_in, missing_in}
 use Rattle.sz_shelf.specs.declared.stored.Stored.{Stored}
@@ -44,7 +44,7 @@ IsSharedFrom before after = after ≡ before
 -- lineages that fit, one of each placed piece in their order, make up these stores
 pub record IsMadeOf (t : Tag) (placed : List ℕ) (kept : NodeLineage) : Type 0 where
   pub lineages : List Parts
-  pub fit : AllFit t.site t.inputs t.list lineages
+  pub fit : AllFitAsNeeded t.site t.inputs t.list lineages
   pub pieces : map (λ p. p.piece) lineages ≡ placed
   pub made : kept ≡ with_lineages (no_lineage t.site t.list) lineages
 

@@ -9,21 +9,22 @@ use Rattle.sz_region.specs.Parts.{Parts}
 use Rattle.sz_region.specs.Images.{measure_of}
 use Rattle.sz_region.specs.Laws.{IsTheRelation}
 use Rattle.sz_store.specs.Kept.{NodeLineage, no_lineage, with_lineages, holding_for, holding_stands}
-use Rattle.sz_store.specs.Laws.{AllFit}
+use Rattle.sz_shelf.specs.Fitting.{AllFitAsNeeded}
 use Rattle.sz_shelf.specs.Tags.{Tag, StandsFor, tag_pieces, tag_image}
 use Rattle.sz_shelf.specs.Contents.{missing_in}
 use Rattle.sz_shelf.specs.Placed.{StandsOnPlaced}
 
--- Lineages that fit, placed one after another, stand for exactly the relation on the cells of their
--- pieces, and elsewhere for nothing or the composite default.
+-- Lineages of which the parts that the list needs fit, placed one after another, stand for exactly
+-- the relation on the cells of their pieces, and elsewhere for nothing or the composite default.
 abbrev pub LineagesStandOnTheirPieces : Type 0
-LineagesStandOnTheirPieces = (t : Tag) (ps : List Parts) → AllFit t.site t.inputs t.list ps
+LineagesStandOnTheirPieces = (t : Tag) (ps : List Parts)
+    → AllFitAsNeeded t.site t.inputs t.list ps
     → StandsOnPlaced t (map (λ p. p.piece) ps) (with_lineages (no_lineage t.site t.list) ps)
 
 -- Where no piece is missing among them, the stores are whole and stand for all of the relation.
 abbrev pub LineagesOfAllPiecesStandForTheTag : Type 0
 LineagesOfAllPiecesStandForTheTag = (t : Tag) (ps : List Parts)
-    → AllFit t.site t.inputs t.list ps
+    → AllFitAsNeeded t.site t.inputs t.list ps
     → missing_in (tag_pieces t) (map (λ p. p.piece) ps) ≡ None
     → StandsFor t (with_lineages (no_lineage t.site t.list) ps)
 

@@ -1,5 +1,6 @@
 -- What contracts name, how it is known, and what the laws say.
 pub mod Tags
+pub mod Fitting
 pub mod Contents
 pub mod Placed
 pub mod Keeping
@@ -11,5 +12,6 @@ pub mod Turns
 pub mod Answers
 pub mod Passes
 pub mod Machine
+pub mod LawsMachine
 pub mod Rules
 pub mod Changes

@@ -35,12 +35,14 @@
 //!   end, begin with what it had seen, and have no piece twice.
 //! - Its answer is the pure machine's reply to what it found, and it leaves the machine's next
 //!   state. A pass that saw the seal gets no unsealed answer again.
-//! - An image that was added is exactly the image under the operator's relation, and stores that
-//!   are handed out stand for exactly that relation.
+//! - An image that was added is exactly the image under the operator's relation, and what the pure
+//!   machine's ask then holds; stores that are handed out stand for exactly that relation.
+//! - Stores that are not sealed are read by no call: [`Shelved::store`] asks for the seal.
 //!
 //! The views behind these words are ghosts. [`laws`] says what they mean: the rule that holds
 //! between any two steps, and what each kind of step changes on the words, the slot and each view.
-//! [`standing`] says what the stores stand for, and [`Shelved::store`] that those in the slot do.
+//! [`standing`] says what the stores stand for, [`Shelved::standing`] that those in the slot do,
+//! and [`matching`] that the machine is given the tag's relation.
 //!
 //! # What is not
 //!
@@ -58,6 +60,7 @@
 
 mod answers;
 pub mod laws;
+pub mod matching;
 mod pass;
 mod rule;
 mod shelf;

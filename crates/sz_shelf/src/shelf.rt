@@ -7,10 +7,10 @@ ghost use Rattle.std.specs.Arc.{arc_value};
 ghost use Rattle.sz_cells.specs.Cells.{has, with_those};
 ghost use Rattle.sz_spec.specs.Modes.{is_listed, is_stored};
 ghost use Rattle.sz_spec.specs.Sides.{near_side, far_side};
-ghost use Rattle.sz_region.specs.Fits.{Fits};
+ghost use Rattle.sz_shelf.specs.Fitting.{FitsAsNeeded};
 ghost use Rattle.sz_region.specs.Images.{measure_of};
 ghost use Rattle.sz_core.specs.Events.{place_reply, after_place, seal_reply, after_seal};
-ghost use Rattle.sz_core.specs.Events.{look_reply};
+ghost use Rattle.sz_core.specs.Events.{look_reply, after_look};
 ghost use Rattle.sz_shelf.specs.Machine.{found_shelf, left_shelf, first_step};
 ghost use Rattle.sz_shelf.specs.Machine.{told_of_place, told_of_seal, told_of_look};
 ghost use Rattle.sz_shelf.specs.Tags.{IsTag, StandsFor, tag_pieces, tag_image};
@@ -30,6 +30,7 @@ use std::alloc::Global;
 use std::marker::Model;
 use std::snapshot::Snapshot;
 use std::sync::{Arc, Wait};
+use sz_cells::laws::a_bitmap_is_its_cells;
 use sz_cells::{CellBits, NoMemory};
 use sz_region::PieceLineage;
 use sz_spec::{Array, Dir, OpAt, Strategy};
@@ -122,7 +123,7 @@ impl Shelf {
         requires own { place_of pass.old ≡ self.now }
         requires piece { lineage.now.piece < tag_pieces pass.old.tag }
         requires fits { let t = pass.old.tag in
-            Fits (measure_of t.site t.inputs) t.list lineage.now.piece lineage.now }
+            FitsAsNeeded (measure_of t.site t.inputs) t.list lineage.now.piece lineage.now }
         ensures turn { TookTurn pass.old pass.new }
         ensures kept { pass.new.kept ≡ pass.old.kept }
         ensures answer { IfOk result
@@ -186,6 +187,8 @@ impl Shelf {
             result ≡ look_answer (tag_pieces q.tag) q.found q.found_sealed }
         ensures done { result ≡ Done → to.new
             ≡ with_those to.old (has (tag_image dir pass.old.tag input from.now)) }
+        ensures cells { let ask = first_step dir input from.now in result ≡ Done → to.new
+            ≡ with_those to.old (has (after_look (found_shelf pass.new ∷ []) ask).cells) }
         ensures unsealed { ¬ (result ≡ Done) → to.new ≡ to.old }
         ensures seen { pass.new.seen ≡ pass.new.found }
         ensures saw { pass.new.saw ≡ pass.new.found_sealed }
@@ -193,6 +196,7 @@ impl Shelf {
         ensures told { told_of_look result ≡ look_reply (found_shelf pass.new ∷ [])
             (first_step dir input from.now) }
     {
+        a_bitmap_is_its_cells(from);
         self.words.enter(rt, &mut pass.seat);
         let look = self.words.image(&mut pass.seat, s, dir, input, from, to);
         self.words.leave(&mut pass.seat);

@@ -11,7 +11,7 @@ ghost use Rattle.std.specs.Arc.{arc_value};
 ghost use Rattle.sz_cells.specs.Cells.{has, with_those};
 ghost use Rattle.sz_spec.specs.Modes.{is_listed, is_stored};
 ghost use Rattle.sz_spec.specs.Sides.{near_side, far_side};
-ghost use Rattle.sz_region.specs.Fits.{Fits};
+ghost use Rattle.sz_shelf.specs.Fitting.{FitsAsNeeded};
 ghost use Rattle.sz_region.specs.Images.{measure_of};
 ghost use Rattle.sz_shelf.specs.Tags.{IsTag, StandsFor, tag_pieces, tag_image};
 ghost use Rattle.sz_shelf.specs.Placed.{StandsOnPlaced};
@@ -83,13 +83,22 @@ impl Shelved {
         })
     }
 
-    /// The stores. On each placed piece they stand for exactly the tag's relation, elsewhere for
-    /// nothing or the composite default; once sealed, they are whole and stand for all of it.
+    /// The stores, which can be read once they are sealed. They are whole then, and stand for all
+    /// of the tag's relation.
     pub fn store(&self) -> &NodeStore
-        ensures placed { StandsOnPlaced self.now.tag self.now.placed result.now }
-        ensures whole { self.now.sealed ≡ true → StandsFor self.now.tag result.now }
+        requires { self.now.sealed ≡ true }
+        ensures { StandsFor self.now.tag result.now }
     {
         self.stored.store()
+    }
+
+    /// The stores as contracts alone see them. On each placed piece they stand for exactly the
+    /// tag's relation, elsewhere for nothing or the composite default.
+    pub fn standing(&self) -> Snapshot<NodeStore>
+        ensures placed { StandsOnPlaced self.now.tag self.now.placed result.value }
+        ensures whole { self.now.sealed ≡ true → StandsFor self.now.tag result.value }
+    {
+        Snapshot::of(self.stored.store())
     }
 
     /// Whether they are sealed.
@@ -137,7 +146,7 @@ impl Shelved {
     pub(crate) fn place(&mut self, lineage: &PieceLineage) -> Result<(), NoMemory>
         requires piece { lineage.now.piece < tag_pieces self.old.tag }
         requires fits { let t = self.old.tag in
-            Fits (measure_of t.site t.inputs) t.list lineage.now.piece lineage.now }
+            FitsAsNeeded (measure_of t.site t.inputs) t.list lineage.now.piece lineage.now }
         requires open { self.old.sealed ≡ false }
         requires new { is_in self.old.placed lineage.now.piece ≡ false }
         ensures ok { OnOk result (self.new ≡ record self.old {

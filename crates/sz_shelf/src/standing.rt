@@ -2,14 +2,21 @@
 //! its contract is the law. What the stores in a shelf's slot stand for is said by
 //! [`Shelved::store`](crate::Shelved::store).
 
+ghost use Rattle.sz_shelf.specs.Fitting.{FittingLineagesFitAsNeeded, NeededPartsCanBePlaced};
 ghost use Rattle.sz_shelf.specs.LawsStores.{LineagesStandOnTheirPieces};
 ghost use Rattle.sz_shelf.specs.LawsStores.{EachStrategyStandsForTheTag};
 ghost use Rattle.sz_shelf.specs.LawsStores.{LineagesOfAllPiecesStandForTheTag};
 ghost use Rattle.sz_shelf.specs.LawsStores.{WholeStoresStandOnPlacedPieces};
 ghost use Rattle.sz_shelf.specs.LawsStores.{ImagesByStoresAreTheTags};
 
-/// Lineages that fit, placed one after another, stand for exactly the relation on the cells of
-/// their pieces, and elsewhere for nothing or the composite default.
+/// A lineage that fits its piece fits as needed. One that does can be placed, whatever else it has.
+pub fn needed_parts_can_be_placed()
+    ensures fitting { FittingLineagesFitAsNeeded }
+    ensures placed { NeededPartsCanBePlaced }
+{}
+
+/// Lineages of which the needed parts fit, placed one after another, stand for exactly the relation
+/// on the cells of their pieces, and elsewhere for nothing or the composite default.
 pub fn lineages_stand_on_their_pieces()
     ensures { LineagesStandOnTheirPieces }
 {}

@@ -7,7 +7,7 @@ ghost use Rattle.std.specs.Arc.{arc_value};
 ghost use Rattle.sz_cells.specs.Cells.{has, with_those};
 ghost use Rattle.sz_spec.specs.Modes.{is_listed, is_stored};
 ghost use Rattle.sz_spec.specs.Sides.{near_side, far_side};
-ghost use Rattle.sz_region.specs.Fits.{Fits};
+ghost use Rattle.sz_shelf.specs.Fitting.{FitsAsNeeded};
 ghost use Rattle.sz_region.specs.Images.{measure_of};
 ghost use Rattle.sz_shelf.specs.Tags.{StandsFor, tag_pieces, tag_image};
 ghost use Rattle.sz_shelf.specs.Contents.{missing_in};
@@ -244,7 +244,7 @@ impl Words {
         requires out { HasOut seat.old.me }
         requires piece { lineage.now.piece < tag_pieces seat.old.me.0.tag }
         requires fits { let t = seat.old.me.0.tag in
-            Fits (measure_of t.site t.inputs) t.list lineage.now.piece lineage.now }
+            FitsAsNeeded (measure_of t.site t.inputs) t.list lineage.now.piece lineage.now }
         ensures own { seat.new.table_id ≡ seat.old.table_id }
         ensures out { HasOut seat.new.me }
         ensures answer { let v = seat.old.me.0 in

@@ -1,12 +1,31 @@
--- The piece is seen, whatever the place told; and the tally rose by what was looked at.
-use Rattle.std.proofs.Common.{◌≡◌, ◌<◌, ℕ, true, ap, ◌∙◌, subst, arith}
+-- A piece that was made fits, so the parts that the list needs do. It is seen, whatever the place told; and the tally
+-- rose by what was looked at.
+use Rattle.std.proofs.Common.{◌≡◌, ◌<◌, ℕ, true, map, ap, ◌∙◌, subst, sym, arith, Global}
 use Rattle.std.specs.Prelude.{Ok}
+use Rattle.std.specs.Arc.{arc_value}
+use Rattle.std.specs.declared.sync.Arc.{Arc}
+use Rattle.sz_spec.specs.Values.{Grid}
 use Rattle.sz_spec.specs.Pieces.{pieces_of}
-use Rattle.sz_shelf.specs.Tags.{tag_pieces}
+use Rattle.sz_region.specs.Images.{measure_of}
+use Rattle.sz_shelf.specs.Tags.{Tag, tag_pieces}
+use Rattle.sz_shelf.specs.Fitting.{FitsAsNeeded}
+use Rattle.sz_shelf.proofs.Fitting.{fits-needed}
 use Rattle.sz_shelf.specs.Places.{Place}
 use Rattle.sz_shelf.specs.Contents.{is_in}
 use Rattle.sz_pool.proofs.Turns.{grows-turn, seen-placed, told-by}
 use Rattle.sz_pool.proofs.maker.Maker.place.Goals as goal
+
+pub place-requires-clause-fits : goal.place-requires-clause-fits
+place-requires-clause-fits g c =
+    let lineage = c.in_ok-lineage.lineage in
+    let piece : lineage.piece ≡ c.args.k = c.in_ok-lineage.ensures.piece in
+    let tag = ap (λ (z : Place). z.tag) c.requires.own ∙ c.args.self.now.tag in
+    let made = c.args.self.now in
+    let at = made.at.now in
+    let inputs = map (λ (a : Arc Grid Global). arc_value a) made.inputs.now in
+    let fits = fits-needed (measure_of at inputs) made.list.now c.args.k lineage c.in_ok-lineage.ensures.fits in
+    subst (λ (t : Tag). FitsAsNeeded (measure_of t.site t.inputs) t.list lineage.piece lineage) (sym tag)
+    (subst (λ (j : ℕ). FitsAsNeeded (measure_of at inputs) made.list.now j lineage) (sym piece) fits)
 
 pub returns : goal.returns
 returns g c =

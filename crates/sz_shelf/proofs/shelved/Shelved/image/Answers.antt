@@ -7,5 +7,5 @@ pub returns : goal.returns
 returns c =
     c.image.ensures
     ∙ image-told c.args.self.now.tag c.store-store.result.now c.args.strategy c.args.dir c.args.input c.args.from.now
-    c.args.to.now (c.store-store.ensures.whole c.requires.sealed) c.requires.listed c.requires.stored c.requires.input
+    c.args.to.now c.store-store.ensures c.requires.listed c.requires.stored c.requires.input
     c.a_bitmap_is_its_cells.ensures.cells c.requires.from

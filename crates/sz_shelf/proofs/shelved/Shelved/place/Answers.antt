@@ -2,8 +2,8 @@
 use Rattle.std.proofs.Common.{◌≡◌, ◌<◌, ◌++◌, [], ◌∷◌, ℕ, List, length, false, true≢false, subst, sym, ap, ◌∙◌}
 use Rattle.sz_shelf.specs.Tags.{tag_pieces}
 use Rattle.sz_shelf.specs.Contents.{Contents, is_in}
-use Rattle.sz_region.specs.Fits.{Fits}
 use Rattle.sz_region.specs.Images.{measure_of}
+use Rattle.sz_shelf.specs.Fitting.{FitsAsNeeded}
 use Rattle.sz_shelf.proofs.Marks.{marks-more}
 use Rattle.sz_shelf.proofs.Stores.{can-take, stores-more}
 use Rattle.sz_shelf.proofs.shelved.Shelved.place.Goals as goal
@@ -14,8 +14,8 @@ place-requires c =
     can-take c.self.inside.tag.value c.self.inside.placed.items c.self.inside.sealed c.self.inside.stored p
     (subst (λ (x : Contents). x.sealed ≡ false) (sym c.self.view_is) c.requires.open) c.self.invariant.stores
     (subst (λ (x : Contents). p.piece < tag_pieces x.tag) (sym c.self.view_is) c.requires.piece)
-    (subst (λ (x : Contents). Fits (measure_of x.tag.site x.tag.inputs) x.tag.list p.piece p) (sym c.self.view_is)
-    c.requires.fits)
+    (subst (λ (x : Contents). FitsAsNeeded (measure_of x.tag.site x.tag.inputs) x.tag.list p.piece p)
+    (sym c.self.view_is) c.requires.fits)
 
 pub invariant_of-self-2 : goal.invariant_of-self-2
 invariant_of-self-2 c =
@@ -26,9 +26,9 @@ invariant_of-self-2 c =
     subst (λ (x : Contents). x.sealed ≡ false) (sym c.self.view_is) c.requires.open in
     let below : p.piece < tag_pieces t = subst (λ (x : Contents). p.piece < tag_pieces x.tag) (sym c.self.view_is)
     c.requires.piece in
-    let fits : Fits (measure_of t.site t.inputs) t.list p.piece p =
-    subst (λ (x : Contents). Fits (measure_of x.tag.site x.tag.inputs) x.tag.list p.piece p) (sym c.self.view_is)
-    c.requires.fits in
+    let fits : FitsAsNeeded (measure_of t.site t.inputs) t.list p.piece p =
+    subst (λ (x : Contents). FitsAsNeeded (measure_of x.tag.site x.tag.inputs) x.tag.list p.piece p)
+    (sym c.self.view_is) c.requires.fits in
     let new : is_in placed p.piece ≡ false =
     subst (λ (x : Contents). is_in x.placed p.piece ≡ false) (sym c.self.view_is) c.requires.new in
     let inside : p.piece < length c.self.inside.marks.items =

@@ -1,20 +1,14 @@
--- Open stores are made of the lineages of the placed pieces, and shared ones stand for the relation.
-use Rattle.std.proofs.Common.{◌≡◌, true, subst}
+-- Sealed stores, open or shared, stand for the relation.
+use Rattle.std.proofs.Common.{◌≡◌, true, subst, sym}
 use Rattle.sz_shelf.specs.Tags.{StandsFor}
-use Rattle.sz_shelf.specs.Placed.{StandsOnPlaced}
 use Rattle.sz_shelf.specs.Contents.{Contents}
-use Rattle.sz_shelf.proofs.Stores.{stores-placed, stores-whole}
+use Rattle.sz_shelf.proofs.Stores.{stores-whole}
 use Rattle.sz_shelf.proofs.shelved.Shelved.store.Goals as goal
 
-pub returns-clause-placed : goal.returns-clause-placed
-returns-clause-placed c =
-    subst (λ (x : Contents). StandsOnPlaced x.tag x.placed c.store.result.now) c.self.view_is
-    (stores-placed c.self.inside.tag.value c.self.inside.placed.items c.self.inside.sealed c.self.inside.stored
-    c.store.result.now c.self.invariant.whole c.self.invariant.stores c.store.ensures)
-
-pub returns-clause-whole : goal.returns-clause-whole
-returns-clause-whole c =
-    subst (λ (x : Contents). x.sealed ≡ true → StandsFor x.tag c.store.result.now) c.self.view_is
-    (λ sealed.
-    stores-whole c.self.inside.tag.value c.self.inside.placed.items c.self.inside.sealed c.self.inside.stored
+pub returns : goal.returns
+returns c =
+    let sealed : c.self.inside.sealed ≡ true =
+    subst (λ (x : Contents). x.sealed ≡ true) (sym c.self.view_is) c.requires in
+    subst (λ (x : Contents). StandsFor x.tag c.store.result.now) c.self.view_is
+    (stores-whole c.self.inside.tag.value c.self.inside.placed.items c.self.inside.sealed c.self.inside.stored
     c.store.result.now (c.self.invariant.whole sealed) c.self.invariant.stores c.store.ensures)
