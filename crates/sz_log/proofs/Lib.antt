@@ -5,4 +5,5 @@ pub mod Moments
 pub mod Places
 pub mod Reading
 pub mod Rows
+mod RowsSteps
 pub mod Tears
