@@ -17,7 +17,8 @@ loop-index-preserved c =
     let inside : i < length values = omega (arith, c.loop-index-test.true, c.requires.within, inv.long) in
     let is : c.value_at.result ≡ value s inputs i =
     c.value_at.ensures
-    ∙ ap (value_of s.op inputs) (c.cell_at.ensures.value ∙ ap (λ (e : Extent). cell_of e i) c.out-shape.ensures.value) in
+    ∙ ap (value_of s.op inputs)
+    (c.cell_at.ensures.value ∙ ap (λ (e : Extent). cell_of e i) c.out-shape.ensures.value) in
     record {
       below = omega (arith, c.loop-index-test.true);
       above = omega (arith, inv.above);

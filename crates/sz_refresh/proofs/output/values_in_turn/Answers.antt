@@ -37,7 +37,8 @@ compute-requires-clause-room c =
       c.loop-run.invariant.1,
       same,
       room-left (size_of set.extent)
-          c.runs-run-items.result.now c.loop-run.run-index zero c.runs-run-items.ensures.spelled.longest c.loop-run-test.true,
+          c.runs-run-items.result.now c.loop-run.run-index zero
+          c.runs-run-items.ensures.spelled.longest c.loop-run-test.true,
     )
 
 pub loop-run-preserved : goal.loop-run-preserved
