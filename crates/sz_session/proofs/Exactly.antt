@@ -3,7 +3,7 @@
 -- The key idea: that a disk does not begin as a log, that its first bad group stands at a place, and that it is a
 -- well-made log, are told by its bytes, and exclude each other; nor does the first bad group stand at two places. So
 -- each has statuses of its own, but for those of a call that failed and of want of memory.
-use Rattle.std.proofs.Common.{◌≡◌, ℕ, ◌<◌, ◌≤◌, length, List, true, Some, None, refl, sym, ap, ◌∙◌, subst, inl, inr}
+use Rattle.std.proofs.Common.{◌≡◌, ℕ, List, true, Some, None, refl, sym, ap, ◌∙◌, subst, inl, inr}
 use Rattle.std.proofs.Common.{arith, true≢false}
 use Rattle.std.specs.Prelude.{Option, ◌⊎◌}
 use Rattle.sz_outside.specs.Outside.{Rose}
