@@ -1,7 +1,7 @@
 -- What is told of a disk, and a pass in which nothing happens.
 --
 -- The key idea: where a stop finds just what it might have found before, nothing came between.
-use Rattle.std.proofs.Common.{◌≡◌, ℕ, ◌≤◌, List, Option, None, Some, refl, inl, arith}
+use Rattle.std.proofs.Common.{ℕ, ◌≤◌, List, Option, None, Some, refl, inl, arith}
 use Rattle.sz_outside.specs.Disk.{Told, Passes, Same, Said}
 
 abbrev Images : Type 1

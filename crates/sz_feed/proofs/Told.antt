@@ -4,19 +4,17 @@
 -- part of it, or a first part of that.
 use Rattle.std.proofs.Common.{◌≡◌, ℕ, ◌+◌, ◌<◌, ◌≤◌, List, []}
 use Rattle.std.proofs.Common.{◌++◌, length, take, drop, refl, sym, ap, ap₂, ◌∙◌, subst, append_assoc}
-use Rattle.std.proofs.Common.{arith, take-add, length-drop, Some, None, inl, inr}
-use Rattle.std.specs.Prelude.{Option, Result, Ok, Err, OnOk, ◌⊎◌}
+use Rattle.std.proofs.Common.{arith, take-add, length-drop, Some, None}
+use Rattle.std.specs.Prelude.{Option}
 use Rattle.std.proofs.lemmas.List.{append-nil, take-append-drop, drop-drop, take_all}
 use Rattle.std.proofs.Math.Seq.{drop-length}
-use Rattle.sz_outside.specs.Outside.{Says, SaysPart, Rose, Gives, GivesNext, Keeps}
+use Rattle.sz_outside.specs.Outside.{Says, SaysPart, Gives, GivesNext, Keeps}
 use Rattle.sz_commands.specs.Lines.{lines_of, Cut, cut, last_line}
 use Rattle.sz_commands.specs.Transcript.{transcript, whole_replies}
 use Rattle.sz_feed.specs.Moments.{Moment, moment_before, cut_after, told_in, moment_after, told_at_end, AreAlike}
 use Rattle.sz_commands.specs.States.{State}
 use Rattle.sz_feed.specs.Serving.{Advances, SaysFirst, HasAnswered, Answered, AreAll, Done, SaidOfRead, SaidToLimit}
-use Rattle.sz_feed.specs.Serving.{SaidInPart, SaidInLines, IsPastLimit, IsWithinLimit}
-use Rattle.sz_feed.specs.declared.feed.Halt.{Halt}
-use Rattle.sz_feed.specs.declared.feed.Halt.TheVariants as halt
+use Rattle.sz_feed.specs.Serving.{SaidInPart, SaidInLines}
 use Rattle.sz_feed.proofs.Cuts.{before_cut-nothing, lines_of-cut}
 use Rattle.sz_feed.proofs.Moments.{cut_after-parts, told_in-parts, told_in-whole, transcript-told, told_at_end-alike}
 use Rattle.sz_feed.proofs.Moments.{are_alike-same}

@@ -7,7 +7,7 @@ use Rattle.std.specs.Option.{option_map_or}
 use Rattle.sz_outside.specs.Outside.{Says, SaysPart}
 use Rattle.sz_catalogue.specs.declared.reply.Reply.{Reply}
 use Rattle.sz_catalogue.specs.Holdings.{no_holdings}
-use Rattle.sz_commands.specs.States.{State, state_of, nothing_held}
+use Rattle.sz_commands.specs.States.{State, state_of}
 use Rattle.sz_catalogue.specs.Responses.{reply_line}
 use Rattle.sz_catalogue.specs.Seen.{response_of}
 use Rattle.sz_commands.specs.Lines.{lines_of}
