@@ -17,6 +17,7 @@ use std::test::Fail;
 use sz_cells::{CellBits, CellSet, NoMemory, Run, Shape};
 use sz_ops::{piece, prepare_lineage};
 use sz_query::{NodeRunRef, NodeView};
+use sz_shelf::standing::needed_parts_can_be_placed;
 use sz_shelf::{Look, Pass, Placed, SealReply, Shelf};
 use sz_spec::{Array, ArrayList, Dir, Op, OpAt, Strategy, Tally};
 use sz_store::NodeStore;
@@ -121,6 +122,7 @@ impl Bench {
         let aid = prepare_lineage(alloc, &self.at, &inputs)?;
         let mut tally = Tally::new();
         let lineage = piece(alloc, &self.at, &inputs, &aid, k, &LIST, &mut tally)?;
+        needed_parts_can_be_placed();
         self.shelf.place(rt, pass, &lineage)
     }
 
