@@ -26,8 +26,8 @@ pub fn written_bodies_are_lawful()
     ensures { WrittenBodiesAreLawful }
 {}
 
-/// Whatever [`crate::version_body`] writes of a version of what is in order, awaited or not, is lawful
-/// over what is held but for that version, and says it, awaited: so it is taken where it was not.
+/// Whatever [`crate::version_body`] writes of a version of what is in order, awaited or not, is
+/// lawful over what is held but for that version, and says it, awaited.
 pub fn bodies_of_held_versions_are_lawful()
     ensures { HeldBodiesAreLawful }
 {}
