@@ -94,9 +94,9 @@ pub fn wrong_stores_are_unsound()
     ensures { WrongStoresAreUnsound }
 {}
 
-/// What [`crate::unsound`] gives says one thing of what is kept. It gives no store where each store,
-/// whatever its entry and its node, stands for exactly the relation of the operator that was
-/// executed there, and nowhere else; and of two stores it cannot give both.
+/// What [`crate::unsound`] gives says one thing of what is kept. It gives no store exactly where
+/// each store, whatever its entry and its node, stands for exactly the relation of the operator
+/// that was executed there; and of two stores it cannot give both.
 pub fn one_thing_is_told_of_stores()
     ensures none { NoneMeansEach }
     ensures each { EachMeansNone }
