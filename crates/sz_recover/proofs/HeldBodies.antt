@@ -2,8 +2,8 @@
 --
 -- The key idea: without it its number is new, and there are as many versions and cells less as it has; all else that is
 -- held stays, and the version is one of it.
-use Rattle.std.proofs.Common.{◌≡◌, ℕ, ◌+◌, ◌≤◌, ◌<◌, ◌==◌, List, [], ◌∷◌, length, sym, ap, arith, true, false, true≢false}
-use Rattle.std.proofs.Common.{Bool, not, ◌&&◌, nat_lt, nat_le, cond, Option, Some, None, is_none, filter, eq-eqb, refl}
+use Rattle.std.proofs.Common.{◌≡◌, ℕ, ◌+◌, ◌≤◌, ◌<◌, ◌==◌, List, [], ◌∷◌, length, sym, ap, arith}
+use Rattle.std.proofs.Common.{true, false, true≢false, Bool, not, ◌&&◌, nat_lt, nat_le, cond, Option, Some, is_none, filter, eq-eqb, refl}
 use Rattle.std.specs.List.{sum_by}
 use Rattle.std.specs.Map.{lookup, values_of}
 use Rattle.std.specs.BTreeMap.{is_at}

@@ -2,7 +2,7 @@
 -- values on both sides of each.
 --
 -- The key idea: on written-out values each is a computation; what does not hold gives two different ones as equal.
-use Rattle.std.proofs.Common.{◌≡◌, ℕ, List, [], ◌∷◌, Some, None, Option, refl, sym, ap, arith, true, false, true≢false}
+use Rattle.std.proofs.Common.{◌≡◌, ℕ, List, [], ◌∷◌, Some, None, Option, refl, sym, ap, arith, false, true≢false}
 use Rattle.std.proofs.Common.{filter, inl, inr, length, get_or}
 use Rattle.std.specs.List.{range_with_len}
 use Rattle.std.specs.List.Sorted.{IsStrictlySortedBy}

@@ -1,15 +1,15 @@
 -- Small logs, the same as what the definitions make of them.
 --
 -- The key idea: on written-out bytes what stands at a place is a computation.
-use Rattle.std.proofs.Common.{◌≡◌, ℕ, List, [], ◌∷◌, Some, None, Ok, Err, refl, sym, inl, inr, set, take, true, false}
-use Rattle.std.proofs.Common.{true≢false, arith, Result}
+use Rattle.std.proofs.Common.{◌≡◌, ℕ, List, [], ◌∷◌, Some, Err, refl, sym, inl, set, take, true, false}
+use Rattle.std.proofs.Common.{true≢false, arith}
 use Rattle.std.specs.Prelude.{◌++◌, replicate}
 use Rattle.sz_log.specs.Laws.{Reads}
 use Rattle.sz_log.specs.Log.{Entry, empty_log, header}
 use Rattle.sz_log.proofs.Rows.{log, line, one, kind_0, cut_within, cut_behind_gate}
 use Rattle.sz_catalogue.specs.Holdings.{Holdings, no_holdings}
 use Rattle.sz_recover.specs.Logs.{Kept, IsWellMade, IsFirstBad, IsMade, IsNoLog, IsBroken, SaysWhy, has_read}
-use Rattle.sz_recover.specs.Logs.{ActsAsLine, ActsAsVersion, Acts, ActEach, Stands, StandEach, AreSpelled}
+use Rattle.sz_recover.specs.Logs.{ActsAsLine, ActsAsVersion, ActEach, Stands, StandEach, AreSpelled}
 use Rattle.sz_recover.specs.declared.opening.RecoverFault.TheVariants as fault
 
 -- the empty log holds nothing

@@ -1,9 +1,9 @@
 -- Stores of arrays of one cell, worked by hand, on both sides of what makes them sound.
 --
 -- The key idea: between arrays of one cell a relation is one bit, so a store is exact where it has that bit.
-use Rattle.std.proofs.Common.{◌≡◌, ℕ, List, [], ◌∷◌, Some, None, refl, sym, ap, subst, arith, true, false, true≢false}
-use Rattle.std.proofs.Common.{ap₂, ◌∙◌, Option}
-use Rattle.std.specs.Prelude.{pos, All, nat_lt}
+use Rattle.std.proofs.Common.{◌≡◌, ℕ, [], ◌∷◌, Some, None, refl, sym, ap, subst, arith, true, false, true≢false}
+use Rattle.std.proofs.Common.{ap₂}
+use Rattle.std.specs.Prelude.{pos, nat_lt}
 use Rattle.std.proofs.lemmas.Bool.{and_parts}
 use Rattle.std.proofs.lemmas.Bool.Decides.{nat_tests}
 use Rattle.std.proofs.lemmas.List.Elements.{All-cons, All-nil}
@@ -100,7 +100,8 @@ abbrev first : WrongStore
 first = record { version = 1; node = 0; s = strategy.FullOneB }
 
 pub right-node : IsSoundNode run (Some whole)
-right-node = All-cons (λ (f : Keep). IsExact run f.holding) keep [] exact (All-nil (λ (f : Keep). IsExact run f.holding))
+right-node =
+    All-cons (λ (f : Keep). IsExact run f.holding) keep [] exact (All-nil (λ (f : Keep). IsExact run f.holding))
 
 pub right-sound : IsSoundKept held right
 right-sound = (right-node, tt)

@@ -2,7 +2,7 @@
 --
 -- The key idea: of two places, before each of which all is sound and at each of which it is not, neither is before the
 -- other.
-use Rattle.std.proofs.Common.{◌≡◌, ℕ, suc, zero, ◌<◌, List, [], ◌∷◌, ◌++◌, take, length, Option, Some, None, refl, sym}
+use Rattle.std.proofs.Common.{◌≡◌, ℕ, suc, zero, List, [], ◌∷◌, ◌++◌, take, length, Option, Some, None, refl, sym}
 use Rattle.std.proofs.Common.{ap, subst, ◌∙◌, arith, get_or}
 use Rattle.std.specs.Prelude.{All}
 use Rattle.std.specs.List.{AllZip, slice_get, Contains}

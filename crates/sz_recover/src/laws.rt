@@ -26,8 +26,8 @@ pub fn written_bodies_are_lawful()
     ensures { WrittenBodiesAreLawful }
 {}
 
-/// Whatever [`crate::version_body`] writes of a version of what is in order, awaited or not, is lawful
-/// over what is held but for that version, and says it, awaited: so it is taken where it was not.
+/// Whatever [`crate::version_body`] writes of a version of what is in order, awaited or not, is
+/// lawful over what is held but for that version, and says it, awaited.
 pub fn bodies_of_held_versions_are_lawful()
     ensures { HeldBodiesAreLawful }
 {}
@@ -94,9 +94,9 @@ pub fn wrong_stores_are_unsound()
     ensures { WrongStoresAreUnsound }
 {}
 
-/// What [`crate::unsound`] gives says one thing of what is kept. It gives no store where each store,
-/// whatever its entry and its node, stands for exactly the relation of the operator that was
-/// executed there, and nowhere else; and of two stores it cannot give both.
+/// What [`crate::unsound`] gives says one thing of what is kept. It gives no store exactly where
+/// each store, whatever its entry and its node, stands for exactly the relation of the operator
+/// that was executed there; and of two stores it cannot give both.
 pub fn one_thing_is_told_of_stores()
     ensures none { NoneMeansEach }
     ensures each { EachMeansNone }
