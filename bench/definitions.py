@@ -17,9 +17,9 @@ import sys
 ROOT = pathlib.Path(__file__).resolve().parent.parent
 PAGE = ROOT / "docs" / "DEFINITIONS.md"
 WIDTH = 120
-ALL = ["sz_session/specs/Serving"]
+ALL = ["sz_feed/specs/Serving"]
 PLAIN = [
-    "sz_session/specs/Plain",
+    "sz_feed/specs/Plain",
     "sz_outside/specs/Outside",
     "sz_words/specs/Job",
     "sz_gen/specs/Session",

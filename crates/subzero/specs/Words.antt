@@ -8,8 +8,8 @@ use Rattle.std.specs.declared.string.String.{String}
 use Rattle.std.specs.declared.vec.IntoIter.{IntoIter}
 use Rattle.std.specs.declared.io.Error.{Error}
 use Rattle.std.specs.declared.io.ErrorKind.TheVariants.{OutOfMemory}
-use Rattle.sz_session.specs.Serving.{are_served, are_play, are_init, are_check, IfLoad}
-use Rattle.sz_session.specs.Serving.{are_of_log, are_run, are_opened}
+use Rattle.sz_feed.specs.Serving.{are_served, are_play, are_init, are_check, IfLoad}
+use Rattle.sz_feed.specs.Serving.{are_of_log, are_run, are_opened}
 use Rattle.sz_words.specs.Job.{job_of}
 use Rattle.sz_words.specs.Place.{place_of}
 

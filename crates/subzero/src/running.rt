@@ -3,8 +3,9 @@
 ghost use Rattle.std.specs.Prelude.{◌≡◌, ◌^◌, ℕ};
 ghost use Rattle.std.specs.Process.{exit_status};
 ghost use Rattle.sz_outside.specs.Outside.{Rose, Stood, Says};
-ghost use Rattle.sz_session.specs.Serving.{Done, IsPastLimit, nothing_held};
-ghost use Rattle.sz_session.specs.Making.{ready_line, HasMade, IsSpared};
+ghost use Rattle.sz_feed.specs.Serving.{Done, IsPastLimit};
+ghost use Rattle.sz_commands.specs.States.{nothing_held};
+ghost use Rattle.sz_feed.specs.Making.{ready_line, HasMade, IsSpared};
 ghost use Rattle.sz_session.specs.Checking.{SaysLine, IsUnlike, IsBadLog};
 ghost use Rattle.subzero.specs.Words.{ArePlay, AreInit, AreCheck, AreOfLog, AreServed, AreOther};
 ghost use Rattle.subzero.specs.Words.{IfLoadAsked, AreRun, AreOpened};

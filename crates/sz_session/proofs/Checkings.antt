@@ -9,13 +9,14 @@ use Rattle.sz_outside.specs.Disk.{Same, Said}
 use Rattle.sz_outside.specs.declared.stations.Station.{Ghosts}
 use Rattle.sz_catalogue.specs.Holdings.{Holdings}
 use Rattle.sz_recover.specs.Logs.{Kept, IsMade, IsBroken, IsNoLog}
-use Rattle.sz_session.specs.Making.{IsSilent}
-use Rattle.sz_session.specs.Disks.{StopsFinding, OnlySays}
+use Rattle.sz_feed.specs.Making.{IsSilent}
+use Rattle.sz_feed.specs.Disks.{OnlySays}
+use Rattle.sz_commands.specs.Stops.{StopsFinding}
 use Rattle.sz_session.specs.Checking.{IsLineOf, IfNoLog, BeginsAsLog, StopsChecking}
 use Rattle.sz_session.specs.Statuses.{is_of_disk, EndsCheck}
 use Rattle.sz_session.specs.declared.serving.Status.{Status}
 use Rattle.sz_session.specs.declared.serving.Status.TheVariants as status
-use Rattle.sz_session.proofs.Disks.{stops-both, stops-silent}
+use Rattle.sz_feed.proofs.Disks.{stops-both, stops-silent}
 
 -- ---- what a status tells
 

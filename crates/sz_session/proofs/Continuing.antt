@@ -11,18 +11,18 @@ use Rattle.sz_catalogue.specs.Holdings.{Holdings}
 use Rattle.sz_recover.specs.Logs.{Kept, IsMade, IsNoLog, IsBroken, SaysWhy, has_read}
 use Rattle.sz_recover.specs.declared.opening.RecoverFault.{RecoverFault}
 use Rattle.sz_recover.specs.declared.opening.RecoverFault.TheVariants as recover
-use Rattle.sz_session.specs.Disks.{StopsFinding}
-use Rattle.sz_session.specs.Logged.{IsLogOf, Grows, GoesOn}
-use Rattle.sz_session.specs.States.{State}
-use Rattle.sz_session.specs.Lines.{lines_of}
-use Rattle.sz_session.specs.Transcript.{after_lines}
-use Rattle.sz_session.specs.Running.{FindsAll, StandsBehind, state_of_log}
+use Rattle.sz_commands.specs.Stops.{StopsFinding}
+use Rattle.sz_commands.specs.Logged.{IsLogOf, Grows, GoesOn}
+use Rattle.sz_commands.specs.States.{State}
+use Rattle.sz_commands.specs.Lines.{lines_of}
+use Rattle.sz_commands.specs.Transcript.{after_lines}
+use Rattle.sz_feed.specs.Running.{FindsAll, StandsBehind, state_of_log}
 use Rattle.sz_session.specs.Continuing.{IsUnopened, EndsUnopened, EndsOpened, AreCountedOn}
 use Rattle.sz_session.specs.Statuses.{recover_status, EndsLines, AreCountedInLines}
 use Rattle.sz_session.specs.declared.serving.Status.{Status}
 use Rattle.sz_session.specs.declared.serving.Status.TheVariants as status
-use Rattle.sz_session.proofs.Disks.{pass-still}
-use Rattle.sz_session.proofs.Running.{finds-before}
+use Rattle.sz_commands.proofs.Stops.{pass-still}
+use Rattle.sz_feed.proofs.Running.{finds-before}
 
 -- ---- no log
 

@@ -11,9 +11,9 @@ use Rattle.sz_outside.specs.declared.stations.Station.{Ghosts}
 use Rattle.sz_catalogue.specs.Holdings.{Holdings}
 use Rattle.sz_recover.specs.Logs.{Kept, IsMade, IsNoLog, IsBroken}
 use Rattle.sz_recover.specs.OneReading.{WellMadeLogsAreNotBad, LogsAreFirstBadAtOnePlace}
-use Rattle.sz_session.specs.Serving.{is_check, is_run, is_opened, IsPastLimit, IsWithinLimit}
-use Rattle.sz_session.specs.States.{State}
-use Rattle.sz_session.specs.Running.{state_of_log}
+use Rattle.sz_feed.specs.Serving.{is_check, is_run, is_opened, IsPastLimit, IsWithinLimit}
+use Rattle.sz_commands.specs.States.{State}
+use Rattle.sz_feed.specs.Running.{state_of_log}
 use Rattle.sz_session.specs.Continuing.{IsUnopened, EndsRun, AreCountedOn}
 use Rattle.sz_session.specs.Checking.{IsLineOf, IsUnlike, IfNoLog, IfBadLog, IsWellMadeLog}
 use Rattle.sz_session.specs.Statuses.{EndsCheck, EndsLines}

@@ -8,14 +8,15 @@ use Rattle.std.specs.Option.{option_map_or}
 use Rattle.std.proofs.Common.{true≢false}
 use Rattle.sz_outside.specs.Outside.{Rose, Stood}
 use Rattle.sz_outside.specs.declared.stations.Station.{Ghosts}
-use Rattle.sz_session.specs.Serving.{nothing_held, is_served, is_play, is_init, is_load, are_for, load_line, IfLoad}
-use Rattle.sz_session.specs.Serving.{is_check, is_run, is_of_log, is_of_lines, is_opened, IsPastLimit}
-use Rattle.sz_session.specs.States.{State}
-use Rattle.sz_session.specs.Running.{state_of_log}
+use Rattle.sz_feed.specs.Serving.{is_served, is_play, is_init, is_load, are_for, load_line, IfLoad}
+use Rattle.sz_commands.specs.States.{nothing_held}
+use Rattle.sz_feed.specs.Serving.{is_check, is_run, is_of_log, is_of_lines, is_opened, IsPastLimit}
+use Rattle.sz_commands.specs.States.{State}
+use Rattle.sz_feed.specs.Running.{state_of_log}
 use Rattle.sz_session.specs.Continuing.{IsUnopened, EndsRun, AreCountedOn}
 use Rattle.sz_session.specs.Checking.{IsBadLog}
-use Rattle.sz_session.specs.Disks.{DiskStays}
-use Rattle.sz_session.specs.Making.{IsSilent}
+use Rattle.sz_feed.specs.Disks.{DiskStays}
+use Rattle.sz_feed.specs.Making.{IsSilent}
 use Rattle.sz_session.specs.Statuses.{words_status, is_of_disk, Ends, EndsLoad, EndsInit, EndsCheck, EndsLines}
 use Rattle.sz_session.specs.Statuses.{AreCounted}
 use Rattle.sz_session.specs.declared.serving.Status.{Status}

@@ -6,14 +6,15 @@ use Rattle.std.proofs.Common.{◌≡◌, ℕ, List, [], ◌++◌, Some, refl, sy
 use Rattle.std.specs.Prelude.{Option, ◌⊎◌}
 use Rattle.std.proofs.lemmas.Option.{same_Some}
 use Rattle.sz_outside.specs.Outside.{Says, Rose}
-use Rattle.sz_session.specs.Transcript.{transcript}
-use Rattle.sz_session.specs.Moments.{Moment, moment_before, told_in, moment_after, told_at_end}
-use Rattle.sz_session.specs.Serving.{nothing_held, Advances}
+use Rattle.sz_commands.specs.Transcript.{transcript}
+use Rattle.sz_feed.specs.Moments.{Moment, moment_before, told_in, moment_after, told_at_end}
+use Rattle.sz_feed.specs.Serving.{Advances}
+use Rattle.sz_commands.specs.States.{nothing_held}
 use Rattle.sz_session.specs.Statuses.{EndsLoad, AreCounted}
 use Rattle.sz_session.specs.declared.serving.Status.{Status}
 use Rattle.sz_session.specs.declared.serving.Status.TheVariants as status
-use Rattle.sz_session.proofs.Moments.{transcript-told, told_at_end-alike}
-use Rattle.sz_session.proofs.Turns.{says-then}
+use Rattle.sz_feed.proofs.Moments.{transcript-told, told_at_end-alike}
+use Rattle.sz_feed.proofs.Turns.{says-then}
 
 -- before the first byte
 abbrev start : Moment

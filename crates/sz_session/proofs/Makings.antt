@@ -9,7 +9,7 @@ use Rattle.sz_outside.specs.Outside.{Rose}
 use Rattle.sz_outside.specs.declared.stations.Station.{Ghosts}
 use Rattle.sz_log.specs.declared.LogFault.{LogFault}
 use Rattle.sz_log.specs.declared.LogFault.TheVariants as log
-use Rattle.sz_session.specs.Making.{HasBar, IsFree, IfBarred, HasMade, IsSilent}
+use Rattle.sz_feed.specs.Making.{HasBar, IsFree, IfBarred, HasMade, IsSilent}
 use Rattle.sz_session.specs.Statuses.{log_status, is_of_disk, EndsInit, AreCounted}
 use Rattle.sz_session.specs.declared.serving.Status.{Status}
 use Rattle.sz_session.specs.declared.serving.Status.TheVariants as status

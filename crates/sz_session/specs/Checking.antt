@@ -12,7 +12,7 @@ use Rattle.sz_catalogue.specs.Responses.{number_text, word_text}
 use Rattle.sz_recover.specs.Logs.{Kept, IsMade, IsNoLog, IsBroken, IsWellMade, IsFirstBad}
 use Rattle.sz_recover.specs.Soundness.{TellsOfAll}
 use Rattle.sz_recover.specs.declared.checking.WrongStore.{WrongStore}
-use Rattle.sz_session.specs.Disks.{StopsFinding}
+use Rattle.sz_commands.specs.Stops.{StopsFinding}
 
 -- ---- the line
 

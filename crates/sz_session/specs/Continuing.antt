@@ -10,9 +10,9 @@ use Rattle.sz_outside.specs.Disk.{Only, Same, Said}
 use Rattle.sz_outside.specs.declared.stations.Station.{Ghosts}
 use Rattle.sz_catalogue.specs.Holdings.{Holdings}
 use Rattle.sz_recover.specs.Logs.{Kept, IsMade, IsNoLog, IsBroken}
-use Rattle.sz_session.specs.Making.{IsSilent}
-use Rattle.sz_session.specs.Disks.{StopsFinding}
-use Rattle.sz_session.specs.Running.{FindsAll, StandsBehind, state_of_log}
+use Rattle.sz_feed.specs.Making.{IsSilent}
+use Rattle.sz_commands.specs.Stops.{StopsFinding}
+use Rattle.sz_feed.specs.Running.{FindsAll, StandsBehind, state_of_log}
 use Rattle.sz_session.specs.Statuses.{EndsLines}
 use Rattle.sz_session.specs.declared.serving.Status.{Status}
 use Rattle.sz_session.specs.declared.serving.Status.TheVariants as status

@@ -4,12 +4,12 @@ use Rattle.sz_outside.specs.Outside.{Rose, Stood, Says, SaysPart}
 use Rattle.sz_outside.specs.declared.stations.Station.{Ghosts}
 use Rattle.sz_log.specs.declared.LogFault.{LogFault}
 use Rattle.sz_log.specs.declared.LogFault.TheVariants as log
-use Rattle.sz_session.specs.States.{State}
-use Rattle.sz_session.specs.Serving.{Done, SaidOfRead, SaidInPart, SaidInLines, SaidToLimit}
-use Rattle.sz_session.specs.Making.{ready_line, HasMade, IsSpared, IsSilent}
+use Rattle.sz_commands.specs.States.{State}
+use Rattle.sz_feed.specs.Serving.{Done, SaidOfRead, SaidInPart, SaidInLines, SaidToLimit}
+use Rattle.sz_feed.specs.Making.{ready_line, HasMade, IsSpared, IsSilent}
 use Rattle.sz_session.specs.Checking.{SaysLine, SaysPartOfLine, IsUnlike, IsBadLog}
-use Rattle.sz_session.specs.declared.feed.Halt.{Halt}
-use Rattle.sz_session.specs.declared.feed.Halt.TheVariants as halt
+use Rattle.sz_feed.specs.declared.feed.Halt.{Halt}
+use Rattle.sz_feed.specs.declared.feed.Halt.TheVariants as halt
 use Rattle.sz_session.specs.declared.serving.Status.{Status}
 use Rattle.sz_session.specs.declared.serving.Status.TheVariants as status
 use Rattle.sz_recover.specs.declared.opening.RecoverFault.{RecoverFault}

@@ -1,15 +1,15 @@
 //! Laws of the definitions, for a reader: each function has an empty body, and its contract is the
 //! law.
 
-ghost use Rattle.sz_session.specs.Laws.{LinesAreThoseJoined, BytesLeftAreTheLastLine};
-ghost use Rattle.sz_session.specs.Laws.{EachTextIsLines, CutsAreThoseJoined, LinesAreTheCut};
-ghost use Rattle.sz_session.specs.Laws.{CutsGoByParts, CutsBehindAreOfBoth, TellingGoesByParts};
-ghost use Rattle.sz_session.specs.Laws.{MomentsGoByParts, WholeLinesAreTold, TranscriptsAreTold};
-ghost use Rattle.sz_session.specs.Laws.{AlikeTellTheSame, AlikeStayAlike, AlikeEndTheSame};
-ghost use Rattle.sz_session.specs.Laws.{FirstRepliesAreAPart, RepliesGoOn, TranscriptsGoOn};
-ghost use Rattle.sz_session.specs.Laws.{BlankLinesAreCounted, OtherLinesHaveOneReply};
-ghost use Rattle.sz_session.specs.Laws.{SessionsOfNoLogArePlain, SoundLogsArePlain};
-ghost use Rattle.sz_session.specs.Logged.{OpenedLogsStand};
+ghost use Rattle.sz_feed.specs.Laws.{LinesAreThoseJoined, BytesLeftAreTheLastLine};
+ghost use Rattle.sz_feed.specs.Laws.{EachTextIsLines, CutsAreThoseJoined, LinesAreTheCut};
+ghost use Rattle.sz_feed.specs.Laws.{CutsGoByParts, CutsBehindAreOfBoth, TellingGoesByParts};
+ghost use Rattle.sz_feed.specs.Laws.{MomentsGoByParts, WholeLinesAreTold, TranscriptsAreTold};
+ghost use Rattle.sz_feed.specs.Laws.{AlikeTellTheSame, AlikeStayAlike, AlikeEndTheSame};
+ghost use Rattle.sz_feed.specs.Laws.{FirstRepliesAreAPart, RepliesGoOn, TranscriptsGoOn};
+ghost use Rattle.sz_feed.specs.Laws.{BlankLinesAreCounted, OtherLinesHaveOneReply};
+ghost use Rattle.sz_feed.specs.Laws.{SessionsOfNoLogArePlain, SoundLogsArePlain};
+ghost use Rattle.sz_commands.specs.Logged.{OpenedLogsStand};
 
 /// The lines of a text are the bytes between its newlines, and those behind the last one where
 /// there are any.

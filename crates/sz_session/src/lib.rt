@@ -36,13 +36,10 @@
 //! {"show":1,"node":0}                                                 6 values 1 1 -5
 //! ```
 //!
-//! The path of a line: `serving` reads chunks, `feed` cuts them into lines, and
-//! [`Session::command`] gives the reply of each: it has the line read and judged, and then taken by
-//! the catalogue (`accept`), started (`starting` computes the values of all nodes, `building` makes
-//! their shelves, `tasks` hands these out to workers, and the version that is held carries the runs
-//! and the shelves), awaited (`building` finishes the shelves and takes the stores off), answered
-//! along its path (`finding`), or shown. `staff` is the threads. `docs/FORMATS.md` describes lines
-//! and replies, `docs/DEFINITIONS.md` reads the definitions aloud.
+//! The path of a line: `serving` reads chunks, `sz_feed` cuts them into lines and says their
+//! replies, `Session::command` of `sz_commands` gives the reply of each, and `sz_versions` starts,
+//! ends and asks versions. `staff` is the threads. `docs/FORMATS.md` describes lines and replies,
+//! `docs/DEFINITIONS.md` reads the definitions aloud.
 //!
 //! In mode run the log of the station is opened, and the session goes on from it (`run`): what is
 //! said is the transcript from what the log holds, and a stop at any moment finds the replies of so
@@ -50,63 +47,25 @@
 //! durable behind those lines, or behind one more. In mode check the log is opened, and one line
 //! says whether each of its stores stands for the relation (`checked`).
 //!
-//! A log that was opened is gone on from by [`Session::of_log`]: it holds what the log holds,
-//! computes the values of its versions again, and answers of each by the stores that were read of
-//! it, whatever they stand for (`cells_recalled` of `specs/Recalled`). Where they stand for the
-//! relation that is the composed relation ([`recalling::sound_stores_answer_the_relation`]). So
-//! contracts see a session as a `State`: its catalogue, and beside it the stores that a log gave;
-//! of a session of no log the catalogue says all ([`laws::sessions_of_no_log_are_plain`]).
+//! Contracts see a session as a `State`: its catalogue, and beside it the stores that a log gave;
+//! of a session of no log the catalogue says all ([`laws::sessions_of_no_log_are_plain`]). What is
+//! written to a log, and what a stop leaves of it, `specs/Logged` of `sz_commands` says of one
+//! command, `specs/Running` of `sz_feed` of lines one after another, and `specs/Continuing` of the
+//! whole call.
 //!
-//! What a command of such a session makes durable is written to the log before its reply is given
-//! (`logging`): an accepted line that holds an array or a flow or sets strategies, and a version at
-//! its first await, with stores that stand for the relation. `specs/Logged` says what the station
-//! has beside the session (`HasLog`), what a command makes of it (`KeepsLog`) and what a stop
-//! leaves (`StopsInLog`); `specs/Running` says it of lines, one after another, and
-//! `specs/Continuing` of the whole call.
-//!
-//! To whoever changes this crate: what bytes tell as they come, and the moment that they leave, are
-//! functions of `specs/Moments.antt`, and both go by parts. `feed` is at each turn *like* that
-//! moment (`AreAlike`), since it keeps less of a line past the limit; `serving` carries from turn
-//! to turn that every whole line so far has its reply said (`Answered` of `specs/Serving.antt`),
-//! and the one function that reads asks for it. All that these rest on of a line's meaning is that
-//! one which is too long is refused for that. How a way is looked at is the one table `view_by` of
-//! `finding` and of `specs/Views.antt`. What a version carries is its own (`IsTrailOf` of
-//! `specs/Stores.antt`): the executions of its nodes, and of each node whose list has a strategy
-//! that keeps a store, while the version is not awaited, nothing, a shelf of it or its stores; once
-//! it is awaited, its stores, whole, of the list at the start, each of which stands for exactly the
-//! relation. A call that works on it takes it out of the catalogue and leaves one that stands in,
-//! which belongs to the version too (`take_out`, `put_back`). When stores are built, `building`
-//! says alone. What is answered by views of a path's nodes is the composed relation, by
-//! `sz_query`'s law; that these views are those of the nodes is read off the executions, in
-//! `proofs/Steps` and `proofs/PathViews`: whether a view of a shelf was told as traced is its
-//! look's answer, so before an await the tally is known from below and above, and once it is
-//! awaited exactly. That what is taken off a shelf stands for the relation is a clause of
-//! `sz_shelf`.
+//! To whoever changes this crate: `serving` carries from turn to turn that every whole line so far
+//! has its reply said (`Answered` of `sz_feed`), and the one function that reads asks for it.
+//! `specs/Statuses` says what each status tells of what was read and said, `specs/Checking` what a
+//! check tells.
 #![tactic(auto)]
 
-mod asking;
-mod blank;
-mod bodies;
-mod building;
-mod carry;
 mod checking;
-mod feed;
-mod finding;
-mod inquiry;
 pub mod laws;
 mod load;
-mod logging;
 mod making;
-pub mod recalling;
-mod recalls;
-mod runs;
 mod serving;
-mod session;
 mod staff;
-mod starting;
-mod tasks;
 
-pub use asking::AskLine;
-pub use carry::Carry;
 pub use serving::{Status, serve};
-pub use session::{Session, Stop};
+pub use sz_commands::{AskLine, Session, Stop};
+pub use sz_versions::Carry;

@@ -4,20 +4,21 @@
 //! that gathers them.
 ghost use Rattle.std.specs.Prelude.{◌≡◌, [], None, Some, ⊤, IfOk};
 ghost use Rattle.sz_outside.specs.Counts.{count_after};
-ghost use Rattle.sz_session.specs.Transcript.{transcript};
-ghost use Rattle.sz_session.specs.Moments.{moment_before};
-ghost use Rattle.sz_session.specs.Serving.{lines_in, load_line, nothing_held};
+ghost use Rattle.sz_commands.specs.Transcript.{transcript};
+ghost use Rattle.sz_feed.specs.Moments.{moment_before};
+ghost use Rattle.sz_feed.specs.Serving.{lines_in, load_line};
+ghost use Rattle.sz_commands.specs.States.{nothing_held};
 ghost use Rattle.sz_session.specs.Statuses.{EndsLoad, AreCounted};
-ghost use Rattle.sz_session.specs.Disks.{OnlySays};
+ghost use Rattle.sz_feed.specs.Disks.{OnlySays};
 ghost use Rattle.sz_words.specs.Job.{IsInRange};
 
-use crate::feed::{Feed, Halt};
 use crate::serving::Status;
 use crate::staff::Staff;
 use std::alloc::Global;
 use std::sync::{Arc, Wait};
 use std::thread::Threads;
-use sz_gen::{NoMemory, session_text, summary_text};
+use sz_feed::{Feed, Halt};
+use sz_gen::{session_text, summary_text};
 use sz_outside::{Failed, Gate, Station};
 use sz_words::Job;
 
@@ -52,22 +53,15 @@ fn summary<G: Gate + 'static, R: Threads + Wait + Clone + Send + Sync + 'static>
     requires { IsInRange job }
     ensures { IfOk result (λ line. line.items ≡ load_line job) }
 {
-    let text = session_text(alloc, job.seed, job.side)?;
+    let Ok(text) = session_text(alloc, job.seed, job.side) else {
+        return Err(Halt::NoMemory);
+    };
     let replies = replies_to(rt, alloc, job, &text, gate)?;
     let lines = lines_in(&replies);
-    Ok(summary_text(alloc, job.seed, job.side, lines, &replies)?)
-}
-
-/// A text that could not be made.
-impl From<NoMemory> for Halt {
-    ghost use Rattle.std.specs.Prelude.{◌≡◌};
-    ghost use Rattle.sz_session.specs.declared.feed.Halt.TheVariants as halt;
-
-    ghost from_gives = { λ _ e. e ≡ halt.NoMemory };
-
-    fn from(_fault: NoMemory) -> Halt {
-        Halt::NoMemory
-    }
+    let Ok(line) = summary_text(alloc, job.seed, job.side, lines, &replies) else {
+        return Err(Halt::NoMemory);
+    };
+    Ok(line)
 }
 
 /// All that a session from nothing says of a text, with workers beside it.

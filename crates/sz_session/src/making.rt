@@ -1,8 +1,8 @@
 //! Mode init: the disk of the station is made the empty log, and one line says so.
 ghost use Rattle.std.specs.Prelude.{◌≡◌};
 ghost use Rattle.sz_session.specs.Statuses.{EndsInit, log_status};
-ghost use Rattle.sz_session.specs.Disks.{StopsMaking};
-ghost use Rattle.sz_session.specs.Making.{ready_line};
+ghost use Rattle.sz_feed.specs.Disks.{StopsMaking};
+ghost use Rattle.sz_feed.specs.Making.{ready_line};
 
 use crate::serving::Status;
 use sz_log::{LogFault, init};

@@ -1,10 +1,10 @@
 //! The threads that work on what a session hands out. No clause speaks of them: that they work is
 //! seen by tests.
 
-use crate::session::Session;
 use std::alloc::Global;
 use std::sync::{Arc, Wait};
 use std::thread::{JoinHandle, Threads};
+use sz_commands::Session;
 use sz_outside::Gate;
 use sz_pool::employ;
 

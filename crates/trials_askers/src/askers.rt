@@ -1,9 +1,9 @@
 //! Asks beside one another.
 
 ghost use Rattle.std.specs.Prelude.{◌≡◌, ◌≤◌, IfOk, IfSome};
-ghost use Rattle.sz_session.specs.Asks.{IsAskLine};
-ghost use Rattle.sz_session.specs.Logged.{HasLog};
-ghost use Rattle.sz_session.specs.Serving.{nothing_held};
+ghost use Rattle.sz_commands.specs.Asks.{IsAskLine};
+ghost use Rattle.sz_commands.specs.Logged.{HasLog};
+ghost use Rattle.sz_commands.specs.States.{nothing_held};
 
 use std::alloc::Global;
 use std::sync::atomic::{AtomicU64, Ordering};

@@ -1,8 +1,8 @@
 //! Workers beside asks: no clause can see them, so these tests do.
 
 ghost use Rattle.std.specs.Prelude.{◌≡◌, true};
-ghost use Rattle.sz_session.specs.Logged.{HasLog};
-ghost use Rattle.sz_session.specs.Serving.{nothing_held};
+ghost use Rattle.sz_commands.specs.Logged.{HasLog};
+ghost use Rattle.sz_commands.specs.States.{nothing_held};
 
 use std::alloc::Global;
 use std::sync::atomic::{AtomicU64, Ordering};

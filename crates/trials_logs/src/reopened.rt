@@ -1,7 +1,7 @@
 //! Sessions of a log of one version, with a store that stands for the relation and with one that
 //! does not: each answers by the store, and none is made again.
 ghost use Rattle.std.specs.Prelude.{IfOk};
-ghost use Rattle.sz_session.specs.Logged.{HasLog};
+ghost use Rattle.sz_commands.specs.Logged.{HasLog};
 
 use std::alloc::Global;
 use std::sync::Wait;

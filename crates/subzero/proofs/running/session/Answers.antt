@@ -5,7 +5,7 @@ use Rattle.std.specs.Prelude.{Result, map, string_bytes}
 use Rattle.std.specs.declared.alloc.Global.{Global}
 use Rattle.std.specs.declared.string.String.{String}
 use Rattle.std.specs.declared.io.Error.{Error}
-use Rattle.sz_session.specs.Serving.{are_opened, are_run}
+use Rattle.sz_feed.specs.Serving.{are_opened, are_run}
 use Rattle.subzero.specs.Words.{Args, words_in, AreOpened, AreRun}
 use Rattle.subzero.proofs.running.session.Goals as goal
 

@@ -1,6 +1,6 @@
 -- Where there was no memory for the line, nothing was said.
 use Rattle.std.proofs.Common.{[], refl, inl}
-use Rattle.sz_session.proofs.Disks.{stays-still}
+use Rattle.sz_feed.proofs.Disks.{stays-still}
 use Rattle.sz_session.proofs.Checkings.{line-stops}
 use Rattle.sz_session.proofs.checking.check_opened.Goals as goal
 

@@ -1,5 +1,5 @@
 -- Of a line past the limit it matters alone whether it is blank.
-use Rattle.sz_session.proofs.Moments.{told_in-alike, moment_after-alike, told_at_end-alike}
+use Rattle.sz_feed.proofs.Moments.{told_in-alike, moment_after-alike, told_at_end-alike}
 use Rattle.sz_session.proofs.laws.alike_moments_tell_the_same.Goals as goal
 
 pub returns-clause-told : goal.returns-clause-told

@@ -1,6 +1,6 @@
 -- The cut of a text, by induction over its bytes.
-use Rattle.sz_session.proofs.Cuts.{cut-parts, before_cut-both, lines_of-cut}
-use Rattle.sz_session.proofs.LawsLines.{cut-joined}
+use Rattle.sz_feed.proofs.Cuts.{cut-parts, before_cut-both, lines_of-cut}
+use Rattle.sz_feed.proofs.LawsLines.{cut-joined}
 use Rattle.sz_session.proofs.laws.lines_are_cut_where_they_end.Goals as goal
 
 pub returns-clause-joined : goal.returns-clause-joined

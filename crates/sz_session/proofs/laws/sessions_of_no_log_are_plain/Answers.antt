@@ -1,5 +1,5 @@
 -- Each command does what it does to the catalogue.
-use Rattle.sz_session.proofs.Plain.{sessions-plain}
+use Rattle.sz_feed.proofs.Plain.{sessions-plain}
 use Rattle.sz_session.proofs.laws.sessions_of_no_log_are_plain.Goals as goal
 
 pub returns : goal.returns

@@ -1,5 +1,5 @@
 -- Each version that a sound log gave is answered by its stores as by the relation.
-use Rattle.sz_session.proofs.SoundLogs.{sound-logs-plain}
+use Rattle.sz_feed.proofs.SoundLogs.{sound-logs-plain}
 use Rattle.sz_session.proofs.laws.sound_logs_are_plain.Goals as goal
 
 pub returns : goal.returns

@@ -1,5 +1,5 @@
 -- Telling goes by parts, since the cut does.
-use Rattle.sz_session.proofs.Moments.{told_in-parts, moment_after-parts, told_in-whole, transcript-told}
+use Rattle.sz_feed.proofs.Moments.{told_in-parts, moment_after-parts, told_in-whole, transcript-told}
 use Rattle.sz_session.proofs.laws.telling_goes_by_parts.Goals as goal
 
 pub returns-clause-told : goal.returns-clause-told

@@ -1,6 +1,6 @@
 -- Where there was no memory nothing was said.
-use Rattle.sz_session.proofs.Turns.{says-nothing}
-use Rattle.sz_session.proofs.Disks.{stays-still}
+use Rattle.sz_feed.proofs.Turns.{says-nothing}
+use Rattle.sz_feed.proofs.Disks.{stays-still}
 use Rattle.sz_session.proofs.load.load.Goals as goal
 
 pub returns-in_default-clause-ends : goal.returns-in_default-clause-ends

@@ -1,7 +1,7 @@
 -- The text was taken in whole and ended, and the replies were gathered behind nothing.
 use Rattle.std.proofs.Common.{Some}
-use Rattle.sz_session.specs.Serving.{nothing_held}
-use Rattle.sz_session.specs.Transcript.{transcript}
+use Rattle.sz_commands.specs.States.{nothing_held}
+use Rattle.sz_commands.specs.Transcript.{transcript}
 use Rattle.sz_session.proofs.Loads.{whole-said, said-behind_nothing}
 use Rattle.sz_session.proofs.load.told_by.Goals as goal
 

@@ -1,10 +1,12 @@
 -- The session opens with nothing read and nothing said.
 use Rattle.std.proofs.Common.{[], refl, subst, sym, ap, ◌∙◌}
-use Rattle.sz_session.specs.Moments.{Moment}
-use Rattle.sz_session.specs.Serving.{Answered, nothing_held}
-use Rattle.sz_session.proofs.Ends.{answered-start, none-in_lines, plain-ends, plain-counted}
-use Rattle.sz_session.proofs.Disks.{stays-still, start-stays}
-use Rattle.sz_session.specs.Running.{IsBeside}
+use Rattle.sz_feed.specs.Moments.{Moment}
+use Rattle.sz_feed.specs.Serving.{Answered}
+use Rattle.sz_commands.specs.States.{nothing_held}
+use Rattle.sz_session.proofs.Ends.{plain-ends, plain-counted}
+use Rattle.sz_feed.proofs.Told.{answered-start, none-in_lines}
+use Rattle.sz_feed.proofs.Disks.{stays-still, start-stays}
+use Rattle.sz_feed.specs.Running.{IsBeside}
 use Rattle.sz_session.proofs.serving.play.Goals as goal
 
 pub answer_all-status-requires : goal.answer_all-status-requires

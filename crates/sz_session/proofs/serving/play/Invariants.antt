@@ -1,5 +1,5 @@
 -- The session opens with what source and station tell.
-use Rattle.sz_session.specs.Serving.{nothing_held}
+use Rattle.sz_commands.specs.States.{nothing_held}
 use Rattle.sz_session.proofs.serving.play.Given as goal
 
 abbrev pub ghost-answer_all : goal.ghost-answer_all

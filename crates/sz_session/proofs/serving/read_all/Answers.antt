@@ -3,15 +3,15 @@ use Rattle.std.proofs.Common.{◌≡◌, ℕ, ◌+◌, [], refl, subst, sym, ap,
 use Rattle.std.specs.Prelude.{Ok}
 use Rattle.sz_session.specs.declared.serving.Status.{Status}
 use Rattle.sz_session.specs.declared.serving.Status.TheVariants as status
-use Rattle.sz_session.specs.Lines.{last_line}
-use Rattle.sz_session.specs.Transcript.{after_lines}
-use Rattle.sz_session.specs.Serving.{Answered}
+use Rattle.sz_commands.specs.Lines.{last_line}
+use Rattle.sz_commands.specs.Transcript.{after_lines}
+use Rattle.sz_feed.specs.Serving.{Answered}
 use Rattle.sz_session.specs.Statuses.{end_status, EndsLines}
-use Rattle.sz_session.specs.Running.{StaysBeside}
+use Rattle.sz_feed.specs.Running.{StaysBeside}
 use Rattle.sz_session.proofs.Ends.{end-ends, plain-end, disk-end, done-end, quiet-end, rose-behind, turned}
-use Rattle.sz_session.proofs.Beside.{stays-same, stays-then, none-stays}
-use Rattle.sz_session.proofs.Disks.{stays-still, stays-both, between-stays, end-stays}
-use Rattle.sz_session.proofs.Sources.{FindsRead, read-start, read-more, all-rest, all-read, all-behind}
+use Rattle.sz_feed.proofs.Beside.{stays-same, stays-then, none-stays}
+use Rattle.sz_feed.proofs.Disks.{stays-still, stays-both, between-stays, end-stays}
+use Rattle.sz_feed.proofs.Sources.{FindsRead, read-start, read-more, all-rest, all-read, all-behind}
 use Rattle.sz_session.proofs.serving.read_all.Goals as goal
 
 pub chunks-init : goal.chunks-init

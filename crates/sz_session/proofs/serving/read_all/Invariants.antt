@@ -1,10 +1,10 @@
 -- Between two reads every whole line so far has its reply said; each turn takes at least one byte.
 use Rattle.std.proofs.Common.{◌≡◌, None, ◌≤◌, ◌+◌, ◌-◌}
 use Rattle.sz_outside.specs.Outside.{Stood}
-use Rattle.sz_session.specs.Serving.{Answered}
-use Rattle.sz_session.specs.Disks.{StaysFinding, FoundInPart}
-use Rattle.sz_session.specs.Running.{IsBeside, StaysBeside}
-use Rattle.sz_session.proofs.Sources.{FindsRead}
+use Rattle.sz_feed.specs.Serving.{Answered}
+use Rattle.sz_feed.specs.Disks.{StaysFinding, FoundInPart}
+use Rattle.sz_feed.specs.Running.{IsBeside, StaysBeside}
+use Rattle.sz_feed.proofs.Sources.{FindsRead}
 use Rattle.sz_session.proofs.serving.read_all.Given as goal
 
 abbrev pub ghost-take_turn : goal.ghost-take_turn

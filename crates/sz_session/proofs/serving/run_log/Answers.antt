@@ -2,9 +2,9 @@
 use Rattle.std.proofs.Common.{ℕ, List, Option, sym, ◌∙◌, subst, inr}
 use Rattle.sz_outside.specs.Disk.{Only, Same, Said}
 use Rattle.sz_recover.specs.Logs.{IsMade}
-use Rattle.sz_session.specs.Disks.{StopsFinding}
-use Rattle.sz_session.proofs.Disks.{stops-both}
-use Rattle.sz_session.proofs.Logged.{opened-log}
+use Rattle.sz_commands.specs.Stops.{StopsFinding}
+use Rattle.sz_feed.proofs.Disks.{stops-both}
+use Rattle.sz_commands.proofs.Logged.{opened-log}
 use Rattle.sz_session.proofs.Continuing.{opened, not-failed}
 use Rattle.sz_session.proofs.serving.run_log.Goals as goal
 

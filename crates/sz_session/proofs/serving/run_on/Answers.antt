@@ -1,13 +1,13 @@
 -- The session opens with nothing read, beside the log.
 use Rattle.std.proofs.Common.{◌≡◌, Some, refl, subst, sym, ap, ◌∙◌}
-use Rattle.sz_session.specs.Moments.{Moment}
-use Rattle.sz_session.specs.States.{State, apart}
-use Rattle.sz_session.specs.Serving.{Answered}
+use Rattle.sz_feed.specs.Moments.{Moment}
+use Rattle.sz_commands.specs.States.{State, apart}
+use Rattle.sz_feed.specs.Serving.{Answered}
 use Rattle.sz_session.specs.Statuses.{EndsLines}
-use Rattle.sz_session.specs.Running.{IsBeside, FindsAll, StandsBehind, state_of_log}
+use Rattle.sz_feed.specs.Running.{IsBeside, FindsAll, StandsBehind, state_of_log}
 use Rattle.sz_session.specs.declared.serving.Status.TheVariants as status
-use Rattle.sz_session.proofs.Ends.{none-in_lines}
-use Rattle.sz_session.proofs.Sources.{opened, answered-opened, all-still}
+use Rattle.sz_feed.proofs.Told.{none-in_lines}
+use Rattle.sz_feed.proofs.Sources.{opened, answered-opened, all-still}
 use Rattle.sz_session.proofs.serving.run_on.Goals as goal
 
 pub answer_all-status-requires : goal.answer_all-status-requires

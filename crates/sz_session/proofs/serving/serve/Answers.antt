@@ -5,15 +5,17 @@ use Rattle.std.specs.Prelude.{Err, map, string_bytes}
 use Rattle.sz_outside.specs.Outside.{Says, SaysPart}
 use Rattle.sz_words.specs.Job.{job_of}
 use Rattle.sz_words.specs.declared.WordsFault.{WordsFault}
-use Rattle.sz_session.specs.Serving.{nothing_held, is_served, is_play, is_init, is_check, is_run, is_of_log, is_load}
-use Rattle.sz_session.specs.Serving.{is_of_lines, is_opened}
+use Rattle.sz_feed.specs.Serving.{is_served, is_play, is_init, is_check, is_run, is_of_log, is_load}
+use Rattle.sz_commands.specs.States.{nothing_held}
+use Rattle.sz_feed.specs.Serving.{is_of_lines, is_opened}
 use Rattle.sz_session.specs.Statuses.{is_of_disk}
-use Rattle.sz_session.specs.Disks.{OnlySays}
+use Rattle.sz_feed.specs.Disks.{OnlySays}
 use Rattle.sz_session.specs.declared.serving.Status.TheVariants as status
-use Rattle.sz_session.proofs.Ends.{ends-with, completes, none-in_lines}
-use Rattle.sz_session.proofs.Turns.{says-nothing}
+use Rattle.sz_session.proofs.Ends.{ends-with, completes}
+use Rattle.sz_feed.proofs.Told.{none-in_lines}
+use Rattle.sz_feed.proofs.Turns.{says-nothing}
 use Rattle.sz_session.proofs.Loads.{load-ends_with, load-completes}
-use Rattle.sz_session.proofs.Disks.{stays-still, start-stays, disk-stays, making-still}
+use Rattle.sz_feed.proofs.Disks.{stays-still, start-stays, disk-stays, making-still}
 use Rattle.sz_session.proofs.Makings.{init-ends_with, init-made, init-barred, barred-no_memory}
 use Rattle.sz_session.proofs.Makings.{init-completes}
 use Rattle.sz_session.proofs.Checkings.{check-ends_with, check-tells, unlike-no_memory, line-stops}

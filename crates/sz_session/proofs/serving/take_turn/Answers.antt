@@ -2,11 +2,12 @@
 use Rattle.std.proofs.Common.{[], ap}
 use Rattle.std.specs.Prelude.{Result, Err}
 use Rattle.std.proofs.lemmas.Result.{err_from_is_err_and}
-use Rattle.sz_session.specs.declared.feed.Halt.{Halt}
-use Rattle.sz_session.proofs.Ends.{answered-turn, turn-ends, plain-turn, disk-turn, not-done}
-use Rattle.sz_session.proofs.Beside.{is-again}
-use Rattle.sz_session.proofs.Sources.{rest-still, next-taken, rest-taken}
-use Rattle.sz_session.proofs.Disks.{stays-still, between-stays, turn-stays}
+use Rattle.sz_feed.specs.declared.feed.Halt.{Halt}
+use Rattle.sz_session.proofs.Ends.{turn-ends, plain-turn, disk-turn, not-done}
+use Rattle.sz_feed.proofs.Told.{answered-turn}
+use Rattle.sz_feed.proofs.Beside.{is-again}
+use Rattle.sz_feed.proofs.Sources.{rest-still, next-taken, rest-taken}
+use Rattle.sz_feed.proofs.Disks.{stays-still, between-stays, turn-stays}
 use Rattle.sz_session.proofs.serving.take_turn.Goals as goal
 
 pub returns-clause-answered : goal.returns-clause-answered

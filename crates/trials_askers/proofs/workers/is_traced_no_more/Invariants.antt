@@ -1,5 +1,5 @@
 -- The log, where there is one, stands beside the session.
-use Rattle.sz_session.specs.Logged.{HasLog}
+use Rattle.sz_commands.specs.Logged.{HasLog}
 use Rattle.trials_askers.proofs.workers.is_traced_no_more.Given as goal
 
 abbrev pub invariant-loop-turn : goal.invariant-loop-turn

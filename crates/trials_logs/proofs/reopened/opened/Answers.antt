@@ -1,9 +1,9 @@
 -- The log that was opened stands beside the session of what it held.
 use Rattle.std.proofs.Common.{List, ℕ, Option, sym, ◌∙◌, subst}
 use Rattle.sz_outside.specs.Disk.{Only}
-use Rattle.sz_session.specs.States.{State}
-use Rattle.sz_session.specs.Logged.{HasLog}
-use Rattle.sz_session.proofs.Logged.{opened-log}
+use Rattle.sz_commands.specs.States.{State}
+use Rattle.sz_commands.specs.Logged.{HasLog}
+use Rattle.sz_commands.proofs.Logged.{opened-log}
 use Rattle.sz_session.proofs.Continuing.{not-failed}
 use Rattle.trials_logs.proofs.reopened.opened.Goals as goal
 

@@ -1,0 +1,11 @@
+-- The files of lemmas.
+pub mod Asks
+pub mod Taking
+pub mod Crossing
+pub mod Stops
+pub mod SessionRows
+pub mod States
+pub mod Sought
+pub mod Logged
+pub mod Lasting
+pub mod Appending

@@ -1,0 +1,30 @@
+-- What is held stays sound, and the versions that a log gave stay.
+use Rattle.std.proofs.Common.{◌≡◌, sym, ap, subst}
+use Rattle.std.specs.Prelude.{None}
+use Rattle.sz_catalogue.specs.Holdings.{Holdings}
+use Rattle.sz_catalogue.specs.Responses.{Response}
+use Rattle.sz_catalogue.specs.Rules.{judged}
+use Rattle.sz_commands.specs.States.{State}
+use Rattle.sz_versions.specs.Recalls.{IsInService}
+use Rattle.sz_versions.proofs.Keeps.{keeps-accepted}
+use Rattle.sz_versions.proofs.Stays.{recalled-stay, accepted-stay}
+use Rattle.sz_commands.proofs.States.{accepted-changed}
+use Rattle.sz_commands.proofs.session.Session.accept.Goals as goal
+
+pub accept-requires-clause-judged : goal.accept-requires-clause-judged
+accept-requires-clause-judged c =
+    subst (λ (s : State). judged s.held c.args.command ≡ None) (sym c.self.view_is) c.requires.judged
+
+pub invariant_of-self-2 : goal.invariant_of-self-2
+invariant_of-self-2 c =
+    let cat = c.self.inside.catalogue in
+    let none = subst (λ (s : State). judged s.held c.args.command ≡ None) (sym c.self.view_is) c.requires.judged in
+    let after = sym (ap (λ (p : Holdings × Response). p.0) c.in_ok-reply.ensures.ok) in
+    subst (λ (h : Holdings). IsInService h c.self.inside.recalled.items) after (record {
+      sound = keeps-accepted cat c.args.command c.self.invariant.sound c.requires.right none c.requires.kind;
+      recalled = recalled-stay cat _ _ (accepted-stay cat c.args.command c.requires.kind) c.self.invariant.recalled;
+    })
+
+pub returns-clause-reply : goal.returns-clause-reply
+returns-clause-reply c =
+    rw (← c.self.view_is) (accepted-changed _ _ c.args.command _ c.requires.kind c.in_ok-reply.ensures.ok)

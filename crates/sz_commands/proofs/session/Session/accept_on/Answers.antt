@@ -1,0 +1,66 @@
+-- A command that makes nothing durable leaves the log. A line that was appended is what its command makes durable, and
+-- so is the body of a version.
+use Rattle.std.proofs.Common.{sym, ◌∙◌, true≢false}
+use Rattle.std.proofs.lemmas.Result.{on_ok_weaker}
+use Rattle.sz_commands.specs.Logged.{IsLineGroup, IsVersionGroup, IsGroupFor}
+use Rattle.sz_commands.specs.States.{accepted}
+use Rattle.sz_commands.proofs.Appending.{appends-as, line-group, line-makes, nothing-makes, await-idle, await-makes}
+use Rattle.sz_commands.proofs.Appending.{await-group}
+use Rattle.sz_commands.proofs.Lasting.{nothing-keeps}
+use Rattle.sz_commands.proofs.Logged.{still-stops}
+use Rattle.sz_commands.proofs.session.Session.accept_on.Goals as goal
+
+pub returns-in-Line-clause-idle : goal.returns-in-Line-clause-idle
+returns-in-Line-clause-idle g c =
+    λ none. absurd (true≢false
+    (sym (line-makes c.args.self.now.held c.in-Line.kind c.args.command c.in-Line.ensures) ∙ none))
+
+pub returns-in-Line-clause-appends : goal.returns-in-Line-clause-appends
+returns-in-Line-clause-appends g c =
+    let held = c.args.self.now.held in
+    let line = c.args.line.now in
+    on_ok_weaker c.add_line.result
+    (λ added made. appends-as g.T.Station (IsLineGroup c.args.command line) (IsGroupFor held line c.args.command)
+    c.args.self.now.end c.add_line.new.self.end c.args.station.now c.add_line.new.station
+    (line-group held line c.args.command) added)
+    c.add_line.ensures.appends
+
+pub returns-in-Version-clause-idle : goal.returns-in-Version-clause-idle
+returns-in-Version-clause-idle g c =
+    λ none. c.add_version.ensures.idle
+    (await-idle c.args.self.now.held c.args.command c.in-Version.version c.in-Version.ensures none)
+
+pub returns-in-Version-clause-appends : goal.returns-in-Version-clause-appends
+returns-in-Version-clause-appends g c =
+    let held = c.args.self.now.held in
+    let line = c.args.line.now in
+    let n = c.in-Version.version in
+    let is = c.in-Version.ensures in
+    on_ok_weaker c.add_version.result
+    (λ added made. appends-as g.T.Station (IsVersionGroup held n) (IsGroupFor held line c.args.command)
+    c.args.self.now.end c.add_version.new.self.end c.args.station.now c.add_version.new.station
+    (λ e such. await-group held line c.args.command n e is such)
+    (added (await-makes held c.args.command n is made)))
+    c.add_version.ensures.appends
+
+pub returns-in_err-take-in-Nothing-clause-stops : goal.returns-in_err-take-in-Nothing-clause-stops
+returns-in_err-take-in-Nothing-clause-stops g c =
+    still-stops g.T.Station c.args.self.now.held (accepted c.args.self.now c.args.command).0.held
+    c.args.self.now.end c.args.station.now (g.met.T.Station.only_now c.args.station.now)
+    (g.met.T.Station.counts_now c.args.station.now)
+
+pub returns-in_ok-take-in-Nothing-clause-log : goal.returns-in_ok-take-in-Nothing-clause-log
+returns-in_ok-take-in-Nothing-clause-log g c =
+    nothing-keeps g.T.Station c.args.self.now c.take-in-Nothing.new.self c.args.command _ c.args.station.now
+    c.requires.log c.in_ok-take-in-Nothing.ensures.reply c.in-Nothing.ensures
+
+pub returns-in_ok-take-in-Nothing-clause-stops : goal.returns-in_ok-take-in-Nothing-clause-stops
+returns-in_ok-take-in-Nothing-clause-stops g c =
+    still-stops g.T.Station c.args.self.now.held (accepted c.args.self.now c.args.command).0.held
+    c.args.self.now.end c.args.station.now (g.met.T.Station.only_now c.args.station.now)
+    (g.met.T.Station.counts_now c.args.station.now)
+
+pub returns-in_ok-take-in-Nothing-clause-appends : goal.returns-in_ok-take-in-Nothing-clause-appends
+returns-in_ok-take-in-Nothing-clause-appends g c =
+    λ made. absurd (true≢false
+    (sym made ∙ nothing-makes c.args.self.now.held c.args.command c.in-Nothing.ensures))

@@ -1,0 +1,56 @@
+-- The line acts on what the log holds as the command does on what the session holds.
+use Rattle.std.proofs.Common.{Some, refl, sym, ap, ◌∙◌, subst}
+use Rattle.sz_catalogue.specs.Changes as changes
+use Rattle.sz_catalogue.specs.Holdings.{Holdings}
+use Rattle.sz_commands.specs.States.{State}
+use Rattle.sz_commands.specs.Logged.{KeepsLog, IsLineGroup}
+use Rattle.sz_commands.proofs.Appending.{group-added}
+use Rattle.sz_commands.proofs.Lasting.{left-held}
+use Rattle.sz_commands.proofs.Logged.{still-stops, log-ends, line-step, append-stops, append-keeps}
+use Rattle.sz_commands.proofs.session.Session.add_line.Goals as goal
+
+pub returns-in_err-reply-clause-stops : goal.returns-in_err-reply-clause-stops
+returns-in_err-reply-clause-stops g c =
+    still-stops g.T.Station c.args.self.now.held (changes.accepted c.args.self.now.held c.args.command).0
+    c.args.self.now.end c.args.station.now (g.met.T.Station.only_now c.args.station.now)
+    (g.met.T.Station.counts_now c.args.station.now)
+
+pub append-requires-clause-log : goal.append-requires-clause-log
+append-requires-clause-log g c =
+    log-ends g.T.Station c.args.self.now.held c.args.end.at c.args.station.now c.requires.log
+
+pub returns-in_err-next-clause-stops : goal.returns-in_err-next-clause-stops
+returns-in_err-next-clause-stops g c =
+    let held = c.args.self.now.held in
+    append-stops g.T.Station held (changes.accepted held c.args.command).0 c.args.self.now.end c.args.end.at _
+    c.args.station.now c.append.new.station c.requires.end
+    (line-step held c.args.kind c.args.line.now c.args.command c.requires.reads c.requires.kind c.requires.judged)
+    c.append.ensures.stops
+
+pub returns-clause-log : goal.returns-clause-log
+returns-clause-log g c =
+    let held = c.args.self.now.held in
+    let left = ap (λ (s : State). s.held) c.self.view_is
+    ∙ left-held c.args.self.now c.accept.new.self c.args.command _ c.in_ok-reply.ensures.reply in
+    let L : Holdings → Type 0 = λ h.
+    KeepsLog g.T.Station held c.args.self.now.end h (Some c.in_ok-next.next.at) c.args.station.now
+    c.append.new.station in
+    subst L (sym left)
+    (append-keeps g.T.Station held (changes.accepted held c.args.command).0 c.args.self.now.end c.args.end.at
+    c.in_ok-next.next.at _ c.args.station.now c.append.new.station c.requires.end
+    (line-step held c.args.kind c.args.line.now c.args.command c.requires.reads c.requires.kind c.requires.judged)
+    c.in_ok-next.ensures.added c.in_ok-next.ensures.end c.in_ok-next.ensures.synced)
+
+pub returns-clause-stops : goal.returns-clause-stops
+returns-clause-stops g c =
+    let held = c.args.self.now.held in
+    append-stops g.T.Station held (changes.accepted held c.args.command).0 c.args.self.now.end c.args.end.at _
+    c.args.station.now c.append.new.station c.requires.end
+    (line-step held c.args.kind c.args.line.now c.args.command c.requires.reads c.requires.kind c.requires.judged)
+    c.append.ensures.stops
+
+pub returns-clause-appends : goal.returns-clause-appends
+returns-clause-appends g c =
+    group-added g.T.Station (IsLineGroup c.args.command c.args.line.now) c.args.self.now.end c.args.end.at
+    c.in_ok-next.next.at (record { kind = c.args.kind; body = c.args.line.now }) c.args.station.now c.append.new.station
+    c.requires.end (c.requires.kind, refl) c.in_ok-next.ensures.added c.in_ok-next.ensures.end

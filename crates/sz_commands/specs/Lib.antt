@@ -1,0 +1,10 @@
+-- The files of definitions, the lower ones first.
+pub mod Lines
+pub mod Transcript
+pub mod Stops
+pub mod Commands
+pub mod Asks
+pub mod Given
+pub mod States
+pub mod Inquiries
+pub mod Logged

@@ -1,0 +1,98 @@
+-- What a session holds, and what a command does to it.
+--
+-- Beside its catalogue a session of a log has, of each version that the log gave, the stores that
+-- were read of it. Such a version is answered by what these stand for, and any other by the
+-- composed relation. Of a log that is sound both are the same.
+use Rattle.std.specs.Prelude.{ℕ, List, [], ◌==◌, Option, Some, None, find}
+use Rattle.std.specs.Prelude.{option_map, Result, Ok, Err}
+use Rattle.sz_cells.specs.Cells.{Cells}
+use Rattle.sz_spec.specs.declared.modes.Dir.{Dir}
+use Rattle.sz_spec.specs.Paths.{Step}
+use Rattle.sz_store.specs.Kept.{NodeLineage}
+use Rattle.sz_script.specs.Reading.{reading}
+use Rattle.sz_script.specs.declared.command.NamedCell.{NamedCell}
+use Rattle.sz_script.specs.declared.command.Command.{Command}
+use Rattle.sz_script.specs.declared.command.Command.TheVariants as command
+use Rattle.sz_script.specs.declared.refusal.Refusal.{Refusal}
+use Rattle.sz_catalogue.specs.Holdings.{Version, Holdings, no_holdings}
+use Rattle.sz_catalogue.specs.Rules.{version_of, judged}
+use Rattle.sz_catalogue.specs.Changes as changes
+use Rattle.sz_catalogue.specs.Responses.{Response, cells, refused}
+use Rattle.sz_recover.specs.Logs.{Kept}
+use Rattle.sz_versions.specs.Recalled.{cells_recalled}
+
+-- the catalogue; the stores of the versions that the log gave; and, of a session of a log, where
+-- the log's first closed gate stands
+pub record State : Type 0 where
+  pub held : Holdings
+  pub logged : List Kept
+  pub end : Option ℕ
+
+-- what a session of no log holds
+abbrev pub state_of : Holdings → State
+state_of c = record { held = c; logged = []; end = None }
+
+-- what is held where nothing is
+abbrev pub nothing_held : State
+nothing_held = state_of no_holdings
+
+-- the same but for where the log ends
+abbrev pub apart : State → State
+apart s = record s { end = None }
+
+-- ---- what is answered
+
+-- the stores that the log gave of a version, by its number
+abbrev pub logged_of : State → ℕ → Option (List (Option NodeLineage))
+logged_of s n = option_map (λ (k : Kept). k.stores) (find (λ (k : Kept). k.number == n) s.logged)
+
+-- the cells of an ask: by the stores that the log gave, and else by the composed relation
+abbrev pub cells_by : Option (List (Option NodeLineage)) → Version → Dir → List Step
+    → List NamedCell → Cells
+cells_by None v dir path named = changes.cells_answered v dir path named
+cells_by (Some stores) v dir path named = cells_recalled v stores dir path named
+
+abbrev pub cells_told : State → ℕ → Dir → List Step → List NamedCell → Cells
+cells_told s n dir path named =
+    cells_by (logged_of s n) (version_of s.held n) dir path named
+
+-- ---- commands
+
+-- a catalogue that is changed, with the reply
+abbrev pub changed : State → Holdings × Response → State × Response
+changed s r = (record s { held = r.0 }, r.1)
+
+-- what a command that no rule refuses changes, and its reply
+abbrev pub accepted : State → Command → State × Response
+accepted s (command.Ask n dir path named) = (s, cells (cells_told s n dir path named))
+accepted s (command.Array name array) =
+    changed s (changes.accepted s.held (command.Array name array))
+accepted s (command.Csv name array) = changed s (changes.accepted s.held (command.Csv name array))
+accepted s (command.Layers name array) =
+    changed s (changes.accepted s.held (command.Layers name array))
+accepted s (command.Flow name flow) = changed s (changes.accepted s.held (command.Flow name flow))
+accepted s (command.Strategy name node list) =
+    changed s (changes.accepted s.held (command.Strategy name node list))
+accepted s (command.Start name base) = changed s (changes.accepted s.held (command.Start name base))
+accepted s (command.Await n) = changed s (changes.accepted s.held (command.Await n))
+accepted s (command.Explain n dir path named) =
+    changed s (changes.accepted s.held (command.Explain n dir path named))
+accepted s (command.Show n node) = changed s (changes.accepted s.held (command.Show n node))
+
+-- a command that a rule refuses changes nothing
+abbrev pub after_judging : State → Command → Option Refusal → State × Response
+after_judging s command None = accepted s command
+after_judging s command (Some rule) = (s, refused rule)
+
+abbrev pub after_command : State → Command → State × Response
+after_command s command = after_judging s command (judged s.held command)
+
+-- and so does a line that is read as no command
+abbrev pub after_reading : State → Result Command Refusal → State × Response
+after_reading s (Err rule) = (s, refused rule)
+after_reading s (Ok command) = after_command s command
+
+-- One line: refused where it is read as no command or a rule refuses the command, and else what the
+-- command changes and replies.
+abbrev pub after_line : State → List ℕ → State × Response
+after_line s line = after_reading s (reading line)

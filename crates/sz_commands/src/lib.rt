@@ -1,0 +1,41 @@
+//! A session: what one line does to it, and several asks at the same time.
+//!
+//! [`Session::command`] gives the reply of a line: it has the line read and judged, and then taken
+//! by the catalogue (`accept`), started, awaited, answered along its path, or shown, by what
+//! `sz_versions` does with versions. Its clauses say the reply and what is held then (`Responds` of
+//! `specs/Commands`, by `after_line` of `specs/States`), how many cells were traced for it, and of
+//! the station beside it what a stop at any moment leaves. [`Session::asks`] answers as many asks
+//! at the same time as there are askers, each in a thread, and gives their replies in their order.
+//!
+//! ```text
+//! let mut session = Session::fresh(alloc, workers, askers)?;
+//! let reply = session.command(rt, line, number, &mut station, &gate, &mut tally)?;
+//! ```
+//!
+//! Contracts see a session as a `State`: its catalogue, and beside it the stores that a log gave. A
+//! log that was opened is gone on from by [`Session::of_log`]: it holds what the log holds,
+//! computes the values of its versions again, and answers of each by the stores that were read of
+//! it, whatever they stand for (`cells_recalled` of `sz_versions`). Where they stand for the
+//! relation that is the composed relation.
+//!
+//! What a command of such a session makes durable is written to the log before its reply is given
+//! (`logging`): an accepted line that holds an array or a flow or sets strategies, and a version at
+//! its first await, with stores that stand for the relation. `specs/Logged` says what the station
+//! has beside the session (`HasLog`), what a command makes of it (`KeepsLog`) and what a stop
+//! leaves (`StopsInLog`). `specs/Lines` says what the lines of a text are, and `specs/Transcript`
+//! what a session says to all of them. `docs/FORMATS.md` describes lines and replies.
+//!
+//! To whoever changes this crate: what a version carries is its own (`IsTrailOf` of `sz_versions`):
+//! a call that works on it takes it out of the catalogue and leaves one that stands in, which
+//! belongs to the version too (`take_out`, `put_back`). Before an await the tally of an ask is
+//! known from below and above, and once the version is awaited exactly.
+#![tactic(auto)]
+
+mod asking;
+mod blank;
+mod logging;
+mod session;
+
+pub use asking::AskLine;
+pub use blank::is_blank;
+pub use session::{Given, Session, Stop};

@@ -1,0 +1,295 @@
+//! A session of a log: what a command makes durable is written to the log before its reply is
+//! given.
+//!
+//! An accepted line that holds an array or a flow, or sets strategies, is appended as it stands,
+//! once the session has taken it; a version is appended at its first await, with its stores, before
+//! the session notes the await. Nothing else is written. So where there is no memory nothing was,
+//! and where the disk fails the log holds what it held, or what it would.
+
+ghost use Rattle.std.specs.Prelude.{◌≡◌, ◌+◌, ◌*◌, ◌^◌, ◌<◌, ◌≤◌, true, false, None, Some, Ok, Err};
+ghost use Rattle.std.specs.Prelude.{IfOk, OnOk};
+ghost use Rattle.sz_outside.specs.Outside.{Rose, Stood};
+ghost use Rattle.sz_script.specs.Reading.{reading};
+ghost use Rattle.sz_script.specs.Right.{is_right};
+ghost use Rattle.sz_script.specs.declared.command.Command.TheVariants as order;
+ghost use Rattle.sz_catalogue.specs.Rules.{judged, version_of, has_no_version};
+ghost use Rattle.sz_catalogue.specs.Changes as changes;
+ghost use Rattle.sz_catalogue.specs.Seen.{response_of};
+ghost use Rattle.sz_recover.specs.Logs.{is_of_kind};
+ghost use Rattle.sz_commands.specs.States.{apart, accepted, after_command};
+ghost use Rattle.sz_commands.specs.Commands.{traced_for, most_for, traced_along, most_along};
+ghost use Rattle.sz_commands.specs.Given.{Gives, IsRight, Takes, traced_for_given, most_for_given};
+ghost use Rattle.sz_commands.specs.Logged.{IsLogOf, HasLog, KeepsLog, StopsInLog, held_after};
+ghost use Rattle.sz_commands.specs.Logged.{IsLasting, Appends, IsGroupOf, IsGroupFor, IsLineGroup};
+ghost use Rattle.sz_commands.specs.Logged.{IsVersionGroup, makes, makes_judged, makes_durable};
+
+use crate::session::{Given, Session, Stop};
+use std::sync::Wait;
+use std::thread::Threads;
+use sz_catalogue::Reply;
+use sz_log::{LogEnd, append};
+use sz_outside::{Gate, Station};
+use sz_script::{Command, LineFault};
+use sz_spec::Tally;
+use sz_versions::{Carry, body_for};
+
+/// What a command makes durable.
+#[derive(Clone, Copy, Drop)]
+pub enum Lasting {
+    /// Its line, in a group of this kind.
+    Line(u8),
+    /// A version that is awaited.
+    Version(u32),
+    /// Nothing.
+    Nothing,
+}
+
+impl Session {
+    /// Does what a line gives, and gives its reply, as `command` does.
+    pub fn take_on<T: Station, G: Gate, R: Threads + Wait + Sync>(
+        &mut self,
+        rt: &R,
+        given: Given,
+        line: &[u8],
+        number: u64,
+        station: &mut T,
+        gate: &G,
+        tally: &mut Tally,
+    ) -> Result<Option<Reply>, Stop>
+        requires gives { Gives line.now given }
+        requires right { IsRight given }
+        requires room { tally.old + 32 * 1048576 < 2 ^ 63 }
+        requires log { HasLog T.Station self.old.held self.old.end station.old }
+        ensures reply { IfOk result (λ r. Takes (apart self.old) given (apart self.new) r) }
+        ensures least { OnOk result (tally.old + traced_for_given self.old given ≤ tally.new) }
+        ensures most { OnOk result (tally.new ≤ tally.old + most_for_given self.old given) }
+        ensures log { OnOk result (KeepsLog T.Station self.old.held self.old.end
+            self.new.held self.new.end station.old station.new) }
+        ensures stops { StopsInLog T.Station self.old.held self.old.end
+            (held_after self.old line.now) station.old station.new }
+        ensures output { (T.said station.new ≡ T.said station.old)
+            × (T.say_faults station.new ≡ T.say_faults station.old) }
+        ensures quiet { OnOk result
+            (Stood (T.disk_faults station.old) (T.disk_faults station.new)) }
+        ensures fault { result ≡ Err Stop.DiskFault
+            → Rose (T.disk_faults station.old) (T.disk_faults station.new) }
+        ensures kept { result ≡ Err Stop.NoMemory
+            → (self.new ≡ self.old) × (station.new ≡ station.old) }
+        ensures plain { self.old.end ≡ None → result ≡ Err Stop.DiskFault → ⊥ }
+        ensures idle { makes_durable self.old.held line.now ≡ false → station.new ≡ station.old }
+        ensures appends { OnOk result (makes_durable self.old.held line.now ≡ true
+            → Appends T.Station (IsGroupOf self.old.held line.now (reading line.now))
+            self.old.end self.new.end station.old station.new) }
+    {
+        match given {
+            Given::Nothing => Ok(None),
+            Given::Refused(rule) => Ok(Some(Reply::Refused(rule))),
+            Given::Ask(command) => Ok(Some(self.judge(rt, command, number, gate, tally)?)),
+            Given::Other(command) => {
+                let reply = self.judge_on(rt, command, line, number, station, gate, tally)?;
+                Ok(Some(reply))
+            }
+        }
+    }
+
+    /// Judges the command of a line, and takes it where no rule refuses it.
+    fn judge_on<T: Station, G: Gate, R: Threads + Wait + Sync>(
+        &mut self,
+        rt: &R,
+        command: Command,
+        line: &[u8],
+        number: u64,
+        station: &mut T,
+        gate: &G,
+        tally: &mut Tally,
+    ) -> Result<Reply, Stop>
+        requires reads { reading line.now ≡ Ok command }
+        requires right { is_right command ≡ true }
+        requires room { tally.old + 32 * 1048576 < 2 ^ 63 }
+        requires log { HasLog T.Station self.old.held self.old.end station.old }
+        ensures reply { IfOk result
+            (λ r. after_command (apart self.old) command ≡ (apart self.new, response_of r)) }
+        ensures least { OnOk result (tally.old + traced_for self.old command ≤ tally.new) }
+        ensures most { OnOk result (tally.new ≤ tally.old + most_for self.old command) }
+        ensures log { OnOk result (KeepsLog T.Station self.old.held self.old.end
+            self.new.held self.new.end station.old station.new) }
+        ensures stops { StopsInLog T.Station self.old.held self.old.end
+            (after_command self.old command).0.held station.old station.new }
+        ensures output { (T.said station.new ≡ T.said station.old)
+            × (T.say_faults station.new ≡ T.say_faults station.old) }
+        ensures quiet { OnOk result
+            (Stood (T.disk_faults station.old) (T.disk_faults station.new)) }
+        ensures fault { result ≡ Err Stop.DiskFault
+            → Rose (T.disk_faults station.old) (T.disk_faults station.new) }
+        ensures kept { result ≡ Err Stop.NoMemory
+            → (self.new ≡ self.old) × (station.new ≡ station.old) }
+        ensures plain { self.old.end ≡ None → result ≡ Err Stop.DiskFault → ⊥ }
+        ensures idle { makes_judged self.old.held command (judged self.old.held command) ≡ false
+            → station.new ≡ station.old }
+        ensures appends { OnOk result
+            (makes_judged self.old.held command (judged self.old.held command) ≡ true
+            → Appends T.Station (IsGroupFor self.old.held line.now command)
+            self.old.end self.new.end station.old station.new) }
+    {
+        match self.catalogue.judge(self.alloc, &command) {
+            Ok(()) => self.accept_on(rt, command, line, number, station, gate, tally),
+            Err(LineFault::Refused(refusal)) => Ok(Reply::Refused(refusal)),
+            Err(LineFault::NoMemory) => Err(Stop::NoMemory),
+        }
+    }
+
+    /// Takes the command of a line, which no rule refuses.
+    fn accept_on<T: Station, G: Gate, R: Threads + Wait + Sync>(
+        &mut self,
+        rt: &R,
+        command: Command,
+        line: &[u8],
+        number: u64,
+        station: &mut T,
+        gate: &G,
+        tally: &mut Tally,
+    ) -> Result<Reply, Stop>
+        requires reads { reading line.now ≡ Ok command }
+        requires right { is_right command ≡ true }
+        requires judged { judged self.old.held command ≡ None }
+        requires room { tally.old + 32 * 1048576 < 2 ^ 63 }
+        requires log { HasLog T.Station self.old.held self.old.end station.old }
+        ensures reply { IfOk result
+            (λ r. accepted (apart self.old) command ≡ (apart self.new, response_of r)) }
+        ensures least { OnOk result (tally.old + traced_along self.old command ≤ tally.new) }
+        ensures most { OnOk result (tally.new ≤ tally.old + most_along self.old command) }
+        ensures log { OnOk result (KeepsLog T.Station self.old.held self.old.end
+            self.new.held self.new.end station.old station.new) }
+        ensures stops { StopsInLog T.Station self.old.held self.old.end
+            (accepted self.old command).0.held station.old station.new }
+        ensures output { (T.said station.new ≡ T.said station.old)
+            × (T.say_faults station.new ≡ T.say_faults station.old) }
+        ensures quiet { OnOk result
+            (Stood (T.disk_faults station.old) (T.disk_faults station.new)) }
+        ensures fault { result ≡ Err Stop.DiskFault
+            → Rose (T.disk_faults station.old) (T.disk_faults station.new) }
+        ensures kept { result ≡ Err Stop.NoMemory
+            → (self.new ≡ self.old) × (station.new ≡ station.old) }
+        ensures plain { self.old.end ≡ None → result ≡ Err Stop.DiskFault → ⊥ }
+        ensures idle { makes self.old.held command ≡ false → station.new ≡ station.old }
+        ensures appends { OnOk result (makes self.old.held command ≡ true
+            → Appends T.Station (IsGroupFor self.old.held line.now command)
+            self.old.end self.new.end station.old station.new) }
+    {
+        let Some(end) = self.end else {
+            return Ok(self.take(rt, command, number, gate, tally)?);
+        };
+        match what_lasts(&command) {
+            Lasting::Line(kind) => self.add_line(command, kind, line, end, station),
+            Lasting::Version(version) => self.add_version(rt, version, end, station),
+            Lasting::Nothing => Ok(self.take(rt, command, number, gate, tally)?),
+        }
+    }
+
+    /// Takes the command of a line that changes no version, and appends the line.
+    fn add_line<T: Station>(
+        &mut self,
+        command: Command,
+        kind: u8,
+        line: &[u8],
+        end: LogEnd,
+        station: &mut T,
+    ) -> Result<Reply, Stop>
+        requires reads { reading line.now ≡ Ok command }
+        requires kind { is_of_kind kind command ≡ true }
+        requires right { is_right command ≡ true }
+        requires judged { judged self.old.held command ≡ None }
+        requires end { self.old.end ≡ Some end.at }
+        requires log { IsLogOf T.Station self.old.held end.at station.old }
+        ensures reply { IfOk result
+            (λ r. accepted (apart self.old) command ≡ (apart self.new, response_of r)) }
+        ensures log { OnOk result (KeepsLog T.Station self.old.held self.old.end
+            self.new.held self.new.end station.old station.new) }
+        ensures stops { StopsInLog T.Station self.old.held self.old.end
+            (changes.accepted self.old.held command).0 station.old station.new }
+        ensures output { (T.said station.new ≡ T.said station.old)
+            × (T.say_faults station.new ≡ T.say_faults station.old) }
+        ensures quiet { OnOk result
+            (Stood (T.disk_faults station.old) (T.disk_faults station.new)) }
+        ensures fault { result ≡ Err Stop.DiskFault
+            → Rose (T.disk_faults station.old) (T.disk_faults station.new) }
+        ensures kept { result ≡ Err Stop.NoMemory
+            → (self.new ≡ self.old) × (station.new ≡ station.old) }
+        ensures appends { OnOk result (Appends T.Station (IsLineGroup command line.now)
+            self.old.end self.new.end station.old station.new) }
+    {
+        let reply = self.accept(command)?;
+        let next = append(station, end, kind, line)?;
+        self.end = Some(next);
+        Ok(reply)
+    }
+
+    /// Awaits a version, and appends it where it was not awaited before.
+    fn add_version<T: Station, R: Wait>(
+        &mut self,
+        rt: &R,
+        version: u32,
+        end: LogEnd,
+        station: &mut T,
+    ) -> Result<Reply, Stop>
+        requires judged { judged self.old.held (order.Await version) ≡ None }
+        requires end { self.old.end ≡ Some end.at }
+        requires log { IsLogOf T.Station self.old.held end.at station.old }
+        ensures reply { IfOk result (λ r. accepted (apart self.old) (order.Await version)
+            ≡ (apart self.new, response_of r)) }
+        ensures log { OnOk result (KeepsLog T.Station self.old.held self.old.end
+            self.new.held self.new.end station.old station.new) }
+        ensures stops { StopsInLog T.Station self.old.held self.old.end
+            (changes.accepted self.old.held (order.Await version)).0 station.old station.new }
+        ensures output { (T.said station.new ≡ T.said station.old)
+            × (T.say_faults station.new ≡ T.say_faults station.old) }
+        ensures quiet { OnOk result
+            (Stood (T.disk_faults station.old) (T.disk_faults station.new)) }
+        ensures fault { result ≡ Err Stop.DiskFault
+            → Rose (T.disk_faults station.old) (T.disk_faults station.new) }
+        ensures kept { result ≡ Err Stop.NoMemory
+            → (self.new ≡ self.old) × (station.new ≡ station.old) }
+        ensures idle { (version_of self.old.held version).awaited ≡ true
+            → station.new ≡ station.old }
+        ensures appends { OnOk result ((version_of self.old.held version).awaited ≡ false
+            → Appends T.Station (IsVersionGroup self.old.held version)
+            self.old.end self.new.end station.old station.new) }
+    {
+        if self.is_awaited(version) {
+            return Ok(self.await_version(rt, version)?);
+        }
+        let run = self.whole_run(rt, version)?;
+        self.catalogue.is_in_order();
+        let body = body_for(self.alloc, &self.catalogue, version, &run)?;
+        let next = append(station, end, 4, &body)?;
+        self.end = Some(next);
+        Ok(self.note_await(version, Carry::Run(run)))
+    }
+
+    /// Whether a version that is held was awaited.
+    fn is_awaited(&self, version: u32) -> bool
+        requires { has_no_version self.now.held version ≡ false }
+        ensures { result ≡ (version_of self.now.held version).awaited }
+    {
+        let Some(held) = self.catalogue.version(version) else {
+            unreachable!()
+        };
+        held.awaited
+    }
+}
+
+/// What a command makes durable. A further line form is a further arm here.
+fn what_lasts(command: &Command) -> Lasting
+    ensures { IsLasting command.now result }
+{
+    match command {
+        Command::Array { .. } | Command::Csv { .. } | Command::Layers { .. } => Lasting::Line(1),
+        Command::Flow { .. } => Lasting::Line(2),
+        Command::Strategy { .. } => Lasting::Line(3),
+        Command::Await { version } => Lasting::Version(*version),
+        Command::Start { .. }
+        | Command::Ask { .. }
+        | Command::Explain { .. }
+        | Command::Show { .. } => Lasting::Nothing,
+    }
+}

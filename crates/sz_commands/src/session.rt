@@ -1,0 +1,757 @@
+//! A session: what is held, and what a line does to it.
+//!
+//! Contracts see a session as a `State`. Each version that is started here carries the runs of its
+//! nodes and their stores (`VersionRun`), so that no value is computed twice; of each that a log
+//! gave the session has them beside the catalogue (`Recalled`).
+
+ghost use Rattle.std.specs.Prelude.{◌≡◌, ◌+◌, ◌*◌, ◌^◌, ◌<◌, ◌≤◌, true, false, None, Err, map};
+ghost use Rattle.std.specs.Prelude.{IfOk, OnOk, OnErr, length, if◌then◌else◌, Some, is_some};
+ghost use Rattle.sz_flow.specs.Executions.{execution_of};
+ghost use Rattle.std.specs.List.{AllZip, AllByRecursion};
+ghost use Rattle.sz_script.specs.Right.{is_right};
+ghost use Rattle.sz_script.specs.declared.command.Command.TheVariants as order;
+ghost use Rattle.sz_catalogue.specs.Rules.{judged, version_of, has_no_version, is_not_joined};
+ghost use Rattle.sz_catalogue.specs.Rules.{is_out_of_range};
+ghost use Rattle.sz_catalogue.specs.Changes.{way_of, traced, changes_no_version};
+ghost use Rattle.sz_commands.specs.States.{apart, accepted, after_command, cells_told};
+ghost use Rattle.sz_catalogue.specs.Seen.{response_of};
+ghost use Rattle.sz_commands.specs.Commands.{Responds, traced_for_line, traced_for, traced_along};
+ghost use Rattle.sz_commands.specs.Commands.{most_for_line, most_for, most_along};
+ghost use Rattle.sz_versions.specs.Efforts.{most_traced};
+ghost use Rattle.sz_versions.specs.Stores.{IsTrailOf};
+ghost use Rattle.sz_versions.specs.Carries.{IsCarryOf};
+ghost use Rattle.sz_versions.specs.Views.{strategy_told};
+ghost use Rattle.sz_versions.specs.Searches.{IsSearchOf};
+ghost use Rattle.sz_commands.specs.States.{nothing_held};
+ghost use Rattle.sz_commands.specs.States.{logged_of};
+ghost use Rattle.sz_commands.specs.Logged.{HasLog, KeepsLog, StopsInLog, held_after, makes_durable};
+ghost use Rattle.sz_commands.specs.Logged.{Appends, IsGroupOf};
+ghost use Rattle.sz_script.specs.Reading.{reading};
+ghost use Rattle.sz_outside.specs.Outside.{Rose, Stood};
+ghost use Rattle.sz_commands.specs.Inquiries.{IsInquiryOf};
+ghost use Rattle.sz_versions.specs.Recalls.{IsRecalledIn};
+ghost use Rattle.sz_versions.specs.Runs.{executions_of};
+ghost use Rattle.sz_commands.specs.Asks.{is_ask, IsAskLine, IsBegun, ask_reply};
+ghost use Rattle.sz_commands.specs.Asks.{traced_for_asks, most_for_asks};
+ghost use Rattle.sz_commands.specs.Given.{Gives, IsRight};
+ghost use Rattle.sz_commands.specs.declared.session.Given.TheVariants as given;
+
+use crate::asking::{AskLine, Asked, Askers, work_out};
+use crate::blank::is_blank;
+use std::alloc::Global;
+use std::marker::Model;
+use std::sync::{Arc, Wait};
+use std::thread::Threads;
+use sz_catalogue::{Catalogue, Reply};
+use sz_cells::NoMemory;
+use sz_flow::NodeRun;
+use sz_log::LogEnd;
+use sz_outside::{Failed, Gate, Station};
+use sz_pool::{Receiver, Task, one_more, tasks};
+use sz_query::{Found, Spare, Used};
+use sz_recover::Recovered;
+use sz_script::{
+    BaseList, Command, LineFault, Name, NamedCells, Path, Refusal, StrategyList, laws, read_line,
+};
+use sz_spec::{Dir, Strategy, Tally};
+use sz_versions::{
+    Carry, Hands, Inquiry, Recalled, VersionRun, ended, find, inquiry_along, inquiry_recalled,
+    recall_each, run_version,
+};
+
+/// A session: what is held, each version with the runs of its nodes and what is kept of them; the
+/// versions that a log gave, and where that log ends; the channel through which tasks go to
+/// workers; and bitmaps for the asks to come.
+#[derive(Drop)]
+pub struct Session {
+    pub(crate) catalogue: Catalogue<Carry>,
+    recalled: Vec<Recalled>,
+    pub(crate) end: Option<LogEnd>,
+    pub(crate) alloc: Global,
+    hands: Hands,
+    tasks: Receiver<Task>,
+    askers: Askers,
+    spare: Spare,
+}
+
+impl Model for Session {
+    ghost use Rattle.std.specs.Prelude.{map, option_map};
+    ghost use Rattle.sz_commands.specs.States.{State};
+    ghost use Rattle.sz_versions.specs.Recalls.{IsInService};
+
+    ghost Value = { State };
+
+    ghost view = { λ s. record {
+      held = s.catalogue;
+      logged = map (λ r. r.kept) s.recalled.items;
+      end = option_map (λ e. e.at) s.end;
+    } };
+
+    ghost invariant = { λ s. IsInService s.catalogue s.recalled.items };
+}
+
+/// Why a command was not done. The session is to be let go then.
+#[derive(Clone, Copy, Debug, Drop, PartialEq, Eq)]
+pub enum Stop {
+    /// A call of the disk failed while the log was written.
+    DiskFault,
+    /// There was no memory.
+    NoMemory,
+}
+
+impl From<NoMemory> for Stop {
+    ghost use Rattle.std.specs.Prelude.{◌≡◌};
+    ghost use Rattle.sz_commands.specs.declared.session.Stop.TheVariants as stop;
+
+    ghost from_gives = { λ _ e. e ≡ stop.NoMemory };
+
+    fn from(_fault: NoMemory) -> Stop {
+        Stop::NoMemory
+    }
+}
+
+/// A log that was not written.
+impl From<Failed> for Stop {
+    ghost use Rattle.std.specs.Prelude.{◌≡◌};
+    ghost use Rattle.sz_commands.specs.declared.session.Stop.TheVariants as stop;
+
+    ghost from_gives = { λ _ e. e ≡ stop.DiskFault };
+
+    fn from(_fault: Failed) -> Stop {
+        Stop::DiskFault
+    }
+}
+
+/// What a line gives.
+#[derive(Drop)]
+pub enum Given {
+    /// It is blank.
+    Nothing,
+    /// It is read as no command.
+    Refused(Refusal),
+    /// It orders an ask.
+    Ask(Command),
+    /// It orders anything else.
+    Other(Command),
+}
+
+impl Session {
+    /// A session that holds nothing, with so many workers, and askers for `asks`.
+    pub fn fresh(alloc: Global, workers: u32, askers: u32) -> Result<Session, NoMemory>
+        requires workers { (1 ≤ workers) × (workers ≤ 64) }
+        requires askers { (1 ≤ askers) × (askers ≤ 64) }
+        ensures { IfOk result (λ s. s ≡ nothing_held) }
+    {
+        let (to, tasks) = tasks(alloc)?;
+        Ok(Session {
+            catalogue: Catalogue::new(alloc),
+            recalled: Vec::new(alloc),
+            end: None,
+            alloc,
+            hands: Hands::of(to, workers),
+            tasks,
+            askers: Askers::of(askers),
+            spare: Spare::new(alloc),
+        })
+    }
+
+    /// A session of a log that was opened: it holds what the log holds, and answers of each version
+    /// that the log gave by the stores that were read of it. Their values are computed again, each
+    /// once, side by side where that pays.
+    pub fn of_log<R: Threads + Sync>(
+        rt: &R,
+        alloc: Global,
+        recovered: Recovered<Carry>,
+        workers: u32,
+        askers: u32,
+    ) -> Result<Session, NoMemory>
+        requires workers { (1 ≤ workers) × (workers ≤ 64) }
+        requires askers { (1 ≤ askers) × (askers ≤ 64) }
+        ensures { IfOk result (λ s. s ≡ record {
+          held = recovered.catalogue;
+          logged = recovered.stores.items;
+          end = Some recovered.end.at;
+        }) }
+    {
+        let Recovered {
+            catalogue,
+            end,
+            stores,
+        } = recovered;
+        catalogue.is_in_order();
+        let recalled = recall_each(rt, alloc, &catalogue, stores)?;
+        let (to, tasks) = tasks(alloc)?;
+        Ok(Session {
+            catalogue,
+            recalled,
+            end: Some(end),
+            alloc,
+            hands: Hands::of(to, workers),
+            tasks,
+            askers: Askers::of(askers),
+            spare: Spare::new(alloc),
+        })
+    }
+
+    /// One receiving end more of the channel to which a start sends its tasks. It closes once the
+    /// session is let go.
+    pub fn tasks(&self) -> Result<Receiver<Task>, NoMemory> {
+        one_more(&self.tasks)
+    }
+
+    /// Does what a line orders, and gives its reply; a blank line has none. The gate is called once
+    /// for an ask or explain that is accepted, when its answer is found. The tally rises by the
+    /// output sizes of the steps that are told as traced, which says nothing of how a step was
+    /// worked out.
+    ///
+    /// A start costs the values of its nodes, each computed once, and a shelf with tasks for each
+    /// node with a stored strategy. An await costs the pieces of lineage that workers left undone.
+    /// Any other line costs what it reads, looks up and answers.
+    ///
+    /// For a session of a log the station's disk is that log (`HasLog`): what the line makes
+    /// durable is appended to it as one group, at the cost of its bytes (`appends`); any other line
+    /// leaves the station as it was (`idle`); and no write is pending then. At every moment a stop
+    /// leaves a log of what was durable before, or of what is then (`stops`). Where the disk fails
+    /// the log has to be opened again. A session of no log makes no call on the station.
+    pub fn command<T: Station, G: Gate, R: Threads + Wait + Sync>(
+        &mut self,
+        rt: &R,
+        line: &[u8],
+        number: u64,
+        station: &mut T,
+        gate: &G,
+        tally: &mut Tally,
+    ) -> Result<Option<Reply>, Stop>
+        requires room { tally.old + 32 * 1048576 < 2 ^ 63 }
+        requires log { HasLog T.Station self.old.held self.old.end station.old }
+        ensures reply { IfOk result
+            (λ r. Responds (apart self.old) line.now (apart self.new) r) }
+        ensures least { OnOk result
+            (tally.old + traced_for_line self.old line.now ≤ tally.new) }
+        ensures most { OnOk result (tally.new ≤ tally.old + most_for_line self.old line.now) }
+        ensures kept { result ≡ Err Stop.NoMemory
+            → (self.new ≡ self.old) × (station.new ≡ station.old) }
+
+        // The log.
+        ensures log { OnOk result (KeepsLog T.Station self.old.held self.old.end
+            self.new.held self.new.end station.old station.new) }
+        ensures again { OnOk result (HasLog T.Station self.new.held self.new.end station.new) }
+        ensures stops { StopsInLog T.Station self.old.held self.old.end
+            (held_after self.old line.now) station.old station.new }
+        ensures idle { makes_durable self.old.held line.now ≡ false → station.new ≡ station.old }
+        ensures appends { OnOk result (makes_durable self.old.held line.now ≡ true
+            → Appends T.Station (IsGroupOf self.old.held line.now (reading line.now))
+            self.old.end self.new.end station.old station.new) }
+        ensures output { (T.said station.new ≡ T.said station.old)
+            × (T.say_faults station.new ≡ T.say_faults station.old) }
+        ensures quiet { OnOk result
+            (Stood (T.disk_faults station.old) (T.disk_faults station.new)) }
+        ensures fault { result ≡ Err Stop.DiskFault
+            → Rose (T.disk_faults station.old) (T.disk_faults station.new) }
+        ensures plain { self.old.end ≡ None → result ≡ Err Stop.DiskFault → ⊥ }
+    {
+        let given = self.read(line)?;
+        self.take_on(rt, given, line, number, station, gate, tally)
+    }
+
+    /// What a line gives. Costs what reading it costs.
+    pub fn read(&self, line: &[u8]) -> Result<Given, NoMemory>
+        ensures gives { IfOk result (λ g. Gives line.now g) }
+        ensures right { IfOk result (λ g. IsRight g) }
+    {
+        if is_blank(line) {
+            return Ok(Given::Nothing);
+        }
+        laws::commands_are_right();
+        match read_line(self.alloc, line) {
+            Ok(command) => Ok(sorted(command)),
+            Err(LineFault::Refused(rule)) => Ok(Given::Refused(rule)),
+            Err(LineFault::NoMemory) => Err(NoMemory),
+        }
+    }
+
+    /// Whether what a command makes durable is written to a log.
+    pub fn has_log(&self) -> bool
+        ensures { result ≡ is_some self.now.end }
+    {
+        self.end.is_some()
+    }
+
+    /// Whether asks are answered beside one another: there are several askers.
+    pub fn has_askers(&self) -> bool {
+        self.askers.count() > 1
+    }
+
+    /// Whether as many asks wait as there are askers.
+    pub fn is_full(&self, waiting: usize) -> bool
+        ensures { result ≡ false → waiting < 64 }
+    {
+        waiting >= self.askers.count()
+    }
+
+    /// The replies to asks, in their order: as many are answered at the same time as there are
+    /// askers. The gate is called once for each that is accepted, when its answer is found, in the
+    /// thread that found it. What is held stays, also where there is no memory.
+    pub fn asks<G: Gate, R: Threads + Wait + Sync>(
+        &mut self,
+        rt: &R,
+        lines: &[AskLine],
+        gate: &G,
+        tally: &mut Tally,
+    ) -> Result<Vec<Reply>, NoMemory>
+        requires asks { AllByRecursion IsAskLine lines.now }
+        requires room { tally.old + length lines.now * 33554432 < 2 ^ 63 }
+        ensures replies { IfOk result
+            (λ rs. map response_of rs.items ≡ map (ask_reply self.old) lines.now) }
+        ensures least { OnOk result
+            (tally.old + traced_for_asks self.old lines.now ≤ tally.new) }
+        ensures most { OnOk result (tally.new ≤ tally.old + most_for_asks self.old lines.now) }
+        ensures same { self.new ≡ self.old }
+    {
+        let mut all = self.begin_each(lines)?;
+        work_out(self.alloc, rt, gate, self.askers, &mut all);
+        self.replies_to(lines, all, self.alloc, tally)
+    }
+
+    /// Each ask, judged, and looked up where no rule refuses it.
+    fn begin_each(&mut self, lines: &[AskLine]) -> Result<Vec<Asked>, NoMemory>
+        requires asks { AllByRecursion IsAskLine lines.now }
+        ensures begun { IfOk result (λ all. AllZip (IsBegun self.old) lines.now all.items) }
+        ensures same { self.new ≡ self.old }
+    {
+        let mut all = Vec::with_capacity(self.alloc, lines.len())?;
+        for line in lines {
+            all.push(self.begin(line)?)?;
+        }
+        Ok(all)
+    }
+
+    /// An ask, judged, and looked up where no rule refuses it.
+    fn begin(&mut self, line: &AskLine) -> Result<Asked, NoMemory>
+        requires ask { IsAskLine line.now }
+        ensures begun { IfOk result (λ a. IsBegun self.old line.now a) }
+        ensures same { self.new ≡ self.old }
+    {
+        match self.catalogue.judge(self.alloc, &line.ask) {
+            Ok(()) => self.open(line),
+            Err(LineFault::Refused(rule)) => Ok(Asked::Refused { rule }),
+            Err(LineFault::NoMemory) => Err(NoMemory),
+        }
+    }
+
+    /// An ask that no rule refuses, looked up.
+    fn open(&mut self, line: &AskLine) -> Result<Asked, NoMemory>
+        requires ask { IsAskLine line.now }
+        requires judged { judged self.old.held line.now.ask ≡ None }
+        ensures begun { IfOk result (λ a. IsBegun self.old line.now a) }
+        ensures same { self.new ≡ self.old }
+    {
+        let Command::Ask {
+            version,
+            dir,
+            path,
+            cells,
+        } = &line.ask
+        else {
+            unreachable!()
+        };
+        let inquiry = self.inquiry(*version, *dir, path, cells)?;
+        Ok(Asked::Open {
+            number: line.number,
+            inquiry,
+        })
+    }
+
+    /// Judges a command, and takes it where no rule refuses it.
+    pub(crate) fn judge<G: Gate, R: Threads + Wait + Sync>(
+        &mut self,
+        rt: &R,
+        command: Command,
+        number: u64,
+        gate: &G,
+        tally: &mut Tally,
+    ) -> Result<Reply, NoMemory>
+        requires right { is_right command ≡ true }
+        requires room { tally.old + 32 * 1048576 < 2 ^ 63 }
+        ensures reply { IfOk result
+            (λ r. after_command self.old command ≡ (self.new, response_of r)) }
+        ensures least { OnOk result (tally.old + traced_for self.old command ≤ tally.new) }
+        ensures most { OnOk result (tally.new ≤ tally.old + most_for self.old command) }
+        ensures kept { OnErr result (self.new ≡ self.old) }
+    {
+        match self.catalogue.judge(self.alloc, &command) {
+            Ok(()) => self.take(rt, command, number, gate, tally),
+            Err(LineFault::Refused(refusal)) => Ok(Reply::Refused(refusal)),
+            Err(LineFault::NoMemory) => Err(NoMemory),
+        }
+    }
+
+    /// Takes a command that no rule refuses.
+    pub(crate) fn take<G: Gate, R: Threads + Wait + Sync>(
+        &mut self,
+        rt: &R,
+        command: Command,
+        number: u64,
+        gate: &G,
+        tally: &mut Tally,
+    ) -> Result<Reply, NoMemory>
+        requires right { is_right command ≡ true }
+        requires judged { judged self.old.held command ≡ None }
+        requires room { tally.old + 32 * 1048576 < 2 ^ 63 }
+        ensures reply { IfOk result (λ r. accepted self.old command ≡ (self.new, response_of r)) }
+        ensures least { OnOk result (tally.old + traced_along self.old command ≤ tally.new) }
+        ensures most { OnOk result (tally.new ≤ tally.old + most_along self.old command) }
+        ensures kept { OnErr result (self.new ≡ self.old) }
+    {
+        match command {
+            Command::Array { name, array } => self.accept(Command::Array { name, array }),
+            Command::Csv { name, array } => self.accept(Command::Csv { name, array }),
+            Command::Layers { name, array } => self.accept(Command::Layers { name, array }),
+            Command::Flow { name, flow } => self.accept(Command::Flow { name, flow }),
+            Command::Strategy { name, node, list } => {
+                self.accept(Command::Strategy { name, node, list })
+            }
+            Command::Start { name, base } => self.start(rt, name, base),
+            Command::Await { version } => self.await_version(rt, version),
+            Command::Ask {
+                version,
+                dir,
+                path,
+                cells,
+            } => {
+                let found = self.find(rt, version, dir, &path, &cells, tally)?;
+                gate.after_ask(number);
+                Ok(Reply::Cells { cells: found.cells })
+            }
+            Command::Explain {
+                version,
+                dir,
+                path,
+                cells,
+            } => self.explain(rt, version, dir, &path, &cells, number, gate, tally),
+            Command::Show { version, node } => self.show(version, node),
+        }
+    }
+
+    /// Takes a command that changes what is held and no version.
+    pub(crate) fn accept(&mut self, command: Command) -> Result<Reply, NoMemory>
+        requires right { is_right command ≡ true }
+        requires judged { judged self.old.held command ≡ None }
+        requires kind { changes_no_version command ≡ true }
+        ensures reply { IfOk result (λ r. accepted self.old command ≡ (self.new, response_of r)) }
+        ensures kept { OnErr result (self.new ≡ self.old) }
+    {
+        let reply = self.catalogue.accept(command)?;
+        Ok(reply)
+    }
+
+    /// Starts a version: computes the values of its nodes, hands out tasks for their stores, and
+    /// holds it with its runs and its shelves.
+    fn start<R: Threads + Wait + Sync>(
+        &mut self,
+        rt: &R,
+        name: Name,
+        base: BaseList,
+    ) -> Result<Reply, NoMemory>
+        requires right { is_right (order.Start name base) ≡ true }
+        requires judged { judged self.old.held (order.Start name base) ≡ None }
+        ensures reply { IfOk result
+            (λ r. accepted self.old (order.Start name base) ≡ (self.new, response_of r)) }
+        ensures kept { OnErr result (self.new ≡ self.old) }
+    {
+        let run = run_version(
+            rt,
+            self.alloc,
+            &self.catalogue,
+            &self.hands,
+            name.as_str(),
+            base.as_slice(),
+        )?;
+        let reply = self
+            .catalogue
+            .start(name, base.as_slice(), Carry::Run(run))?;
+        Ok(reply)
+    }
+
+    /// Awaits a version: makes what is missing of its stores, takes them off their shelves, and
+    /// notes the await. One that a log gave was awaited before, and has its stores.
+    pub(crate) fn await_version<R: Wait>(&mut self, rt: &R, version: u32) -> Result<Reply, NoMemory>
+        requires judged { judged self.old.held (order.Await version) ≡ None }
+        ensures reply { IfOk result
+            (λ r. accepted self.old (order.Await version) ≡ (self.new, response_of r)) }
+        ensures kept { OnErr result (self.new ≡ self.old) }
+    {
+        if find(&self.recalled, version).is_some() {
+            return Ok(self.note_await(version, Carry::Logged));
+        }
+        let run = self.whole_run(rt, version)?;
+        Ok(self.note_await(version, Carry::Run(run)))
+    }
+
+    /// What a version carries once it is awaited: what is missing of its stores is made, and they
+    /// are taken off their shelves. One that stands in for it is held meanwhile.
+    pub(crate) fn whole_run<R: Wait>(
+        &mut self,
+        rt: &R,
+        version: u32,
+    ) -> Result<VersionRun, NoMemory>
+        requires { has_no_version self.old.held version ≡ false }
+        ensures whole { IfOk result (λ run.
+            IsTrailOf (record (version_of self.old.held version) { awaited = true }) run) }
+        ensures same { self.new ≡ self.old }
+    {
+        let run = self.take_out(version)?;
+        let Some(held) = self.catalogue.version(version) else {
+            unreachable!()
+        };
+        ended(self.alloc, rt, run, held.lists.as_slice())
+    }
+
+    /// Notes that a version was awaited, with what the catalogue has of it from then on.
+    pub(crate) fn note_await(&mut self, version: u32, carry: Carry) -> Reply
+        requires judged { judged self.old.held (order.Await version) ≡ None }
+        requires own { IsCarryOf (record (version_of self.old.held version) { awaited = true })
+            carry }
+        ensures { accepted self.old (order.Await version) ≡ (self.new, response_of result) }
+    {
+        self.catalogue.await_version(version, carry)
+    }
+
+    /// What a version carries, to be worked on. One that stands in for it is held meanwhile.
+    fn take_out(&mut self, version: u32) -> Result<VersionRun, NoMemory>
+        requires { has_no_version self.old.held version ≡ false }
+        ensures own { IfOk result (λ run. IsTrailOf (version_of self.old.held version) run) }
+        ensures same { self.new ≡ self.old }
+    {
+        let Some(held) = self.catalogue.version(version) else {
+            unreachable!()
+        };
+        let other = held.kept().stand_in(self.alloc)?;
+        match self.catalogue.exchange(version, other) {
+            Carry::Run(run) => Ok(run),
+            Carry::Logged => Err(NoMemory), // each that a log gave is among the recalled ones
+        }
+    }
+
+    /// Puts back what a version carries.
+    fn put_back(&mut self, version: u32, run: VersionRun)
+        requires held { has_no_version self.old.held version ≡ false }
+        requires own { IsTrailOf (version_of self.old.held version) run }
+        ensures { self.new ≡ self.old }
+    {
+        self.catalogue.exchange(version, Carry::Run(run));
+    }
+
+    /// What is found along a path of a version, for an ask or explain that no rule refuses.
+    fn find<R: Wait>(
+        &mut self,
+        rt: &R,
+        version: u32,
+        dir: Dir,
+        path: &Path,
+        named: &NamedCells,
+        tally: &mut Tally,
+    ) -> Result<Found, NoMemory>
+        requires version { has_no_version self.old.held version ≡ false }
+        requires joined { is_not_joined self.old.held version dir path.now ≡ false }
+        requires range { is_out_of_range self.old.held version dir path.now named.now ≡ false }
+        requires room { tally.old + 32 * 1048576 < 2 ^ 63 }
+        ensures cells { IfOk result
+            (λ f. f.cells ≡ cells_told self.old version dir path.now named.now) }
+        ensures ways { (version_of self.old.held version).awaited ≡ true
+            → IfOk result (λ f. map strategy_told f.used
+            ≡ map (way_of (version_of self.old.held version) dir) path.now) }
+        ensures traced { (version_of self.old.held version).awaited ≡ true
+            → IfOk result (λ f. f.traced ≡ traced (version_of self.old.held version) dir path.now) }
+        ensures least { OnOk result
+            (tally.old + traced (version_of self.old.held version) dir path.now ≤ tally.new) }
+        ensures most { OnOk result
+            (tally.new ≤ tally.old + most_traced (version_of self.old.held version) dir path.now) }
+        ensures kept { OnErr result (tally.new ≡ tally.old) }
+        ensures same { self.new ≡ self.old }
+    {
+        let inquiry = self.inquiry(version, dir, path, named)?;
+        inquiry.answer(self.alloc, rt, &mut self.spare, tally)
+    }
+
+    /// What is asked along a path of a version, for an ask or explain that no rule refuses.
+    fn inquiry(
+        &mut self,
+        version: u32,
+        dir: Dir,
+        path: &Path,
+        named: &NamedCells,
+    ) -> Result<Inquiry, NoMemory>
+        requires version { has_no_version self.old.held version ≡ false }
+        requires joined { is_not_joined self.old.held version dir path.now ≡ false }
+        requires range { is_out_of_range self.old.held version dir path.now named.now ≡ false }
+        ensures search { IfOk result
+            (λ s. IsInquiryOf self.old version dir path.now named.now s) }
+        ensures same { self.new ≡ self.old }
+    {
+        if let Some(recalled) = find(&self.recalled, version) {
+            return self.inquiry_logged(recalled, version, dir, path, named);
+        }
+        let mut run = self.take_out(version)?;
+        let inquiry = self.inquiry_by(version, &mut run, dir, path, named);
+        self.put_back(version, run);
+        inquiry
+    }
+
+    /// What is asked along a path of a version that a log gave.
+    fn inquiry_logged(
+        &self,
+        recalled: &Recalled,
+        version: u32,
+        dir: Dir,
+        path: &Path,
+        named: &NamedCells,
+    ) -> Result<Inquiry, NoMemory>
+        requires number { recalled.now.kept.number ≡ version }
+        requires own { IsRecalledIn self.now.held recalled.now }
+        requires stores { logged_of self.now version ≡ Some recalled.now.kept.stores }
+        requires joined { is_not_joined self.now.held version dir path.now ≡ false }
+        requires range { is_out_of_range self.now.held version dir path.now named.now ≡ false }
+        ensures { IfOk result (λ s. IsInquiryOf self.now version dir path.now named.now s) }
+    {
+        let Some(held) = self.catalogue.version(version) else {
+            unreachable!()
+        };
+        inquiry_recalled(
+            self.alloc,
+            held,
+            recalled.runs(),
+            recalled.stores(),
+            dir,
+            path,
+            named,
+        )
+    }
+
+    /// What is asked along a path of a version, by what it carries.
+    fn inquiry_by(
+        &self,
+        version: u32,
+        run: &mut VersionRun,
+        dir: Dir,
+        path: &Path,
+        named: &NamedCells,
+    ) -> Result<Inquiry, NoMemory>
+        requires version { has_no_version self.now.held version ≡ false }
+        requires own { IsTrailOf (version_of self.now.held version) run.old }
+        requires joined { is_not_joined self.now.held version dir path.now ≡ false }
+        requires range { is_out_of_range self.now.held version dir path.now named.now ≡ false }
+        ensures search { IfOk result
+            (λ s. IsSearchOf (version_of self.now.held version) dir path.now named.now s) }
+        ensures same { run.new ≡ run.old }
+    {
+        let Some(held) = self.catalogue.version(version) else {
+            unreachable!()
+        };
+        inquiry_along(self.alloc, held, run, dir, path, named)
+    }
+
+    /// By which way each step of a path is answered, and how many cells are traced.
+    fn explain<G: Gate, R: Wait>(
+        &mut self,
+        rt: &R,
+        version: u32,
+        dir: Dir,
+        path: &Path,
+        named: &NamedCells,
+        line: u64,
+        gate: &G,
+        tally: &mut Tally,
+    ) -> Result<Reply, NoMemory>
+        requires judged { judged self.old.held (order.Explain version dir path.now named.now)
+            ≡ None }
+        requires room { tally.old + 32 * 1048576 < 2 ^ 63 }
+        ensures reply { IfOk result (λ r. accepted self.old
+            (order.Explain version dir path.now named.now) ≡ (self.new, response_of r)) }
+        ensures least { OnOk result
+            (tally.old + traced (version_of self.old.held version) dir path.now ≤ tally.new) }
+        ensures most { OnOk result
+            (tally.new ≤ tally.old + most_traced (version_of self.old.held version) dir path.now) }
+        ensures same { self.new ≡ self.old }
+    {
+        let found = self.find(rt, version, dir, path, named, tally)?;
+        let used = strategies_told(self.alloc, found.used.as_slice())?;
+        gate.after_ask(line);
+        Ok(Reply::Explain {
+            used,
+            traced: found.traced,
+        })
+    }
+
+    /// The runs of the nodes of a version.
+    fn runs_of(&self, version: u32) -> Result<&[NodeRun], NoMemory>
+        requires { has_no_version self.now.held version ≡ false }
+        ensures { IfOk result (λ runs. map execution_of runs.now
+            ≡ executions_of (version_of self.now.held version)) }
+    {
+        if let Some(recalled) = find(&self.recalled, version) {
+            return Ok(recalled.runs());
+        }
+        let Some(held) = self.catalogue.version(version) else {
+            unreachable!()
+        };
+        match held.kept() {
+            Carry::Run(run) => Ok(run.runs()),
+            Carry::Logged => Err(NoMemory), // each that a log gave is among the recalled ones
+        }
+    }
+
+    /// The output of a node of a version, for a show that no rule refuses.
+    fn show(&self, version: u32, node: u32) -> Result<Reply, NoMemory>
+        requires { judged self.now.held (order.Show version node) ≡ None }
+        ensures { IfOk result
+            (λ r. accepted self.now (order.Show version node) ≡ (self.now, response_of r)) }
+    {
+        let runs = self.runs_of(version)?;
+        let run = &runs[node as usize];
+        Ok(Reply::Values {
+            array: Arc::try_clone(&run.out)?,
+        })
+    }
+}
+
+/// What a line gives that is read as a command.
+fn sorted(command: Command) -> Given
+    ensures { result ≡ (if is_ask command then given.Ask command else given.Other command) }
+{
+    match command {
+        Command::Ask {
+            version,
+            dir,
+            path,
+            cells,
+        } => Given::Ask(Command::Ask {
+            version,
+            dir,
+            path,
+            cells,
+        }),
+        other => Given::Other(other),
+    }
+}
+
+/// The strategy that is told for each step.
+fn strategies_told(alloc: Global, used: &[Used]) -> Result<StrategyList, NoMemory>
+    ensures { IfOk result (λ l. l ≡ map strategy_told used.now) }
+{
+    let mut told = Vec::with_capacity(alloc, used.len())?;
+    for step in used {
+        told.push(strategy_told(*step))?;
+    }
+    Ok(StrategyList::of(told))
+}
+
+/// The strategy that is told for how a step went.
+fn strategy_told(used: Used) -> Strategy
+    ensures { result ≡ strategy_told used }
+{
+    match used {
+        Used::By(strategy) => strategy,
+        Used::Traced => Strategy::BlackBox,
+    }
+}

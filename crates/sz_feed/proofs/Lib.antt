@@ -1,0 +1,16 @@
+-- The files of lemmas.
+pub mod Waiting
+pub mod Cuts
+pub mod Turns
+pub mod Told
+pub mod Disks
+pub mod LawsLines
+pub mod LawsSessions
+pub mod Blanks
+pub mod Moments
+pub mod Plain
+pub mod SoundLogs
+pub mod RowsServing
+pub mod Running
+pub mod Beside
+pub mod Sources

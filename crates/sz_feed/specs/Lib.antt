@@ -1,0 +1,9 @@
+-- The files of definitions, the lower ones first.
+pub mod Moments
+pub mod Serving
+pub mod Making
+pub mod Disks
+pub mod Waiting
+pub mod Plain
+pub mod Running
+pub mod Laws

@@ -1,0 +1,236 @@
+-- What a session has said, while it goes on and when it ends. Nothing is claimed of bytes that the
+-- source or the station does not tell.
+use Rattle.std.specs.Prelude.{◌≡◌, ℕ, ◌+◌, ◌≤◌, ◌<◌, List, [], length, take, drop}
+use Rattle.std.specs.Prelude.{Bool, true, false, Option, Some, None, ⊤, ◌==◌}
+use Rattle.std.specs.List.{filter}
+use Rattle.std.specs.Option.{option_map_or}
+use Rattle.sz_outside.specs.Outside.{Says, SaysPart}
+use Rattle.sz_catalogue.specs.declared.reply.Reply.{Reply}
+use Rattle.sz_catalogue.specs.Holdings.{no_holdings}
+use Rattle.sz_commands.specs.States.{State, state_of, nothing_held}
+use Rattle.sz_catalogue.specs.Responses.{reply_line}
+use Rattle.sz_catalogue.specs.Seen.{response_of}
+use Rattle.sz_commands.specs.Lines.{lines_of}
+use Rattle.sz_commands.specs.Transcript.{replies_to, transcript, whole_replies}
+use Rattle.sz_feed.specs.Moments.{Moment, moment_before, told_in, moment_after, AreAlike}
+use Rattle.sz_gen.specs.Session.{load_text}
+use Rattle.sz_gen.specs.Summary.{summary_line}
+use Rattle.sz_words.specs.Job.{job_of}
+use Rattle.sz_words.specs.declared.Job.{Job}
+use Rattle.sz_words.specs.declared.JobMode.{JobMode}
+use Rattle.sz_words.specs.declared.JobMode.TheVariants.{Play, Init, Run, Check, Load}
+
+-- ---- what the words ask for
+
+-- The modes that there are.
+abbrev pub is_served : JobMode → Bool
+is_served Play = true
+is_served Init = true
+is_served Run = true
+is_served Check = true
+is_served Load = true
+
+abbrev pub is_play : JobMode → Bool
+is_play Play = true
+is_play Init = false
+is_play Run = false
+is_play Check = false
+is_play Load = false
+
+abbrev pub is_init : JobMode → Bool
+is_init Play = false
+is_init Init = true
+is_init Run = false
+is_init Check = false
+is_init Load = false
+
+abbrev pub is_check : JobMode → Bool
+is_check Play = false
+is_check Init = false
+is_check Run = false
+is_check Check = true
+is_check Load = false
+
+abbrev pub is_run : JobMode → Bool
+is_run Play = false
+is_run Init = false
+is_run Run = true
+is_run Check = false
+is_run Load = false
+
+-- the modes that read lines
+abbrev pub is_of_lines : JobMode → Bool
+is_of_lines Play = true
+is_of_lines Init = false
+is_of_lines Run = true
+is_of_lines Check = false
+is_of_lines Load = false
+
+-- the modes that open a log
+abbrev pub is_opened : JobMode → Bool
+is_opened Play = false
+is_opened Init = false
+is_opened Run = true
+is_opened Check = true
+is_opened Load = false
+
+-- the modes that use the disk
+abbrev pub is_of_log : JobMode → Bool
+is_of_log Play = false
+is_of_log Init = true
+is_of_log Run = true
+is_of_log Check = true
+is_of_log Load = false
+
+abbrev pub is_load : JobMode → Bool
+is_load Play = false
+is_load Init = false
+is_load Run = false
+is_load Check = false
+is_load Load = true
+
+-- The words are accepted, and their mode passes a test.
+abbrev pub are_for : (JobMode → Bool) → List (List ℕ) → Bool
+are_for test words = option_map_or (λ (job : Job). test job.mode) (job_of words) false
+
+abbrev pub are_served : List (List ℕ) → Bool
+are_served words = are_for is_served words
+
+abbrev pub are_play : List (List ℕ) → Bool
+are_play words = are_for is_play words
+
+abbrev pub are_init : List (List ℕ) → Bool
+are_init words = are_for is_init words
+
+abbrev pub are_check : List (List ℕ) → Bool
+are_check words = are_for is_check words
+
+abbrev pub are_run : List (List ℕ) → Bool
+are_run words = are_for is_run words
+
+abbrev pub are_of_lines : List (List ℕ) → Bool
+are_of_lines words = are_for is_of_lines words
+
+abbrev pub are_opened : List (List ℕ) → Bool
+are_opened words = are_for is_opened words
+
+abbrev pub are_of_log : List (List ℕ) → Bool
+are_of_log words = are_for is_of_log words
+
+abbrev pub are_load : List (List ℕ) → Bool
+are_load words = are_for is_load words
+
+-- ---- the generated session
+
+-- how many lines end in these bytes
+abbrev pub lines_in : List ℕ → ℕ
+lines_in bytes = length (filter (λ b. b == 10) bytes)
+
+-- The line that sums up the session of a job's seed and side, from nothing held: its number of
+-- lines is that of its replies, and its digest is that of all of them.
+abbrev pub load_line : Job → List ℕ
+load_line job =
+    let replies = transcript (state_of no_holdings) (load_text job.seed job.side) in
+    summary_line job.seed job.side (lines_in replies) replies
+
+-- Where the words ask for the generated session, its line is such a one.
+abbrev pub IfLoad : Option Job → (List ℕ → Type 0) → Type 0
+IfLoad None IsSuch = ⊤
+IfLoad (Some job) IsSuch = is_load job.mode ≡ true → IsSuch (load_line job)
+
+-- ---- how a session ends
+
+-- The source was read to its end, its bytes are no more than a session may have, and what was said
+-- is their transcript from what was held.
+abbrev pub Done : State → ℕ → Option (List ℕ) → Option (List ℕ) → Option (List ℕ)
+    → Option (List ℕ) → Type 0
+Done c limit None left said_before said = ⊤
+Done c limit (Some bytes) left said_before said =
+    (left ≡ Some []) × (length bytes ≤ limit) × Says said_before said (transcript c bytes)
+
+-- So many bytes were read, the others are left, and what was said is the replies of the whole lines
+-- that were read.
+abbrev pub SaidOfRead : State → Option (List ℕ) → Option (List ℕ) → Option (List ℕ)
+    → Option (List ℕ) → Type 0
+SaidOfRead c None left said_before said = ⊤
+SaidOfRead c (Some bytes) left said_before said = (n : ℕ) × (n ≤ length bytes)
+    × (left ≡ Some (drop n bytes))
+    × Says said_before said (whole_replies c (take n bytes))
+
+-- The source had more bytes than a session may have: those and one more were read, and what was
+-- said is the replies of the whole lines among those.
+abbrev pub SaidToLimit :
+    State → ℕ → Option (List ℕ) → Option (List ℕ) → Option (List ℕ) → Option (List ℕ) → Type 0
+SaidToLimit c limit None left said_before said = ⊤
+SaidToLimit c limit (Some bytes) left said_before said = (limit < length bytes)
+    × (left ≡ Some (drop (limit + 1) bytes))
+    × Says said_before said (whole_replies c (take limit bytes))
+
+-- What was said is a first part of the bytes of the transcript.
+abbrev pub SaidInPart : State → Option (List ℕ) → Option (List ℕ) → Option (List ℕ) → Type 0
+SaidInPart c None said_before said = ⊤
+SaidInPart c (Some bytes) said_before said = SaysPart said_before said (transcript c bytes)
+
+-- What was said is the replies of the first so many of these lines, all of each reply.
+pub record SaysFirst (said_before said : Option (List ℕ)) (c : State) (n : ℕ)
+    (lines : List (List ℕ)) : Type 0 where
+  pub many : ℕ
+  pub within : many ≤ length lines
+  pub says : Says said_before said (replies_to c n (take many lines))
+
+-- What was said is the first so many of the reply lines of the transcript, whole.
+abbrev pub SaidInLines : State → Option (List ℕ) → Option (List ℕ) → Option (List ℕ) → Type 0
+SaidInLines c None said_before said = ⊤
+SaidInLines c (Some bytes) said_before said = SaysFirst said_before said c 1 (lines_of bytes)
+
+-- The source's bytes are told, and are no more than a session may have.
+abbrev pub IsWithinLimit : ℕ → Option (List ℕ) → Type 0
+IsWithinLimit limit None = ⊥
+IsWithinLimit limit (Some bytes) = length bytes ≤ limit
+
+-- Where the source tells its bytes, there are more than a session may have.
+abbrev pub IsPastLimit : ℕ → Option (List ℕ) → Type 0
+IsPastLimit limit None = ⊤
+IsPastLimit limit (Some bytes) = limit < length bytes
+
+-- ---- between two reads
+
+-- what was held, and what source and station told, as the session began
+pub record Opening : Type 0 where
+  pub held : State
+  pub left : Option (List ℕ)
+  pub said : Option (List ℕ)
+
+-- So many bytes were read. What was said is the replies of all whole lines among them, and what is
+-- held is like the moment after them.
+pub record HasAnswered (c : State) (bytes : List ℕ) (left said_before said : Option (List ℕ))
+    (now : Moment) (count : ℕ) : Type 0 where
+  pub within : count ≤ length bytes
+  pub is_left : left ≡ Some (drop count bytes)
+  pub says : Says said_before said (whole_replies c (take count bytes))
+  pub alike : AreAlike now (moment_after (moment_before c) (take count bytes))
+
+abbrev pub Answered : State → Option (List ℕ) → Option (List ℕ) → Option (List ℕ)
+    → Option (List ℕ) → Moment → ℕ → Type 0
+Answered c None left said_before said now count = ⊤
+Answered c (Some bytes) left said_before said now count =
+    HasAnswered c bytes left said_before said now count
+
+-- So many are all of the source's bytes.
+abbrev pub AreAll : Option (List ℕ) → ℕ → Type 0
+AreAll None count = ⊤
+AreAll (Some bytes) count = count ≡ length bytes
+
+-- ---- within a turn
+
+-- These bytes were taken in: what was said is what they tell, and what is held is like the moment
+-- after them.
+pub record Advances (said_before said : Option (List ℕ)) (before now : Moment)
+    (bytes : List ℕ) : Type 0 where
+  pub says : Says said_before said (told_in before bytes)
+  pub alike : AreAlike now (moment_after before bytes)
+
+-- what is written for an answer: nothing where there is none
+abbrev pub line_to_say : ℕ → Option Reply → List ℕ
+line_to_say number None = []
+line_to_say number (Some r) = reply_line number (response_of r)

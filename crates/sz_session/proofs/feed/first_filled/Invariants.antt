@@ -1,7 +1,0 @@
--- The bytes so far are blank.
-use Rattle.std.proofs.Common.{◌≡◌, true, take}
-use Rattle.sz_session.specs.Lines.{is_blank}
-use Rattle.sz_session.proofs.feed.first_filled.Given as goal
-
-abbrev pub invariant-loop-at : goal.invariant-loop-at
-invariant-loop-at l = is_blank (take l.at l.bytes) ≡ true

@@ -1,0 +1,255 @@
+-- The versions that a log gave stay as they are.
+--
+-- The key idea: they are held and awaited, and no command changes a version that is.
+use Rattle.std.proofs.Common.{take, length, get_or, zero, ◌≡◌, ℕ, suc, ◌<◌, List, [], ◌∷◌, map, Bool, true, false, refl}
+use Rattle.std.proofs.Common.{sym, ap, ◌∙◌}
+use Rattle.std.proofs.lemmas.Bool.Decides.{nat_tests}
+use Rattle.std.proofs.Common.{true≢false, subst, arith, Option, Some, None, unwrap_or, cond, eqb-true}
+use Rattle.std.specs.Prelude.{All, ◌==◌, is_none, find, option_map, nat_lt, if◌then◌else◌}
+use Rattle.std.specs.Ordering.{nat_cmp, is_eq, match_ordering}
+use Rattle.std.proofs.Common.{Ordering, Less, Equal, Greater}
+use Rattle.std.specs.Cmp.{nat_cmp_is}
+use Rattle.std.specs.Map.{lookup, set_value, values_of}
+use Rattle.std.specs.BTreeMap.{is_at, insert_entry}
+use Rattle.sz_script.specs.declared.command.Command.{Command}
+use Rattle.sz_script.specs.declared.command.Command.TheVariants as order
+use Rattle.sz_catalogue.specs.Holdings.{Version, Holdings, version_numbered, no_version, next_number}
+use Rattle.sz_catalogue.specs.Rules.{version_of, has_no_version}
+use Rattle.sz_catalogue.specs.Changes as changes
+use Rattle.sz_catalogue.specs.Changes.{with_version, with_await, changes_no_version}
+use Rattle.sz_catalogue.proofs.Numbers.{next-is_new}
+use Rattle.sz_recover.specs.Logs.{Kept}
+use Rattle.sz_recover.specs.Fitting.{Fit}
+use Rattle.sz_catalogue.specs.Order.{IsInOrder, IsVersionIn}
+use Rattle.sz_versions.specs.Runs.{executions_of, AreSound, IsSoundVersion}
+use Rattle.sz_versions.specs.Recalls.{Recall, IsRecalledIn, AreRecalled}
+use Rattle.sz_versions.specs.Carries.{IsCarryOf, settled_carry}
+use Rattle.sz_versions.specs.declared.carry.Carry.{Carry}
+use Rattle.sz_versions.specs.declared.carry.Carry.TheVariants as carry
+use Rattle.sz_versions.proofs.Keeping.{trail-settled}
+use Rattle.sz_versions.proofs.Keeps.{version-found}
+
+-- ---- lists
+
+-- what is so of each
+all-turn : {X : Type 0} (P Q : X → Type 0) (xs : List X) → ((x : X) → P x → Q x) → All P xs → All Q xs
+all-turn P Q xs turn all = λ i d lt. turn _ (all i d lt)
+
+-- the first that passes
+find-passes : {X : Type 0} (test : X → Bool) (xs : List X) (x : X) → find test xs ≡ Some x → test x ≡ true
+find-passes test [] x h = cc
+find-passes test (y ∷ xs) x h = at (test y) refl (find-passes test xs x) h where
+  at : (b : Bool) → test y ≡ b → (find test xs ≡ Some x → test x ≡ true)
+      → cond b (Some y) (find test xs) ≡ Some x → test x ≡ true
+  at true is rest found = let same : y ≡ x = cc in ap test (sym same) ∙ is
+  at false is rest found = rest found
+
+-- and what is so of each is so of it
+pub found-all : {X : Type 0} (P : X → Type 0) (test : X → Bool) (xs : List X) (x : X) → All P xs
+    → find test xs ≡ Some x → P x
+found-all P test [] x all h = cc
+found-all P test (y ∷ xs) x all h =
+    at (test y) (found-all P test xs x (λ i d lt. all (suc i) d (omega (arith, lt)))) h where
+      at : (b : Bool) → (find test xs ≡ Some x → P x) → cond b (Some y) (find test xs) ≡ Some x → P x
+      at true rest found = let same : y ≡ x = cc in subst P same (all 0 y (omega arith))
+      at false rest found = rest found
+
+-- numbers that are the same, and others
+pub is-equal : (n m : ℕ) → n ≡ m → (n == m) ≡ true
+is-equal n m h = grind (arith, nat_tests)
+
+pub is-unequal : (n m : ℕ) → (n ≡ m → ⊥) → (n == m) ≡ false
+is-unequal n m differ = at (n == m) refl where
+  at : (b : Bool) → (n == m) ≡ b → (n == m) ≡ false
+  at true is = absurd (differ (eqb-true n m is))
+  at false is = is
+
+-- one that fails behind others that do
+pub none-more : {X : Type 0} (test : X → Bool) (xs : List X) (i : ℕ) (x : X) → find test (take i xs) ≡ None
+    → i < length xs → x ≡ get_or xs i x → test x ≡ false → find test (take (suc i) xs) ≡ None
+none-more test [] i x none lt is fails = absurd (omega (arith, lt))
+none-more test (y ∷ xs) zero x none lt is fails = let here : test y ≡ false = ap test (sym is) ∙ fails in rw here refl
+none-more {X} test (y ∷ xs) (suc i) x none lt is fails =
+    at (test y) (λ h. none-more test xs i x h (omega (arith, lt)) is fails) none where
+      at : (b : Bool) → (find test (take i xs) ≡ None → find test (take (suc i) xs) ≡ None)
+          → cond b (Some y) (find test (take i xs)) ≡ None → cond b (Some y) (find test (take (suc i) xs)) ≡ None
+      at true rest h = cc
+      at false rest h = rest h
+
+-- the first that passes behind others that fail
+pub found-at : {X : Type 0} (test : X → Bool) (xs : List X) (i : ℕ) (x : X) → find test (take i xs) ≡ None
+    → i < length xs → x ≡ get_or xs i x → test x ≡ true → find test xs ≡ Some x
+found-at test [] i x none lt is passes = absurd (omega (arith, lt))
+found-at test (y ∷ xs) zero x none lt is passes =
+    let here : test y ≡ true = ap test (sym is) ∙ passes in rw here (ap (λ z. Some z) (sym is))
+found-at {X} test (y ∷ xs) (suc i) x none lt is passes =
+    at (test y) (λ h. found-at test xs i x h (omega (arith, lt)) is passes) none where
+      at : (b : Bool) → (find test (take i xs) ≡ None → find test xs ≡ Some x)
+          → cond b (Some y) (find test (take i xs)) ≡ None → cond b (Some y) (find test xs) ≡ Some x
+      at true rest h = cc
+      at false rest h = rest h
+
+-- the number that is looked for is found
+pub found-number : (rs : List Recall) (n : ℕ) (r : Recall)
+    → find (λ (x : Recall). x.kept.number == n) rs ≡ Some r → r.kept.number ≡ n
+found-number rs n r h = eqb-true r.kept.number n (find-passes (λ (x : Recall). x.kept.number == n) rs r h)
+
+-- among what is seen of them it is found too
+pub found-kept : (rs : List Recall) (n : ℕ)
+    → find (λ (k : Kept). k.number == n) (map (λ (r : Recall). r.kept) rs)
+    ≡ option_map (λ (r : Recall). r.kept) (find (λ (r : Recall). r.kept.number == n) rs)
+found-kept [] n = refl
+found-kept (r ∷ rs) n = at (r.kept.number == n) (found-kept rs n) where
+  at : (b : Bool)
+      → find (λ (k : Kept). k.number == n) (map (λ (x : Recall). x.kept) rs)
+      ≡ option_map (λ (x : Recall). x.kept) (find (λ (x : Recall). x.kept.number == n) rs)
+      → cond b (Some r.kept) (find (λ (k : Kept). k.number == n) (map (λ (x : Recall). x.kept) rs))
+      ≡ option_map (λ (x : Recall). x.kept) (cond b (Some r) (find (λ (x : Recall). x.kept.number == n) rs))
+  at true rest = refl
+  at false rest = rest
+
+-- ---- what is in order
+
+-- flows and versions that are in order are sound
+pub order-sound : (c : Holdings) → IsInOrder c → AreSound c
+order-sound c order = record {
+  flows = order.workflows;
+  versions = all-turn (IsVersionIn c) IsSoundVersion (values_of c.versions) (λ v h. record { run = h.run })
+      order.versions;
+}
+
+-- ---- what stands in
+
+pub carry-settled : (v : Version) (c : Carry) → IsCarryOf v c → IsCarryOf v (settled_carry c)
+carry-settled v (carry.Run run) own = trail-settled v run own
+carry-settled v carry.Logged own = tt
+
+-- ---- versions that stay
+
+-- each version that is held and awaited is held as it was
+abbrev pub AwaitedStay : Holdings → Holdings → Type 0
+AwaitedStay c d = (n : ℕ) → has_no_version c n ≡ false → (version_of c n).awaited ≡ true
+    → version_numbered d n ≡ version_numbered c n
+
+pub recalled-stay : (c d : Holdings) (rs : List Recall) → AwaitedStay c d → AreRecalled c rs → AreRecalled d rs
+recalled-stay c d rs stay all = all-turn (IsRecalledIn c) (IsRecalledIn d) rs one all where
+  one : (r : Recall) → IsRecalledIn c r → IsRecalledIn d r
+  one r h =
+      let same = stay r.kept.number h.held h.own.awaited in
+      let version : version_of d r.kept.number ≡ version_of c r.kept.number =
+      ap (λ (o : Option Version). unwrap_or o no_version) same in
+      record {
+        held = ap (λ (o : Option Version). is_none o) same ∙ h.held;
+        own = record {
+          awaited = ap (λ (v : Version). v.awaited) version ∙ h.own.awaited;
+          executions = h.own.executions ∙ ap executions_of (sym version);
+          fit = subst (λ (v : Version). Fit v r.kept.stores) (sym version) h.own.fit;
+        };
+      }
+
+-- where no version changes
+pub accepted-stay : (c : Holdings) (command : Command) → changes_no_version command ≡ true
+    → AwaitedStay c (changes.accepted c command).0
+accepted-stay c (order.Array name array) kind n held awaited = refl
+accepted-stay c (order.Csv name array) kind n held awaited = refl
+accepted-stay c (order.Layers name array) kind n held awaited = refl
+accepted-stay c (order.Flow name flow) kind n held awaited = refl
+accepted-stay c (order.Strategy name node list) kind n held awaited = refl
+accepted-stay c (order.Start name base) kind n held awaited = cc
+accepted-stay c (order.Await m) kind n held awaited = cc
+accepted-stay c (order.Ask m dir path named) kind n held awaited = cc
+accepted-stay c (order.Explain m dir path named) kind n held awaited = cc
+accepted-stay c (order.Show m node) kind n held awaited = cc
+
+-- ---- one version more
+
+is-self : (n : ℕ) → nat_cmp n n ≡ Equal
+is-self n = sym (nat_cmp_is n n Equal refl)
+
+-- two numbers that are not the same
+tied : (q n : ℕ) → is_eq (nat_cmp q n) ≡ true → q ≡ n
+tied q n h = at (nat_lt q n) (q == n) refl h where
+  at : (l e : Bool) → (q == n) ≡ e → is_eq (if l then Less else if e then Equal else Greater) ≡ true → q ≡ n
+  at true e is h = cc
+  at false true is h = eqb-true q n is
+  at false false is h = cc
+
+is-other : (q n : ℕ) → (q ≡ n → ⊥) → is_eq (nat_cmp q n) ≡ false
+is-other q n differ = at (is_eq (nat_cmp q n)) refl where
+  at : (b : Bool) → is_eq (nat_cmp q n) ≡ b → is_eq (nat_cmp q n) ≡ false
+  at true is = absurd (differ (tied q n is))
+  at false is = is
+
+-- under another number is found what was
+insert-other : (es : List (ℕ × Version)) (n q : ℕ) (v : Version) → (q ≡ n → ⊥)
+    → lookup (is_at (nat_cmp q)) (insert_entry nat_cmp es n v) ≡ lookup (is_at (nat_cmp q)) es
+insert-other [] n q v differ = rw (is-other q n differ) refl
+insert-other (e ∷ es) n q v differ = step (nat_cmp n e.0) refl (insert-other es n q v differ) where
+  step : (o : Ordering) → nat_cmp n e.0 ≡ o
+      → lookup (is_at (nat_cmp q)) (insert_entry nat_cmp es n v) ≡ lookup (is_at (nat_cmp q)) es
+      → lookup (is_at (nat_cmp q)) (match_ordering o ((n, v) ∷ e ∷ es) ((e.0, v) ∷ es)
+      (e ∷ insert_entry nat_cmp es n v)) ≡ lookup (is_at (nat_cmp q)) (e ∷ es)
+  step Less is rest = rw (is-other q n differ) refl
+  step Equal is rest =
+      let same : n ≡ e.0 = tied n e.0 (ap is_eq is) in
+      let other : is_eq (nat_cmp q e.0) ≡ false = is-other q e.0 (λ h. differ (h ∙ sym same)) in rw other refl
+  step Greater is rest = ap (λ (o : Option Version). cond (is_eq (nat_cmp q e.0)) (Some e.1) o) rest
+
+-- a version that is started has a number of its own
+pub started-stay : (c : Holdings) (v : Version) → AwaitedStay c (with_version c (next_number c) v)
+started-stay c v n held awaited =
+    insert-other c.versions (next_number c) n v (λ is. new is) where
+      new : n ≡ next_number c → ⊥
+      new is =
+          let none = next-is_new c.versions (next_number c) (omega arith) in
+          let found = version-found c n held in
+          let clash : None ≡ Some (version_of c n) =
+          sym none ∙ ap (λ (k : ℕ). lookup (is_at (nat_cmp k)) c.versions) (sym is) ∙ found in
+          cc
+
+-- ---- an await
+
+-- what is written at a number leaves every other
+set-other : (es : List (ℕ × Version)) (n q : ℕ) (v : Version) → (q ≡ n → ⊥)
+    → lookup (is_at (nat_cmp q)) (set_value (is_at (nat_cmp n)) es v) ≡ lookup (is_at (nat_cmp q)) es
+set-other [] n q v differ = refl
+set-other (e ∷ es) n q v differ = at (is_eq (nat_cmp n e.0)) refl (set-other es n q v differ) where
+  at : (b : Bool) → is_eq (nat_cmp n e.0) ≡ b
+      → lookup (is_at (nat_cmp q)) (set_value (is_at (nat_cmp n)) es v) ≡ lookup (is_at (nat_cmp q)) es
+      → lookup (is_at (nat_cmp q)) (cond b ((e.0, v) ∷ es) (e ∷ set_value (is_at (nat_cmp n)) es v))
+      ≡ lookup (is_at (nat_cmp q)) (e ∷ es)
+  at true is rest =
+      let same : n ≡ e.0 = tied n e.0 is in
+      let other : is_eq (nat_cmp q e.0) ≡ false = is-other q e.0 (λ h. differ (h ∙ sym same)) in rw other refl
+  at false is rest = ap (λ (o : Option Version). cond (is_eq (nat_cmp q e.0)) (Some e.1) o) rest
+
+unequal : (n m : ℕ) → (n == m) ≡ false → n ≡ m → ⊥
+unequal n m is h = let same : (n == m) ≡ true = grind (arith, nat_tests) in true≢false (sym same ∙ is)
+
+-- and changes what is there
+set-here : (es : List (ℕ × Version)) (n : ℕ) (old v : Version) → lookup (is_at (nat_cmp n)) es ≡ Some old
+    → lookup (is_at (nat_cmp n)) (set_value (is_at (nat_cmp n)) es v) ≡ Some v
+set-here [] n old v h = cc
+set-here (e ∷ es) n old v h = at (is_eq (nat_cmp n e.0)) refl (set-here es n old v) h where
+  at : (b : Bool) → is_eq (nat_cmp n e.0) ≡ b
+      → (lookup (is_at (nat_cmp n)) es ≡ Some old
+      → lookup (is_at (nat_cmp n)) (set_value (is_at (nat_cmp n)) es v) ≡ Some v)
+      → cond b (Some e.1) (lookup (is_at (nat_cmp n)) es) ≡ Some old
+      → lookup (is_at (nat_cmp n)) (cond b ((e.0, v) ∷ es) (e ∷ set_value (is_at (nat_cmp n)) es v)) ≡ Some v
+  at true is rest found = rw is refl
+  at false is rest found = rw is (rest found)
+
+-- an await leaves a version that is awaited
+pub awaited-stay : (c : Holdings) (m : ℕ) → AwaitedStay c (with_await c m)
+awaited-stay c m n held awaited = at (n == m) refl where
+  at : (b : Bool) → (n == m) ≡ b → version_numbered (with_await c m) n ≡ version_numbered c n
+  at true is =
+      let same : n ≡ m = eqb-true n m is in
+      let v = version_of c n in
+      let P : ℕ → Type 0 = λ k. version_numbered (with_await c k) n ≡ version_numbered c n in
+      let kept : record v { awaited = true } ≡ v =
+      ap (λ (b : Bool). record v { awaited = b }) (sym awaited) in
+      subst P same (set-here c.versions n v (record v { awaited = true }) (version-found c n held)
+      ∙ ap (λ (x : Version). Some x) kept ∙ sym (version-found c n held))
+  at false is =
+      set-other c.versions m n (record (version_of c m) { awaited = true }) (λ h. unequal n m is h)

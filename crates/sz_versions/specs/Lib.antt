@@ -1,0 +1,10 @@
+-- The files of definitions, the lower ones first.
+pub mod Runs
+pub mod Stores
+pub mod Views
+pub mod Efforts
+pub mod Searches
+pub mod Recalled
+pub mod Recalls
+pub mod Carries
+pub mod Bodies

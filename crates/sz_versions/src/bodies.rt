@@ -1,0 +1,59 @@
+//! The body that a log gets of a version, once that is awaited.
+
+ghost use Rattle.std.specs.Prelude.{◌≡◌, map, true, false, IfOk, option_map};
+ghost use Rattle.std.specs.Arc.{arc_value};
+ghost use Rattle.sz_catalogue.specs.Rules.{has_no_version, version_of};
+ghost use Rattle.sz_recover.specs.Fitting.{lineages};
+ghost use Rattle.sz_versions.specs.Bodies.{IsSoundBody, store_in};
+ghost use Rattle.sz_versions.specs.Stores.{IsTrailOf, keeping_of};
+
+use crate::runs::{NodeStores, VersionRun};
+use std::alloc::Global;
+use std::sync::Arc;
+use sz_catalogue::{Carried, Catalogue};
+use sz_cells::NoMemory;
+use sz_recover::version_body;
+use sz_store::NodeStore;
+
+/// The body of a version that is held, with the stores that its run has once it is awaited.
+///
+/// Takes time and memory in the stores.
+pub fn body_for<K: Carried>(
+    alloc: Global,
+    catalogue: &Catalogue<K>,
+    version: u32,
+    run: &VersionRun,
+) -> Result<Vec<u8>, NoMemory>
+    requires held { has_no_version catalogue.now version ≡ false }
+    requires own { IsTrailOf (record (version_of catalogue.now version) { awaited = true })
+        run.now }
+    ensures { IfOk result
+        (λ body. IsSoundBody version (version_of catalogue.now version) body.items) }
+{
+    catalogue.is_in_order();
+    let stores = stores_of(alloc, run)?;
+    version_body(alloc, catalogue, version, &stores)
+}
+
+/// The stores of each node, where they are whole.
+fn stores_of(alloc: Global, run: &VersionRun) -> Result<Vec<Option<Arc<NodeStore>>>, NoMemory>
+    ensures { IfOk result (λ v. lineages v.items ≡ map store_in run.now.kept) }
+{
+    let mut stores = Vec::with_capacity(alloc, run.stores.len())?;
+    for one in &run.stores {
+        stores.push(store_of(one)?)?;
+    }
+    Ok(stores)
+}
+
+/// The stores of a node, where they are whole.
+fn store_of(kept: &NodeStores) -> Result<Option<Arc<NodeStore>>, NoMemory>
+    ensures { IfOk result
+        (λ s. option_map (λ a. arc_value a) s ≡ store_in (keeping_of kept.now)) }
+{
+    match kept {
+        NodeStores::Nothing => Ok(None),
+        NodeStores::Growing { .. } => Ok(None),
+        NodeStores::Whole { store } => Ok(Some(Arc::try_clone(store)?)),
+    }
+}

@@ -1,0 +1,203 @@
+//! When the stores of a version are built, and of what: at its start each node whose list has a
+//! strategy that keeps one has a shelf, on which workers may place what they make; and at its await
+//! what is missing is made, and the stores are taken off. Nothing else in this crate says when.
+
+ghost use Rattle.std.specs.Prelude.{◌≡◌, true, false, map, IfOk};
+ghost use Rattle.std.specs.List.{list_all};
+ghost use Rattle.sz_spec.specs.Modes.{supports};
+ghost use Rattle.sz_flow.specs.Executions.{execution_of};
+ghost use Rattle.sz_shelf.specs.Places.{Place};
+ghost use Rattle.std.specs.Arc.{arc_value};
+ghost use Rattle.sz_versions.specs.Stores.{IsKeptOf, AreKeptOf, AreListed, AreStoresFor};
+ghost use Rattle.sz_versions.specs.Stores.{has_stored, keeping_of, IsShelfFor};
+
+use crate::runs::{NodeStores, VersionRun};
+use std::alloc::Global;
+use std::sync::{Arc, Wait};
+use sz_cells::NoMemory;
+use sz_flow::NodeRun;
+use sz_pool::finish;
+use sz_script::StrategyList;
+use sz_shelf::{Pass, Shelf};
+use sz_spec::{Strategy, Tally};
+use sz_store::NodeStore;
+
+/// The runs with what lineage needs, where the list at their place has a strategy that keeps a
+/// store: prepared once a version, and before tasks are made of them, so that workers and the await
+/// share it. For the other runs nothing is prepared.
+pub(crate) fn prepared(
+    alloc: Global,
+    runs: Vec<NodeRun>,
+    lists: &[StrategyList],
+) -> Result<Vec<NodeRun>, NoMemory>
+    requires { AreListed (map execution_of runs.items) lists.now }
+    ensures { IfOk result (λ v. map execution_of v.items ≡ map execution_of runs.items) }
+{
+    let mut runs = runs;
+    prepare_each(alloc, &mut runs, lists)?;
+    Ok(runs)
+}
+
+/// Prepares what lineage needs for each of these runs, where it is kept.
+fn prepare_each(alloc: Global, runs: &mut [NodeRun], lists: &[StrategyList]) -> Result<(), NoMemory>
+    requires { AreListed (map execution_of runs.old) lists.now }
+    ensures { map execution_of runs.new ≡ map execution_of runs.old }
+{
+    for node in 0..runs.len() {
+        prepare_one(alloc, &mut runs[node], lists[node].as_slice())?;
+    }
+    Ok(())
+}
+
+/// Prepares what lineage needs, where a strategy of the list keeps a store.
+fn prepare_one(alloc: Global, run: &mut NodeRun, list: &[Strategy]) -> Result<(), NoMemory>
+    ensures { execution_of run.new ≡ execution_of run.old }
+{
+    if has_stored(list) {
+        run.prepare_lineage(alloc)?;
+    }
+    Ok(())
+}
+
+/// What is kept of each run at the start, for the list at its place.
+pub(crate) fn begun(
+    alloc: Global,
+    runs: &[NodeRun],
+    lists: &[StrategyList],
+) -> Result<Vec<NodeStores>, NoMemory>
+    requires { AreListed (map execution_of runs.now) lists.now }
+    ensures { IfOk result (λ v.
+        AreKeptOf false (map execution_of runs.now) lists.now (map keeping_of v.items)) }
+{
+    let mut stores = Vec::with_capacity(alloc, runs.len())?;
+    for node in 0..runs.len() {
+        stores.push(begin(alloc, &runs[node], lists[node].as_slice())?)?;
+    }
+    Ok(stores)
+}
+
+/// A shelf of a run for a list, where a strategy of the list keeps a store.
+fn begin(alloc: Global, run: &NodeRun, list: &[Strategy]) -> Result<NodeStores, NoMemory>
+    requires { list_all (supports (execution_of run.now).site.op) list.now ≡ true }
+    ensures { IfOk result (λ s. IsKeptOf false (execution_of run.now) list.now (keeping_of s)) }
+{
+    if !has_stored(list) {
+        return Ok(NodeStores::Nothing);
+    }
+    let (shelf, pass) = shelf_for(alloc, run, list)?;
+    Ok(NodeStores::Growing { shelf, pass })
+}
+
+/// Whether a list has a strategy that keeps a store.
+fn has_stored(list: &[Strategy]) -> bool
+    ensures { result ≡ has_stored list.now }
+{
+    list.iter().any(|strategy| strategy.is_stored())
+}
+
+/// A shelf of a run for a list, and its first pass.
+fn shelf_for(
+    alloc: Global,
+    run: &NodeRun,
+    list: &[Strategy],
+) -> Result<(Arc<Shelf>, Pass), NoMemory>
+    requires supported { list_all (supports (execution_of run.now).site.op) list.now ≡ true }
+    requires stored { has_stored list.now ≡ true }
+    ensures { IfOk result (λ made.
+        IsShelfFor (execution_of run.now) list.now (arc_value made.0) made.1) }
+{
+    Shelf::make(alloc, Arc::try_clone(&run.at)?, run.inputs.as_slice(), list)
+}
+
+/// A version's run with the stores of each node whole. It takes the time of what workers left
+/// undone.
+pub fn ended<R: Wait>(
+    alloc: Global,
+    rt: &R,
+    run: VersionRun,
+    lists: &[StrategyList],
+) -> Result<VersionRun, NoMemory>
+    requires listed { AreListed run.executions lists.now }
+    requires kept { AreKeptOf false run.executions lists.now run.kept }
+    ensures executions { IfOk result (λ v. v.executions ≡ run.executions) }
+    ensures whole { IfOk result (λ v. AreKeptOf true run.executions lists.now v.kept) }
+{
+    let VersionRun { runs, stores } = run;
+    let stores = whole_stores(alloc, rt, &runs, lists, stores)?;
+    Ok(VersionRun { runs, stores })
+}
+
+/// The stores of each run, whole.
+fn whole_stores<R: Wait>(
+    alloc: Global,
+    rt: &R,
+    runs: &[NodeRun],
+    lists: &[StrategyList],
+    begun: Vec<NodeStores>,
+) -> Result<Vec<NodeStores>, NoMemory>
+    requires listed { AreListed (map execution_of runs.now) lists.now }
+    requires kept { AreKeptOf false (map execution_of runs.now) lists.now
+        (map keeping_of begun.items) }
+    ensures { IfOk result (λ v.
+        AreKeptOf true (map execution_of runs.now) lists.now (map keeping_of v.items)) }
+{
+    let mut stores = Vec::with_capacity(alloc, runs.len())?;
+    let mut begun = begun.into_iter();
+    for node in 0..runs.len() {
+        let Some(one) = begun.next() else {
+            unreachable!()
+        };
+        stores.push(end(alloc, rt, &runs[node], lists[node].as_slice(), one)?)?;
+    }
+    Ok(stores)
+}
+
+/// The stores of a run for a list, whole, where a strategy of the list keeps one.
+fn end<R: Wait>(
+    alloc: Global,
+    rt: &R,
+    run: &NodeRun,
+    list: &[Strategy],
+    begun: NodeStores,
+) -> Result<NodeStores, NoMemory>
+    requires supported { list_all (supports (execution_of run.now).site.op) list.now ≡ true }
+    requires kept { IsKeptOf false (execution_of run.now) list.now (keeping_of begun) }
+    ensures { IfOk result (λ s. IsKeptOf true (execution_of run.now) list.now (keeping_of s)) }
+{
+    match begun {
+        NodeStores::Nothing => {
+            if !has_stored(list) {
+                return Ok(NodeStores::Nothing);
+            }
+            let (shelf, pass) = shelf_for(alloc, run, list)?;
+            Ok(NodeStores::Whole {
+                store: taken(alloc, rt, run, list, &shelf, pass)?,
+            })
+        }
+        NodeStores::Growing { shelf, pass } => Ok(NodeStores::Whole {
+            store: taken(alloc, rt, run, list, &shelf, pass)?,
+        }),
+        NodeStores::Whole { store } => Ok(NodeStores::Whole { store }),
+    }
+}
+
+/// The stores on a shelf, once what is missing was made and placed.
+fn taken<R: Wait>(
+    alloc: Global,
+    rt: &R,
+    run: &NodeRun,
+    list: &[Strategy],
+    shelf: &Shelf,
+    pass: Pass,
+) -> Result<Arc<NodeStore>, NoMemory>
+    requires { IsShelfFor (execution_of run.now) list.now shelf.now pass }
+    ensures { IfOk result (λ s. AreStoresFor (execution_of run.now) list.now (arc_value s)) }
+{
+    let mut pass = pass;
+    let mut tally = Tally::new();
+    finish(alloc, rt, run, list, shelf, &mut pass, &mut tally)?;
+    match shelf.store_of(alloc, rt, &mut pass)? {
+        Some(store) => Ok(store),
+        None => unreachable!(),
+    }
+}

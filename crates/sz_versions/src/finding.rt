@@ -1,0 +1,274 @@
+//! What is asked along a path of a version.
+
+ghost use Rattle.std.specs.Prelude.{◌≡◌, ◌*◌, ◌≤◌, true, length, map, IfOk};
+ghost use Rattle.std.specs.List.{AllZip, list_all};
+ghost use Rattle.std.specs.Arc.{arc_value};
+ghost use Rattle.sz_cells.specs.Extent.{holds};
+ghost use Rattle.sz_cells.specs.Cells.{named_in};
+ghost use Rattle.sz_spec.specs.Paths.{is_joined, source_of, is_there};
+ghost use Rattle.sz_flow.specs.Executions.{execution_of};
+ghost use Rattle.sz_shelf.specs.Passes.{place_of};
+ghost use Rattle.sz_query.specs.Views.{view_of, by_map, by_trace, by_growth, most_traced_by};
+ghost use Rattle.sz_query.specs.Answers.{most_traced_of};
+ghost use Rattle.sz_catalogue.specs.Starts.{step_start, path_start, cell_named};
+ghost use Rattle.sz_catalogue.specs.Rules.{has_named_cell};
+ghost use Rattle.sz_versions.specs.Runs.{IsSoundVersion};
+ghost use Rattle.sz_versions.specs.Stores.{IsTrailOf, IsOwn, keeping_of};
+ghost use Rattle.sz_versions.specs.Views.{view_by, view_kept, IsViewOf, are_there, split_off};
+ghost use Rattle.sz_versions.specs.Searches.{IsSearchOf};
+
+use crate::carry::Carry;
+use crate::inquiry::Inquiry;
+use crate::runs::{NodeStores, VersionRun};
+use std::alloc::Global;
+use std::sync::Arc;
+use sz_catalogue::HeldVersion;
+use sz_cells::{Cell, CellSet, NoMemory, Shape, laws};
+use sz_flow::NodeRun;
+use sz_query::{NodeRunRef, NodeView};
+use sz_script::{NamedCell, NamedCells, Path, PathStep};
+use sz_shelf::{Pass, Shelf};
+use sz_spec::{Array, ArrayList, Dir, Strategy, way};
+
+/// What is asked along a path from some named cells, each step by the view of its node for the way
+/// of the step. It shares what the run holds, and a view of a shelf has a pass that is split off,
+/// for which the run is lent.
+pub fn inquiry_along(
+    alloc: Global,
+    version: &HeldVersion<Carry>,
+    run: &mut VersionRun,
+    dir: Dir,
+    path: &Path,
+    named: &NamedCells,
+) -> Result<Inquiry, NoMemory>
+    requires sound { IsSoundVersion version.now }
+    requires run { IsTrailOf version.now run.old }
+    requires joined { is_joined dir version.now.flow path.now ≡ true }
+    requires named { list_all (has_named_cell (path_start dir version.now path.now)) named.now
+        ≡ true }
+    ensures search { IfOk result (λ s. IsSearchOf version.now dir path.now named.now s) }
+    ensures same { run.new ≡ run.old }
+{
+    let steps = path.as_slice();
+    let start = start_of(version, run, dir, steps[0]);
+    let cells = cells_at(alloc, start, named.as_slice())?;
+    let views = views_of(alloc, version, run, dir, steps)?;
+    let inputs = inputs_of(alloc, steps)?;
+    Ok(Inquiry {
+        dir,
+        views,
+        inputs,
+        cells,
+    })
+}
+
+/// The shape in which a step starts: backward, of its node's output; forward, of its input.
+fn start_of(_version: &HeldVersion<Carry>, run: &VersionRun, dir: Dir, step: PathStep) -> Shape
+    requires sound { IsSoundVersion _version.now }
+    requires run { IsTrailOf _version.now run.now }
+    requires there { is_there (source_of _version.now.flow step) ≡ true }
+    ensures { result ≡ step_start dir _version.now step }
+{
+    let node = &run.runs()[step.node as usize];
+    match dir {
+        Dir::Back => node.at.out(),
+        Dir::Forward => node.at.ins()[step.input as usize],
+    }
+}
+
+/// The cells of a shape that are named.
+pub(crate) fn cells_at(
+    alloc: Global,
+    shape: Shape,
+    named: &[NamedCell],
+) -> Result<CellSet, NoMemory>
+    requires { list_all (has_named_cell shape) named.now ≡ true }
+    ensures { IfOk result (λ s. s ≡ named_in shape (map (cell_named shape) named.now)) }
+{
+    let mut cells: Vec<Cell> = Vec::with_capacity(alloc, named.len())?;
+    for one in named {
+        cells.push(cell_at(shape, *one))?;
+    }
+    CellSet::from_cells(alloc, shape, &cells)
+}
+
+/// The cell of a shape that is named.
+fn cell_at(shape: Shape, named: NamedCell) -> Cell
+    requires { has_named_cell shape named ≡ true }
+    ensures cell { result ≡ cell_named shape named }
+    ensures held { holds shape result ≡ true }
+{
+    laws::a_shape_is_within_limits(&shape);
+    match shape.cell_in(named.layer, named.row, named.col) {
+        Some(cell) => cell,
+        None => unreachable!(),
+    }
+}
+
+/// The number of each step's input.
+pub(crate) fn inputs_of(alloc: Global, path: &[PathStep]) -> Result<Vec<u32>, NoMemory>
+    ensures { IfOk result (λ v. v.items ≡ map (λ s. s.input) path.now) }
+{
+    let mut inputs = Vec::with_capacity(alloc, path.len())?;
+    for step in path {
+        inputs.push(step.input)?;
+    }
+    Ok(inputs)
+}
+
+/// The view of each step's node.
+fn views_of(
+    alloc: Global,
+    version: &HeldVersion<Carry>,
+    run: &mut VersionRun,
+    dir: Dir,
+    path: &[PathStep],
+) -> Result<Vec<NodeView>, NoMemory>
+    requires sound { IsSoundVersion version.now }
+    requires run { IsTrailOf version.now run.old }
+    requires there { are_there version.now.flow path.now ≡ true }
+    ensures views { IfOk result
+        (λ v. AllZip (IsViewOf version.now dir) path.now (map view_of v.items)) }
+    ensures few { IfOk result
+        (λ v. most_traced_of (map view_of v.items) ≤ length path.now * 1048576) }
+    ensures same { run.new ≡ run.old }
+{
+    let mut views = Vec::with_capacity(alloc, path.len())?;
+    for step in path {
+        views.push(view_at(alloc, version, run, dir, *step)?)?;
+    }
+    Ok(views)
+}
+
+/// The view of a step's node, for the way of the step.
+fn view_at(
+    alloc: Global,
+    version: &HeldVersion<Carry>,
+    run: &mut VersionRun,
+    dir: Dir,
+    step: PathStep,
+) -> Result<NodeView, NoMemory>
+    requires sound { IsSoundVersion version.now }
+    requires run { IsTrailOf version.now run.old }
+    requires there { is_there (source_of version.now.flow step) ≡ true }
+    ensures view { IfOk result (λ w. IsViewOf version.now dir step (view_of w)) }
+    ensures few { IfOk result (λ w. most_traced_by (view_of w) ≤ 1048576) }
+    ensures same { run.new ≡ run.old }
+{
+    let lists = version.lists.as_slice();
+    let way = way(lists[step.node as usize].as_slice(), dir);
+    let node = &run.runs[step.node as usize];
+    laws::a_shape_is_within_limits(&node.at.out());
+    let stores = &mut run.stores[step.node as usize];
+    view_by(alloc, way, node, stores)
+}
+
+/// The view of a node's run for a way: what a strategy keeps is looked at by a view of its kind.
+fn view_by(
+    alloc: Global,
+    way: Strategy,
+    run: &NodeRun,
+    stores: &mut NodeStores,
+) -> Result<NodeView, NoMemory>
+    requires { IsOwn (keeping_of stores.old) }
+    ensures view { IfOk result
+        (λ w. view_of w ≡ view_by way (execution_of run.now) (keeping_of stores.old)) }
+    ensures same { keeping_of stores.new ≡ keeping_of stores.old }
+{
+    match way {
+        Strategy::Map => map_view(run),
+        Strategy::FullOneB
+        | Strategy::FullOneF
+        | Strategy::FullManyB
+        | Strategy::FullManyF
+        | Strategy::PayOne
+        | Strategy::PayMany
+        | Strategy::CompOne
+        | Strategy::CompMany => kept_view(alloc, way, run, stores),
+        Strategy::BlackBox => trace_view(alloc, run),
+    }
+}
+
+/// The view by what a strategy keeps: by its store, by its shelf while that grows, and where
+/// nothing is kept by a trace.
+fn kept_view(
+    alloc: Global,
+    way: Strategy,
+    run: &NodeRun,
+    stores: &mut NodeStores,
+) -> Result<NodeView, NoMemory>
+    requires { IsOwn (keeping_of stores.old) }
+    ensures view { IfOk result
+        (λ w. view_of w ≡ view_kept way (execution_of run.now) (keeping_of stores.old)) }
+    ensures same { keeping_of stores.new ≡ keeping_of stores.old }
+{
+    match stores {
+        NodeStores::Nothing => trace_view(alloc, run),
+        NodeStores::Growing { shelf, pass } => growing_view(alloc, way, run, shelf, pass),
+        NodeStores::Whole { store } => Ok(NodeView::Kept {
+            at: Arc::try_clone(&run.at)?,
+            store: Arc::try_clone(store)?,
+            s: way,
+        }),
+    }
+}
+
+/// The view by a shelf on which a strategy's store grows, with a pass that is split off.
+fn growing_view(
+    alloc: Global,
+    way: Strategy,
+    run: &NodeRun,
+    shelf: &Arc<Shelf>,
+    pass: &mut Pass,
+) -> Result<NodeView, NoMemory>
+    requires { place_of pass.old ≡ arc_value shelf.now }
+    ensures view { IfOk result (λ w. view_of w ≡ by_growth (execution_of run.now).site
+        (execution_of run.now).inputs (arc_value shelf.now) (split_off pass.old) way) }
+    ensures same { pass.new ≡ pass.old }
+{
+    Ok(NodeView::Building {
+        run: run_ref(alloc, run)?,
+        shelf: Arc::try_clone(shelf)?,
+        pass: shelf.split(pass)?,
+        s: way,
+    })
+}
+
+/// The view by the mapping of cells.
+pub(crate) fn map_view(run: &NodeRun) -> Result<NodeView, NoMemory>
+    ensures { IfOk result (λ w. view_of w ≡ by_map (execution_of run.now).site) }
+{
+    let at = Arc::try_clone(&run.at)?;
+    Ok(NodeView::Mapped { at })
+}
+
+/// The view by a trace over the arrays that the node took.
+pub(crate) fn trace_view(alloc: Global, run: &NodeRun) -> Result<NodeView, NoMemory>
+    ensures { IfOk result (λ w. view_of w
+        ≡ by_trace (execution_of run.now).site (execution_of run.now).inputs) }
+{
+    Ok(NodeView::Traced {
+        run: run_ref(alloc, run)?,
+    })
+}
+
+/// The operator of a run, with the arrays that it took.
+fn run_ref(alloc: Global, run: &NodeRun) -> Result<NodeRunRef, NoMemory>
+    ensures at { IfOk result (λ r. arc_value r.at ≡ (execution_of run.now).site) }
+    ensures inputs { IfOk result (λ r. r.inputs ≡ (execution_of run.now).inputs) }
+{
+    let at = Arc::try_clone(&run.at)?;
+    let inputs = share(alloc, &run.inputs)?;
+    Ok(NodeRunRef { at, inputs })
+}
+
+/// The same arrays, shared once more.
+fn share(alloc: Global, arrays: &ArrayList) -> Result<ArrayList, NoMemory>
+    ensures { IfOk result (λ a. a ≡ arrays.now) }
+{
+    let mut items: Vec<Arc<Array>> = Vec::new(alloc);
+    for array in arrays.as_slice() {
+        items.push(Arc::try_clone(array)?)?;
+    }
+    Ok(ArrayList::of(items))
+}

@@ -1,0 +1,76 @@
+//! What a version that is started carries.
+
+ghost use Rattle.std.specs.Prelude.{◌≡◌, All, false, map, None, IfOk};
+ghost use Rattle.std.specs.Arc.{arc_value};
+ghost use Rattle.std.specs.Map.{values_of};
+ghost use Rattle.sz_script.specs.declared.command.Command.TheVariants as order;
+ghost use Rattle.sz_catalogue.specs.Holdings.{arrays_of};
+ghost use Rattle.sz_catalogue.specs.Starts.{bases_of, version_started};
+ghost use Rattle.sz_catalogue.specs.Rules.{judged, has_no_array};
+ghost use Rattle.sz_catalogue.specs.Kept.{IsWorkflow};
+ghost use Rattle.sz_versions.specs.Stores.{IsTrailOf};
+
+use crate::building::{begun, prepared};
+use crate::carry::Carry;
+use crate::runs::VersionRun;
+use crate::tasks::Hands;
+use std::alloc::Global;
+use std::sync::{Arc, Wait};
+use std::thread::Threads;
+use sz_catalogue::Catalogue;
+use sz_cells::NoMemory;
+use sz_flow::run_all;
+use sz_script::BaseName;
+use sz_spec::Array;
+
+/// What the version that a start makes carries: the runs of its nodes, each value computed once,
+/// and for each node with a stored strategy what its lineage needs, prepared once, and a shelf, of
+/// which tasks are handed out.
+pub fn run_version<R: Threads + Wait + Sync>(
+    rt: &R,
+    alloc: Global,
+    catalogue: &Catalogue<Carry>,
+    hands: &Hands,
+    name: &str,
+    base: &[BaseName],
+) -> Result<VersionRun, NoMemory>
+    requires sound { All IsWorkflow (values_of catalogue.now.flows) }
+    requires judged { judged catalogue.now (order.Start name.now base.now) ≡ None }
+    ensures { IfOk result
+        (λ r. IsTrailOf (version_started catalogue.now name.now base.now) r) }
+{
+    let Some(flow) = catalogue.flow(name) else {
+        unreachable!()
+    };
+    let Some(lists) = catalogue.lists(name) else {
+        unreachable!()
+    };
+    let arrays = arrays_named(alloc, catalogue, base)?;
+    let executed = run_all(rt, alloc, flow, &arrays)?;
+    let runs = prepared(alloc, executed, lists.as_slice())?;
+    let stores = begun(alloc, &runs, lists.as_slice())?;
+    let mut run = VersionRun::of(alloc, runs, stores)?;
+    let number = catalogue.next_number() as u32;
+    hands.hand_out(alloc, rt, number, lists.as_slice(), &mut run);
+    Ok(run)
+}
+
+/// The base arrays of these names and versions, all of which are held.
+fn arrays_named(
+    alloc: Global,
+    catalogue: &Catalogue<Carry>,
+    base: &[BaseName],
+) -> Result<Vec<Arc<Array>>, NoMemory>
+    requires { has_no_array catalogue.now base.now ≡ false }
+    ensures { IfOk result
+        (λ v. map (λ a. arc_value a) v.items ≡ arrays_of (bases_of catalogue.now base.now)) }
+{
+    let mut arrays = Vec::with_capacity(alloc, base.len())?;
+    for only in base {
+        let Some(array) = catalogue.array(only.name.as_str(), only.version) else {
+            unreachable!()
+        };
+        arrays.push(Arc::try_clone(array)?)?;
+    }
+    Ok(arrays)
+}
