@@ -6,3 +6,6 @@ pub mod Checkings
 pub mod Continuing
 pub mod Jobs
 pub mod Exactly
+pub mod Sayings
+mod RowsChecking
+mod RowsContinuing
