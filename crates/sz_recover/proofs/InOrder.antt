@@ -49,7 +49,7 @@ use Rattle.sz_recover.proofs.Keyed.{put-found, put-keeps, put-rising, put-length
 
 -- ---- keys are told apart by their tests
 
-number-same : (a b : ℕ) → eq_by_cmp nat_cmp a b ≡ true → a ≡ b
+pub number-same : (a b : ℕ) → eq_by_cmp nat_cmp a b ≡ true → a ≡ b
 number-same a b is = eqb-true a b (sym (unsigned_tied a b) ∙ is)
 
 text-same : (a b : List ℕ) → eq_by_cmp (slice_cmp nat_cmp) a b ≡ true → a ≡ b

@@ -26,3 +26,7 @@ pub mod InLogs
 pub mod RightArrays
 pub mod RightHeld
 pub mod OneReading
+pub mod Telling
+pub mod HeldBodies
+pub mod RowsSound
+mod RowsGrowing

@@ -2,7 +2,7 @@
 --
 -- The key idea: a group at a place is a fact of the bytes, and over what is held it acts in one way at most, since a
 -- body says one version at most. So two walks over a log go together, as far as the shorter one goes.
-use Rattle.std.proofs.Common.{◌≡◌, ◌⊎◌, inl, inr, ℕ, ◌+◌, List, [], ◌∷◌, ◌++◌, length, map, drop, refl, sym, ap, ap₂}
+use Rattle.std.proofs.Common.{◌≡◌, ◌⊎◌, inl, inr, ℕ, ◌+◌, List, [], ◌∷◌, ◌++◌, length, drop, refl, sym, ap, ap₂}
 use Rattle.std.proofs.Common.{subst, ◌∙◌, true, true≢false, Option, Some, None, option_map}
 use Rattle.std.specs.Prelude.{Result, Ok, Err}
 use Rattle.std.proofs.lemmas.List.{map-append}
@@ -27,7 +27,7 @@ use Rattle.sz_recover.specs.Bodies.{NodePart, VersionBody, IsBodyOf}
 use Rattle.sz_recover.specs.Fitting.{FitsNode, FitNodes, Fit, part_of, parts_of, body_of, sites_of}
 use Rattle.sz_recover.specs.Lawful.{version_said}
 use Rattle.sz_recover.specs.Logs.{Kept, Acts, ActsAsLine, ActsAsVersion, ActEach, held_by}
-use Rattle.sz_recover.specs.Logs.{AreSpelled, IsWellMade, Stands, StandEach, IsBadAt}
+use Rattle.sz_recover.specs.Logs.{AreSpelled, Stands, StandEach, IsBadAt}
 use Rattle.sz_recover.specs.OneReading.{unplaced, bare_stores, bare, all_bare, WellMadeLogsAreReadInOneWay}
 use Rattle.sz_recover.specs.OneReading.{WellMadeLogsAreNotBad, LogsAreFirstBadAtOnePlace}
 use Rattle.sz_recover.proofs.OneWay.{head-same, bodies-one}

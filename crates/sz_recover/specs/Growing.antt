@@ -4,7 +4,8 @@
 -- these. A group is added at the log's end, and the log is well made before it and behind it, and
 -- at every moment between.
 use Rattle.std.specs.Prelude.{◌≡◌, ◌⊎◌, ℕ, ◌≤◌, List, [], ◌∷◌, ◌++◌, length, map}
-use Rattle.std.specs.Prelude.{filter, true, false, nat_le, All, Option, Some, None, option_map, Ok}
+use Rattle.std.specs.Prelude.{filter, true, false, not, ◌==◌, nat_le, All, Option, Some, None}
+use Rattle.std.specs.Prelude.{option_map, Ok}
 use Rattle.std.specs.List.{list_all}
 use Rattle.std.specs.List.Sorted.{IsStrictlySortedBy}
 use Rattle.std.specs.Map.{keys_of}
@@ -28,6 +29,7 @@ use Rattle.sz_catalogue.specs.Rules.{version_of, judged}
 use Rattle.sz_catalogue.specs.Changes.{accepted, with_version, with_await}
 use Rattle.sz_recover.specs.Bodies.{IsBodyOf}
 use Rattle.sz_recover.specs.Fitting.{sites_of, Fit, body_of}
+use Rattle.sz_recover.specs.Lawful.{IsLawful, version_said}
 use Rattle.sz_recover.specs.Logs.{Kept, Acts, AreSpelled, IsWellMade, IsMade}
 use Rattle.sz_recover.specs.Logs.{is_of_kind}
 
@@ -94,6 +96,20 @@ AwaitsAct = (c : Holdings) (n : ℕ) (stores : List (Option NodeLineage)) (body 
     → IsBodyOf (sites_of (version_of c n)) (body_of n (version_of c n) stores) body
     → Acts (durable c) (record { kind = 4; body = body }) (durable (with_await c n))
     (record { number = n; stores = stores } ∷ [])
+
+-- what is held, but for the version of a number
+abbrev pub without : Holdings → ℕ → Holdings
+without c n = record c { versions = filter (λ (e : ℕ × Version). not (e.0 == n)) c.versions }
+
+-- The body of a version that is held, awaited or not, is lawful over what is held but for it, and
+-- says that version, awaited.
+abbrev pub HeldBodiesAreLawful : Type 0
+HeldBodiesAreLawful = (c : Holdings) (n : ℕ) (stores : List (Option NodeLineage)) (body : List ℕ)
+    → IsInOrder c → rules.has_no_version c n ≡ false → Fit (version_of c n) stores
+    → IsBodyOf (sites_of (version_of c n)) (body_of n (version_of c n) stores) body
+    → IsLawful (without c n) (body_of n (version_of c n) stores) body
+    × (version_said (without c n) (body_of n (version_of c n) stores)
+    ≡ record (version_of c n) { awaited = true })
 
 -- To await a version again changes nothing.
 abbrev pub AwaitsAreOnce : Type 0

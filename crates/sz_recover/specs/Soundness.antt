@@ -1,8 +1,8 @@
 -- Whether what is kept is sound: each store of a node stands for exactly the relation of the
 -- operator that was executed there.
-use Rattle.std.specs.Prelude.{◌≡◌, ℕ, List, ◌∷◌, ◌++◌, take, Option, Some, None, ⊤, All}
+use Rattle.std.specs.Prelude.{◌≡◌, ℕ, List, ◌∷◌, ◌++◌, length, take, Option, Some, None, ⊤, All}
 use Rattle.std.specs.Prelude.{Bool, true, false}
-use Rattle.std.specs.List.{AllZip, slice_get}
+use Rattle.std.specs.List.{AllZip, slice_get, Contains}
 use Rattle.sz_spec.specs.declared.modes.Strategy.{Strategy}
 use Rattle.sz_spec.specs.Modes.{is_stored}
 use Rattle.sz_region.specs.Images.{measure_of}
@@ -103,9 +103,37 @@ abbrev pub TellsOfAll : Holdings → List Kept → Option WrongStore → Type 0
 TellsOfAll c kept None = AreSoundKept c kept
 TellsOfAll c kept (Some w) = IsFirstWrong c kept w
 
--- ---- law
+-- ---- laws
 
 -- Where there is a first wrong store, what is kept is not sound.
 abbrev pub WrongStoresAreUnsound : Type 0
 WrongStoresAreUnsound = (c : Holdings) (kept : List Kept) (w : WrongStore)
     → IsFirstWrong c kept w → AreSoundKept c kept → ⊥
+
+-- Each entry has a place for the stores of each node that was executed.
+abbrev pub HaveEachNode : Holdings → List Kept → Type 0
+HaveEachNode c kept =
+    All (λ k. length k.stores ≡ length (executions_of (version_of c k.number))) kept
+
+-- Each store of what is kept, whatever its entry and its node, stands for exactly the relation of
+-- the operator that was executed at that node.
+abbrev pub EachStoreIsExact : Holdings → List Kept → Type 0
+EachStoreIsExact c kept = (k : Kept) (n : ℕ) (e : Execution) (x : NodeLineage) (f : Keep)
+    → Contains kept k → slice_get (executions_of (version_of c k.number)) n ≡ Some e
+    → slice_get k.stores n ≡ Some (Some x) → Contains x.stores f
+    → IsTheRelation (measure_of e.site e.inputs) (holding_stands e.site f.holding)
+
+-- Where no wrong store is told, each store is exact.
+abbrev pub NoneMeansEach : Type 0
+NoneMeansEach = (c : Holdings) (kept : List Kept) → TellsOfAll c kept None
+    → HaveEachNode c kept × EachStoreIsExact c kept
+
+-- And where each is, no wrong store is told.
+abbrev pub EachMeansNone : Type 0
+EachMeansNone = (c : Holdings) (kept : List Kept) → HaveEachNode c kept → EachStoreIsExact c kept
+    → TellsOfAll c kept None
+
+-- One thing is told of what is kept: there is no wrong store, or one that is the first.
+abbrev pub OneThingIsTold : Type 0
+OneThingIsTold = (c : Holdings) (kept : List Kept) (a b : Option WrongStore)
+    → TellsOfAll c kept a → TellsOfAll c kept b → a ≡ b

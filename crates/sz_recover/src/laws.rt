@@ -6,10 +6,12 @@ ghost use Rattle.sz_recover.specs.Growing.{MadeLogsEnd, LogsGrow, MadeLogsGrow, 
 ghost use Rattle.sz_recover.specs.Growing.{LinesAct};
 ghost use Rattle.sz_recover.specs.Growing.{LinesKeepVersions, AwaitsAct, AwaitsAreOnce};
 ghost use Rattle.sz_recover.specs.Growing.{StartsAreNotLogged, NothingIsInOrder};
+ghost use Rattle.sz_recover.specs.Growing.{HeldBodiesAreLawful};
 ghost use Rattle.sz_recover.specs.Growing.{CommandsKeepOrder, LogsAreInOrder};
 ghost use Rattle.sz_recover.specs.Opened.{WellMadeLogsKeepTheirVersions, HeldVersionsHaveEntries};
 ghost use Rattle.sz_recover.specs.Opened.{HeldVersionsAreAwaited};
-ghost use Rattle.sz_recover.specs.Soundness.{WrongStoresAreUnsound};
+ghost use Rattle.sz_recover.specs.Soundness.{WrongStoresAreUnsound, NoneMeansEach, EachMeansNone};
+ghost use Rattle.sz_recover.specs.Soundness.{OneThingIsTold};
 ghost use Rattle.sz_recover.specs.OneReading.{WellMadeLogsAreReadInOneWay, WellMadeLogsAreNotBad};
 ghost use Rattle.sz_recover.specs.OneReading.{LogsAreFirstBadAtOnePlace};
 
@@ -22,6 +24,12 @@ pub fn bodies_are_read_in_one_way()
 /// The body of a version is lawful over anything to which the version can be added, and says it.
 pub fn written_bodies_are_lawful()
     ensures { WrittenBodiesAreLawful }
+{}
+
+/// Whatever [`crate::version_body`] writes of a version of what is in order, awaited or not, is
+/// lawful over what is held but for that version, and says it, awaited.
+pub fn bodies_of_held_versions_are_lawful()
+    ensures { HeldBodiesAreLawful }
 {}
 
 /// What a well-made log keeps is an entry for each version that its groups add, and no other.
@@ -84,6 +92,15 @@ pub fn holdings_are_in_order()
 /// each store stands for exactly the relation.
 pub fn wrong_stores_are_unsound()
     ensures { WrongStoresAreUnsound }
+{}
+
+/// What [`crate::unsound`] gives says one thing of what is kept. It gives no store exactly where
+/// each store, whatever its entry and its node, stands for exactly the relation of the operator
+/// that was executed there; and of two stores it cannot give both.
+pub fn one_thing_is_told_of_stores()
+    ensures none { NoneMeansEach }
+    ensures each { EachMeansNone }
+    ensures one { OneThingIsTold }
 {}
 
 /// A log is read in one way: a well-made log ends at one place, holds one thing and keeps of each
