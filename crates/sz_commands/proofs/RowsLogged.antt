@@ -1,7 +1,7 @@
--- What a line makes durable, and as which group, worked by hand on both sides; and what is said of the log of a station.
+-- What a line makes durable, and as which group, worked by hand on both sides; and what is said of a station's log.
 --
--- The key idea: a group that stands for something else has another kind, another body or another place, and each of these
--- is a number.
+-- The key idea: a group that stands for something else has another kind, another body or another place, and each of
+-- these is a number.
 use Rattle.std.proofs.Common.{◌≡◌, ℕ, ◌+◌, List, [], ◌∷◌, ◌++◌, Option, Some, None, Ok, Err, refl, sym, ap, subst, ◌∙◌}
 use Rattle.std.proofs.Common.{arith, true, false, true≢false, length, get_or, unwrap_or, inl, inr, codes, length-append}
 use Rattle.sz_outside.specs.Disk.{Only}
@@ -160,7 +160,8 @@ lasting-something n is = true≢false is
 -- ---- which lines are written
 
 -- an await of a version that was not awaited, once
-pub makes-await : makes (record held { versions = (1, record version { awaited = false }) ∷ [] }) (command.Await 1) ≡ true
+pub makes-await : makes (record held { versions = (1, record version { awaited = false }) ∷ [] }) (command.Await 1)
+    ≡ true
 makes-await = refl
 
 pub makes-await_again : makes held (command.Await 1) ≡ false

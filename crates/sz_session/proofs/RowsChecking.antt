@@ -1,7 +1,7 @@
 -- What the check of a log says, worked by hand on both sides, and what is known of the log by then.
 --
 -- The key idea: one line can be said of what is kept, so another is refused by a byte in which it differs.
-use Rattle.std.proofs.Common.{◌≡◌, ℕ, List, [], ◌∷◌, ◌++◌, Option, Some, None, refl, sym, ap, subst, ◌∙◌, arith, true, false}
+use Rattle.std.proofs.Common.{◌≡◌, ℕ, List, [], ◌∷◌, ◌++◌, Option, Some, None, refl, sym, ap, subst, arith}
 use Rattle.std.proofs.Common.{true≢false, length, get_or, unwrap_or, codes, take, length-append}
 use Rattle.std.specs.Fmt.{digits}
 use Rattle.std.proofs.lemmas.List.Elements.{All-nil}
@@ -82,7 +82,8 @@ tells-other_number is =
 
 pub tells-nothing : TellsLine held [] [] → ⊥
 tells-nothing is =
-    let size : 0 ≡ 8 = ap (λ (l : List ℕ). length l) (one-line held [] [] said_0 is tells-sound_0) in omega (arith, size)
+    let size : 0 ≡ 8 = ap (λ (l : List ℕ). length l) (one-line held [] [] said_0 is tells-sound_0) in
+    omega (arith, size)
 
 -- ---- the line of a log
 

@@ -1,7 +1,7 @@
 -- How a session on a log ends, on both sides of each part.
 --
 -- The key idea: a log that is told is opened or it is not, by its bytes; and what an ending says is taken part by part.
-use Rattle.std.proofs.Common.{◌≡◌, ℕ, List, [], Option, Some, None, refl, sym, subst, true, false, true≢false, take, inl, inr}
+use Rattle.std.proofs.Common.{◌≡◌, ℕ, List, [], Option, Some, None, refl, sym, subst, true≢false, take, inl, inr}
 use Rattle.sz_outside.specs.Outside.{Rose, Stood}
 use Rattle.sz_outside.specs.Disk.{Only}
 use Rattle.sz_outside.specs.declared.stations.Station.{Ghosts}
