@@ -1,2 +1,3 @@
 -- The worked rows of the program.
 mod Rows
+mod RowsWords

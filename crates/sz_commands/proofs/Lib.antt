@@ -9,3 +9,4 @@ pub mod Sought
 pub mod Logged
 pub mod Lasting
 pub mod Appending
+pub mod RowsLogged

@@ -14,3 +14,5 @@ pub mod RowsServing
 pub mod Running
 pub mod Beside
 pub mod Sources
+mod RowsMaking
+mod RowsRunning

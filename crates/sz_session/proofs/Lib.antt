@@ -8,3 +8,6 @@ pub mod Modes
 pub mod Exactly
 pub mod Statuses
 pub mod Numbers
+pub mod Sayings
+mod RowsChecking
+mod RowsContinuing

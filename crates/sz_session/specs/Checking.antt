@@ -10,7 +10,7 @@ use Rattle.sz_script.specs.Words.{name_of_strategy}
 use Rattle.sz_catalogue.specs.Holdings.{Holdings}
 use Rattle.sz_catalogue.specs.Responses.{number_text, word_text}
 use Rattle.sz_recover.specs.Logs.{Kept, IsMade, IsNoLog, IsBroken, IsWellMade, IsFirstBad}
-use Rattle.sz_recover.specs.Soundness.{TellsOfAll}
+use Rattle.sz_recover.specs.Soundness.{TellsOfAll, HaveEachNode, EachStoreIsExact}
 use Rattle.sz_recover.specs.declared.checking.WrongStore.{WrongStore}
 use Rattle.sz_commands.specs.Stops.{StopsFinding}
 
@@ -98,3 +98,15 @@ pub record StopsChecking {X : Type 0} (T : Ghosts X) (old new : X) : Type 0 wher
   pub line : List ℕ
   pub line_is : (line ≡ []) ⊎ IsLineOf (T.disk old) line
   pub stops : StopsFinding T Same (λ found. SaysPart (T.said old) (Some found) line) old new
+
+-- ---- laws
+
+-- One line is told of what is kept.
+abbrev pub OneLineIsTold : Type 0
+OneLineIsTold = (c : Holdings) (kept : List Kept) (line other : List ℕ)
+    → TellsLine c kept line → TellsLine c kept other → line ≡ other
+
+-- Where it is the line of a sound log, each store stands for exactly the relation of its operator.
+abbrev pub SoundLinesMeanEach : Type 0
+SoundLinesMeanEach = (c : Holdings) (kept : List Kept) → TellsLine c kept (sound_line (length kept))
+    → HaveEachNode c kept × EachStoreIsExact c kept

@@ -10,6 +10,7 @@ ghost use Rattle.sz_feed.specs.Laws.{FirstRepliesAreAPart, RepliesGoOn, Transcri
 ghost use Rattle.sz_feed.specs.Laws.{BlankLinesAreCounted, OtherLinesHaveOneReply};
 ghost use Rattle.sz_feed.specs.Laws.{SessionsOfNoLogArePlain, SoundLogsArePlain};
 ghost use Rattle.sz_commands.specs.Logged.{OpenedLogsStand};
+ghost use Rattle.sz_session.specs.Checking.{OneLineIsTold, SoundLinesMeanEach};
 
 /// The lines of a text are the bytes between its newlines, and those behind the last one where
 /// there are any.
@@ -75,4 +76,11 @@ pub fn opened_logs_stand()
 /// `specs/Plain`, in whose definitions no store stands.
 pub fn sound_logs_are_plain()
     ensures { SoundLogsArePlain }
+{}
+
+/// One line can be said of what a log keeps. Where it is that of a sound log, each store stands for
+/// exactly the relation of the operator that was executed at its node.
+pub fn one_line_is_told_of_a_log()
+    ensures one { OneLineIsTold }
+    ensures sound { SoundLinesMeanEach }
 {}
