@@ -3,9 +3,8 @@
 -- The key idea: which job written-out words ask for is a row of the words; so a clause that speaks of a mode holds of
 -- the words of that mode, and of those of no other.
 use Rattle.std.proofs.Common.{◌≡◌, ℕ, List, [], ◌∷◌, Option, Some, None, Ok, Err, codes, map, true, false, Bool, refl}
-use Rattle.std.proofs.Common.{sym, ap, ap₂, ◌∙◌, true≢false, get_or, take, drop}
-use Rattle.std.specs.Prelude.{string_bytes}
-use Rattle.std.specs.Option.{option_map_or}
+use Rattle.std.proofs.Common.{sym, ap, ap₂, ◌∙◌, get_or, take, drop}
+use Rattle.std.specs.Prelude.{string_bytes, option_map}
 use Rattle.std.specs.IoError.{error_kind}
 use Rattle.std.specs.Vec.Iter.{into_iter_items, into_iter_len}
 use Rattle.std.specs.declared.alloc.Global.{Global}
@@ -18,9 +17,8 @@ use Rattle.sz_words.specs.declared.Job.{Job}
 use Rattle.sz_words.specs.declared.JobMode.{JobMode}
 use Rattle.sz_words.specs.declared.JobMode.TheVariants.{Play, Init, Run, Check, Load}
 use Rattle.sz_words.proofs.Rows.{modes_without_a_place, modes_with_a_place, no_modes, places, no_place}
-use Rattle.sz_feed.specs.Serving.{is_served, is_play, is_init, is_check, is_run, is_opened, is_of_log, are_for}
-use Rattle.subzero.specs.Words.{Args, words_in, ArePlay, AreInit, AreCheck, AreRun, AreOpened, AreOfLog}
-use Rattle.subzero.specs.Words.{AreServed, AreOther, place_named}
+use Rattle.sz_session.specs.Modes.{AsksFor, mode_in}
+use Rattle.subzero.specs.Words.{Args, words_in, job_asked, AreOther, place_named}
 
 -- ---- the words behind the program's name
 
@@ -28,7 +26,7 @@ pub words-two : (args : Args) (name word : String Global) → into_iter_len args
     → into_iter_items args ≡ name ∷ word ∷ [] → words_in args ≡ word ∷ []
 words-two args name word count items = ap₂ (λ (n : ℕ) (l : List (String Global)). drop 1 (take n l)) count items
 
--- ---- the tests of a mode, over the words of each
+-- ---- the job that the words of each mode ask for
 
 -- the command line gives these words behind the program's name
 abbrev Gives : Args → List (List ℕ) → Type 0
@@ -63,119 +61,86 @@ job-check = ap (λ (l : List (Option Job)). get_or l 3 None) modes_with_a_place
 job-none : job_of (alone (codes "fly")) ≡ None
 job-none = ap (λ (l : List (Option Job)). get_or l 0 None) no_modes
 
--- what the command line passes is what its words' job passes
-passes : (test : JobMode → Bool) (args : Args) (words : List (List ℕ)) (job : Option Job) → Gives args words
-    → job_of words ≡ job
-    → are_for test (map string_bytes (words_in args)) ≡ option_map_or (λ (j : Job). test j.mode) job false
-passes test args words job given is =
-    ap (λ (ws : List (List ℕ)). are_for test ws) given
-    ∙ ap (λ (o : Option Job). option_map_or (λ (j : Job). test j.mode) o false) is
+-- what the command line asks for is the job of its words
+asked : (args : Args) (words : List (List ℕ)) (job : Option Job) → Gives args words → job_of words ≡ job
+    → job_asked (Ok args) ≡ job
+asked args words job given is = ap (λ (ws : List (List ℕ)). job_of ws) given ∙ is
 
--- words that do not pass a test are not of its mode
-fails : (b : Bool) → b ≡ false → b ≡ true → ⊥
-fails b out is = true≢false (sym is ∙ out)
+pub play-asked : (args : Args) → Gives args (alone (codes "play")) → job_asked (Ok args) ≡ plain Play
+play-asked args given = asked args (alone (codes "play")) (plain Play) given job-play
 
--- ---- play
+pub load-asked : (args : Args) → Gives args (alone (codes "load")) → job_asked (Ok args) ≡ plain Load
+load-asked args given = asked args (alone (codes "load")) (plain Load) given job-load
 
-pub play-is : (args : Args) → Gives args (alone (codes "play")) → ArePlay (Ok args)
-play-is args given = passes is_play args (alone (codes "play")) (plain Play) given job-play
+pub init-asked : (args : Args) → Gives args (on_log (codes "init")) → job_asked (Ok args) ≡ plain Init
+init-asked args given = asked args (on_log (codes "init")) (plain Init) given job-init
 
-pub play-not_load : (args : Args) → Gives args (alone (codes "load")) → ArePlay (Ok args) → ⊥
-play-not_load args given = fails _ (passes is_play args (alone (codes "load")) (plain Load) given job-load)
+pub run-asked : (args : Args) → Gives args (on_log (codes "run")) → job_asked (Ok args) ≡ plain Run
+run-asked args given = asked args (on_log (codes "run")) (plain Run) given job-run
 
-pub play-not_run : (args : Args) → Gives args (on_log (codes "run")) → ArePlay (Ok args) → ⊥
-play-not_run args given = fails _ (passes is_play args (on_log (codes "run")) (plain Run) given job-run)
+pub check-asked : (args : Args) → Gives args (on_log (codes "check")) → job_asked (Ok args) ≡ plain Check
+check-asked args given = asked args (on_log (codes "check")) (plain Check) given job-check
 
-pub play-not_had : (fault : Error) → ArePlay (Err fault) → ⊥
-play-not_had fault is = is
+pub none-asked : (args : Args) → Gives args (alone (codes "fly")) → job_asked (Ok args) ≡ None
+none-asked args given = asked args (alone (codes "fly")) None given job-none
 
--- ---- init
+-- words that could not be had ask for none
+pub not_had-asked : (fault : Error) → job_asked (Err fault) ≡ None
+not_had-asked fault = refl
 
-pub init-is : (args : Args) → Gives args (on_log (codes "init")) → AreInit (Ok args)
-init-is args given = passes is_init args (on_log (codes "init")) (plain Init) given job-init
+-- ---- a mode is asked for by its own words, and by no others
 
-pub init-not_run : (args : Args) → Gives args (on_log (codes "run")) → AreInit (Ok args) → ⊥
-init-not_run args given = fails _ (passes is_init args (on_log (codes "run")) (plain Run) given job-run)
+-- a job is of its mode
+for-mode : (m : JobMode) (job : Option Job) → job ≡ plain m → AsksFor m job
+for-mode m job is = ap (λ (o : Option Job). option_map mode_in o) is
 
-pub init-not_check : (args : Args) → Gives args (on_log (codes "check")) → AreInit (Ok args) → ⊥
-init-not_check args given = fails _ (passes is_init args (on_log (codes "check")) (plain Check) given job-check)
+-- and no job is of none
+for-none : (m : JobMode) (job : Option Job) → job ≡ None → AsksFor m job → ⊥
+for-none m job is for = let e : Some m ≡ None = sym for ∙ ap (λ (o : Option Job). option_map mode_in o) is in cc
 
-pub init-not_had : (fault : Error) → AreInit (Err fault) → ⊥
-init-not_had fault is = is
+pub play-is : (args : Args) → Gives args (alone (codes "play")) → AsksFor Play (job_asked (Ok args))
+play-is args given = for-mode Play _ (play-asked args given)
 
--- ---- check
+pub load-is : (args : Args) → Gives args (alone (codes "load")) → AsksFor Load (job_asked (Ok args))
+load-is args given = for-mode Load _ (load-asked args given)
 
-pub check-is : (args : Args) → Gives args (on_log (codes "check")) → AreCheck (Ok args)
-check-is args given = passes is_check args (on_log (codes "check")) (plain Check) given job-check
+pub init-is : (args : Args) → Gives args (on_log (codes "init")) → AsksFor Init (job_asked (Ok args))
+init-is args given = for-mode Init _ (init-asked args given)
 
-pub check-not_run : (args : Args) → Gives args (on_log (codes "run")) → AreCheck (Ok args) → ⊥
-check-not_run args given = fails _ (passes is_check args (on_log (codes "run")) (plain Run) given job-run)
+pub run-is : (args : Args) → Gives args (on_log (codes "run")) → AsksFor Run (job_asked (Ok args))
+run-is args given = for-mode Run _ (run-asked args given)
 
-pub check-not_init : (args : Args) → Gives args (on_log (codes "init")) → AreCheck (Ok args) → ⊥
-check-not_init args given = fails _ (passes is_check args (on_log (codes "init")) (plain Init) given job-init)
+pub check-is : (args : Args) → Gives args (on_log (codes "check")) → AsksFor Check (job_asked (Ok args))
+check-is args given = for-mode Check _ (check-asked args given)
 
-pub check-not_had : (fault : Error) → AreCheck (Err fault) → ⊥
-check-not_had fault is = is
+pub play-not_load : (args : Args) → Gives args (alone (codes "load")) → AsksFor Play (job_asked (Ok args)) → ⊥
+play-not_load args given for = let e : Some Play ≡ Some Load = sym for ∙ load-is args given in cc
 
--- ---- run
+pub play-not_run : (args : Args) → Gives args (on_log (codes "run")) → AsksFor Play (job_asked (Ok args)) → ⊥
+play-not_run args given for = let e : Some Play ≡ Some Run = sym for ∙ run-is args given in cc
 
-pub run-is : (args : Args) → Gives args (on_log (codes "run")) → AreRun (Ok args)
-run-is args given = passes is_run args (on_log (codes "run")) (plain Run) given job-run
+pub init-not_check : (args : Args) → Gives args (on_log (codes "check")) → AsksFor Init (job_asked (Ok args)) → ⊥
+init-not_check args given for = let e : Some Init ≡ Some Check = sym for ∙ check-is args given in cc
 
-pub run-not_play : (args : Args) → Gives args (alone (codes "play")) → AreRun (Ok args) → ⊥
-run-not_play args given = fails _ (passes is_run args (alone (codes "play")) (plain Play) given job-play)
+pub check-not_run : (args : Args) → Gives args (on_log (codes "run")) → AsksFor Check (job_asked (Ok args)) → ⊥
+check-not_run args given for = let e : Some Check ≡ Some Run = sym for ∙ run-is args given in cc
 
-pub run-not_check : (args : Args) → Gives args (on_log (codes "check")) → AreRun (Ok args) → ⊥
-run-not_check args given = fails _ (passes is_run args (on_log (codes "check")) (plain Check) given job-check)
+pub run-not_check : (args : Args) → Gives args (on_log (codes "check")) → AsksFor Run (job_asked (Ok args)) → ⊥
+run-not_check args given for = let e : Some Run ≡ Some Check = sym for ∙ check-is args given in cc
 
-pub run-not_had : (fault : Error) → AreRun (Err fault) → ⊥
-run-not_had fault is = is
+pub no_mode-fly : (m : JobMode) (args : Args) → Gives args (alone (codes "fly")) → AsksFor m (job_asked (Ok args)) → ⊥
+no_mode-fly m args given = for-none m _ (none-asked args given)
 
--- ---- a log is opened: by run and by check
+pub no_mode-not_had : (m : JobMode) (fault : Error) → AsksFor m (job_asked (Err fault)) → ⊥
+no_mode-not_had m fault = for-none m _ refl
 
-pub opened-run : (args : Args) → Gives args (on_log (codes "run")) → AreOpened (Ok args)
-opened-run args given = passes is_opened args (on_log (codes "run")) (plain Run) given job-run
-
-pub opened-check : (args : Args) → Gives args (on_log (codes "check")) → AreOpened (Ok args)
-opened-check args given = passes is_opened args (on_log (codes "check")) (plain Check) given job-check
-
-pub opened-not_init : (args : Args) → Gives args (on_log (codes "init")) → AreOpened (Ok args) → ⊥
-opened-not_init args given = fails _ (passes is_opened args (on_log (codes "init")) (plain Init) given job-init)
-
-pub opened-not_had : (fault : Error) → AreOpened (Err fault) → ⊥
-opened-not_had fault is = is
-
--- ---- the disk is used: by these and by init
-
-pub of_log-init : (args : Args) → Gives args (on_log (codes "init")) → AreOfLog (Ok args)
-of_log-init args given = passes is_of_log args (on_log (codes "init")) (plain Init) given job-init
-
-pub of_log-not_play : (args : Args) → Gives args (alone (codes "play")) → AreOfLog (Ok args) → ⊥
-of_log-not_play args given = fails _ (passes is_of_log args (alone (codes "play")) (plain Play) given job-play)
-
-pub of_log-not_load : (args : Args) → Gives args (alone (codes "load")) → AreOfLog (Ok args) → ⊥
-of_log-not_load args given = fails _ (passes is_of_log args (alone (codes "load")) (plain Load) given job-load)
-
-pub of_log-not_had : (fault : Error) → AreOfLog (Err fault) → ⊥
-of_log-not_had fault is = is
-
--- ---- a mode that there is, or none
-
-pub served-load : (args : Args) → Gives args (alone (codes "load")) → AreServed (Ok args)
-served-load args given = passes is_served args (alone (codes "load")) (plain Load) given job-load
-
-pub served-not_fly : (args : Args) → Gives args (alone (codes "fly")) → AreServed (Ok args) → ⊥
-served-not_fly args given = fails _ (passes is_served args (alone (codes "fly")) None given job-none)
-
-pub served-not_had : (fault : Error) → AreServed (Err fault) → ⊥
-served-not_had fault is = is
+-- ---- words that ask for none
 
 pub other-fly : (args : Args) → Gives args (alone (codes "fly")) → AreOther (Ok args)
-other-fly args given = passes is_served args (alone (codes "fly")) None given job-none
+other-fly args given = none-asked args given
 
 pub other-not_load : (args : Args) → Gives args (alone (codes "load")) → AreOther (Ok args) → ⊥
-other-not_load args given other =
-    true≢false (sym (passes is_served args (alone (codes "load")) (plain Load) given job-load) ∙ other)
+other-not_load args given other = let e : None ≡ plain Load = sym other ∙ load-asked args given in cc
 
 -- a word that is no text is no word of a mode; that memory was refused says nothing of the words
 pub other-no_text : (fault : Error) → error_kind fault ≡ InvalidData → AreOther (Err fault)

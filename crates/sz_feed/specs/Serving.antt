@@ -1,9 +1,8 @@
 -- What a session has said, while it goes on and when it ends. Nothing is claimed of bytes that the
 -- source or the station does not tell.
 use Rattle.std.specs.Prelude.{◌≡◌, ℕ, ◌+◌, ◌≤◌, ◌<◌, List, [], length, take, drop}
-use Rattle.std.specs.Prelude.{Bool, true, false, Option, Some, None, ⊤, ◌==◌}
+use Rattle.std.specs.Prelude.{Option, Some, None, ⊤, ◌==◌}
 use Rattle.std.specs.List.{filter}
-use Rattle.std.specs.Option.{option_map_or}
 use Rattle.sz_outside.specs.Outside.{Says, SaysPart}
 use Rattle.sz_catalogue.specs.declared.reply.Reply.{Reply}
 use Rattle.sz_catalogue.specs.Holdings.{no_holdings}
@@ -15,110 +14,7 @@ use Rattle.sz_commands.specs.Transcript.{replies_to, transcript, whole_replies}
 use Rattle.sz_feed.specs.Moments.{Moment, moment_before, told_in, moment_after, AreAlike}
 use Rattle.sz_gen.specs.Session.{load_text}
 use Rattle.sz_gen.specs.Summary.{summary_line}
-use Rattle.sz_words.specs.Job.{job_of}
 use Rattle.sz_words.specs.declared.Job.{Job}
-use Rattle.sz_words.specs.declared.JobMode.{JobMode}
-use Rattle.sz_words.specs.declared.JobMode.TheVariants.{Play, Init, Run, Check, Load}
-
--- ---- what the words ask for
-
--- The modes that there are.
-abbrev pub is_served : JobMode → Bool
-is_served Play = true
-is_served Init = true
-is_served Run = true
-is_served Check = true
-is_served Load = true
-
-abbrev pub is_play : JobMode → Bool
-is_play Play = true
-is_play Init = false
-is_play Run = false
-is_play Check = false
-is_play Load = false
-
-abbrev pub is_init : JobMode → Bool
-is_init Play = false
-is_init Init = true
-is_init Run = false
-is_init Check = false
-is_init Load = false
-
-abbrev pub is_check : JobMode → Bool
-is_check Play = false
-is_check Init = false
-is_check Run = false
-is_check Check = true
-is_check Load = false
-
-abbrev pub is_run : JobMode → Bool
-is_run Play = false
-is_run Init = false
-is_run Run = true
-is_run Check = false
-is_run Load = false
-
--- the modes that read lines
-abbrev pub is_of_lines : JobMode → Bool
-is_of_lines Play = true
-is_of_lines Init = false
-is_of_lines Run = true
-is_of_lines Check = false
-is_of_lines Load = false
-
--- the modes that open a log
-abbrev pub is_opened : JobMode → Bool
-is_opened Play = false
-is_opened Init = false
-is_opened Run = true
-is_opened Check = true
-is_opened Load = false
-
--- the modes that use the disk
-abbrev pub is_of_log : JobMode → Bool
-is_of_log Play = false
-is_of_log Init = true
-is_of_log Run = true
-is_of_log Check = true
-is_of_log Load = false
-
-abbrev pub is_load : JobMode → Bool
-is_load Play = false
-is_load Init = false
-is_load Run = false
-is_load Check = false
-is_load Load = true
-
--- The words are accepted, and their mode passes a test.
-abbrev pub are_for : (JobMode → Bool) → List (List ℕ) → Bool
-are_for test words = option_map_or (λ (job : Job). test job.mode) (job_of words) false
-
-abbrev pub are_served : List (List ℕ) → Bool
-are_served words = are_for is_served words
-
-abbrev pub are_play : List (List ℕ) → Bool
-are_play words = are_for is_play words
-
-abbrev pub are_init : List (List ℕ) → Bool
-are_init words = are_for is_init words
-
-abbrev pub are_check : List (List ℕ) → Bool
-are_check words = are_for is_check words
-
-abbrev pub are_run : List (List ℕ) → Bool
-are_run words = are_for is_run words
-
-abbrev pub are_of_lines : List (List ℕ) → Bool
-are_of_lines words = are_for is_of_lines words
-
-abbrev pub are_opened : List (List ℕ) → Bool
-are_opened words = are_for is_opened words
-
-abbrev pub are_of_log : List (List ℕ) → Bool
-are_of_log words = are_for is_of_log words
-
-abbrev pub are_load : List (List ℕ) → Bool
-are_load words = are_for is_load words
 
 -- ---- the generated session
 
@@ -132,11 +28,6 @@ abbrev pub load_line : Job → List ℕ
 load_line job =
     let replies = transcript (state_of no_holdings) (load_text job.seed job.side) in
     summary_line job.seed job.side (lines_in replies) replies
-
--- Where the words ask for the generated session, its line is such a one.
-abbrev pub IfLoad : Option Job → (List ℕ → Type 0) → Type 0
-IfLoad None IsSuch = ⊤
-IfLoad (Some job) IsSuch = is_load job.mode ≡ true → IsSuch (load_line job)
 
 -- ---- how a session ends
 
