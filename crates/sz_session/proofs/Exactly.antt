@@ -110,14 +110,16 @@ unopened-broken one o (status.BadLog at) why = broken-there one o at why
 unopened-broken one o status.NoMemory why = broken-each o _ (λ at. inr (inr refl))
 unopened-broken one o status.InputLimit why = absurd why
 
-pub run-broken : WellMadeLogsAreNotBad → LogsAreFirstBadAtOnePlace → {X : Type 0} (T : Ghosts X) (s : Status) (limit : ℕ)
+pub run-broken : WellMadeLogsAreNotBad → LogsAreFirstBadAtOnePlace → {X : Type 0} (T : Ghosts X) (s : Status)
+    (limit : ℕ)
     (left rest : Option (List ℕ)) (x y : X) → EndsOnLog T s limit left rest x y
     → IfBadLog (T.disk x) (λ at. StopsBroken s at)
 run-broken whole place {X} T s limit left rest x y (inl none) = unopened-broken place (T.disk x) s none.why
 run-broken whole place {X} T s limit left rest x y (inr one) =
     broken-made whole (T.disk x) one.at one.c one.kept (λ at. StopsBroken s at) one.made
 
-pub check-broken : WellMadeLogsAreNotBad → LogsAreFirstBadAtOnePlace → {X : Type 0} (T : Ghosts X) (s : Status) (x y : X)
+pub check-broken : WellMadeLogsAreNotBad → LogsAreFirstBadAtOnePlace → {X : Type 0} (T : Ghosts X) (s : Status)
+    (x y : X)
     → ChecksLog T s x y → IfBadLog (T.disk x) (λ at. StopsBroken s at)
 check-broken whole place {X} T status.Done x y ends = broken-line whole (T.disk x) ends.0.0 _ ends.0.1
 check-broken whole place {X} T status.Usage x y ends = absurd ends

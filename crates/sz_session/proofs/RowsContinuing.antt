@@ -13,7 +13,7 @@ use Rattle.sz_recover.proofs.RowsLogs.{empty-made, gate-bad}
 use Rattle.sz_recover.proofs.OneReading.{made-whole}
 use Rattle.sz_feed.specs.Running.{FindsAll, StandsBehind, state_of_log}
 use Rattle.sz_session.specs.Statuses.{EndsLines}
-use Rattle.sz_session.specs.Continuing.{IsUnopened, EndsUnopened, EndsOpened, EndsRun, AreCountedOn}
+use Rattle.sz_session.specs.Continuing.{IsUnopened, EndsUnopened, EndsOpened, EndsOnLog, AreCountedOn}
 use Rattle.sz_session.specs.declared.serving.Status.{Status}
 use Rattle.sz_session.specs.declared.serving.Status.TheVariants as status
 
@@ -83,7 +83,7 @@ module _ {X : Type 0} (T : Ghosts X) (old new : X) where
 
   -- a session is not done on what is no log
   pub run-no_log : (limit : ℕ) (left rest : Option (List ℕ)) → T.disk old ≡ Some []
-      → EndsRun T status.Done limit left rest old new → ⊥
+      → EndsOnLog T status.Done limit left rest old new → ⊥
   run-no_log limit left rest told ends =
       elim ends as (λ _. ⊥)
       [ inl none ↦ none.why | inr some ↦ opened-made status.Done limit left rest told some ]

@@ -1,6 +1,7 @@
 -- In the other modes the status does not come.
 use Rattle.std.proofs.Common.{⊎_elim}
-use Rattle.sz_session.proofs.Statuses.{usage-refused, read-lines, limit-lines, limit-past, disk-log, already-init, log-silent}
+use Rattle.sz_session.proofs.Statuses.{usage-refused, read-lines, limit-lines, limit-past, disk-log, already-init}
+use Rattle.sz_session.proofs.Statuses.{log-silent}
 use Rattle.sz_session.proofs.endings.statuses_have_their_modes.Goals as goal
 
 pub returns-clause-usage : goal.returns-clause-usage
@@ -10,7 +11,8 @@ returns-clause-usage g c =
 pub returns-clause-reads_lines : goal.returns-clause-reads_lines
 returns-clause-reads_lines g c =
     λ job s before after old new serves.
-    ⊎_elim (read-lines g.S.Source g.T.Station job s before after old new serves) (limit-lines g.S.Source g.T.Station job s before after old new serves)
+    ⊎_elim (read-lines g.S.Source g.T.Station job s before after old new serves)
+    (limit-lines g.S.Source g.T.Station job s before after old new serves)
 
 pub returns-clause-input_limit : goal.returns-clause-input_limit
 returns-clause-input_limit g c =
