@@ -60,9 +60,10 @@ between-whole kept s n some more said image found is = is.whole
 pub between-cut : (kept : List Kept) (s : State) (n : ℕ) (some more : List (List ℕ)) (said : Option (List ℕ))
     (found : List ℕ) → FoundBetween kept s n some more said [] found → ⊥
 between-cut kept s n some more said found is =
-    elim is.holds as (λ _. ⊥)
-    [ inl (none, left) ↦ left-cut s.held (after_lines s some).held kept left
-    | inr left ↦ left-cut s.held (after_lines s more).held kept left ]
+    elim is.holds as (λ _. ⊥) [
+      | inl (none, left) ↦ left-cut s.held (after_lines s some).held kept left
+      | inr left ↦ left-cut s.held (after_lines s more).held kept left
+    ]
 
 -- ---- at some line
 
