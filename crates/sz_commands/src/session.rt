@@ -643,7 +643,7 @@ impl Session {
         requires range { is_out_of_range self.now.held version dir path.now named.now ≡ false }
         ensures search { IfOk result
             (λ s. IsSearchOf (version_of self.now.held version) dir path.now named.now s) }
-        ensures same { run.new ≡ run.old }
+        ensures own { IsTrailOf (version_of self.now.held version) run.new }
     {
         let Some(held) = self.catalogue.version(version) else {
             unreachable!()

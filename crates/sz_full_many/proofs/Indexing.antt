@@ -4,8 +4,8 @@
 -- stay so; and the room of a store is the least room of its parts.
 use Rattle.std.proofs.Common.{◌≡◌, ℕ, zero, suc, ◌+◌, ◌-◌, ◌<◌, ◌≤◌, min, List, [], ◌∷◌, ◌++◌, length, map, get_or}
 use Rattle.std.proofs.Common.{All, refl, sym, ap, subst, ◌∙◌, arith}
-use Rattle.std.specs.List.{AllZip}
-use Rattle.std.proofs.lemmas.List.{length-map, get_or-map}
+use Rattle.std.specs.List.{AllZip, concat}
+use Rattle.std.proofs.lemmas.List.{length-map, get_or-map, same_lists}
 use Rattle.std.proofs.lemmas.List.Elements.{All-head, All-tail}
 use Rattle.std.proofs.lemmas.Slice.Zip.{all_zipped_more}
 use Rattle.sz_cells.specs.declared.Bounds.{Bounds}
@@ -22,6 +22,7 @@ use Rattle.sz_tables.specs.Stores.{IsPairOf}
 use Rattle.sz_tables.specs.Scans.{near_set}
 use Rattle.sz_tables.specs.Sets.{IsRound}
 use Rattle.sz_full_many.specs.Indexed.{AreRound, HasNext, IsIndexed, room_in, trees_for, tree_for}
+use Rattle.sz_full_many.specs.Indexed.{tree_capacities}
 
 -- ---- inputs
 
@@ -119,6 +120,21 @@ indexed-more s dir t more r trees new ix out ins given long next = record {
       (all_zipped_more (λ x b. IsRound b (near_set dir i x)) (pairings t) (get_or trees i d).rectangles r one.bounds
       (ix.round i d within) one.round);
 }
+
+-- where each tree has taken no memory
+pub trees-hold : (dir : Dir) (r : Pairing) (trees new : List Rectangles) → length new ≡ length trees
+    → ((k : ℕ) (d : Rectangles) → k < length trees → HasNext dir k r (get_or trees k d) (get_or new k d))
+    → tree_capacities new ≡ tree_capacities trees
+trees-hold dir r trees new long next =
+    let own : Rectangles → List ℕ = λ t. t.capacities in
+    let none : Rectangles = record { rectangles = []; spare = 0; capacities = [] } in
+    ap concat (same_lists (map own new) (map own trees)
+    (length-map new own ∙ long ∙ sym (length-map trees own))
+    (λ k d below.
+    let inside : k < length trees = omega (arith, length-map new own) in
+    get_or-map own new k none d (omega arith)
+    ∙ (next k none inside).capacities
+    ∙ sym (get_or-map own trees k none d inside)))
 
 -- where there is no region pair, there is none to be round
 pub indexed-none : (s : Site) (dir : Dir) (t : RowTable) (trees : List Rectangles) → t.out ≡ s.out → t.ins ≡ s.ins

@@ -2,8 +2,8 @@
 -- set of region pair r from which a look starts. Backward that is the output set, in one tree;
 -- forward there is a tree for each input.
 use Rattle.std.specs.Prelude.{◌≡◌, ℕ, ◌<◌, ◌≤◌, ◌+◌, List, [], ◌∷◌, ◌++◌, length}
-use Rattle.std.specs.Prelude.{slice_index_or, min}
-use Rattle.std.specs.List.{AllZip}
+use Rattle.std.specs.Prelude.{slice_index_or, min, map}
+use Rattle.std.specs.List.{AllZip, concat}
 use Rattle.sz_cells.specs.declared.Bounds.{Bounds}
 use Rattle.sz_spec.specs.declared.modes.Dir.{Dir}
 use Rattle.sz_spec.specs.declared.modes.Dir.TheVariants.{Back, Forward}
@@ -27,12 +27,18 @@ abbrev pub tree_for : Dir → ℕ → ℕ
 tree_for Back i = 0
 tree_for Forward i = i
 
--- a tree has one rectangle more, which is round the near set of this region pair
+-- a tree has one rectangle more, which is round the near set of this region pair, and has taken no
+-- memory
 pub record HasNext (dir : Dir) (i : ℕ) (r : Pairing) (old new : Rectangles) : Type 0 where
   pub bounds : Bounds
   pub round : IsRound bounds (near_set dir i r)
   pub rectangles : new.rectangles ≡ old.rectangles ++ bounds ∷ []
   pub spare : old.spare ≤ new.spare + 1
+  pub capacities : new.capacities ≡ old.capacities
+
+-- the capacities of the lists that trees keep, one tree after the other
+abbrev pub tree_capacities : List Rectangles → List ℕ
+tree_capacities trees = concat (map (λ t. t.capacities) trees)
 
 -- for how many more region pairs there is room in a table and in each of some trees
 abbrev pub room_in : ℕ → List Rectangles → ℕ

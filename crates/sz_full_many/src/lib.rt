@@ -63,12 +63,13 @@ pub struct FullMany {
 }
 
 impl Model for FullMany {
-    ghost use Rattle.std.specs.Prelude.{◌*◌};
+    ghost use Rattle.std.specs.Prelude.{◌*◌, ◌∷◌, ◌++◌};
+    ghost use Rattle.std.specs.Vec.{vec_capacity};
     ghost use Rattle.std.specs.Arc.{arc_value};
     ghost use Rattle.sz_region.specs.Parts.{Pairing};
     ghost use Rattle.sz_tables.specs.Rows.{pairings};
     ghost use Rattle.sz_tables.specs.Stores.{Store};
-    ghost use Rattle.sz_full_many.specs.Indexed.{room_in, IsIndexed};
+    ghost use Rattle.sz_full_many.specs.Indexed.{room_in, IsIndexed, tree_capacities};
 
     ghost Value = { Store Pairing };
 
@@ -81,6 +82,7 @@ impl Model for FullMany {
         cells = s.table.spare_runs * 1048576;
         bytes = 0;
       };
+      capacities = s.table.capacities ++ vec_capacity s.trees ∷ tree_capacities s.trees.items;
     } };
 
     ghost invariant = { λ s. IsIndexed (arc_value s.at) s.dir s.table s.trees.items };
@@ -89,8 +91,12 @@ impl Model for FullMany {
 impl FullMany {
     /// A store that stands for nothing, indexed for looks in this direction.
     pub fn new(alloc: Global, at: Arc<OpAt>, dir: Dir) -> Result<FullMany, NoMemory>
-        ensures { IfOk result (λ s.
-            s ≡ record { site = arc_value at; given = []; room = no_room }) }
+        ensures { IfOk result (λ s. s ≡ record {
+          site = arc_value at;
+          given = [];
+          room = no_room;
+          capacities = s.capacities;
+        }) }
     {
         let table = RegionTable::new(alloc, at.out(), at.ins())?;
         let trees = empty_trees(alloc, dir, at.ins().len())?;
@@ -110,7 +116,10 @@ impl FullMany {
         requires few { length self.old.given + length lineage.now.regions ≤ most_given }
         requires pairs { All (IsPairOf self.old.site) lineage.now.regions }
         ensures ok { OnOk result (IsWithin (room_for_pairs lineage.now.regions) self.new.room) }
-        ensures kept { self.new ≡ record self.old { room = self.new.room } }
+        ensures kept { self.new ≡ record self.old {
+          room = self.new.room;
+          capacities = self.new.capacities;
+        } }
     {
         self.reserve_all(lineage.regions())
     }
@@ -121,7 +130,10 @@ impl FullMany {
         requires pairs { All (IsPairOf self.old.site) (map (λ a. arc_value a) regions.now) }
         ensures ok { OnOk result
             (IsWithin (room_for_pairs (map (λ a. arc_value a) regions.now)) self.new.room) }
-        ensures kept { self.new ≡ record self.old { room = self.new.room } }
+        ensures kept { self.new ≡ record self.old {
+          room = self.new.room;
+          capacities = self.new.capacities;
+        } }
     {
         self.at.ins(); // there are at most two inputs
         let more = regions.len() as u32;
@@ -130,13 +142,15 @@ impl FullMany {
         self.table.reserve(more, runs)
     }
 
-    /// Adds the region pairs of a lineage. Takes no memory.
+    /// Adds the region pairs of a lineage. Takes no memory: the capacity of each list that the
+    /// store keeps stays.
     pub fn add_piece(&mut self, lineage: &PieceLineage)
         requires few { length self.old.given + length lineage.now.regions ≤ most_given }
         requires pairs { All (IsPairOf self.old.site) lineage.now.regions }
         requires room { IsWithin (room_for_pairs lineage.now.regions) self.old.room }
         ensures given { self.new.given ≡ self.old.given ++ lineage.now.regions }
         ensures site { self.new.site ≡ self.old.site }
+        ensures capacities { self.new.capacities ≡ self.old.capacities }
     {
         self.add_all(lineage.regions());
     }
@@ -149,6 +163,7 @@ impl FullMany {
         ensures given { self.new.given
             ≡ self.old.given ++ map (λ a. arc_value a) regions.now }
         ensures site { self.new.site ≡ self.old.site }
+        ensures capacities { self.new.capacities ≡ self.old.capacities }
     {
         for region in regions {
             self.add(region);
@@ -164,6 +179,7 @@ impl FullMany {
         ensures site { self.new.site ≡ self.old.site }
         ensures items { self.old.room.items ≤ self.new.room.items + 1 }
         ensures runs { self.old.room.runs ≤ self.new.room.runs + weight_of region.now }
+        ensures capacities { self.new.capacities ≡ self.old.capacities }
     {
         add_bounds(&mut self.trees, self.dir, region);
         self.table.add(region);

@@ -7,12 +7,13 @@ use Rattle.sz_tables.specs.Rows.{RowTable}
 use Rattle.sz_full_one.specs.ByCells.{IsIndexOf, HasRoom, HasFileRoom, IsKeptFor}
 
 -- a table with other room
-abbrev with_room : RowTable → ℕ → ℕ → RowTable
-with_room t rows runs = record t { spare_rows = rows; spare_runs = runs }
+abbrev with_room : RowTable → ℕ → ℕ → List ℕ → RowTable
+with_room t rows runs capacities = record t { spare_rows = rows; spare_runs = runs; capacities = capacities }
 
-index-room : (t : RowTable) (rows runs : ℕ) (x : Index) → IsIndexOf t x → IsIndexOf (with_room t rows runs) x
-index-room t rows runs (Outs f) is = record { keys = is.keys; entries = is.entries; shapes = is.shapes }
-index-room t rows runs (Ins inputs) is = record {
+index-room : (t : RowTable) (rows runs : ℕ) (capacities : List ℕ) (x : Index) → IsIndexOf t x
+    → IsIndexOf (with_room t rows runs capacities) x
+index-room t rows runs capacities (Outs f) is = record { keys = is.keys; entries = is.entries; shapes = is.shapes }
+index-room t rows runs capacities (Ins inputs) is = record {
   arity = is.arity;
   each = λ i d inside.
       let f = is.each i d inside in
@@ -33,19 +34,20 @@ no-room (Ins inputs) = λ i d inside. record { cells = omega arith; numbers = om
 
 -- the table and another index of it, with room
 pub kept-with : (s : Site) (t new : RowTable) (x y : Index) (count least rows runs many few : ℕ)
-    → IsKeptFor s t x count least → new ≡ with_room t rows runs → (IsIndexOf new x → IsIndexOf new y)
+    → IsKeptFor s t x count least → new ≡ with_room t rows runs new.capacities → (IsIndexOf new x → IsIndexOf new y)
     → many ≤ new.spare_rows → HasRoom few many y → IsKeptFor s new y many few
 kept-with s t new x y count least rows runs many few kept is onward some room = record {
   out = ap (λ (u : RowTable). u.out) is ∙ kept.out;
   ins = ap (λ (u : RowTable). u.ins) is ∙ kept.ins;
-  index = onward (subst (λ (u : RowTable). IsIndexOf u x) (sym is) (index-room t rows runs x kept.index));
+  index = onward (subst (λ (u : RowTable). IsIndexOf u x) (sym is)
+      (index-room t rows runs new.capacities x kept.index));
   rows = some;
   room = room;
 }
 
 -- and without room
 pub kept-without : (s : Site) (t new : RowTable) (x y : Index) (count least rows runs : ℕ)
-    → IsKeptFor s t x count least → new ≡ with_room t rows runs → (IsIndexOf new x → IsIndexOf new y)
+    → IsKeptFor s t x count least → new ≡ with_room t rows runs new.capacities → (IsIndexOf new x → IsIndexOf new y)
     → IsKeptFor s new y 0 0
 kept-without s t new x y count least rows runs kept is onward =
     kept-with s t new x y count least rows runs 0 0 kept is onward (omega arith) (no-room y)

@@ -2,7 +2,8 @@
 -- sets.
 use Rattle.std.specs.Prelude.{◌≡◌, ℕ, ◌+◌, ◌-◌, ◌≤◌, ◌==◌, Bool, ◌&&◌, List, [], ◌∷◌, ◌++◌, map}
 use Rattle.std.specs.Prelude.{◌<◌, length, sum_by, All, Option, MatchOption, slice_index_or}
-use Rattle.std.specs.List.{list_any}
+use Rattle.std.specs.Vec.{vec_capacity}
+use Rattle.std.specs.List.{list_any, concat}
 use Rattle.sz_cells.specs.declared.Cell.{Cell}
 use Rattle.sz_cells.specs.Extent.{size_of}
 use Rattle.sz_cells.specs.Cells.{Cells, has, with_those}
@@ -94,6 +95,14 @@ pub record HasSameEntries (old new : Files) : Type 0 where
 pub record HasSameFiles (old new : SetFiles) : Type 0 where
   pub cells : HasSameEntries old.cells new.cells
   pub rows : HasSameEntries old.rows new.rows
+
+-- the capacities of the lists of the files of an input, and of an index
+abbrev pub file_capacities : SetFiles → List ℕ
+file_capacities f = f.cells.capacities ++ f.rows.capacities
+
+abbrev pub index_capacities : Index → List ℕ
+index_capacities (Outs rows) = rows.capacities
+index_capacities (Ins inputs) = vec_capacity inputs ∷ concat (map file_capacities inputs.items)
 
 -- how many cells the sets of a region pair have together
 abbrev pub pair_cells : Pairing → ℕ

@@ -5,6 +5,7 @@ ghost use Rattle.std.specs.Prelude.{All};
 ghost use Rattle.std.specs.Arc.{arc_value};
 ghost use Rattle.sz_tables.specs.Rows.{pairings, weight_of};
 ghost use Rattle.sz_full_one.specs.ByCells.{IsIndexOf, IsPairIn, HasRoom, pair_cells};
+ghost use Rattle.sz_full_one.specs.ByCells.{index_capacities};
 
 use crate::index::Index;
 use std::sync::Arc;
@@ -26,6 +27,8 @@ pub fn add_regions(table: &mut RegionTable, index: &mut Index, regions: &[Arc<Re
     ensures index { IsIndexOf table.new index.new }
     ensures out { table.new.out ≡ table.old.out }
     ensures ins { table.new.ins ≡ table.old.ins }
+    ensures capacities { table.new.capacities ≡ table.old.capacities }
+    ensures index_capacities { index_capacities index.new ≡ index_capacities index.old }
 {
     for region in regions {
         add_region(table, index, region);
@@ -48,6 +51,8 @@ fn add_region(table: &mut RegionTable, index: &mut Index, region: &Region)
     ensures runs { table.old.spare_runs ≤ table.new.spare_runs + weight_of region.now }
     ensures room { (cells count : ℕ) → HasRoom (pair_cells region.now + cells) (count + 1) index.old
         → HasRoom cells count index.new }
+    ensures capacities { table.new.capacities ≡ table.old.capacities }
+    ensures index_capacities { index_capacities index.new ≡ index_capacities index.old }
 {
     table.add(region);
     table.len(); // each row names sets of the table

@@ -1,13 +1,14 @@
 //! Where region pairs are found: by the cells of the sets from which looks start.
 
 ghost use Rattle.std.specs.Prelude.{◌≡◌, ℕ, ◌<◌, ◌≤◌, ◌+◌, length, All, OnOk, IfOk};
-ghost use Rattle.std.specs.Prelude.{slice_index_or};
+ghost use Rattle.std.specs.Prelude.{slice_index_or, map};
 ghost use Rattle.sz_cells.specs.Extent.{Extent};
 ghost use Rattle.sz_tables.specs.Rows.{RowTable, empty_rows};
 ghost use Rattle.sz_full_one.specs.ByCells.{IsIndexOf, AreFilesOf, AreFiledByIns, AreSetsFiled};
 ghost use Rattle.sz_full_one.specs.ByCells.{IsGrownBy};
 ghost use Rattle.sz_full_one.specs.ByCells.{HasRoom, HasFileRoom, HasSameEntries, HasSameFiles};
-ghost use Rattle.sz_full_one.specs.ByCells.{pair_cells, side_of};
+ghost use Rattle.sz_full_one.specs.ByCells.{pair_cells, side_of, file_capacities};
+ghost use Rattle.sz_full_one.specs.ByCells.{index_capacities};
 
 use crate::filing::file_set;
 use std::alloc::Global;
@@ -75,6 +76,7 @@ impl Index {
             → HasRoom (pair_cells region.now + cells) (count + 1) self.old
             → HasRoom cells count self.new }
         ensures side { side_of self.new ≡ side_of self.old }
+        ensures capacities { index_capacities self.new ≡ index_capacities self.old }
     {
         let row = table.len() - 1;
         match self {
@@ -141,6 +143,7 @@ fn file_inputs(table: &RegionTable, inputs: &mut [SetFiles], region: &Region, ro
     ensures room { (cells count : ℕ)
         → All (HasFileRoom (pair_cells region.now + cells) (count + 1)) inputs.old
         → All (HasFileRoom cells count) inputs.new }
+    ensures capacities { map file_capacities inputs.new ≡ map file_capacities inputs.old }
 {
     for input in 0..inputs.len() {
         file_input(table, &mut inputs[input], region, input as u32, row);
@@ -159,6 +162,7 @@ fn file_input(table: &RegionTable, files: &mut SetFiles, region: &Region, input:
     ensures room { (cells count : ℕ)
         → HasFileRoom (pair_cells region.now + cells) (count + 1) files.old
         → HasFileRoom cells count files.new }
+    ensures capacities { file_capacities files.new ≡ file_capacities files.old }
 {
     table.len(); // each row names a set of the input
     file_new_set(table, files, region, input);
@@ -176,6 +180,8 @@ fn file_new_set(table: &RegionTable, files: &mut SetFiles, region: &Region, inpu
     ensures spare { files.new.rows.spare ≡ files.old.rows.spare }
     ensures numbers { files.old.rows.spare_keys ≤ files.new.rows.spare_keys + 1 }
     ensures cells { files.old.cells.spare ≤ files.new.cells.spare + pair_cells region.now }
+    ensures cell_capacities { files.new.cells.capacities ≡ files.old.cells.capacities }
+    ensures row_capacities { files.new.rows.capacities ≡ files.old.rows.capacities }
 {
     let known = files.rows.keys();
     if known < table.sets_of(input) {

@@ -64,11 +64,12 @@ pub struct FullOne {
 }
 
 impl Model for FullOne {
+    ghost use Rattle.std.specs.Prelude.{◌++◌};
     ghost use Rattle.std.specs.Arc.{arc_value};
     ghost use Rattle.sz_region.specs.Parts.{Pairing};
     ghost use Rattle.sz_tables.specs.Rows.{pairings};
     ghost use Rattle.sz_tables.specs.Stores.{Store};
-    ghost use Rattle.sz_full_one.specs.ByCells.{IsKeptFor};
+    ghost use Rattle.sz_full_one.specs.ByCells.{IsKeptFor, index_capacities};
 
     ghost Value = { Store Pairing };
 
@@ -81,6 +82,7 @@ impl Model for FullOne {
         cells = s.spare_cells;
         bytes = 0;
       };
+      capacities = s.table.capacities ++ index_capacities s.index;
     } };
 
     ghost invariant = { λ s.
@@ -90,8 +92,12 @@ impl Model for FullOne {
 impl FullOne {
     /// A store that stands for nothing, indexed for looks in this direction.
     pub fn new(alloc: Global, at: Arc<OpAt>, dir: Dir) -> Result<FullOne, NoMemory>
-        ensures { IfOk result (λ s.
-            s ≡ record { site = arc_value at; given = []; room = no_room }) }
+        ensures { IfOk result (λ s. s ≡ record {
+          site = arc_value at;
+          given = [];
+          room = no_room;
+          capacities = s.capacities;
+        }) }
     {
         let table = RegionTable::new(alloc, at.out(), at.ins())?;
         let index = Index::new(alloc, &at, dir)?;
@@ -112,7 +118,10 @@ impl FullOne {
         requires few { length self.old.given + length lineage.now.regions ≤ most_given }
         requires pairs { All (IsPairOf self.old.site) lineage.now.regions }
         ensures ok { OnOk result (IsWithin (room_for_pairs lineage.now.regions) self.new.room) }
-        ensures kept { self.new ≡ record self.old { room = self.new.room } }
+        ensures kept { self.new ≡ record self.old {
+          room = self.new.room;
+          capacities = self.new.capacities;
+        } }
     {
         self.reserve_all(lineage.regions())
     }
@@ -122,7 +131,10 @@ impl FullOne {
         requires few { length self.old.given + length regions.now ≤ most_given }
         ensures ok { OnOk result
             (IsWithin (room_for_pairs (map (λ a. arc_value a) regions.now)) self.new.room) }
-        ensures kept { self.new ≡ record self.old { room = self.new.room } }
+        ensures kept { self.new ≡ record self.old {
+          room = self.new.room;
+          capacities = self.new.capacities;
+        } }
     {
         let count = regions.len() as u32;
         let needs = needs_of(regions)?;
@@ -136,14 +148,15 @@ impl FullOne {
         Ok(())
     }
 
-    /// Adds the region pairs of a lineage. Takes no memory: it uses up the room for pairs and
-    /// cells.
+    /// Adds the region pairs of a lineage. It uses up the room for pairs and cells, and takes no
+    /// memory: the capacity of each list that the store keeps stays.
     pub fn add_piece(&mut self, lineage: &PieceLineage)
         requires few { length self.old.given + length lineage.now.regions ≤ most_given }
         requires pairs { All (IsPairOf self.old.site) lineage.now.regions }
         requires room { IsWithin (room_for_pairs lineage.now.regions) self.old.room }
         ensures given { self.new.given ≡ self.old.given ++ lineage.now.regions }
         ensures site { self.new.site ≡ self.old.site }
+        ensures capacities { self.new.capacities ≡ self.old.capacities }
     {
         self.add_all(lineage.regions());
     }
@@ -156,6 +169,7 @@ impl FullOne {
         ensures given { self.new.given
             ≡ self.old.given ++ map (λ a. arc_value a) regions.now }
         ensures site { self.new.site ≡ self.old.site }
+        ensures capacities { self.new.capacities ≡ self.old.capacities }
     {
         self.at.ins(); // an operator has at most two inputs
         add_regions(&mut self.table, &mut self.index, regions);

@@ -1,6 +1,7 @@
 -- Which entry an output cell is in: an index of entries, by single cells or by rectangles.
-use Rattle.std.specs.Prelude.{◌≡◌, ℕ, ◌-◌, ◌*◌, ◌%◌, ◌<◌, ◌≤◌, List, ◌++◌, length, map, true, false}
-use Rattle.std.specs.Prelude.{min, slice_index, Option, MatchOption, All}
+use Rattle.std.specs.Prelude.{◌≡◌, ℕ, ◌-◌, ◌*◌, ◌%◌, ◌<◌, ◌≤◌, List, [], ◌∷◌, ◌++◌, length, map}
+use Rattle.std.specs.Prelude.{true, false, min, slice_index, Option, MatchOption, All}
+use Rattle.std.specs.Vec.{vec_capacity}
 use Rattle.std.specs.List.{AllZip, HoldsAt}
 use Rattle.sz_cells.specs.declared.Bounds.{Bounds}
 use Rattle.sz_cells.specs.declared.Cell.{Cell}
@@ -71,6 +72,12 @@ abbrev pub cell_room : ℕ → Owner → ℕ
 cell_room runs (One slots) = runs * 1048576
 cell_room runs (Few files) = files.spare
 cell_room runs (Many tree) = runs * 1048576
+
+-- the capacities of the lists of the index
+abbrev pub owner_capacities : Owner → List ℕ
+owner_capacities (One slots) = vec_capacity slots ∷ []
+owner_capacities (Few files) = files.capacities
+owner_capacities (Many tree) = tree.capacities
 
 -- there is room in the index for so many cells
 abbrev pub HasCellRoom : ℕ → Owner → Type 0

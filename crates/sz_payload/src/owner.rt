@@ -13,6 +13,7 @@ ghost use Rattle.sz_tables.specs.Filed.{told};
 ghost use Rattle.sz_tables.specs.Stores.{cells_in, most_given};
 ghost use Rattle.sz_payload.specs.Owned.{IsIndexOf, IsOwnerOf, AreFilesOf, AreRound, AreSlotsOf};
 ghost use Rattle.sz_payload.specs.Owned.{HasCellRoom, cell_room, room_in, with_cells};
+ghost use Rattle.sz_payload.specs.Owned.{owner_capacities};
 
 use std::alloc::Global;
 use sz_cells::{Bounds, CellSet, NoMemory, Run, Shape};
@@ -85,7 +86,8 @@ impl Owner {
         }
     }
 
-    /// Files the set of the entry of a number, which follows those that are there. Takes no memory.
+    /// Files the set of the entry of a number, which follows those that are there. Takes no memory:
+    /// each capacity stays.
     pub(crate) fn add(&mut self, shape: Shape, set: &CellSet, row: u32)
         requires index { (es : List Entry) × IsIndexOf shape es self.old }
         requires set { set.now.extent ≡ shape }
@@ -98,6 +100,7 @@ impl Owner {
             → room_in rows self.old ≤ room_in left self.new + 1 }
         ensures cells { (n : ℕ) → HasCellRoom (cells_in set.now + n) self.old
             → HasCellRoom n self.new }
+        ensures capacities { owner_capacities self.new ≡ owner_capacities self.old }
     {
         shape.size(); // there are as many slots, no more than a shape has cells
         match self {

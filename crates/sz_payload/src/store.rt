@@ -39,11 +39,11 @@ pub struct PayStore<M: Mapper> {
 }
 
 impl<M: Mapper> Model for PayStore<M> {
-    ghost use Rattle.std.specs.Prelude.{◌≡◌};
+    ghost use Rattle.std.specs.Prelude.{◌≡◌, ◌++◌};
     ghost use Rattle.std.specs.Arc.{arc_value};
     ghost use Rattle.sz_tables.specs.Entries.{entries};
     ghost use Rattle.sz_payload.specs.Kept.{Keeping};
-    ghost use Rattle.sz_payload.specs.Owned.{cell_room, room_in, IsHeld};
+    ghost use Rattle.sz_payload.specs.Owned.{cell_room, room_in, owner_capacities, IsHeld};
 
     ghost Value = { Keeping };
 
@@ -58,6 +58,7 @@ impl<M: Mapper> Model for PayStore<M> {
           cells = cell_room s.table.spare_runs s.owner;
           bytes = s.table.spare_bytes;
         };
+        capacities = s.table.capacities ++ owner_capacities s.owner;
       };
     } };
 
@@ -80,7 +81,12 @@ impl<M: Mapper + Drop> PayStore<M> {
         requires payloads { has_mapping (arc_value at).op ≡ false }
         ensures { IfOk result (λ s. s ≡ record {
           comp = comp;
-          store = record { site = arc_value at; given = []; room = no_room };
+          store = record {
+            site = arc_value at;
+            given = [];
+            room = no_room;
+            capacities = s.store.capacities;
+          };
         }) }
     {
         let table = EntryTable::new(alloc, at.out())?;
@@ -107,7 +113,10 @@ impl<M: Mapper + Drop> PayStore<M> {
         ensures ok { OnOk result (IsWithin (room_for_entries (part_of self.old.comp lineage.now))
             self.new.store.room) }
         ensures kept { self.new ≡ record self.old {
-          store = record self.old.store { room = self.new.store.room };
+          store = record self.old.store {
+            room = self.new.store.room;
+            capacities = self.new.store.capacities;
+          };
         } }
     {
         if self.comp {
@@ -125,7 +134,10 @@ impl<M: Mapper + Drop> PayStore<M> {
         ensures ok { OnOk result
             (IsWithin (room_for_entries (map (λ a. arc_value a) entries.now)) self.new.store.room) }
         ensures kept { self.new ≡ record self.old {
-          store = record self.old.store { room = self.new.store.room };
+          store = record self.old.store {
+            room = self.new.store.room;
+            capacities = self.new.store.capacities;
+          };
         } }
     {
         let more = entries.len() as u32;
@@ -140,7 +152,7 @@ impl<M: Mapper + Drop> PayStore<M> {
     }
 
     /// Adds the entries of a lineage: of its payload part, or where the store is of composite
-    /// lineage of that part. Takes no memory.
+    /// lineage of that part. Takes no memory: the capacity of each list that the store keeps stays.
     pub fn add_piece(&mut self, lineage: &PieceLineage)
         requires few { length self.old.store.given + length (part_of self.old.comp lineage.now)
             ≤ most_given }
@@ -152,6 +164,7 @@ impl<M: Mapper + Drop> PayStore<M> {
             ≡ self.old.store.given ++ part_of self.old.comp lineage.now }
         ensures site { self.new.store.site ≡ self.old.store.site }
         ensures comp { self.new.comp ≡ self.old.comp }
+        ensures capacities { self.new.store.capacities ≡ self.old.store.capacities }
     {
         if self.comp {
             self.add_all(lineage.comps());
@@ -173,6 +186,7 @@ impl<M: Mapper + Drop> PayStore<M> {
             ≡ self.old.store.given ++ map (λ a. arc_value a) entries.now }
         ensures site { self.new.store.site ≡ self.old.store.site }
         ensures comp { self.new.comp ≡ self.old.comp }
+        ensures capacities { self.new.store.capacities ≡ self.old.store.capacities }
     {
         runs_of_all(entries); // a run has no more cells than a shape
         for entry in entries {
@@ -200,6 +214,7 @@ impl<M: Mapper + Drop> PayStore<M> {
             → n ≤ self.new.store.room.cells }
         ensures bytes { self.old.store.room.bytes
             ≤ self.new.store.room.bytes + length entry.now.payload }
+        ensures capacities { self.new.store.capacities ≡ self.old.store.capacities }
     {
         let row = self.table.len();
         let shape = self.at.out();

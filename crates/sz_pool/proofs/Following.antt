@@ -37,6 +37,7 @@ grows-same p = record {
   kept = refl;
   turns = omega arith;
   loads = omega arith;
+  splits = refl;
 }
 
 pub grows-then : (p q r : Onlooker) → Grows p q → Grows q r → Grows p r
@@ -47,6 +48,7 @@ grows-then p q r g h = record {
   kept = h.kept ∙ g.kept;
   turns = let a = g.turns in let b = h.turns in omega arith;
   loads = let a = g.loads in let b = h.loads in omega arith;
+  splits = h.splits ∙ g.splits;
 }
 
 -- what was seen stays so

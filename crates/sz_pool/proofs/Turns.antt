@@ -27,6 +27,7 @@ grows-turn p q turn kept = record {
   kept = kept;
   turns = let e = turn.turns in omega arith;
   loads = let e = turn.loads in omega arith;
+  splits = turn.splits;
 }
 
 -- ---- a place

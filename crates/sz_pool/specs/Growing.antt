@@ -5,7 +5,8 @@ use Rattle.sz_shelf.specs.Rule.{Begins}
 use Rattle.sz_shelf.specs.Passes.{Onlooker, place_of}
 
 -- A pass stays at its shelf and keeps what it keeps. What it has seen begins with what it had seen,
--- and it saw the seal if it had seen it. Its numbers of turns and of loads do not fall.
+-- and it saw the seal if it had seen it. Its numbers of turns and of loads do not fall, and no pass
+-- was split off it.
 pub record Grows (p q : Onlooker) : Type 0 where
   pub place : place_of q ≡ place_of p
   pub seen : Begins p.seen q.seen
@@ -13,6 +14,7 @@ pub record Grows (p q : Onlooker) : Type 0 where
   pub kept : q.kept ≡ p.kept
   pub turns : p.turns ≤ q.turns
   pub loads : p.loads ≤ q.loads
+  pub splits : q.splits ≡ p.splits
 
 -- A claim pass stays at its claims and made no look and no split. What it claimed and what it met
 -- begin with what it had claimed and met, and it made so many tries more.

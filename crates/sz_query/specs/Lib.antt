@@ -1,3 +1,4 @@
+pub mod Growths
 pub mod Views
 pub mod Turns
 pub mod Answers

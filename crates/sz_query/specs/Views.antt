@@ -37,8 +37,7 @@ abbrev pub view_of : NodeView → View
 view_of (Mapped at) = by_map (arc_value at)
 view_of (Stored at shelf pass s) = by_shelf (arc_value at) (arc_value shelf) pass s
 view_of (Kept at store s) = by_store (arc_value at) (arc_value store) s
-view_of (Building run shelf pass s) =
-    by_growth (arc_value run.at) run.inputs (arc_value shelf) pass s
+view_of (Building node pass s) = by_growth node.site node.inputs node.place pass s
 view_of (Traced run) = by_trace (arc_value run.at) run.inputs
 
 -- the operator, at its shapes

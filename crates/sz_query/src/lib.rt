@@ -11,10 +11,11 @@
 //! shelf, which other threads use too. `Stored` is a view of a shelf of which its pass saw the
 //! seal, and is always told by the strategy. `Building` is one of a shelf that may still be filled,
 //! beside the operator and its inputs: its step looks there once, and is told by the strategy where
-//! the look found the seal, and as traced exactly where it found none. Such a view, and no other,
-//! may tell its step in another way when it is asked again. Each of both takes one turn at its
-//! shelf for a step. With `Mapped`, `Stored` and `Kept` views alone an answer takes no memory
-//! between its first step and its last.
+//! the look found the seal, and as traced exactly where it found none. Its arrays are lent to no
+//! pass but one whose look found none, so a step that found the seal is not worked out again. Such
+//! a view, and no other, may tell its step in another way when it is asked again. Each of both
+//! takes one turn at its shelf for a step. With `Mapped`, `Stored` and `Kept` views alone an answer
+//! takes no memory between its first step and its last.
 //!
 //! An answer goes from bitmap to bitmap, each of a whole shape. [`answer_with`] takes them from a
 //! [`Spare`] and puts them back without their cells, so an answer that finds those that it needs
@@ -37,6 +38,7 @@
 //! the answer is the composed relation along the path, and what stays of a view that is asked.
 #![tactic(auto)]
 
+mod growing;
 pub mod laws;
 mod path;
 mod spare;
@@ -44,6 +46,7 @@ mod steps;
 mod used;
 mod views;
 
+pub use growing::Growing;
 pub use path::{Found, answer, answer_with};
 pub use spare::Spare;
 pub use used::{Used, UsedList};

@@ -15,6 +15,7 @@ ghost use Rattle.sz_query.specs.Views.{view_of, view_site, IsUsable, used_of, tr
 ghost use Rattle.sz_query.specs.Views.{most_traced_by, image_by};
 ghost use Rattle.sz_query.specs.Turns.{IsAsked};
 
+use crate::growing::Growing;
 use crate::used::Used;
 use std::alloc::Global;
 use std::sync::{Arc, Wait};
@@ -47,8 +48,7 @@ pub enum NodeView {
     /// The store of a strategy on the node's shelf where a look finds a seal, and else the
     /// operator, run again over its inputs.
     Building {
-        run: NodeRunRef,
-        shelf: Arc<Shelf>,
+        node: Growing,
         pass: Pass,
         s: Strategy,
     },
@@ -74,7 +74,7 @@ impl NodeView {
             NodeView::Mapped { at } => at,
             NodeView::Stored { at, .. } => at,
             NodeView::Kept { at, .. } => at,
-            NodeView::Building { run, .. } => &run.at,
+            NodeView::Building { node, .. } => node.at(),
             NodeView::Traced { run } => &run.at,
         }
     }
@@ -128,15 +128,13 @@ impl NodeView {
                 store.image(*s, dir, input, from, to);
                 Ok(Used::By(*s))
             }
-            NodeView::Building {
-                run,
-                shelf,
-                pass,
-                s,
-            } => {
-                match shelf.look(rt, pass, *s, dir, input, from, to) {
-                    Look::Done => Ok(Used::By(*s)),
-                    Look::Unsealed { .. } => { run.trace_into(alloc, dir, input, from, to, tally) }
+            NodeView::Building { node, pass, s } => {
+                match node.shelf().look(rt, pass, *s, dir, input, from, to) {
+                    Look::Done(read) => Ok(Used::By(read.strategy())),
+                    Look::Unsealed { .. } => {
+                        let run = node.run(pass);
+                        run.trace_into(alloc, dir, input, from, to, tally)
+                    }
                 }
             }
             NodeView::Traced { run } => run.trace_into(alloc, dir, input, from, to, tally),

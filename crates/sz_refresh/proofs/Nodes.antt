@@ -135,6 +135,7 @@ pub record IsNode (flow : Graph) (base : List Grid) (input : ℕ) (changed : Cel
   pub op : e.site.op ≡ x.op
   pub ins : extents_of gs ≡ e.site.ins
   pub out : e.out.extent ≡ e.site.out
+  pub value : e.out ≡ output_of e.site.op e.inputs
   pub made : slice_get (executions flow base) n ≡ Some (execution x.op gs)
   pub set : slice_get (affected flow before base input changed) n ≡ Some (affected_by x.op e.inputs gs cs)
   pub shapes : HaveShapes input changed sets e.site.ins x.from
@@ -276,6 +277,8 @@ node-known flow old base input changed before runs sets count n x e over is so_f
       op = ap (λ (d : Execution). d.site.op) own;
       ins = ap extents_of takes ∙ ins-same flow before base n x run is.shapes there ∙ sym ins;
       out = out;
+      value = ap (λ (d : Execution). d.out) own
+          ∙ sym (ap (λ (d : Execution). output_of d.site.op d.inputs) own);
       made = executions-at flow base n x over.right there
           ∙ ap (λ (ds : List Grid). Some (execution x.op ds)) (sym takes);
       set = set;

@@ -45,7 +45,7 @@ near-self : (a : ℕ) → is_near a a ≡ true
 near-self a = and_from (nat_le a (a + 1)) (nat_le a (a + 1)) (le-leb a (a + 1) (omega arith)) (le-leb a (a + 1) (omega
     arith))
 
-square-self : (e : Extent) (c : Cell) → is_in_square e c c ≡ true
+pub square-self : (e : Extent) (c : Cell) → is_in_square e c c ≡ true
 square-self e c =
     and_from ((layer_of e c == layer_of e c) && is_near c.row c.row) (is_near c.col c.col)
     (and_from (layer_of e c == layer_of e c) (is_near c.row c.row) (eq-eqb (layer_of e c) (layer_of e c) refl)

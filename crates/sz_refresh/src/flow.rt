@@ -32,7 +32,12 @@ pub struct Refreshed {
 /// flow takes under another number too is changed under this one alone.
 ///
 /// The value of each affected cell is computed again and counted, side by side where that pays, and
-/// the others are copied. After `NoMemory` nothing is counted. It waits for nobody.
+/// the others are copied; of connected regions all labels are made anew. After `NoMemory` nothing
+/// is counted. It waits for nobody.
+///
+/// Takes time to copy the outputs of nodes that have affected cells, and else in the number of
+/// affected cells, but for connected regions and a lookup whose table is changed: there each cell
+/// is looked at.
 pub fn refresh<R: Threads + Sync>(
     rt: &R,
     alloc: Global,

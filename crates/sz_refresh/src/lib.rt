@@ -16,13 +16,20 @@
 //! ```
 //!
 //! [`laws`] says why the others may be copied: a cell that is not affected keeps its value.
+//!
+//! What is affected is found in `reached`: by a mapping's image; of a cleaning near the changed
+//! cells (`near`); of regions by their labels (`labels`) and of a lookup by its keys, which are
+//! numbers that name cells (`named`); and of a set of all cells without a search (`whole`).
 #![tactic(auto)]
 
 mod flow;
+mod labels;
 pub mod laws;
+mod named;
 mod near;
 mod node;
 mod output;
 mod reached;
+mod whole;
 
 pub use flow::{Refreshed, refresh};

@@ -1,7 +1,7 @@
 //! The output of an operator over new inputs, given what was its output over the old ones.
 
 ghost use Rattle.std.specs.Prelude.{◌≡◌, ◌+◌, ◌-◌, ◌<◌, ◌≤◌, ◌^◌, ℕ, true, false, None, length};
-ghost use Rattle.std.specs.Prelude.{map, IfOk, OnOk, slice_index_or};
+ghost use Rattle.std.specs.Prelude.{map, IfOk, OnOk, IfSome, slice_index_or};
 ghost use Rattle.std.specs.Arc.{arc_value};
 ghost use Rattle.sz_cells.specs.Extent.{size_of, cell_of};
 ghost use Rattle.sz_cells.specs.Runs.{is_in};
@@ -11,12 +11,13 @@ ghost use Rattle.sz_region.specs.Walks.{values_before};
 ghost use Rattle.sz_ops.specs.Aids.{aid_of};
 ghost use Rattle.sz_refresh.specs.Outputs.{KeepsOthers, renewed};
 
+use crate::whole::is_whole;
 use rayon::prelude::*;
 use std::alloc::Global;
 use std::sync::Arc;
 use std::thread::Threads;
 use sz_cells::{CellBits, CellSet, NoMemory, Run};
-use sz_ops::{Aid, value_at};
+use sz_ops::{Aid, run_prepared, value_at};
 use sz_region::{at_work, output_with};
 use sz_spec::{Array, Op, OpAt, Tally, Value};
 
@@ -27,7 +28,7 @@ const SIDE_BY_SIDE_FROM: u32 = 16_384;
 /// those of an array that holds them already. Where no cell is to be computed that array is shared.
 ///
 /// Takes time in the number of the array's cells to copy them, and else in the number of cells that
-/// are computed.
+/// are computed. Of connected regions the labels were made already.
 pub(crate) fn output_after<R: Threads + Sync>(
     rt: &R,
     alloc: Global,
@@ -35,11 +36,14 @@ pub(crate) fn output_after<R: Threads + Sync>(
     inputs: &[Arc<Array>],
     aid: &Aid,
     old: &Arc<Array>,
+    labels: Option<Array>,
     cells: &CellSet,
     count: &mut Tally,
 ) -> Result<Arc<Array>, NoMemory>
     requires inputs { extents_of (map (λ a. arc_value a) inputs.now) ≡ at.now.ins }
     requires aid { aid.now ≡ aid_of at.now.op (map (λ a. arc_value a) inputs.now) }
+    requires labels { IfSome labels
+        (λ out. out ≡ output_of at.now.op (map (λ a. arc_value a) inputs.now)) }
     requires shape { (arc_value old.now).extent ≡ at.now.out }
     requires cells { cells.now.extent ≡ at.now.out }
     requires others { KeepsOthers at.now (map (λ a. arc_value a) inputs.now) (arc_value old.now)
@@ -54,9 +58,84 @@ pub(crate) fn output_after<R: Threads + Sync>(
         old.cells();
         Ok(Arc::try_clone(old)?)
     } else {
-        let values = values_after(rt, alloc, at, inputs, aid, old, cells, count)?;
-        Ok(Arc::new(alloc, output_with(at, inputs, values))?)
+        let out = made_after(rt, alloc, at, inputs, aid, old, labels, cells, count)?;
+        Ok(Arc::new(alloc, out)?)
     }
+}
+
+/// The same, as an array of its own.
+fn made_after<R: Threads + Sync>(
+    rt: &R,
+    alloc: Global,
+    at: &OpAt,
+    inputs: &[Arc<Array>],
+    aid: &Aid,
+    old: &Array,
+    labels: Option<Array>,
+    cells: &CellSet,
+    count: &mut Tally,
+) -> Result<Array, NoMemory>
+    requires inputs { extents_of (map (λ a. arc_value a) inputs.now) ≡ at.now.ins }
+    requires aid { aid.now ≡ aid_of at.now.op (map (λ a. arc_value a) inputs.now) }
+    requires labels { IfSome labels
+        (λ out. out ≡ output_of at.now.op (map (λ a. arc_value a) inputs.now)) }
+    requires shape { old.now.extent ≡ at.now.out }
+    requires cells { cells.now.extent ≡ at.now.out }
+    requires others { KeepsOthers at.now (map (λ a. arc_value a) inputs.now) old.now cells.now }
+    requires room { count.old + size_of at.now.out < 2 ^ 63 }
+    ensures output { IfOk result (λ a. a
+        ≡ output_of at.now.op (map (λ a. arc_value a) inputs.now)) }
+    ensures ticks { OnOk result (count.new ≡ count.old + length cells.now.indexes) }
+{
+    at_work(at, inputs);
+    match labels {
+        Some(labels) => {
+            cells.shape(); // no more cells than the shape has
+            count_all(cells.count(), count);
+            Ok(labels)
+        }
+        None => made_anew(rt, alloc, at, inputs, aid, old, cells, count),
+    }
+}
+
+/// The same where there are no labels: made as a run makes it, where that pays, or from the old
+/// output.
+fn made_anew<R: Threads + Sync>(
+    rt: &R,
+    alloc: Global,
+    at: &OpAt,
+    inputs: &[Arc<Array>],
+    aid: &Aid,
+    old: &Array,
+    cells: &CellSet,
+    count: &mut Tally,
+) -> Result<Array, NoMemory>
+    requires inputs { extents_of (map (λ a. arc_value a) inputs.now) ≡ at.now.ins }
+    requires aid { aid.now ≡ aid_of at.now.op (map (λ a. arc_value a) inputs.now) }
+    requires shape { old.now.extent ≡ at.now.out }
+    requires cells { cells.now.extent ≡ at.now.out }
+    requires others { KeepsOthers at.now (map (λ a. arc_value a) inputs.now) old.now cells.now }
+    requires room { count.old + size_of at.now.out < 2 ^ 63 }
+    ensures output { IfOk result (λ a. a
+        ≡ output_of at.now.op (map (λ a. arc_value a) inputs.now)) }
+    ensures ticks { OnOk result (count.new ≡ count.old + length cells.now.indexes) }
+{
+    at_work(at, inputs);
+    if is_made_whole(at.op(), cells) {
+        let out = run_prepared(alloc, at, inputs, aid)?;
+        cells.shape(); // no more cells than the shape has
+        count_all(cells.count(), count);
+        Ok(out)
+    } else {
+        let values = values_after(rt, alloc, at, inputs, aid, old, cells, count)?;
+        Ok(output_with(at, inputs, values))
+    }
+}
+
+/// Whether an output of which all cells are affected is made as a run makes it. It settles the cost
+/// alone.
+fn is_made_whole(op: &Op, cells: &CellSet) -> bool {
+    is_whole(cells) && !matches!(op, Op::Clean { .. })
 }
 
 /// The values of all cells, of which some are computed and counted, and the others copied.

@@ -14,7 +14,7 @@ use lib.ListN.{get_elem?}
 use Rattle.std.specs.Prelude.{slice_index}
 use Rattle.atomic_table.specs.Table.{Act, stepped, keeps, takes, gives, chain, rest, put_back, homes_after}
 use Rattle.atomic_table.specs.Table.{carried_after, Valid}
-use Rattle.atomic_table.proofs.Lists.{set_again, set_else}
+use Rattle.atomic_table.proofs.Lists.{set_else}
 use Rattle.sz_shelf.specs.Tags.{Tag}
 use Rattle.sz_shelf.specs.Contents.{Contents}
 use Rattle.sz_shelf.specs.declared.rule.View.{View}
@@ -23,7 +23,7 @@ use Rattle.sz_shelf.specs.Rule.{Table, Own, IsKept, has_store, is_spent, is_busy
 use Rattle.sz_shelf.specs.Rule.{spent_view}
 use Rattle.sz_shelf.specs.Rules.{flag_in}
 use Rattle.sz_shelf.specs.Steps.{IsTry, IsTaking, IsCounting, IsGiving, IsReleasing, IsLoad, after_count, after_split}
-use Rattle.sz_shelf.specs.Steps.{after_join}
+use Rattle.sz_shelf.specs.Steps.{parted_view, after_join}
 use Rattle.sz_shelf.specs.Changes.{IsWon, IsLost, IsTaken, IsCounted, IsGiven, IsReleased, IsLoaded}
 use Rattle.sz_shelf.specs.Changes.{OneView, WinsOrLoses, Takes, Counts, Gives, Releases, Loads, Splits, Joins}
 use Rattle.sz_shelf.proofs.Lists.{set_there, two-of}
@@ -242,12 +242,12 @@ loads-change t slots id m n s u empty st is =
       view = ap (λ (x : Own). x.0) is.after;
     }
 
-pub splits-change : Splits (λ v. v) after_split
+pub splits-change : Splits after_split parted_view
 splits-change id v s at = record {
   words = refl;
   homes = refl;
   before = at;
-  views = ap (λ (l : List View). l ++ after_split v ∷ []) (set_again s.views id v at);
+  views = refl;
 }
 
 pub joins-change : Joins after_join spent_view

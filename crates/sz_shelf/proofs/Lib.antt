@@ -10,10 +10,12 @@ mod Moves
 mod Slots
 mod Turning
 mod Telling
+pub mod Looks
 mod Pairs
 mod Reading
 mod Effects
 pub mod Crossing
 mod Rows
 mod RowsSteps
+mod RowsPasses
 mod RowsPairs

@@ -17,7 +17,7 @@ use Rattle.sz_core.specs.States.{Shelf}
 use Rattle.sz_core.proofs.Placing.{missing-some, missing-none, all-placed}
 use Rattle.sz_shelf.specs.Tags.{Tag, tag_pieces}
 use Rattle.sz_shelf.specs.Contents.{is_in, missing_in, least_missing}
-use Rattle.sz_shelf.specs.Keeping.{AreMarks}
+use Rattle.sz_shelf.specs.Keeping.{AreMarks, IsFirst}
 
 -- ---- the least piece that is missing
 
@@ -119,6 +119,17 @@ marks-none t n pieces few = record {
   marked = λ k inside. get_or-replicate n k false false (subst (λ (m : ℕ). k < m) (length-replicate n false) inside);
   once = ap (λ (bs : List Bool). length bs) (none-set n);
 }
+
+-- where nothing is marked the first place is not
+pub first-none : (n : ℕ) → IsFirst (replicate n false) 0
+first-none n = record {
+  within = omega arith;
+  below = λ k less. absurd (omega (arith, less));
+  here = at n;
+} where
+  at : (m : ℕ) → get_or (replicate m false) 0 false ≡ false
+  at zero = refl
+  at (suc m) = refl
 
 -- ---- no more are placed than there are
 

@@ -24,7 +24,8 @@ use Rattle.sz_shelf.specs.Rule.{Table, Own, IsKept, Knows, Begins, ArePieces, is
 use Rattle.sz_shelf.specs.Rule.{last_of}
 use Rattle.sz_shelf.specs.Rule.{count_of, contents, first_view, spent_view}
 use Rattle.sz_shelf.specs.Steps.{IsTry, IsTaking, IsCounting, IsGiving, IsReleasing, IsLoad, Grows, after_win}
-use Rattle.sz_shelf.specs.Steps.{after_release, after_take, after_count, after_load, after_split, after_join}
+use Rattle.sz_shelf.specs.Steps.{after_release, after_take, after_count, after_load, after_split, parted_view}
+use Rattle.sz_shelf.specs.Steps.{after_join}
 use Rattle.sz_shelf.proofs.Lists.{begins-all, begins-push, begins-through, longer-begins, pieces-push, set_there}
 use Rattle.sz_shelf.proofs.Lists.{two-of}
 
@@ -483,38 +484,40 @@ loads-keep t slots id m idle =
     (loads-here slots id m idle)
 
 -- a seat more knows what one that is split knows
-pub splits-keep : (t : Tag) (id : ℕ) (v : View) → v.stage ≡ Idle → Splits (IsKept t) id v v (after_split v)
-splits-keep t id v idle s g me = record {
-  placed = g.placed;
-  sealed = g.sealed;
-  who = g.who;
-  doing = g.doing;
-  two = g.two;
-  flag = g.flag;
-  count = g.count;
-  pieces = g.pieces;
-  few = g.few;
-  whole = g.whole;
-  home = g.home;
-  out = g.out;
-  turn = λ b. let u = g.turn b in (
-    u.0,
-    at_longer (set s.views id v) (after_split v ∷ []) g.who u.0
-        (ap (λ (l : List View). get_elem? l g.who) (set_again s.views id v me) ∙ u.1),
-    u.2,
-  );
-  each = λ j u at unspent. ⊎_elim
-      (λ h. g.each j u (ap (λ (l : List View). get_elem? l j) (sym (set_again s.views id v me)) ∙ h) unspent)
-      (λ e. let mine = g.each id v me (ap is_spent idle) in
-      subst (Knows t g.placed g.sealed g.who g.doing j) e record {
-        tag = mine.tag;
-        begins = mine.begins;
-        saw = mine.saw;
-        busy = λ b. contrary (is_busy v.stage) b (ap is_busy idle);
-        out = λ b. contrary (has_store v.stage) b (ap has_store idle);
-      })
-      (at_snoc (set s.views id v) (after_split v) u j at);
-}
+pub splits-keep : (t : Tag) (id : ℕ) (v : View) → v.stage ≡ Idle
+    → Splits (IsKept t) id v (after_split v) (parted_view v)
+splits-keep t id v idle s g me =
+    let w : View = after_split v in
+    let k : IsKept t record { words = s.words; homes = s.homes; views = set s.views id w } =
+    knows-more t id v w s g me idle refl refl
+    (λ h. (h.each id v me (ap is_spent idle)).begins) (λ h. (h.each id v me (ap is_spent idle)).saw) in
+    let mine = k.each id w (set_there s.views id v w me) (ap is_spent idle) in
+    record {
+      placed = k.placed;
+      sealed = k.sealed;
+      who = k.who;
+      doing = k.doing;
+      two = k.two;
+      flag = k.flag;
+      count = k.count;
+      pieces = k.pieces;
+      few = k.few;
+      whole = k.whole;
+      home = k.home;
+      out = k.out;
+      turn = λ b. let u = k.turn b in
+          (u.0, at_longer (set s.views id w) (parted_view v ∷ []) k.who u.0 u.1, u.2);
+      each = λ j u at unspent. ⊎_elim
+          (λ h. k.each j u h unspent)
+          (λ e. subst (Knows t k.placed k.sealed k.who k.doing j) e record {
+            tag = mine.tag;
+            begins = mine.begins;
+            saw = mine.saw;
+            busy = λ b. contrary (is_busy v.stage) b (ap is_busy idle);
+            out = λ b. contrary (has_store v.stage) b (ap has_store idle);
+          })
+          (at_snoc (set s.views id w) (parted_view v) u j at);
+    }
 
 -- a seat that is spent leaves the rule
 spends : (t : Tag) (other : ℕ) (w : View) (s : Table) → IsKept t s → get_elem? s.views other ≡ some w → w.stage ≡ Idle

@@ -13,6 +13,7 @@ use Rattle.sz_cells.specs.Extent.{size_of, holds, index_of, cell_of}
 use Rattle.sz_cells.specs.Cells.{Cells, cells_where, has, with_those}
 use Rattle.sz_cells.proofs.Sets.{index-below, cell-index}
 use Rattle.sz_spec.specs.declared.modes.Dir.{Dir}
+use Rattle.sz_spec.specs.declared.modes.Strategy.{Strategy}
 use Rattle.sz_spec.specs.Values.{extent_at}
 use Rattle.sz_spec.specs.Pieces.{is_in_piece}
 use Rattle.sz_spec.specs.Sides.{near_side}
@@ -26,7 +27,7 @@ use Rattle.sz_core.proofs.Placing.{all-placed, taken-image}
 use Rattle.sz_store.proofs.Standing.{own-piece}
 use Rattle.sz_shelf.specs.Tags.{Tag, tag_pieces, tag_relation, tag_image}
 use Rattle.sz_shelf.specs.Contents.{missing_in}
-use Rattle.sz_shelf.specs.Answers.{look_answer}
+use Rattle.sz_shelf.specs.Answers.{look_answer, read_by}
 use Rattle.sz_shelf.specs.declared.answers.Look.{Look}
 use Rattle.sz_shelf.specs.declared.answers.Look.TheVariants as look
 use Rattle.sz_shelf.specs.Machine.{shelf_of, cells_of_piece, pairs_of_cell, pairs_of_piece, first_step}
@@ -220,20 +221,21 @@ looks-hold t placed sealed dir i from whole few own near =
 -- ---- a look that added the tag's image
 
 abbrev is-done : Look → Bool
-is-done look.Done = true
+is-done (look.Done _) = true
 is-done (look.Unsealed _) = false
 
-done-sealed : (n : ℕ) (found : List ℕ) (sealed : Bool) → look.Done ≡ look_answer n found sealed → sealed ≡ true
-done-sealed n found true is = refl
-done-sealed n found false is = absurd (true≢false (ap is-done is))
+done-sealed : (s : Strategy) (n : ℕ) (found : List ℕ) (sealed : Bool)
+    → read_by s ≡ look_answer s n found sealed → sealed ≡ true
+done-sealed s n found true is = refl
+done-sealed s n found false is = absurd (true≢false (ap is-done is))
 
 -- holds what the machine's ask holds
-pub looked-cells : (t : Tag) (found : List ℕ) (sealed : Bool) (dir : Dir) (i : ℕ) (from to new : Cells) (r : Look)
+pub looked-cells : (t : Tag) (u : Strategy) (found : List ℕ) (sealed : Bool) (dir : Dir) (i : ℕ) (from to new : Cells) (r : Look)
     → (sealed ≡ true → missing_in (tag_pieces t) found ≡ None) → i < length t.site.ins
     → from ≡ cells_where from.extent (has from) → from.extent ≡ near_side dir t.site i
-    → r ≡ look_answer (tag_pieces t) found sealed
-    → (sealed ≡ true → new ≡ with_those to (has (tag_image dir t i from))) → r ≡ look.Done
+    → r ≡ look_answer u (tag_pieces t) found sealed
+    → (sealed ≡ true → new ≡ with_those to (has (tag_image dir t i from))) → r ≡ read_by u
     → new ≡ with_those to (has (after_look (shelf_of t found sealed ∷ []) (first_step dir i from)).cells)
-looked-cells t found sealed dir i from to new r whole few own near answer added done =
-    added (done-sealed (tag_pieces t) found sealed (sym done ∙ answer))
+looked-cells t u found sealed dir i from to new r whole few own near answer added done =
+    added (done-sealed u (tag_pieces t) found sealed (sym done ∙ answer))
     ∙ ap (λ (set : Cells). with_those to (has set)) (sym (looks-hold t found sealed dir i from whole few own near))

@@ -39,7 +39,7 @@ looked = record {
 abbrev empty : Contents
 empty = contents looked [] false
 
-abbrev placed : Contents
+abbrev pub placed : Contents
 placed = contents looked (0 ∷ []) false
 
 abbrev sealed : Contents
@@ -48,11 +48,11 @@ sealed = contents looked (0 ∷ []) true
 no-pieces : ArePieces looked []
 no-pieces = (tt, λ k d h. absurd (omega (arith, h)))
 
-one-piece : ArePieces looked (0 ∷ [])
+pub one-piece : ArePieces looked (0 ∷ [])
 one-piece = pieces-push looked [] 0 no-pieces refl (omega arith)
 
 -- what a seat knows from step to step of the first turn, and of the second
-abbrev idle : View
+abbrev pub idle : View
 idle = first_view looked
 
 abbrev won : View
@@ -67,7 +67,7 @@ has_placed = after_count placed has_empty
 abbrev gave : View
 gave = after_win has_placed
 
-abbrev done : View
+abbrev pub done : View
 done = after_release gave
 
 abbrev again : View
@@ -77,7 +77,7 @@ abbrev has_sealed : View
 has_sealed = after_count sealed again
 
 -- a table with one slot and these seats
-abbrev table : ℕ → ℕ → Option Contents → List View → Table
+abbrev pub table : ℕ → ℕ → Option Contents → List View → Table
 table flag count slot views = record { words = flag ∷ count ∷ []; homes = slot ∷ []; views = views }
 
 -- ---- the rule holds

@@ -9,6 +9,7 @@ use Rattle.std.proofs.lemmas.List.FromFn.{length-map-range_with_len}
 use mathlib.Core.Bool.{true≢false}
 use Rattle.sz_cells.specs.Cells.{Cells}
 use Rattle.sz_spec.specs.declared.modes.Dir.{Dir}
+use Rattle.sz_spec.specs.declared.modes.Strategy.{Strategy}
 use Rattle.sz_core.specs.declared.events.Told.TheVariants as told
 use Rattle.sz_core.specs.States.{missing_piece}
 use Rattle.sz_core.specs.Events.{place_reply, after_place, seal_reply, after_seal, look_reply}
@@ -168,8 +169,8 @@ seal-leaves w y (seal.Missing k) is yet not_yet =
     seal-left w.tag w.seen y.seen w.saw y.saw (seal.Missing k) is (ap (λ (x : View). x.seen) (not_yet other))
     (λ e. absurd (other e)) (λ _. ap (λ (x : View). x.saw) (not_yet other))
 
-pub look-told : (t : Tag) (found : List ℕ) (sealed : Bool) (dir : Dir) (input : ℕ) (from : Cells)
-    → told_of_look (look_answer (tag_pieces t) found sealed)
+pub look-told : (t : Tag) (s : Strategy) (found : List ℕ) (sealed : Bool) (dir : Dir) (input : ℕ) (from : Cells)
+    → told_of_look (look_answer s (tag_pieces t) found sealed)
     ≡ look_reply (shelf_of t found sealed ∷ []) (first_step dir input from)
-look-told t found true dir input from = refl
-look-told t found false dir input from = refl
+look-told t s found true dir input from = refl
+look-told t s found false dir input from = refl

@@ -109,23 +109,32 @@ pub record IsLoaded (id : ℕ) (v w : View) (s u : Table) : Type 0 where
   pub idle : v.stage ≡ Idle
   pub view : w ≡ record v { loads = v.loads + 1; saw = v.saw || (count_in s == last_of v.tag) }
 
--- the words, the slot and each view stay, and behind them is that of a new seat, which knows what
--- the one that was split knows, and made no turn and no load
+-- The words and the slot stay. The seat made one split more, and all else that it knows stays. Each
+-- other view stays, and behind them is that of a new seat, which knows what the one that was split
+-- knows, and made no turn, no load and no split.
 pub record IsSplit (id : ℕ) (v : View) (s u : Table) : Type 0 where
   pub words : u.words ≡ s.words
   pub homes : u.homes ≡ s.homes
   pub before : get_elem? s.views id ≡ some v
-  pub views : u.views ≡ s.views ++ record v { turns = 0; loads = 0 } ∷ []
+  pub views : u.views ≡ slice_set s.views id (record v { splits = v.splits + 1 })
+      ++ record v { turns = 0; loads = 0; splits = 0 } ∷ []
 
 -- The words and the slot stay. The kept seat has the longer list and the seal bit of either, and
--- all else that it knows stays. The other seat is spent, and each other view stays.
+-- its counts are the sums of theirs: no turn, load or split of either is lost. All else that it
+-- knows stays. The other seat is spent, and each other view stays.
 pub record IsJoined (id spent : ℕ) (v x : View) (s u : Table) : Type 0 where
   pub words : u.words ≡ s.words
   pub homes : u.homes ≡ s.homes
   pub kept_before : get_elem? s.views id ≡ some v
   pub spent_before : get_elem? s.views spent ≡ some x
   pub kept_after : get_elem? u.views id
-      ≡ some (record v { seen = longer v.seen x.seen; saw = v.saw || x.saw })
+      ≡ some (record v {
+        seen = longer v.seen x.seen;
+        saw = v.saw || x.saw;
+        turns = v.turns + x.turns;
+        loads = v.loads + x.loads;
+        splits = v.splits + x.splits;
+      })
   pub spent_after : (y : View) × (get_elem? u.views spent ≡ some y) × (is_spent y.stage ≡ true)
   pub others : (other : ℕ) → ¬ (other ≡ id) → ¬ (other ≡ spent)
       → get_elem? u.views other ≡ get_elem? s.views other

@@ -2,7 +2,7 @@
 --
 -- An open store is what lineages that fit make of empty stores, placed in the order of the list. A
 -- shared one stands for the tag's relation; it may be another than the one that was filled.
-use Rattle.std.specs.Prelude.{◌≡◌, ℕ, ◌<◌, ◌^◌, List, map, length, Bool, true, false}
+use Rattle.std.specs.Prelude.{◌≡◌, ℕ, ◌<◌, ◌≤◌, ◌^◌, List, map, length, Bool, true, false}
 use Rattle.std.specs.Prelude.{Option, Some, None}
 use Rattle.std.specs.List.{filter, slice_index_or}
 use Rattle.std.specs.Arc.{arc_value}
@@ -61,10 +61,17 @@ pub record AreMarks (t : Tag) (placed : List ℕ) (marks : List Bool) : Type 0 w
   pub marked : (k : ℕ) → k < length marks → slice_index_or marks k false ≡ is_in placed k
   pub once : length (filter (λ b. b) marks) ≡ length placed
 
+-- the least place that is not marked, or the number of places
+pub record IsFirst (marks : List Bool) (first : ℕ) : Type 0 where
+  pub within : first ≤ length marks
+  pub below : (k : ℕ) → k < first → slice_index_or marks k false ≡ true
+  pub here : slice_index_or marks first false ≡ false
+
 -- what lies in the slot: stores of this tag, with these pieces, sealed or not
-pub record IsShelved (t : Tag) (placed : List ℕ) (sealed : Bool) (flags : List Bool)
+pub record IsShelved (t : Tag) (placed : List ℕ) (sealed : Bool) (flags : List Bool) (least : ℕ)
     (s : Stored) : Type 0 where
   pub tag : IsTag t
   pub marks : AreMarks t placed flags
+  pub first : IsFirst flags least
   pub whole : sealed ≡ true → missing_in (tag_pieces t) placed ≡ None
   pub stores : AreStores t placed sealed s

@@ -76,5 +76,5 @@ told_of_seal seal.Sealed = told.Sealed
 told_of_seal (seal.Missing k) = told.Missing k
 
 abbrev pub told_of_look : Look → Told
-told_of_look look.Done = told.FromStore
+told_of_look (look.Done _) = told.FromStore
 told_of_look (look.Unsealed _) = told.FromTrace

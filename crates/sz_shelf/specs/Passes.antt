@@ -9,8 +9,9 @@ use Rattle.sz_shelf.specs.Rule.{Begins, ArePieces, first_view}
 use Rattle.sz_shelf.specs.declared.rule.View.{View}
 
 -- Who looks at a shelf by a pass: the table of the shelf and its tag, the placed pieces as it has
--- seen them, whether it saw the seal, how many turns and loads of the count it made, the placed
--- list as its last turn found it and whether there was a seal then, and the stores that it keeps.
+-- seen them, whether it saw the seal, how many turns, loads of the count and splits it and the
+-- passes joined into it made, the placed list as its last turn found it and whether there was a
+-- seal then, and the stores that it keeps.
 pub record Onlooker : Type 0 where
   pub table : TableId
   pub tag : Tag
@@ -18,6 +19,7 @@ pub record Onlooker : Type 0 where
   pub saw : Bool
   pub turns : ℕ
   pub loads : ℕ
+  pub splits : ℕ
   pub found : List ℕ
   pub found_sealed : Bool
   pub kept : Option NodeLineage
@@ -31,6 +33,7 @@ onlooker z v kept = record {
   saw = v.saw;
   turns = v.turns;
   loads = v.loads;
+  splits = v.splits;
   found = v.found;
   found_sealed = v.found_sealed;
   kept = kept;
@@ -44,14 +47,24 @@ place_of p = record { table = p.table; tag = p.tag }
 abbrev pub newcomer : Place → Onlooker
 newcomer z = onlooker z.table (first_view z.tag) None
 
--- A pass took exactly one turn, and no load of the count out of turn. What it found and what it has
--- seen by the turn's end begin with what it had seen, and are pieces of the output, none of them
--- twice. Where it saw the seal before, it found one; where it found one, it saw it; and where it
--- saw one, every piece is placed.
+-- a pass once one more was split off it, and the one that was: it has seen and keeps the same, and
+-- made no step
+abbrev pub with_split : Onlooker → Onlooker
+with_split p = record p { splits = p.splits + 1 }
+
+abbrev pub split_off : Onlooker → Onlooker
+split_off p = record p { turns = 0; loads = 0; splits = 0 }
+
+-- A pass took exactly one turn, and no load of the count out of turn, and none was split off it, so
+-- that no pass but those that there were took one for it. What it found and what it has seen by the
+-- turn's end begin with what it had seen, and are pieces of the output, none of them twice. Where
+-- it saw the seal before, it found one; where it found one, it saw it; and where it saw one, every
+-- piece is placed.
 pub record TookTurn (p q : Onlooker) : Type 0 where
   pub place : place_of q ≡ place_of p
   pub turns : q.turns ≡ p.turns + 1
   pub loads : q.loads ≡ p.loads
+  pub splits : q.splits ≡ p.splits
   pub found : Begins p.seen q.found
   pub grown : Begins q.found q.seen
   pub begins : Begins p.seen q.seen
@@ -66,6 +79,7 @@ pub record Stays (w y : View) : Type 0 where
   pub tag : y.tag ≡ w.tag
   pub turns : y.turns ≡ w.turns
   pub loads : y.loads ≡ w.loads
+  pub splits : y.splits ≡ w.splits
   pub found : y.found ≡ w.found
   pub found_sealed : y.found_sealed ≡ w.found_sealed
   pub grown : Begins w.seen y.seen

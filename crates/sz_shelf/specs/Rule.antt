@@ -104,6 +104,7 @@ first_view t = record {
   stage = Idle;
   turns = 0;
   loads = 0;
+  splits = 0;
   found = [];
   found_sealed = false;
 }

@@ -35,18 +35,27 @@ abbrev pub after_load : ℕ → View → View
 after_load found v =
     record v { loads = v.loads + 1; saw = v.saw || (found == last_of v.tag) }
 
--- the view of a seat that was split off: it knows the same, and made no step
+-- the view after a split, and that of the seat that was split off: it knows the same, and made no
+-- step
 abbrev pub after_split : View → View
-after_split v = record v { turns = 0; loads = 0 }
+after_split v = record v { splits = v.splits + 1 }
+
+abbrev pub parted_view : View → View
+parted_view v = record v { turns = 0; loads = 0; splits = 0 }
 
 -- the longer of two lists, the first where they are equally long
 abbrev pub longer : List ℕ → List ℕ → List ℕ
 longer xs ys = if nat_lt (length xs) (length ys) then ys else xs
 
--- the kept view after a join
+-- the kept view after a join: its counts are the sums of those of both
 abbrev pub after_join : View → View → View
-after_join v spent =
-    record v { seen = longer v.seen spent.seen; saw = v.saw || spent.saw }
+after_join v spent = record v {
+  seen = longer v.seen spent.seen;
+  saw = v.saw || spent.saw;
+  turns = v.turns + spent.turns;
+  loads = v.loads + spent.loads;
+  splits = v.splits + spent.splits;
+}
 
 -- A try is an exchange of 0 for 1. It found 0, and the seat has the turn; or it found 1, and
 -- nothing changes.

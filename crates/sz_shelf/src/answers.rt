@@ -1,5 +1,7 @@
 //! What the calls of a shelf answer.
 
+use crate::read_by::ReadBy;
+
 /// What the placing of a piece is told.
 #[derive(Clone, Copy, Debug, PartialEq, Eq)]
 pub enum Placed {
@@ -23,8 +25,8 @@ pub enum SealReply {
 /// What a look is told.
 #[derive(Clone, Copy, Debug, PartialEq, Eq)]
 pub enum Look {
-    /// The image is added.
-    Done,
+    /// The image is added, by the store that was read.
+    Done(ReadBy),
     /// The store is not sealed, and nothing is added. The least piece that is not placed, or the
     /// number of pieces.
     Unsealed { missing: u32 },

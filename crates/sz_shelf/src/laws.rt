@@ -62,7 +62,8 @@ pub fn loads_see_the_seal()
     ensures { LoadsCount ⟦<Loads as Play<Shelved, View>>⟧.then }
 {}
 
-/// A split adds a seat which knows the same, and a join takes the longer list and either seal.
+/// A split is counted, and adds a seat which knows the same and made no step. A join takes the
+/// longer list and either seal, and adds the counts of both.
 pub fn splits_and_joins()
     ensures splits { Splits ⟦<Copies as Split<View>>⟧.left ⟦<Copies as Split<View>>⟧.right }
     ensures joins { Joins ⟦<TakesBoth as Join<View>>⟧.both ⟦<TakesBoth as Join<View>>⟧.spent }

@@ -23,20 +23,27 @@
 //! shelf.look(rt, &mut pass, s, dir, 0, &from, &mut to);   // Unsealed { missing: 0 }
 //! shelf.place(rt, &mut pass, &lineage)?;                  // New, and once more Already
 //! shelf.seal(rt, &mut pass);                              // Missing(1), or Sealed
-//! shelf.look(rt, &mut pass, s, dir, 0, &from, &mut to);   // Done, once it is sealed
+//! shelf.look(rt, &mut pass, s, dir, 0, &from, &mut to);   // Done, by the store of s, once it is
+//!                                                         // sealed
 //! ```
 //!
 //! # What is proved
 //!
 //! Contracts see of a pass the placed list as it has seen it, whether it saw the seal, how many
-//! turns and loads it made, and what its last turn found. For passes in any threads:
+//! turns and loads it made, how many passes were split off it, and what its last turn found. For
+//! passes in any threads:
 //!
-//! - Each call with a turn takes exactly one. What it found, and what it has seen by the turn's
-//!   end, begin with what it had seen, and have no piece twice.
+//! - Each call with a turn takes exactly one, and splits no pass off that could take another. What
+//!   it found, and what it has seen by the turn's end, begin with what it had seen, and have no
+//!   piece twice.
+//! - A split is counted by the pass that it is made of, and a join adds up the turns, loads and
+//!   splits of both, so that no call has steps made by a pass that nobody sees.
 //! - Its answer is the pure machine's reply to what it found, and it leaves the machine's next
 //!   state. A pass that saw the seal gets no unsealed answer again.
 //! - An image that was added is exactly the image under the operator's relation, and what the pure
 //!   machine's ask then holds; stores that are handed out stand for exactly that relation.
+//! - A look that is done names the strategy whose store was read ([`ReadBy`]), and it is the one
+//!   that was asked for.
 //! - Stores that are not sealed are read by no call: [`Shelved::store`] asks for the seal.
 //!
 //! The views behind these words are ghosts. [`laws`] says what they mean: the rule that holds
@@ -47,10 +54,9 @@
 //! # What is not
 //!
 //! - Nothing is said of who gets a turn, nor that anybody does, nor how long one waits.
-//! - A turn of another pass that is split off and joined in the same call is not counted in the
-//!   first one. That no call makes such a pass, and that no other step is made, is read in
-//!   `src/shelf.rt` and `src/words.rt`.
-//! - A pass that is dropped in a turn would leave the shelf taken; no call of this crate drops one.
+//! - That no step is made but those of the kinds that the laws name is read in `src/words.rt`.
+//! - A pass that is dropped in a turn would leave the shelf taken. No call of this crate drops one:
+//!   each takes the pass by reference, says that its turn has ended, and makes none beside it.
 //!
 //! To whoever changes this crate: `src/rule.rt` has the kinds of step, `specs/Rule` and
 //! `specs/Steps` what they keep and tell, `proofs/Moves` one lemma for each. `src/words.rt` alone
@@ -62,6 +68,7 @@ mod answers;
 pub mod laws;
 pub mod matching;
 mod pass;
+mod read_by;
 mod rule;
 mod shelf;
 mod shelved;
@@ -72,5 +79,6 @@ mod words;
 
 pub use answers::{Look, Placed, SealReply};
 pub use pass::Pass;
+pub use read_by::ReadBy;
 pub use shelf::Shelf;
 pub use shelved::Shelved;

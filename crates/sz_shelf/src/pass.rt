@@ -15,7 +15,8 @@ use sz_store::NodeStore;
 
 /// The right to take turns at one shelf. It moves between threads. Contracts see the shelf's table
 /// and tag, the placed list as the pass has seen it, whether it saw the seal, the number of its
-/// turns and of its loads of the count, what its last turn found, and the stores that it keeps.
+/// turns, of its loads of the count and of the passes that were split off it, with those of the
+/// passes joined into it, what its last turn found, and the stores that it keeps.
 #[derive(Drop)]
 pub struct Pass {
     pub(crate) seat: Seat<Shelved, View>,

@@ -1,7 +1,7 @@
 //! What a seat knows, the rule that ties it to the words and to the slot, and the kinds of step.
 ghost use Rattle.sz_shelf.specs.Rule.{IsKept, first_view, spent_view};
 ghost use Rattle.sz_shelf.specs.Steps.{IsTry, IsTaking, IsCounting, IsGiving, IsReleasing, IsLoad};
-ghost use Rattle.sz_shelf.specs.Steps.{after_split, after_join};
+ghost use Rattle.sz_shelf.specs.Steps.{after_split, parted_view, after_join};
 
 use crate::shelved::Shelved;
 use crate::tag::TagParts;
@@ -29,6 +29,7 @@ pub struct View {
     pub stage: Stage,
     pub turns: u64,
     pub loads: u64,
+    pub splits: u64,
     pub found: LinkedList<u32>,
     pub found_sealed: bool,
 }
@@ -84,16 +85,18 @@ impl Play<Shelved, View> for Loads {
     ghost then = { IsLoad };
 }
 
-/// The seat that is split stays as it is, and the new one knows the same and made no step.
+/// The seat that is split counts it and stays else as it is, and the new one knows the same and
+/// made no step.
 pub struct Copies;
 
 impl Split<View> for Copies {
-    ghost left = { λ v. v };
+    ghost left = { after_split };
 
-    ghost right = { after_split };
+    ghost right = { parted_view };
 }
 
-/// The kept seat has the longer list and the seal bit of either, and the spent one knows nothing.
+/// The kept seat has the longer list, the seal bit of either and the sums of their counts, and the
+/// spent one knows nothing.
 pub struct TakesBoth;
 
 impl Join<View> for TakesBoth {

@@ -1,7 +1,7 @@
 //! A shelf, and the calls by which passes use it.
 
 ghost use Rattle.std.specs.Prelude.{◌≡◌, ◌+◌, ◌<◌, ◌++◌, ◌∷◌, [], ◌||◌, length, map, true, false};
-ghost use Rattle.std.specs.Prelude.{not, Ok, Some, IfOk, OnErr, IfSome, is_none, Option};
+ghost use Rattle.std.specs.Prelude.{not, Ok, Some, IfOk, OnOk, OnErr, IfSome, is_none, Option};
 ghost use Rattle.std.specs.Option.{option_map, option_or};
 ghost use Rattle.std.specs.Arc.{arc_value};
 ghost use Rattle.sz_cells.specs.Cells.{has, with_those};
@@ -15,11 +15,10 @@ ghost use Rattle.sz_shelf.specs.Machine.{found_shelf, left_shelf, first_step};
 ghost use Rattle.sz_shelf.specs.Machine.{told_of_place, told_of_seal, told_of_look};
 ghost use Rattle.sz_shelf.specs.Tags.{IsTag, StandsFor, tag_pieces, tag_image};
 ghost use Rattle.sz_shelf.specs.Steps.{longer};
-ghost use Rattle.sz_shelf.specs.Passes.{TookTurn, newcomer, place_of};
-ghost use Rattle.sz_shelf.specs.Answers.{place_answer, seal_answer, look_answer};
+ghost use Rattle.sz_shelf.specs.Passes.{TookTurn, newcomer, place_of, with_split, split_off};
+ghost use Rattle.sz_shelf.specs.Answers.{place_answer, seal_answer, look_answer, read_by};
 ghost use Rattle.sz_shelf.specs.declared.answers.Placed.TheVariants.{New};
 ghost use Rattle.sz_shelf.specs.declared.answers.SealReply.TheVariants.{Sealed as SealedNow};
-ghost use Rattle.sz_shelf.specs.declared.answers.Look.TheVariants.{Done};
 
 use crate::answers::{Look, Placed, SealReply};
 use crate::pass::Pass;
@@ -80,11 +79,13 @@ impl Shelf {
         Ok((shelf, Pass { seat, kept: None }))
     }
 
-    /// One pass more, which has seen and keeps the same and made no step.
+    /// One pass more, which has seen and keeps the same and made no step. The pass that it is split
+    /// off counts it. Where there is no memory, none is.
     pub fn split(&self, pass: &mut Pass) -> Result<Pass, NoMemory>
         requires { place_of pass.old ≡ self.now }
-        ensures same { pass.new ≡ pass.old }
-        ensures new { IfOk result (λ p. p ≡ record pass.old { turns = 0; loads = 0 }) }
+        ensures counted { OnOk result (pass.new ≡ with_split pass.old) }
+        ensures err { OnErr result (pass.new ≡ pass.old) }
+        ensures new { IfOk result (λ p. p ≡ split_off pass.old) }
     {
         let kept = match &pass.kept {
             Some(kept) => Some(Arc::try_clone(kept)?),
@@ -95,13 +96,17 @@ impl Shelf {
     }
 
     /// Puts the second pass into the first, which has then seen the longer list and the seal that
-    /// either saw, and keeps what it kept, or else what the second did.
+    /// either saw, and keeps what it kept, or else what the second did. The counts of both are
+    /// added up, so that no turn, load or split of either is lost.
     pub fn join(&self, into: &mut Pass, from: Pass)
         requires into { place_of into.old ≡ self.now }
         requires from { place_of from ≡ self.now }
         ensures { into.new ≡ record into.old {
           seen = longer into.old.seen from.seen;
           saw = into.old.saw || from.saw;
+          turns = into.old.turns + from.turns;
+          loads = into.old.loads + from.loads;
+          splits = into.old.splits + from.splits;
           kept = option_or into.old.kept from.kept;
         } }
     {
@@ -164,7 +169,7 @@ impl Shelf {
 
     /// Adds the image of a set of cells by the store of a strategy, in one turn, where the store is
     /// sealed: backward the cells of the input that those of the output depend on, forward those
-    /// that depend on these. No memory.
+    /// that depend on these. Which store was read is told. No memory.
     pub fn look<R: Wait>(
         &self,
         rt: &R,
@@ -184,15 +189,15 @@ impl Shelf {
         ensures turn { TookTurn pass.old pass.new }
         ensures kept { pass.new.kept ≡ pass.old.kept }
         ensures answer { let q = pass.new in
-            result ≡ look_answer (tag_pieces q.tag) q.found q.found_sealed }
-        ensures done { result ≡ Done → to.new
+            result ≡ look_answer s (tag_pieces q.tag) q.found q.found_sealed }
+        ensures done { result ≡ read_by s → to.new
             ≡ with_those to.old (has (tag_image dir pass.old.tag input from.now)) }
-        ensures cells { let ask = first_step dir input from.now in result ≡ Done → to.new
+        ensures cells { let ask = first_step dir input from.now in result ≡ read_by s → to.new
             ≡ with_those to.old (has (after_look (found_shelf pass.new ∷ []) ask).cells) }
-        ensures unsealed { ¬ (result ≡ Done) → to.new ≡ to.old }
+        ensures unsealed { ¬ (result ≡ read_by s) → to.new ≡ to.old }
         ensures seen { pass.new.seen ≡ pass.new.found }
         ensures saw { pass.new.saw ≡ pass.new.found_sealed }
-        ensures never { pass.old.saw ≡ true → result ≡ Done }
+        ensures never { pass.old.saw ≡ true → result ≡ read_by s }
         ensures told { told_of_look result ≡ look_reply (found_shelf pass.new ∷ [])
             (first_step dir input from.now) }
     {

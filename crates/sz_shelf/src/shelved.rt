@@ -16,7 +16,9 @@ ghost use Rattle.sz_region.specs.Images.{measure_of};
 ghost use Rattle.sz_shelf.specs.Tags.{IsTag, StandsFor, tag_pieces, tag_image};
 ghost use Rattle.sz_shelf.specs.Placed.{StandsOnPlaced};
 ghost use Rattle.sz_shelf.specs.Contents.{is_in, missing_in, least_missing};
+ghost use Rattle.sz_shelf.specs.Keeping.{IsFirst};
 
+use crate::read_by::ReadBy;
 use crate::stored::Stored;
 use crate::tag::TagParts;
 use std::alloc::Global;
@@ -38,6 +40,8 @@ pub struct Shelved {
     placed: Vec<u32>,
     /// For each piece whether it is placed.
     marks: Vec<bool>,
+    /// The least piece that is not placed, or the number of pieces.
+    first: usize,
     sealed: bool,
 }
 
@@ -54,7 +58,7 @@ impl Model for Shelved {
     } };
 
     ghost invariant = { λ s.
-        IsShelved s.tag.value s.placed.items s.sealed s.marks.items s.stored };
+        IsShelved s.tag.value s.placed.items s.sealed s.marks.items s.first s.stored };
 }
 
 impl Shelved {
@@ -79,6 +83,7 @@ impl Shelved {
             stored: Stored::Open(store),
             placed,
             marks,
+            first: 0,
             sealed: false,
         })
     }
@@ -139,10 +144,12 @@ impl Shelved {
         ensures none { let n = tag_pieces self.now.tag in
             n ≤ result → missing_in n self.now.placed ≡ None }
     {
-        first_unmarked(&self.marks) as u32
+        self.first as u32
     }
 
-    /// Places the lineage of a piece. Where there is no memory, nothing changes.
+    /// Places the lineage of a piece. Where there is no memory, nothing changes. The search for the
+    /// least piece that is missing goes on from where it was, so all of them together go over the
+    /// pieces once.
     pub(crate) fn place(&mut self, lineage: &PieceLineage) -> Result<(), NoMemory>
         requires piece { lineage.now.piece < tag_pieces self.old.tag }
         requires fits { let t = self.old.tag in
@@ -159,6 +166,7 @@ impl Shelved {
         let piece = lineage.piece();
         self.placed.push_reserved(piece);
         self.marks[piece as usize] = true;
+        self.first = first_unmarked(&self.marks, self.first);
         Ok(())
     }
 
@@ -170,7 +178,8 @@ impl Shelved {
         self.sealed = true;
     }
 
-    /// Adds the image of a set of cells under the relation of an input. Takes no memory.
+    /// Adds the image of a set of cells under the relation of an input, and tells which store was
+    /// read. Takes no memory.
     pub(crate) fn image(
         &self,
         strategy: Strategy,
@@ -178,19 +187,20 @@ impl Shelved {
         input: u32,
         from: &CellBits,
         to: &mut CellBits,
-    )
+    ) -> ReadBy
         requires sealed { self.now.sealed ≡ true }
         requires listed { is_listed self.now.tag.list strategy ≡ true }
         requires stored { is_stored strategy ≡ true }
         requires input { input < length self.now.tag.site.ins }
         requires from { from.now.extent ≡ near_side dir self.now.tag.site input }
         requires to { to.old.extent ≡ far_side dir self.now.tag.site input }
-        ensures { to.new
+        ensures image { to.new
             ≡ with_those to.old (has (tag_image dir self.now.tag input from.now)) }
+        ensures by { result.strategy ≡ strategy }
     {
         a_bitmap_is_its_cells(from);
         let store = self.store();
-        store.image(strategy, dir, input, from, to);
+        ReadBy::image(store, strategy, dir, input, from, to)
     }
 
     /// A share of the stores. The first one makes them such that they can be shared, later ones
@@ -216,13 +226,13 @@ impl Shelved {
     }
 }
 
-/// The first place that is not marked, or the number of places.
-fn first_unmarked(marks: &[bool]) -> usize
-    ensures within { result ≤ length marks.now }
-    ensures below { (k : ℕ) → k < result → slice_index_or marks.now k false ≡ true }
-    ensures here { slice_index_or marks.now result false ≡ false }
+/// The first place that is not marked, or the number of places. Each one before `from` is marked.
+fn first_unmarked(marks: &[bool], from: usize) -> usize
+    requires within { from ≤ length marks.now }
+    requires below { (k : ℕ) → k < from → slice_index_or marks.now k false ≡ true }
+    ensures { IsFirst marks.now result }
 {
-    for place in 0..marks.len() {
+    for place in from..marks.len() {
         if !marks[place] {
             return place;
         }

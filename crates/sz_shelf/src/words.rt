@@ -13,7 +13,7 @@ ghost use Rattle.sz_shelf.specs.Tags.{StandsFor, tag_pieces, tag_image};
 ghost use Rattle.sz_shelf.specs.Contents.{missing_in};
 ghost use Rattle.sz_shelf.specs.Rule.{first_view, last_of, count_of, contents};
 ghost use Rattle.sz_shelf.specs.Steps.{after_win, after_release, after_take, after_count};
-ghost use Rattle.sz_shelf.specs.Steps.{after_load, after_split, after_join, Grows};
+ghost use Rattle.sz_shelf.specs.Steps.{after_load, after_split, parted_view, after_join, Grows};
 ghost use Rattle.sz_shelf.specs.Turns.{IsIdle, Has, HasOut, HasTaken, Entered};
 ghost use Rattle.sz_shelf.specs.Answers.{place_answer, seal_answer, look_answer};
 ghost use Rattle.sz_shelf.specs.declared.answers.Placed.TheVariants.{New};
@@ -179,13 +179,13 @@ impl Words {
         requires idle { IsIdle seat.old.me }
         ensures own { seat.new.table_id ≡ seat.old.table_id }
         ensures also { result.table_id ≡ seat.old.table_id }
-        ensures same { seat.new.me ≡ seat.old.me }
-        ensures new { result.me ≡ (after_split seat.old.me.0, []) }
+        ensures counted { seat.new.me ≡ (after_split seat.old.me.0, []) }
+        ensures new { result.me ≡ (parted_view seat.old.me.0, []) }
     {
         self.table.shared.split_seat::<Copies>(seat)
     }
 
-    /// The kept seat has the longer list and the seal bit of either.
+    /// The kept seat has the longer list, the seal bit of either and the sums of their counts.
     pub(crate) fn join(&self, kept: &mut Seat<Shelved, View>, spent: Seat<Shelved, View>)
         requires kept { (kept.old.table_id ≡ self.now.table) × IsIdle kept.old.me }
         requires spent { (spent.table_id ≡ self.now.table) × IsIdle spent.me }
@@ -313,7 +313,7 @@ impl Words {
         ensures own { seat.new.table_id ≡ seat.old.table_id }
         ensures same { seat.new.me ≡ seat.old.me }
         ensures answer { let v = seat.old.me.0 in
-            result ≡ look_answer (tag_pieces v.tag) v.seen v.saw }
+            result ≡ look_answer strategy (tag_pieces v.tag) v.seen v.saw }
         ensures done { seat.old.me.0.saw ≡ true → to.new
             ≡ with_those to.old (has (tag_image dir seat.old.me.0.tag input from.now)) }
         ensures unsealed { seat.old.me.0.saw ≡ false → to.new ≡ to.old }
@@ -321,8 +321,8 @@ impl Words {
         let store = seat.slot_mut(&self.table.shared, 0);
         let sealed = store.is_sealed();
         if sealed {
-            store.image(strategy, dir, input, from, to);
-            Look::Done
+            let read = store.image(strategy, dir, input, from, to);
+            Look::Done(read)
         } else {
             Look::Unsealed {
                 missing: store.missing(),

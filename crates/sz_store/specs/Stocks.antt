@@ -1,5 +1,5 @@
 -- One store, whichever sort it is: a further sort is a further line in `stock_of`.
-use Rattle.std.specs.Prelude.{◌≡◌, ℕ, ◌+◌, ◌≤◌, ◌++◌, length, true, false, All}
+use Rattle.std.specs.Prelude.{◌≡◌, ℕ, List, ◌+◌, ◌≤◌, ◌++◌, length, true, false, All}
 use Rattle.sz_spec.specs.declared.modes.Mode.{Mode}
 use Rattle.sz_spec.specs.declared.modes.Mode.TheVariants as mode
 use Rattle.sz_spec.specs.Shapes.{Site}
@@ -14,31 +14,53 @@ use Rattle.sz_store.specs.declared.kept.KeptStore.{KeptStore}
 use Rattle.sz_store.specs.declared.kept.KeptStore.TheVariants.{One, Many, Pay}
 use Rattle.sz_store.specs.declared.stores.ListedStore.{ListedStore}
 
--- a store: the operator at its shapes, what it keeps, and for how much more there is room
+-- a store: the operator at its shapes, what it keeps, for how much more there is room, and the
+-- capacities of its lists
 pub record Stock : Type 0 where
   pub site : Site
   pub holding : Holding
   pub room : Room
+  pub capacities : List ℕ
 
 abbrev pub stock_of : KeptStore → Stock
-stock_of (One s) = record { site = s.site; holding = regions s.given; room = s.room }
-stock_of (Many s) = record { site = s.site; holding = regions s.given; room = s.room }
+stock_of (One s) = record {
+  site = s.site;
+  holding = regions s.given;
+  room = s.room;
+  capacities = s.capacities;
+}
+stock_of (Many s) = record {
+  site = s.site;
+  holding = regions s.given;
+  room = s.room;
+  capacities = s.capacities;
+}
 stock_of (Pay s) = record {
   site = s.store.site;
   holding = entries s.comp s.store.given;
   room = s.store.room;
+  capacities = s.store.capacities;
 }
 
--- a store of a list, as the node's stores have it, and the operator that it is for
+-- a store of a list, as the node's stores have it, the operator that it is for, and the capacities
+-- of its lists
 abbrev pub keep_of : ListedStore → Keep
 keep_of l = record { strategy = l.strategy; holding = (stock_of l.kept).holding }
 
 abbrev pub site_of : ListedStore → Site
 site_of l = (stock_of l.kept).site
 
--- the store of a mode before anything is placed
-abbrev pub empty_stock : Site → Mode → Stock
-empty_stock s m = record { site = s; holding = nothing_for m; room = no_room }
+abbrev pub capacities_of : ListedStore → List ℕ
+capacities_of l = (stock_of l.kept).capacities
+
+-- the store of a mode before anything is placed, whatever capacities its lists have
+abbrev pub empty_stock : Site → Mode → List ℕ → Stock
+empty_stock s m capacities = record {
+  site = s;
+  holding = nothing_for m;
+  room = no_room;
+  capacities = capacities;
+}
 
 -- the mode of what is kept
 abbrev pub mode_in : Holding → Mode

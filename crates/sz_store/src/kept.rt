@@ -38,8 +38,8 @@ impl KeptStore {
     pub fn new(alloc: Global, at: Arc<OpAt>, strategy: Strategy) -> Result<KeptStore, NoMemory>
         requires stored { is_stored strategy ≡ true }
         requires supported { supports (arc_value at).op strategy ≡ true }
-        ensures { IfOk result
-            (λ k. stock_of k ≡ empty_stock (arc_value at) (mode_of strategy)) }
+        ensures { IfOk result (λ k. stock_of k
+            ≡ empty_stock (arc_value at) (mode_of strategy) (stock_of k).capacities) }
     {
         match strategy {
             Strategy::FullOneB => Ok(KeptStore::One(FullOne::new(alloc, at, Dir::Back)?)),
@@ -58,8 +58,10 @@ impl KeptStore {
     pub fn reserve(&mut self, lineage: &PieceLineage) -> Result<(), NoMemory>
         requires { CanGrow lineage.now (stock_of self.old) }
         ensures ok { OnOk result (HasRoomFor lineage.now (stock_of self.new)) }
-        ensures kept { stock_of self.new
-            ≡ record (stock_of self.old) { room = (stock_of self.new).room } }
+        ensures kept { stock_of self.new ≡ record (stock_of self.old) {
+          room = (stock_of self.new).room;
+          capacities = (stock_of self.new).capacities;
+        } }
     {
         match self {
             KeptStore::One(store) => store.reserve_piece(lineage),
@@ -68,13 +70,14 @@ impl KeptStore {
         }
     }
 
-    /// Adds the store's part of a lineage. Takes no memory.
+    /// Adds the store's part of a lineage. Takes no memory: each capacity stays.
     pub fn add(&mut self, lineage: &PieceLineage)
         requires part { CanGrow lineage.now (stock_of self.old) }
         requires room { HasRoomFor lineage.now (stock_of self.old) }
         ensures holding { (stock_of self.new).holding
             ≡ with_part lineage.now (stock_of self.old).holding }
         ensures site { (stock_of self.new).site ≡ (stock_of self.old).site }
+        ensures capacities { (stock_of self.new).capacities ≡ (stock_of self.old).capacities }
     {
         match self {
             KeptStore::One(store) => store.add_piece(lineage),
@@ -147,8 +150,12 @@ impl KeptStore {
 /// where `many` is true by sets.
 fn new_pay(alloc: Global, at: Arc<OpAt>, many: bool, comp: bool) -> Result<KeptStore, NoMemory>
     requires { has_mapping (arc_value at).op ≡ false }
-    ensures { IfOk result (λ k. stock_of k
-        ≡ record { site = arc_value at; holding = entries comp []; room = no_room }) }
+    ensures { IfOk result (λ k. stock_of k ≡ record {
+      site = arc_value at;
+      holding = entries comp [];
+      room = no_room;
+      capacities = (stock_of k).capacities;
+    }) }
 {
     let map = PayMap::new(Arc::try_clone(&at)?);
     Ok(KeptStore::Pay(PayStore::new(alloc, map, at, many, comp)?))

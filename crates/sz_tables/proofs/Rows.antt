@@ -298,10 +298,11 @@ sound-none out shapes capacity = record {
       (λ k d h. record { for_sets = omega arith; for_runs = omega arith });
 }
 
--- and is seen as a table without a region pair
-pub none-seen : (out : Extent) (shapes : List Extent)
-    → table_of (empty_sets out) (map empty_sets shapes) [] 0 0 0 ≡ empty_rows out shapes
-none-seen out shapes =
+-- and is seen as a table without a region pair, whatever memory it holds
+pub none-seen : (out : Extent) (shapes : List Extent) (capacities : List ℕ)
+    → record (table_of (empty_sets out) (map empty_sets shapes) [] 0 0 0) { capacities = capacities }
+    ≡ record (empty_rows out shapes) { capacities = capacities }
+none-seen out shapes capacities =
     let extents : map (λ (s : SetsByNumber). s.extent) (map empty_sets shapes) ≡ shapes =
     map-map (λ (s : SetsByNumber). s.extent) empty_sets shapes ∙ map-id shapes in
     let sets : map (λ (s : SetsByNumber). s.sets) (map empty_sets shapes) ≡ map (λ (e : Extent). []) shapes =

@@ -3,7 +3,7 @@ use Rattle.std.proofs.Common.{◌≡◌, ℕ, ◌+◌, ◌<◌, ◌≤◌, List,
 use Rattle.std.proofs.Common.{drop, set}
 use Rattle.std.proofs.Common.{refl, sym, ap, ◌∙◌, inl, inr, arith, length-append, All, ◌-◌, ◌≢◌}
 use Rattle.std.proofs.Common.{get_or-set_other, length-set, length-drop}
-use Rattle.std.specs.List.{slice_get, sum_by}
+use Rattle.std.specs.List.{slice_get, sum_by, concat}
 use Rattle.std.proofs.lemmas.Bool.{cases_lt}
 use Rattle.std.proofs.lemmas.Option.{slice_get_within, unwrap_or-slice_get}
 use Rattle.std.proofs.lemmas.List.{get_or-map, get_or_past, same_lists, length-map}
@@ -16,6 +16,7 @@ use Rattle.sz_cells.specs.Cells.{Cells, no_cells}
 use Rattle.sz_cells.specs.Extent.{Extent}
 use Rattle.sz_tables.specs.Tables.{SetsByNumber, HasAtMostOneMore}
 use Rattle.sz_tables.specs.Rows.{set_at, sets_of, runs_in, empty_sets, HasRoomFor, Takes, TakeEach}
+use Rattle.sz_tables.specs.Rows.{set_capacities}
 
 -- ---- a list with perhaps one more
 
@@ -129,6 +130,21 @@ each-extent old new xs ns taken =
     get_or-map (λ (t : SetsByNumber). t.extent) new k no_sets d (omega arith)
     ∙ ((taken.each k no_sets inside).extent
     ∙ sym (get_or-map (λ (t : SetsByNumber). t.extent) old k no_sets d inside)))
+
+-- no table has taken memory
+pub each-capacities : (old new : List SetsByNumber) (xs : List Cells) (ns : List ℕ) → TakeEach old new xs ns
+    → set_capacities new ≡ set_capacities old
+each-capacities old new xs ns taken =
+    let own = λ (t : SetsByNumber). t.capacities in
+    let same : map own new ≡ map own old =
+    same_lists _ _
+    (length-map new own ∙ (taken.as_many ∙ sym (length-map old own)))
+    (λ k d below.
+    let long = length-map new own in
+    let inside : k < length old = omega (arith, taken.as_many) in
+    get_or-map own new k no_sets d (omega arith)
+    ∙ ((taken.each k no_sets inside).capacities ∙ sym (get_or-map own old k no_sets d inside))) in
+    ap concat same
 
 -- ---- room
 

@@ -1,19 +1,20 @@
 -- Payload entries by the numbers of their output sets and payloads: one row an entry.
-use Rattle.std.specs.Prelude.{◌≡◌, ℕ, ◌+◌, ◌^◌, ◌<◌, ◌≤◌, List, [], ◌∷◌, map, length, All}
+use Rattle.std.specs.Prelude.{◌≡◌, ℕ, ◌+◌, ◌^◌, ◌<◌, ◌≤◌, List, [], ◌∷◌, ◌++◌, map, length, All}
 use Rattle.std.specs.Prelude.{unwrap_or, Some}
 use Rattle.std.specs.List.{slice_get}
 use Rattle.sz_cells.specs.Extent.{Extent}
 use Rattle.sz_cells.specs.Cells.{Cells, no_cells}
 use Rattle.sz_spec.specs.Values.{no_extent}
 use Rattle.sz_region.specs.Parts.{Entry}
-use Rattle.sz_tables.specs.Tables.{SetsByNumber}
+use Rattle.sz_tables.specs.Tables.{SetsByNumber, first_capacities}
 use Rattle.sz_tables.specs.Payloads.{PayloadsByNumber, payload_at}
 use Rattle.sz_tables.specs.Rows.{set_at, HasRoomFor}
 use Rattle.sz_tables.specs.declared.entry_table.EntryRow.{EntryRow}
 
 -- what is seen of a table of entries: the output's shape, the different sets and payloads, the
--- rows, each the number of a set and of a payload, and for how many rows, runs of their sets and
--- bytes of their payloads there is room without more memory
+-- rows, each the number of a set and of a payload, for how many rows, runs of their sets and bytes
+-- of their payloads there is room without more memory, and the capacities of the lists that are
+-- kept
 pub record EntryRows : Type 0 where
   pub out : Extent
   pub sets : List Cells
@@ -22,6 +23,7 @@ pub record EntryRows : Type 0 where
   pub spare_rows : ℕ
   pub spare_runs : ℕ
   pub spare_bytes : ℕ
+  pub capacities : List ℕ
 
 -- a table without an entry
 abbrev pub no_rows : Extent → EntryRows
@@ -33,6 +35,7 @@ no_rows out = record {
   spare_rows = 0;
   spare_runs = 0;
   spare_bytes = 0;
+  capacities = 0 ∷ first_capacities ++ first_capacities;
 }
 
 -- the row of a number

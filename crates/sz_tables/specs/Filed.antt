@@ -10,13 +10,15 @@ pub record Filed : Type 0 where
   pub key : ℕ
   pub item : ℕ
 
--- what is seen of chains: how many keys there are, the entries in the order in which they came, and
--- for how many keys and entries there is room without more memory
+-- what is seen of chains: how many keys there are, the entries in the order in which they came, for
+-- how many keys and entries there is room without more memory, and the capacities of the lists that
+-- are kept, which say how much memory is held
 pub record Files : Type 0 where
   pub keys : ℕ
   pub entries : List Filed
   pub spare_keys : ℕ
   pub spare : ℕ
+  pub capacities : List ℕ
 
 -- the greatest number below `end` of an entry with this key, and none where no such entry has it
 abbrev pub IsLastBelow : List Filed → ℕ → ℕ → Option ℕ → Type 0

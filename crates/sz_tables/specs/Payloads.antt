@@ -6,12 +6,14 @@ use Rattle.sz_tables.specs.Filed.{Filed, Files}
 use Rattle.sz_tables.specs.Tables.{AreDifferent, slices_by_number}
 use Rattle.sz_tables.specs.declared.spans.Span.{Span}
 
--- what is seen of a table of payloads: their bytes in the order of their numbers, and for how many
--- payloads and how many bytes there is room without more memory
+-- what is seen of a table of payloads: their bytes in the order of their numbers, for how many
+-- payloads and how many bytes there is room without more memory, and the capacities of the lists
+-- that are kept
 pub record PayloadsByNumber : Type 0 where
   pub payloads : List (List ℕ)
   pub spare_payloads : ℕ
   pub spare_bytes : ℕ
+  pub capacities : List ℕ
 
 -- the payload of a number
 abbrev pub payload_at : List (List ℕ) → ℕ → List ℕ

@@ -1,13 +1,13 @@
 -- Region pairs by the numbers of their sets: one row a pair.
-use Rattle.std.specs.Prelude.{◌≡◌, ℕ, ◌+◌, ◌*◌, ◌^◌, ◌<◌, ◌≤◌, List, [], map, length}
+use Rattle.std.specs.Prelude.{◌≡◌, ℕ, ◌+◌, ◌*◌, ◌^◌, ◌<◌, ◌≤◌, List, [], ◌∷◌, map, length}
 use Rattle.std.specs.Prelude.{unwrap_or, slice_index, slice_index_or, sum_by, take, drop, Some}
-use Rattle.std.specs.List.{All, slice_get, zip, range_with_len}
+use Rattle.std.specs.List.{All, slice_get, zip, range_with_len, concat}
 use Rattle.sz_cells.specs.Extent.{Extent}
 use Rattle.sz_cells.specs.Cells.{Cells, no_cells}
 use Rattle.sz_cells.specs.Runs.{runs_of}
 use Rattle.sz_spec.specs.Values.{no_extent}
 use Rattle.sz_region.specs.Parts.{Pairing}
-use Rattle.sz_tables.specs.Tables.{SetsByNumber, HasAtMostOneMore}
+use Rattle.sz_tables.specs.Tables.{SetsByNumber, HasAtMostOneMore, first_capacities}
 
 -- a row: the number of a region pair's output set, and for each input the number of its set
 pub record Row : Type 0 where
@@ -15,7 +15,8 @@ pub record Row : Type 0 where
   pub ins : List ℕ
 
 -- what is seen of a table of region pairs: the shapes of output and inputs, the different sets of
--- each, the rows, and for how many rows and how many runs there is room without more memory
+-- each, the rows, for how many rows and how many runs there is room without more memory, and the
+-- capacities of the lists that are kept
 pub record RowTable : Type 0 where
   pub out : Extent
   pub ins : List Extent
@@ -24,18 +25,7 @@ pub record RowTable : Type 0 where
   pub rows : List Row
   pub spare_rows : ℕ
   pub spare_runs : ℕ
-
--- a table without a region pair
-abbrev pub empty_rows : Extent → List Extent → RowTable
-empty_rows out ins = record {
-  out = out;
-  ins = ins;
-  outs = [];
-  sets = map (λ e. []) ins;
-  rows = [];
-  spare_rows = 0;
-  spare_runs = 0;
-}
+  pub capacities : List ℕ
 
 -- the rows that a list of numbers spells, of so many inputs
 abbrev pub row_from : ℕ → List ℕ → Row
@@ -98,20 +88,44 @@ weight_of r = runs_in r.out + sum_by runs_in r.ins
 
 -- a table of sets that has no set yet
 abbrev pub empty_sets : Extent → SetsByNumber
-empty_sets e = record { extent = e; sets = []; spare_sets = 0; spare_runs = 0 }
+empty_sets e = record {
+  extent = e;
+  sets = [];
+  spare_sets = 0;
+  spare_runs = 0;
+  capacities = first_capacities;
+}
+
+-- the capacities of the lists that some tables of sets keep, one table after the other
+abbrev pub set_capacities : List SetsByNumber → List ℕ
+set_capacities tables = concat (map (λ t. t.capacities) tables)
+
+-- a table without a region pair
+abbrev pub empty_rows : Extent → List Extent → RowTable
+empty_rows out ins = record {
+  out = out;
+  ins = ins;
+  outs = [];
+  sets = map (λ e. []) ins;
+  rows = [];
+  spare_rows = 0;
+  spare_runs = 0;
+  capacities = 0 ∷ length ins ∷ set_capacities (map empty_sets (out ∷ ins));
+}
 
 -- a table of sets has room for so many more sets, and for so many runs of them together
 pub record HasRoomFor (sets runs : ℕ) (t : SetsByNumber) : Type 0 where
   pub for_sets : sets ≤ t.spare_sets
   pub for_runs : runs ≤ t.spare_runs
 
--- a table of sets takes a set, to which it gives this number
+-- a table of sets takes a set, to which it gives this number, and no memory
 pub record Takes (old new : SetsByNumber) (set : Cells) (n : ℕ) : Type 0 where
   pub number : slice_get new.sets n ≡ Some set
   pub sets : HasAtMostOneMore old.sets new.sets set
   pub extent : new.extent ≡ old.extent
   pub room : old.spare_sets ≤ new.spare_sets + 1
   pub runs : old.spare_runs ≤ new.spare_runs + runs_in set
+  pub capacities : new.capacities ≡ old.capacities
 
 -- each of the tables takes the set at its place, to which it gives the number at its place
 pub record TakeEach (old new : List SetsByNumber) (sets : List Cells) (ns : List ℕ) : Type 0 where
@@ -120,7 +134,8 @@ pub record TakeEach (old new : List SetsByNumber) (sets : List Cells) (ns : List
   pub each : (i : ℕ) (d : SetsByNumber) → i < length old
       → Takes (slice_index_or old i d) (slice_index_or new i d) (set_at sets i) (slice_index ns i)
 
--- the table of region pairs with these tables of sets, whose rows so many numbers spell
+-- the table of region pairs with these tables of sets, whose rows so many numbers spell; how much
+-- memory it holds is left out
 abbrev pub table_of : SetsByNumber → List SetsByNumber → List ℕ → ℕ → ℕ → ℕ → RowTable
 table_of outs ins names count rows runs = record {
   out = outs.extent;
@@ -130,6 +145,7 @@ table_of outs ins names count rows runs = record {
   rows = rows_of (length ins) count names;
   spare_rows = rows;
   spare_runs = runs;
+  capacities = [];
 }
 
 -- What stays true of such a table: each row is whole and names sets that are there, there are no

@@ -42,11 +42,13 @@ room_for_entries es = record {
 }
 
 -- A store: the operator between its shapes, the region pairs or entries that it was given or read,
--- in their order, and its room. What it stands for is read off what it was given.
+-- in their order, its room, and the capacities of the lists that it keeps, which say how much
+-- memory it holds. What it stands for is read off what it was given.
 pub record Store (X : Type 0) : Type 0 where
   pub site : Site
   pub given : List X
   pub room : Room
+  pub capacities : List ℕ
 
 -- a region pair has a set of the output's shape and one of each input's
 pub record IsPairOf (s : Site) (r : Pairing) : Type 0 where

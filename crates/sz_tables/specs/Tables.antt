@@ -9,13 +9,19 @@ use Rattle.sz_cells.specs.Runs.{indexes_of, AreRunsFrom}
 use Rattle.sz_tables.specs.Filed.{Filed, Files}
 use Rattle.sz_tables.specs.declared.spans.Span.{Span}
 
--- what is seen of a table of sets: the shape, the sets in the order of their numbers, and for how
--- many sets and how many runs there is room without more memory
+-- what is seen of a table of sets: the shape, the sets in the order of their numbers, for how many
+-- sets and how many runs there is room without more memory, and the capacities of the lists that
+-- are kept
 pub record SetsByNumber : Type 0 where
   pub extent : Extent
   pub sets : List Cells
   pub spare_sets : ℕ
   pub spare_runs : ℕ
+  pub capacities : List ℕ
+
+-- the capacities of a table without a set: it has room for 17 keys, and for nothing else
+abbrev pub first_capacities : List ℕ
+first_capacities = 0 ∷ 0 ∷ 17 ∷ 0 ∷ []
 
 -- no two of the sets are one
 abbrev pub AreDifferent : {X : Type 0} → List X → Type 0

@@ -1,7 +1,7 @@
 //! Entries under keys, each entry linked to the one before it of the same key.
 
 ghost use Rattle.std.specs.Prelude.{◌≡◌, ◌<◌, ◌≤◌, ◌+◌, ◌-◌, ◌^◌, [], ◌∷◌, ◌++◌};
-ghost use Rattle.std.specs.Prelude.{length, map, max, OnOk, OnErr, IfOk};
+ghost use Rattle.std.specs.Prelude.{length, map, max, OnOk, OnErr, IfOk, replicate, vec_capacity};
 ghost use Rattle.std.specs.List.{HoldsAt};
 ghost use Rattle.sz_tables.specs.Filed.{IsLastBelow, IsWidened, rest_under, told};
 
@@ -28,12 +28,11 @@ struct Link {
 }
 
 impl Model for Chains {
-    ghost use Rattle.std.specs.Prelude.{length, map};
+    ghost use Rattle.std.specs.Prelude.{length, map, [], ◌∷◌, vec_capacity};
     ghost use Rattle.sz_tables.specs.Filed.{Files};
 
     ghost Value = { Files };
 
-    ghost use Rattle.std.specs.Prelude.{vec_capacity};
     ghost use Rattle.sz_tables.specs.Filed.{entry_of, AreChained, HasRoom};
 
     ghost view = { λ c. record {
@@ -41,6 +40,7 @@ impl Model for Chains {
       entries = map entry_of c.links.items;
       spare_keys = c.spare_keys;
       spare = c.spare;
+      capacities = vec_capacity c.heads ∷ vec_capacity c.links ∷ [];
     } };
 
     ghost invariant = { λ c. AreChained c.heads.items c.links.items
@@ -49,13 +49,18 @@ impl Model for Chains {
 }
 
 impl Chains {
-    /// No entry yet, under so many keys.
+    /// No entry yet, under so many keys, and room for no more than these.
     pub fn new(alloc: Global, keys: u32) -> Result<Chains, NoMemory>
-        ensures { IfOk result (λ c.
-            c ≡ record { keys = keys; entries = []; spare_keys = 0; spare = 0 }) }
+        ensures { IfOk result (λ c. c ≡ record {
+          keys = keys;
+          entries = [];
+          spare_keys = 0;
+          spare = 0;
+          capacities = keys ∷ 0 ∷ [];
+        }) }
     {
         Ok(Chains {
-            heads: vec![in alloc; 0; keys as usize]?,
+            heads: no_heads(alloc, keys)?,
             links: Vec::new(alloc),
             spare_keys: 0,
             spare: 0,
@@ -69,10 +74,12 @@ impl Chains {
         ensures ok { OnOk result (self.new ≡ record self.old {
           spare_keys = max self.old.spare_keys keys;
           spare = max self.old.spare entries;
+          capacities = self.new.capacities;
         }) }
         ensures kept { self.new ≡ record self.old {
           spare_keys = self.new.spare_keys;
           spare = self.new.spare;
+          capacities = self.new.capacities;
         } }
         ensures grown { (self.old.spare_keys ≤ self.new.spare_keys)
             × (self.old.spare ≤ self.new.spare) }
@@ -84,8 +91,10 @@ impl Chains {
     /// Makes room for so many more keys.
     fn reserve_keys(&mut self, more: u32) -> Result<(), NoMemory>
         requires { self.old.keys + more < 2 ^ 32 }
-        ensures ok { OnOk result
-            (self.new ≡ record self.old { spare_keys = max self.old.spare_keys more }) }
+        ensures ok { OnOk result (self.new ≡ record self.old {
+          spare_keys = max self.old.spare_keys more;
+          capacities = self.new.capacities;
+        }) }
         ensures err { OnErr result (self.new ≡ self.old) }
     {
         if more <= self.spare_keys {
@@ -99,8 +108,10 @@ impl Chains {
     /// Makes room for so many more entries.
     fn reserve_entries(&mut self, more: u32) -> Result<(), NoMemory>
         requires { length self.old.entries + more < 2 ^ 32 }
-        ensures ok { OnOk result
-            (self.new ≡ record self.old { spare = max self.old.spare more }) }
+        ensures ok { OnOk result (self.new ≡ record self.old {
+          spare = max self.old.spare more;
+          capacities = self.new.capacities;
+        }) }
         ensures err { OnErr result (self.new ≡ self.old) }
     {
         if more <= self.spare {
@@ -147,7 +158,7 @@ impl Chains {
         Ok(anew)
     }
 
-    /// One key more, under which nothing is filed. Takes no memory.
+    /// One key more, under which nothing is filed. Takes no memory: each capacity stays.
     pub fn add_key(&mut self)
         requires { 0 < self.old.spare_keys }
         ensures { self.new ≡ record self.old {
@@ -160,7 +171,7 @@ impl Chains {
     }
 
     /// Files an item under a key. Its number is the count of the entries before it. Takes no
-    /// memory.
+    /// memory: each capacity stays.
     pub fn add(&mut self, key: u32, item: u32)
         requires key { key < self.old.keys }
         requires room { 0 < self.old.spare }
@@ -218,6 +229,18 @@ impl Chains {
     {
         self.links.len() as u32
     }
+}
+
+/// So many noughts, and room for no more.
+fn no_heads(alloc: Global, keys: u32) -> Result<Vec<u32>, NoMemory>
+    ensures items { IfOk result (λ v. v.items ≡ replicate keys 0) }
+    ensures capacity { IfOk result (λ v. vec_capacity v ≡ keys) }
+{
+    let mut heads = Vec::with_capacity(alloc, keys as usize)?;
+    for _ in 0..keys {
+        heads.push_reserved(0);
+    }
+    Ok(heads)
 }
 
 /// The number that is kept as one more than it, `None` where 0 is kept.

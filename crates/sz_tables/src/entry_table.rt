@@ -42,6 +42,7 @@ pub struct EntryRow {
 }
 
 impl Model for EntryTable {
+    ghost use Rattle.std.specs.Prelude.{◌∷◌, ◌++◌, vec_capacity};
     ghost use Rattle.sz_tables.specs.Entries.{EntryRows};
 
     ghost Value = { EntryRows };
@@ -54,9 +55,9 @@ impl Model for EntryTable {
       spare_rows = t.spare_rows;
       spare_runs = t.spare_runs;
       spare_bytes = t.spare_bytes;
+      capacities = vec_capacity t.rows ∷ t.sets.capacities ++ t.payloads.capacities;
     } };
 
-    ghost use Rattle.std.specs.Prelude.{vec_capacity};
     ghost use Rattle.sz_tables.specs.Entries.{AreEntriesSound};
 
     ghost invariant = { λ t. AreEntriesSound t.sets t.payloads t.rows.items t.spare_rows
@@ -86,11 +87,13 @@ impl EntryTable {
           spare_rows = max self.old.spare_rows rows;
           spare_runs = max self.old.spare_runs runs;
           spare_bytes = max self.old.spare_bytes bytes;
+          capacities = self.new.capacities;
         }) }
         ensures kept { self.new ≡ record self.old {
           spare_rows = self.new.spare_rows;
           spare_runs = self.new.spare_runs;
           spare_bytes = self.new.spare_bytes;
+          capacities = self.new.capacities;
         } }
         ensures grown { (self.old.spare_rows ≤ self.new.spare_rows)
             × (self.old.spare_runs ≤ self.new.spare_runs)
@@ -109,7 +112,7 @@ impl EntryTable {
     }
 
     /// Adds an entry, whose row is the `len` before. Its set and its payload get the numbers of
-    /// equal ones that are there, or the next ones. Takes no memory.
+    /// equal ones that are there, or the next ones. Takes no memory: each capacity stays.
     pub fn add(&mut self, entry: &PayEntry)
         requires shape { entry.now.out.extent ≡ self.old.out }
         requires rows { 0 < self.old.spare_rows }
@@ -123,6 +126,7 @@ impl EntryTable {
         ensures room { self.old.spare_rows ≤ self.new.spare_rows + 1 }
         ensures runs { self.old.spare_runs ≤ self.new.spare_runs + runs_in entry.now.out }
         ensures bytes { self.old.spare_bytes ≤ self.new.spare_bytes + length entry.now.payload }
+        ensures capacities { self.new.capacities ≡ self.old.capacities }
     {
         let bytes = entry.payload.bytes();
         let set = self.sets.add(&entry.out);

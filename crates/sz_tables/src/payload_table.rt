@@ -5,7 +5,7 @@ ghost use Rattle.std.specs.Prelude.{ℕ, ◌≢◌, MatchOption, vec_len, vec_ca
 ghost use Rattle.std.specs.Bool.{Decides};
 ghost use Rattle.std.specs.Prelude.{length, fold, max, OnOk, OnErr, IfOk, Some};
 ghost use Rattle.std.specs.List.{slice_get};
-ghost use Rattle.sz_tables.specs.Tables.{AreDifferent, HasAtMostOneMore};
+ghost use Rattle.sz_tables.specs.Tables.{AreDifferent, HasAtMostOneMore, first_capacities};
 ghost use Rattle.sz_tables.specs.Payloads.{payload_at, payload_mix, mixed_byte};
 
 use crate::chains::Chains;
@@ -29,7 +29,7 @@ pub struct PayloadTable {
 }
 
 impl Model for PayloadTable {
-    ghost use Rattle.std.specs.Prelude.{◌≤◌, ◌+◌, length, vec_capacity};
+    ghost use Rattle.std.specs.Prelude.{◌≤◌, ◌+◌, ◌∷◌, length, vec_capacity};
     ghost use Rattle.sz_tables.specs.Payloads.{PayloadsByNumber};
 
     ghost Value = { PayloadsByNumber };
@@ -42,6 +42,7 @@ impl Model for PayloadTable {
       payloads = slices_by_number t.bytes.items t.spans.items;
       spare_payloads = t.spare_payloads;
       spare_bytes = t.spare_bytes;
+      capacities = vec_capacity t.bytes ∷ vec_capacity t.spans ∷ t.index.capacities;
     } };
 
     ghost invariant = { λ t. AreKept t.bytes.items t.spans.items t.index
@@ -53,8 +54,12 @@ impl Model for PayloadTable {
 impl PayloadTable {
     /// A table without a payload.
     pub fn new(alloc: Global) -> Result<PayloadTable, NoMemory>
-        ensures { IfOk result (λ t.
-            t ≡ record { payloads = []; spare_payloads = 0; spare_bytes = 0 }) }
+        ensures { IfOk result (λ t. t ≡ record {
+          payloads = [];
+          spare_payloads = 0;
+          spare_bytes = 0;
+          capacities = first_capacities;
+        }) }
     {
         let index = Chains::new(alloc, FIRST_KEYS)?;
         Ok(PayloadTable {
@@ -73,10 +78,12 @@ impl PayloadTable {
         ensures ok { OnOk result (self.new ≡ record self.old {
           spare_payloads = max self.old.spare_payloads payloads;
           spare_bytes = max self.old.spare_bytes bytes;
+          capacities = self.new.capacities;
         }) }
         ensures kept { self.new ≡ record self.old {
           spare_payloads = self.new.spare_payloads;
           spare_bytes = self.new.spare_bytes;
+          capacities = self.new.capacities;
         } }
         ensures grown { (self.old.spare_payloads ≤ self.new.spare_payloads)
             × (self.old.spare_bytes ≤ self.new.spare_bytes) }
@@ -88,9 +95,12 @@ impl PayloadTable {
     /// Makes room for so many more payloads, and for their keys.
     fn reserve_payloads(&mut self, more: u32) -> Result<(), NoMemory>
         requires { length self.old.payloads + more < 2 ^ 32 }
-        ensures ok { OnOk result
-            (self.new ≡ record self.old { spare_payloads = max self.old.spare_payloads more }) }
-        ensures err { OnErr result (self.new ≡ self.old) }
+        ensures ok { OnOk result (self.new ≡ record self.old {
+          spare_payloads = max self.old.spare_payloads more;
+          capacities = self.new.capacities;
+        }) }
+        ensures err { OnErr result
+            (self.new ≡ record self.old { capacities = self.new.capacities }) }
     {
         if more <= self.spare_payloads {
             return Ok(());
@@ -103,8 +113,10 @@ impl PayloadTable {
 
     /// Makes room for so many more bytes.
     fn reserve_bytes(&mut self, more: usize) -> Result<(), NoMemory>
-        ensures ok { OnOk result
-            (self.new ≡ record self.old { spare_bytes = max self.old.spare_bytes more }) }
+        ensures ok { OnOk result (self.new ≡ record self.old {
+          spare_bytes = max self.old.spare_bytes more;
+          capacities = self.new.capacities;
+        }) }
         ensures err { OnErr result (self.new ≡ self.old) }
     {
         if more <= self.spare_bytes {
@@ -116,7 +128,7 @@ impl PayloadTable {
     }
 
     /// The number of this payload, which is added where no payload of the table is equal. Takes no
-    /// memory.
+    /// memory: each capacity stays.
     ///
     /// Costs a look at some bytes of the payload, at each of them where it was added before, and at
     /// the payloads that have the same key.
@@ -127,6 +139,7 @@ impl PayloadTable {
         ensures payloads { HasAtMostOneMore self.old.payloads self.new.payloads bytes.now }
         ensures room { self.old.spare_payloads ≤ self.new.spare_payloads + 1 }
         ensures bytes { self.old.spare_bytes ≤ self.new.spare_bytes + length bytes.now }
+        ensures capacities { self.new.capacities ≡ self.old.capacities }
     {
         let mix = mix_of(bytes);
         match self.find(bytes, mix) {
@@ -224,9 +237,11 @@ fn mix_more(before: u64, bytes: &[u8]) -> u64
 fn put_bytes(list: &mut Vec<u8>, more: &[u8])
     requires { vec_len list.old + length more.now ≤ vec_capacity list.old }
     ensures items { list.new.items ≡ list.old.items ++ more.now }
-    ensures capacity { vec_capacity list.old ≤ vec_capacity list.new }
+    ensures capacity { vec_capacity list.new ≡ vec_capacity list.old }
 {
-    let _ = list.extend_from_slice(more);
+    for byte in more {
+        list.push_reserved(*byte);
+    }
 }
 
 /// Whether two payloads are one.

@@ -39,8 +39,9 @@ pub struct RegionTable {
 }
 
 impl Model for RegionTable {
-    ghost use Rattle.std.specs.Prelude.{◌≡◌, ℕ, ◌<◌, ◌≤◌, ◌*◌, ◌+◌, map, length, All};
-    ghost use Rattle.sz_tables.specs.Rows.{RowTable, rows_of};
+    ghost use Rattle.std.specs.Prelude.{◌≡◌, ℕ, ◌<◌, ◌≤◌, ◌*◌, ◌+◌, ◌∷◌, map, length, All};
+    ghost use Rattle.std.specs.Prelude.{vec_capacity};
+    ghost use Rattle.sz_tables.specs.Rows.{RowTable, rows_of, set_capacities};
 
     ghost Value = { RowTable };
 
@@ -52,9 +53,10 @@ impl Model for RegionTable {
       rows = rows_of (length t.ins.items) t.count t.names.items;
       spare_rows = t.spare_rows;
       spare_runs = t.spare_runs;
+      capacities = vec_capacity t.names ∷ vec_capacity t.ins
+          ∷ set_capacities (t.outs ∷ t.ins.items);
     } };
 
-    ghost use Rattle.std.specs.Prelude.{vec_capacity};
     ghost use Rattle.sz_tables.specs.Rows.{IsSound};
 
     ghost invariant = { λ t. IsSound t.outs t.ins.items t.names.items t.count t.spare_rows
@@ -84,10 +86,12 @@ impl RegionTable {
         ensures ok { OnOk result (self.new ≡ record self.old {
           spare_rows = max self.old.spare_rows rows;
           spare_runs = max self.old.spare_runs runs;
+          capacities = self.new.capacities;
         }) }
         ensures kept { self.new ≡ record self.old {
           spare_rows = self.new.spare_rows;
           spare_runs = self.new.spare_runs;
+          capacities = self.new.capacities;
         } }
         ensures grown { (self.old.spare_rows ≤ self.new.spare_rows)
             × (self.old.spare_runs ≤ self.new.spare_runs) }
@@ -103,7 +107,7 @@ impl RegionTable {
     }
 
     /// Adds a region pair, whose row is the `len` before. Its sets get the numbers of equal sets
-    /// that are there, or the next ones. Takes no memory.
+    /// that are there, or the next ones. Takes no memory: each capacity stays.
     pub fn add(&mut self, region: &Region)
         requires out { region.now.out.extent ≡ self.old.out }
         requires ins { map (λ s. s.extent) region.now.ins ≡ self.old.ins }
@@ -116,6 +120,7 @@ impl RegionTable {
         ensures one { length self.new.rows ≡ length self.old.rows + 1 }
         ensures room { self.old.spare_rows ≤ self.new.spare_rows + 1 }
         ensures runs { self.old.spare_runs ≤ self.new.spare_runs + weight_of region.now }
+        ensures capacities { self.new.capacities ≡ self.old.capacities }
     {
         let number = self.outs.add(&region.out);
         self.names.push_reserved(number);
@@ -214,12 +219,13 @@ impl RegionTable {
 
 /// A table of sets for each of these shapes, without a set.
 fn tables_for(alloc: Global, shapes: &[Shape]) -> Result<Vec<SetTable>, NoMemory>
-    ensures { IfOk result (λ tables. tables.items ≡ map empty_sets shapes.now) }
+    ensures tables { IfOk result (λ tables. tables.items ≡ map empty_sets shapes.now) }
+    ensures capacity { IfOk result (λ tables. vec_capacity tables ≡ length shapes.now) }
 {
-    let mut tables = Vec::new(alloc);
+    let mut tables = Vec::with_capacity(alloc, shapes.len())?;
     for shape in shapes {
         let table = SetTable::new(alloc, *shape)?;
-        tables.push(table)?;
+        tables.push_reserved(table);
     }
     Ok(tables)
 }

@@ -9,7 +9,7 @@ ghost use Rattle.sz_cells.specs.Runs.{runs_of, AreRunsFrom, Spells};
 ghost use Rattle.sz_cells.specs.Extent.{size_of};
 ghost use Rattle.sz_tables.specs.Tables.{AreDifferent, HasAtMostOneMore};
 ghost use Rattle.sz_tables.specs.Tables.{spelled, mix_of, mixed};
-ghost use Rattle.sz_tables.specs.Rows.{set_at, runs_in};
+ghost use Rattle.sz_tables.specs.Rows.{set_at, runs_in, empty_sets};
 
 use crate::chains::Chains;
 use crate::spans::Span;
@@ -34,7 +34,7 @@ pub struct SetTable {
 }
 
 impl Model for SetTable {
-    ghost use Rattle.std.specs.Prelude.{◌≤◌, ◌+◌, map, length, vec_capacity};
+    ghost use Rattle.std.specs.Prelude.{◌≤◌, ◌+◌, ◌∷◌, map, length, vec_capacity};
     ghost use Rattle.sz_tables.specs.Tables.{SetsByNumber};
 
     ghost Value = { SetsByNumber };
@@ -47,6 +47,7 @@ impl Model for SetTable {
       sets = map (spelled t.shape) (runs_by_number t.runs.items t.spans.items);
       spare_sets = t.spare_sets;
       spare_runs = t.spare_runs;
+      capacities = vec_capacity t.runs ∷ vec_capacity t.spans ∷ t.index.capacities;
     } };
 
     ghost invariant = { λ t. AreNumbered t.shape t.runs.items t.spans.items t.index
@@ -58,8 +59,7 @@ impl Model for SetTable {
 impl SetTable {
     /// A table of sets of this shape, without one.
     pub fn new(alloc: Global, shape: Shape) -> Result<SetTable, NoMemory>
-        ensures { IfOk result (λ t.
-            t ≡ record { extent = shape; sets = []; spare_sets = 0; spare_runs = 0 }) }
+        ensures { IfOk result (λ t. t ≡ empty_sets shape) }
     {
         let index = Chains::new(alloc, FIRST_KEYS)?;
         Ok(SetTable {
@@ -78,10 +78,12 @@ impl SetTable {
         ensures ok { OnOk result (self.new ≡ record self.old {
           spare_sets = max self.old.spare_sets sets;
           spare_runs = max self.old.spare_runs runs;
+          capacities = self.new.capacities;
         }) }
         ensures kept { self.new ≡ record self.old {
           spare_sets = self.new.spare_sets;
           spare_runs = self.new.spare_runs;
+          capacities = self.new.capacities;
         } }
         ensures grown { (self.old.spare_sets ≤ self.new.spare_sets)
             × (self.old.spare_runs ≤ self.new.spare_runs) }
@@ -93,9 +95,12 @@ impl SetTable {
     /// Makes room for so many more sets, and for their keys.
     fn reserve_sets(&mut self, more: u32) -> Result<(), NoMemory>
         requires { length self.old.sets + more < 2 ^ 32 }
-        ensures ok { OnOk result
-            (self.new ≡ record self.old { spare_sets = max self.old.spare_sets more }) }
-        ensures err { OnErr result (self.new ≡ self.old) }
+        ensures ok { OnOk result (self.new ≡ record self.old {
+          spare_sets = max self.old.spare_sets more;
+          capacities = self.new.capacities;
+        }) }
+        ensures err { OnErr result
+            (self.new ≡ record self.old { capacities = self.new.capacities }) }
     {
         if more <= self.spare_sets {
             return Ok(());
@@ -108,8 +113,10 @@ impl SetTable {
 
     /// Makes room for so many more runs.
     fn reserve_runs(&mut self, more: usize) -> Result<(), NoMemory>
-        ensures ok { OnOk result
-            (self.new ≡ record self.old { spare_runs = max self.old.spare_runs more }) }
+        ensures ok { OnOk result (self.new ≡ record self.old {
+          spare_runs = max self.old.spare_runs more;
+          capacities = self.new.capacities;
+        }) }
         ensures err { OnErr result (self.new ≡ self.old) }
     {
         if more <= self.spare_runs {
@@ -120,7 +127,8 @@ impl SetTable {
         Ok(())
     }
 
-    /// The number of this set, which is added where no set of the table is equal. Takes no memory.
+    /// The number of this set, which is added where no set of the table is equal. Takes no memory:
+    /// each capacity stays.
     ///
     /// Costs a look at some runs of the set, at each of them where it was added before, and at the
     /// sets that have the same key.
@@ -133,6 +141,7 @@ impl SetTable {
         ensures extent { self.new.extent ≡ self.old.extent }
         ensures room { self.old.spare_sets ≤ self.new.spare_sets + 1 }
         ensures runs { self.old.spare_runs ≤ self.new.spare_runs + runs_in set.now }
+        ensures capacities { self.new.capacities ≡ self.old.capacities }
     {
         let runs = set.runs();
         let mix = mix_of(runs);
@@ -246,9 +255,11 @@ fn mix_more(before: u64, runs: &[Run]) -> u64
 fn put_runs(list: &mut Vec<Run>, more: &[Run])
     requires { vec_len list.old + length more.now ≤ vec_capacity list.old }
     ensures items { list.new.items ≡ list.old.items ++ more.now }
-    ensures capacity { vec_capacity list.old ≤ vec_capacity list.new }
+    ensures capacity { vec_capacity list.new ≡ vec_capacity list.old }
 {
-    let _ = list.extend_from_slice(more);
+    for run in more {
+        list.push_reserved(*run);
+    }
 }
 
 /// Whether two lists of runs are one.

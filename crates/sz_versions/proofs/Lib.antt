@@ -4,6 +4,7 @@ pub mod Steps
 pub mod PathViews
 pub mod Inquiries
 pub mod Keeping
+mod Lending
 pub mod Kept
 pub mod Keeps
 pub mod Stays

@@ -2,6 +2,7 @@
 pub mod Runs
 pub mod Stores
 pub mod Views
+pub mod Lending
 pub mod Efforts
 pub mod Searches
 pub mod Recalled

@@ -7,7 +7,7 @@ use Rattle.sz_spec.specs.declared.modes.Strategy.TheVariants as strategy
 use Rattle.sz_spec.specs.Flows.{Graph}
 use Rattle.sz_spec.specs.Paths.{Step, source_of, is_there}
 use Rattle.sz_flow.specs.Executions.{Execution}
-use Rattle.sz_shelf.specs.Passes.{Onlooker}
+use Rattle.sz_shelf.specs.Passes.{split_off}
 use Rattle.sz_query.specs.declared.used.Used.{Used}
 use Rattle.sz_query.specs.declared.used.Used.TheVariants as used
 use Rattle.sz_query.specs.Views.{View, by_map, by_trace, by_store, by_growth}
@@ -15,10 +15,6 @@ use Rattle.sz_catalogue.specs.Holdings.{Version}
 use Rattle.sz_catalogue.specs.Changes.{way_of}
 use Rattle.sz_versions.specs.Runs.{executions_of}
 use Rattle.sz_versions.specs.Stores.{Keeping, nothing, growing, whole, IsKeptOf}
-
--- a pass that is split off one has seen and keeps the same, and made no step
-abbrev pub split_off : Onlooker → Onlooker
-split_off p = record p { turns = 0; loads = 0 }
 
 -- the view of an execution by what a strategy keeps: by its store, by its shelf while that grows,
 -- and where there is none by a trace

@@ -1,20 +1,21 @@
 //! What is asked along a path of a version.
 
-ghost use Rattle.std.specs.Prelude.{◌≡◌, ◌*◌, ◌≤◌, true, length, map, IfOk};
+ghost use Rattle.std.specs.Prelude.{◌≡◌, ◌*◌, ◌≤◌, ℕ, true, length, map, take, IfOk, OnOk, OnErr};
 ghost use Rattle.std.specs.List.{AllZip, list_all};
 ghost use Rattle.std.specs.Arc.{arc_value};
 ghost use Rattle.sz_cells.specs.Extent.{holds};
 ghost use Rattle.sz_cells.specs.Cells.{named_in};
 ghost use Rattle.sz_spec.specs.Paths.{is_joined, source_of, is_there};
 ghost use Rattle.sz_flow.specs.Executions.{execution_of};
-ghost use Rattle.sz_shelf.specs.Passes.{place_of};
+ghost use Rattle.sz_shelf.specs.Passes.{place_of, with_split, split_off};
 ghost use Rattle.sz_query.specs.Views.{view_of, by_map, by_trace, by_growth, most_traced_by};
 ghost use Rattle.sz_query.specs.Answers.{most_traced_of};
 ghost use Rattle.sz_catalogue.specs.Starts.{step_start, path_start, cell_named};
 ghost use Rattle.sz_catalogue.specs.Rules.{has_named_cell};
 ghost use Rattle.sz_versions.specs.Runs.{IsSoundVersion};
 ghost use Rattle.sz_versions.specs.Stores.{IsTrailOf, IsOwn, keeping_of};
-ghost use Rattle.sz_versions.specs.Views.{view_by, view_kept, IsViewOf, are_there, split_off};
+ghost use Rattle.sz_versions.specs.Views.{view_by, view_kept, IsViewOf, are_there};
+ghost use Rattle.sz_versions.specs.Lending.{lent, once_viewed, once_asked, once_along};
 ghost use Rattle.sz_versions.specs.Searches.{IsSearchOf};
 
 use crate::carry::Carry;
@@ -25,14 +26,15 @@ use std::sync::Arc;
 use sz_catalogue::HeldVersion;
 use sz_cells::{Cell, CellSet, NoMemory, Shape, laws};
 use sz_flow::NodeRun;
-use sz_query::{NodeRunRef, NodeView};
+use sz_query::{Growing, NodeRunRef, NodeView};
 use sz_script::{NamedCell, NamedCells, Path, PathStep};
 use sz_shelf::{Pass, Shelf};
 use sz_spec::{Array, ArrayList, Dir, Strategy, way};
 
 /// What is asked along a path from some named cells, each step by the view of its node for the way
 /// of the step. It shares what the run holds, and a view of a shelf has a pass that is split off,
-/// for which the run is lent.
+/// for which the run is lent: of the run, nothing but these splits changes, and where there is no
+/// memory, those for the first steps.
 pub fn inquiry_along(
     alloc: Global,
     version: &HeldVersion<Carry>,
@@ -47,13 +49,16 @@ pub fn inquiry_along(
     requires named { list_all (has_named_cell (path_start dir version.now path.now)) named.now
         ≡ true }
     ensures search { IfOk result (λ s. IsSearchOf version.now dir path.now named.now s) }
-    ensures same { run.new ≡ run.old }
+    ensures counted { OnOk result (run.new ≡ once_along version.now dir path.now run.old) }
+    ensures err { OnErr result
+        ((n : ℕ) × (run.new ≡ once_along version.now dir (take n path.now) run.old)) }
+    ensures own { IsTrailOf version.now run.new }
 {
     let steps = path.as_slice();
     let start = start_of(version, run, dir, steps[0]);
     let cells = cells_at(alloc, start, named.as_slice())?;
-    let views = views_of(alloc, version, run, dir, steps)?;
     let inputs = inputs_of(alloc, steps)?;
+    let views = views_of(alloc, version, run, dir, steps)?;
     Ok(Inquiry {
         dir,
         views,
@@ -131,7 +136,9 @@ fn views_of(
         (λ v. AllZip (IsViewOf version.now dir) path.now (map view_of v.items)) }
     ensures few { IfOk result
         (λ v. most_traced_of (map view_of v.items) ≤ length path.now * 1048576) }
-    ensures same { run.new ≡ run.old }
+    ensures counted { OnOk result (run.new ≡ once_along version.now dir path.now run.old) }
+    ensures err { OnErr result
+        ((n : ℕ) × (run.new ≡ once_along version.now dir (take n path.now) run.old)) }
 {
     let mut views = Vec::with_capacity(alloc, path.len())?;
     for step in path {
@@ -153,7 +160,8 @@ fn view_at(
     requires there { is_there (source_of version.now.flow step) ≡ true }
     ensures view { IfOk result (λ w. IsViewOf version.now dir step (view_of w)) }
     ensures few { IfOk result (λ w. most_traced_by (view_of w) ≤ 1048576) }
-    ensures same { run.new ≡ run.old }
+    ensures counted { OnOk result (run.new ≡ once_asked version.now dir step run.old) }
+    ensures err { OnErr result (run.new ≡ run.old) }
 {
     let lists = version.lists.as_slice();
     let way = way(lists[step.node as usize].as_slice(), dir);
@@ -173,7 +181,9 @@ fn view_by(
     requires { IsOwn (keeping_of stores.old) }
     ensures view { IfOk result
         (λ w. view_of w ≡ view_by way (execution_of run.now) (keeping_of stores.old)) }
-    ensures same { keeping_of stores.new ≡ keeping_of stores.old }
+    ensures counted { OnOk result
+        (keeping_of stores.new ≡ once_viewed way (keeping_of stores.old)) }
+    ensures err { OnErr result (keeping_of stores.new ≡ keeping_of stores.old) }
 {
     match way {
         Strategy::Map => map_view(run),
@@ -200,7 +210,8 @@ fn kept_view(
     requires { IsOwn (keeping_of stores.old) }
     ensures view { IfOk result
         (λ w. view_of w ≡ view_kept way (execution_of run.now) (keeping_of stores.old)) }
-    ensures same { keeping_of stores.new ≡ keeping_of stores.old }
+    ensures counted { OnOk result (keeping_of stores.new ≡ lent 1 (keeping_of stores.old)) }
+    ensures err { OnErr result (keeping_of stores.new ≡ keeping_of stores.old) }
 {
     match stores {
         NodeStores::Nothing => trace_view(alloc, run),
@@ -224,14 +235,12 @@ fn growing_view(
     requires { place_of pass.old ≡ arc_value shelf.now }
     ensures view { IfOk result (λ w. view_of w ≡ by_growth (execution_of run.now).site
         (execution_of run.now).inputs (arc_value shelf.now) (split_off pass.old) way) }
-    ensures same { pass.new ≡ pass.old }
+    ensures counted { OnOk result (pass.new ≡ with_split pass.old) }
+    ensures err { OnErr result (pass.new ≡ pass.old) }
 {
-    Ok(NodeView::Building {
-        run: run_ref(alloc, run)?,
-        shelf: Arc::try_clone(shelf)?,
-        pass: shelf.split(pass)?,
-        s: way,
-    })
+    let node = Growing::of(run_ref(alloc, run)?, Arc::try_clone(shelf)?);
+    let pass = shelf.split(pass)?;
+    Ok(NodeView::Building { node, pass, s: way })
 }
 
 /// The view by the mapping of cells.

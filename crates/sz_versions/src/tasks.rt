@@ -2,11 +2,12 @@
 //! worker. A task for which there is no memory is left out, and what it would have done is done at
 //! the await.
 
-ghost use Rattle.std.specs.Prelude.{◌≡◌, false, map};
+ghost use Rattle.std.specs.Prelude.{◌≡◌, ◌+◌, ◌≤◌, ℕ, false, map};
 ghost use Rattle.std.specs.Arc.{arc_value};
 ghost use Rattle.sz_spec.specs.Pieces.{pieces_of};
 ghost use Rattle.sz_flow.specs.Executions.{execution_of};
 ghost use Rattle.sz_versions.specs.Stores.{IsKeptOf, AreKeptOf, IsShelfFor, keeping_of};
+ghost use Rattle.sz_versions.specs.Lending.{IsLentTo, AreLent};
 
 use crate::runs::{NodeStores, VersionRun};
 use std::alloc::Global;
@@ -32,7 +33,8 @@ impl Hands {
         Hands { to, workers }
     }
 
-    /// Hands out the tasks of a version. The run is lent, so that passes may be split off.
+    /// Hands out the tasks of a version. The run is lent: passes are split off, and nothing else of
+    /// it changes.
     pub fn hand_out<R: Wait>(
         &self,
         alloc: Global,
@@ -42,7 +44,8 @@ impl Hands {
         run: &mut VersionRun,
     )
         requires { AreKeptOf false run.old.executions lists.now run.old.kept }
-        ensures { run.new ≡ run.old }
+        ensures executions { run.new.executions ≡ run.old.executions }
+        ensures kept { AreLent run.old.kept run.new.kept }
     {
         for node in 0..lists.len() {
             let list = lists[node].as_slice();
@@ -59,7 +62,7 @@ impl Hands {
         }
     }
 
-    /// Hands out the tasks of a node, where its stores grow.
+    /// Hands out the tasks of a node, where its stores grow, one for each worker at the most.
     fn hand_out_node<R: Wait>(
         &self,
         alloc: Global,
@@ -71,7 +74,7 @@ impl Hands {
         stores: &mut NodeStores,
     )
         requires { IsKeptOf false (execution_of run.now) list.now (keeping_of stores.old) }
-        ensures { keeping_of stores.new ≡ keeping_of stores.old }
+        ensures { IsLentTo self.now.workers (keeping_of stores.old) (keeping_of stores.new) }
     {
         let NodeStores::Growing { shelf, pass } = stores else {
             return;
@@ -112,7 +115,8 @@ impl Hands {
         requires own { IsShelfFor (execution_of run.now) list.now (arc_value shelf.now) pass.old }
         requires pieces { (arc_value claims.now).count ≡ pieces_of (arc_value run.now.at).out }
         requires claimant { claimant.old.table ≡ (arc_value claims.now).table }
-        ensures pass { pass.new ≡ pass.old }
+        ensures pass { (n : ℕ) × (n ≤ 1)
+            × (pass.new ≡ record pass.old { splits = pass.old.splits + n }) }
         ensures claimant { claimant.new.table ≡ claimant.old.table }
     {
         let pass = shelf.split(pass)?;

@@ -1,9 +1,9 @@
 //! A shelf of two pieces, and short calls of it.
 
-ghost use Rattle.std.specs.Prelude.{◌≡◌, ◌<◌, ◌||◌, true, IfOk, IfSome};
+ghost use Rattle.std.specs.Prelude.{◌≡◌, ◌<◌, ◌||◌, true, IfOk, OnOk, OnErr, IfSome};
 ghost use Rattle.std.specs.Arc.{arc_value};
 ghost use Rattle.sz_cells.specs.Extent.{flat};
-ghost use Rattle.sz_shelf.specs.Passes.{TookTurn, place_of};
+ghost use Rattle.sz_shelf.specs.Passes.{TookTurn, place_of, with_split, split_off};
 ghost use Rattle.sz_shelf.specs.Steps.{longer};
 ghost use Rattle.sz_shelf.specs.Tags.{StandsFor};
 ghost use Rattle.sz_shelf.specs.declared.answers.SealReply.TheVariants.{Sealed as SealedNow};
@@ -16,7 +16,7 @@ use std::sync::{Arc, Wait};
 use std::test::Fail;
 use sz_cells::{CellBits, CellSet, NoMemory, Run, Shape};
 use sz_ops::{piece, prepare_lineage};
-use sz_query::{NodeRunRef, NodeView};
+use sz_query::{Growing, NodeRunRef, NodeView};
 use sz_shelf::standing::needed_parts_can_be_placed;
 use sz_shelf::{Look, Pass, Placed, SealReply, Shelf};
 use sz_spec::{Array, ArrayList, Dir, Op, OpAt, Strategy, Tally};
@@ -212,12 +212,12 @@ impl Bench {
         ensures site { IfOk result (λ v. view_site (view_of v) ≡ negation) }
         ensures most { IfOk result (λ v. most_traced_by (view_of v) < 66) }
     {
+        let run = NodeRunRef {
+            at: Arc::try_clone(&self.at)?,
+            inputs: ArrayList::of(vec![in alloc; Arc::try_clone(&self.array)?]?),
+        };
         Ok(NodeView::Building {
-            run: NodeRunRef {
-                at: Arc::try_clone(&self.at)?,
-                inputs: ArrayList::of(vec![in alloc; Arc::try_clone(&self.array)?]?),
-            },
-            shelf: Arc::try_clone(&self.shelf)?,
+            node: Growing::of(run, Arc::try_clone(&self.shelf)?),
             pass,
             s: Strategy::FullManyB,
         })
@@ -242,8 +242,10 @@ impl Bench {
     /// One pass more.
     pub fn split(&self, pass: &mut Pass) -> Result<Pass, NoMemory>
         requires { place_of pass.old ≡ self.now }
-        ensures same { pass.new ≡ pass.old }
-        ensures new { IfOk result (λ p. place_of p ≡ self.now) }
+        ensures own { place_of pass.new ≡ place_of pass.old }
+        ensures counted { OnOk result (pass.new ≡ with_split pass.old) }
+        ensures err { OnErr result (pass.new ≡ pass.old) }
+        ensures new { IfOk result (λ p. p ≡ split_off pass.old) }
     {
         self.shelf.split(pass)
     }

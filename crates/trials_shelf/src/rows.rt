@@ -9,19 +9,21 @@ use std::sync::Wait;
 use std::test::Fail;
 use sz_cells::Run;
 use sz_shelf::{Look, Pass, Placed, SealReply};
+use sz_spec::Strategy;
 
 /// The target before a look, and once the image is added.
 pub const BEFORE: [Run; 1] = [Run { first: 0, last: 0 }];
 
 pub const ADDED: [Run; 2] = [Run { first: 0, last: 0 }, Run { first: 3, last: 64 }];
 
-/// Whether a look tells this, and leaves these runs of cells in its target.
+/// Whether a look tells that this piece is missing, or by the store by sets that it is done, and
+/// leaves these runs of cells in its target.
 pub fn looks<R: Wait>(
     alloc: Global,
     rt: &R,
     bench: &Bench,
     pass: &mut Pass,
-    told: Look,
+    missing: Option<u32>,
     cells: &[Run],
 ) -> Result<bool, Fail>
     requires { place_of pass.old ≡ bench.now }
@@ -29,7 +31,11 @@ pub fn looks<R: Wait>(
     ensures turn { IfOk result (λ _. TookTurn pass.old pass.new) }
 {
     let (look, to) = bench.look(alloc, rt, pass)?;
-    Ok(look == told && to.runs() == cells)
+    let told = match look {
+        Look::Done(read) => missing.is_none() && read.strategy() == Strategy::FullManyB,
+        Look::Unsealed { missing: piece } => missing == Some(piece),
+    };
+    Ok(told && to.runs() == cells)
 }
 
 /// Whether both pieces are placed, the later one first, with these answers on the way.
@@ -40,14 +46,7 @@ pub fn fills<R: Wait>(alloc: Global, rt: &R, bench: &Bench, pass: &mut Pass) -> 
     let none = bench.seal(rt, pass) == SealReply::Missing(0);
     let new = bench.place(alloc, rt, pass, 1)? == Placed::New;
     let still = bench.seal(rt, pass) == SealReply::Missing(0);
-    let early = looks(
-        alloc,
-        rt,
-        bench,
-        pass,
-        Look::Unsealed { missing: 0 },
-        &BEFORE,
-    )?;
+    let early = looks(alloc, rt, bench, pass, Some(0), &BEFORE)?;
     let again = bench.place(alloc, rt, pass, 1)? == Placed::Already;
     let last = bench.place(alloc, rt, pass, 0)? == Placed::New;
     Ok(none && new && still && early && again && last)
@@ -59,12 +58,11 @@ fn pieces_are_placed_and_then_sealed(rt: HostRuntime) -> Result<(), Fail> {
     let (bench, mut pass) = Bench::new(alloc)?;
     let mut other = bench.split(&mut pass)?;
     assert!(rt; fills(alloc, &rt, &bench, &mut pass)?);
-    let whole = Look::Unsealed { missing: 2 };
-    assert!(rt; looks(alloc, &rt, &bench, &mut pass, whole, &BEFORE)?);
+    assert!(rt; looks(alloc, &rt, &bench, &mut pass, Some(2), &BEFORE)?);
     assert!(rt; bench.store_of(alloc, &rt, &mut pass)?.is_none());
     assert!(rt; !bench.sealed_now(&mut other));
     assert_eq!(rt; bench.seal(&rt, &mut pass), SealReply::Sealed);
-    assert!(rt; looks(alloc, &rt, &bench, &mut pass, Look::Done, &ADDED)?);
+    assert!(rt; looks(alloc, &rt, &bench, &mut pass, None, &ADDED)?);
     assert_eq!(rt; bench.place(alloc, &rt, &mut pass, 0)?, Placed::Sealed);
     assert!(rt; bench.sealed_now(&mut other));
     Ok(())
@@ -82,7 +80,7 @@ fn what_is_handed_out_is_kept(rt: HostRuntime) -> Result<(), Fail> {
     assert!(rt; pass.kept().is_some());
     let mut after = bench.split(&mut pass)?;
     assert!(rt; before.kept().is_none() && after.kept().is_some());
-    assert!(rt; looks(alloc, &rt, &bench, &mut after, Look::Done, &ADDED)?);
+    assert!(rt; looks(alloc, &rt, &bench, &mut after, None, &ADDED)?);
     bench.join(&mut before, after);
     assert!(rt; before.kept().is_some());
     Ok(())

@@ -10,7 +10,7 @@ use crate::rows::{ADDED, fills, looks};
 use std::alloc::Global;
 use std::sync::{Arc, Wait};
 use std::test::Fail;
-use sz_shelf::{Look, Pass, SealReply};
+use sz_shelf::{Pass, SealReply};
 use sz_store::NodeStore;
 
 /// The stores of a shelf that is filled and sealed first.
@@ -77,6 +77,6 @@ fn stores_that_are_put_in_are_handed_out_from_then_on(rt: HostRuntime) -> Result
     assert!(rt; Arc::strong_count(&new) > shares.1);
     assert_eq!(rt; Arc::strong_count(&given), Arc::strong_count(&new));
     assert!(rt; before.kept().is_some());
-    assert!(rt; looks(alloc, &rt, &bench, &mut pass, Look::Done, &ADDED)?);
+    assert!(rt; looks(alloc, &rt, &bench, &mut pass, None, &ADDED)?);
     Ok(())
 }

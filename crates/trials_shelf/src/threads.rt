@@ -34,7 +34,7 @@ fn fill<R: Wait>(alloc: Global, rt: &R, bench: &Bench, pass: &mut Pass) -> Resul
 /// it the target is as it was, and piece 0 is missing or none.
 fn is_right(look: Look, to: &CellSet) -> bool {
     match look {
-        Look::Done => to.runs() == &ADDED[..],
+        Look::Done(_) => to.runs() == &ADDED[..],
         Look::Unsealed { missing } => missing % 2 == 0 && missing <= 2 && to.runs() == &BEFORE[..],
     }
 }
@@ -88,7 +88,7 @@ fn sees_all<R: Wait>(alloc: Global, rt: &R, bench: &Bench, pass: &mut Pass) -> R
     ensures seen { IfOk result
         (λ _. missing_in (tag_pieces pass.new.tag) pass.new.seen ≡ None) }
 {
-    looks(alloc, rt, bench, pass, Look::Done, &ADDED)
+    looks(alloc, rt, bench, pass, None, &ADDED)
 }
 
 /// Whether a piece was new.

@@ -69,7 +69,8 @@ fn building_is_told<R: Wait>(
     traced: u64,
 ) -> Result<bool, Fail>
     requires { place_of pass.old ≡ bench.now }
-    ensures { pass.new ≡ pass.old }
+    ensures own { place_of pass.new ≡ place_of pass.old }
+    ensures saw { pass.new.saw ≡ pass.old.saw }
 {
     let own = bench.split(pass)?;
     is_told(alloc, rt, bench.building(alloc, own)?, used, traced)

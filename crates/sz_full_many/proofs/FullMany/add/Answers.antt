@@ -1,10 +1,11 @@
 -- The table has one region pair more, and each tree one rectangle more.
-use Rattle.std.proofs.Common.{◌≡◌, ◌<◌, ◌≤◌, length, drop, ap, sym, ◌∙◌, arith}
+use Rattle.std.proofs.Common.{◌≡◌, ◌<◌, ◌≤◌, ◌++◌, ◌∷◌, ℕ, List, length, drop, ap, ap₂, sym, ◌∙◌, arith}
+use Rattle.std.specs.Vec.{vec_capacity}
 use Rattle.std.specs.Arc.{arc_value}
 use Rattle.std.proofs.lemmas.List.{take_at}
 use Rattle.sz_region.specs.Parts.{Pairing}
 use Rattle.sz_tables.specs.Stores.{Store}
-use Rattle.sz_full_many.proofs.Indexing.{room-rows, room-tree, room-less, indexed-more}
+use Rattle.sz_full_many.proofs.Indexing.{room-rows, room-tree, room-less, indexed-more, trees-hold}
 use Rattle.sz_full_many.proofs.FullMany.add.Goals as goal
 
 pub add_bounds-requires-clause-room : goal.add_bounds-requires-clause-room
@@ -41,3 +42,14 @@ returns-clause-items c =
     room-less c.self.inside.dir c.args.region.now c.self.inside.table.spare_rows c.add.new.self.spare_rows trees
     new c.add.ensures.room (omega arith) (rw c.deref_mut.ensures.value at c.add_bounds.ensures.next) in
     rw back (omega (arith, less, seen))
+
+pub returns-clause-capacities : goal.returns-clause-capacities
+returns-clause-capacities c =
+    let t = c.self.inside in
+    let trees = t.trees.items in
+    let new = c.add_bounds.new.trees in
+    let back = take_at new (drop (length new) trees) t.trees.len (omega arith) in
+    let held = trees-hold t.dir c.args.region.now trees new (omega arith)
+    (rw c.deref_mut.ensures.value at c.add_bounds.ensures.next) in
+    rw (back, ← c.self.view_is)
+    (ap₂ (λ (ns ms : List ℕ). ns ++ vec_capacity t.trees ∷ ms) c.add.ensures.capacities held)

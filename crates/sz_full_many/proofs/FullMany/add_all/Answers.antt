@@ -48,4 +48,5 @@ loop-region-preserved c =
       site = c.add.ensures.site ∙ inv.site;
       items = omega (arith, inv.items, c.add.ensures.items);
       runs = omega (arith, rest-more weight_of rs i r there, inv.runs, c.add.ensures.runs);
+      capacities = c.add.ensures.capacities ∙ inv.capacities;
     }

@@ -14,4 +14,5 @@ invariant-loop-region l =
       site : l.self.site ≡ l.fn.self.site;
       items : length rs ≤ l.self.room.items + l.region-index;
       runs : sum_by weight_of (drop l.region-index rs) ≤ l.self.room.runs;
+      capacities : l.self.capacities ≡ l.fn.self.capacities;
     }

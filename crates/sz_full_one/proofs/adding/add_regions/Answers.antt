@@ -54,4 +54,6 @@ loop-region-preserved c =
           (subst (λ (n : ℕ). HasRoom n (length (drop i items)) c.loop-region.index)
           (cells ∙ ap (λ (n : ℕ). n + sum_by pair_cells (map (λ a. arc_value a) (drop (i + 1) items)))
           (ap pair_cells (sym is))) inv.room));
+      capacities = made.capacities ∙ inv.capacities;
+      index_capacities = made.index_capacities ∙ inv.index_capacities;
     }

@@ -1,9 +1,10 @@
 -- One input more: its files are those of the longer table, and the others are left.
 use Rattle.std.proofs.Common.{◌≡◌, ◌≢◌, ◌<◌, ◌≤◌, ◌+◌, ℕ, length, get_or, sym, ap, subst, ◌∙◌, arith}
 use Rattle.std.proofs.Common.{get_or-set_other, length-set}
+use Rattle.std.proofs.Math.Seq.{map-set_same}
 use Rattle.std.proofs.lemmas.List.{get_or_default}
 use Rattle.sz_full_one.specs.declared.index.SetFiles.{SetFiles}
-use Rattle.sz_full_one.specs.ByCells.{AreFiledByIns, HasFileRoom, pair_cells}
+use Rattle.sz_full_one.specs.ByCells.{AreFiledByIns, HasFileRoom, pair_cells, file_capacities}
 use Rattle.sz_full_one.proofs.Growing.{set-each}
 use Rattle.sz_full_one.proofs.index.file_inputs.Goals as goal
 
@@ -30,6 +31,8 @@ loop-input-preserved c =
           let apart : i ≢ n = omega arith in
           get_or-set_other c.loop-input.inputs n i c.file_input.new.files d apart ∙ inv.left i d (omega arith);
       length = length-set c.loop-input.inputs n c.file_input.new.files ∙ inv.length;
+      capacities = map-set_same file_capacities c.loop-input.inputs n c.file_input.new.files was
+          c.file_input.ensures.capacities ∙ inv.capacities;
     }
 
 pub returns-clause-room : goal.returns-clause-room

@@ -139,6 +139,35 @@ refresh_node-requires-clause-out g c κs within =
     in
     node.out
 
+pub refresh_node-requires-clause-value : goal.refresh_node-requires-clause-value
+refresh_node-requires-clause-value g c κs within =
+    let flow = c.args.flow.now in
+    let base = map (λ a. arc_value a) c.args.base.now in
+    let olds = c.args.old.now in
+    let n = c.loop-number.number in
+    let x = c.node-item.result in
+    let before = c.requires.before.0 in
+    let is = c.requires.before.1 in
+    let there = there-of c.nodes-node-items.result.now flow.nodes n x c.nodes-node-items.ensures c.loop-number-test.true
+    c.node-item.is in
+    let over : Over flow (map execution_of olds) base c.args.input c.args.changed.now = record {
+      right = c.requires.well_formed;
+      count = length-map c.args.base.now (λ a. arc_value a) ∙ c.requires.count;
+      fits = c.requires.fits;
+      limits = c.within_limits.ensures;
+      shape = c.requires.shape;
+    } in
+    let many = olds-count flow olds base c.args.input c.args.changed.now before is in
+    let inside : n < length olds = omega (arith, many, slice_get_within flow.nodes n x there) in
+    let node =
+    step-known flow olds c.loop-number.runs.items c.deref.result.now base c.args.input c.args.changed.now before
+    c.loop-number.affected.items c.deref-in-loop-number.result.now c.loop-number.count n x c.index-old-number.result
+    over
+    is c.loop-number.invariant there inside c.index-old-number.is c.deref.ensures.value
+    c.deref-in-loop-number.ensures.value
+    in
+    node.value
+
 pub refresh_node-requires-clause-shapes : goal.refresh_node-requires-clause-shapes
 refresh_node-requires-clause-shapes g c κs within =
     let flow = c.args.flow.now in

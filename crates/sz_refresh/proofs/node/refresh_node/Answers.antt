@@ -19,8 +19,8 @@ run_after-requires-clause-cells g c κs within =
     let rule = subst (λ (z : Site). shape_of z.op z.ins ≡ Ok z.out) c.deref.ensures c.out.ensures.rule in
     let changes = changed_from c.args.input c.args.changed.now c.args.sets.now in
     let make : Site → List Grid → Cells = λ z gs.
-    affected_by z.op gs (map (λ a. arc_value a) c.as_slice-2.result.now) (map changes c.as_slice-3.result.now) in
-    ap (λ (set : Cells). set.extent) (c.in_ok-cells.ensures ∙ ap₂ make c.deref-2.ensures c.as_slice.ensures)
+    affected_by z.op gs (map (λ a. arc_value a) c.as_slice-4.result.now) (map changes c.as_slice-5.result.now) in
+    ap (λ (set : Cells). set.extent) (c.in_ok-cells.ensures ∙ ap₂ make c.deref-4.ensures c.as_slice-3.ensures)
     ∙ out-over s c.args.old.now.inputs c.args.old.now.shapes rule
 
 pub run_after-requires-clause-others : goal.run_after-requires-clause-others
@@ -34,12 +34,12 @@ run_after-requires-clause-others g c κs within =
     let taken : c.in_ok-inputs.inputs ≡ gs = c.in_ok-inputs.ensures in
     let make : Op → List Grid → List Grid → List SourceRef → Cells = λ op a b from.
     affected_by op a b (map changes from) in
-    let op = ap (λ (z : Site). z.op) c.deref-2.ensures ∙ c.requires.op in
+    let op = ap (λ (z : Site). z.op) c.deref-4.ensures ∙ c.requires.op in
     let set : c.in_ok-cells.cells ≡ make c.args.node.now.op olds gs c.args.node.now.from =
     c.in_ok-cells.ensures
-    ∙ ap₂ (λ (p : Op) (a : List Grid). make p a (map (λ a. arc_value a) c.as_slice-2.result.now)
-    c.as_slice-3.result.now)
-    op c.as_slice.ensures
-    ∙ ap₂ (make c.args.node.now.op olds) (c.as_slice-2.ensures ∙ taken) c.as_slice-3.ensures in
+    ∙ ap₂ (λ (p : Op) (a : List Grid). make p a (map (λ a. arc_value a) c.as_slice-4.result.now)
+    c.as_slice-5.result.now)
+    op c.as_slice-3.ensures
+    ∙ ap₂ (make c.args.node.now.op olds) (c.as_slice-4.ensures ∙ taken) c.as_slice-5.ensures in
     subst (λ (b : List Grid). KeepsOthers s b out c.in_ok-cells.cells) (sym taken)
     (subst (λ (z : Cells). KeepsOthers s gs out z) (sym set) c.requires.others)

@@ -14,6 +14,6 @@ returns-clause-run g c =
     let rule = subst (λ (z : Site). shape_of z.op z.ins ≡ Ok z.out) c.deref.ensures c.out.ensures.rule in
     let value : arc_value c.in_ok-out.out ≡ output_of s.op c.args.inputs =
     c.in_ok-out.ensures.output
-    ∙ ap₂ (λ (z : Site) (gs : List Grid). output_of z.op gs) (c.deref-3.ensures ∙ same) c.as_slice-2.ensures in
+    ∙ ap₂ (λ (z : Site) (gs : List Grid). output_of z.op gs) (c.deref-2.ensures ∙ same) c.as_slice.ensures in
     execution-own s (arc_value c.in_ok-at.at) c.args.inputs (map (λ a. arc_value a) c.inputs.inside.items.items)
     (arc_value c.in_ok-out.out) same c.inputs.view_is c.requires.ins rule value

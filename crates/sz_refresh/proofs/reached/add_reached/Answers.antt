@@ -28,7 +28,7 @@ returns-then-has_mode c =
     ∙ ap (λ (z : Cells). with_those z (has set)) (c.in_ok-from.ensures ∙ ap no_cells c.shape-2.ensures.value)
     ∙ with-set set.extent set refl c.shape-2.ensures.rising in
     let known : has_mapping s.op ≡ true =
-    ap has_mapping (sym c.op.ensures.value) ∙ sym c.has_mode.ensures ∙ c.if-has_mode.true in
+    ap has_mapping (sym c.op-2.ensures.value) ∙ sym c.has_mode.ensures ∙ c.if-has_mode.true in
     c.image_by_map.ensures
     ∙ ap (λ (z : Cells). with_those to (has (forward (mapped s.op s.ins c.args.number) s.out z))) whole
     ∙ mapped-reaches s.op s.ins s.out (map (λ x. arc_value x) c.args.old.now) (map (λ x. arc_value x) c.args.new.now)

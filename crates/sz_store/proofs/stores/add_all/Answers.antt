@@ -1,7 +1,7 @@
 -- One store more has the lineage, and those behind it are as they were.
 use Rattle.std.proofs.Common.{◌<◌, length, ◌∙◌, arith, length-set}
 use Rattle.std.proofs.Math.Seq.{map-set_same}
-use Rattle.sz_store.specs.Stocks.{site_of}
+use Rattle.sz_store.specs.Stocks.{site_of, capacities_of}
 use Rattle.sz_store.proofs.Listed.{all-with, done-more, ahead-more}
 use Rattle.sz_store.proofs.stores.add_all.Goals as goal
 
@@ -19,6 +19,8 @@ loop-store-preserved c =
           inv.ahead c.add.ensures.keep;
       ahead = ahead-more stores c.args.stores.now i new inv.ahead;
       sites = map-set_same site_of stores i new c.store-item.result c.add.ensures.site ∙ inv.sites;
+      capacities =
+          map-set_same capacities_of stores i new c.store-item.result c.add.ensures.capacities ∙ inv.capacities;
     }
 
 pub returns-clause-stores : goal.returns-clause-stores

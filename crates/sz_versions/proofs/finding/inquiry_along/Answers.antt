@@ -1,13 +1,19 @@
 -- The views are those of the path's nodes, so each step can be taken, and no more is traced than 32 outputs have.
-use Rattle.std.proofs.Common.{◌≡◌, ℕ, List, map, refl, sym, ap, ap₂, ◌∙◌, subst, arith}
+use Rattle.std.proofs.Common.{◌≡◌, ℕ, List, map, take, refl, sym, ap, ap₂, ◌∙◌, subst, arith, Result, Ok, Err, OnOk}
+use Rattle.std.proofs.Common.{OnErr}
 use Rattle.sz_cells.specs.Extent.{Extent}
 use Rattle.sz_cells.specs.Cells.{Cells, named_in}
+use Rattle.sz_spec.specs.declared.modes.Dir.{Dir}
 use Rattle.sz_spec.specs.Paths.{Step}
 use Rattle.sz_query.specs.Views.{view_of}
 use Rattle.sz_query.specs.Answers.{AreSteps}
 use Rattle.sz_script.specs.declared.command.NamedCell.{NamedCell}
+use Rattle.sz_catalogue.specs.Holdings.{Version}
 use Rattle.sz_catalogue.specs.Starts.{cell_named, path_start}
+use Rattle.sz_versions.specs.Stores.{Trail, IsTrailOf}
 use Rattle.sz_versions.specs.Views.{IsViewOf}
+use Rattle.sz_versions.specs.Lending.{once_along}
+use Rattle.sz_versions.proofs.Lending.{trail-along}
 use Rattle.sz_versions.proofs.PathViews.{sound-views, joined-there, views-steps, joined-parts, views-length}
 use Rattle.sz_versions.proofs.PathViews.{path-starts}
 use Rattle.sz_versions.proofs.finding.inquiry_along.Goals as goal
@@ -57,3 +63,23 @@ returns-clause-search c =
       start = c.in_ok-cells.ensures
           ∙ ap₂ (λ (e : Extent) (ps : List NamedCell). named_in e (map (cell_named e) ps)) start c.as_slice.ensures;
     }
+
+-- of the run nothing but the splits changed, for the steps of which a view was made
+own-lent : {T E : Type 0} (v : Version) (dir : Dir) (path : List Step) (t u : Trail) (r : Result T E) → IsTrailOf v t
+    → OnOk r (u ≡ once_along v dir path t)
+    → OnErr r ((n : ℕ) × (u ≡ once_along v dir (take n path) t)) → IsTrailOf v u
+own-lent v dir path t u (Ok x) own counted err = subst (IsTrailOf v) (sym counted) (trail-along v dir path t own)
+own-lent v dir path t u (Err e) own counted err =
+    subst (IsTrailOf v) (sym err.1) (trail-along v dir (take err.0 path) t own)
+
+pub returns-clause-own : goal.returns-clause-own
+returns-clause-own c =
+    let said = c.views_of.ensures in
+    own-lent c.args.version.now c.args.dir _ c.args.run.now c.views_of.new.run c.views_of.result c.requires.run
+    said.counted said.err
+
+pub returns-in_err-views-clause-own : goal.returns-in_err-views-clause-own
+returns-in_err-views-clause-own c =
+    let said = c.views_of.ensures in
+    own-lent c.args.version.now c.args.dir _ c.args.run.now c.views_of.new.run c.views_of.result c.requires.run
+    said.counted said.err

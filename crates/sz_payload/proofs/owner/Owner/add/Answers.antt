@@ -1,9 +1,9 @@
 -- The entry's set is filed, and those before stay filed.
-use Rattle.std.proofs.Common.{◌≡◌, ℕ, ◌<◌, ◌+◌, length, drop, get_or, cond, ap, subst, arith}
+use Rattle.std.proofs.Common.{◌≡◌, ℕ, ◌<◌, ◌+◌, length, drop, get_or, cond, ap, sym, subst, ◌∙◌, arith}
 use Rattle.std.proofs.lemmas.List.{take_at}
 use Rattle.sz_cells.specs.Runs.{covers}
 use Rattle.sz_payload.specs.declared.owner.Owner.{Owner}
-use Rattle.sz_payload.specs.Owned.{IsIndexOf, HasCellRoom}
+use Rattle.sz_payload.specs.Owned.{IsIndexOf, HasCellRoom, owner_capacities}
 use Rattle.sz_rtree.specs.Rectangles.{Rectangles}
 use Rattle.sz_tables.specs.Filed.{Files}
 use Rattle.sz_tables.specs.Stores.{cells_in}
@@ -49,3 +49,14 @@ returns-in-Many-clause-index c = λ es e at count index.
     let round = subst (λ (w : Owner). IsIndexOf c.args.shape es w) c.in-Many.is index in
     let more = ap (λ (t : Rectangles). t.rectangles) c.insert.ensures in
     rw more (round-more es c.in-Many.tree.rectangles e c.bounds_of_set.result round (rw at c.bounds_of_set.ensures))
+
+pub returns-in-One-clause-capacities : goal.returns-in-One-clause-capacities
+returns-in-One-clause-capacities c = sym (ap owner_capacities c.in-One.is)
+
+pub returns-in-Few-clause-capacities : goal.returns-in-Few-clause-capacities
+returns-in-Few-clause-capacities c =
+    ap (λ (f : Files). f.capacities) c.file_set.ensures ∙ sym (ap owner_capacities c.in-Few.is)
+
+pub returns-in-Many-clause-capacities : goal.returns-in-Many-clause-capacities
+returns-in-Many-clause-capacities c =
+    ap (λ (t : Rectangles). t.capacities) c.insert.ensures ∙ sym (ap owner_capacities c.in-Many.is)

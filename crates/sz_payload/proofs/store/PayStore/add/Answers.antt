@@ -1,5 +1,5 @@
 -- The table and the index have one entry more.
-use Rattle.std.proofs.Common.{◌≡◌, ℕ, ◌+◌, true, List, [], ◌∷◌, ◌++◌, ap, sym, subst, ◌∙◌, arith}
+use Rattle.std.proofs.Common.{◌≡◌, ℕ, ◌+◌, true, List, [], ◌∷◌, ◌++◌, ap, ap₂, sym, subst, ◌∙◌, arith}
 use Rattle.std.specs.Arc.{arc_value}
 use Rattle.sz_cells.specs.Extent.{Extent}
 use Rattle.sz_spec.specs.Payloads.{is_payload}
@@ -64,3 +64,7 @@ invariant_of-self g c =
       },
       c.self.invariant.1,
     )
+
+pub returns-clause-capacities : goal.returns-clause-capacities
+returns-clause-capacities g c =
+    rw (← c.self.view_is) (ap₂ (λ (ns ms : List ℕ). ns ++ ms) c.add-2.ensures.capacities c.add.ensures.capacities)

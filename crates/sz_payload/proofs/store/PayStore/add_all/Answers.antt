@@ -134,4 +134,5 @@ loop-entry-preserved g c =
           ))
           (omega (arith, rest-more (λ (x : Entry). cells_in x.out) es i e there, inv.cells));
       bytes = omega (arith, rest-more (λ (x : Entry). length x.payload) es i e there, inv.bytes, c.add.ensures.bytes);
+      capacities = c.add.ensures.capacities ∙ inv.capacities;
     }

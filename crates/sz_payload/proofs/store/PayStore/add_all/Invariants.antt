@@ -18,4 +18,5 @@ invariant-loop-entry g l =
       runs : sum_by (λ e. runs_in e.out) (drop l.entry-index es) ≤ l.self.store.room.runs;
       cells : sum_by (λ e. cells_in e.out) (drop l.entry-index es) ≤ l.self.store.room.cells;
       bytes : sum_by (λ e. length e.payload) (drop l.entry-index es) ≤ l.self.store.room.bytes;
+      capacities : l.self.store.capacities ≡ l.fn.self.store.capacities;
     }

@@ -28,7 +28,7 @@ returns-clause-cells g c done =
     ap (λ (x : View). x.tag) entered.after ∙ ap (λ (x : Onlooker). x.tag) c.pass.view_is in
     subst (λ (x : Shelf). c.image-look.new.to ≡ with_those to (has (after_look (x ∷ []) ask).cells))
     (sym (found-is _ w y _ c.leave.ensures.left entered stays))
-    (looked-cells w.tag w.seen w.saw c.args.dir c.args.input from to c.image-look.new.to c.image-look.result
+    (looked-cells w.tag c.args.s w.seen w.saw c.args.dir c.args.input from to c.image-look.new.to c.image-look.result
     (same-stays _ w entered).whole
     (subst (λ (t : Tag). c.args.input < length t.site.ins) (sym tag) c.requires.input)
     c.a_bitmap_is_its_cells.ensures.cells

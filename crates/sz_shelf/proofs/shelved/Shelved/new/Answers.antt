@@ -8,7 +8,7 @@ use Rattle.sz_spec.specs.declared.modes.Strategy.{Strategy}
 use Rattle.sz_store.specs.Kept.{NodeLineage, no_lineage}
 use Rattle.sz_shelf.specs.Tags.{Tag, tag_pieces}
 use Rattle.sz_shelf.specs.Keeping.{IsMadeOf}
-use Rattle.sz_shelf.proofs.Marks.{marks-none}
+use Rattle.sz_shelf.proofs.Marks.{marks-none, first-none}
 use Rattle.sz_shelf.proofs.Stores.{made-none}
 use Rattle.sz_shelf.proofs.shelved.Shelved.new.Goals as goal
 
@@ -31,6 +31,7 @@ invariant_of-result c =
     (record {
       tag = c.requires;
       marks = marks-none t n pieces few;
+      first = first-none n;
       whole = λ sealed. absurd (true≢false (sym sealed));
       stores = subst (λ (x : NodeLineage). IsMadeOf t [] x) (sym made) (made-none t);
     })

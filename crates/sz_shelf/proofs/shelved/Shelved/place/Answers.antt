@@ -1,9 +1,11 @@
 -- One piece more is marked, and the open stores are made of one lineage more.
-use Rattle.std.proofs.Common.{◌≡◌, ◌<◌, ◌++◌, [], ◌∷◌, ℕ, List, length, false, true≢false, subst, sym, ap, ◌∙◌}
+use Rattle.std.proofs.Common.{◌≡◌, ◌<◌, ◌++◌, [], ◌∷◌, ℕ, List, Bool, length, set, true, false, true≢false, subst}
+use Rattle.std.proofs.Common.{sym, ap, ◌∙◌}
 use Rattle.sz_shelf.specs.Tags.{tag_pieces}
 use Rattle.sz_shelf.specs.Contents.{Contents, is_in}
 use Rattle.sz_region.specs.Images.{measure_of}
 use Rattle.sz_shelf.specs.Fitting.{FitsAsNeeded}
+use Rattle.sz_shelf.specs.Keeping.{IsFirst}
 use Rattle.sz_shelf.proofs.Marks.{marks-more}
 use Rattle.sz_shelf.proofs.Stores.{can-take, stores-more}
 use Rattle.sz_shelf.proofs.shelved.Shelved.place.Goals as goal
@@ -40,6 +42,9 @@ invariant_of-self-2 c =
     (record {
       tag = c.self.invariant.tag;
       marks = marks-more t placed c.self.inside.marks.items p.piece c.self.invariant.marks inside new;
+      first = subst (λ (bs : List Bool). IsFirst bs c.first_unmarked-self-inside.result)
+          (c.deref.ensures.value ∙ ap (λ (n : ℕ). set c.self.inside.marks.items n true) c.piece-piece.ensures)
+          c.first_unmarked-self-inside.ensures;
       whole = λ sealed. absurd (true≢false (sym sealed ∙ free));
       stores = stores-more t placed c.self.inside.sealed c.self.inside.stored p free c.self.invariant.stores below fits;
     })

@@ -24,6 +24,7 @@ invariant_of-self c =
     record {
       tag = c.self.invariant.tag;
       marks = c.self.invariant.marks;
+      first = c.self.invariant.first;
       whole = c.self.invariant.whole;
       stores =
           subst (λ (b : Bool). AreStores t placed b new) (sym sealed)

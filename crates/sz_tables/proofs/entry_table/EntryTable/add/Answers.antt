@@ -36,6 +36,7 @@ adds c =
             extent = set.extent;
             room = set.room;
             runs = set.runs;
+            capacities = set.capacities;
           });
       payload =
           rw (← same) (record {

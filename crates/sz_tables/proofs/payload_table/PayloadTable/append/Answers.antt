@@ -50,4 +50,7 @@ returns-clause-table c =
       c.put_bytes.ensures.items,
       c.push_reserved.ensures.items,
       cuts-push bytes more spans s was.0.within start end,
+      c.put_bytes.ensures.capacity,
+      c.push_reserved.ensures.capacity,
+      ap (λ (f : Files). f.capacities) c.add.ensures,
     ) refl

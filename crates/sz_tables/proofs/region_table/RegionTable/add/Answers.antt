@@ -13,7 +13,7 @@ use Rattle.sz_spec.specs.Values.{no_extent}
 use Rattle.sz_tables.specs.Tables.{SetsByNumber, HasAtMostOneMore}
 use Rattle.sz_tables.specs.Rows.{TakeEach, runs_in, weight_of, empty_sets, set_at, sets_of}
 use Rattle.sz_tables.proofs.Rows.{Adds, pairings-added, added-keeps, added-sound, rows-length}
-use Rattle.sz_tables.proofs.Taking.{as-many, read-sets}
+use Rattle.sz_tables.proofs.Taking.{as-many, read-sets, each-capacities}
 use Rattle.sz_tables.proofs.region_table.RegionTable.add.Goals as goal
 use Rattle.sz_tables.proofs.region_table.RegionTable.add.Goals.{After-runs_of_each}
 
@@ -57,6 +57,7 @@ adds c =
             extent = took.extent;
             room = took.room;
             runs = took.runs;
+            capacities = took.capacities;
           });
       each = rw (same, behind) at c.add_each.ensures.taken;
       inputs = as-many c.args.region.now.ins t.ins.items (rw (← c.self.view_is) at c.requires.ins);
@@ -96,10 +97,11 @@ pub returns-clause-kept : goal.returns-clause-kept
 returns-clause-kept c =
     let s = (goal.at.returns-clause-kept c).After-runs_of_each in
     let t = s.self.inside in
+    let kept =
+    added-keeps t.outs s.add-number.new.self t.ins.items s.add_each.new.tables t.names.items s.add_each.new.names.items
+    s.args.region.now t.count t.spare_rows t.spare_runs (vec_capacity t.names) (adds s) s.self.invariant 0 0 in
     rw (with_items_is t.ins s.add_each.new.tables (whole s), ← s.self.view_is)
-    (added-keeps t.outs s.add-number.new.self t.ins.items s.add_each.new.tables t.names.items s.add_each.new.names.items
-    s.args.region.now t.count t.spare_rows t.spare_runs (vec_capacity t.names) (adds s) s.self.invariant
-    (t.spare_rows - 1) _)
+    (record { out = kept.out; ins = kept.ins; rows = kept.rows; outs = kept.outs; sets = kept.sets })
 
 pub returns-clause-one : goal.returns-clause-one
 returns-clause-one c =
@@ -109,6 +111,20 @@ returns-clause-one c =
       rows-length _ (t.count + 1) s.add_each.new.names.items,
       ← s.self.view_is,
       rows-length (length t.ins.items) t.count t.names.items,
+    ) refl
+
+pub returns-clause-capacities : goal.returns-clause-capacities
+returns-clause-capacities c =
+    let s = (goal.at.returns-clause-capacities c).After-runs_of_each in
+    let t = s.self.inside in
+    let took = adds s in
+    rw (
+      with_items_is t.ins s.add_each.new.tables (whole s),
+      ← s.self.view_is,
+      s.add_each.ensures.capacity,
+      s.push_reserved.ensures.capacity,
+      took.out.capacities,
+      each-capacities t.ins.items s.add_each.new.tables s.args.region.now.ins took.ns took.each,
     ) refl
 
 -- each table of sets has at most one set more, the region pair's

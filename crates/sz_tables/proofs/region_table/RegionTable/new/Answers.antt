@@ -4,8 +4,14 @@ use Rattle.sz_tables.proofs.region_table.RegionTable.new.Goals as goal
 
 pub invariant_of-result : goal.invariant_of-result
 invariant_of-result c =
-    rw (c.in_ok-new.ensures, c.in_ok-tables_for.ensures, c.new-2.ensures.items) (sound-none c.args.out c.args.ins.now _)
+    rw (c.in_ok-new.ensures, c.in_ok-tables_for.ensures.tables, c.new-2.ensures.items)
+    (sound-none c.args.out c.args.ins.now _)
 
 pub returns : goal.returns
 returns c =
-    rw (c.in_ok-new.ensures, c.in_ok-tables_for.ensures) (none-seen c.args.out c.args.ins.now)
+    rw (
+      c.in_ok-new.ensures,
+      c.in_ok-tables_for.ensures.tables,
+      c.in_ok-tables_for.ensures.capacity,
+      c.new-2.ensures.capacity,
+    ) (none-seen c.args.out c.args.ins.now _)

@@ -53,4 +53,7 @@ returns-clause-table c =
       c.push_reserved.ensures.items,
       cuts-push runs more spans s was.0.within start end,
       map-append (spelled c.self.inside.shape) (runs_by_number runs spans) (more ∷ []),
+      c.put_runs.ensures.capacity,
+      c.push_reserved.ensures.capacity,
+      ap (λ (f : Files). f.capacities) c.add.ensures,
     ) refl

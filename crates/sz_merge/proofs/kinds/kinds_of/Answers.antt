@@ -1,0 +1,65 @@
+-- What stands behind the cells is numbered, and the cells are sorted by their numbers.
+use Rattle.std.proofs.Common.{◌≡◌, ◌∙◌, ℕ, List, map, length, sym, ap, subst, All}
+use Rattle.std.specs.Arc.{arc_value}
+use Rattle.sz_cells.specs.Extent.{Extent}
+use Rattle.sz_region.specs.Parts.{Pairing}
+use Rattle.sz_region.specs.Putting.{HasShapes}
+use Rattle.sz_region.specs.Stands.{full_stands}
+use Rattle.sz_merge.specs.Distinct.{AreKinds}
+use Rattle.sz_merge.specs.Marks.{AreLabels}
+use Rattle.sz_merge.proofs.Sorting.{sorted-from, sorted-longest, kinds-are, kinds-shapes, kinds-same}
+use Rattle.sz_merge.proofs.kinds.kinds_of.Goals as goal
+
+pub regions_of-requires-clause-groups : goal.regions_of-requires-clause-groups
+regions_of-requires-clause-groups c =
+    let rs : List Pairing = map (λ a. arc_value a) c.args.regions.now in
+    let lists = c.label_cells.new.lineages.lists in
+    let labels = c.in_ok-labels.labels.items in
+    let groups = map (λ g. g.items) c.in_ok-groups.groups.items in
+    let numbers : AreLabels c.args.out c.args.ins.now rs labels lists =
+    subst (λ (es : List Extent). AreLabels c.args.out es rs labels lists) c.in_ok-lineages.ensures.ins
+    c.in_ok-labels.ensures.ok in
+    let sorted = sorted-from c.args.out c.args.ins.now rs labels c.deref.result.now groups lists c.len.result numbers
+    c.deref.ensures.value c.len.ensures.count c.in_ok-groups.ensures c.len.ensures.different c.requires in
+    sorted-longest c.args.out c.args.ins.now rs labels groups lists sorted
+
+pub returns-clause-kinds : goal.returns-clause-kinds
+returns-clause-kinds c =
+    let rs : List Pairing = map (λ a. arc_value a) c.args.regions.now in
+    let lists = c.label_cells.new.lineages.lists in
+    let labels = c.in_ok-labels.labels.items in
+    let groups = map (λ g. g.items) c.in_ok-groups.groups.items in
+    let numbers : AreLabels c.args.out c.args.ins.now rs labels lists =
+    subst (λ (es : List Extent). AreLabels c.args.out es rs labels lists) c.in_ok-lineages.ensures.ins
+    c.in_ok-labels.ensures.ok in
+    let sorted = sorted-from c.args.out c.args.ins.now rs labels c.deref.result.now groups lists c.len.result numbers
+    c.deref.ensures.value c.len.ensures.count c.in_ok-groups.ensures c.len.ensures.different c.requires in
+    subst AreKinds (sym c.in_ok-kinds.ensures) (kinds-are c.args.out c.args.ins.now rs labels groups lists sorted)
+
+pub returns-clause-shapes : goal.returns-clause-shapes
+returns-clause-shapes c =
+    let rs : List Pairing = map (λ a. arc_value a) c.args.regions.now in
+    let lists = c.label_cells.new.lineages.lists in
+    let labels = c.in_ok-labels.labels.items in
+    let groups = map (λ g. g.items) c.in_ok-groups.groups.items in
+    let numbers : AreLabels c.args.out c.args.ins.now rs labels lists =
+    subst (λ (es : List Extent). AreLabels c.args.out es rs labels lists) c.in_ok-lineages.ensures.ins
+    c.in_ok-labels.ensures.ok in
+    let sorted = sorted-from c.args.out c.args.ins.now rs labels c.deref.result.now groups lists c.len.result numbers
+    c.deref.ensures.value c.len.ensures.count c.in_ok-groups.ensures c.len.ensures.different c.requires in
+    subst (λ (ms : List Pairing). All (HasShapes c.args.out c.args.ins.now) ms) (sym c.in_ok-kinds.ensures)
+    (kinds-shapes c.args.out c.args.ins.now rs labels groups lists sorted)
+
+pub returns-clause-same : goal.returns-clause-same
+returns-clause-same c i o x inside =
+    let rs : List Pairing = map (λ a. arc_value a) c.args.regions.now in
+    let lists = c.label_cells.new.lineages.lists in
+    let labels = c.in_ok-labels.labels.items in
+    let groups = map (λ g. g.items) c.in_ok-groups.groups.items in
+    let numbers : AreLabels c.args.out c.args.ins.now rs labels lists =
+    subst (λ (es : List Extent). AreLabels c.args.out es rs labels lists) c.in_ok-lineages.ensures.ins
+    c.in_ok-labels.ensures.ok in
+    let sorted = sorted-from c.args.out c.args.ins.now rs labels c.deref.result.now groups lists c.len.result numbers
+    c.deref.ensures.value c.len.ensures.count c.in_ok-groups.ensures c.len.ensures.different c.requires in
+    ap (λ (ms : List Pairing). full_stands ms i o x) c.in_ok-kinds.ensures
+    ∙ kinds-same c.args.out c.args.ins.now rs labels groups lists i o x sorted inside

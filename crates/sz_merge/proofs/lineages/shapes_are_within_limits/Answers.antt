@@ -1,0 +1,19 @@
+-- One shape after the other.
+use Rattle.std.proofs.Common.{◌≡◌, true, subst, arith}
+use Rattle.std.specs.List.{All}
+use Rattle.std.proofs.lemmas.List.{take_all}
+use Rattle.std.proofs.lemmas.List.Elements.{All-more}
+use Rattle.sz_cells.specs.Extent.{Extent, is_extent}
+use Rattle.sz_merge.proofs.lineages.shapes_are_within_limits.Goals as goal
+
+pub loop-shape-preserved : goal.loop-shape-preserved
+loop-shape-preserved c =
+    let shape = c.shape-item.result in
+    All-more (λ (e : Extent). is_extent e ≡ true) c.args.ins.now c.loop-shape.shape-index shape (omega arith)
+    c.loop-shape.invariant
+    (subst (λ (e : Extent). is_extent e ≡ true) c.shape-item.is c.a_shape_is_within_limits.ensures)
+
+pub returns : goal.returns
+returns c =
+    subst (All (λ (e : Extent). is_extent e ≡ true)) (take_all c.loop-shape.shape-index c.args.ins.now
+    (omega arith)) c.loop-shape.invariant

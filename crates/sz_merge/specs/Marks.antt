@@ -1,0 +1,86 @@
+-- Output cells with the numbers of their lineages, and the cells of each number.
+use Rattle.std.specs.Prelude.{◌≡◌, ℕ, ◌<◌, ◌≤◌, ◌==◌, List, [], length, map, Bool, ◌&&◌, ◌||◌, not}
+use Rattle.std.specs.Prelude.{Some, nat_lt, slice_index, slice_index_or, All}
+use Rattle.std.specs.List.{slice_get, filter, range_with_len}
+use Rattle.sz_cells.specs.declared.Cell.{Cell}
+use Rattle.sz_cells.specs.declared.Run.{Run}
+use Rattle.sz_cells.specs.Extent.{Extent, size_of, cell_of}
+use Rattle.sz_cells.specs.Cells.{Cells, has}
+use Rattle.sz_cells.specs.Runs.{AreRunsFrom, covers}
+use Rattle.sz_region.specs.Parts.{Pairing}
+use Rattle.sz_region.specs.Stands.{set_of}
+use Rattle.sz_tables.specs.Tables.{spelled}
+use Rattle.sz_merge.specs.Lineages.{sets_where, nothing, behind, list_at, KeepsNumbers}
+
+-- a cell of input i is in the region pair's set of that input
+abbrev pub has_in : Pairing → ℕ → Cell → Bool
+has_in r i x = has (set_of r i) x
+
+-- a lineage of the first number has this region pair's input sets more under the second
+pub record IsNext (ins : List Extent) (r : Pairing) (lists : List (List Cells)) (a b : ℕ) : Type 0
+  where
+    pub there : a < length lists
+    pub then : b < length lists
+    pub more : (test : ℕ → Cell → Bool) → slice_get lists a ≡ Some (sets_where ins test)
+        → slice_get lists b ≡ Some (sets_where ins (λ i x. test i x || has_in r i x))
+
+-- each number is that of a lineage
+abbrev pub AreNumbers : List ℕ → List (List Cells) → Type 0
+AreNumbers labels lists = All (λ n. n < length lists) labels
+
+-- Each chosen cell got a region pair's input sets more, the others kept what they had.
+pub record AreMarked (ins : List Extent) (r : Pairing) (chosen : ℕ → Bool) (old new : List ℕ)
+    (before after : List (List Cells)) : Type 0 where
+  pub long : length new ≡ length old
+  pub kept : KeepsNumbers before after
+  pub each : (k : ℕ) (test : ℕ → Cell → Bool) → k < length old
+      → slice_get before (slice_index old k) ≡ Some (sets_where ins test)
+      → slice_get after (slice_index new k)
+      ≡ Some (sets_where ins (λ i x. test i x || (chosen k && has_in r i x)))
+
+-- the cell of an index is in the output set of a region pair
+abbrev pub has_index : Pairing → ℕ → Bool
+has_index r k = has r.out (cell_of r.out.extent k)
+
+-- each output cell has the number of what stands behind it by these region pairs, and 0 is the
+-- number of nothing
+pub record AreLabels (out : Extent) (ins : List Extent) (rs : List Pairing) (labels : List ℕ)
+    (lists : List (List Cells)) : Type 0 where
+  pub long : length labels ≡ size_of out
+  pub zero : slice_get lists 0 ≡ Some (nothing ins)
+  pub each : (k : ℕ) → k < size_of out
+      → slice_get lists (slice_index labels k) ≡ Some (behind ins rs (cell_of out k))
+
+-- runs with one cell more behind all of theirs
+pub record HasCellMore (old : List Run) (index : ℕ) (new : List Run) : Type 0 where
+  pub longest : (bound : ℕ) → AreRunsFrom 0 bound old → index < bound → AreRunsFrom 0 bound new
+  pub begun : All (λ r. r.first ≤ index) new
+  pub covered : (k : ℕ) → covers new k ≡ (covers old k || (index == k))
+
+-- the runs are the longest ones of the cells below n that have a number
+pub record AreRunsOf (labels : List ℕ) (n number : ℕ) (runs : List Run) : Type 0 where
+  pub longest : AreRunsFrom 0 (length labels) runs
+  pub begun : All (λ r. r.first ≤ n) runs
+  pub covered : (k : ℕ) → covers runs k ≡ (nat_lt k n && (slice_index labels k == number))
+
+-- for each number below a count the runs of the cells below n that have it
+pub record AreGroups (labels : List ℕ) (count n : ℕ) (groups : List (List Run)) : Type 0 where
+  pub many : length groups ≡ count
+  pub each : (number : ℕ) → number < count
+      → AreRunsOf labels n number (slice_index_or groups number [])
+
+-- the region pair of a number, which is one of a kind where the number is not 0 and some cell has
+-- it
+abbrev pub region_at : Extent → List (List Run) → List (List Cells) → ℕ → Pairing
+region_at out groups lists n = record {
+  out = spelled out (slice_index_or groups n []);
+  ins = list_at lists n;
+}
+
+abbrev pub is_kind : List (List Run) → ℕ → Bool
+is_kind groups n = nat_lt 0 n && not (length (slice_index_or groups n []) == 0)
+
+-- the region pairs of the numbers below a count
+abbrev pub kinds_below : Extent → List (List Run) → List (List Cells) → ℕ → List Pairing
+kinds_below out groups lists count =
+    map (region_at out groups lists) (filter (is_kind groups) (range_with_len 0 count))

@@ -1,0 +1,124 @@
+//! Region pairs, one for each kind of lineage.
+
+ghost use Rattle.std.specs.Prelude.{◌≡◌, ◌<◌, ◌==◌, ◌&&◌, ◌++◌, ℕ, List, [], ◌∷◌, map, length};
+ghost use Rattle.std.specs.Prelude.{All, IfOk, OnOk, not, nat_lt, if◌then◌else◌};
+ghost use Rattle.std.specs.Arc.{arc_value};
+ghost use Rattle.sz_cells.specs.declared.Cell.{Cell};
+ghost use Rattle.sz_cells.specs.Extent.{size_of};
+ghost use Rattle.sz_cells.specs.Runs.{AreRunsFrom};
+ghost use Rattle.sz_region.specs.Putting.{HasShapes};
+ghost use Rattle.sz_region.specs.Stands.{full_stands};
+ghost use Rattle.sz_tables.specs.Tables.{spelled};
+ghost use Rattle.sz_merge.specs.Distinct.{AreKinds};
+ghost use Rattle.sz_merge.specs.Lineages.{list_at};
+ghost use Rattle.sz_merge.specs.Marks.{kinds_below};
+
+use crate::grouping::group_cells;
+use crate::lineages::LineageTable;
+use crate::marking::label_cells;
+use std::alloc::Global;
+use std::sync::Arc;
+use sz_cells::{CellSet, NoMemory, Run, Shape};
+use sz_region::{Region, SetList};
+
+/// Region pairs that stand for the same as these, one for each kind of lineage.
+pub fn kinds_of(
+    alloc: Global,
+    out: Shape,
+    ins: &[Shape],
+    regions: &[Arc<Region>],
+) -> Result<Vec<Arc<Region>>, NoMemory>
+    requires { All (HasShapes out ins.now) (map (λ a. arc_value a) regions.now) }
+    ensures kinds { IfOk result (λ v. AreKinds (map (λ a. arc_value a) v.items)) }
+    ensures shapes { IfOk result
+        (λ v. All (HasShapes out ins.now) (map (λ a. arc_value a) v.items)) }
+    ensures same { IfOk result (λ v. (i : ℕ) (o x : Cell) → i < length ins.now
+        → full_stands (map (λ a. arc_value a) v.items) i o x
+        ≡ full_stands (map (λ a. arc_value a) regions.now) i o x) }
+{
+    let mut lineages = LineageTable::new(alloc, ins)?;
+    let labels = label_cells(alloc, out, regions, &mut lineages)?;
+    let groups = group_cells(alloc, lineages.len(), &labels)?;
+    let kinds = regions_of(alloc, out, groups, &lineages)?;
+    Ok(kinds)
+}
+
+/// For each number of a lineage of some cell, but that of nothing, the region pair of the cells
+/// that have it.
+fn regions_of(
+    alloc: Global,
+    out: Shape,
+    groups: Vec<Vec<Run>>,
+    lineages: &LineageTable,
+) -> Result<Vec<Arc<Region>>, NoMemory>
+    requires groups { All (AreRunsFrom 0 (size_of out)) (map (λ g. g.items) groups.items) }
+    requires many { length groups.items ≡ length lineages.now.lists }
+    ensures { IfOk result (λ v. map (λ a. arc_value a) v.items ≡ kinds_below out
+        (map (λ g. g.items) groups.items) lineages.now.lists (length lineages.now.lists)) }
+{
+    let mut regions = Vec::new(alloc);
+    let mut groups = groups;
+    for number in 0..lineages.len() {
+        let group = std::mem::replace(&mut groups[number as usize], Vec::new(alloc));
+        add_kind(alloc, out, group, lineages, number, &mut regions)?;
+    }
+    Ok(regions)
+}
+
+/// Adds the region pair of a number, if it is one of a kind.
+fn add_kind(
+    alloc: Global,
+    out: Shape,
+    runs: Vec<Run>,
+    lineages: &LineageTable,
+    number: u32,
+    regions: &mut Vec<Arc<Region>>,
+) -> Result<(), NoMemory>
+    requires runs { AreRunsFrom 0 (size_of out) runs.items }
+    requires there { number < length lineages.now.lists }
+    ensures { OnOk result (map (λ a. arc_value a) regions.new.items
+        ≡ map (λ a. arc_value a) regions.old.items ++ (if nat_lt 0 number
+        && not (length runs.items == 0) then record {
+          out = spelled out runs.items;
+          ins = list_at lineages.now.lists number;
+        } ∷ [] else [])) }
+{
+    if number == 0 || runs.is_empty() {
+        return Ok(());
+    }
+    let region = region_of(alloc, out, runs, lineages, number)?;
+    regions.push(region)?;
+    Ok(())
+}
+
+/// The region pair of the cells of these runs and the lineage of a number.
+fn region_of(
+    alloc: Global,
+    out: Shape,
+    runs: Vec<Run>,
+    lineages: &LineageTable,
+    number: u32,
+) -> Result<Arc<Region>, NoMemory>
+    requires runs { AreRunsFrom 0 (size_of out) runs.items }
+    requires there { number < length lineages.now.lists }
+    ensures { IfOk result (λ r. arc_value r ≡ record {
+      out = spelled out runs.items;
+      ins = list_at lineages.now.lists number;
+    }) }
+{
+    let out = Arc::new(alloc, CellSet::from_runs(out, runs))?;
+    let ins = SetList::of(share(alloc, lineages.sets(number))?);
+    Ok(Arc::new(alloc, Region { out, ins })?)
+}
+
+/// The same sets, shared once more.
+fn share(alloc: Global, sets: &[Arc<CellSet>]) -> Result<Vec<Arc<CellSet>>, NoMemory>
+    ensures { IfOk result
+        (λ v. map (λ a. arc_value a) v.items ≡ map (λ a. arc_value a) sets.now) }
+{
+    let mut shared: Vec<Arc<CellSet>> = Vec::new(alloc);
+    for set in sets {
+        shared.push(Arc::try_clone(set)?)?;
+    }
+    Ok(shared)
+}

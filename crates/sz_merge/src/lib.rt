@@ -1,0 +1,119 @@
+//! Merging: the output cells of one lineage become one region pair.
+//!
+//! A store of full lineage has a region pair for each group of cells that were placed together, so
+//! cells with the same cells behind them may stand in many pairs. [`merge`] makes of each such
+//! store one that stands for the same, with one region pair for each kind of lineage: no two have
+//! the same input sets, no output cell is in two, none is empty. Stores of payloads stay.
+//!
+//! ```
+//! let merged = merge(alloc, &at, &[Strategy::FullManyB], &store)?;
+//! // merged.kinds[0] is how many kinds of lineage the store has, and merged.store stands for the
+//! // same as the store
+//! ```
+#![tactic(auto)]
+
+ghost use Rattle.std.specs.Prelude.{◌≡◌, ℕ, [], true, All, IfOk, OnOk};
+ghost use Rattle.std.specs.Arc.{arc_value};
+ghost use Rattle.sz_spec.specs.Modes.{supports};
+ghost use Rattle.sz_store.specs.Kept.{is_whole, stored_in};
+ghost use Rattle.sz_store.specs.Words.{BeginEach};
+ghost use Rattle.sz_merge.specs.Merged.{AreMerged, AreRead};
+
+mod grouping;
+mod joining;
+mod kinds;
+mod lineages;
+mod marking;
+mod parts;
+mod task;
+
+use crate::parts::{merge_parts, within_limits};
+pub use crate::task::{MergeTask, attend_merges};
+use std::alloc::Global;
+use std::sync::Arc;
+use sz_cells::NoMemory;
+use sz_spec::{OpAt, Strategy};
+use sz_store::NodeStore;
+
+/// Merged stores, their bytes, and for each that has region pairs how many, in the order of the
+/// stores.
+#[derive(Drop)]
+pub struct Merged {
+    pub store: NodeStore,
+    pub bytes: Vec<u8>,
+    pub kinds: Vec<u32>,
+}
+
+/// Merges the whole stores of an operator and a list: each that has region pairs gets one for each
+/// kind of lineage, and stands for the same; those of entries stay.
+///
+/// Costs a look at each cell of the region pairs' output sets and at the runs of their input sets,
+/// and the reading of the merged stores.
+pub fn merge(
+    alloc: Global,
+    at: &Arc<OpAt>,
+    list: &[Strategy],
+    store: &NodeStore,
+) -> Result<Merged, NoMemory>
+    requires site { store.now.site ≡ arc_value at.now }
+    requires list { store.now.list ≡ list.now }
+    requires whole { is_whole store.now ≡ true }
+    requires supported { All (λ t. supports (arc_value at.now).op t ≡ true) list.now }
+    ensures { IfOk result (λ m. AreMerged (arc_value at.now) list.now store.now.stores m.store
+        m.bytes.items m.kinds.items) }
+{
+    within_limits(at);
+    let mut bytes = Vec::new(alloc);
+    let mut kinds = Vec::new(alloc);
+    put_merged(alloc, at, list, store, &mut bytes, &mut kinds)?;
+    let store = read_merged(alloc, at, list, &bytes)?;
+    Ok(Merged {
+        store,
+        bytes,
+        kinds,
+    })
+}
+
+/// The stores that these bytes spell.
+fn read_merged(
+    alloc: Global,
+    at: &Arc<OpAt>,
+    list: &[Strategy],
+    bytes: &[u8],
+) -> Result<NodeStore, NoMemory>
+    requires { All (λ t. supports (arc_value at.now).op t ≡ true) list.now }
+    ensures ok { IfOk result (λ s. (next : ℕ)
+        × BeginEach (arc_value at.now) (stored_in list.now) bytes.now 0 next s.stores) }
+    ensures site { IfOk result (λ s. s.site ≡ arc_value at.now) }
+    ensures list { IfOk result (λ s. s.list ≡ list.now) }
+    ensures whole { IfOk result (λ s. is_whole s ≡ true) }
+{
+    let own = Arc::try_clone(at)?;
+    match NodeStore::take_bytes(alloc, own, list, bytes, 0) {
+        Ok((store, _)) => Ok(store),
+        Err(_) => Err(NoMemory),
+    }
+}
+
+/// Puts the words of the merged stores, and their numbers of kinds.
+fn put_merged(
+    alloc: Global,
+    at: &OpAt,
+    list: &[Strategy],
+    store: &NodeStore,
+    to: &mut Vec<u8>,
+    kinds: &mut Vec<u32>,
+) -> Result<(), NoMemory>
+    requires site { store.now.site ≡ at.now }
+    requires list { store.now.list ≡ list.now }
+    requires to { to.old.items ≡ [] }
+    requires kinds { kinds.old.items ≡ [] }
+    ensures { OnOk result
+        (AreRead at.now (stored_in list.now) store.now.stores to.new.items kinds.new.items) }
+{
+    within_limits(at);
+    let mut bytes = Vec::new(alloc);
+    store.put_bytes(&mut bytes)?;
+    merge_parts(alloc, at, list, &bytes, to, kinds)?;
+    Ok(())
+}

@@ -1,0 +1,154 @@
+-- What follows of numbers that name cells.
+--
+-- The key idea: the cells of an unbroken range of indexes that pass are added at once, where it ends. What was added
+-- is what passes below the start of the range.
+use Rattle.std.proofs.Common.{◌≡◌, ℕ, ◌+◌, ◌-◌, ◌<◌, ◌≤◌, Bool, true, false, ◌&&◌, ◌||◌, ◌==◌, nat_le, nat_lt}
+use Rattle.std.proofs.Common.{List, [], ◌∷◌, refl, sym, ap, ◌∙◌, arith, inl, inr, subst, Option, Some, None}
+use Rattle.std.proofs.Common.{ltb-true, lt-ltb, eqb-true, eq-eqb, true≢false}
+use Rattle.std.specs.List.{list_any}
+use Rattle.std.proofs.lemmas.Bool.{and_parts, and_from, cases_Bool, or_cases, or_left, or_right, false_from_ne_true}
+use Rattle.std.proofs.lemmas.Bool.Decides.{nat_tests}
+use Rattle.sz_cells.specs.declared.Cell.{Cell}
+use Rattle.sz_cells.specs.declared.Run.{Run}
+use Rattle.sz_cells.specs.Extent.{Extent, size_of, holds, index_of}
+use Rattle.sz_cells.specs.Cells.{Cells, has, cells_where, with_those}
+use Rattle.sz_cells.specs.Runs.{run_cells}
+use Rattle.sz_cells.proofs.Sets.{same_truth, index-below, any-range}
+use Rattle.sz_region.proofs.Added.{with-none, with-ext, with-more}
+use Rattle.sz_refresh.specs.Names.{is_at}
+
+-- no index is found where there is none to find
+pub none-found : (ks : List ℕ) → list_any (is_at None) ks ≡ false
+none-found [] = refl
+none-found (k ∷ ks) = none-found ks
+
+-- ---- ranges of indexes
+
+-- the index of a cell is in a range
+abbrev pub is_between : ℕ → ℕ → Extent → Cell → Bool
+is_between start end e o = nat_le start (index_of e o) && nat_lt (index_of e o) end
+
+-- the index of a cell is below a number, and passes
+abbrev pub is_below : (ℕ → Bool) → ℕ → Extent → Cell → Bool
+is_below test n e o = nat_lt (index_of e o) n && test (index_of e o)
+
+between-none : (start end i : ℕ) → end ≤ start → (nat_le start i && nat_lt i end) ≡ false
+between-none start end i low =
+    false_from_ne_true (nat_le start i && nat_lt i end)
+    (λ h.
+    let both = and_parts (nat_le start i) (nat_lt i end) h in
+    let first : start ≤ i = grind (arith, nat_tests, both.0) in
+    let last : i < end = ltb-true i end both.1 in
+    absurd (omega (arith, first, last, low)))
+
+pub between-run : (to : Cells) (start end : ℕ) → start < end
+    → with_those to (has (run_cells to.extent (record { first = start; last = end - 1 })))
+    ≡ with_those to (is_between start end to.extent)
+between-run to start end some =
+    let e : Extent = to.extent in
+    let r : Run = record { first = start; last = end - 1 } in
+    let last : start + ((end - 1) - start + 1) ≡ end = omega (arith, some) in
+    with-ext to (has (run_cells e r)) (is_between start end e)
+    (λ o held.
+    ap (λ (b : Bool). b && list_any (λ k. k == index_of e o) (run_cells e r).indexes) held
+    ∙ any-range (index_of e o) start ((end - 1) - start + 1)
+    ∙ ap (λ (m : ℕ). nat_le start (index_of e o) && nat_lt (index_of e o) m) last)
+
+pub between-empty : (to : Cells) (start end : ℕ) → end ≤ start → to ≡ cells_where to.extent (has to)
+    → to ≡ with_those to (is_between start end to.extent)
+between-empty to start end low own =
+    with-none to (is_between start end to.extent) own
+    (λ o held. between-none start end (index_of to.extent o) low)
+
+-- ---- what was added
+
+-- nothing passes below 0
+pub below-none : (to : Cells) (test : ℕ → Bool) → to ≡ cells_where to.extent (has to)
+    → to ≡ with_those to (is_below test 0 to.extent)
+below-none to test own =
+    with-none to (is_below test 0 to.extent) own
+    (λ o held.
+    false_from_ne_true (nat_lt (index_of to.extent o) 0 && test (index_of to.extent o))
+    (λ h.
+    let both = and_parts (nat_lt (index_of to.extent o) 0) (test (index_of to.extent o)) h in
+    absurd (omega (arith, ltb-true (index_of to.extent o) 0 both.0))))
+
+joined : (test : ℕ → Bool) (start n i : ℕ) → start ≤ n → ((k : ℕ) → start ≤ k → k < n → test k ≡ true)
+    → ((nat_lt i start && test i) || (nat_le start i && nat_lt i n)) ≡ (nat_lt i n && test i)
+joined test start n i order pass =
+    same_truth ((nat_lt i start && test i) || (nat_le start i && nat_lt i n)) (nat_lt i n && test i)
+    (λ h.
+    elim (or_cases (nat_lt i start && test i) (nat_le start i && nat_lt i n) h) [
+      | inl before ↦
+          let both = and_parts (nat_lt i start) (test i) before in
+          let low : i < start = ltb-true i start both.0 in
+          and_from (nat_lt i n) (test i) (lt-ltb i n (omega (arith, low, order))) both.1
+      | inr within ↦
+          let both = and_parts (nat_le start i) (nat_lt i n) within in
+          let first : start ≤ i = grind (arith, nat_tests, both.0) in
+          and_from (nat_lt i n) (test i) both.1 (pass i first (ltb-true i n both.1))
+    ])
+    (λ h.
+    let both = and_parts (nat_lt i n) (test i) h in
+    elim (cases_Bool (nat_lt i start)) [
+      | inl low ↦
+          or_left (nat_lt i start && test i) (nat_le start i && nat_lt i n)
+          (and_from (nat_lt i start) (test i) low both.1)
+      | inr high ↦
+          let first : nat_le start i ≡ true = grind (arith, nat_tests, high) in
+          or_right (nat_lt i start && test i) (nat_le start i && nat_lt i n)
+          (and_from (nat_le start i) (nat_lt i n) first both.0)
+    ])
+
+-- a range of indexes that pass more
+pub below-more : (to so_far new : Cells) (test : ℕ → Bool) (start n : ℕ) → start ≤ n
+    → ((k : ℕ) → start ≤ k → k < n → test k ≡ true)
+    → so_far ≡ with_those to (is_below test start to.extent)
+    → new ≡ with_those so_far (is_between start n so_far.extent)
+    → new ≡ with_those to (is_below test n to.extent)
+below-more to so_far new test start n order pass is more =
+    more
+    ∙ ap (λ (z : Cells). with_those z (is_between start n z.extent)) is
+    ∙ with-more to (is_below test start to.extent) (is_between start n to.extent) (is_below test n to.extent)
+    (λ o held. joined test start n (index_of to.extent o) order pass)
+
+skipped : (test : ℕ → Bool) (n i : ℕ) → test n ≡ false → (nat_lt i n && test i) ≡ (nat_lt i (n + 1) && test i)
+skipped test n i fails =
+    same_truth (nat_lt i n && test i) (nat_lt i (n + 1) && test i)
+    (λ h.
+    let both = and_parts (nat_lt i n) (test i) h in
+    let low : i < n = ltb-true i n both.0 in
+    and_from (nat_lt i (n + 1)) (test i) (lt-ltb i (n + 1) (omega (arith, low))) both.1)
+    (λ h.
+    let both = and_parts (nat_lt i (n + 1)) (test i) h in
+    let low : i < n + 1 = ltb-true i (n + 1) both.0 in
+    let apart : i ≡ n → ⊥ = λ same. true≢false (sym both.1 ∙ ap test same ∙ fails) in
+    and_from (nat_lt i n) (test i) (lt-ltb i n (omega (arith, low, apart))) both.1)
+
+-- an index that fails
+pub below-skip : (to so_far : Cells) (test : ℕ → Bool) (n : ℕ) → test n ≡ false
+    → so_far ≡ with_those to (is_below test n to.extent) → so_far ≡ with_those to (is_below test (n + 1) to.extent)
+below-skip to so_far test n fails is =
+    is
+    ∙ with-ext to (is_below test n to.extent) (is_below test (n + 1) to.extent)
+    (λ o held. skipped test n (index_of to.extent o) fails)
+
+-- all indexes
+pub below-all : (to : Cells) (test : ℕ → Bool) (n : ℕ) → n ≡ size_of to.extent
+    → with_those to (is_below test n to.extent) ≡ with_those to (λ o. test (index_of to.extent o))
+below-all to test n all =
+    with-ext to (is_below test n to.extent) (λ o. test (index_of to.extent o))
+    (λ o held.
+    ap (λ (b : Bool). b && test (index_of to.extent o))
+    (lt-ltb (index_of to.extent o) n (omega (arith, index-below to.extent o held, all))))
+
+-- one index more that passes
+pub one-more : (test : ℕ → Bool) (start n : ℕ) → ((k : ℕ) → start ≤ k → k < n → test k ≡ true) → test n ≡ true
+    → (k : ℕ) → start ≤ k → k < n + 1 → test k ≡ true
+one-more test start n before here k low high =
+    elim (cases_Bool (k == n)) [
+      | inl same ↦ ap test (eqb-true k n same) ∙ here
+      | inr other ↦
+          let apart : k ≡ n → ⊥ = λ same. true≢false (sym (eq-eqb k n same) ∙ other) in
+          before k low (omega (arith, high, apart))
+    ]

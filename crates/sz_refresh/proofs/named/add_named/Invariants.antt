@@ -1,0 +1,15 @@
+-- From the start on each index passes, and what was added is what passes below it.
+use Rattle.std.proofs.Common.{◌≡◌, ℕ, ◌<◌, ◌≤◌, true}
+use Rattle.sz_cells.specs.Extent.{size_of}
+use Rattle.sz_cells.specs.Cells.{with_those}
+use Rattle.sz_refresh.specs.Names.{is_named}
+use Rattle.sz_refresh.proofs.Names.{is_below}
+use Rattle.sz_refresh.proofs.named.add_named.Given as goal
+
+abbrev pub invariant-loop-index : goal.invariant-loop-index
+invariant-loop-index l =
+    let e = l.fn.to.extent in
+    let test = is_named l.first l.old l.old_set l.new l.new_set in
+    (l.size ≡ size_of e) × (l.start ≤ l.index)
+    × ((k : ℕ) → l.start ≤ k → k < l.index → test k ≡ true)
+    × (l.to ≡ with_those l.fn.to (is_below test l.start e))

@@ -1,0 +1,2 @@
+-- What the tests' contracts name.
+pub mod Bench

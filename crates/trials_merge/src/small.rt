@@ -1,0 +1,118 @@
+//! How many kinds small cases have: an output of five cells, which is one piece.
+
+ghost use Rattle.std.specs.Prelude.{◌≡◌, ◌∷◌, [], true, IfOk};
+ghost use Rattle.std.specs.Arc.{arc_value};
+ghost use Rattle.sz_cells.specs.Extent.{flat};
+ghost use Rattle.sz_spec.specs.Weights.{is_kernel};
+
+use std::alloc::Global;
+use std::sync::Arc;
+use std::test::Fail;
+use sz_cells::Shape;
+use sz_merge::merge;
+use sz_ops::{piece, prepare_lineage};
+use sz_shelf::standing::needed_parts_can_be_placed;
+use sz_spec::{Array, Kernel, Op, OpAt, Strategy, Tally};
+use sz_store::NodeStore;
+
+/// Backward by single cells, and forward by sets: a number of kinds for each.
+const LIST: [Strategy; 2] = [Strategy::FullOneB, Strategy::FullManyF];
+
+/// The shape of input and output.
+fn row() -> Result<Shape, Fail>
+    ensures { IfOk result (λ s. s ≡ flat 1 5) }
+{
+    Ok(Shape::make(1, 5).ok_or("a row of 5 is a shape")?)
+}
+
+/// The regions of cells from 5 up.
+fn labels(alloc: Global) -> Result<Arc<OpAt>, Fail>
+    ensures ins { IfOk result (λ at. (arc_value at).ins ≡ flat 1 5 ∷ []) }
+    ensures out { IfOk result (λ at. (arc_value at).out ≡ flat 1 5) }
+{
+    match OpAt::of(Op::Regions { t: 5 }, vec![in alloc; row()?]?) {
+        Ok(at) => Ok(Arc::new(alloc, at)?),
+        Err(_) => Err("every shape has regions".into()),
+    }
+}
+
+/// The convolution with a kernel of one row and these three weights.
+fn laid_on(alloc: Global, weights: Vec<i64>) -> Result<Arc<OpAt>, Fail>
+    requires { is_kernel (record { rows = 1; cols = 3; weights = weights.items }) ≡ true }
+    ensures ins { IfOk result (λ at. (arc_value at).ins ≡ flat 1 5 ∷ []) }
+    ensures out { IfOk result (λ at. (arc_value at).out ≡ flat 1 5) }
+{
+    let op = Op::Convolve {
+        kernel: Kernel::make(1, 3, weights),
+    };
+    match OpAt::of(op, vec![in alloc; row()?]?) {
+        Ok(at) => Ok(Arc::new(alloc, at)?),
+        Err(_) => Err("a kernel can be laid on every shape".into()),
+    }
+}
+
+/// How many kinds the stores of an operator over a row of these numbers have.
+fn kinds(alloc: Global, at: &Arc<OpAt>, numbers: [i64; 5]) -> Result<Vec<u32>, Fail>
+    requires ins { (arc_value at.now).ins ≡ flat 1 5 ∷ [] }
+    requires out { (arc_value at.now).out ≡ flat 1 5 }
+{
+    let mut values = Vec::new(alloc);
+    for number in numbers {
+        values.push(Some(number))?;
+    }
+    match Array::make(row()?, values) {
+        Some(array) => kinds_over(alloc, at, Arc::new(alloc, array)?),
+        None => Err("the shape has 5 cells".into()),
+    }
+}
+
+/// How many kinds the stores of an operator over an array have.
+fn kinds_over(alloc: Global, at: &Arc<OpAt>, array: Arc<Array>) -> Result<Vec<u32>, Fail>
+    requires ins { (arc_value at.now).ins ≡ flat 1 5 ∷ [] }
+    requires out { (arc_value at.now).out ≡ flat 1 5 }
+    requires array { (arc_value array).extent ≡ flat 1 5 }
+{
+    let inputs = [array];
+    let aid = prepare_lineage(alloc, at, &inputs)?;
+    let mut tally = Tally::new();
+    let lineage = piece(alloc, at, &inputs, &aid, 0, &LIST, &mut tally)?;
+    needed_parts_can_be_placed();
+    let mut store = NodeStore::new(alloc, Arc::try_clone(at)?, &LIST)?;
+    store.place(&lineage)?;
+    if !store.is_whole() {
+        return Err("the output is one piece".into());
+    }
+    let merged = merge(alloc, at, &LIST, &store)?;
+    Ok(merged.kinds)
+}
+
+#[test]
+fn a_region_is_a_kind_and_so_is_a_low_cell(rt: HostRuntime) -> Result<(), Fail> {
+    let alloc = rt.alloc();
+    let at = labels(alloc)?;
+    let found = kinds(alloc, &at, [9, 9, 0, 9, 9])?;
+    assert_eq!(rt; found.as_slice(), [3, 3].as_slice());
+    let found = kinds(alloc, &at, [9, 0, 9, 0, 9])?;
+    assert_eq!(rt; found.as_slice(), [5, 5].as_slice());
+    let found = kinds(alloc, &at, [9, 9, 9, 9, 9])?;
+    assert_eq!(rt; found.as_slice(), [1, 1].as_slice());
+    Ok(())
+}
+
+#[test]
+fn cells_without_lineage_are_of_no_kind(rt: HostRuntime) -> Result<(), Fail> {
+    let alloc = rt.alloc();
+    let found = kinds(
+        alloc,
+        &laid_on(alloc, vec![in alloc; 0, 0, 0]?)?,
+        [1, 2, 3, 4, 5],
+    )?;
+    assert_eq!(rt; found.as_slice(), [0, 0].as_slice());
+    let found = kinds(
+        alloc,
+        &laid_on(alloc, vec![in alloc; 1, 0, 0]?)?,
+        [1, 2, 3, 4, 5],
+    )?;
+    assert_eq!(rt; found.as_slice(), [4, 4].as_slice());
+    Ok(())
+}
