@@ -14,5 +14,7 @@ pub mod RowsServing
 pub mod Running
 pub mod Beside
 pub mod Sources
+pub mod Calls
 mod RowsMaking
 mod RowsRunning
+mod RowsCalls
