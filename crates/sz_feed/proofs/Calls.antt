@@ -87,13 +87,6 @@ counts-halt {X} {A} B T r stop.DiskFault a b was counts =
 counts-halt {X} {A} B T r stop.NoMemory a b was counts =
     subst (λ (e : Result A Stop). faults.CountsTell T e a b) was counts
 
--- no count of says rose while it was
-pub counts-silent : {X A : Type 0} (T : Ghosts X) (r : Result A Stop) (a b : X) → faults.CountsTell T r a b
-    → T.say_faults b ≡ T.say_faults a
-counts-silent {X} {A} T (Ok u) a b counts = counts.0
-counts-silent {X} {A} T (Err stop.DiskFault) a b counts = counts.0
-counts-silent {X} {A} T (Err stop.NoMemory) a b counts = counts.0
-
 -- ---- what was said
 
 -- a text, by how the call ended
@@ -106,8 +99,10 @@ text-whole {U} (Err h) a b x says = tt
 pub text-none : (A B : Type 0) (h : Halt) (a b : Option (List ℕ)) (x : List ℕ) → b ≡ a
     → (ended A h ≡ ended A halt.SayFault → ⊥) → SaysText (ended B h) a b x
 text-none A B halt.SayFault a b x same silent = absurd (silent refl)
-text-none A B halt.DiskFault a b x same silent = subst (λ (o : Option (List ℕ)). Says a o []) (sym same) (says-nothing a)
-text-none A B halt.NoMemory a b x same silent = subst (λ (o : Option (List ℕ)). Says a o []) (sym same) (says-nothing a)
+text-none A B halt.DiskFault a b x same silent =
+    subst (λ (o : Option (List ℕ)). Says a o []) (sym same) (says-nothing a)
+text-none A B halt.NoMemory a b x same silent =
+    subst (λ (o : Option (List ℕ)). Says a o []) (sym same) (says-nothing a)
 
 -- the reply of a line
 pub text-line : {X U : Type 0} {u : Result U Halt} {bytes : List ℕ} (T : Ghosts X) (m : Moment) (z : State)

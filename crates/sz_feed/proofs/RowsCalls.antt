@@ -12,8 +12,8 @@ use Rattle.sz_commands.specs.Logged.{makes_durable}
 use Rattle.sz_commands.specs.States.{State}
 use Rattle.sz_commands.specs.declared.asking.AskLine.{AskLine}
 use Rattle.sz_feed.specs.Moments.{Moment}
-use Rattle.sz_feed.specs.Calls.{CountsStand, CountsTell, SaysText, SaysReplies, IsSaid, IsTaken, FindsBehind, IsAnswered}
-use Rattle.sz_feed.specs.Calls.{AreWaiting}
+use Rattle.sz_feed.specs.Calls.{CountsStand, CountsTell, SaysText, SaysReplies, IsSaid, IsTaken, FindsBehind}
+use Rattle.sz_feed.specs.Calls.{IsAnswered, AreWaiting}
 use Rattle.sz_feed.specs.declared.feed.Halt.{Halt}
 use Rattle.sz_feed.specs.declared.feed.Halt.TheVariants as halt
 use Rattle.sz_feed.proofs.Beside.{none-stays}
@@ -160,4 +160,5 @@ module _ {X : Type 0} (T : Ghosts X) (old new : X) where
         → IsWellMade disk at (durable s.held) kept → FindsBehind T (Some at) first s n lines old new
         → T.left_since new (T.moment old) [] said → ⊥
     behind-cut at disk said kept told made found left =
-        at-cut kept s n lines (T.said old) said (finds-lines T old new at s n lines disk [] said kept told made found left)
+        at-cut kept s n lines (T.said old) said
+        (finds-lines T old new at s n lines disk [] said kept told made found left)

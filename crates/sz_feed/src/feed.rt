@@ -8,7 +8,7 @@
 //!
 //! A session of a log writes what a line makes durable before the line's reply is said, and asks do
 //! not wait there. So a stop finds the replies of so many lines, and a part of the next one's, and
-//! the log of what is durable behind those lines or behind the next one too (`found`).
+//! the log of what is durable behind those lines or behind the next one too (`FindsBehind`).
 ghost use Rattle.std.specs.Prelude.{◌≡◌, ℕ, List, Option, ◌<◌, ◌≤◌, ◌+◌, ◌-◌, ◌^◌};
 ghost use Rattle.std.specs.Prelude.{◌++◌, [], ◌∷◌, Err, IfOk, OnOk, OnErr, MatchOption, length};
 ghost use Rattle.std.specs.Prelude.{drop, take, slice_index, true, false, None};

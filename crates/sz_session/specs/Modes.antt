@@ -66,8 +66,8 @@ pub record EndsPlay {X : Type 0} (T : Ghosts X) (s : Status) (limit reads_before
   pub counted : AreCounted T s reads_before reads old new
   pub found : StaysFinding T (FoundInPart nothing_held left (T.said old)) old new
 
--- Load: what was said is of this line, as the status says; the counts of faults tell the status; the
--- disk is as before, and a stop finds a first part of the line said.
+-- Load: what was said is of this line, as the status says; the counts of faults tell the status;
+-- the disk is as before, and a stop finds a first part of the line said.
 pub record EndsLoad {X : Type 0} (T : Ghosts X) (s : Status) (line : List ℕ) (old new : X)
     : Type 0 where
   pub ends : SaysSummary s line (T.said old) (T.said new)
@@ -82,8 +82,8 @@ pub record EndsInit {X : Type 0} (T : Ghosts X) (s : Status) (old new : X) : Typ
   pub counted : AreCounted T s 0 0 old new
   pub found : StopsMaking T old new
 
--- Check: the line of the log was said, or the disk is no log or a bad one; the counts of faults tell
--- the status; the disk is as before, and a stop finds a first part of the line said.
+-- Check: the line of the log was said, or the disk is no log or a bad one; the counts of faults
+-- tell the status; the disk is as before, and a stop finds a first part of the line said.
 pub record EndsCheck {X : Type 0} (T : Ghosts X) (s : Status) (old new : X) : Type 0 where
   pub ends : ChecksLog T s old new
   pub counted : AreCounted T s 0 0 old new

@@ -26,8 +26,8 @@ returns-in_err-count-clause-ends g c =
       found = of-both g.T.Station m.end o _ a a
           (λ e. between-stays g.T.Station o.held _ _ _ _ _ m c.args.total so_far
           (stays-still g.T.Station [] a (g.met.T.Station.only_now a) (g.met.T.Station.counts_now a)))
-          (rest-still g.T.Station m o.left c.args.total a c.requires.1.1.1.1.1.1.1.1.1.1.1.1 (g.met.T.Station.only_now a)
-          (g.met.T.Station.counts_now a));
+          (rest-still g.T.Station m o.left c.args.total a c.requires.1.1.1.1.1.1.1.1.1.1.1.1
+          (g.met.T.Station.only_now a) (g.met.T.Station.counts_now a));
     })
 
 -- there are more bytes than a session may have
@@ -48,8 +48,8 @@ returns-then-count-gt0-clause-ends g c =
       found = of-both g.T.Station m.end o _ a a
           (λ e. between-stays g.T.Station o.held _ _ _ _ _ m c.args.total so_far
           (stays-still g.T.Station [] a (g.met.T.Station.only_now a) (g.met.T.Station.counts_now a)))
-          (rest-still g.T.Station m o.left c.args.total a c.requires.1.1.1.1.1.1.1.1.1.1.1.1 (g.met.T.Station.only_now a)
-          (g.met.T.Station.counts_now a));
+          (rest-still g.T.Station m o.left c.args.total a c.requires.1.1.1.1.1.1.1.1.1.1.1.1
+          (g.met.T.Station.only_now a) (g.met.T.Station.counts_now a));
     }
 
 -- the lines were answered, or so many of them

@@ -4,9 +4,10 @@ use Rattle.std.specs.Prelude.{Option}
 use Rattle.std.proofs.lemmas.Result.{err_from_is_err_and}
 use Rattle.sz_catalogue.specs.declared.reply.Reply.{Reply}
 use Rattle.sz_commands.specs.Logged.{KeepsLog, held_after, makes_durable}
+use Rattle.sz_commands.proofs.Faults.{counts-silent}
 use Rattle.sz_feed.specs.Moments.{Moment}
 use Rattle.sz_feed.proofs.Beside.{in-taken, stops-none}
-use Rattle.sz_feed.proofs.Calls.{counts-halt, counts-silent, stop-disk, stop-no_say}
+use Rattle.sz_feed.proofs.Calls.{counts-halt, stop-disk, stop-no_say}
 use Rattle.sz_feed.proofs.feed.Feed.take.Goals as goal
 
 pub returns-in_err-reply-clause-taken : goal.returns-in_err-reply-clause-taken
@@ -17,7 +18,8 @@ returns-in_err-reply-clause-taken g c =
     let p = err_from_is_err_and c.from_residual.result c.from_residual.ensures.1 in
     let same = ap (λ (m : Moment). makes_durable m.held.held m.pending) c.self.view_is in
     rw (p.1, p.2) (record {
-      counted = counts-halt (Option Reply) g.T.Station c.take_on.result _ a b c.in_err-reply.was c.take_on.ensures.counted;
+      counted = counts-halt (Option Reply) g.T.Station c.take_on.result _ a b c.in_err-reply.was
+          c.take_on.ensures.counted;
       output = record {
         said = c.take_on.ensures.output;
         quiet = counts-silent g.T.Station c.take_on.result a b c.take_on.ensures.counted;
