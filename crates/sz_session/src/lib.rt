@@ -56,8 +56,8 @@
 //! `specs/Statuses` says what each status tells of what was read and said, and what the counts of
 //! faults tell of it in every mode (`AreCounted`); `specs/Sessions` what a turn leaves, and how a
 //! session of lines ends; `specs/Checking` what a check tells; and `specs/Modes` puts these together,
-//! mode by mode. `proofs/Modes` goes through
-//! the modes once (`by-mode`), and each law that speaks of a status in any of them goes by it.
+//! mode by mode. `proofs/Modes` goes through the modes once (`by-mode`), and each law that speaks of
+//! a status in any of them goes by it.
 #![tactic(auto)]
 
 mod checking;
