@@ -236,7 +236,7 @@ in-taken {X} T s line given n m a b is same log stops =
     subst (λ (ys : List ℕ). StopsInLog T s.held s.end (held_after s ys) a b) same stops in
     subst (λ (k : Moment). FindsIn T k (10 ∷ []) a b) is (taken-in T s line n s.end a b own stopped)
 
-only-pending : (m : Moment) → (cut_after m (10 ∷ [])).whole ≡ m.pending ∷ []
+pub only-pending : (m : Moment) → (cut_after m (10 ∷ [])).whole ≡ m.pending ∷ []
 only-pending m = ap (λ (c : Cut). c.whole) (line-only m)
 
 said-in : {X : Type 0} (T : Ghosts X) (m z : Moment) (e f : Option ℕ) (bytes : List ℕ) (a b x : X)

@@ -125,7 +125,7 @@ pub answered-memory : {X : Type 0} (T : Ghosts X) (h : Halt) (m n : Moment) (fir
     → FindsBehind T m.end first m.held m.number lines a b → IsAnswered T (ended (Unit {0}) h) m n first lines a b
 answered-memory {X} T h m n first lines a b is counts found =
     subst (λ (r : Result (Unit {0}) Halt). IsAnswered T r m n first lines a b) (sym is)
-    (record { counted = counts; plain = λ e other. cc; log = tt; found = found })
+    (record { counted = counts; plain = λ e other. cc; written = λ other. cc; log = tt; found = found })
 
 -- ---- what a stop finds
 
@@ -196,6 +196,7 @@ pub answered-none : {X U : Type 0} (T : Ghosts X) (r : Result U Halt) (m n : Mom
 answered-none {X} {U} T r m n first lines a b none stays said = record {
   counted = said.counted;
   plain = λ e is. said.plain is;
+  written = λ is. absurd (said.plain is);
   log = on_ok_weaker r (λ still. stays-none T m n a b none still) stays;
   found = behind-of T m.end first m.held m.number lines a b (λ e. said.found) (some-none m.end _ none);
 }

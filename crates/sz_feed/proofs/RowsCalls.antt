@@ -3,7 +3,7 @@
 -- The key idea: what the counts, the bytes said and the images of a stop are is read off each word; so a call that
 -- tells otherwise is refused.
 use Rattle.std.proofs.Common.{◌≡◌, ℕ, ◌+◌, ◌^◌, ◌≤◌, List, [], ◌∷◌, ◌++◌, Option, Some, None, refl, sym, ap, ◌∙◌, arith}
-use Rattle.std.proofs.Common.{Result, Err, length, unwrap_or, codes, true, false, true≢false}
+use Rattle.std.proofs.Common.{Result, Err, length, unwrap_or, codes, true, false, true≢false, inl, ⊎_elim}
 use Rattle.sz_outside.specs.Outside.{Rose}
 use Rattle.sz_outside.specs.declared.stations.Station.{Ghosts}
 use Rattle.sz_recover.specs.Logs.{Kept, IsWellMade}
@@ -13,7 +13,7 @@ use Rattle.sz_commands.specs.States.{State}
 use Rattle.sz_commands.specs.declared.asking.AskLine.{AskLine}
 use Rattle.sz_feed.specs.Moments.{Moment}
 use Rattle.sz_feed.specs.Calls.{CountsStand, CountsTell, SaysText, SaysReplies, IsSaid, IsTaken, FindsBehind}
-use Rattle.sz_feed.specs.Calls.{IsAnswered, AreWaiting}
+use Rattle.sz_feed.specs.Calls.{WritesOne, IsAnswered, AreWaiting}
 use Rattle.sz_feed.specs.declared.feed.Halt.{Halt}
 use Rattle.sz_feed.specs.declared.feed.Halt.TheVariants as halt
 use Rattle.sz_feed.proofs.Beside.{none-stays}
@@ -64,6 +64,17 @@ replies-stopped s n = record { many = 0; within = omega arith; says = refl }
 
 pub replies-more : (s : State) (n : ℕ) → SaysReplies went_on (Some []) (Some (codes "b")) s n [] → ⊥
 replies-more s n says = bytes-more [] 98 says
+
+-- ---- lines that are written
+
+pub writes-none : (s : State) → WritesOne s [] → ⊥
+writes-none s writes = writes
+
+pub writes-this : (s : State) (line : List ℕ) → makes_durable s.held line ≡ true → WritesOne s (line ∷ [])
+writes-this s line is = inl is
+
+pub writes-other : (s : State) (line : List ℕ) → makes_durable s.held line ≡ false → WritesOne s (line ∷ []) → ⊥
+writes-other s line rests writes = ⊎_elim (λ is. true≢false (sym is ∙ rests)) (λ none. none) writes
 
 -- ---- asks that wait
 
@@ -143,6 +154,10 @@ module _ {X : Type 0} (T : Ghosts X) (old new : X) where
 
       pub answered-plain : before.end ≡ None → IsAnswered T by_disk before now first lines old new → ⊥
       answered-plain none answered = answered.plain none refl
+
+      -- nor does the disk fail where there is no line
+      pub answered-no_line : IsAnswered T by_disk before now first [] old new → ⊥
+      answered-no_line answered = answered.written refl
 
       -- a session of no log is given none
       pub answered-no_log : (at : ℕ) → before.end ≡ None → now.end ≡ Some at

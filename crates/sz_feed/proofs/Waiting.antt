@@ -38,7 +38,7 @@ use Rattle.sz_feed.proofs.Disks.{stays-both, stays-finding, only-more, only-long
 -- ---- saying
 
 -- what is said behind what was said
-says-some : (a : Option (List ℕ)) (x : List ℕ) → (b : Option (List ℕ)) × Says a b x
+pub says-some : (a : Option (List ℕ)) (x : List ℕ) → (b : Option (List ℕ)) × Says a b x
 says-some None x = (None, tt)
 says-some (Some xs) x = (Some (xs ++ x), refl)
 

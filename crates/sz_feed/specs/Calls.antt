@@ -1,7 +1,7 @@
 -- What a call of a feed does to its station: what the counts of faults tell of how it ended, what
 -- was said, what became of the log, and what a stop at any moment finds. A session of no log is one
 -- whose log stays: its station's disk is as before.
-use Rattle.std.specs.Prelude.{◌≡◌, ℕ, ◌≤◌, List, [], ◌∷◌, ◌++◌, length}
+use Rattle.std.specs.Prelude.{◌≡◌, ◌⊎◌, ℕ, ◌≤◌, List, [], ◌∷◌, ◌++◌, length}
 use Rattle.std.specs.Prelude.{Option, Some, None, Result, Ok, Err, OnOk, true}
 use Rattle.std.specs.List.{AllByRecursion}
 use Rattle.sz_outside.specs.Outside.{Rose, Stood, Says, SaysPart}
@@ -9,7 +9,7 @@ use Rattle.sz_outside.specs.declared.stations.Station.{Ghosts}
 use Rattle.sz_commands.specs.Asks.{IsAskLine}
 use Rattle.sz_commands.specs.Logged.{KeepsLog, makes_durable}
 use Rattle.sz_commands.specs.States.{State}
-use Rattle.sz_commands.specs.Transcript.{replies_to}
+use Rattle.sz_commands.specs.Transcript.{replies_to, after_lines}
 use Rattle.sz_commands.specs.declared.asking.AskLine.{AskLine}
 use Rattle.sz_feed.specs.Moments.{Moment}
 use Rattle.sz_feed.specs.Serving.{SaysFirst}
@@ -81,6 +81,12 @@ pub record IsTaken {X U : Type 0} (T : Ghosts X) (r : Result U Halt) (before now
 
 -- ---- lines
 
+-- One of these lines, each taken from what those before it left, is written to a log.
+abbrev pub WritesOne : State → List (List ℕ) → Type 0
+WritesOne s [] = ⊥
+WritesOne s (line ∷ lines) =
+    (makes_durable s.held line ≡ true) ⊎ WritesOne (after_lines s (line ∷ [])) lines
+
 -- What a stop finds while lines are answered, before which a text is said: of a session of no log a
 -- first part of all that is said, over the disk as it was; and of one of a log, where nothing is
 -- said before them, so many of the lines answered, and a log of these.
@@ -90,11 +96,12 @@ FindsBehind T None first s n lines old new = OnlySays T (first ++ replies_to s n
 FindsBehind T (Some at) first s n lines old new = FindsLines T at s n lines old new
 
 -- These lines were answered, behind a text that was said before, or so many of them where the call
--- stopped. No disk fails where there is no log.
+-- stopped. No disk fails where there is no log, nor where no line is written to it.
 pub record IsAnswered {X U : Type 0} (T : Ghosts X) (r : Result U Halt) (before now : Moment)
     (first : List ℕ) (lines : List (List ℕ)) (old new : X) : Type 0 where
   pub counted : CountsTell T r old new
   pub plain : before.end ≡ None → r ≡ Err halt.DiskFault → ⊥
+  pub written : r ≡ Err halt.DiskFault → WritesOne before.held lines
   pub log : OnOk r (StaysBeside T before now old new)
   pub found : FindsBehind T before.end first before.held before.number lines old new
 

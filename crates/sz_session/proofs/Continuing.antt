@@ -3,7 +3,8 @@
 -- The key idea: to put the disk where a stop leaves it, and to read it, changes no image and says nothing; so what a
 -- stop finds of the lines that are answered then is found from the start of the call.
 use Rattle.std.proofs.Common.{◌≡◌, ℕ, ◌≤◌, List, true, false, refl, sym, ◌∙◌, subst, Option, Some, None, true≢false}
-use Rattle.std.specs.Prelude.{Result, Ok, Err, OnOk, is_err}
+use Rattle.std.specs.Prelude.{Result, Ok, Err, OnOk, is_ok, is_err}
+use Rattle.sz_outside.specs.Counts.{faults_after}
 use Rattle.sz_outside.specs.Outside.{Rose, Stood}
 use Rattle.sz_outside.specs.Disk.{Told, Same, Said}
 use Rattle.sz_outside.specs.declared.stations.Station.{Ghosts}
@@ -96,6 +97,12 @@ opened {X} T s limit at c kept left rest a b x reads said stops made log ends be
   behind = λ done. behind-before T (state_of_log c kept) at left a b x reads (behind done);
   found = λ only. finds-before T (state_of_log c kept) at left a b x reads said stops only log found;
 }
+
+-- a call that did not fail counts no fault
+pub not-failed-counted : {A B : Type 0} (r : Result A B) (n m : ℕ) → is_err r ≡ false → m ≡ faults_after n (is_ok r)
+    → m ≡ n
+not-failed-counted (Ok a) n m is counted = counted
+not-failed-counted (Err b) n m is counted = absurd (true≢false is)
 
 -- what is so of a call that did not fail
 pub not-failed : {A B : Type 0} (r : Result A B) (Claim : Type 0) → is_err r ≡ false → OnOk r Claim → Claim

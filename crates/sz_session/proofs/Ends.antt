@@ -13,9 +13,9 @@ use Rattle.sz_commands.specs.States.{State}
 use Rattle.sz_feed.specs.Serving.{Opening, Answered, AreAll, SaidToLimit}
 use Rattle.sz_feed.specs.Serving.{IsPastLimit, IsWithinLimit}
 use Rattle.sz_feed.specs.Disks.{StaysFinding, FoundInPart}
-use Rattle.sz_feed.specs.Calls.{CountsTell, SaysText, SaysReplies}
+use Rattle.sz_feed.specs.Calls.{CountsTell, SaysText, SaysReplies, IsAnswered}
 use Rattle.sz_session.specs.Statuses.{halt_status, end_status, is_of_disk, Ends, EndsLines, NoneRose, AreCounted}
-use Rattle.sz_session.specs.Sessions.{FindsOf}
+use Rattle.sz_session.specs.Sessions.{FindsOf, EndsTurn}
 use Rattle.sz_feed.specs.declared.feed.Halt.{Halt}
 use Rattle.sz_feed.specs.declared.feed.Halt.TheVariants as halt
 use Rattle.sz_session.specs.declared.serving.Status.{Status}
@@ -28,16 +28,25 @@ use Rattle.sz_feed.proofs.Told.{done, turn-in_part, turn-in_lines, end-in_part, 
 abbrev pub halted : Halt → Result (Unit {0}) Halt
 halted h = Err h
 
-pub turn-ends : (z : State) (s : Halt) (limit : ℕ) (all left next a b c : Option (List ℕ)) (m : Moment)
+turn-replies : (z : State) (s : Halt) (limit : ℕ) (all left next a b c : Option (List ℕ)) (m : Moment)
     (total count : ℕ) (buffer : List ℕ) → Answered z all left a b m total → Gives left next buffer count
     → SaysReplies (halted s) b c m.held m.number (cut_after m (take count buffer)).whole
     → EndsLines z (halt_status s) limit all next a c
-turn-ends z halt.SayFault limit all left next a b c m total count buffer so_far gives says =
+turn-replies z halt.SayFault limit all left next a b c m total count buffer so_far gives says =
     turn-in_part z all left next a b c m total count buffer so_far gives says
-turn-ends z halt.DiskFault limit all left next a b c m total count buffer so_far gives says =
+turn-replies z halt.DiskFault limit all left next a b c m total count buffer so_far gives says =
     turn-in_lines z all left next a b c m total count buffer so_far gives says
-turn-ends z halt.NoMemory limit all left next a b c m total count buffer so_far gives says =
+turn-replies z halt.NoMemory limit all left next a b c m total count buffer so_far gives says =
     turn-in_lines z all left next a b c m total count buffer so_far gives says
+
+pub turn-ends : {X : Type 0} {T : Ghosts X} {s : Halt} {m n : Moment} {lines : List (List ℕ)} {x y : X} (z : State)
+    (limit : ℕ) (all left next a : Option (List ℕ)) (total count : ℕ) (buffer : List ℕ)
+    → IsAnswered T (halted s) m n [] lines x y → Answered z all left a (T.said x) m total
+    → Gives left next buffer count
+    → SaysReplies (halted s) (T.said x) (T.said y) m.held m.number (cut_after m (take count buffer)).whole
+    → EndsLines z (halt_status s) limit all next a (T.said y)
+turn-ends {X} {T} {s} {m} {n} {lines} {x} {y} z limit all left next a total count buffer answered so_far gives says =
+    turn-replies z s limit all left next a (T.said x) (T.said y) m total count buffer so_far gives says
 
 -- the end of the source
 pub end-ends : (z : State) (r : Result (Unit {0}) Halt) (limit : ℕ) (all left a b c : Option (List ℕ)) (m : Moment)
@@ -63,9 +72,10 @@ end-counted {X} T (Err halt.DiskFault) r r' x y same counts = (same, counts.0, c
 end-counted {X} T (Err halt.NoMemory) r r' x y same counts = (same, counts.0, counts.1)
 
 -- and of a turn that stopped
-pub turn-counted : {X : Type 0} (T : Ghosts X) (h : Halt) (r r' : ℕ) (x y : X) → r' ≡ r
-    → CountsTell T (halted h) x y → AreCounted T (halt_status h) r r' x y
-turn-counted {X} T h r r' x y same counts = end-counted T (halted h) r r' x y same counts
+pub turn-counted : {X : Type 0} {T : Ghosts X} {h : Halt} {m n : Moment} {lines : List (List ℕ)} {x y : X} (r r' : ℕ)
+    → IsAnswered T (halted h) m n [] lines x y → r' ≡ r → AreCounted T (halt_status h) r r' x y
+turn-counted {X} {T} {h} {m} {n} {lines} {x} {y} r r' answered same =
+    end-counted T (halted h) r r' x y same answered.counted
 
 -- no count rose in one time, nor in another behind it
 pub none-then : {X : Type 0} (T : Ghosts X) (r r' r'' : ℕ) (x y z : X) → NoneRose T r r' x y → NoneRose T r' r'' y z
@@ -88,6 +98,13 @@ counted-behind {X} T status.AlreadyALog r r' r'' x y z one two = none-then T r r
 counted-behind {X} T (status.BadLog at) r r' r'' x y z one two = none-then T r r' r'' x y z one two
 counted-behind {X} T status.NoMemory r r' r'' x y z one two = none-then T r r' r'' x y z one two
 counted-behind {X} T status.InputLimit r r' r'' x y z one two = none-then T r r' r'' x y z one two
+
+-- of a turn that ended the session
+pub turn-behind : {X : Type 0} {T : Ghosts X} {s : Status} {limit total : ℕ} {o : Opening} {left : Option (List ℕ)}
+    {r' r'' : ℕ} {m : Moment} {y z : X} (r : ℕ) (x : X) → NoneRose T r r' x y
+    → EndsTurn T s limit o total left r' r'' m y z → AreCounted T s r r'' x z
+turn-behind {X} {T} {s} {limit} {total} {o} {left} {r'} {r''} {m} {y} {z} r x one turn =
+    counted-behind T s r r' r'' x y z one turn.counted
 
 -- what they tell of a status, where the call ended with it
 pub counted-with : {X : Type 0} (T : Ghosts X) (s t : Status) (r r' : ℕ) (x y : X) → AreCounted T s r r' x y → s ≡ t

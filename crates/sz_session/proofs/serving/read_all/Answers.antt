@@ -14,7 +14,7 @@ use Rattle.sz_session.specs.Statuses.{end_status}
 use Rattle.sz_session.specs.Sessions.{EndsSession}
 use Rattle.sz_session.specs.declared.serving.Status.{Status}
 use Rattle.sz_session.proofs.Ends.{end-ends, end-counted, none-then, counted-behind, plain-end, done-end}
-use Rattle.sz_session.proofs.Ends.{of-both, of-stays, of-claim}
+use Rattle.sz_session.proofs.Ends.{turn-behind, of-both, of-stays, of-claim}
 use Rattle.sz_session.proofs.serving.read_all.Goals as goal
 
 pub chunks-init : goal.chunks-init
@@ -91,7 +91,8 @@ chunks-preserved g c =
     record {
       within = c.in-Ok.ensures.within;
       number = c.in-Ok.ensures.number;
-      counted = none-then g.T.Station _ _ _ a b x so_far.counted turn.counted;
+      counted = none-then g.T.Station (g.S.Source.faults c.args.source.now) (g.S.Source.faults c.chunks.source)
+          (g.S.Source.faults c.take_turn.new.source) a b x so_far.counted turn.counted;
       disk = λ e. stays-both g.T.Station _ _ _ _ (so_far.disk e)
           (of-stays g.T.Station mid.end o _ b x turn.found (so_far.plain e));
       goes = goes;
@@ -137,13 +138,15 @@ returns-in-Ok-eq0 g c =
     (read-more g.T.Station o.held o.left before (g.S.Source.left c.chunks.source) o.said first mid total count a b y
     asked.1.1.1 asked.1.0 so_far.answered so_far.goes so_far.found taken) in
     let line = last_line last.pending in
+    let reads = g.S.Source.faults c.args.source.now in
+    let read_now = g.S.Source.faults c.take_turn.new.source in
     let P : Status → Type 0 = λ s. EndsSession g.T.Station s c.args.limit o first.end left
-    (g.S.Source.faults c.args.source.now) (g.S.Source.faults c.take_turn.new.source) a x in
+    reads read_now a x in
     subst P (sym c.status_of_end.ensures) (record {
       ends = end-ends o.held r c.args.limit _ _ _ _ _ last total so_far.within answered is_all c.end_input.ensures.says;
-      counted = counted-behind g.T.Station (end_status r) _ _ _ a y x
-          (none-then g.T.Station _ _ _ a b y so_far.counted turn.counted)
-          (end-counted g.T.Station r _ _ y x refl ended.counted);
+      counted = counted-behind g.T.Station (end_status r) reads read_now read_now a y x
+          (none-then g.T.Station reads (g.S.Source.faults c.chunks.source) read_now a b y so_far.counted turn.counted)
+          (end-counted g.T.Station r read_now read_now y x refl ended.counted);
       plain = λ e is. plain-end r (ended.plain (none-stays g.T.Station first last a y goes e)) is;
       behind = λ is. all-behind g.T.Station o.held o.left before left o.said (g.T.Station.said a) (g.T.Station.said y)
           first last end total a x asked.1.0 answered is_all
@@ -178,7 +181,7 @@ returns-in-Err g c =
     (λ e. rest-none g.T.Station mid o.left total b x e) in
     record {
       ends = turn.ends;
-      counted = counted-behind g.T.Station _ _ _ _ a b x so_far.counted turn.counted;
+      counted = turn-behind (g.S.Source.faults c.args.source.now) a so_far.counted turn;
       plain = λ e is. turn.plain (so_far.plain e) is;
       behind = λ is. absurd (turn.not_done is);
       found = of-both g.T.Station first.end o _ a x

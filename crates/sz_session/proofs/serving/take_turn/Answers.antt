@@ -69,8 +69,8 @@ returns-in_err-take_chunk-clause-ends g c =
     let found = stopped.answered.found in
     let p = err_from_is_err_and c.from_residual-in_err-take_chunk.result c.from_residual-in_err-take_chunk.ensures.1 in
     rw (p.1, p.2) (record {
-      ends = turn-ends o.held _ c.args.limit _ _ _ _ _ _ m total count buffer so_far gives stopped.says;
-      counted = turn-counted g.T.Station _ _ _ a x c.in_ok-count.ensures.quiet stopped.answered.counted;
+      ends = turn-ends o.held c.args.limit _ _ _ _ total count buffer stopped.answered so_far gives stopped.says;
+      counted = turn-counted _ _ stopped.answered c.in_ok-count.ensures.quiet;
       plain = λ e is. plain-turn _ (stopped.answered.plain e) is;
       not_done = λ is. not-done _ is;
       found = of-both g.T.Station m.end o _ a x

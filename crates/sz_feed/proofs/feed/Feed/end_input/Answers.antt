@@ -18,6 +18,7 @@ returns-then-is_empty-clause-answered g c =
     record {
       counted = (refl, refl);
       plain = λ e is. cc;
+      written = λ is. cc;
       log = stays-same g.T.Station m m a refl refl c.requires.log;
       found = behind-of g.T.Station m.end [] m.held m.number (last_line m.pending) a a
           (λ e. stays-still g.T.Station _ a (g.met.T.Station.only_now a) (g.met.T.Station.counts_now a))

@@ -15,6 +15,7 @@ returns-in_err-given-clause-answered g c =
     rw (p.1, p.2) (record {
       counted = (refl, refl);
       plain = λ e is. cc;
+      written = λ is. cc;
       log = tt;
       found = behind-of g.T.Station m.end [] m.held m.number (cut_after m (10 ∷ [])).whole a a
           (λ e. stays-still g.T.Station _ a (g.met.T.Station.only_now a) (g.met.T.Station.counts_now a))

@@ -9,6 +9,7 @@ use Rattle.sz_feed.specs.Serving.{line_to_say}
 use Rattle.sz_feed.proofs.Disks.{stays-still}
 use Rattle.sz_feed.proofs.Beside.{in-said, stays-kept, stays-to}
 use Rattle.sz_feed.proofs.Calls.{said-counts, stand-then, same-end, text-none, text-line, behind-of, only-reply}
+use Rattle.sz_feed.proofs.Writing.{line-writes}
 use Rattle.sz_feed.specs.declared.feed.Halt.TheVariants as halt
 use Rattle.sz_feed.proofs.feed.Feed.end_with.Goals as goal
 
@@ -28,6 +29,7 @@ returns-in_err-reply-clause-answered g c =
     rw (p.1, p.2) (record {
       counted = taken.counted;
       plain = λ e is. taken.plain e (same-end (Unit {0}) (Option Reply) _ halt.DiskFault is);
+      written = λ is. line-writes m (taken.written (same-end (Unit {0}) (Option Reply) _ halt.DiskFault is));
       log = tt;
       found = behind-of g.T.Station m.end [] m.held m.number (cut_after m (10 ∷ [])).whole a c.take.new.station
           (λ e. rw (c.take.ensures.taken.still e)
@@ -64,6 +66,7 @@ returns-in_err-say-clause-answered g c =
     rw (p.1, p.2) (record {
       counted = said-counts g.T.Station a b x taken.counted c.in_err-say.ensures.said;
       plain = λ e is. c.in_err-say.ensures.said.plain is;
+      written = λ is. absurd (c.in_err-say.ensures.said.plain is);
       log = tt;
       found = behind-of g.T.Station m.end [] m.held m.number (cut_after m (10 ∷ [])).whole a x
           (λ e. only-reply g.T.Station m z.held r _ a b x replies told (taken.still e) c.say.ensures.said.found)
@@ -96,6 +99,7 @@ returns-clause-answered g c =
     record {
       counted = stand-then g.T.Station a b x taken.counted c.in_ok-say.ensures.said.counted;
       plain = λ e is. cc;
+      written = λ is. cc;
       log = stays-to g.T.Station m z c.next_line.new.self a x (ap (λ (k : Moment). k.held) c.next_line.ensures)
           (ap (λ (k : Moment). k.end) c.next_line.ensures)
           (stays-kept g.T.Station m z _ a b x taken.log c.say.ensures.said.found);

@@ -8,7 +8,7 @@ use Rattle.sz_feed.specs.Serving.{Advances}
 use Rattle.sz_feed.specs.Disks.{OnlySays}
 use Rattle.sz_feed.specs.Waiting.{Waits}
 use Rattle.sz_feed.specs.Running.{StaysBeside}
-use Rattle.sz_feed.specs.Calls.{SaysReplies}
+use Rattle.sz_feed.specs.Calls.{SaysReplies, WritesOne}
 use Rattle.sz_feed.proofs.Turns.{take-line}
 use Rattle.sz_feed.proofs.Disks.{stays-still}
 use Rattle.sz_feed.proofs.Waiting.{waits-nothing, waits-more, waits-line, waits-said, first-taken, only-rest}
@@ -17,6 +17,7 @@ use Rattle.sz_feed.proofs.Beside.{stays-same, stays-then, stays-from, stays-to, 
 use Rattle.sz_feed.proofs.Beside.{in-still, in-front, in-rest, some-always, idle-moved}
 use Rattle.sz_feed.proofs.Calls.{went_on, counts-then, text-whole, behind-of, behind-only, behind-lines, behind-front}
 use Rattle.sz_feed.proofs.Calls.{behind-next, answered-counts, replies-memory, answered-memory}
+use Rattle.sz_feed.proofs.Writing.{writes-front, writes-next}
 use Rattle.sz_feed.proofs.feed.Feed.take_chunk.Goals as goal
 
 pub loop-at-init : goal.loop-at-init
@@ -37,6 +38,7 @@ loop-at-init g c =
       answered = record {
         counted = (refl, refl);
         plain = λ e is. cc;
+        written = λ is. cc;
         log = stays-same g.T.Station m m a refl refl c.requires.log;
         found = behind-of g.T.Station m.end [] m.held m.number (cut_after m []).whole a a
             (λ e. stays-still g.T.Station _ a (g.met.T.Station.only_now a) (g.met.T.Station.counts_now a))
@@ -77,6 +79,7 @@ loop-at-preserved g c =
       answered = record {
         counted = counts-then g.T.Station went_on a b x so_far.answered.counted line.answered.counted;
         plain = λ e is. cc;
+        written = λ is. cc;
         log = goes;
         found = behind-next g.T.Station m k xs c.loop-at.start c.in-Some.at c.loop-at.waiting.items a b x found.0
             found.1 found.2 so_far.answered.found waited
@@ -154,10 +157,15 @@ returns-in_err-take_line-clause-answered g c =
     let waited = waits-more (g.T.Station.said a) (g.T.Station.said b) m l k (take c.loop-at.start xs)
     (take (c.in-Some.at - c.loop-at.start) (drop c.loop-at.start xs)) c.loop-at.waiting.items so_far.waits
     c.in_ok-extend.ensures.takes c.extend.ensures.held in
+    let W : List ℕ → Type 0 = λ bytes. WritesOne m.held (cut_after m bytes).whole in
     let p = err_from_is_err_and c.from_residual-in_err-take_line.result c.from_residual-in_err-take_line.ensures.1 in
     rw (p.1, p.2) (record {
       counted = answered-counts g.T.Station a b x so_far.answered.counted line;
       plain = λ e. line.plain (c.extend.ensures.end ∙ none-stays g.T.Station m l a b so_far.answered.log e);
+      written = λ is. writes-front m xs (c.in-Some.at + 1)
+          (subst W (take-line xs c.loop-at.start c.in-Some.at found.0 found.1 found.2)
+          (writes-next m k _ c.loop-at.waiting.items (g.T.Station.said a) (g.T.Station.said b) waited
+          (line.written is)));
       log = tt;
       found = behind-front g.T.Station m xs (c.in-Some.at + 1) a x
           (behind-next g.T.Station m k xs c.loop-at.start c.in-Some.at c.loop-at.waiting.items a b x found.0 found.1
@@ -228,6 +236,7 @@ returns-clause-answered g c =
     record {
       counted = counts-then g.T.Station r a b x so_far.counted c.say_waiting.ensures.said.counted;
       plain = λ e is. c.say_waiting.ensures.said.plain is;
+      written = λ is. absurd (c.say_waiting.ensures.said.plain is);
       log = on_ok_weaker r (λ none. goes) c.say_waiting.ensures.none;
       found = behind-of g.T.Station m.end [] m.held m.number (cut_after m xs).whole a x
           (λ e. subst O whole

@@ -8,6 +8,7 @@ use Rattle.sz_feed.specs.Waiting.{SaysBy}
 use Rattle.sz_feed.proofs.Disks.{stays-still, only-longer}
 use Rattle.sz_feed.proofs.Waiting.{says-waited, says-line, only-both}
 use Rattle.sz_feed.specs.Running.{StaysBeside, FindsIn}
+use Rattle.sz_feed.specs.Calls.{WritesOne}
 use Rattle.sz_feed.proofs.Beside.{in-still, in-idle, is-idle, stays-idle, some-always}
 use Rattle.sz_feed.proofs.Calls.{counts-then, behind-of, behind-only, behind-lines}
 use Rattle.std.specs.Prelude.{Err}
@@ -23,6 +24,7 @@ returns-in_err-given-clause-answered g c =
     rw (p.1, p.2) (record {
       counted = (refl, refl);
       plain = λ e is. cc;
+      written = λ is. cc;
       log = tt;
       found = behind-of g.T.Station m.end asks m.held m.number (cut_after m (10 ∷ [])).whole a a
           (λ e. stays-still g.T.Station _ a (g.met.T.Station.only_now a) (g.met.T.Station.counts_now a))
@@ -52,6 +54,7 @@ returns-in_err-say_waiting-in_default-clause-answered g c =
     rw (p.1, p.2) (record {
       counted = said.counted;
       plain = λ e is. said.plain is;
+      written = λ is. absurd (said.plain is);
       log = tt;
       found = behind-of g.T.Station m.end asks m.held m.number (cut_after m (10 ∷ [])).whole a b
           (λ e. only-longer g.T.Station a b asks (told_in m (10 ∷ [])) said.found)
@@ -99,10 +102,13 @@ returns-in_ok-say_waiting-in_default-clause-answered g c =
     let O : Moment → Type 0 = λ l. l.end ≡ None → OnlySays g.T.Station (told_in l (10 ∷ [])) b x in
     let F : Moment → Type 0 = λ l. FindsIn g.T.Station l (10 ∷ []) b x in
     let S : Moment → Type 0 = λ l. StaysBeside g.T.Station l n b x in
+    let W : Moment → Type 0 =
+    λ l. c.end_with.result ≡ Err halt.DiskFault → WritesOne l.held (cut_after l (10 ∷ [])).whole in
     let E : Moment → Type 0 = λ l. l.end ≡ None → c.end_with.result ≡ Err halt.DiskFault → ⊥ in
     record {
       counted = counts-then g.T.Station c.end_with.result a b x said.said.counted line.counted;
       plain = subst E same line.plain;
+      written = subst W same line.written;
       log = on_ok_weaker c.end_with.result
           (λ goes. stays-idle g.T.Station m n (c.args.waiting.now.items ≡ []) a b x c.requires.waiting.idle
           c.say_waiting.ensures.idle (subst S same goes)) line.log;
