@@ -1,7 +1,7 @@
 -- Counts of faults behind a line, worked by hand on both sides.
 --
 -- The key idea: a count that rose by one is not the count that it was.
-use Rattle.std.proofs.Common.{◌≡◌, ℕ, ◌+◌, refl, sym, arith, Ok, Err}
+use Rattle.std.proofs.Common.{◌≡◌, ℕ, ◌+◌, refl, arith, Ok, Err}
 use Rattle.sz_outside.specs.declared.stations.Station.{Ghosts}
 use Rattle.sz_commands.specs.Faults.{CountsTell}
 use Rattle.sz_commands.specs.declared.session.Stop.TheVariants as stop
