@@ -103,6 +103,11 @@ await-makes c command n is made = by (version_of c n).awaited (sym (ap (makes c)
   by true h = sym h
   by false h = refl
 
+-- so one whose version was not awaited makes that durable
+pub await-writes : (c : Holdings) (command : Command) (n : ℕ) → command ≡ order.Await n
+    → (version_of c n).awaited ≡ false → makes c command ≡ true
+await-writes c command n is off = ap (makes c) is ∙ ap not off
+
 pub await-group : (c : Holdings) (line : List ℕ) (command : Command) (n : ℕ) (e : Entry) → command ≡ order.Await n
     → IsVersionGroup c n e → IsGroupFor c line command e
 await-group c line command n e is such = subst (λ (o : Command). IsGroupFor c line o e) (sym is) such

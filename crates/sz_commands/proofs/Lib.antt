@@ -9,4 +9,6 @@ pub mod Sought
 pub mod Logged
 pub mod Lasting
 pub mod Appending
+pub mod Faults
 pub mod RowsLogged
+pub mod RowsFaults

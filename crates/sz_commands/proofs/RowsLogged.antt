@@ -2,8 +2,8 @@
 --
 -- The key idea: a group that stands for something else has another kind, another body or another place, and each of
 -- these is a number.
-use Rattle.std.proofs.Common.{◌≡◌, ℕ, ◌+◌, List, [], ◌∷◌, ◌++◌, Option, Some, None, Ok, Err, refl, sym, ap, subst, ◌∙◌}
-use Rattle.std.proofs.Common.{arith, true, false, true≢false, length, get_or, unwrap_or, inl, inr, codes, length-append}
+use Rattle.std.proofs.Common.{◌≡◌, ℕ, ◌+◌, List, [], ◌∷◌, ◌++◌, Option, Some, None, Ok, Err, refl, sym, ap, subst}
+use Rattle.std.proofs.Common.{arith, true, false, true≢false, length, get_or, unwrap_or, inl, inr, length-append}
 use Rattle.sz_outside.specs.Disk.{Only}
 use Rattle.sz_outside.specs.declared.stations.Station.{Ghosts}
 use Rattle.sz_spec.specs.declared.modes.Dir.{Dir}
@@ -15,7 +15,6 @@ use Rattle.sz_log.specs.Log.{Entry, IsLog, empty_log, log_bytes}
 use Rattle.sz_log.specs.Steps.{Added}
 use Rattle.sz_script.specs.declared.command.BaseName.{BaseName}
 use Rattle.sz_script.specs.declared.command.NamedCell.{NamedCell}
-use Rattle.sz_script.specs.declared.command.Command.{Command}
 use Rattle.sz_script.specs.declared.command.Command.TheVariants as command
 use Rattle.sz_script.specs.declared.refusal.Refusal.TheVariants as refusal
 use Rattle.sz_catalogue.specs.Holdings.{Holdings, no_holdings}
@@ -24,8 +23,8 @@ use Rattle.sz_recover.specs.Growing.{durable}
 use Rattle.sz_recover.specs.Soundness.{AreSoundKept}
 use Rattle.sz_recover.proofs.Rows as body
 use Rattle.sz_recover.proofs.RowsLogs.{empty-made}
-use Rattle.sz_recover.proofs.RowsSound.{version, held, right-sound, wrong-unsound}
-use Rattle.sz_commands.specs.Logged.{IsLogOf, HasLog, Grown, GrowsTo, Grows, IsLeft, LeavesLog, GoesOn, KeepsLog}
+use Rattle.sz_recover.proofs.RowsSound.{version, held, right-sound}
+use Rattle.sz_commands.specs.Logged.{IsLogOf, HasLog, Grown, Grows, IsLeft, LeavesLog, GoesOn, KeepsLog}
 use Rattle.sz_commands.specs.Logged.{StopsInLog, lasts, IsLasting, makes, makes_judged, makes_read, makes_durable}
 use Rattle.sz_commands.specs.Logged.{IsLineGroup, IsVersionGroup, IsGroupFor, IsGroupOf, Appends}
 use Rattle.sz_commands.specs.declared.logging.Lasting.TheVariants as lasting

@@ -2,6 +2,7 @@
 pub mod Lines
 pub mod Transcript
 pub mod Stops
+pub mod Faults
 pub mod Commands
 pub mod Asks
 pub mod Given

@@ -22,8 +22,11 @@
 //! (`logging`): an accepted line that holds an array or a flow or sets strategies, and a version at
 //! its first await, with stores that stand for the relation. `specs/Logged` says what the station
 //! has beside the session (`HasLog`), what a command makes of it (`KeepsLog`) and what a stop
-//! leaves (`StopsInLog`). `specs/Lines` says what the lines of a text are, and `specs/Transcript`
-//! what a session says to all of them. `docs/FORMATS.md` describes lines and replies.
+//! leaves (`StopsInLog`). `specs/Faults` says which counts of faults a line raises (`CountsTell`):
+//! one of the disk where a call of it failed, which comes only for a line that is written
+//! (`written`), and else none, also where there is no memory. `specs/Lines` says what the lines of
+//! a text are, and `specs/Transcript` what a session says to all of them. `docs/FORMATS.md`
+//! describes lines and replies.
 //!
 //! To whoever changes this crate: what a version carries is its own (`IsTrailOf` of `sz_versions`):
 //! a call that works on it takes it out of the catalogue and leaves one that stands in, which

@@ -8,7 +8,6 @@
 
 ghost use Rattle.std.specs.Prelude.{◌≡◌, ◌+◌, ◌*◌, ◌^◌, ◌<◌, ◌≤◌, true, false, None, Some, Ok, Err};
 ghost use Rattle.std.specs.Prelude.{IfOk, OnOk};
-ghost use Rattle.sz_outside.specs.Outside.{Rose, Stood};
 ghost use Rattle.sz_script.specs.Reading.{reading};
 ghost use Rattle.sz_script.specs.Right.{is_right};
 ghost use Rattle.sz_script.specs.declared.command.Command.TheVariants as order;
@@ -19,6 +18,7 @@ ghost use Rattle.sz_recover.specs.Logs.{is_of_kind};
 ghost use Rattle.sz_commands.specs.States.{apart, accepted, after_command};
 ghost use Rattle.sz_commands.specs.Commands.{traced_for, most_for, traced_along, most_along};
 ghost use Rattle.sz_commands.specs.Given.{Gives, IsRight, Takes, traced_for_given, most_for_given};
+ghost use Rattle.sz_commands.specs.Faults.{CountsTell};
 ghost use Rattle.sz_commands.specs.Logged.{IsLogOf, HasLog, KeepsLog, StopsInLog, held_after};
 ghost use Rattle.sz_commands.specs.Logged.{IsLasting, Appends, IsGroupOf, IsGroupFor, IsLineGroup};
 ghost use Rattle.sz_commands.specs.Logged.{IsVersionGroup, makes, makes_judged, makes_durable};
@@ -67,15 +67,13 @@ impl Session {
             self.new.held self.new.end station.old station.new) }
         ensures stops { StopsInLog T.Station self.old.held self.old.end
             (held_after self.old line.now) station.old station.new }
-        ensures output { (T.said station.new ≡ T.said station.old)
-            × (T.say_faults station.new ≡ T.say_faults station.old) }
-        ensures quiet { OnOk result
-            (Stood (T.disk_faults station.old) (T.disk_faults station.new)) }
-        ensures fault { result ≡ Err Stop.DiskFault
-            → Rose (T.disk_faults station.old) (T.disk_faults station.new) }
+        ensures output { T.said station.new ≡ T.said station.old }
+        ensures counted { CountsTell T.Station result station.old station.new }
         ensures kept { result ≡ Err Stop.NoMemory
             → (self.new ≡ self.old) × (station.new ≡ station.old) }
         ensures plain { self.old.end ≡ None → result ≡ Err Stop.DiskFault → ⊥ }
+        ensures written { result ≡ Err Stop.DiskFault
+            → makes_durable self.old.held line.now ≡ true }
         ensures idle { makes_durable self.old.held line.now ≡ false → station.new ≡ station.old }
         ensures appends { OnOk result (makes_durable self.old.held line.now ≡ true
             → Appends T.Station (IsGroupOf self.old.held line.now (reading line.now))
@@ -115,15 +113,13 @@ impl Session {
             self.new.held self.new.end station.old station.new) }
         ensures stops { StopsInLog T.Station self.old.held self.old.end
             (after_command self.old command).0.held station.old station.new }
-        ensures output { (T.said station.new ≡ T.said station.old)
-            × (T.say_faults station.new ≡ T.say_faults station.old) }
-        ensures quiet { OnOk result
-            (Stood (T.disk_faults station.old) (T.disk_faults station.new)) }
-        ensures fault { result ≡ Err Stop.DiskFault
-            → Rose (T.disk_faults station.old) (T.disk_faults station.new) }
+        ensures output { T.said station.new ≡ T.said station.old }
+        ensures counted { CountsTell T.Station result station.old station.new }
         ensures kept { result ≡ Err Stop.NoMemory
             → (self.new ≡ self.old) × (station.new ≡ station.old) }
         ensures plain { self.old.end ≡ None → result ≡ Err Stop.DiskFault → ⊥ }
+        ensures written { result ≡ Err Stop.DiskFault
+            → makes_judged self.old.held command (judged self.old.held command) ≡ true }
         ensures idle { makes_judged self.old.held command (judged self.old.held command) ≡ false
             → station.new ≡ station.old }
         ensures appends { OnOk result
@@ -162,15 +158,12 @@ impl Session {
             self.new.held self.new.end station.old station.new) }
         ensures stops { StopsInLog T.Station self.old.held self.old.end
             (accepted self.old command).0.held station.old station.new }
-        ensures output { (T.said station.new ≡ T.said station.old)
-            × (T.say_faults station.new ≡ T.say_faults station.old) }
-        ensures quiet { OnOk result
-            (Stood (T.disk_faults station.old) (T.disk_faults station.new)) }
-        ensures fault { result ≡ Err Stop.DiskFault
-            → Rose (T.disk_faults station.old) (T.disk_faults station.new) }
+        ensures output { T.said station.new ≡ T.said station.old }
+        ensures counted { CountsTell T.Station result station.old station.new }
         ensures kept { result ≡ Err Stop.NoMemory
             → (self.new ≡ self.old) × (station.new ≡ station.old) }
         ensures plain { self.old.end ≡ None → result ≡ Err Stop.DiskFault → ⊥ }
+        ensures written { result ≡ Err Stop.DiskFault → makes self.old.held command ≡ true }
         ensures idle { makes self.old.held command ≡ false → station.new ≡ station.old }
         ensures appends { OnOk result (makes self.old.held command ≡ true
             → Appends T.Station (IsGroupFor self.old.held line.now command)
@@ -207,12 +200,8 @@ impl Session {
             self.new.held self.new.end station.old station.new) }
         ensures stops { StopsInLog T.Station self.old.held self.old.end
             (changes.accepted self.old.held command).0 station.old station.new }
-        ensures output { (T.said station.new ≡ T.said station.old)
-            × (T.say_faults station.new ≡ T.say_faults station.old) }
-        ensures quiet { OnOk result
-            (Stood (T.disk_faults station.old) (T.disk_faults station.new)) }
-        ensures fault { result ≡ Err Stop.DiskFault
-            → Rose (T.disk_faults station.old) (T.disk_faults station.new) }
+        ensures output { T.said station.new ≡ T.said station.old }
+        ensures counted { CountsTell T.Station result station.old station.new }
         ensures kept { result ≡ Err Stop.NoMemory
             → (self.new ≡ self.old) × (station.new ≡ station.old) }
         ensures appends { OnOk result (Appends T.Station (IsLineGroup command line.now)
@@ -241,14 +230,12 @@ impl Session {
             self.new.held self.new.end station.old station.new) }
         ensures stops { StopsInLog T.Station self.old.held self.old.end
             (changes.accepted self.old.held (order.Await version)).0 station.old station.new }
-        ensures output { (T.said station.new ≡ T.said station.old)
-            × (T.say_faults station.new ≡ T.say_faults station.old) }
-        ensures quiet { OnOk result
-            (Stood (T.disk_faults station.old) (T.disk_faults station.new)) }
-        ensures fault { result ≡ Err Stop.DiskFault
-            → Rose (T.disk_faults station.old) (T.disk_faults station.new) }
+        ensures output { T.said station.new ≡ T.said station.old }
+        ensures counted { CountsTell T.Station result station.old station.new }
         ensures kept { result ≡ Err Stop.NoMemory
             → (self.new ≡ self.old) × (station.new ≡ station.old) }
+        ensures written { result ≡ Err Stop.DiskFault
+            → (version_of self.old.held version).awaited ≡ false }
         ensures idle { (version_of self.old.held version).awaited ≡ true
             → station.new ≡ station.old }
         ensures appends { OnOk result ((version_of self.old.held version).awaited ≡ false

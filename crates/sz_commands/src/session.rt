@@ -27,7 +27,7 @@ ghost use Rattle.sz_commands.specs.States.{logged_of};
 ghost use Rattle.sz_commands.specs.Logged.{HasLog, KeepsLog, StopsInLog, held_after, makes_durable};
 ghost use Rattle.sz_commands.specs.Logged.{Appends, IsGroupOf};
 ghost use Rattle.sz_script.specs.Reading.{reading};
-ghost use Rattle.sz_outside.specs.Outside.{Rose, Stood};
+ghost use Rattle.sz_commands.specs.Faults.{CountsTell};
 ghost use Rattle.sz_commands.specs.Inquiries.{IsInquiryOf};
 ghost use Rattle.sz_versions.specs.Recalls.{IsRecalledIn};
 ghost use Rattle.sz_versions.specs.Runs.{executions_of};
@@ -211,8 +211,10 @@ impl Session {
     /// For a session of a log the station's disk is that log (`HasLog`): what the line makes
     /// durable is appended to it as one group, at the cost of its bytes (`appends`); any other line
     /// leaves the station as it was (`idle`); and no write is pending then. At every moment a stop
-    /// leaves a log of what was durable before, or of what is then (`stops`). Where the disk fails
-    /// the log has to be opened again. A session of no log makes no call on the station.
+    /// leaves a log of what was durable before, or of what is then (`stops`). Where the disk fails,
+    /// which it does only for a line that is to be appended (`written`), that was counted, and the
+    /// log has to be opened again; no other line raises a count of faults, nor does one for which
+    /// there is no memory (`counted`). A session of no log makes no call on the station.
     pub fn command<T: Station, G: Gate, R: Threads + Wait + Sync>(
         &mut self,
         rt: &R,
@@ -242,13 +244,11 @@ impl Session {
         ensures appends { OnOk result (makes_durable self.old.held line.now ≡ true
             → Appends T.Station (IsGroupOf self.old.held line.now (reading line.now))
             self.old.end self.new.end station.old station.new) }
-        ensures output { (T.said station.new ≡ T.said station.old)
-            × (T.say_faults station.new ≡ T.say_faults station.old) }
-        ensures quiet { OnOk result
-            (Stood (T.disk_faults station.old) (T.disk_faults station.new)) }
-        ensures fault { result ≡ Err Stop.DiskFault
-            → Rose (T.disk_faults station.old) (T.disk_faults station.new) }
+        ensures output { T.said station.new ≡ T.said station.old }
+        ensures counted { CountsTell T.Station result station.old station.new }
         ensures plain { self.old.end ≡ None → result ≡ Err Stop.DiskFault → ⊥ }
+        ensures written { result ≡ Err Stop.DiskFault
+            → makes_durable self.old.held line.now ≡ true }
     {
         let given = self.read(line)?;
         self.take_on(rt, given, line, number, station, gate, tally)

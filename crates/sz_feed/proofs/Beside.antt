@@ -172,7 +172,7 @@ idle-moved e f P same idle = subst (λ (o : Option ℕ). IfSome o (λ at. P)) (s
 -- ---- what is found
 
 -- of a session of no log nothing is claimed
-some-none : (e : Option ℕ) (P : ℕ → Type 0) → e ≡ None → IfSome e P
+pub some-none : (e : Option ℕ) (P : ℕ → Type 0) → e ≡ None → IfSome e P
 some-none None P is = tt
 some-none (Some at) P is = cc
 
@@ -236,7 +236,7 @@ in-taken {X} T s line given n m a b is same log stops =
     subst (λ (ys : List ℕ). StopsInLog T s.held s.end (held_after s ys) a b) same stops in
     subst (λ (k : Moment). FindsIn T k (10 ∷ []) a b) is (taken-in T s line n s.end a b own stopped)
 
-only-pending : (m : Moment) → (cut_after m (10 ∷ [])).whole ≡ m.pending ∷ []
+pub only-pending : (m : Moment) → (cut_after m (10 ∷ [])).whole ≡ m.pending ∷ []
 only-pending m = ap (λ (c : Cut). c.whole) (line-only m)
 
 said-in : {X : Type 0} (T : Ghosts X) (m z : Moment) (e f : Option ℕ) (bytes : List ℕ) (a b x : X)
@@ -329,7 +329,7 @@ one-line : (xs : List ℕ) → 0 < length xs → xs ∷ [] ≡ last_line xs
 one-line [] some = absurd (omega arith)
 one-line (x ∷ xs) some = refl
 
-only-last : (m : Moment) → 0 < length m.pending → (cut_after m (10 ∷ [])).whole ≡ last_line m.pending
+pub only-last : (m : Moment) → 0 < length m.pending → (cut_after m (10 ∷ [])).whole ≡ last_line m.pending
 only-last m some = only-pending m ∙ one-line m.pending some
 
 pub end-line : {X : Type 0} (T : Ghosts X) (m : Moment) (a b : X) → 0 < length m.pending → FindsIn T m (10 ∷ []) a b

@@ -14,5 +14,8 @@ pub mod RowsServing
 pub mod Running
 pub mod Beside
 pub mod Sources
+pub mod Writing
+pub mod Calls
 mod RowsMaking
 mod RowsRunning
+mod RowsCalls

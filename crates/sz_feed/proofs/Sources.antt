@@ -23,7 +23,7 @@ use Rattle.sz_feed.proofs.LawsSessions.{after_lines-append}
 use Rattle.sz_feed.proofs.Moments.{last-alike}
 use Rattle.sz_feed.proofs.Running.{finds-then, finds-longer, finds-last, finds-still}
 use Rattle.sz_feed.proofs.Turns.{says-nothing}
-use Rattle.sz_feed.proofs.Beside.{in-still, in-then, in-front, is-moved, stays-from}
+use Rattle.sz_feed.proofs.Beside.{in-none, in-still, in-then, in-front, is-moved, stays-from}
 
 -- ---- a turn
 
@@ -64,6 +64,16 @@ pub rest-taken : {X : Type 0} (T : Ghosts X) (m : Moment) (all : Option (List �
     → FindsNext T m all total count a b → FindsRest T m all total a b
 rest-taken {X} T m None total count a b one = tt
 rest-taken {X} T m (Some bytes) total count a b one = in-front T m (drop total bytes) count a b one
+
+-- of a session of no log nothing is claimed
+pub next-none : {X : Type 0} (T : Ghosts X) (m : Moment) (all : Option (List ℕ)) (total count : ℕ) (a b : X)
+    → m.end ≡ None → FindsNext T m all total count a b
+next-none {X} T m all total count a b none =
+    some-all all _ (λ bytes. in-none T m (take count (drop total bytes)) a b none)
+
+pub rest-none : {X : Type 0} (T : Ghosts X) (m : Moment) (all : Option (List ℕ)) (total : ℕ) (a b : X)
+    → m.end ≡ None → FindsRest T m all total a b
+rest-none {X} T m all total a b none = some-all all _ (λ bytes. in-none T m (drop total bytes) a b none)
 
 -- ---- from the opening on
 

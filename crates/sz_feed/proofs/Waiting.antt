@@ -25,19 +25,20 @@ use Rattle.sz_feed.specs.Serving.{Advances, SaysFirst}
 use Rattle.sz_feed.specs.Disks.{OnlySays}
 use Rattle.sz_commands.specs.Asks.{is_ask, ask_reply, asks_text}
 use Rattle.sz_feed.specs.Waiting.{told_text, Lags, SaysWhole, SaysBy, Waits}
+use Rattle.sz_feed.specs.Calls.{SaysText, SaysReplies}
 use Rattle.sz_feed.specs.declared.feed.Halt.{Halt}
 use Rattle.sz_feed.specs.declared.feed.Halt.TheVariants as halt
 use Rattle.sz_commands.specs.declared.asking.AskLine.{AskLine}
 use Rattle.sz_commands.proofs.Asks.{ask-stays}
 use Rattle.sz_feed.proofs.Moments.{cut_after-parts, are_alike-same}
-use Rattle.sz_feed.proofs.Turns.{says-then, says-quiet, part-then, part-longer, first-longer, tells-then}
+use Rattle.sz_feed.proofs.Turns.{says-then, says-quiet, part-then, part-longer, part-more, first-longer, tells-then}
 use Rattle.sz_feed.proofs.Turns.{advances-then, advances-nothing, first-whole, first-front, line-only, take-line}
 use Rattle.sz_feed.proofs.Disks.{stays-both, stays-finding, only-more, only-longer}
 
 -- ---- saying
 
 -- what is said behind what was said
-says-some : (a : Option (List ℕ)) (x : List ℕ) → (b : Option (List ℕ)) × Says a b x
+pub says-some : (a : Option (List ℕ)) (x : List ℕ) → (b : Option (List ℕ)) × Says a b x
 says-some None x = (None, tt)
 says-some (Some xs) x = (Some (xs ++ x), refl)
 
@@ -195,42 +196,19 @@ abbrev failed : Halt → Result (Unit {0}) Halt
 failed h = Err h
 
 -- what is said behind a line that could not be taken in, since those that wait before it could not be answered
-pub says-waited : (h : Halt) (s u : Option (List ℕ)) (x y : List ℕ) → (failed h ≡ Err halt.SayFault → SaysPart s u x)
-    → (failed h ≡ Err halt.NoMemory → Says s u []) → (failed h ≡ Err halt.DiskFault → ⊥) → SaysBy (failed h) s u x y
-says-waited halt.SayFault s u x y part none plain = part-longer s u x y (part refl)
-says-waited halt.DiskFault s u x y part none plain = absurd (plain refl)
-says-waited halt.NoMemory s u x y part none plain = inl (none refl)
-
--- of a say that failed, and of want of memory
-pub says-part : (h : Halt) (s u : Option (List ℕ)) (x y : List ℕ) → SaysBy (failed h) s u x y
-    → failed h ≡ Err halt.SayFault → SaysPart s u (x ++ y)
-says-part halt.SayFault s u x y says is = says
-says-part halt.DiskFault s u x y says is = cc
-says-part halt.NoMemory s u x y says is = cc
-
-pub says-whole : (h : Halt) (s u : Option (List ℕ)) (x y : List ℕ) → SaysBy (failed h) s u x y
-    → failed h ≡ Err halt.NoMemory → SaysWhole s u x y
-says-whole halt.SayFault s u x y says is = cc
-says-whole halt.DiskFault s u x y says is = says
-says-whole halt.NoMemory s u x y says is = says
-
--- and of a disk that failed
-pub says-stopped : (h : Halt) (s u : Option (List ℕ)) (x y : List ℕ) → SaysBy (failed h) s u x y
-    → failed h ≡ Err halt.DiskFault → SaysWhole s u x y
-says-stopped halt.SayFault s u x y says is = cc
-says-stopped halt.DiskFault s u x y says is = says
-says-stopped halt.NoMemory s u x y says is = says
+pub says-waited : (h : Halt) (s u : Option (List ℕ)) (x y : List ℕ) → SaysText (failed h) s u x
+    → (failed h ≡ Err halt.DiskFault → ⊥) → SaysBy (failed h) s u x y
+says-waited halt.SayFault s u x y says plain = part-longer s u x y says
+says-waited halt.DiskFault s u x y says plain = absurd (plain refl)
+says-waited halt.NoMemory s u x y says plain = inl says
 
 -- and behind one before which all that waits was said
-pub says-line : (r : Result (Unit {0}) Halt) (s t u : Option (List ℕ)) (x y : List ℕ) → Says s t x → OnOk r (Says t u y)
-    → (r ≡ Err halt.SayFault → SaysPart t u y) → (r ≡ Err halt.NoMemory → Says t u [])
-    → (r ≡ Err halt.DiskFault → Says t u []) → SaysBy r s u x y
-says-line (Ok v) s t u x y first whole part none stopped = inr (inr (says-then s t u x y first whole))
-says-line (Err halt.SayFault) s t u x y first whole part none stopped = part-then s t u x y first (part refl)
-says-line (Err halt.DiskFault) s t u x y first whole part none stopped =
-    inr (inl (says-quiet s t u x first (stopped refl)))
-says-line (Err halt.NoMemory) s t u x y first whole part none stopped =
-    inr (inl (says-quiet s t u x first (none refl)))
+pub says-line : (r : Result (Unit {0}) Halt) (s t u : Option (List ℕ)) (x y : List ℕ) → Says s t x → SaysText r t u y
+    → SaysBy r s u x y
+says-line (Ok v) s t u x y first says = inr (inr (says-then s t u x y first says))
+says-line (Err halt.SayFault) s t u x y first says = part-then s t u x y first says
+says-line (Err halt.DiskFault) s t u x y first says = inr (inl (says-quiet s t u x first says))
+says-line (Err halt.NoMemory) s t u x y first says = inr (inl (says-quiet s t u x first says))
 
 -- ---- some lines
 
@@ -318,6 +296,37 @@ waits-some s t u l m xs waiting w part =
     let P : List ℕ → Type 0 = λ ys. SaysPart s u (told_in l ys) in
     subst P (append-nil xs)
     (waits-part s t u l m xs [] waiting w (part-longer t u (asks_text m.held waiting) (told_in m []) part))
+
+-- ---- replies, by how a call ended
+
+-- of a line that was taken in behind others, or not
+pub replies-line : (h : Halt) (s t u : Option (List ℕ)) (l m : Moment) (xs : List ℕ) (waiting : List AskLine)
+    → Waits s t l m xs waiting → SaysBy (failed h) t u (asks_text m.held waiting) (told_in m (10 ∷ []))
+    → SaysReplies (failed h) s u l.held l.number (cut_after l (xs ++ 10 ∷ [])).whole
+replies-line halt.SayFault s t u l m xs waiting w says = waits-part s t u l m xs (10 ∷ []) waiting w says
+replies-line halt.DiskFault s t u l m xs waiting w says = first-line s t u l m xs waiting w says
+replies-line halt.NoMemory s t u l m xs waiting w says = first-line s t u l m xs waiting w says
+
+-- of the front of some bytes
+pub replies-front : (h : Halt) (a b : Option (List ℕ)) (l : Moment) (xs : List ℕ) (n : ℕ)
+    → SaysReplies (failed h) a b l.held l.number (cut_after l (take n xs)).whole
+    → SaysReplies (failed h) a b l.held l.number (cut_after l xs).whole
+replies-front halt.SayFault a b l xs n says =
+    let P : List ℕ → Type 0 = λ ys. SaysPart a b (told_in l ys) in
+    subst P (take-append-drop n xs) (part-more a b l (take n xs) (drop n xs) says)
+replies-front halt.DiskFault a b l xs n says = first-taken a b l xs n says
+replies-front halt.NoMemory a b l xs n says = first-taken a b l xs n says
+
+-- of asks that wait, behind which nothing comes
+pub replies-rest : (r : Result (Unit {0}) Halt) (s t u : Option (List ℕ)) (l m : Moment) (xs : List ℕ)
+    (waiting : List AskLine) → Waits s t l m xs waiting → SaysText r t u (asks_text m.held waiting)
+    → SaysReplies r s u l.held l.number (cut_after l xs).whole
+replies-rest (Ok v) s t u l m xs waiting w says = (waits-said s t u l m xs waiting w says).says
+replies-rest (Err halt.SayFault) s t u l m xs waiting w says = waits-some s t u l m xs waiting w says
+replies-rest (Err halt.DiskFault) s t u l m xs waiting w says =
+    first-quiet s t u l (cut_after l xs).whole w.first says
+replies-rest (Err halt.NoMemory) s t u l m xs waiting w says =
+    first-quiet s t u l (cut_after l xs).whole w.first says
 
 -- ---- the disk
 

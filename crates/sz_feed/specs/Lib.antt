@@ -6,4 +6,5 @@ pub mod Disks
 pub mod Waiting
 pub mod Plain
 pub mod Running
+pub mod Calls
 pub mod Laws

@@ -8,26 +8,25 @@
 //!
 //! A session of a log writes what a line makes durable before the line's reply is said, and asks do
 //! not wait there. So a stop finds the replies of so many lines, and a part of the next one's, and
-//! the log of what is durable behind those lines or behind the next one too (`found`).
+//! the log of what is durable behind those lines or behind the next one too (`FindsBehind`).
 ghost use Rattle.std.specs.Prelude.{◌≡◌, ℕ, List, Option, ◌<◌, ◌≤◌, ◌+◌, ◌-◌, ◌^◌};
 ghost use Rattle.std.specs.Prelude.{◌++◌, [], ◌∷◌, Err, IfOk, OnOk, OnErr, MatchOption, length};
 ghost use Rattle.std.specs.Prelude.{drop, take, slice_index, true, false, None};
 ghost use Rattle.std.specs.List.{AllByRecursion};
-ghost use Rattle.sz_outside.specs.Outside.{Rose, Stood, Says, SaysPart};
 ghost use Rattle.sz_commands.specs.States.{apart};
 ghost use Rattle.sz_commands.specs.Lines.{is_blank, is_within_line, last_line};
 ghost use Rattle.sz_commands.specs.Transcript.{after_lines};
 ghost use Rattle.sz_script.specs.Right.{is_right};
 ghost use Rattle.sz_feed.specs.Moments.{moment_before, cut_after, told_in, told_at_end, Alike};
-ghost use Rattle.sz_feed.specs.Serving.{Advances, SaysFirst, line_to_say};
+ghost use Rattle.sz_feed.specs.Serving.{Advances, line_to_say};
 ghost use Rattle.sz_commands.specs.States.{nothing_held};
 ghost use Rattle.sz_commands.specs.Asks.{IsAskLine, asks_text};
 ghost use Rattle.sz_commands.specs.Given.{Gives, IsRight, Takes};
 ghost use Rattle.sz_feed.specs.Waiting.{Lags, SaysBy, told_text};
 ghost use Rattle.sz_commands.specs.declared.session.Given.TheVariants as given;
-ghost use Rattle.sz_feed.specs.Disks.{OnlySays};
-ghost use Rattle.sz_commands.specs.Logged.{KeepsLog};
-ghost use Rattle.sz_feed.specs.Running.{IfSome, IsBeside, StaysBeside, FindsIn, FindsAtEnd};
+ghost use Rattle.sz_feed.specs.Running.{IsBeside};
+ghost use Rattle.sz_feed.specs.Calls.{SaysText, SaysReplies, IsSaid, IsTaken, IsAnswered};
+ghost use Rattle.sz_feed.specs.Calls.{AreWaiting};
 
 use std::alloc::{AllocError, Global};
 use std::marker::Model;
@@ -173,28 +172,11 @@ impl Feed {
         requires log { IsBeside T.Station self.old station.old }
         ensures chunk { OnOk result (
             Advances (T.said station.old) (T.said station.new) self.old self.new chunk.now) }
-        ensures part { result ≡ Err Halt.SayFault
-            → SaysPart (T.said station.old) (T.said station.new) (told_in self.old chunk.now) }
-        ensures first { result ≡ Err Halt.NoMemory
-            → SaysFirst (T.said station.old) (T.said station.new)
-            self.old.held self.old.number (cut_after self.old chunk.now).whole }
-        ensures stopped { result ≡ Err Halt.DiskFault
-            → SaysFirst (T.said station.old) (T.said station.new)
-            self.old.held self.old.number (cut_after self.old chunk.now).whole }
         ensures number { OnOk result (self.new.number ≤ self.old.number + length chunk.now) }
-        ensures fault { result ≡ Err Halt.SayFault
-            → Rose (T.say_faults station.old) (T.say_faults station.new) }
-        ensures quiet { OnOk result (Stood (T.say_faults station.old) (T.say_faults station.new)) }
-        ensures disk { self.old.end ≡ None
-            → OnlySays T.Station (told_in self.old chunk.now) station.old station.new }
-        ensures log { OnOk result
-            (StaysBeside T.Station self.old self.new station.old station.new) }
-        ensures found { FindsIn T.Station self.old chunk.now station.old station.new }
-        ensures disk_quiet { OnOk result
-            (Stood (T.disk_faults station.old) (T.disk_faults station.new)) }
-        ensures disk_fault { result ≡ Err Halt.DiskFault
-            → Rose (T.disk_faults station.old) (T.disk_faults station.new) }
-        ensures plain { self.old.end ≡ None → result ≡ Err Halt.DiskFault → ⊥ }
+        ensures says { SaysReplies result (T.said station.old) (T.said station.new)
+            self.old.held self.old.number (cut_after self.old chunk.now).whole }
+        ensures answered { IsAnswered T.Station result self.old self.new
+            [] (cut_after self.old chunk.now).whole station.old station.new }
     {
         let mut waiting = Vec::new(self.alloc);
         let mut start = 0;
@@ -216,29 +198,12 @@ impl Feed {
     ) -> Result<(), Halt>
         requires number { self.old.number + 1 < 2 ^ 64 }
         requires log { IsBeside T.Station self.old station.old }
-        ensures whole { OnOk result (
-            Says (T.said station.old) (T.said station.new) (told_at_end self.old)) }
-        ensures part { result ≡ Err Halt.SayFault
-            → SaysPart (T.said station.old) (T.said station.new) (told_at_end self.old) }
-        ensures nothing { result ≡ Err Halt.NoMemory
-            → Says (T.said station.old) (T.said station.new) [] }
-        ensures stopped { result ≡ Err Halt.DiskFault
-            → Says (T.said station.old) (T.said station.new) [] }
-        ensures fault { result ≡ Err Halt.SayFault
-            → Rose (T.say_faults station.old) (T.say_faults station.new) }
-        ensures quiet { OnOk result (Stood (T.say_faults station.old) (T.say_faults station.new)) }
-        ensures disk { self.old.end ≡ None
-            → OnlySays T.Station (told_at_end self.old) station.old station.new }
-        ensures log { OnOk result
-            (StaysBeside T.Station self.old self.new station.old station.new) }
+        ensures says { SaysText result (T.said station.old) (T.said station.new)
+            (told_at_end self.old) }
         ensures held { OnOk result
             (self.new.held.held ≡ (after_lines self.old.held (last_line self.old.pending)).held) }
-        ensures found { FindsAtEnd T.Station self.old station.old station.new }
-        ensures disk_quiet { OnOk result
-            (Stood (T.disk_faults station.old) (T.disk_faults station.new)) }
-        ensures disk_fault { result ≡ Err Halt.DiskFault
-            → Rose (T.disk_faults station.old) (T.disk_faults station.new) }
-        ensures plain { self.old.end ≡ None → result ≡ Err Halt.DiskFault → ⊥ }
+        ensures answered { IsAnswered T.Station result self.old self.new
+            [] (last_line self.old.pending) station.old station.new }
     {
         if self.pending.as_slice().is_empty() {
             Ok(())
@@ -274,26 +239,11 @@ impl Feed {
         requires log { IsBeside T.Station self.old station.old }
         ensures line { OnOk result (
             Advances (T.said station.old) (T.said station.new) self.old self.new (10 ∷ [])) }
-        ensures part { result ≡ Err Halt.SayFault
-            → SaysPart (T.said station.old) (T.said station.new) (told_in self.old (10 ∷ [])) }
-        ensures nothing { result ≡ Err Halt.NoMemory
-            → Says (T.said station.old) (T.said station.new) [] }
-        ensures stopped { result ≡ Err Halt.DiskFault
-            → Says (T.said station.old) (T.said station.new) [] }
         ensures next { OnOk result (self.new.number ≡ self.old.number + 1) }
-        ensures fault { result ≡ Err Halt.SayFault
-            → Rose (T.say_faults station.old) (T.say_faults station.new) }
-        ensures quiet { OnOk result (Stood (T.say_faults station.old) (T.say_faults station.new)) }
-        ensures disk { self.old.end ≡ None
-            → OnlySays T.Station (told_in self.old (10 ∷ [])) station.old station.new }
-        ensures log { OnOk result
-            (StaysBeside T.Station self.old self.new station.old station.new) }
-        ensures found { FindsIn T.Station self.old (10 ∷ []) station.old station.new }
-        ensures disk_quiet { OnOk result
-            (Stood (T.disk_faults station.old) (T.disk_faults station.new)) }
-        ensures disk_fault { result ≡ Err Halt.DiskFault
-            → Rose (T.disk_faults station.old) (T.disk_faults station.new) }
-        ensures plain { self.old.end ≡ None → result ≡ Err Halt.DiskFault → ⊥ }
+        ensures says { SaysText result (T.said station.old) (T.said station.new)
+            (told_in self.old (10 ∷ [])) }
+        ensures answered { IsAnswered T.Station result self.old self.new
+            [] (cut_after self.old (10 ∷ [])).whole station.old station.new }
     {
         let given = self.session.read(&self.pending)?;
         self.end_with(rt, given, station, gate)
@@ -313,26 +263,11 @@ impl Feed {
         requires log { IsBeside T.Station self.old station.old }
         ensures line { OnOk result (
             Advances (T.said station.old) (T.said station.new) self.old self.new (10 ∷ [])) }
-        ensures part { result ≡ Err Halt.SayFault
-            → SaysPart (T.said station.old) (T.said station.new) (told_in self.old (10 ∷ [])) }
-        ensures nothing { result ≡ Err Halt.NoMemory
-            → Says (T.said station.old) (T.said station.new) [] }
-        ensures stopped { result ≡ Err Halt.DiskFault
-            → Says (T.said station.old) (T.said station.new) [] }
         ensures next { OnOk result (self.new.number ≡ self.old.number + 1) }
-        ensures fault { result ≡ Err Halt.SayFault
-            → Rose (T.say_faults station.old) (T.say_faults station.new) }
-        ensures quiet { OnOk result (Stood (T.say_faults station.old) (T.say_faults station.new)) }
-        ensures disk { self.old.end ≡ None
-            → OnlySays T.Station (told_in self.old (10 ∷ [])) station.old station.new }
-        ensures log { OnOk result
-            (StaysBeside T.Station self.old self.new station.old station.new) }
-        ensures found { FindsIn T.Station self.old (10 ∷ []) station.old station.new }
-        ensures disk_quiet { OnOk result
-            (Stood (T.disk_faults station.old) (T.disk_faults station.new)) }
-        ensures disk_fault { result ≡ Err Halt.DiskFault
-            → Rose (T.disk_faults station.old) (T.disk_faults station.new) }
-        ensures plain { self.old.end ≡ None → result ≡ Err Halt.DiskFault → ⊥ }
+        ensures says { SaysText result (T.said station.old) (T.said station.new)
+            (told_in self.old (10 ∷ [])) }
+        ensures answered { IsAnswered T.Station result self.old self.new
+            [] (cut_after self.old (10 ∷ [])).whole station.old station.new }
     {
         let number = self.number;
         let reply = self.take(rt, given, station, gate)?;
@@ -355,18 +290,7 @@ impl Feed {
         ensures reply { IfOk result (λ r. Takes self.old.held given self.new.held r) }
         ensures same { OnOk result
             (self.new ≡ record self.old { held = self.new.held; end = self.new.end }) }
-        ensures log { OnOk result (KeepsLog T.Station self.old.held.held self.old.end
-            self.new.held.held self.new.end station.old station.new) }
-        ensures found { FindsIn T.Station self.old (10 ∷ []) station.old station.new }
-        ensures output { (T.said station.new ≡ T.said station.old)
-            × (T.say_faults station.new ≡ T.say_faults station.old) }
-        ensures err { result ≡ Err Halt.SayFault → ⊥ }
-        ensures disk { self.old.end ≡ None → station.new ≡ station.old }
-        ensures disk_quiet { OnOk result
-            (Stood (T.disk_faults station.old) (T.disk_faults station.new)) }
-        ensures disk_fault { result ≡ Err Halt.DiskFault
-            → Rose (T.disk_faults station.old) (T.disk_faults station.new) }
-        ensures plain { self.old.end ≡ None → result ≡ Err Halt.DiskFault → ⊥ }
+        ensures taken { IsTaken T.Station result self.old self.new station.old station.new }
     {
         let mut tally = Tally::new();
         let reply = self.session.take_on(
@@ -401,32 +325,17 @@ impl Feed {
         gate: &G,
     ) -> Result<(), Halt>
         requires number { self.old.number + 1 < 2 ^ 64 }
-        requires asks { AllByRecursion IsAskLine waiting.old.items }
-        requires few { length waiting.old.items ≤ 64 }
-        requires idle { IfSome self.old.end (λ at. waiting.old.items ≡ []) }
+        requires waiting { AreWaiting self.old.end waiting.old.items }
         requires log { IsBeside T.Station self.old station.old }
         ensures lags { OnOk result (Lags (T.said station.old) (T.said station.new)
             self.old self.new waiting.old.items waiting.new.items) }
         ensures says { SaysBy result (T.said station.old) (T.said station.new)
             (asks_text self.old.held waiting.old.items) (told_in self.old (10 ∷ [])) }
         ensures next { OnOk result (self.new.number ≡ self.old.number + 1) }
-        ensures asks { OnOk result (AllByRecursion IsAskLine waiting.new.items) }
-        ensures few { OnOk result (length waiting.new.items ≤ 64) }
-        ensures idle { OnOk result (IfSome self.new.end (λ at. waiting.new.items ≡ [])) }
-        ensures fault { result ≡ Err Halt.SayFault
-            → Rose (T.say_faults station.old) (T.say_faults station.new) }
-        ensures quiet { OnOk result (Stood (T.say_faults station.old) (T.say_faults station.new)) }
-        ensures disk { self.old.end ≡ None → OnlySays T.Station
-            (asks_text self.old.held waiting.old.items ++ told_in self.old (10 ∷ []))
+        ensures waiting { OnOk result (AreWaiting self.new.end waiting.new.items) }
+        ensures answered { IsAnswered T.Station result self.old self.new
+            (asks_text self.old.held waiting.old.items) (cut_after self.old (10 ∷ [])).whole
             station.old station.new }
-        ensures log { OnOk result
-            (StaysBeside T.Station self.old self.new station.old station.new) }
-        ensures found { FindsIn T.Station self.old (10 ∷ []) station.old station.new }
-        ensures disk_quiet { OnOk result
-            (Stood (T.disk_faults station.old) (T.disk_faults station.new)) }
-        ensures disk_fault { result ≡ Err Halt.DiskFault
-            → Rose (T.disk_faults station.old) (T.disk_faults station.new) }
-        ensures plain { self.old.end ≡ None → result ≡ Err Halt.DiskFault → ⊥ }
     {
         let given = self.session.read(&self.pending)?;
         match given {
@@ -466,17 +375,12 @@ impl Feed {
             self.old self.new waiting.old.items waiting.new.items) }
         ensures says { SaysBy result (T.said station.old) (T.said station.new)
             (asks_text self.old.held waiting.old.items) (told_in self.old (10 ∷ [])) }
-        ensures next { OnOk result (self.new.number ≡ self.old.number + 1) }
-        ensures asks { OnOk result (AllByRecursion IsAskLine waiting.new.items) }
-        ensures few { OnOk result (length waiting.new.items ≤ 64) }
-        ensures fault { result ≡ Err Halt.SayFault
-            → Rose (T.say_faults station.old) (T.say_faults station.new) }
-        ensures quiet { OnOk result (Stood (T.say_faults station.old) (T.say_faults station.new)) }
-        ensures disk { OnlySays T.Station
+        ensures next { OnOk result
+            (self.new ≡ record self.old { pending = []; number = self.old.number + 1 }) }
+        ensures waiting { OnOk result (AreWaiting None waiting.new.items) }
+        ensures said { IsSaid T.Station result
             (asks_text self.old.held waiting.old.items ++ told_in self.old (10 ∷ []))
             station.old station.new }
-        ensures end { OnOk result (self.new.end ≡ self.old.end) }
-        ensures plain { result ≡ Err Halt.DiskFault → ⊥ }
     {
         if !self.session.is_full(waiting.len()) {
             return Ok(self.wait(ask, waiting)?);
@@ -512,21 +416,13 @@ impl Feed {
     ) -> Result<(), Halt>
         requires asks { AllByRecursion IsAskLine waiting.old.items }
         requires few { length waiting.old.items ≤ 64 }
-        ensures said { OnOk result (Says (T.said station.old) (T.said station.new)
-            (asks_text self.old.held waiting.old.items)) }
-        ensures part { result ≡ Err Halt.SayFault → SaysPart (T.said station.old)
-            (T.said station.new) (asks_text self.old.held waiting.old.items) }
-        ensures nothing { result ≡ Err Halt.NoMemory
-            → Says (T.said station.old) (T.said station.new) [] }
+        ensures says { SaysText result (T.said station.old) (T.said station.new)
+            (asks_text self.old.held waiting.old.items) }
+        ensures said { IsSaid T.Station result (asks_text self.old.held waiting.old.items)
+            station.old station.new }
         ensures none { OnOk result (waiting.new.items ≡ []) }
         ensures same { self.new ≡ self.old }
-        ensures fault { result ≡ Err Halt.SayFault
-            → Rose (T.say_faults station.old) (T.say_faults station.new) }
-        ensures quiet { OnOk result (Stood (T.say_faults station.old) (T.say_faults station.new)) }
-        ensures disk { OnlySays T.Station (asks_text self.old.held waiting.old.items)
-            station.old station.new }
         ensures idle { waiting.old.items ≡ [] → station.new ≡ station.old }
-        ensures plain { result ≡ Err Halt.DiskFault → ⊥ }
     {
         if waiting.is_empty() {
             return Ok(());
@@ -561,17 +457,9 @@ fn say<T: Station>(
     reply: Option<Reply>,
     station: &mut T,
 ) -> Result<(), Halt>
-    ensures said { OnOk result (
-        Says (T.said station.old) (T.said station.new) (line_to_say number reply)) }
-    ensures part { result ≡ Err Halt.SayFault
-        → SaysPart (T.said station.old) (T.said station.new) (line_to_say number reply) }
-    ensures nothing { result ≡ Err Halt.NoMemory
-        → Says (T.said station.old) (T.said station.new) [] }
-    ensures fault { result ≡ Err Halt.SayFault
-        → Rose (T.say_faults station.old) (T.say_faults station.new) }
-    ensures quiet { OnOk result (Stood (T.say_faults station.old) (T.say_faults station.new)) }
-    ensures disk { OnlySays T.Station (line_to_say number reply) station.old station.new }
-    ensures plain { result ≡ Err Halt.DiskFault → ⊥ }
+    ensures says { SaysText result (T.said station.old) (T.said station.new)
+        (line_to_say number reply) }
+    ensures said { IsSaid T.Station result (line_to_say number reply) station.old station.new }
 {
     let Some(reply) = reply else {
         return Ok(());

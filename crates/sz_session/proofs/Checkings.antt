@@ -13,7 +13,7 @@ use Rattle.sz_feed.specs.Making.{IsSilent}
 use Rattle.sz_feed.specs.Disks.{OnlySays}
 use Rattle.sz_commands.specs.Stops.{StopsFinding}
 use Rattle.sz_session.specs.Checking.{IsLineOf, IfNoLog, BeginsAsLog, StopsChecking}
-use Rattle.sz_session.specs.Statuses.{is_of_disk, ChecksLog}
+use Rattle.sz_session.specs.Statuses.{is_of_disk, ChecksLog, AreCounted}
 use Rattle.sz_session.specs.declared.serving.Status.{Status}
 use Rattle.sz_session.specs.declared.serving.Status.TheVariants as status
 use Rattle.sz_feed.proofs.Disks.{stops-both, stops-silent}
@@ -32,7 +32,7 @@ check-silent {X} T status.Done a b ends is = absurd (true≢false (sym is))
 check-silent {X} T status.Usage a b ends is = absurd ends
 check-silent {X} T status.ReadFault a b ends is = absurd ends
 check-silent {X} T status.SayFault a b ends is = absurd (true≢false (sym is))
-check-silent {X} T status.DiskFault a b ends is = ends.0
+check-silent {X} T status.DiskFault a b ends is = ends
 check-silent {X} T status.NotALog a b ends is = ends.0
 check-silent {X} T status.AlreadyALog a b ends is = absurd ends
 check-silent {X} T (status.BadLog at) a b ends is = ends.0
@@ -66,10 +66,10 @@ no_log-line o line Claim is = no_log-made o is.at is.c is.kept Claim is.made
 
 pub check-unlike : {X : Type 0} (T : Ghosts X) (s : Status) (a b : X) → ChecksLog T s a b
     → IfNoLog (T.disk a) (StopsUnlike s)
-check-unlike {X} T status.Done a b ends = no_log-line (T.disk a) ends.0.0 _ ends.0.1
+check-unlike {X} T status.Done a b ends = no_log-line (T.disk a) ends.0 _ ends.1
 check-unlike {X} T status.Usage a b ends = absurd ends
 check-unlike {X} T status.ReadFault a b ends = absurd ends
-check-unlike {X} T status.SayFault a b ends = no_log-line (T.disk a) ends.0.0 _ ends.0.1
+check-unlike {X} T status.SayFault a b ends = no_log-line (T.disk a) ends.0 _ ends.1
 check-unlike {X} T status.DiskFault a b ends = no_log-each (T.disk a) _ (inr (inl refl))
 check-unlike {X} T status.NotALog a b ends = no_log-each (T.disk a) _ (inl refl)
 check-unlike {X} T status.AlreadyALog a b ends = absurd ends
@@ -88,18 +88,18 @@ begun-log None begun other = begun
 begun-log (Some disk) begun other = true≢false (sym begun ∙ other)
 
 pub check-tells : {X : Type 0} (T : Ghosts X) (s : Status) (a b : X) → ChecksLog T s a b
-    → BeginsAsLog (T.disk a) → (Rose (T.disk_faults a) (T.disk_faults b) → ⊥)
+    → AreCounted T s 0 0 a b → BeginsAsLog (T.disk a) → (Rose (T.disk_faults a) (T.disk_faults b) → ⊥)
     → (Rose (T.say_faults a) (T.say_faults b) → ⊥) → StopsBegun s
-check-tells {X} T status.Done a b ends begun no_disk no_say = inl refl
-check-tells {X} T status.Usage a b ends begun no_disk no_say = absurd ends
-check-tells {X} T status.ReadFault a b ends begun no_disk no_say = absurd ends
-check-tells {X} T status.SayFault a b ends begun no_disk no_say = absurd (no_say ends.1)
-check-tells {X} T status.DiskFault a b ends begun no_disk no_say = absurd (no_disk ends.1)
-check-tells {X} T status.NotALog a b ends begun no_disk no_say = absurd (begun-log (T.disk a) begun ends.1.0)
-check-tells {X} T status.AlreadyALog a b ends begun no_disk no_say = absurd ends
-check-tells {X} T (status.BadLog at) a b ends begun no_disk no_say = inr (inr (at, refl))
-check-tells {X} T status.NoMemory a b ends begun no_disk no_say = inr (inl refl)
-check-tells {X} T status.InputLimit a b ends begun no_disk no_say = absurd ends
+check-tells {X} T status.Done a b ends counted begun no_disk no_say = inl refl
+check-tells {X} T status.Usage a b ends counted begun no_disk no_say = absurd ends
+check-tells {X} T status.ReadFault a b ends counted begun no_disk no_say = absurd ends
+check-tells {X} T status.SayFault a b ends counted begun no_disk no_say = absurd (no_say counted.1)
+check-tells {X} T status.DiskFault a b ends counted begun no_disk no_say = absurd (no_disk counted.2)
+check-tells {X} T status.NotALog a b ends counted begun no_disk no_say = absurd (begun-log (T.disk a) begun ends.1.0)
+check-tells {X} T status.AlreadyALog a b ends counted begun no_disk no_say = absurd ends
+check-tells {X} T (status.BadLog at) a b ends counted begun no_disk no_say = inr (inr (at, refl))
+check-tells {X} T status.NoMemory a b ends counted begun no_disk no_say = inr (inl refl)
+check-tells {X} T status.InputLimit a b ends counted begun no_disk no_say = absurd ends
 
 -- ---- what a stop leaves
 

@@ -3,7 +3,8 @@
 -- The key idea: to put the disk where a stop leaves it, and to read it, changes no image and says nothing; so what a
 -- stop finds of the lines that are answered then is found from the start of the call.
 use Rattle.std.proofs.Common.{◌≡◌, ℕ, ◌≤◌, List, true, false, refl, sym, ◌∙◌, subst, Option, Some, None, true≢false}
-use Rattle.std.specs.Prelude.{Result, Ok, Err, OnOk, is_err}
+use Rattle.std.specs.Prelude.{Result, Ok, Err, OnOk, is_ok, is_err}
+use Rattle.sz_outside.specs.Counts.{faults_after}
 use Rattle.sz_outside.specs.Outside.{Rose, Stood}
 use Rattle.sz_outside.specs.Disk.{Told, Same, Said}
 use Rattle.sz_outside.specs.declared.stations.Station.{Ghosts}
@@ -17,8 +18,8 @@ use Rattle.sz_commands.specs.States.{State}
 use Rattle.sz_commands.specs.Lines.{lines_of}
 use Rattle.sz_commands.specs.Transcript.{after_lines}
 use Rattle.sz_feed.specs.Running.{FindsAll, StandsBehind, state_of_log}
-use Rattle.sz_session.specs.Continuing.{IsUnopened, EndsUnopened, EndsOpened, AreCountedOn}
-use Rattle.sz_session.specs.Statuses.{recover_status, EndsLines, AreCountedInLines}
+use Rattle.sz_session.specs.Continuing.{IsUnopened, EndsUnopened, EndsOpened}
+use Rattle.sz_session.specs.Statuses.{recover_status, EndsLines, AreCounted}
 use Rattle.sz_session.specs.declared.serving.Status.{Status}
 use Rattle.sz_session.specs.declared.serving.Status.TheVariants as status
 use Rattle.sz_commands.proofs.Stops.{pass-still}
@@ -58,14 +59,14 @@ unopened {X} T f a b c first second said quiet why stops = record {
 }
 
 -- and what was counted then
-pub unopened-counted : {X : Type 0} (T : Ghosts X) (f : RecoverFault) (r r' : ℕ) (a b : X)
-    → (f ≡ recover.Failed → Rose (T.disk_faults a) (T.disk_faults b))
+pub unopened-counted : {X : Type 0} (T : Ghosts X) (f : RecoverFault) (r : ℕ) (a b : X)
+    → T.say_faults b ≡ T.say_faults a → (f ≡ recover.Failed → Rose (T.disk_faults a) (T.disk_faults b))
     → (has_read {X = Unit {0}} (Err f) ≡ true → Stood (T.disk_faults a) (T.disk_faults b))
-    → AreCountedOn T (recover_status f) r r' a b
-unopened-counted {X} T recover.Failed r r' a b rose stood = rose refl
-unopened-counted {X} T recover.NotALog r r' a b rose stood = stood refl
-unopened-counted {X} T (recover.BadLog at) r r' a b rose stood = stood refl
-unopened-counted {X} T recover.NoMemory r r' a b rose stood = tt
+    → AreCounted T (recover_status f) r r a b
+unopened-counted {X} T recover.Failed r a b says rose stood = (refl, says, rose refl)
+unopened-counted {X} T recover.NotALog r a b says rose stood = (refl, says, stood refl)
+unopened-counted {X} T (recover.BadLog at) r a b says rose stood = (refl, says, stood refl)
+unopened-counted {X} T recover.NoMemory r a b says rose stood = (refl, says, stood refl)
 
 -- ---- a log
 
@@ -97,25 +98,11 @@ opened {X} T s limit at c kept left rest a b x reads said stops made log ends be
   found = λ only. finds-before T (state_of_log c kept) at left a b x reads said stops only log found;
 }
 
--- and what was counted
-pub opened-counted : {X : Type 0} (T : Ghosts X) (s : Status) (r r' : ℕ) (a b x : X)
-    → T.say_faults b ≡ T.say_faults a → T.disk_faults b ≡ T.disk_faults a
-    → AreCountedInLines s r r' (T.say_faults b) (T.say_faults x)
-    → (s ≡ status.DiskFault → Rose (T.disk_faults b) (T.disk_faults x))
-    → (s ≡ status.Done → Stood (T.disk_faults b) (T.disk_faults x)) → AreCountedOn T s r r' a x
-opened-counted {X} T status.Done r r' a b x says disk counted rose stood =
-    (counted.0, counted.1 ∙ says, stood refl ∙ disk)
-opened-counted {X} T status.Usage r r' a b x says disk counted rose stood = counted
-opened-counted {X} T status.ReadFault r r' a b x says disk counted rose stood = counted
-opened-counted {X} T status.SayFault r r' a b x says disk counted rose stood =
-    subst (λ (n : ℕ). Rose n (T.say_faults x)) says counted
-opened-counted {X} T status.DiskFault r r' a b x says disk counted rose stood =
-    subst (λ (n : ℕ). Rose n (T.disk_faults x)) disk (rose refl)
-opened-counted {X} T status.NotALog r r' a b x says disk counted rose stood = absurd counted
-opened-counted {X} T status.AlreadyALog r r' a b x says disk counted rose stood = counted
-opened-counted {X} T (status.BadLog at) r r' a b x says disk counted rose stood = absurd counted
-opened-counted {X} T status.NoMemory r r' a b x says disk counted rose stood = tt
-opened-counted {X} T status.InputLimit r r' a b x says disk counted rose stood = tt
+-- a call that did not fail counts no fault
+pub not-failed-counted : {A B : Type 0} (r : Result A B) (n m : ℕ) → is_err r ≡ false → m ≡ faults_after n (is_ok r)
+    → m ≡ n
+not-failed-counted (Ok a) n m is counted = counted
+not-failed-counted (Err b) n m is counted = absurd (true≢false is)
 
 -- what is so of a call that did not fail
 pub not-failed : {A B : Type 0} (r : Result A B) (Claim : Type 0) → is_err r ≡ false → OnOk r Claim → Claim

@@ -3,15 +3,19 @@
 -- The key idea: between two reads, what was said is what the bytes so far tell. What all bytes tell, and what is told
 -- at their end, is the transcript; so what was said by then is a first part of it, and at the end it is the whole.
 use Rattle.std.proofs.Common.{◌≡◌, ℕ, ◌≤◌, List, []}
-use Rattle.std.proofs.Common.{take, refl, subst}
+use Rattle.std.proofs.Common.{take, refl, sym, subst, ◌∙◌, true, true≢false}
 use Rattle.std.proofs.Common.{arith, Some, None, inl, inr}
 use Rattle.std.specs.Prelude.{Option, Result, Ok, Err, OnOk, ◌⊎◌}
-use Rattle.sz_outside.specs.Outside.{Says, SaysPart, Rose, Gives}
-use Rattle.sz_feed.specs.Moments.{Moment, cut_after, told_in, told_at_end}
+use Rattle.sz_outside.specs.Outside.{Rose, Gives}
+use Rattle.sz_outside.specs.declared.stations.Station.{Ghosts}
+use Rattle.sz_feed.specs.Moments.{Moment, cut_after, told_at_end}
 use Rattle.sz_commands.specs.States.{State}
-use Rattle.sz_feed.specs.Serving.{SaysFirst, Answered, AreAll, SaidToLimit}
+use Rattle.sz_feed.specs.Serving.{Opening, Answered, AreAll, SaidToLimit}
 use Rattle.sz_feed.specs.Serving.{IsPastLimit, IsWithinLimit}
-use Rattle.sz_session.specs.Statuses.{halt_status, end_status, Ends, AreCounted, EndsLines, AreCountedInLines}
+use Rattle.sz_feed.specs.Disks.{StaysFinding, FoundInPart}
+use Rattle.sz_feed.specs.Calls.{CountsTell, SaysText, SaysReplies, IsAnswered}
+use Rattle.sz_session.specs.Statuses.{halt_status, end_status, is_of_disk, Ends, EndsLines, NoneRose, AreCounted}
+use Rattle.sz_session.specs.Sessions.{FindsOf, EndsTurn}
 use Rattle.sz_feed.specs.declared.feed.Halt.{Halt}
 use Rattle.sz_feed.specs.declared.feed.Halt.TheVariants as halt
 use Rattle.sz_session.specs.declared.serving.Status.{Status}
@@ -21,61 +25,98 @@ use Rattle.sz_feed.proofs.Told.{done, turn-in_part, turn-in_lines, end-in_part, 
 -- ---- statuses
 
 -- a turn that stopped
-pub turn-ends : (z : State) (s : Halt) (limit : ℕ) (all left next a b c : Option (List ℕ)) (m : Moment)
-    (total count : ℕ)
-    (buffer : List ℕ)
-    → Answered z all left a b m total → Gives left next buffer count
-    → (s ≡ halt.SayFault → SaysPart b c (told_in m (take count buffer)))
-    → (s ≡ halt.NoMemory → SaysFirst b c m.held m.number (cut_after m (take count buffer)).whole)
-    → (s ≡ halt.DiskFault → SaysFirst b c m.held m.number (cut_after m (take count buffer)).whole)
+abbrev pub halted : Halt → Result (Unit {0}) Halt
+halted h = Err h
+
+turn-replies : (z : State) (s : Halt) (limit : ℕ) (all left next a b c : Option (List ℕ)) (m : Moment)
+    (total count : ℕ) (buffer : List ℕ) → Answered z all left a b m total → Gives left next buffer count
+    → SaysReplies (halted s) b c m.held m.number (cut_after m (take count buffer)).whole
     → EndsLines z (halt_status s) limit all next a c
-turn-ends z halt.SayFault limit all left next a b c m total count buffer so_far gives part first stopped =
-    turn-in_part z all left next a b c m total count buffer so_far gives (part refl)
-turn-ends z halt.DiskFault limit all left next a b c m total count buffer so_far gives part first stopped =
-    turn-in_lines z all left next a b c m total count buffer so_far gives (stopped refl)
-turn-ends z halt.NoMemory limit all left next a b c m total count buffer so_far gives part first stopped =
-    turn-in_lines z all left next a b c m total count buffer so_far gives (first refl)
+turn-replies z halt.SayFault limit all left next a b c m total count buffer so_far gives says =
+    turn-in_part z all left next a b c m total count buffer so_far gives says
+turn-replies z halt.DiskFault limit all left next a b c m total count buffer so_far gives says =
+    turn-in_lines z all left next a b c m total count buffer so_far gives says
+turn-replies z halt.NoMemory limit all left next a b c m total count buffer so_far gives says =
+    turn-in_lines z all left next a b c m total count buffer so_far gives says
+
+pub turn-ends : {X : Type 0} {T : Ghosts X} {s : Halt} {m n : Moment} {lines : List (List ℕ)} {x y : X} (z : State)
+    (limit : ℕ) (all left next a : Option (List ℕ)) (total count : ℕ) (buffer : List ℕ)
+    → IsAnswered T (halted s) m n [] lines x y → Answered z all left a (T.said x) m total
+    → Gives left next buffer count
+    → SaysReplies (halted s) (T.said x) (T.said y) m.held m.number (cut_after m (take count buffer)).whole
+    → EndsLines z (halt_status s) limit all next a (T.said y)
+turn-ends {X} {T} {s} {m} {n} {lines} {x} {y} z limit all left next a total count buffer answered so_far gives says =
+    turn-replies z s limit all left next a (T.said x) (T.said y) m total count buffer so_far gives says
 
 -- the end of the source
 pub end-ends : (z : State) (r : Result (Unit {0}) Halt) (limit : ℕ) (all left a b c : Option (List ℕ)) (m : Moment)
-    (total : ℕ) → total ≤ limit
-    → Answered z all left a b m total → AreAll all total
-    → OnOk r (Says b c (told_at_end m)) → (r ≡ Err halt.SayFault → SaysPart b c (told_at_end m))
-    → (r ≡ Err halt.NoMemory → Says b c []) → (r ≡ Err halt.DiskFault → Says b c [])
-    → EndsLines z (end_status r) limit all left a c
-end-ends z (Ok u) limit all left a b c m total le so_far is_all whole part nothing stopped =
-    done z limit all left a b c m total le so_far is_all whole
-end-ends z (Err halt.SayFault) limit all left a b c m total le so_far is_all whole part nothing stopped =
-    end-in_part z all left a b c m total so_far is_all (part refl)
-end-ends z (Err halt.DiskFault) limit all left a b c m total le so_far is_all whole part nothing stopped =
-    end-in_lines z all left a b c m total so_far (stopped refl)
-end-ends z (Err halt.NoMemory) limit all left a b c m total le so_far is_all whole part nothing stopped =
-    end-in_lines z all left a b c m total so_far (nothing refl)
+    (total : ℕ) → total ≤ limit → Answered z all left a b m total → AreAll all total
+    → SaysText r b c (told_at_end m) → EndsLines z (end_status r) limit all left a c
+end-ends z (Ok u) limit all left a b c m total le so_far is_all says =
+    done z limit all left a b c m total le so_far is_all says
+end-ends z (Err halt.SayFault) limit all left a b c m total le so_far is_all says =
+    end-in_part z all left a b c m total so_far is_all says
+end-ends z (Err halt.DiskFault) limit all left a b c m total le so_far is_all says =
+    end-in_lines z all left a b c m total so_far says
+end-ends z (Err halt.NoMemory) limit all left a b c m total le so_far is_all says =
+    end-in_lines z all left a b c m total so_far says
 
--- what the counts tell of a turn that stopped
-pub turn-counted : (s : Halt) (reads reads' says says' : ℕ) → (s ≡ halt.SayFault → Rose says says')
-    → AreCountedInLines (halt_status s) reads reads' says says'
-turn-counted halt.SayFault reads reads' says says' rose = rose refl
-turn-counted halt.DiskFault reads reads' says says' rose = tt
-turn-counted halt.NoMemory reads reads' says says' rose = tt
+-- ---- counts
 
--- and of an end
-pub end-counted : (r : Result (Unit {0}) Halt) (reads reads' says says' : ℕ) → reads' ≡ reads
-    → OnOk r (says' ≡ says) → (r ≡ Err halt.SayFault → Rose says says')
-    → AreCountedInLines (end_status r) reads reads' says says'
-end-counted (Ok u) reads reads' says says' same quiet rose = (same, quiet)
-end-counted (Err halt.SayFault) reads reads' says says' same quiet rose = rose refl
-end-counted (Err halt.DiskFault) reads reads' says says' same quiet rose = tt
-end-counted (Err halt.NoMemory) reads reads' says says' same quiet rose = tt
+-- what the counts tell of an end
+pub end-counted : {X : Type 0} (T : Ghosts X) (h : Result (Unit {0}) Halt) (r r' : ℕ) (x y : X) → r' ≡ r
+    → CountsTell T h x y → AreCounted T (end_status h) r r' x y
+end-counted {X} T (Ok u) r r' x y same counts = (same, counts.0, counts.1)
+end-counted {X} T (Err halt.SayFault) r r' x y same counts = (same, counts.0, counts.1)
+end-counted {X} T (Err halt.DiskFault) r r' x y same counts = (same, counts.0, counts.1)
+end-counted {X} T (Err halt.NoMemory) r r' x y same counts = (same, counts.0, counts.1)
+
+-- and of a turn that stopped
+pub turn-counted : {X : Type 0} {T : Ghosts X} {h : Halt} {m n : Moment} {lines : List (List ℕ)} {x y : X} (r r' : ℕ)
+    → IsAnswered T (halted h) m n [] lines x y → r' ≡ r → AreCounted T (halt_status h) r r' x y
+turn-counted {X} {T} {h} {m} {n} {lines} {x} {y} r r' answered same =
+    end-counted T (halted h) r r' x y same answered.counted
+
+-- no count rose in one time, nor in another behind it
+pub none-then : {X : Type 0} (T : Ghosts X) (r r' r'' : ℕ) (x y z : X) → NoneRose T r r' x y → NoneRose T r' r'' y z
+    → NoneRose T r r'' x z
+none-then {X} T r r' r'' x y z one two = (two.0 ∙ one.0, two.1 ∙ one.1, two.2 ∙ one.2)
+
+-- none rose before
+pub counted-behind : {X : Type 0} (T : Ghosts X) (s : Status) (r r' r'' : ℕ) (x y z : X) → NoneRose T r r' x y
+    → AreCounted T s r' r'' y z → AreCounted T s r r'' x z
+counted-behind {X} T status.Done r r' r'' x y z one two = none-then T r r' r'' x y z one two
+counted-behind {X} T status.Usage r r' r'' x y z one two = two
+counted-behind {X} T status.ReadFault r r' r'' x y z one two =
+    (subst (λ (n : ℕ). Rose n r'') one.0 two.0, two.1 ∙ one.1, two.2 ∙ one.2)
+counted-behind {X} T status.SayFault r r' r'' x y z one two =
+    (two.0 ∙ one.0, subst (λ (n : ℕ). Rose n (T.say_faults z)) one.1 two.1, two.2 ∙ one.2)
+counted-behind {X} T status.DiskFault r r' r'' x y z one two =
+    (two.0 ∙ one.0, two.1 ∙ one.1, subst (λ (n : ℕ). Rose n (T.disk_faults z)) one.2 two.2)
+counted-behind {X} T status.NotALog r r' r'' x y z one two = none-then T r r' r'' x y z one two
+counted-behind {X} T status.AlreadyALog r r' r'' x y z one two = none-then T r r' r'' x y z one two
+counted-behind {X} T (status.BadLog at) r r' r'' x y z one two = none-then T r r' r'' x y z one two
+counted-behind {X} T status.NoMemory r r' r'' x y z one two = none-then T r r' r'' x y z one two
+counted-behind {X} T status.InputLimit r r' r'' x y z one two = none-then T r r' r'' x y z one two
+
+-- of a turn that ended the session
+pub turn-behind : {X : Type 0} {T : Ghosts X} {s : Status} {limit total : ℕ} {o : Opening} {left : Option (List ℕ)}
+    {r' r'' : ℕ} {m : Moment} {y z : X} (r : ℕ) (x : X) → NoneRose T r r' x y
+    → EndsTurn T s limit o total left r' r'' m y z → AreCounted T s r r'' x z
+turn-behind {X} {T} {s} {limit} {total} {o} {left} {r'} {r''} {m} {y} {z} r x one turn =
+    counted-behind T s r r' r'' x y z one turn.counted
+
+-- what they tell of a status, where the call ended with it
+pub counted-with : {X : Type 0} (T : Ghosts X) (s t : Status) (r r' : ℕ) (x y : X) → AreCounted T s r r' x y → s ≡ t
+    → AreCounted T t r r' x y
+counted-with {X} T s t r r' x y counted is = subst (λ (z : Status). AreCounted T z r r' x y) is counted
+
+-- ---- endings
 
 -- what a status tells, where the session ended with it
 pub ends-with : (z : State) (s t : Status) (limit : ℕ) (all left a b : Option (List ℕ)) → Ends z s limit all left a b
     → s ≡ t → Ends z t limit all left a b
 ends-with z s t limit all left a b h is = let P : Status → Type 0 = λ s. Ends z s limit all left a b in subst P is h
-
--- and what the counts tell of it
-pub counted-with : (s t : Status) (r r' q q' : ℕ) → AreCounted s r r' q q' → s ≡ t → AreCounted t r r' q q'
-counted-with s t r r' q q' h is = let P : Status → Type 0 = λ s. AreCounted s r r' q q' in subst P is h
 
 -- past the limit there were more bytes than it has
 pub limit-passed : (z : State) (limit : ℕ) (all left a b : Option (List ℕ)) → SaidToLimit z limit all left a b
@@ -84,20 +125,21 @@ limit-passed z limit None left a b h = tt
 limit-passed z limit (Some bytes) left a b h = h.0
 
 -- a session within the limit, with no fault counted, is done unless memory was refused
-pub completes : (z : State) (s : Status) (limit : ℕ) (all left a b : Option (List ℕ)) (r r' q q' : ℕ)
-    → Ends z s limit all left a b → AreCounted s r r' q q'
-    → IsWithinLimit limit all → (Rose r r' → ⊥) → (Rose q q' → ⊥)
-    → (s ≡ status.Done) ⊎ (s ≡ status.NoMemory)
-completes z status.Done limit all left a b r r' q q' ends fault within no_read no_say = inl refl
-completes z status.Usage limit all left a b r r' q q' ends fault within no_read no_say = absurd ends
-completes z status.ReadFault limit all left a b r r' q q' ends fault within no_read no_say = absurd (no_read fault)
-completes z status.SayFault limit all left a b r r' q q' ends fault within no_read no_say = absurd (no_say fault)
-completes z status.DiskFault limit all left a b r r' q q' ends fault within no_read no_say = absurd ends
-completes z status.NotALog limit all left a b r r' q q' ends fault within no_read no_say = absurd ends
-completes z status.AlreadyALog limit all left a b r r' q q' ends fault within no_read no_say = absurd ends
-completes z (status.BadLog at) limit all left a b r r' q q' ends fault within no_read no_say = absurd ends
-completes z status.NoMemory limit all left a b r r' q q' ends fault within no_read no_say = inr refl
-completes z status.InputLimit limit all left a b r r' q q' ends fault within no_read no_say =
+pub completes : {X : Type 0} (T : Ghosts X) (z : State) (s : Status) (limit : ℕ) (all left a b : Option (List ℕ))
+    (r r' : ℕ) (x y : X) → Ends z s limit all left a b → AreCounted T s r r' x y → IsWithinLimit limit all
+    → (Rose r r' → ⊥) → (Rose (T.say_faults x) (T.say_faults y) → ⊥) → (s ≡ status.Done) ⊎ (s ≡ status.NoMemory)
+completes {X} T z status.Done limit all left a b r r' x y ends counted within no_read no_say = inl refl
+completes {X} T z status.Usage limit all left a b r r' x y ends counted within no_read no_say = absurd ends
+completes {X} T z status.ReadFault limit all left a b r r' x y ends counted within no_read no_say =
+    absurd (no_read counted.0)
+completes {X} T z status.SayFault limit all left a b r r' x y ends counted within no_read no_say =
+    absurd (no_say counted.1)
+completes {X} T z status.DiskFault limit all left a b r r' x y ends counted within no_read no_say = absurd ends
+completes {X} T z status.NotALog limit all left a b r r' x y ends counted within no_read no_say = absurd ends
+completes {X} T z status.AlreadyALog limit all left a b r r' x y ends counted within no_read no_say = absurd ends
+completes {X} T z (status.BadLog at) limit all left a b r r' x y ends counted within no_read no_say = absurd ends
+completes {X} T z status.NoMemory limit all left a b r r' x y ends counted within no_read no_say = inr refl
+completes {X} T z status.InputLimit limit all left a b r r' x y ends counted within no_read no_say =
     absurd (over all within ends) where
       over : (all : Option (List ℕ)) → IsWithinLimit limit all → SaidToLimit z limit all left a b → ⊥
       over None within past = within
@@ -120,27 +162,23 @@ plain-ends z (status.BadLog at) limit all left a b ends plain = ends
 plain-ends z status.NoMemory limit all left a b ends plain = ends
 plain-ends z status.InputLimit limit all left a b ends plain = ends
 
-pub plain-counted : (s : Status) (r r' q q' : ℕ) → AreCountedInLines s r r' q q' → (s ≡ status.DiskFault → ⊥)
-    → AreCounted s r r' q q'
-plain-counted status.Done r r' q q' counted plain = counted
-plain-counted status.Usage r r' q q' counted plain = counted
-plain-counted status.ReadFault r r' q q' counted plain = counted
-plain-counted status.SayFault r r' q q' counted plain = counted
-plain-counted status.DiskFault r r' q q' counted plain = absurd (plain refl)
-plain-counted status.NotALog r r' q q' counted plain = counted
-plain-counted status.AlreadyALog r r' q q' counted plain = counted
-plain-counted (status.BadLog at) r r' q q' counted plain = counted
-plain-counted status.NoMemory r r' q q' counted plain = counted
-plain-counted status.InputLimit r r' q q' counted plain = counted
+-- which comes of the disk alone in no session of no log
+pub ends-not_disk : (z : State) (s : Status) (limit : ℕ) (all left a b : Option (List ℕ)) → Ends z s limit all left a b
+    → is_of_disk s ≡ true → ⊥
+ends-not_disk z status.Done limit all left a b ends is = true≢false (sym is)
+ends-not_disk z status.Usage limit all left a b ends is = ends
+ends-not_disk z status.ReadFault limit all left a b ends is = true≢false (sym is)
+ends-not_disk z status.SayFault limit all left a b ends is = true≢false (sym is)
+ends-not_disk z status.DiskFault limit all left a b ends is = ends
+ends-not_disk z status.NotALog limit all left a b ends is = ends
+ends-not_disk z status.AlreadyALog limit all left a b ends is = ends
+ends-not_disk z (status.BadLog at) limit all left a b ends is = ends
+ends-not_disk z status.NoMemory limit all left a b ends is = true≢false (sym is)
+ends-not_disk z status.InputLimit limit all left a b ends is = true≢false (sym is)
 
--- a turn that stopped, and an end
-abbrev pub halted : Halt → Result (Unit {0}) Halt
-halted h = Err h
+-- ---- a turn that stopped, and an end
 
-abbrev pub turned : Status → Result ℕ Status
-turned s = Err s
-
-pub plain-turn : (h : Halt) → (halted h ≡ Err halt.DiskFault → ⊥) → turned (halt_status h) ≡ Err status.DiskFault → ⊥
+pub plain-turn : (h : Halt) → (halted h ≡ Err halt.DiskFault → ⊥) → halt_status h ≡ status.DiskFault → ⊥
 plain-turn halt.SayFault plain is = cc
 plain-turn halt.DiskFault plain is = plain refl
 plain-turn halt.NoMemory plain is = cc
@@ -151,21 +189,8 @@ plain-end (Err halt.SayFault) plain is = cc
 plain-end (Err halt.DiskFault) plain is = plain refl
 plain-end (Err halt.NoMemory) plain is = cc
 
--- ---- where a disk failed
-
-pub disk-turn : (h : Halt) → turned (halt_status h) ≡ Err status.DiskFault → halted h ≡ Err halt.DiskFault
-disk-turn halt.SayFault is = cc
-disk-turn halt.DiskFault is = refl
-disk-turn halt.NoMemory is = cc
-
-pub disk-end : (r : Result (Unit {0}) Halt) → end_status r ≡ status.DiskFault → r ≡ Err halt.DiskFault
-disk-end (Ok u) is = cc
-disk-end (Err halt.SayFault) is = cc
-disk-end (Err halt.DiskFault) is = refl
-disk-end (Err halt.NoMemory) is = cc
-
 -- a turn that stopped is no end
-pub not-done : (h : Halt) → turned (halt_status h) ≡ Err status.Done → ⊥
+pub not-done : (h : Halt) → halt_status h ≡ status.Done → ⊥
 not-done halt.SayFault is = cc
 not-done halt.DiskFault is = cc
 not-done halt.NoMemory is = cc
@@ -177,10 +202,21 @@ done-end (Err halt.SayFault) P is owed = cc
 done-end (Err halt.DiskFault) P is owed = cc
 done-end (Err halt.NoMemory) P is owed = cc
 
--- so no fault was counted
-pub quiet-end : (r : Result (Unit {0}) Halt) (a b : ℕ) → end_status r ≡ status.Done → OnOk r (b ≡ a) → b ≡ a
-quiet-end r a b is quiet = done-end r (b ≡ a) is quiet
+-- ---- what a stop finds
 
--- a fault that is counted after a time in which none was
-pub rose-behind : (a b c : ℕ) → b ≡ a → Rose b c → Rose a c
-rose-behind a b c same rose = omega (arith, same, rose)
+-- of a session of no log, and of one of a log
+pub of-both : {X : Type 0} (T : Ghosts X) (e : Option ℕ) (o : Opening) (Claim : Type 0) (a b : X)
+    → (e ≡ None → StaysFinding T (FoundInPart o.held o.left o.said) a b) → Claim → FindsOf T e o Claim a b
+of-both {X} T None o Claim a b stays claim = stays refl
+of-both {X} T (Some at) o Claim a b stays claim = claim
+
+pub of-stays : {X : Type 0} (T : Ghosts X) (e : Option ℕ) (o : Opening) (Claim : Type 0) (a b : X)
+    → FindsOf T e o Claim a b → e ≡ None → StaysFinding T (FoundInPart o.held o.left o.said) a b
+of-stays {X} T None o Claim a b found is = found
+of-stays {X} T (Some at) o Claim a b found is = cc
+
+-- what is so of a session of no log too
+pub of-claim : {X : Type 0} (T : Ghosts X) (e : Option ℕ) (o : Opening) (Claim : Type 0) (a b : X)
+    → FindsOf T e o Claim a b → (e ≡ None → Claim) → Claim
+of-claim {X} T None o Claim a b found none = none refl
+of-claim {X} T (Some at) o Claim a b found none = found

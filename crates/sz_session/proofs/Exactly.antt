@@ -14,15 +14,15 @@ use Rattle.sz_recover.specs.OneReading.{WellMadeLogsAreNotBad, LogsAreFirstBadAt
 use Rattle.sz_feed.specs.Serving.{IsPastLimit, IsWithinLimit}
 use Rattle.sz_commands.specs.States.{State}
 use Rattle.sz_feed.specs.Running.{state_of_log}
-use Rattle.sz_session.specs.Continuing.{IsUnopened, EndsOnLog, AreCountedOn}
+use Rattle.sz_session.specs.Continuing.{IsUnopened, EndsOnLog}
 use Rattle.sz_session.specs.Checking.{IsLineOf, IsUnlike, IfNoLog, IfBadLog, IsWellMadeLog}
-use Rattle.sz_session.specs.Statuses.{ChecksLog, EndsLines}
+use Rattle.sz_session.specs.Statuses.{ChecksLog, EndsLines, AreCounted}
 use Rattle.sz_session.specs.declared.serving.Status.{Status}
 use Rattle.sz_session.specs.declared.serving.Status.TheVariants as status
-use Rattle.sz_session.proofs.Ends.{limit-passed}
+use Rattle.sz_session.proofs.Ends.{limit-passed, counted-with}
 use Rattle.sz_session.proofs.Checkings.{StopsUnlike}
 use Rattle.sz_session.proofs.Checkings.{no_log-made, no_log-broken, no_log-each}
-use Rattle.sz_session.proofs.Modes.{on-with, lines-with}
+use Rattle.sz_session.proofs.Modes.{lines-with}
 
 -- ---- a well-made log
 
@@ -72,9 +72,9 @@ broken-each (Some disk) Claim is = λ place bad. is place
 -- ---- a disk that does not begin as a log
 
 pub run-no_log : {X : Type 0} (T : Ghosts X) (s : Status) (limit : ℕ) (left rest : Option (List ℕ)) (r r' : ℕ) (x y : X)
-    → EndsOnLog T s limit left rest x y → AreCountedOn T s r r' x y → s ≡ status.NotALog → IsUnlike T x y
+    → EndsOnLog T s limit left rest x y → AreCounted T s r r' x y → s ≡ status.NotALog → IsUnlike T x y
 run-no_log {X} T s limit left rest r r' x y (inl none) counted is =
-    (subst (IsUnopened (T.disk x)) is none.why, on-with T s status.NotALog r r' x y counted is)
+    (subst (IsUnopened (T.disk x)) is none.why, (counted-with T s status.NotALog r r' x y counted is).2)
 run-no_log {X} T s limit left rest r r' x y (inr one) counted is =
     absurd (lines-with (state_of_log one.c one.kept) s status.NotALog limit left rest (T.said x) (T.said y) one.ends is)
 
@@ -121,10 +121,10 @@ run-broken whole place {X} T s limit left rest x y (inr one) =
 pub check-broken : WellMadeLogsAreNotBad → LogsAreFirstBadAtOnePlace → {X : Type 0} (T : Ghosts X) (s : Status)
     (x y : X)
     → ChecksLog T s x y → IfBadLog (T.disk x) (λ at. StopsBroken s at)
-check-broken whole place {X} T status.Done x y ends = broken-line whole (T.disk x) ends.0.0 _ ends.0.1
+check-broken whole place {X} T status.Done x y ends = broken-line whole (T.disk x) ends.0 _ ends.1
 check-broken whole place {X} T status.Usage x y ends = absurd ends
 check-broken whole place {X} T status.ReadFault x y ends = absurd ends
-check-broken whole place {X} T status.SayFault x y ends = broken-line whole (T.disk x) ends.0.0 _ ends.0.1
+check-broken whole place {X} T status.SayFault x y ends = broken-line whole (T.disk x) ends.0 _ ends.1
 check-broken whole place {X} T status.DiskFault x y ends = broken-each (T.disk x) _ (λ at. inr (inl refl))
 check-broken whole place {X} T status.NotALog x y ends = broken-no_log (T.disk x) _ ends.1.0
 check-broken whole place {X} T status.AlreadyALog x y ends = absurd ends
@@ -136,30 +136,30 @@ check-broken whole place {X} T status.InputLimit x y ends = absurd ends
 
 -- its check is done
 pub check-completes : WellMadeLogsAreNotBad → {X : Type 0} (T : Ghosts X) (s : Status) (x y : X) → ChecksLog T s x y
-    → IsWellMadeLog (T.disk x) → (Rose (T.disk_faults x) (T.disk_faults y) → ⊥)
+    → AreCounted T s 0 0 x y → IsWellMadeLog (T.disk x) → (Rose (T.disk_faults x) (T.disk_faults y) → ⊥)
     → (Rose (T.say_faults x) (T.say_faults y) → ⊥) → (s ≡ status.Done) ⊎ (s ≡ status.NoMemory)
-check-completes whole {X} T status.Done x y ends made no_disk no_say = inl refl
-check-completes whole {X} T status.Usage x y ends made no_disk no_say = absurd ends
-check-completes whole {X} T status.ReadFault x y ends made no_disk no_say = absurd ends
-check-completes whole {X} T status.SayFault x y ends made no_disk no_say = absurd (no_say ends.1)
-check-completes whole {X} T status.DiskFault x y ends made no_disk no_say = absurd (no_disk ends.1)
-check-completes whole {X} T status.NotALog x y ends made no_disk no_say =
+check-completes whole {X} T status.Done x y ends counted made no_disk no_say = inl refl
+check-completes whole {X} T status.Usage x y ends counted made no_disk no_say = absurd ends
+check-completes whole {X} T status.ReadFault x y ends counted made no_disk no_say = absurd ends
+check-completes whole {X} T status.SayFault x y ends counted made no_disk no_say = absurd (no_say counted.1)
+check-completes whole {X} T status.DiskFault x y ends counted made no_disk no_say = absurd (no_disk counted.2)
+check-completes whole {X} T status.NotALog x y ends counted made no_disk no_say =
     absurd (made-begins (T.disk x) made ends.1.0)
-check-completes whole {X} T status.AlreadyALog x y ends made no_disk no_say = absurd ends
-check-completes whole {X} T (status.BadLog at) x y ends made no_disk no_say =
+check-completes whole {X} T status.AlreadyALog x y ends counted made no_disk no_say = absurd ends
+check-completes whole {X} T (status.BadLog at) x y ends counted made no_disk no_say =
     absurd (made-whole whole (T.disk x) at made ends.1.0)
-check-completes whole {X} T status.NoMemory x y ends made no_disk no_say = inr refl
-check-completes whole {X} T status.InputLimit x y ends made no_disk no_say = absurd ends
+check-completes whole {X} T status.NoMemory x y ends counted made no_disk no_say = inr refl
+check-completes whole {X} T status.InputLimit x y ends counted made no_disk no_say = absurd ends
 
 -- it is opened, unless there was no memory
 unopened-completes : WellMadeLogsAreNotBad → {X : Type 0} (T : Ghosts X) (s : Status) (r r' : ℕ) (x y : X)
-    → IsUnopened (T.disk x) s → AreCountedOn T s r r' x y → IsWellMadeLog (T.disk x)
+    → IsUnopened (T.disk x) s → AreCounted T s r r' x y → IsWellMadeLog (T.disk x)
     → (Rose (T.disk_faults x) (T.disk_faults y) → ⊥) → (s ≡ status.Done) ⊎ (s ≡ status.NoMemory)
 unopened-completes whole {X} T status.Done r r' x y why counted made no_disk = absurd why
 unopened-completes whole {X} T status.Usage r r' x y why counted made no_disk = absurd why
 unopened-completes whole {X} T status.ReadFault r r' x y why counted made no_disk = absurd why
 unopened-completes whole {X} T status.SayFault r r' x y why counted made no_disk = absurd why
-unopened-completes whole {X} T status.DiskFault r r' x y why counted made no_disk = absurd (no_disk counted)
+unopened-completes whole {X} T status.DiskFault r r' x y why counted made no_disk = absurd (no_disk counted.2)
 unopened-completes whole {X} T status.NotALog r r' x y why counted made no_disk =
     absurd (made-begins (T.disk x) made why)
 unopened-completes whole {X} T status.AlreadyALog r r' x y why counted made no_disk = absurd why
@@ -175,18 +175,18 @@ within-past limit (Some bytes) within past = omega (arith, within, past)
 
 -- and a session on it is done, unless there was none
 opened-completes : {X : Type 0} (T : Ghosts X) (z : State) (s : Status) (limit : ℕ) (left rest : Option (List ℕ))
-    (r r' : ℕ) (x y : X) → EndsLines z s limit left rest (T.said x) (T.said y) → AreCountedOn T s r r' x y
+    (r r' : ℕ) (x y : X) → EndsLines z s limit left rest (T.said x) (T.said y) → AreCounted T s r r' x y
     → IsWithinLimit limit left → (Rose r r' → ⊥) → (Rose (T.say_faults x) (T.say_faults y) → ⊥)
     → (Rose (T.disk_faults x) (T.disk_faults y) → ⊥) → (s ≡ status.Done) ⊎ (s ≡ status.NoMemory)
 opened-completes {X} T z status.Done limit left rest r r' x y ends counted within no_read no_say no_disk = inl refl
 opened-completes {X} T z status.Usage limit left rest r r' x y ends counted within no_read no_say no_disk =
     absurd ends
 opened-completes {X} T z status.ReadFault limit left rest r r' x y ends counted within no_read no_say no_disk =
-    absurd (no_read counted)
+    absurd (no_read counted.0)
 opened-completes {X} T z status.SayFault limit left rest r r' x y ends counted within no_read no_say no_disk =
-    absurd (no_say counted)
+    absurd (no_say counted.1)
 opened-completes {X} T z status.DiskFault limit left rest r r' x y ends counted within no_read no_say no_disk =
-    absurd (no_disk counted)
+    absurd (no_disk counted.2)
 opened-completes {X} T z status.NotALog limit left rest r r' x y ends counted within no_read no_say no_disk =
     absurd ends
 opened-completes {X} T z status.AlreadyALog limit left rest r r' x y ends counted within no_read no_say no_disk =
@@ -200,7 +200,7 @@ opened-completes {X} T z status.InputLimit limit left rest r r' x y ends counted
 
 pub run-completes : WellMadeLogsAreNotBad → {X : Type 0} (T : Ghosts X) (s : Status) (limit : ℕ)
     (left rest : Option (List ℕ)) (r r' : ℕ) (x y : X) → EndsOnLog T s limit left rest x y
-    → AreCountedOn T s r r' x y → IsWellMadeLog (T.disk x) → IsWithinLimit limit left → (Rose r r' → ⊥)
+    → AreCounted T s r r' x y → IsWellMadeLog (T.disk x) → IsWithinLimit limit left → (Rose r r' → ⊥)
     → (Rose (T.say_faults x) (T.say_faults y) → ⊥) → (Rose (T.disk_faults x) (T.disk_faults y) → ⊥)
     → (s ≡ status.Done) ⊎ (s ≡ status.NoMemory)
 run-completes whole {X} T s limit left rest r r' x y (inl none) counted made within no_read no_say no_disk =

@@ -11,3 +11,4 @@ pub mod Numbers
 pub mod Sayings
 mod RowsChecking
 mod RowsContinuing
+mod RowsSessions

@@ -2,15 +2,16 @@
 --
 -- The key idea: what a text tells as it is taken in, and what is told at its end by a moment that is like the one after
 -- it, are together the transcript.
-use Rattle.std.proofs.Common.{◌≡◌, ℕ, List, [], ◌++◌, Some, refl, sym, ap, ◌∙◌, subst, inl, inr}
+use Rattle.std.proofs.Common.{◌≡◌, ℕ, List, [], ◌++◌, Some, refl, sym, ap, ◌∙◌, subst, inl, inr, true, true≢false}
 use Rattle.std.specs.Prelude.{Option, ◌⊎◌}
 use Rattle.std.proofs.lemmas.Option.{same_Some}
 use Rattle.sz_outside.specs.Outside.{Says, Rose}
+use Rattle.sz_outside.specs.declared.stations.Station.{Ghosts}
 use Rattle.sz_commands.specs.Transcript.{transcript}
 use Rattle.sz_feed.specs.Moments.{Moment, moment_before, told_in, moment_after, told_at_end}
 use Rattle.sz_feed.specs.Serving.{Advances}
 use Rattle.sz_commands.specs.States.{nothing_held}
-use Rattle.sz_session.specs.Statuses.{SaysSummary, AreCounted}
+use Rattle.sz_session.specs.Statuses.{is_of_disk, SaysSummary, AreCounted}
 use Rattle.sz_session.specs.declared.serving.Status.{Status}
 use Rattle.sz_session.specs.declared.serving.Status.TheVariants as status
 use Rattle.sz_feed.proofs.Moments.{transcript-told, told_at_end-alike}
@@ -42,16 +43,31 @@ pub load-ends_with : (s t : Status) (line : List ℕ) (a b : Option (List ℕ)) 
     → SaysSummary t line a b
 load-ends_with s t line a b h is = subst (λ (x : Status). SaysSummary x line a b) is h
 
+-- none comes of the disk
+pub load-not_disk : (s : Status) (line : List ℕ) (a b : Option (List ℕ)) → SaysSummary s line a b
+    → is_of_disk s ≡ true → ⊥
+load-not_disk status.Done line a b ends is = true≢false (sym is)
+load-not_disk status.Usage line a b ends is = ends
+load-not_disk status.ReadFault line a b ends is = ends
+load-not_disk status.SayFault line a b ends is = true≢false (sym is)
+load-not_disk status.DiskFault line a b ends is = ends
+load-not_disk status.NotALog line a b ends is = ends
+load-not_disk status.AlreadyALog line a b ends is = ends
+load-not_disk (status.BadLog at) line a b ends is = ends
+load-not_disk status.NoMemory line a b ends is = true≢false (sym is)
+load-not_disk status.InputLimit line a b ends is = ends
+
 -- with no fault counted it is done unless memory was refused
-pub load-completes : (s : Status) (line : List ℕ) (a b : Option (List ℕ)) (q q' : ℕ)
-    → SaysSummary s line a b → AreCounted s 0 0 q q' → (Rose q q' → ⊥) → (s ≡ status.Done) ⊎ (s ≡ status.NoMemory)
-load-completes status.Done line a b q q' ends fault no_say = inl refl
-load-completes status.Usage line a b q q' ends fault no_say = absurd ends
-load-completes status.ReadFault line a b q q' ends fault no_say = absurd ends
-load-completes status.SayFault line a b q q' ends fault no_say = absurd (no_say fault)
-load-completes status.DiskFault line a b q q' ends fault no_say = absurd ends
-load-completes status.NotALog line a b q q' ends fault no_say = absurd ends
-load-completes status.AlreadyALog line a b q q' ends fault no_say = absurd ends
-load-completes (status.BadLog at) line a b q q' ends fault no_say = absurd ends
-load-completes status.NoMemory line a b q q' ends fault no_say = inr refl
-load-completes status.InputLimit line a b q q' ends fault no_say = absurd ends
+pub load-completes : {X : Type 0} (T : Ghosts X) (s : Status) (line : List ℕ) (a b : Option (List ℕ)) (x y : X)
+    → SaysSummary s line a b → AreCounted T s 0 0 x y → (Rose (T.say_faults x) (T.say_faults y) → ⊥)
+    → (s ≡ status.Done) ⊎ (s ≡ status.NoMemory)
+load-completes {X} T status.Done line a b x y ends counted no_say = inl refl
+load-completes {X} T status.Usage line a b x y ends counted no_say = absurd ends
+load-completes {X} T status.ReadFault line a b x y ends counted no_say = absurd ends
+load-completes {X} T status.SayFault line a b x y ends counted no_say = absurd (no_say counted.1)
+load-completes {X} T status.DiskFault line a b x y ends counted no_say = absurd ends
+load-completes {X} T status.NotALog line a b x y ends counted no_say = absurd ends
+load-completes {X} T status.AlreadyALog line a b x y ends counted no_say = absurd ends
+load-completes {X} T (status.BadLog at) line a b x y ends counted no_say = absurd ends
+load-completes {X} T status.NoMemory line a b x y ends counted no_say = inr refl
+load-completes {X} T status.InputLimit line a b x y ends counted no_say = absurd ends

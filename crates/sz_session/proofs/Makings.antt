@@ -41,19 +41,6 @@ init-silent {X} T (status.BadLog at) a b ends is = absurd ends
 init-silent {X} T status.NoMemory a b ends is = absurd (true≢false (sym is))
 init-silent {X} T status.InputLimit a b ends is = absurd ends
 
--- which comes in no session of lines
-pub counted-not_disk : (s : Status) (r r' q q' : ℕ) → AreCounted s r r' q q' → is_of_disk s ≡ true → ⊥
-counted-not_disk status.Done r r' q q' counted is = true≢false (sym is)
-counted-not_disk status.Usage r r' q q' counted is = counted
-counted-not_disk status.ReadFault r r' q q' counted is = true≢false (sym is)
-counted-not_disk status.SayFault r r' q q' counted is = true≢false (sym is)
-counted-not_disk status.DiskFault r r' q q' counted is = counted
-counted-not_disk status.NotALog r r' q q' counted is = counted
-counted-not_disk status.AlreadyALog r r' q q' counted is = counted
-counted-not_disk (status.BadLog at) r r' q q' counted is = counted
-counted-not_disk status.NoMemory r r' q q' counted is = true≢false (sym is)
-counted-not_disk status.InputLimit r r' q q' counted is = true≢false (sym is)
-
 -- ---- a disk that is barred, and one that is free
 
 free-none : (o : Option (List ℕ)) (IsSuch : LogFault → Type 0) → HasBar o None → IfBarred o IsSuch
@@ -95,18 +82,19 @@ init-barred {X} T status.NoMemory a b ends = bar-each (T.disk a) _ (λ bar. inr 
 init-barred {X} T status.InputLimit a b ends = absurd ends
 
 -- a disk that is free is made a log, where no count rose
-pub init-completes : {X : Type 0} (T : Ghosts X) (s : Status) (a b : X) → MakesLog T s a b → IsFree (T.disk a)
-    → (Rose (T.disk_faults a) (T.disk_faults b) → ⊥) → (Rose (T.say_faults a) (T.say_faults b) → ⊥)
+pub init-completes : {X : Type 0} (T : Ghosts X) (s : Status) (a b : X) → MakesLog T s a b
+    → AreCounted T s 0 0 a b → IsFree (T.disk a) → (Rose (T.disk_faults a) (T.disk_faults b) → ⊥)
+    → (Rose (T.say_faults a) (T.say_faults b) → ⊥)
     → (s ≡ status.Done) ⊎ (s ≡ status.NoMemory)
-init-completes {X} T status.Done a b ends free no_disk no_say = inl refl
-init-completes {X} T status.Usage a b ends free no_disk no_say = absurd ends
-init-completes {X} T status.ReadFault a b ends free no_disk no_say = absurd ends
-init-completes {X} T status.SayFault a b ends free no_disk no_say = absurd (no_say ends.2)
-init-completes {X} T status.DiskFault a b ends free no_disk no_say = absurd (no_disk ends.1)
-init-completes {X} T status.NotALog a b ends free no_disk no_say =
+init-completes {X} T status.Done a b ends counted free no_disk no_say = inl refl
+init-completes {X} T status.Usage a b ends counted free no_disk no_say = absurd ends
+init-completes {X} T status.ReadFault a b ends counted free no_disk no_say = absurd ends
+init-completes {X} T status.SayFault a b ends counted free no_disk no_say = absurd (no_say counted.1)
+init-completes {X} T status.DiskFault a b ends counted free no_disk no_say = absurd (no_disk counted.2)
+init-completes {X} T status.NotALog a b ends counted free no_disk no_say =
     absurd (free-no_bar (T.disk a) log.NotALog free ends.1.bar)
-init-completes {X} T status.AlreadyALog a b ends free no_disk no_say =
+init-completes {X} T status.AlreadyALog a b ends counted free no_disk no_say =
     absurd (free-no_bar (T.disk a) log.AlreadyALog free ends.1.bar)
-init-completes {X} T (status.BadLog at) a b ends free no_disk no_say = absurd ends
-init-completes {X} T status.NoMemory a b ends free no_disk no_say = inr refl
-init-completes {X} T status.InputLimit a b ends free no_disk no_say = absurd ends
+init-completes {X} T (status.BadLog at) a b ends counted free no_disk no_say = absurd ends
+init-completes {X} T status.NoMemory a b ends counted free no_disk no_say = inr refl
+init-completes {X} T status.InputLimit a b ends counted free no_disk no_say = absurd ends

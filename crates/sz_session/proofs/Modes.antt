@@ -13,7 +13,6 @@ use Rattle.sz_outside.specs.declared.stations.Station.{Ghosts}
 use Rattle.sz_commands.specs.States.{State, nothing_held}
 use Rattle.sz_feed.specs.Serving.{load_line}
 use Rattle.sz_session.specs.Statuses.{words_status, Ends, EndsLines, AreCounted, SaysSummary, MakesLog, ChecksLog}
-use Rattle.sz_session.specs.Continuing.{AreCountedOn}
 use Rattle.sz_session.specs.Modes.{mode_in, AsksFor, IfLoad, is_for}
 use Rattle.sz_session.specs.Modes.{EndsPlay, EndsLoad, EndsInit, EndsCheck, EndsRun, Serves}
 use Rattle.sz_session.specs.declared.serving.Status.{Status}
@@ -119,11 +118,7 @@ by-mode {Y} {X} S T (Some job) s before after old new Claim serves none play loa
 
 -- ---- statuses
 
--- what is told of a run's status
-pub on-with : {X : Type 0} (T : Ghosts X) (s t : Status) (r r' : ℕ) (x y : X) → AreCountedOn T s r r' x y → s ≡ t
-    → AreCountedOn T t r r' x y
-on-with {X} T s t r r' x y counted is = subst (λ (z : Status). AreCountedOn T z r r' x y) is counted
-
+-- what is told of the status of a session on a log
 pub lines-with : (c : State) (s t : Status) (limit : ℕ) (all left a b : Option (List ℕ))
     → EndsLines c s limit all left a b
     → s ≡ t → EndsLines c t limit all left a b
@@ -162,12 +157,17 @@ abbrev pub CountsNow : {X : Type 0} → Ghosts X → X → Type 0
 CountsNow T x = (t : ℕ) (image found : List ℕ) → Told (T.disk x)
     (t ≤ T.moment x → T.may_leave x image → Said (T.said x) found → T.left_since x t image found)
 
+-- no count rose
+idle-counted : {X : Type 0} (T : Ghosts X) (s : Status) (r : ℕ) (x : X) → s ≡ status.NoMemory
+    → AreCounted T s r r x x
+idle-counted {X} T s r x is = subst (λ (z : Status). AreCounted T z r r x x) (sym is) (refl, refl, refl)
+
 idle-play : {X : Type 0} (T : Ghosts X) (s : Status) (limit r : ℕ) (left : Option (List ℕ)) (x : X) → FindsNow T x
     → CountsNow T x → s ≡ status.NoMemory → EndsPlay T s limit r r left left x x
 idle-play {X} T s limit r left x only counts is = record {
   ends = subst (λ (z : Status). Ends nothing_held z limit left left (T.said x) (T.said x)) (sym is)
       (none-in_lines nothing_held left (T.said x));
-  counted = subst (λ (z : Status). AreCounted z r r (T.say_faults x) (T.say_faults x)) (sym is) tt;
+  counted = idle-counted T s r x is;
   found = start-stays T nothing_held left x x (stays-still T [] x only counts);
 }
 
@@ -175,7 +175,7 @@ idle-load : {X : Type 0} (T : Ghosts X) (s : Status) (line : List ℕ) (x : X) �
     → s ≡ status.NoMemory → EndsLoad T s line x x
 idle-load {X} T s line x only counts is = record {
   ends = subst (λ (z : Status). SaysSummary z line (T.said x) (T.said x)) (sym is) (says-nothing (T.said x));
-  counted = subst (λ (z : Status). AreCounted z 0 0 (T.say_faults x) (T.say_faults x)) (sym is) tt;
+  counted = idle-counted T s 0 x is;
   found = stays-still T line x only counts;
 }
 
@@ -183,6 +183,7 @@ idle-init : {X : Type 0} (T : Ghosts X) (s : Status) (x : X) → FindsNow T x �
     → EndsInit T s x x
 idle-init {X} T s x only counts is = record {
   ends = subst (λ (z : Status). MakesLog T z x x) (sym is) refl;
+  counted = idle-counted T s 0 x is;
   found = making-still T x only counts;
 }
 
@@ -190,6 +191,7 @@ idle-check : {X : Type 0} (T : Ghosts X) (s : Status) (x : X) → FindsNow T x �
     → EndsCheck T s x x
 idle-check {X} T s x only counts is = record {
   ends = subst (λ (z : Status). ChecksLog T z x x) (sym is) (record { said = refl; quiet = refl });
+  counted = idle-counted T s 0 x is;
   found = line-stops T [] x x (inl refl) (stays-still T [] x only counts);
 }
 
@@ -197,7 +199,7 @@ idle-run : {X : Type 0} (T : Ghosts X) (s : Status) (limit r : ℕ) (left : Opti
     → CountsNow T x → s ≡ status.NoMemory → EndsRun T s limit r r left left x x
 idle-run {X} T s limit r left x only counts is = record {
   ends = inl (unopened-still T s x is only counts);
-  counted = subst (λ (z : Status). AreCountedOn T z r r x x) (sym is) tt;
+  counted = idle-counted T s r x is;
 }
 
 -- such a call owes no more, where accepted words end so for want of memory alone

@@ -2,7 +2,6 @@
 --
 -- The key idea: a log that is told is opened or it is not, by its bytes; and what an ending says is taken part by part.
 use Rattle.std.proofs.Common.{◌≡◌, ℕ, List, [], Option, Some, None, refl, sym, subst, true≢false, take, inl, inr}
-use Rattle.sz_outside.specs.Outside.{Rose, Stood}
 use Rattle.sz_outside.specs.Disk.{Only}
 use Rattle.sz_outside.specs.declared.stations.Station.{Ghosts}
 use Rattle.sz_log.specs.Log.{empty_log}
@@ -13,7 +12,7 @@ use Rattle.sz_recover.proofs.RowsLogs.{empty-made, gate-bad}
 use Rattle.sz_recover.proofs.OneReading.{made-whole}
 use Rattle.sz_feed.specs.Running.{FindsAll, StandsBehind, state_of_log}
 use Rattle.sz_session.specs.Statuses.{EndsLines}
-use Rattle.sz_session.specs.Continuing.{IsUnopened, EndsUnopened, EndsOpened, EndsOnLog, AreCountedOn}
+use Rattle.sz_session.specs.Continuing.{IsUnopened, EndsUnopened, EndsOpened, EndsOnLog}
 use Rattle.sz_session.specs.declared.serving.Status.{Status}
 use Rattle.sz_session.specs.declared.serving.Status.TheVariants as status
 
@@ -87,34 +86,3 @@ module _ {X : Type 0} (T : Ghosts X) (old new : X) where
   run-no_log limit left rest told ends =
       elim ends as (λ _. ⊥)
       [ inl none ↦ none.why | inr some ↦ opened-made status.Done limit left rest told some ]
-
-  -- ---- what the counts of faults tell
-
-  pub counted-done : (before now : ℕ) → AreCountedOn T status.Done before now old new
-      → (now ≡ before) × (T.say_faults new ≡ T.say_faults old) × (T.disk_faults new ≡ T.disk_faults old)
-  counted-done before now is = is
-
-  pub counted-read_fault : (before now : ℕ) → AreCountedOn T status.ReadFault before now old new → Rose before now
-  counted-read_fault before now is = is
-
-  pub counted-say_fault : (before now : ℕ) → AreCountedOn T status.SayFault before now old new
-      → Rose (T.say_faults old) (T.say_faults new)
-  counted-say_fault before now is = is
-
-  pub counted-disk_fault : (before now : ℕ) → AreCountedOn T status.DiskFault before now old new
-      → Rose (T.disk_faults old) (T.disk_faults new)
-  counted-disk_fault before now is = is
-
-  pub counted-no_log : (before now : ℕ) → AreCountedOn T status.NotALog before now old new
-      → T.disk_faults new ≡ T.disk_faults old
-  counted-no_log before now is = is
-
-  pub counted-bad : (before now at : ℕ) → AreCountedOn T (status.BadLog at) before now old new
-      → T.disk_faults new ≡ T.disk_faults old
-  counted-bad before now at is = is
-
-  pub counted-usage : (before now : ℕ) → AreCountedOn T status.Usage before now old new → ⊥
-  counted-usage before now is = is
-
-  pub counted-already : (before now : ℕ) → AreCountedOn T status.AlreadyALog before now old new → ⊥
-  counted-already before now is = is

@@ -2,9 +2,10 @@
 --
 -- The key idea: what a status tells is found in the record of the mode that was asked for, and in the others the status
 -- does not come.
-use Rattle.std.proofs.Common.{◌≡◌, ℕ, ◌^◌, List, [], true, false, None, refl, sym, ap, ◌∙◌, subst, inl, inr, true≢false}
+use Rattle.std.proofs.Common.{◌≡◌, ℕ, ◌^◌, List, [], true, false, Some, None, refl, sym, ap, ◌∙◌, subst, inl, inr}
+use Rattle.std.proofs.Common.{arith, true≢false}
 use Rattle.std.specs.Prelude.{Option, ◌⊎◌}
-use Rattle.sz_outside.specs.Outside.{Rose, Stood}
+use Rattle.sz_outside.specs.Outside.{Rose}
 use Rattle.sz_outside.specs.declared.sources.Source as source
 use Rattle.sz_outside.specs.declared.stations.Station.{Ghosts}
 use Rattle.sz_log.specs.declared.LogFault.TheVariants as log
@@ -14,9 +15,9 @@ use Rattle.sz_feed.specs.Serving.{IsPastLimit}
 use Rattle.sz_feed.specs.Running.{state_of_log}
 use Rattle.sz_feed.specs.Disks.{DiskStays}
 use Rattle.sz_feed.specs.Making.{IsSilent, IsSpared}
-use Rattle.sz_session.specs.Statuses.{is_of_disk}
+use Rattle.sz_session.specs.Statuses.{is_of_disk, NoneRose, AreCounted}
 use Rattle.sz_session.specs.Checking.{IsUnlike, IsBadLog, IfNoLog, IfBadLog}
-use Rattle.sz_session.specs.Continuing.{IsUnopened, EndsOnLog, AreCountedOn}
+use Rattle.sz_session.specs.Continuing.{IsUnopened, EndsOnLog}
 use Rattle.sz_session.specs.Modes.{AsksFor, Serves, is_for, is_of_lines, is_opened}
 use Rattle.sz_session.specs.declared.serving.Status.{Status}
 use Rattle.sz_session.specs.declared.serving.Status.TheVariants as status
@@ -25,78 +26,98 @@ use Rattle.sz_words.specs.declared.Job.{Job}
 use Rattle.sz_words.specs.declared.JobMode.{JobMode}
 use Rattle.sz_words.specs.declared.JobMode.TheVariants as mode
 use Rattle.sz_feed.proofs.Disks.{stays-still, disk-stays}
-use Rattle.sz_session.proofs.Ends.{ends-with, counted-with, limit-passed}
-use Rattle.sz_session.proofs.Loads.{load-ends_with}
-use Rattle.sz_session.proofs.Makings.{init-ends_with, init-silent, counted-not_disk}
+use Rattle.sz_session.proofs.Ends.{ends-with, ends-not_disk, counted-with, limit-passed}
+use Rattle.sz_session.proofs.Loads.{load-ends_with, load-not_disk}
+use Rattle.sz_session.proofs.Makings.{init-ends_with, init-silent}
 use Rattle.sz_session.proofs.Checkings.{check-ends_with, check-silent, check-unlike, StopsUnlike}
-use Rattle.sz_session.proofs.Modes.{by-mode, for-mode, for-none, not-for, not-refused, on-with, lines-with}
+use Rattle.sz_session.proofs.Modes.{by-mode, for-mode, for-none, not-for, is_refusal, not-refused, lines-with}
 use Rattle.sz_session.proofs.Modes.{FindsNow, CountsNow}
 use Rattle.sz_session.proofs.Exactly.{StopsBroken, run-no_log, run-unlike, run-broken, check-broken}
 
 -- ---- counts of faults
 
--- where it is done no count rose
-pub quiet-done : {Y X : Type 0} (S : source.Ghosts Y) (T : Ghosts X) (o : Option Job) (s : Status)
-    (before after : Y) (old new : X) → Serves S T o s before after old new → s ≡ status.Done
-    → Stood (S.faults before) (S.faults after) × Stood (T.say_faults old) (T.say_faults new)
-    × Stood (T.disk_faults old) (T.disk_faults new)
-quiet-done {Y} {X} S T o s before after old new serves is =
+-- a mode that reads no lines counts no read, since it leaves the source as it was
+unread-counted : {X : Type 0} (T : Ghosts X) (s : Status) (r r' : ℕ) (x y : X) → r' ≡ r → AreCounted T s 0 0 x y
+    → AreCounted T s r r' x y
+unread-counted {X} T status.Done r r' x y same counted = (same, counted.1, counted.2)
+unread-counted {X} T status.Usage r r' x y same counted = counted
+unread-counted {X} T status.ReadFault r r' x y same counted = absurd (omega (arith, counted.0))
+unread-counted {X} T status.SayFault r r' x y same counted = (same, counted.1, counted.2)
+unread-counted {X} T status.DiskFault r r' x y same counted = (same, counted.1, counted.2)
+unread-counted {X} T status.NotALog r r' x y same counted = (same, counted.1, counted.2)
+unread-counted {X} T status.AlreadyALog r r' x y same counted = (same, counted.1, counted.2)
+unread-counted {X} T (status.BadLog at) r r' x y same counted = (same, counted.1, counted.2)
+unread-counted {X} T status.NoMemory r r' x y same counted = (same, counted.1, counted.2)
+unread-counted {X} T status.InputLimit r r' x y same counted = (same, counted.1, counted.2)
+
+-- of each call that asks for a mode the counts tell the status
+call-counted : {Y X : Type 0} (S : source.Ghosts Y) (T : Ghosts X) (o : Option Job) (s : Status)
+    (before after : Y) (old new : X) → Serves S T o s before after old new
+    → (o ≡ None → ⊥) → AreCounted T s (S.faults before) (S.faults after) old new
+call-counted {Y} {X} S T o s before after old new serves asks =
     let unread = λ (m : JobMode) (asked : AsksFor m o) (other : is_of_lines m ≡ false).
     ap S.faults (serves.unread (for-mode is_of_lines o m asked ∙ other)) in
     by-mode S T o s before after old new _ serves
-    (λ none refused same. absurd (not-refused s status.Done refused is refl))
-    (λ asked e.
-    let quiet = counted-with s status.Done _ _ _ _ e.counted is in
-    (quiet.0, quiet.1, e.found.quiet))
-    (λ asked line e.
-    let quiet = counted-with s status.Done 0 0 _ _ e.counted is in
-    (unread mode.Load asked refl, quiet.1, e.found.quiet))
-    (λ asked e.
-    let ends = init-ends_with T s status.Done old new e.ends is in
-    (unread mode.Init asked refl, ends.2, ends.0.quiet))
-    (λ asked e.
-    let ends = check-ends_with T s status.Done old new e.ends is in
-    (unread mode.Check asked refl, ends.1, ends.2))
-    (λ asked e. on-with T s status.Done _ _ old new e.counted is)
+    (λ none refused same. absurd (asks none))
+    (λ asked e. e.counted)
+    (λ asked line e. unread-counted T s _ _ old new (unread mode.Load asked refl) e.counted)
+    (λ asked e. unread-counted T s _ _ old new (unread mode.Init asked refl) e.counted)
+    (λ asked e. unread-counted T s _ _ old new (unread mode.Check asked refl) e.counted)
+    (λ asked e. e.counted)
+
+-- where this status is none of those of refused words, it is of such a call
+asks-mode : {Y X : Type 0} (S : source.Ghosts Y) (T : Ghosts X) (o : Option Job) (s : Status)
+    (before after : Y) (old new : X) → Serves S T o s before after old new
+    → (t : Status) → s ≡ t → is_refusal t ≡ false → o ≡ None → ⊥
+asks-mode {Y} {X} S T o s before after old new serves t is other none =
+    not-refused s t (serves.refused none) is other
+
+-- where it is done no count rose
+pub quiet-done : {Y X : Type 0} (S : source.Ghosts Y) (T : Ghosts X) (o : Option Job) (s : Status)
+    (before after : Y) (old new : X) → Serves S T o s before after old new → s ≡ status.Done
+    → NoneRose T (S.faults before) (S.faults after) old new
+quiet-done {Y} {X} S T o s before after old new serves is =
+    counted-with T s status.Done _ _ old new
+    (call-counted S T o s before after old new serves
+    (asks-mode S T o s before after old new serves status.Done is refl)) is
+
+-- nor where memory was refused
+pub quiet-memory : {Y X : Type 0} (S : source.Ghosts Y) (T : Ghosts X) (o : Option Job) (s : Status)
+    (before after : Y) (old new : X) → Serves S T o s before after old new → s ≡ status.NoMemory
+    → NoneRose T (S.faults before) (S.faults after) old new
+quiet-memory {Y} {X} S T None s before after old new serves is =
+    let same = serves.untouched refl in
+    (ap S.faults same.0, ap T.say_faults same.1, ap T.disk_faults same.1)
+quiet-memory {Y} {X} S T (Some job) s before after old new serves is =
+    counted-with T s status.NoMemory _ _ old new
+    (call-counted S T (Some job) s before after old new serves (λ none. cc)) is
 
 -- a fault in reading was counted
 pub read-counted : {Y X : Type 0} (S : source.Ghosts Y) (T : Ghosts X) (o : Option Job) (s : Status)
     (before after : Y) (old new : X) → Serves S T o s before after old new → s ≡ status.ReadFault
     → Rose (S.faults before) (S.faults after)
 read-counted {Y} {X} S T o s before after old new serves is =
-    by-mode S T o s before after old new _ serves
-    (λ none refused same. absurd (not-refused s status.ReadFault refused is refl))
-    (λ asked e. counted-with s status.ReadFault _ _ _ _ e.counted is)
-    (λ asked line e. absurd (load-ends_with s status.ReadFault line _ _ e.ends is))
-    (λ asked e. absurd (init-ends_with T s status.ReadFault old new e.ends is))
-    (λ asked e. absurd (check-ends_with T s status.ReadFault old new e.ends is))
-    (λ asked e. on-with T s status.ReadFault _ _ old new e.counted is)
+    (counted-with T s status.ReadFault _ _ old new
+    (call-counted S T o s before after old new serves
+    (asks-mode S T o s before after old new serves status.ReadFault is refl)) is).0
 
 -- one in saying was
 pub say-counted : {Y X : Type 0} (S : source.Ghosts Y) (T : Ghosts X) (o : Option Job) (s : Status)
     (before after : Y) (old new : X) → Serves S T o s before after old new → s ≡ status.SayFault
     → Rose (T.say_faults old) (T.say_faults new)
 say-counted {Y} {X} S T o s before after old new serves is =
-    by-mode S T o s before after old new _ serves
-    (λ none refused same. absurd (not-refused s status.SayFault refused is refl))
-    (λ asked e. counted-with s status.SayFault _ _ _ _ e.counted is)
-    (λ asked line e. counted-with s status.SayFault 0 0 _ _ e.counted is)
-    (λ asked e. (init-ends_with T s status.SayFault old new e.ends is).2)
-    (λ asked e. (check-ends_with T s status.SayFault old new e.ends is).1)
-    (λ asked e. on-with T s status.SayFault _ _ old new e.counted is)
+    (counted-with T s status.SayFault _ _ old new
+    (call-counted S T o s before after old new serves
+    (asks-mode S T o s before after old new serves status.SayFault is refl)) is).1
 
 -- one of the disk was
 pub disk-counted : {Y X : Type 0} (S : source.Ghosts Y) (T : Ghosts X) (o : Option Job) (s : Status)
     (before after : Y) (old new : X) → Serves S T o s before after old new → s ≡ status.DiskFault
     → Rose (T.disk_faults old) (T.disk_faults new)
 disk-counted {Y} {X} S T o s before after old new serves is =
-    by-mode S T o s before after old new _ serves
-    (λ none refused same. absurd (not-refused s status.DiskFault refused is refl))
-    (λ asked e. absurd (ends-with nothing_held s status.DiskFault _ _ _ _ _ e.ends is))
-    (λ asked line e. absurd (load-ends_with s status.DiskFault line _ _ e.ends is))
-    (λ asked e. (init-ends_with T s status.DiskFault old new e.ends is).1)
-    (λ asked e. (check-ends_with T s status.DiskFault old new e.ends is).1)
-    (λ asked e. on-with T s status.DiskFault _ _ old new e.counted is)
+    (counted-with T s status.DiskFault _ _ old new
+    (call-counted S T o s before after old new serves
+    (asks-mode S T o s before after old new serves status.DiskFault is refl)) is).2
 
 -- ---- statuses of some modes alone
 
@@ -111,7 +132,7 @@ usage-refused {Y} {X} S T o s before after old new serves is =
     (λ asked line e. absurd (load-ends_with s status.Usage line _ _ e.ends is))
     (λ asked e. absurd (init-ends_with T s status.Usage old new e.ends is))
     (λ asked e. absurd (check-ends_with T s status.Usage old new e.ends is))
-    (λ asked e. absurd (on-with T s status.Usage _ _ old new e.counted is))
+    (λ asked e. absurd (counted-with T s status.Usage _ _ old new e.counted is))
 
 -- a fault in reading comes where lines are read
 pub read-lines : {Y X : Type 0} (S : source.Ghosts Y) (T : Ghosts X) (o : Option Job) (s : Status)
@@ -162,6 +183,12 @@ limit-past {Y} {X} S T o s before after old new serves is =
     (λ asked e. limit-run T old new s (2 ^ 62) _ _ e.ends is)
 
 -- a log is there already in init
+run-not_already : {X : Type 0} (T : Ghosts X) (s : Status) (limit : ℕ) (all left : Option (List ℕ)) (x y : X)
+    → EndsOnLog T s limit all left x y → s ≡ status.AlreadyALog → ⊥
+run-not_already {X} T s limit all left x y (inl none) is = subst (IsUnopened (T.disk x)) is none.why
+run-not_already {X} T s limit all left x y (inr one) is =
+    lines-with (state_of_log one.c one.kept) s status.AlreadyALog limit all left (T.said x) (T.said y) one.ends is
+
 pub already-init : {Y X : Type 0} (S : source.Ghosts Y) (T : Ghosts X) (o : Option Job) (s : Status)
     (before after : Y) (old new : X) → Serves S T o s before after old new → s ≡ status.AlreadyALog
     → AsksFor mode.Init o
@@ -172,7 +199,7 @@ already-init {Y} {X} S T o s before after old new serves is =
     (λ asked line e. absurd (load-ends_with s status.AlreadyALog line _ _ e.ends is))
     (λ asked e. asked)
     (λ asked e. absurd (check-ends_with T s status.AlreadyALog old new e.ends is))
-    (λ asked e. absurd (on-with T s status.AlreadyALog _ _ old new e.counted is))
+    (λ asked e. absurd (run-not_already T s (2 ^ 62) _ _ old new e.ends is))
 
 pub already-spared : {Y X : Type 0} (S : source.Ghosts Y) (T : Ghosts X) (o : Option Job) (s : Status)
     (before after : Y) (old new : X) → Serves S T o s before after old new → s ≡ status.AlreadyALog
@@ -195,8 +222,8 @@ pub disk-log : {Y X : Type 0} (S : source.Ghosts Y) (T : Ghosts X) (o : Option J
 disk-log {Y} {X} S T o s before after old new serves is =
     by-mode S T o s before after old new _ serves
     (λ none refused same. absurd (refused-not_disk s refused is))
-    (λ asked e. absurd (counted-not_disk s _ _ _ _ e.counted is))
-    (λ asked line e. absurd (counted-not_disk s _ _ _ _ e.counted is))
+    (λ asked e. absurd (ends-not_disk nothing_held s _ _ _ _ _ e.ends is))
+    (λ asked line e. absurd (load-not_disk s line _ _ e.ends is))
     (λ asked e. for-mode is_on_log o mode.Init asked)
     (λ asked e. for-mode is_on_log o mode.Check asked)
     (λ asked e. for-mode is_on_log o mode.Run asked)
@@ -208,8 +235,8 @@ pub log-silent : {Y X : Type 0} (S : source.Ghosts Y) (T : Ghosts X) (o : Option
 log-silent {Y} {X} S T o s before after old new serves other is =
     by-mode S T o s before after old new _ serves
     (λ none refused same. absurd (refused-not_disk s refused is))
-    (λ asked e. absurd (counted-not_disk s _ _ _ _ e.counted is))
-    (λ asked line e. absurd (counted-not_disk s _ _ _ _ e.counted is))
+    (λ asked e. absurd (ends-not_disk nothing_held s _ _ _ _ _ e.ends is))
+    (λ asked line e. absurd (load-not_disk s line _ _ e.ends is))
     (λ asked e. init-silent T s old new e.ends is)
     (λ asked e. check-silent T s old new e.ends is)
     (λ asked e. absurd (other asked))
@@ -260,9 +287,9 @@ opening-unlike {Y} {X} S T o s before after old new serves opened =
 
 -- a bad log is one that was opened, and its first bad group stands there
 bad-run : {X : Type 0} (T : Ghosts X) (x y : X) (s : Status) (at limit r r' : ℕ) (all left : Option (List ℕ))
-    → EndsOnLog T s limit all left x y → AreCountedOn T s r r' x y → s ≡ status.BadLog at → IsBadLog T at x y
+    → EndsOnLog T s limit all left x y → AreCounted T s r r' x y → s ≡ status.BadLog at → IsBadLog T at x y
 bad-run {X} T x y s at limit r r' all left (inl none) counted is =
-    (subst (IsUnopened (T.disk x)) is none.why, on-with T s (status.BadLog at) r r' x y counted is)
+    (subst (IsUnopened (T.disk x)) is none.why, (counted-with T s (status.BadLog at) r r' x y counted is).2)
 bad-run {X} T x y s at limit r r' all left (inr one) counted is =
     absurd (lines-with (state_of_log one.c one.kept) s (status.BadLog at) limit all left (T.said x)
     (T.said y) one.ends is)

@@ -5,7 +5,6 @@
 -- of the call a stop finds the replies of so many lines said, and perhaps a part of the next one,
 -- and leaves a well-made log of what is durable behind those lines, or behind one more.
 use Rattle.std.specs.Prelude.{◌≡◌, ◌⊎◌, ℕ, List, Option, Some, ⊤}
-use Rattle.sz_outside.specs.Outside.{Rose, Stood}
 use Rattle.sz_outside.specs.Disk.{Only, Same, Said}
 use Rattle.sz_outside.specs.declared.stations.Station.{Ghosts}
 use Rattle.sz_catalogue.specs.Holdings.{Holdings}
@@ -59,19 +58,3 @@ abbrev pub EndsOnLog : {X : Type 0} → Ghosts X → Status → ℕ → Option (
     → X → X → Type 0
 EndsOnLog T s limit left rest old new =
     EndsUnopened T s old new ⊎ EndsOpened T s limit left rest old new
-
--- What the counts of faults tell of a status, those of reads, of says and of the disk: where the
--- session is done none of them rose.
-abbrev pub AreCountedOn : {X : Type 0} → Ghosts X → Status → ℕ → ℕ → X → X → Type 0
-AreCountedOn T status.Done before now old new = Stood before now
-    × Stood (T.say_faults old) (T.say_faults new) × Stood (T.disk_faults old) (T.disk_faults new)
-AreCountedOn T status.Usage before now old new = ⊥
-AreCountedOn T status.ReadFault before now old new = Rose before now
-AreCountedOn T status.SayFault before now old new = Rose (T.say_faults old) (T.say_faults new)
-AreCountedOn T status.DiskFault before now old new = Rose (T.disk_faults old) (T.disk_faults new)
-AreCountedOn T status.NotALog before now old new = Stood (T.disk_faults old) (T.disk_faults new)
-AreCountedOn T status.AlreadyALog before now old new = ⊥
-AreCountedOn T (status.BadLog at) before now old new =
-    Stood (T.disk_faults old) (T.disk_faults new)
-AreCountedOn T status.NoMemory before now old new = ⊤
-AreCountedOn T status.InputLimit before now old new = ⊤

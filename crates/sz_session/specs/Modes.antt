@@ -3,7 +3,7 @@
 --
 -- Each record tells, of the status that the call ended with, what was read and said by then (its
 -- field `ends`), what the counts of faults say (`counted`), and what a stop at any moment of the
--- call finds (`found`).
+-- call finds (`found`). A mode that reads no lines counts no read.
 use Rattle.std.specs.Prelude.{◌≡◌, ◌⊎◌, ℕ, ◌^◌, List, Bool, true, false, Option, Some, None, ⊤}
 use Rattle.std.specs.Prelude.{option_map}
 use Rattle.std.specs.Option.{option_map_or}
@@ -14,7 +14,7 @@ use Rattle.sz_feed.specs.Serving.{load_line}
 use Rattle.sz_feed.specs.Disks.{StaysFinding, OnlySays, FoundInPart, StopsMaking}
 use Rattle.sz_session.specs.Statuses.{Ends, AreCounted, SaysSummary, MakesLog, ChecksLog}
 use Rattle.sz_session.specs.Checking.{StopsChecking}
-use Rattle.sz_session.specs.Continuing.{EndsOnLog, AreCountedOn}
+use Rattle.sz_session.specs.Continuing.{EndsOnLog}
 use Rattle.sz_session.specs.declared.serving.Status.{Status}
 use Rattle.sz_session.specs.declared.serving.Status.TheVariants as status
 use Rattle.sz_words.specs.declared.Job.{Job}
@@ -59,39 +59,42 @@ is_for test job = option_map_or test (option_map mode_in job) false
 -- ---- the modes
 
 -- Play: what was said is of the transcript of the source's bytes, as the status says; the counts of
--- reads and says tell the status; the disk is as before, and a stop finds a first part said.
+-- faults tell the status; the disk is as before, and a stop finds a first part said.
 pub record EndsPlay {X : Type 0} (T : Ghosts X) (s : Status) (limit reads_before reads : ℕ)
     (left rest : Option (List ℕ)) (old new : X) : Type 0 where
   pub ends : Ends nothing_held s limit left rest (T.said old) (T.said new)
-  pub counted : AreCounted s reads_before reads (T.say_faults old) (T.say_faults new)
+  pub counted : AreCounted T s reads_before reads old new
   pub found : StaysFinding T (FoundInPart nothing_held left (T.said old)) old new
 
--- Load: what was said is of this line, as the status says; the count of says tells the status; the
--- disk is as before, and a stop finds a first part of the line said.
+-- Load: what was said is of this line, as the status says; the counts of faults tell the status;
+-- the disk is as before, and a stop finds a first part of the line said.
 pub record EndsLoad {X : Type 0} (T : Ghosts X) (s : Status) (line : List ℕ) (old new : X)
     : Type 0 where
   pub ends : SaysSummary s line (T.said old) (T.said new)
-  pub counted : AreCounted s 0 0 (T.say_faults old) (T.say_faults new)
+  pub counted : AreCounted T s 0 0 old new
   pub found : OnlySays T line old new
 
--- Init: the disk was made the empty log or spared, and what was said and counted is as the status
--- says; a stop leaves the old bytes, at most 17 bytes that are no log, or the empty log.
+-- Init: the disk was made the empty log or spared, and what was said is as the status says; the
+-- counts of faults tell the status; a stop leaves the old bytes, at most 17 bytes that are no log,
+-- or the empty log.
 pub record EndsInit {X : Type 0} (T : Ghosts X) (s : Status) (old new : X) : Type 0 where
   pub ends : MakesLog T s old new
+  pub counted : AreCounted T s 0 0 old new
   pub found : StopsMaking T old new
 
--- Check: the line of the log was said, or the disk is no log or a bad one, and what was counted is
--- as the status says; the disk is as before, and a stop finds a first part of the line said.
+-- Check: the line of the log was said, or the disk is no log or a bad one; the counts of faults
+-- tell the status; the disk is as before, and a stop finds a first part of the line said.
 pub record EndsCheck {X : Type 0} (T : Ghosts X) (s : Status) (old new : X) : Type 0 where
   pub ends : ChecksLog T s old new
+  pub counted : AreCounted T s 0 0 old new
   pub found : StopsChecking T old new
 
 -- Run: no log was opened, or one was and its session went on, with what a stop finds of both; the
--- counts of reads, of says and of the disk tell the status.
+-- counts of faults tell the status.
 pub record EndsRun {X : Type 0} (T : Ghosts X) (s : Status) (limit reads_before reads : ℕ)
     (left rest : Option (List ℕ)) (old new : X) : Type 0 where
   pub ends : EndsOnLog T s limit left rest old new
-  pub counted : AreCountedOn T s reads_before reads old new
+  pub counted : AreCounted T s reads_before reads old new
 
 -- ---- a call
 

@@ -1,5 +1,5 @@
 -- The status that a session ends with, and what it tells.
-use Rattle.std.specs.Prelude.{◌≡◌, ℕ, Bool, true, false, List, [], Option, Result, Ok, Err, ⊤}
+use Rattle.std.specs.Prelude.{◌≡◌, ℕ, Bool, true, false, List, [], Option, Result, Ok, Err}
 use Rattle.sz_outside.specs.Outside.{Rose, Stood, Says, SaysPart}
 use Rattle.sz_outside.specs.declared.stations.Station.{Ghosts}
 use Rattle.sz_log.specs.declared.LogFault.{LogFault}
@@ -83,20 +83,28 @@ Ends c status.NoMemory limit before left said_before said =
 Ends c status.InputLimit limit before left said_before said =
     SaidToLimit c limit before left said_before said
 
--- What the counts of faults tell of a status: where the session is done none of them rose, and a
--- status that is a fault's comes only where that count rose.
-abbrev pub AreCounted : Status → ℕ → ℕ → ℕ → ℕ → Type 0
-AreCounted status.Done reads_before reads says_before says =
-    Stood reads_before reads × Stood says_before says
-AreCounted status.Usage reads_before reads says_before says = ⊥
-AreCounted status.ReadFault reads_before reads says_before says = Rose reads_before reads
-AreCounted status.SayFault reads_before reads says_before says = Rose says_before says
-AreCounted status.DiskFault reads_before reads says_before says = ⊥
-AreCounted status.NotALog reads_before reads says_before says = ⊥
-AreCounted status.AlreadyALog reads_before reads says_before says = ⊥
-AreCounted (status.BadLog at) reads_before reads says_before says = ⊥
-AreCounted status.NoMemory reads_before reads says_before says = ⊤
-AreCounted status.InputLimit reads_before reads says_before says = ⊤
+-- No count of faults rose: of reads, of says and of the disk.
+abbrev pub NoneRose : {X : Type 0} → Ghosts X → ℕ → ℕ → X → X → Type 0
+NoneRose T reads_before reads old new = Stood reads_before reads
+    × Stood (T.say_faults old) (T.say_faults new) × Stood (T.disk_faults old) (T.disk_faults new)
+
+-- What the counts of faults, of reads, of says and of the disk, tell of a status, in each mode: a
+-- status that is a fault's comes only where its count rose, and then no other did; and by any other
+-- none rose, want of memory among them.
+abbrev pub AreCounted : {X : Type 0} → Ghosts X → Status → ℕ → ℕ → X → X → Type 0
+AreCounted T status.Done reads_before reads old new = NoneRose T reads_before reads old new
+AreCounted T status.Usage reads_before reads old new = ⊥
+AreCounted T status.ReadFault reads_before reads old new = Rose reads_before reads
+    × Stood (T.say_faults old) (T.say_faults new) × Stood (T.disk_faults old) (T.disk_faults new)
+AreCounted T status.SayFault reads_before reads old new = Stood reads_before reads
+    × Rose (T.say_faults old) (T.say_faults new) × Stood (T.disk_faults old) (T.disk_faults new)
+AreCounted T status.DiskFault reads_before reads old new = Stood reads_before reads
+    × Stood (T.say_faults old) (T.say_faults new) × Rose (T.disk_faults old) (T.disk_faults new)
+AreCounted T status.NotALog reads_before reads old new = NoneRose T reads_before reads old new
+AreCounted T status.AlreadyALog reads_before reads old new = NoneRose T reads_before reads old new
+AreCounted T (status.BadLog at) reads_before reads old new = NoneRose T reads_before reads old new
+AreCounted T status.NoMemory reads_before reads old new = NoneRose T reads_before reads old new
+AreCounted T status.InputLimit reads_before reads old new = NoneRose T reads_before reads old new
 
 -- The same of a session of a log: where its disk failed, what was said is whole replies.
 abbrev pub EndsLines : State → Status → ℕ → Option (List ℕ) → Option (List ℕ)
@@ -104,11 +112,6 @@ abbrev pub EndsLines : State → Status → ℕ → Option (List ℕ) → Option
 EndsLines c status.DiskFault limit before left said_before said =
     SaidInLines c before said_before said
 EndsLines c s limit before left said_before said = Ends c s limit before left said_before said
-
-abbrev pub AreCountedInLines : Status → ℕ → ℕ → ℕ → ℕ → Type 0
-AreCountedInLines status.DiskFault reads_before reads says_before says = ⊤
-AreCountedInLines s reads_before reads says_before says =
-    AreCounted s reads_before reads says_before says
 
 -- What was said by then of its line, for each status that the generated session ends with.
 abbrev pub SaysSummary : Status → List ℕ → Option (List ℕ) → Option (List ℕ) → Type 0
@@ -127,13 +130,11 @@ SaysSummary status.InputLimit line said_before said = ⊥
 -- with. It takes no memory but for its words, which are read before anything is done.
 abbrev pub MakesLog : {X : Type 0} → Ghosts X → Status → X → X → Type 0
 MakesLog T status.Done old new = HasMade T old new × Says (T.said old) (T.said new) ready_line
-    × Stood (T.say_faults old) (T.say_faults new)
 MakesLog T status.Usage old new = ⊥
 MakesLog T status.ReadFault old new = ⊥
 MakesLog T status.SayFault old new = HasMade T old new
-    × SaysPart (T.said old) (T.said new) ready_line × Rose (T.say_faults old) (T.say_faults new)
+    × SaysPart (T.said old) (T.said new) ready_line
 MakesLog T status.DiskFault old new = IsSilent T old new
-    × Rose (T.disk_faults old) (T.disk_faults new)
 MakesLog T status.NotALog old new = IsSilent T old new × IsSpared T log.NotALog old new
 MakesLog T status.AlreadyALog old new = IsSilent T old new × IsSpared T log.AlreadyALog old new
 MakesLog T (status.BadLog at) old new = ⊥
@@ -143,14 +144,11 @@ MakesLog T status.InputLimit old new = ⊥
 -- What was said by then, and what is known of the log, for each status that the check of one ends
 -- with.
 abbrev pub ChecksLog : {X : Type 0} → Ghosts X → Status → X → X → Type 0
-ChecksLog T status.Done old new = SaysLine T old new × Stood (T.say_faults old) (T.say_faults new)
-    × Stood (T.disk_faults old) (T.disk_faults new)
+ChecksLog T status.Done old new = SaysLine T old new
 ChecksLog T status.Usage old new = ⊥
 ChecksLog T status.ReadFault old new = ⊥
 ChecksLog T status.SayFault old new = SaysPartOfLine T old new
-    × Rose (T.say_faults old) (T.say_faults new)
 ChecksLog T status.DiskFault old new = IsSilent T old new
-    × Rose (T.disk_faults old) (T.disk_faults new)
 ChecksLog T status.NotALog old new = IsSilent T old new × IsUnlike T old new
 ChecksLog T status.AlreadyALog old new = ⊥
 ChecksLog T (status.BadLog at) old new = IsSilent T old new × IsBadLog T at old new

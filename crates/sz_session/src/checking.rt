@@ -4,7 +4,7 @@ ghost use Rattle.std.specs.Prelude.{◌≡◌, ◌++◌, IfOk, OnOk, length, str
 ghost use Rattle.sz_script.specs.Words.{name_of_strategy};
 ghost use Rattle.sz_catalogue.specs.Responses.{word_text};
 ghost use Rattle.sz_recover.specs.Logs.{IsMade};
-ghost use Rattle.sz_session.specs.Statuses.{ChecksLog};
+ghost use Rattle.sz_session.specs.Statuses.{ChecksLog, AreCounted};
 ghost use Rattle.sz_session.specs.Checking.{check_line, sound_line, unsound_line, node_words};
 ghost use Rattle.sz_session.specs.Checking.{TellsLine};
 ghost use Rattle.sz_session.specs.Checking.{StopsChecking};
@@ -26,6 +26,7 @@ pub(crate) fn check_log<T: Station, R: Threads + Sync>(
     station: &mut T,
 ) -> Status
     ensures ends { ChecksLog T.Station result station.old station.new }
+    ensures counted { AreCounted T.Station result 0 0 station.old station.new }
     ensures stops { StopsChecking T.Station station.old station.new }
 {
     match catalogue_of(alloc, station) {
@@ -43,6 +44,7 @@ fn check_opened<T: Station, R: Threads + Sync>(
 ) -> Status
     requires { IsMade (T.disk station.old) log.now.end.at log.now.catalogue log.now.stores.items }
     ensures ends { ChecksLog T.Station result station.old station.new }
+    ensures counted { AreCounted T.Station result 0 0 station.old station.new }
     ensures stops { StopsChecking T.Station station.old station.new }
     ensures quiet { Stood (T.disk_faults station.old) (T.disk_faults station.new) }
 {

@@ -47,6 +47,14 @@ pub fn faults_are_counted<S: Source, T: Station>()
         s ≡ Status.DiskFault → Rose (T.disk_faults old) (T.disk_faults new)) }
 {}
 
+/// Want of memory hides no fault: a call that ends by it ends before any fault was counted.
+pub fn want_of_memory_hides_no_fault<S: Source, T: Station>()
+    ensures { OfEachCall S.Source T.Station (λ job s before after old new.
+        s ≡ Status.NoMemory → Stood (S.faults before) (S.faults after)
+        × Stood (T.say_faults old) (T.say_faults new)
+        × Stood (T.disk_faults old) (T.disk_faults new)) }
+{}
+
 /// Some statuses come in some modes alone: Usage in none, a fault in reading and the limit where
 /// lines are read, those of the disk in a mode of a log, and that a log is there already in init.
 /// Where the disk has a status and no session goes on with it, nothing was said.

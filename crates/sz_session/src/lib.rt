@@ -26,9 +26,10 @@
 //!
 //! What follows of these clauses are the laws of [`endings`]: what was said by each status (`done`,
 //! `after_say_fault`, `ready`, `checked`, ..), that a call is done only where no fault was counted
-//! (`quiet`), that there is no other ending without one (`completes`, `init_completes`,
-//! `check_completes`, `run_completes`), which statuses come where and nowhere else (`unlike`,
-//! `broken`, `barred`, ..), and that each exit number is that of one status.
+//! (`quiet`), nor ends for want of memory where one was ([`endings::want_of_memory_hides_no_fault`]),
+//! that there is no other ending without one (`completes`, `init_completes`, `check_completes`,
+//! `run_completes`), which statuses come where and nowhere else (`unlike`, `broken`, `barred`, ..),
+//! and that each exit number is that of one status.
 //!
 //! ```text
 //! {"array":"a","cells":[[5]]}                                         1 array a 1
@@ -52,9 +53,11 @@
 //!
 //! To whoever changes this crate: `serving` carries from turn to turn that every whole line so far
 //! has its reply said (`Answered` of `sz_feed`), and the one function that reads asks for it.
-//! `specs/Statuses` says what each status tells of what was read and said, `specs/Checking` what a
-//! check tells, and `specs/Modes` puts these together, mode by mode. `proofs/Modes` goes through
-//! the modes once (`by-mode`), and each law that speaks of a status in any of them goes by it.
+//! `specs/Statuses` says what each status tells of what was read and said, and what the counts of
+//! faults tell of it in every mode (`AreCounted`); `specs/Sessions` what a turn leaves, and how a
+//! session of lines ends; `specs/Checking` what a check tells; and `specs/Modes` puts these together,
+//! mode by mode. `proofs/Modes` goes through the modes once (`by-mode`), and each law that speaks of
+//! a status in any of them goes by it.
 #![tactic(auto)]
 
 mod checking;

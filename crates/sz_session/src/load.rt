@@ -30,7 +30,7 @@ pub(crate) fn load<
 >(rt: &R, alloc: Global, job: Job, station: &mut T, gate: &Arc<G>) -> Status
     requires { IsInRange job }
     ensures ends { SaysSummary result (load_line job) (T.said station.old) (T.said station.new) }
-    ensures fault { AreCounted result 0 0 (T.say_faults station.old) (T.say_faults station.new) }
+    ensures counted { AreCounted T.Station result 0 0 station.old station.new }
     ensures disk { OnlySays T.Station (load_line job) station.old station.new }
 {
     let Ok(line) = summary(rt, alloc, job, gate) else {

@@ -1,6 +1,6 @@
 //! Mode init: the disk of the station is made the empty log, and one line says so.
 ghost use Rattle.std.specs.Prelude.{◌≡◌};
-ghost use Rattle.sz_session.specs.Statuses.{MakesLog, log_status};
+ghost use Rattle.sz_session.specs.Statuses.{MakesLog, AreCounted, log_status};
 ghost use Rattle.sz_feed.specs.Disks.{StopsMaking};
 ghost use Rattle.sz_feed.specs.Making.{ready_line};
 
@@ -11,6 +11,7 @@ use sz_outside::{Failed, Station};
 /// Makes the disk the empty log, and says that it is ready. Takes no memory.
 pub(crate) fn make_log<T: Station>(station: &mut T) -> Status
     ensures ends { MakesLog T.Station result station.old station.new }
+    ensures counted { AreCounted T.Station result 0 0 station.old station.new }
     ensures stops { StopsMaking T.Station station.old station.new }
 {
     if let Err(fault) = init(station) {

@@ -9,14 +9,14 @@ ghost use Rattle.std.specs.Prelude.{false, Ok, Err, IfOk, IfErr, OnOk, OnErr, le
 ghost use Rattle.std.specs.Prelude.{map, string_bytes, None, Some};
 ghost use Rattle.sz_outside.specs.Outside.{Rose, Stood, Gives, Keeps};
 ghost use Rattle.sz_session.specs.Statuses.{end_status, words_status, status_number};
-ghost use Rattle.sz_session.specs.Statuses.{Ends, AreCounted, EndsLines, AreCountedInLines};
-ghost use Rattle.sz_session.specs.Continuing.{EndsOnLog, AreCountedOn};
+ghost use Rattle.sz_session.specs.Statuses.{Ends, AreCounted};
+ghost use Rattle.sz_session.specs.Sessions.{opening_of, TurnsOn, EndsTurn, EndsSession};
+ghost use Rattle.sz_session.specs.Continuing.{EndsOnLog};
 ghost use Rattle.sz_session.specs.Modes.{AsksFor, IfLoad, is_for, is_of_lines};
 ghost use Rattle.sz_session.specs.Modes.{EndsPlay, EndsLoad, EndsInit, EndsCheck, EndsRun};
 ghost use Rattle.sz_commands.specs.States.{nothing_held};
 ghost use Rattle.sz_commands.specs.Logged.{IsLogOf};
-ghost use Rattle.sz_feed.specs.Running.{IsBeside, StaysBeside, FindsRest, FindsNext, FindsAll};
-ghost use Rattle.sz_feed.specs.Running.{StandsBehind, state_of_log};
+ghost use Rattle.sz_feed.specs.Running.{IsBeside, state_of_log};
 ghost use Rattle.sz_feed.specs.Serving.{load_line, Opening, Answered, AreAll};
 ghost use Rattle.sz_feed.specs.Disks.{StaysFinding, FoundInPart};
 ghost use Rattle.sz_words.specs.Job.{job_of, IsInRange};
@@ -235,8 +235,8 @@ fn play<
     requires ranges { IsInRange job }
     ensures ends { Ends nothing_held result limit (S.left source.old) (S.left source.new)
         (T.said station.old) (T.said station.new) }
-    ensures fault { AreCounted result (S.faults source.old) (S.faults source.new)
-        (T.say_faults station.old) (T.say_faults station.new) }
+    ensures counted { AreCounted T.Station result (S.faults source.old) (S.faults source.new)
+        station.old station.new }
     ensures disk { StaysFinding T.Station
         (FoundInPart nothing_held (S.left source.old) (T.said station.old))
         station.old station.new }
@@ -273,7 +273,7 @@ fn run_log<
     requires ranges { IsInRange job }
     ensures ends { EndsOnLog T.Station result limit (S.left source.old) (S.left source.new)
         station.old station.new }
-    ensures counted { AreCountedOn T.Station result (S.faults source.old) (S.faults source.new)
+    ensures counted { AreCounted T.Station result (S.faults source.old) (S.faults source.new)
         station.old station.new }
 {
     if station.sync().is_err() {
@@ -305,19 +305,11 @@ pub(crate) fn run_on<
     requires limit { limit ≤ LIMIT }
     requires ranges { IsInRange job }
     requires log { IsLogOf T.Station recovered.catalogue recovered.end.at station.old }
-    ensures ends { EndsLines (state_of_log recovered.catalogue recovered.stores.items) result limit
-        (S.left source.old) (S.left source.new) (T.said station.old) (T.said station.new) }
-    ensures fault { AreCountedInLines result (S.faults source.old) (S.faults source.new)
-        (T.say_faults station.old) (T.say_faults station.new) }
-    ensures disk_fault { result ≡ Status.DiskFault
-        → Rose (T.disk_faults station.old) (T.disk_faults station.new) }
-    ensures disk_quiet { result ≡ Status.Done
-        → Stood (T.disk_faults station.old) (T.disk_faults station.new) }
-    ensures behind { result ≡ Status.Done
-        → StandsBehind T.Station (state_of_log recovered.catalogue recovered.stores.items)
-        (Some recovered.end.at) (S.left source.old) station.old station.new }
-    ensures found { FindsAll T.Station (state_of_log recovered.catalogue recovered.stores.items)
-        (Some recovered.end.at) (S.left source.old) station.old station.new }
+    ensures { EndsSession T.Station result limit
+        (opening_of (state_of_log recovered.catalogue recovered.stores.items)
+        (S.left source.old) (T.said station.old))
+        (Some recovered.end.at) (S.left source.new)
+        (S.faults source.old) (S.faults source.new) station.old station.new }
 {
     let Ok(mut buffer) = vec![in alloc; 0u8; CHUNK] else {
         return Status::NoMemory;
@@ -350,21 +342,8 @@ fn answer_all<S: Source, T: Station, G: Gate, R: Threads + Wait + Sync>(
         opening.said (T.said station.old) feed 0 }
     requires log { IsBeside T.Station feed station.old }
     requires said { opening.said ≡ T.said station.old }
-    ensures ends { EndsLines opening.held result limit opening.left (S.left source.new)
-        opening.said (T.said station.new) }
-    ensures fault { AreCountedInLines result (S.faults source.old) (S.faults source.new)
-        (T.say_faults station.old) (T.say_faults station.new) }
-    ensures disk { feed.end ≡ None
-        → StaysFinding T.Station (FoundInPart opening.held opening.left opening.said)
-        station.old station.new }
-    ensures plain { feed.end ≡ None → result ≡ Status.DiskFault → ⊥ }
-    ensures disk_fault { result ≡ Status.DiskFault
-        → Rose (T.disk_faults station.old) (T.disk_faults station.new) }
-    ensures disk_quiet { result ≡ Status.Done
-        → Stood (T.disk_faults station.old) (T.disk_faults station.new) }
-    ensures behind { result ≡ Status.Done
-        → StandsBehind T.Station opening.held feed.end opening.left station.old station.new }
-    ensures found { FindsAll T.Station opening.held feed.end opening.left station.old station.new }
+    ensures { EndsSession T.Station result limit opening feed.end (S.left source.new)
+        (S.faults source.old) (S.faults source.new) station.old station.new }
 {
     let mut feed = feed;
     read_all(rt, source, station, gate, buffer, &mut feed, limit)
@@ -389,22 +368,8 @@ fn read_all<S: Source, T: Station, G: Gate, R: Threads + Wait + Sync>(
         opening.said (T.said station.old) feed.old 0 }
     requires log { IsBeside T.Station feed.old station.old }
     requires said { opening.said ≡ T.said station.old }
-    ensures ends { EndsLines opening.held result limit opening.left (S.left source.new)
-        opening.said (T.said station.new) }
-    ensures fault { AreCountedInLines result (S.faults source.old) (S.faults source.new)
-        (T.say_faults station.old) (T.say_faults station.new) }
-    ensures disk { feed.old.end ≡ None
-        → StaysFinding T.Station (FoundInPart opening.held opening.left opening.said)
-        station.old station.new }
-    ensures plain { feed.old.end ≡ None → result ≡ Status.DiskFault → ⊥ }
-    ensures disk_fault { result ≡ Status.DiskFault
-        → Rose (T.disk_faults station.old) (T.disk_faults station.new) }
-    ensures disk_quiet { result ≡ Status.Done
-        → Stood (T.disk_faults station.old) (T.disk_faults station.new) }
-    ensures behind { result ≡ Status.Done
-        → StandsBehind T.Station opening.held feed.old.end opening.left station.old station.new }
-    ensures found { FindsAll T.Station opening.held feed.old.end opening.left
-        station.old station.new }
+    ensures { EndsSession T.Station result limit opening feed.old.end (S.left source.new)
+        (S.faults source.old) (S.faults source.new) station.old station.new }
 {
     let mut total = 0u64;
     'chunks: loop {
@@ -438,31 +403,12 @@ fn take_turn<S: Source, T: Station, G: Gate, R: Threads + Wait + Sync>(
     requires log { IsBeside T.Station feed.old station.old }
     ensures within { IfOk result (λ count. total + count ≤ limit) }
     ensures number { IfOk result (λ count. feed.new.number ≤ total + count + 1) }
-    ensures answered { IfOk result (λ count. Answered opening.held opening.left (S.left source.new)
-        opening.said (T.said station.new) feed.new (total + count)) }
+    ensures turn { IfOk result (λ count. TurnsOn T.Station opening total count (S.left source.new)
+        (S.faults source.old) (S.faults source.new) feed.old feed.new station.old station.new) }
     ensures all { result ≡ Ok 0 → AreAll opening.left total }
-    ensures ends { IfErr result (λ status. EndsLines opening.held status limit
-        opening.left (S.left source.new) opening.said (T.said station.new)) }
-    ensures fault { IfErr result (λ status. AreCountedInLines status
-        (S.faults source.old) (S.faults source.new)
-        (T.say_faults station.old) (T.say_faults station.new)) }
-    ensures quiet { OnOk result (Stood (S.faults source.old) (S.faults source.new)
-        × Stood (T.say_faults station.old) (T.say_faults station.new)) }
-    ensures disk { feed.old.end ≡ None
-        → StaysFinding T.Station (FoundInPart opening.held opening.left opening.said)
-        station.old station.new }
-    ensures log { OnOk result
-        (StaysBeside T.Station feed.old feed.new station.old station.new) }
-    ensures again { OnOk result (IsBeside T.Station feed.new station.new) }
-    ensures plain { feed.old.end ≡ None → result ≡ Err Status.DiskFault → ⊥ }
-    ensures not_done { result ≡ Err Status.Done → ⊥ }
-    ensures disk_fault { result ≡ Err Status.DiskFault
-        → Rose (T.disk_faults station.old) (T.disk_faults station.new) }
-    ensures disk_quiet { OnOk result
-        (Stood (T.disk_faults station.old) (T.disk_faults station.new)) }
-    ensures taken { IfOk result (λ count.
-        FindsNext T.Station feed.old opening.left total count station.old station.new) }
-    ensures found { FindsRest T.Station feed.old opening.left total station.old station.new }
+    ensures ends { IfErr result (λ status. EndsTurn T.Station status limit opening total
+        (S.left source.new) (S.faults source.old) (S.faults source.new) feed.old
+        station.old station.new) }
 {
     let count = read_chunk(source, buffer, feed, station, total, limit)?;
     if total == limit && count > 0 {

@@ -7,12 +7,12 @@ use Rattle.sz_session.proofs.endings.check_tells_of_a_log.Goals as goal
 pub returns-clause-checked : goal.returns-clause-checked
 returns-clause-checked g c =
     λ job s before after old new serves asked is.
-    (check-ends_with g.T.Station s status.Done old new (serves.check asked).ends is).0
+    check-ends_with g.T.Station s status.Done old new (serves.check asked).ends is
 
 pub returns-clause-check_after_say_fault : goal.returns-clause-check_after_say_fault
 returns-clause-check_after_say_fault g c =
     λ job s before after old new serves asked is.
-    (check-ends_with g.T.Station s status.SayFault old new (serves.check asked).ends is).0
+    check-ends_with g.T.Station s status.SayFault old new (serves.check asked).ends is
 
 pub returns-clause-check_after_no_memory : goal.returns-clause-check_after_no_memory
 returns-clause-check_after_no_memory g c =
@@ -22,11 +22,13 @@ returns-clause-check_after_no_memory g c =
 pub returns-clause-check_completes : goal.returns-clause-check_completes
 returns-clause-check_completes g c =
     λ job s before after old new serves asked.
-    check-completes c.logs_are_read_in_one_way.ensures.whole g.T.Station s old new (serves.check asked).ends
+    let one = serves.check asked in
+    check-completes c.logs_are_read_in_one_way.ensures.whole g.T.Station s old new one.ends one.counted
 
 pub returns-clause-check_tells : goal.returns-clause-check_tells
 returns-clause-check_tells g c =
-    λ job s before after old new serves asked. check-tells g.T.Station s old new (serves.check asked).ends
+    λ job s before after old new serves asked.
+    let one = serves.check asked in check-tells g.T.Station s old new one.ends one.counted
 
 pub returns-clause-found_in_check : goal.returns-clause-found_in_check
 returns-clause-found_in_check g c =

@@ -39,7 +39,8 @@ returns-clause-barred g c =
 pub returns-clause-init_completes : goal.returns-clause-init_completes
 returns-clause-init_completes g c =
     λ job s before after old new serves asked.
-    init-completes g.T.Station s old new (serves.init asked).ends
+    let one = serves.init asked in
+    init-completes g.T.Station s old new one.ends one.counted
 
 pub returns-clause-found_in_init : goal.returns-clause-found_in_init
 returns-clause-found_in_init g c =

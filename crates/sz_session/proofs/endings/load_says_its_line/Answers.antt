@@ -27,7 +27,7 @@ pub returns-clause-load_completes : goal.returns-clause-load_completes
 returns-clause-load_completes g c =
     λ job s before after old new serves asked no_say.
     let one = line-asked (λ line. EndsLoad g.T.Station s line old new) job serves.load asked in
-    load-completes s one.0 _ _ _ _ one.1.ends one.1.counted no_say
+    load-completes g.T.Station s one.0 _ _ old new one.1.ends one.1.counted no_say
 
 pub returns-clause-found_in_load : goal.returns-clause-found_in_load
 returns-clause-found_in_load g c =

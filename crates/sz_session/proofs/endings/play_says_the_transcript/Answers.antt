@@ -33,7 +33,7 @@ pub returns-clause-completes : goal.returns-clause-completes
 returns-clause-completes g c =
     λ job s before after old new serves asked within no_read no_say.
     let one = serves.play asked in
-    completes nothing_held s _ _ _ _ _ _ _ _ _ one.ends one.counted within no_read no_say
+    completes g.T.Station nothing_held s _ _ _ _ _ _ _ old new one.ends one.counted within no_read no_say
 
 pub returns-clause-found_in_play : goal.returns-clause-found_in_play
 returns-clause-found_in_play g c =

@@ -12,4 +12,4 @@ returns g c =
     let all = c.end_input.new.station.bytes.items in
     said-behind_nothing first all (transcript nothing_held c.args.text.now) c.new-replies.ensures
     (whole-said c.args.text.now (Some first) (Some taken) (Some all) c.args.feed c.take_chunk.new.self
-    c.requires c.in_ok-take_chunk.ensures.chunk c.in_ok-end_input.ensures.whole)
+    c.requires c.in_ok-take_chunk.ensures.chunk c.in_ok-end_input.ensures.says)

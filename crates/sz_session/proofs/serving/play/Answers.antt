@@ -3,7 +3,8 @@ use Rattle.std.proofs.Common.{[], refl, subst, sym, ap, ◌∙◌}
 use Rattle.sz_feed.specs.Moments.{Moment}
 use Rattle.sz_feed.specs.Serving.{Answered}
 use Rattle.sz_commands.specs.States.{nothing_held}
-use Rattle.sz_session.proofs.Ends.{plain-ends, plain-counted}
+use Rattle.sz_session.specs.Sessions.{opening_of}
+use Rattle.sz_session.proofs.Ends.{plain-ends, of-stays}
 use Rattle.sz_feed.proofs.Told.{answered-start, none-in_lines}
 use Rattle.sz_feed.proofs.Disks.{stays-still, start-stays}
 use Rattle.sz_feed.specs.Running.{IsBeside}
@@ -70,18 +71,18 @@ returns-in_default-new-clause-disk g c =
 -- a session of no log ends with no fault of the disk
 pub returns-clause-ends : goal.returns-clause-ends
 returns-clause-ends g c =
+    let one = c.answer_all-status.ensures in
     plain-ends nothing_held c.answer_all-status.result c.args.limit (g.S.Source.left c.args.source.now)
     (g.S.Source.left c.answer_all-status.new.source) (g.T.Station.said c.args.station.now)
-    (g.T.Station.said c.answer_all-status.new.station) c.answer_all-status.ensures.ends
-    (c.answer_all-status.ensures.plain (ap (λ (m : Moment). m.end) c.in-Ok-new.ensures))
+    (g.T.Station.said c.answer_all-status.new.station) one.ends
+    (one.plain (ap (λ (m : Moment). m.end) c.in-Ok-new.ensures))
 
-pub returns-clause-fault : goal.returns-clause-fault
-returns-clause-fault g c =
-    plain-counted c.answer_all-status.result (g.S.Source.faults c.args.source.now)
-    (g.S.Source.faults c.answer_all-status.new.source) (g.T.Station.say_faults c.args.station.now)
-    (g.T.Station.say_faults c.answer_all-status.new.station) c.answer_all-status.ensures.fault
-    (c.answer_all-status.ensures.plain (ap (λ (m : Moment). m.end) c.in-Ok-new.ensures))
+pub returns-clause-counted : goal.returns-clause-counted
+returns-clause-counted g c = c.answer_all-status.ensures.counted
 
 pub returns-clause-disk : goal.returns-clause-disk
 returns-clause-disk g c =
-    c.answer_all-status.ensures.disk (ap (λ (m : Moment). m.end) c.in-Ok-new.ensures)
+    of-stays g.T.Station c.in-Ok-new.feed.end
+    (opening_of nothing_held (g.S.Source.left c.args.source.now) (g.T.Station.said c.args.station.now)) _
+    c.args.station.now c.answer_all-status.new.station c.answer_all-status.ensures.found
+    (ap (λ (m : Moment). m.end) c.in-Ok-new.ensures)

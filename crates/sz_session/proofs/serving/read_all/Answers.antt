@@ -1,57 +1,40 @@
 -- Turns go on until no byte is left, or one of them ends the session.
 use Rattle.std.proofs.Common.{◌≡◌, ℕ, ◌+◌, [], refl, subst, sym, ap, ◌∙◌, arith}
 use Rattle.std.specs.Prelude.{Ok}
-use Rattle.sz_session.specs.declared.serving.Status.{Status}
-use Rattle.sz_session.specs.declared.serving.Status.TheVariants as status
 use Rattle.sz_commands.specs.Lines.{last_line}
 use Rattle.sz_commands.specs.Transcript.{after_lines}
 use Rattle.sz_feed.specs.Serving.{Answered}
-use Rattle.sz_session.specs.Statuses.{end_status, EndsLines}
-use Rattle.sz_feed.specs.Running.{StaysBeside}
-use Rattle.sz_session.proofs.Ends.{end-ends, plain-end, disk-end, done-end, quiet-end, rose-behind, turned}
+use Rattle.sz_feed.specs.Running.{StaysBeside, FindsNext, FindsRest}
 use Rattle.sz_feed.proofs.Beside.{stays-same, stays-then, none-stays}
+use Rattle.sz_feed.proofs.Calls.{behind-only, behind-lines}
 use Rattle.sz_feed.proofs.Disks.{stays-still, stays-both, between-stays, end-stays}
 use Rattle.sz_feed.proofs.Sources.{FindsRead, read-start, read-more, all-rest, all-read, all-behind}
+use Rattle.sz_feed.proofs.Sources.{next-none, rest-none}
+use Rattle.sz_session.specs.Statuses.{end_status}
+use Rattle.sz_session.specs.Sessions.{EndsSession}
+use Rattle.sz_session.specs.declared.serving.Status.{Status}
+use Rattle.sz_session.proofs.Ends.{end-ends, end-counted, none-then, counted-behind, plain-end, done-end}
+use Rattle.sz_session.proofs.Ends.{turn-behind, of-both, of-stays, of-claim}
 use Rattle.sz_session.proofs.serving.read_all.Goals as goal
 
 pub chunks-init : goal.chunks-init
 chunks-init g c =
     let asked = c.requires.1.1.1.1.1.1.1.1.1 in
+    let m = c.args.feed.now in
+    let a = c.args.station.now in
     record {
       within = omega arith;
       number = omega (arith, asked.0);
-      reads = refl;
-      says = refl;
-      goes = stays-same g.T.Station c.args.feed.now c.args.feed.now c.args.station.now refl refl asked.1.1.0;
+      counted = (refl, refl, refl);
+      goes = stays-same g.T.Station m m a refl refl asked.1.1.0;
       log = asked.1.1.0;
-      disk_quiet = refl;
       plain = λ e. e;
       found = read-start g.T.Station g.opening.held g.opening.left (g.S.Source.left c.args.source.now) g.opening.said
-          c.args.feed.now c.args.station.now asked.1.0 asked.1.1.0 (g.met.T.Station.only_now c.args.station.now)
-          (g.met.T.Station.counts_now c.args.station.now);
-      disk = λ e. between-stays g.T.Station g.opening.held _ _ _ _ _ c.args.feed.now 0 asked.1.0
-          (stays-still g.T.Station [] c.args.station.now (g.met.T.Station.only_now c.args.station.now)
-          (g.met.T.Station.counts_now c.args.station.now));
+          m a asked.1.0 asked.1.1.0 (g.met.T.Station.only_now a) (g.met.T.Station.counts_now a);
+      disk = λ e. between-stays g.T.Station g.opening.held _ _ _ _ _ m 0 asked.1.0
+          (stays-still g.T.Station [] a (g.met.T.Station.only_now a) (g.met.T.Station.counts_now a));
       answered = asked.1.0;
     }
-
-pub returns-in-Ok-eq0-clause-ends : goal.returns-in-Ok-eq0-clause-ends
-returns-in-Ok-eq0-clause-ends g c =
-    let P : Status
-    → Type 0 =
-    λ s. EndsLines g.opening.held s c.args.limit g.opening.left (g.S.Source.left c.take_turn.new.source) g.opening.said
-    (g.T.Station.said c.end_input.new.station) in
-    let Q : ℕ
-    → Type 0 =
-    λ n. Answered g.opening.held g.opening.left (g.S.Source.left c.take_turn.new.source) g.opening.said
-    (g.T.Station.said c.take_turn.new.station) c.take_turn.new.feed n in
-    let none : c.in-Ok-eq0.field-0 ≡ 0 = c.in-Ok-eq0.field-0-test in
-    let same : c.chunks.total + c.in-Ok-eq0.field-0 ≡ c.chunks.total = omega (arith, none) in
-    subst P (sym c.status_of_end.ensures)
-    (end-ends g.opening.held c.end_input.result c.args.limit _ _ _ _ _ c.take_turn.new.feed c.chunks.total
-    c.chunks.invariant.within
-    (subst Q same c.in-Ok-eq0.ensures.answered) (c.in-Ok-eq0.ensures.all (ap (λ (n : ℕ). Ok n) none))
-    c.end_input.ensures.whole c.end_input.ensures.part c.end_input.ensures.nothing c.end_input.ensures.stopped)
 
 -- the bounds of the types are those of the function itself
 pub take_turn-requires : goal.take_turn-requires
@@ -89,142 +72,121 @@ take_turn-requires g c =
       ),
     )
 
--- the disk
-pub returns-in-Ok-eq0-clause-disk : goal.returns-in-Ok-eq0-clause-disk
-returns-in-Ok-eq0-clause-disk g c =
-    let Q : ℕ
-    → Type 0 =
-    λ n. Answered g.opening.held g.opening.left (g.S.Source.left c.take_turn.new.source) g.opening.said
-    (g.T.Station.said c.take_turn.new.station) c.take_turn.new.feed n in
-    let none : c.in-Ok-eq0.field-0 ≡ 0 = c.in-Ok-eq0.field-0-test in
-    let same : c.chunks.total + c.in-Ok-eq0.field-0 ≡ c.chunks.total = omega (arith, none) in
-    λ e. stays-both g.T.Station _ _ _ _
-    (stays-both g.T.Station _ _ _ _ (c.chunks.invariant.disk e) (c.take_turn.ensures.disk (c.chunks.invariant.plain e)))
-    (end-stays g.T.Station g.opening.held _ _ _ _ _ c.take_turn.new.feed c.chunks.total
-    (subst Q same c.in-Ok-eq0.ensures.answered)
-    (c.in-Ok-eq0.ensures.all (ap (λ (n : ℕ). Ok n) none))
-    (c.end_input.ensures.disk (none-stays g.T.Station c.chunks.feed c.take_turn.new.feed c.chunks.station
-    c.take_turn.new.station c.in-Ok-eq0.ensures.log (c.chunks.invariant.plain e))))
-
-pub returns-in-Err-clause-disk : goal.returns-in-Err-clause-disk
-returns-in-Err-clause-disk g c =
-    λ e. stays-both g.T.Station _ _ _ _ (c.chunks.invariant.disk e)
-    (c.take_turn.ensures.disk (c.chunks.invariant.plain e))
-
--- the log
-pub returns-in-Ok-eq0-clause-plain : goal.returns-in-Ok-eq0-clause-plain
-returns-in-Ok-eq0-clause-plain g c =
-    λ e is. plain-end c.end_input.result
-    (c.end_input.ensures.plain (none-stays g.T.Station c.chunks.feed c.take_turn.new.feed c.chunks.station
-    c.take_turn.new.station c.in-Ok-eq0.ensures.log (c.chunks.invariant.plain e)))
-    (sym c.status_of_end.ensures ∙ is)
-
 -- one turn more
 pub chunks-preserved : goal.chunks-preserved
 chunks-preserved g c =
-    let turn = c.in-Ok.ensures in
+    let o = g.opening in
+    let so_far = c.chunks.invariant in
+    let turn = c.in-Ok.ensures.turn in
     let asked = c.requires.1.1.1.1.1.1.1.1.1 in
-    let goes =
-    stays-then g.T.Station c.args.feed.now c.chunks.feed c.take_turn.new.feed c.args.station.now c.chunks.station
-    c.take_turn.new.station c.chunks.invariant.goes turn.log in
+    let first = c.args.feed.now in
+    let mid = c.chunks.feed in
+    let last = c.take_turn.new.feed in
+    let a = c.args.station.now in
+    let b = c.chunks.station in
+    let x = c.take_turn.new.station in
+    let goes = stays-then g.T.Station first mid last a b x so_far.goes turn.log in
+    let taken = of-claim g.T.Station mid.end o (FindsNext g.T.Station mid o.left c.chunks.total c.in-Ok.count b x) b x
+    turn.found (λ e. next-none g.T.Station mid o.left c.chunks.total c.in-Ok.count b x e) in
     record {
-      within = turn.within;
-      number = turn.number;
-      reads = turn.quiet.0 ∙ c.chunks.invariant.reads;
-      says = turn.quiet.1 ∙ c.chunks.invariant.says;
-      disk = λ e. stays-both g.T.Station _ _ _ _ (c.chunks.invariant.disk e)
-          (c.take_turn.ensures.disk (c.chunks.invariant.plain e));
+      within = c.in-Ok.ensures.within;
+      number = c.in-Ok.ensures.number;
+      counted = none-then g.T.Station (g.S.Source.faults c.args.source.now) (g.S.Source.faults c.chunks.source)
+          (g.S.Source.faults c.take_turn.new.source) a b x so_far.counted turn.counted;
+      disk = λ e. stays-both g.T.Station _ _ _ _ (so_far.disk e)
+          (of-stays g.T.Station mid.end o _ b x turn.found (so_far.plain e));
       goes = goes;
       log = turn.again;
-      disk_quiet = turn.disk_quiet ∙ c.chunks.invariant.disk_quiet;
-      plain = λ e. none-stays g.T.Station c.args.feed.now c.take_turn.new.feed c.args.station.now
-          c.take_turn.new.station goes e;
-      found = read-more g.T.Station g.opening.held g.opening.left (g.S.Source.left c.args.source.now)
-          (g.S.Source.left c.chunks.source) g.opening.said c.args.feed.now c.chunks.feed c.chunks.total c.in-Ok.count
-          c.args.station.now c.chunks.station c.take_turn.new.station asked.1.1.1 asked.1.0 c.chunks.invariant.answered
-          c.chunks.invariant.goes c.chunks.invariant.found turn.taken;
+      plain = λ e. none-stays g.T.Station first last a x goes e;
+      found = read-more g.T.Station o.held o.left (g.S.Source.left c.args.source.now) (g.S.Source.left c.chunks.source)
+          o.said first mid c.chunks.total c.in-Ok.count a b x asked.1.1.1 asked.1.0 so_far.answered so_far.goes
+          so_far.found taken;
       answered = turn.answered;
     }
 
--- what a stop finds
-pub returns-in-Ok-eq0-clause-found : goal.returns-in-Ok-eq0-clause-found
-returns-in-Ok-eq0-clause-found g c =
-    let asked = c.requires.1.1.1.1.1.1.1.1.1 in
-    let Q : ℕ
-    → Type 0 =
-    λ n. Answered g.opening.held g.opening.left (g.S.Source.left c.take_turn.new.source) g.opening.said
-    (g.T.Station.said c.take_turn.new.station) c.take_turn.new.feed n in
-    let F : ℕ
-    → Type 0 =
-    λ n. FindsRead g.T.Station g.opening.held c.args.feed.now.end g.opening.left n c.args.station.now
-    c.take_turn.new.station in
-    let none : c.in-Ok-eq0.field-0 ≡ 0 = c.in-Ok-eq0.field-0-test in
-    let same : c.chunks.total + c.in-Ok-eq0.field-0 ≡ c.chunks.total = omega (arith, none) in
-    all-read g.T.Station g.opening.held g.opening.left (g.S.Source.left c.args.source.now)
-    (g.S.Source.left c.take_turn.new.source) g.opening.said c.args.feed.now c.take_turn.new.feed c.chunks.total
-    c.args.station.now c.take_turn.new.station c.end_input.new.station asked.1.1.1 asked.1.0
-    (subst Q same c.in-Ok-eq0.ensures.answered) (c.in-Ok-eq0.ensures.all (ap (λ (n : ℕ). Ok n) none))
-    (stays-then g.T.Station c.args.feed.now c.chunks.feed c.take_turn.new.feed c.args.station.now c.chunks.station
-    c.take_turn.new.station c.chunks.invariant.goes c.in-Ok-eq0.ensures.log)
-    (subst F same
-    (read-more g.T.Station g.opening.held g.opening.left (g.S.Source.left c.args.source.now)
-    (g.S.Source.left c.chunks.source) g.opening.said c.args.feed.now c.chunks.feed c.chunks.total c.in-Ok-eq0.field-0
-    c.args.station.now c.chunks.station c.take_turn.new.station asked.1.1.1 asked.1.0 c.chunks.invariant.answered
-    c.chunks.invariant.goes c.chunks.invariant.found c.in-Ok-eq0.ensures.taken))
-    c.end_input.ensures.found
-
-pub returns-in-Err-clause-found : goal.returns-in-Err-clause-found
-returns-in-Err-clause-found g c =
-    let asked = c.requires.1.1.1.1.1.1.1.1.1 in
-    all-rest g.T.Station g.opening.held g.opening.left (g.S.Source.left c.args.source.now)
-    (g.S.Source.left c.chunks.source) g.opening.said c.args.feed.now c.chunks.feed c.chunks.total c.args.station.now
-    c.chunks.station c.take_turn.new.station asked.1.1.1 asked.1.0 c.chunks.invariant.answered c.chunks.invariant.goes
-    c.chunks.invariant.found c.take_turn.ensures.found
-
--- the counts of the disk
-pub returns-in-Ok-eq0-clause-disk_fault : goal.returns-in-Ok-eq0-clause-disk_fault
-returns-in-Ok-eq0-clause-disk_fault g c =
-    λ is. rose-behind _ _ _ (c.in-Ok-eq0.ensures.disk_quiet ∙ c.chunks.invariant.disk_quiet)
-    (c.end_input.ensures.disk_fault (disk-end c.end_input.result (sym c.status_of_end.ensures ∙ is)))
-
-pub returns-in-Ok-eq0-clause-disk_quiet : goal.returns-in-Ok-eq0-clause-disk_quiet
-returns-in-Ok-eq0-clause-disk_quiet g c =
-    λ is. quiet-end c.end_input.result _ _ (sym c.status_of_end.ensures ∙ is) c.end_input.ensures.disk_quiet
-    ∙ c.in-Ok-eq0.ensures.disk_quiet ∙ c.chunks.invariant.disk_quiet
-
-pub returns-in-Err-clause-disk_quiet : goal.returns-in-Err-clause-disk_quiet
-returns-in-Err-clause-disk_quiet g c =
-    λ is. absurd (c.in-Err.ensures.not_done (ap turned is))
-
--- the log of all lines
-pub returns-in-Ok-eq0-clause-behind : goal.returns-in-Ok-eq0-clause-behind
-returns-in-Ok-eq0-clause-behind g c =
+-- the source was read to its end
+pub returns-in-Ok-eq0 : goal.returns-in-Ok-eq0
+returns-in-Ok-eq0 g c =
+    let o = g.opening in
+    let so_far = c.chunks.invariant in
+    let turn = c.in-Ok-eq0.ensures.turn in
     let asked = c.requires.1.1.1.1.1.1.1.1.1 in
     let r = c.end_input.result in
+    let ended = c.end_input.ensures.answered in
     let first = c.args.feed.now in
+    let mid = c.chunks.feed in
     let last = c.take_turn.new.feed in
     let end = c.end_input.new.self in
     let a = c.args.station.now in
-    let b = c.take_turn.new.station in
+    let b = c.chunks.station in
+    let y = c.take_turn.new.station in
     let x = c.end_input.new.station in
-    let Q : ℕ
-    → Type 0 =
-    λ n. Answered g.opening.held g.opening.left (g.S.Source.left c.take_turn.new.source) g.opening.said
-    (g.T.Station.said b) last n in
-    let none : c.in-Ok-eq0.field-0 ≡ 0 = c.in-Ok-eq0.field-0-test in
-    let same : c.chunks.total + c.in-Ok-eq0.field-0 ≡ c.chunks.total = omega (arith, none) in
-    λ is.
-    let ended : end_status r ≡ status.Done = sym c.status_of_end.ensures ∙ is in
-    all-behind g.T.Station g.opening.held g.opening.left (g.S.Source.left c.args.source.now)
-    (g.S.Source.left c.take_turn.new.source) g.opening.said (g.T.Station.said a) (g.T.Station.said b) first last end
-    c.chunks.total a x asked.1.0 (subst Q same c.in-Ok-eq0.ensures.answered)
-    (c.in-Ok-eq0.ensures.all (ap (λ (n : ℕ). Ok n) none))
-    (stays-then g.T.Station first last end a b x
-    (stays-then g.T.Station first c.chunks.feed last a c.chunks.station b c.chunks.invariant.goes
-    c.in-Ok-eq0.ensures.log)
-    (done-end r (StaysBeside g.T.Station last end b x) ended c.end_input.ensures.log))
-    (done-end r (end.held.held ≡ (after_lines last.held (last_line last.pending)).held) ended c.end_input.ensures.held)
+    let count = c.in-Ok-eq0.field-0 in
+    let total = c.chunks.total in
+    let before = g.S.Source.left c.args.source.now in
+    let left = g.S.Source.left c.take_turn.new.source in
+    let none : count ≡ 0 = c.in-Ok-eq0.field-0-test in
+    let same : total + count ≡ total = omega (arith, none) in
+    let Q : ℕ → Type 0 = λ n. Answered o.held o.left left o.said (g.T.Station.said y) last n in
+    let answered = subst Q same turn.answered in
+    let is_all = c.in-Ok-eq0.ensures.all (ap (λ (n : ℕ). Ok n) none) in
+    let goes = stays-then g.T.Station first mid last a b y so_far.goes turn.log in
+    let taken = of-claim g.T.Station mid.end o (FindsNext g.T.Station mid o.left total count b y) b y turn.found
+    (λ e. next-none g.T.Station mid o.left total count b y e) in
+    let F : ℕ → Type 0 = λ n. FindsRead g.T.Station o.held first.end o.left n a y in
+    let read = subst F same
+    (read-more g.T.Station o.held o.left before (g.S.Source.left c.chunks.source) o.said first mid total count a b y
+    asked.1.1.1 asked.1.0 so_far.answered so_far.goes so_far.found taken) in
+    let line = last_line last.pending in
+    let reads = g.S.Source.faults c.args.source.now in
+    let read_now = g.S.Source.faults c.take_turn.new.source in
+    let P : Status → Type 0 = λ s. EndsSession g.T.Station s c.args.limit o first.end left
+    reads read_now a x in
+    subst P (sym c.status_of_end.ensures) (record {
+      ends = end-ends o.held r c.args.limit _ _ _ _ _ last total so_far.within answered is_all c.end_input.ensures.says;
+      counted = counted-behind g.T.Station (end_status r) reads read_now read_now a y x
+          (none-then g.T.Station reads (g.S.Source.faults c.chunks.source) read_now a b y so_far.counted turn.counted)
+          (end-counted g.T.Station r read_now read_now y x refl ended.counted);
+      plain = λ e is. plain-end r (ended.plain (none-stays g.T.Station first last a y goes e)) is;
+      behind = λ is. all-behind g.T.Station o.held o.left before left o.said (g.T.Station.said a) (g.T.Station.said y)
+          first last end total a x asked.1.0 answered is_all
+          (stays-then g.T.Station first last end a y x goes
+          (done-end r (StaysBeside g.T.Station last end y x) is ended.log))
+          (done-end r (end.held.held ≡ (after_lines last.held line).held) is c.end_input.ensures.held);
+      found = of-both g.T.Station first.end o _ a x
+          (λ e. stays-both g.T.Station _ _ _ _
+          (stays-both g.T.Station _ _ _ _ (so_far.disk e)
+          (of-stays g.T.Station mid.end o _ b y turn.found (so_far.plain e)))
+          (end-stays g.T.Station o.held _ _ _ _ _ last total answered is_all
+          (behind-only g.T.Station last.end [] last.held last.number line y x ended.found
+          (none-stays g.T.Station first last a y goes e))))
+          (all-read g.T.Station o.held o.left before left o.said first last total a y x asked.1.1.1 asked.1.0 answered
+          is_all goes read (behind-lines g.T.Station last.end [] last.held last.number line y x ended.found));
+    })
 
-pub returns-in-Err-clause-behind : goal.returns-in-Err-clause-behind
-returns-in-Err-clause-behind g c =
-    λ is. absurd (c.in-Err.ensures.not_done (ap turned is))
+-- a turn ended the session
+pub returns-in-Err : goal.returns-in-Err
+returns-in-Err g c =
+    let o = g.opening in
+    let so_far = c.chunks.invariant in
+    let turn = c.in-Err.ensures.ends in
+    let asked = c.requires.1.1.1.1.1.1.1.1.1 in
+    let first = c.args.feed.now in
+    let mid = c.chunks.feed in
+    let a = c.args.station.now in
+    let b = c.chunks.station in
+    let x = c.take_turn.new.station in
+    let total = c.chunks.total in
+    let rest = of-claim g.T.Station mid.end o (FindsRest g.T.Station mid o.left total b x) b x turn.found
+    (λ e. rest-none g.T.Station mid o.left total b x e) in
+    record {
+      ends = turn.ends;
+      counted = turn-behind (g.S.Source.faults c.args.source.now) a so_far.counted turn;
+      plain = λ e is. turn.plain (so_far.plain e) is;
+      behind = λ is. absurd (turn.not_done is);
+      found = of-both g.T.Station first.end o _ a x
+          (λ e. stays-both g.T.Station _ _ _ _ (so_far.disk e)
+          (of-stays g.T.Station mid.end o _ b x turn.found (so_far.plain e)))
+          (all-rest g.T.Station o.held o.left (g.S.Source.left c.args.source.now) (g.S.Source.left c.chunks.source)
+          o.said first mid total a b x asked.1.1.1 asked.1.0 so_far.answered so_far.goes so_far.found rest);
+    }

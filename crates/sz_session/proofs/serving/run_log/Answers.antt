@@ -5,7 +5,9 @@ use Rattle.sz_recover.specs.Logs.{IsMade}
 use Rattle.sz_commands.specs.Stops.{StopsFinding}
 use Rattle.sz_feed.proofs.Disks.{stops-both}
 use Rattle.sz_commands.proofs.Logged.{opened-log}
-use Rattle.sz_session.proofs.Continuing.{opened, not-failed}
+use Rattle.std.proofs.Common.{refl}
+use Rattle.sz_session.proofs.Ends.{counted-behind}
+use Rattle.sz_session.proofs.Continuing.{opened, not-failed, not-failed-counted}
 use Rattle.sz_session.proofs.serving.run_log.Goals as goal
 
 pub run_on-requires-clause-log : goal.run_on-requires-clause-log
@@ -39,3 +41,20 @@ returns-in-Ok-clause-ends g c =
     (g.S.Source.left c.run_on.new.source) a b x (c.catalogue_of.ensures.disk ∙ c.sync.ensures.disk)
     (c.catalogue_of.ensures.output.0 ∙ c.sync.ensures.output.0) stops (subst M c.sync.ensures.disk c.in-Ok.ensures.made)
     log c.run_on.ensures.ends c.run_on.ensures.behind c.run_on.ensures.found)
+
+-- nor does it count a fault
+pub returns-in-Ok-clause-counted : goal.returns-in-Ok-clause-counted
+returns-in-Ok-clause-counted g c =
+    let a = c.args.station.now in
+    let b = c.catalogue_of.new.station in
+    let reads = g.S.Source.faults c.args.source.now in
+    counted-behind g.T.Station c.run_on.result reads reads (g.S.Source.faults c.run_on.new.source) a b
+    c.run_on.new.station
+    (
+      refl,
+      c.catalogue_of.ensures.output.1 ∙ c.sync.ensures.output.1,
+      c.in-Ok.ensures.counted
+          ∙ not-failed-counted c.sync.result _ _ (sym c.is_err.ensures.value ∙ c.if-is_err.false)
+          c.sync.ensures.counted,
+    )
+    c.run_on.ensures.counted

@@ -5,7 +5,7 @@ use Rattle.std.proofs.lemmas.Result.{on_ok_weaker}
 use Rattle.sz_commands.specs.Logged.{IsLineGroup, IsVersionGroup, IsGroupFor}
 use Rattle.sz_commands.specs.States.{accepted}
 use Rattle.sz_commands.proofs.Appending.{appends-as, line-group, line-makes, nothing-makes, await-idle, await-makes}
-use Rattle.sz_commands.proofs.Appending.{await-group}
+use Rattle.sz_commands.proofs.Appending.{await-group, await-writes}
 use Rattle.sz_commands.proofs.Lasting.{nothing-keeps}
 use Rattle.sz_commands.proofs.Logged.{still-stops}
 use Rattle.sz_commands.proofs.session.Session.accept_on.Goals as goal
@@ -24,6 +24,15 @@ returns-in-Line-clause-appends g c =
     c.args.self.now.end c.add_line.new.self.end c.args.station.now c.add_line.new.station
     (line-group held line c.args.command) added)
     c.add_line.ensures.appends
+
+pub returns-in-Line-clause-written : goal.returns-in-Line-clause-written
+returns-in-Line-clause-written g c =
+    λ fault. line-makes c.args.self.now.held c.in-Line.kind c.args.command c.in-Line.ensures
+
+pub returns-in-Version-clause-written : goal.returns-in-Version-clause-written
+returns-in-Version-clause-written g c =
+    λ fault. await-writes c.args.self.now.held c.args.command c.in-Version.version c.in-Version.ensures
+    (c.add_version.ensures.written fault)
 
 pub returns-in-Version-clause-idle : goal.returns-in-Version-clause-idle
 returns-in-Version-clause-idle g c =

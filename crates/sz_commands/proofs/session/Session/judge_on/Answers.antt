@@ -48,3 +48,10 @@ returns-in-Err-Refused-clause-appends g c =
     let own = rw c.in-Err-Refused.field-0-is at c.in-Err-Refused.ensures in
     let refused = subst (λ (h : Holdings). judged h c.args.command ≡ Some rule) is own in
     λ made. absurd (true≢false (sym made ∙ refused-makes held c.args.command rule refused))
+
+pub returns-in-Ok-clause-written : goal.returns-in-Ok-clause-written
+returns-in-Ok-clause-written g c =
+    let held = c.args.self.now.held in
+    let is : c.self.inside.catalogue ≡ held = ap (λ (x : State). x.held) c.self.view_is in
+    let free = subst (λ (h : Holdings). judged h c.args.command ≡ None) is c.in-Ok.ensures in
+    λ fault. free-makes held c.args.command free ∙ c.accept_on.ensures.written fault

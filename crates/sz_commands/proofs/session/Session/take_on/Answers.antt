@@ -1,10 +1,11 @@
 -- A blank line, one that is read as no command, and an ask leave the log.
-use Rattle.std.proofs.Common.{◌≡◌, Some, refl, sym, ap, ◌∙◌, subst, true≢false}
+use Rattle.std.proofs.Common.{◌≡◌, Some, true, refl, sym, ap, ◌∙◌, subst, true≢false, arith}
 use Rattle.sz_log.specs.Log.{Entry}
+use Rattle.sz_catalogue.specs.Rules.{judged}
 use Rattle.sz_catalogue.specs.Responses.{Response}
 use Rattle.sz_commands.specs.States.{State, apart}
 use Rattle.sz_commands.specs.Given.{Gives, Takes}
-use Rattle.sz_commands.specs.Logged.{held_after, IsGroupFor, IsGroupOf}
+use Rattle.sz_commands.specs.Logged.{held_after, IsGroupFor, IsGroupOf, makes_judged}
 use Rattle.sz_script.specs.Reading.{reading}
 use Rattle.sz_commands.specs.declared.session.Given.{Given}
 use Rattle.sz_commands.specs.declared.session.Given.TheVariants as given
@@ -90,3 +91,15 @@ returns-in_ok-reply-in-Other-clause-appends g c =
     c.args.self.now.end c.judge_on.new.self.end c.args.station.now c.judge_on.new.station
     (λ (e : Entry). read-group held line command e gives.1)
     (c.in_ok-reply-in-Other.ensures.appends (sym (given-makes held line (given.Other command) gives) ∙ made))
+
+-- ---- where the disk failed
+
+pub returns-in_err-reply-in-Other-clause-written : goal.returns-in_err-reply-in-Other-clause-written
+returns-in_err-reply-in-Other-clause-written g c =
+    let held = c.args.self.now.held in
+    let line = c.args.line.now in
+    let command = c.in-Other.command in
+    let gives = subst (λ (x : Given). Gives line x) c.in-Other.is c.requires.gives in
+    λ is.
+    let own : makes_judged held command (judged held command) ≡ true = grind (arith, c.judge_on.ensures.written) in
+    given-makes held line (given.Other command) gives ∙ own

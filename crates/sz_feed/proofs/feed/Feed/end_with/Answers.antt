@@ -1,57 +1,110 @@
 -- The line was answered as it orders, and that was said, or a part of it.
-use Rattle.std.proofs.Common.{List, ℕ, [], ◌∷◌, sym, ap, ◌∙◌, subst}
-use Rattle.sz_feed.specs.Moments.{Moment, told_in}
-use Rattle.sz_feed.specs.Serving.{line_to_say}
-use Rattle.sz_feed.specs.Disks.{OnlySays}
-use Rattle.sz_feed.proofs.Disks.{stays-still}
+use Rattle.std.proofs.Common.{[], ◌∷◌, ap}
+use Rattle.std.specs.Prelude.{Option}
+use Rattle.std.proofs.lemmas.Result.{err_from_is_err_and}
+use Rattle.sz_catalogue.specs.declared.reply.Reply.{Reply}
 use Rattle.sz_commands.proofs.Taking.{takes-responds}
-use Rattle.sz_feed.proofs.Turns.{told-line}
+use Rattle.sz_feed.specs.Moments.{Moment, cut_after, told_in}
+use Rattle.sz_feed.specs.Serving.{line_to_say}
+use Rattle.sz_feed.proofs.Disks.{stays-still}
 use Rattle.sz_feed.proofs.Beside.{in-said, stays-kept, stays-to}
+use Rattle.sz_feed.proofs.Calls.{said-counts, stand-then, same-end, text-none, text-line, behind-of, only-reply}
+use Rattle.sz_feed.proofs.Writing.{line-writes}
+use Rattle.sz_feed.specs.declared.feed.Halt.TheVariants as halt
 use Rattle.sz_feed.proofs.feed.Feed.end_with.Goals as goal
 
-pub returns-in_err-reply-clause-disk : goal.returns-in_err-reply-clause-disk
-returns-in_err-reply-clause-disk g c =
-    λ e. rw (c.take.ensures.disk e)
-    (stays-still g.T.Station (told_in c.args.self.now (10 ∷ [])) c.args.station.now
-    (g.met.T.Station.only_now c.args.station.now) (g.met.T.Station.counts_now c.args.station.now))
+-- the line was not taken
+pub returns-in_err-reply-clause-says : goal.returns-in_err-reply-clause-says
+returns-in_err-reply-clause-says g c =
+    let taken = c.in_err-reply.ensures.taken in
+    let p = err_from_is_err_and c.from_residual.result c.from_residual.ensures.1 in
+    rw (p.1, p.2) (text-none (Option Reply) (Unit {0}) _ _ _ _ taken.output.said taken.silent)
 
-pub returns-in_err-say-clause-found : goal.returns-in_err-say-clause-found
-returns-in_err-say-clause-found g c =
+pub returns-in_err-reply-clause-answered : goal.returns-in_err-reply-clause-answered
+returns-in_err-reply-clause-answered g c =
     let m = c.args.self.now in
-    let r = c.in_ok-reply.reply in
-    in-said g.T.Station m c.take.new.self r _ c.args.station.now c.take.new.station c.say.new.station
-    c.take.ensures.found
-    c.in_ok-reply.ensures.log
-    (takes-responds m.held c.take.new.self.held m.pending c.args.given r c.requires.gives c.in_ok-reply.ensures.reply)
-    (ap (λ (k : Moment). line_to_say k.number r) c.self.view_is) c.take.ensures.output.0 c.say.ensures.disk
+    let a = c.args.station.now in
+    let taken = c.in_err-reply.ensures.taken in
+    let p = err_from_is_err_and c.from_residual.result c.from_residual.ensures.1 in
+    rw (p.1, p.2) (record {
+      counted = taken.counted;
+      plain = λ e is. taken.plain e (same-end (Unit {0}) (Option Reply) _ halt.DiskFault is);
+      written = λ is. line-writes m (taken.written (same-end (Unit {0}) (Option Reply) _ halt.DiskFault is));
+      log = tt;
+      found = behind-of g.T.Station m.end [] m.held m.number (cut_after m (10 ∷ [])).whole a c.take.new.station
+          (λ e. rw (c.take.ensures.taken.still e)
+          (stays-still g.T.Station (told_in m (10 ∷ [])) a (g.met.T.Station.only_now a)
+          (g.met.T.Station.counts_now a)))
+          c.take.ensures.taken.found;
+    })
 
-pub returns-clause-found : goal.returns-clause-found
-returns-clause-found g c =
-    let m = c.args.self.now in
-    let r = c.in_ok-reply.reply in
-    in-said g.T.Station m c.take.new.self r _ c.args.station.now c.take.new.station c.say.new.station
-    c.take.ensures.found
-    c.in_ok-reply.ensures.log
-    (takes-responds m.held c.take.new.self.held m.pending c.args.given r c.requires.gives c.in_ok-reply.ensures.reply)
-    (ap (λ (k : Moment). line_to_say k.number r) c.self.view_is) c.take.ensures.output.0 c.say.ensures.disk
-
-pub returns-clause-disk : goal.returns-clause-disk
-returns-clause-disk g c =
+-- its reply was not said
+pub returns-in_err-say-clause-says : goal.returns-in_err-say-clause-says
+returns-in_err-say-clause-says g c =
     let m = c.args.self.now in
     let r = c.in_ok-reply.reply in
     let replies =
     takes-responds m.held c.take.new.self.held m.pending c.args.given r c.requires.gives c.in_ok-reply.ensures.reply in
-    let told = ap (λ (k : Moment). line_to_say k.number r) c.self.view_is
-    ∙ sym (told-line m c.take.new.self.held r replies) in
-    let P : List ℕ → Type 0 = λ ys. OnlySays g.T.Station ys c.take.new.station c.say.new.station in
-    let says : P (told_in m (10 ∷ [])) = subst P told c.say.ensures.disk in
-    λ e. rw (← c.take.ensures.disk e) says
+    let p = err_from_is_err_and c.from_residual-in_err-say.result c.from_residual-in_err-say.ensures.1 in
+    rw (p.1, p.2)
+    (text-line g.T.Station m c.take.new.self.held r c.args.station.now c.take.new.station c.say.new.station
+    c.in_err-say.ensures.said replies (ap (λ (k : Moment). line_to_say k.number r) c.self.view_is)
+    c.take.ensures.taken.output.said c.in_err-say.ensures.says)
 
-pub returns-clause-log : goal.returns-clause-log
-returns-clause-log g c =
+pub returns-in_err-say-clause-answered : goal.returns-in_err-say-clause-answered
+returns-in_err-say-clause-answered g c =
     let m = c.args.self.now in
+    let a = c.args.station.now in
+    let b = c.take.new.station in
+    let x = c.say.new.station in
     let z = c.take.new.self in
-    stays-to g.T.Station m z c.next_line.new.self c.args.station.now c.say.new.station
-    (ap (λ (k : Moment). k.held) c.next_line.ensures) (ap (λ (k : Moment). k.end) c.next_line.ensures)
-    (stays-kept g.T.Station m z _ c.args.station.now c.take.new.station c.say.new.station c.in_ok-reply.ensures.log
-    c.say.ensures.disk)
+    let r = c.in_ok-reply.reply in
+    let taken = c.in_ok-reply.ensures.taken in
+    let replies = takes-responds m.held z.held m.pending c.args.given r c.requires.gives c.in_ok-reply.ensures.reply in
+    let told = ap (λ (k : Moment). line_to_say k.number r) c.self.view_is in
+    let p = err_from_is_err_and c.from_residual-in_err-say.result c.from_residual-in_err-say.ensures.1 in
+    rw (p.1, p.2) (record {
+      counted = said-counts g.T.Station a b x taken.counted c.in_err-say.ensures.said;
+      plain = λ e is. c.in_err-say.ensures.said.plain is;
+      written = λ is. absurd (c.in_err-say.ensures.said.plain is);
+      log = tt;
+      found = behind-of g.T.Station m.end [] m.held m.number (cut_after m (10 ∷ [])).whole a x
+          (λ e. only-reply g.T.Station m z.held r _ a b x replies told (taken.still e) c.say.ensures.said.found)
+          (in-said g.T.Station m z r _ a b x taken.found taken.log replies told taken.output.said
+          c.say.ensures.said.found);
+    })
+
+-- all was done
+pub returns-clause-says : goal.returns-clause-says
+returns-clause-says g c =
+    let m = c.args.self.now in
+    let r = c.in_ok-reply.reply in
+    let replies =
+    takes-responds m.held c.take.new.self.held m.pending c.args.given r c.requires.gives c.in_ok-reply.ensures.reply in
+    text-line g.T.Station m c.take.new.self.held r c.args.station.now c.take.new.station c.say.new.station
+    c.in_ok-say.ensures.said replies (ap (λ (k : Moment). line_to_say k.number r) c.self.view_is)
+    c.take.ensures.taken.output.said c.in_ok-say.ensures.says
+
+pub returns-clause-answered : goal.returns-clause-answered
+returns-clause-answered g c =
+    let m = c.args.self.now in
+    let a = c.args.station.now in
+    let b = c.take.new.station in
+    let x = c.say.new.station in
+    let z = c.take.new.self in
+    let r = c.in_ok-reply.reply in
+    let taken = c.in_ok-reply.ensures.taken in
+    let replies = takes-responds m.held z.held m.pending c.args.given r c.requires.gives c.in_ok-reply.ensures.reply in
+    let told = ap (λ (k : Moment). line_to_say k.number r) c.self.view_is in
+    record {
+      counted = stand-then g.T.Station a b x taken.counted c.in_ok-say.ensures.said.counted;
+      plain = λ e is. cc;
+      written = λ is. cc;
+      log = stays-to g.T.Station m z c.next_line.new.self a x (ap (λ (k : Moment). k.held) c.next_line.ensures)
+          (ap (λ (k : Moment). k.end) c.next_line.ensures)
+          (stays-kept g.T.Station m z _ a b x taken.log c.say.ensures.said.found);
+      found = behind-of g.T.Station m.end [] m.held m.number (cut_after m (10 ∷ [])).whole a x
+          (λ e. only-reply g.T.Station m z.held r _ a b x replies told (taken.still e) c.say.ensures.said.found)
+          (in-said g.T.Station m z r _ a b x taken.found taken.log replies told taken.output.said
+          c.say.ensures.said.found);
+    }

@@ -1,182 +1,179 @@
 -- Each turn takes in the bytes up to a byte 10 and that byte: the turns so far and this one are the chunk's front.
 use Rattle.std.proofs.Common.{◌≡◌, ℕ, ◌+◌, ◌-◌, List, [], ◌∷◌, ◌++◌, take, drop, length}
-use Rattle.std.proofs.Common.{refl, subst, ap, sym, ◌∙◌, arith}
+use Rattle.std.proofs.Common.{refl, subst, ap, sym, ◌∙◌, arith, None}
 use Rattle.std.proofs.lemmas.List.{take-append-drop, take_rest}
 use Rattle.std.proofs.lemmas.Result.{on_ok_weaker, err_from_is_err_and}
-use Rattle.sz_outside.specs.Outside.{SaysPart}
 use Rattle.sz_feed.specs.Moments.{Moment, told_in, cut_after}
-use Rattle.sz_feed.specs.Serving.{Advances, SaysFirst}
+use Rattle.sz_feed.specs.Serving.{Advances}
 use Rattle.sz_feed.specs.Disks.{OnlySays}
 use Rattle.sz_feed.specs.Waiting.{Waits}
-use Rattle.sz_feed.proofs.Turns.{part-more, take-line}
-use Rattle.sz_feed.proofs.Disks.{stays-still, only-front}
-use Rattle.sz_feed.proofs.Waiting.{waits-nothing, waits-more, waits-line, waits-said, waits-part, waits-some}
-use Rattle.sz_feed.proofs.Waiting.{first-line}
-use Rattle.sz_feed.proofs.Waiting.{first-taken, first-quiet, says-part, says-whole, says-stopped, only-waiting}
-use Rattle.sz_feed.proofs.Waiting.{only-rest}
-use Rattle.sz_feed.specs.Running.{StaysBeside, FindsIn}
+use Rattle.sz_feed.specs.Running.{StaysBeside}
+use Rattle.sz_feed.specs.Calls.{SaysReplies, WritesOne}
+use Rattle.sz_feed.proofs.Turns.{take-line}
+use Rattle.sz_feed.proofs.Disks.{stays-still}
+use Rattle.sz_feed.proofs.Waiting.{waits-nothing, waits-more, waits-line, waits-said, first-taken, only-rest}
+use Rattle.sz_feed.proofs.Waiting.{replies-line, replies-front, replies-rest}
 use Rattle.sz_feed.proofs.Beside.{stays-same, stays-then, stays-from, stays-to, stays-rest, none-stays, is-again}
-use Rattle.sz_feed.proofs.Beside.{in-still, in-waits, in-more, in-front, in-rest, some-always, idle-moved}
+use Rattle.sz_feed.proofs.Beside.{in-still, in-front, in-rest, some-always, idle-moved}
+use Rattle.sz_feed.proofs.Calls.{went_on, counts-then, text-whole, behind-of, behind-only, behind-lines, behind-front}
+use Rattle.sz_feed.proofs.Calls.{behind-next, answered-counts, replies-memory, answered-memory}
+use Rattle.sz_feed.proofs.Writing.{writes-front, writes-next}
 use Rattle.sz_feed.proofs.feed.Feed.take_chunk.Goals as goal
 
 pub loop-at-init : goal.loop-at-init
-loop-at-init g c = record {
-  within = omega arith;
-  waits = waits-nothing (g.T.Station.said c.args.station.now) c.args.self.now c.new-waiting.result.items
-      c.new-waiting.ensures.items;
-  asks = rw c.new-waiting.ensures.items tt;
-  few = omega (arith, ap length c.new-waiting.ensures.items);
-  number = omega arith;
-  disk = λ e. stays-still g.T.Station _ c.args.station.now (g.met.T.Station.only_now c.args.station.now)
-      (g.met.T.Station.counts_now c.args.station.now);
-  goes = stays-same g.T.Station c.args.self.now c.args.self.now c.args.station.now refl refl c.requires.log;
-  log = c.requires.log;
-  found = in-still g.T.Station c.args.self.now [] c.args.station.now c.requires.log
-      (g.met.T.Station.only_now c.args.station.now) (g.met.T.Station.counts_now c.args.station.now);
-  idle = some-always c.args.self.now.end _ c.new-waiting.ensures.items;
-  disk_quiet = refl;
-  quiet = refl;
-}
+loop-at-init g c =
+    let m = c.args.self.now in
+    let a = c.args.station.now in
+    let none = c.new-waiting.ensures.items in
+    record {
+      within = omega arith;
+      waits = waits-nothing (g.T.Station.said a) m c.new-waiting.result.items none;
+      waiting = record {
+        asks = rw none tt;
+        few = omega (arith, ap length none);
+        idle = some-always m.end _ none;
+      };
+      number = omega arith;
+      log = c.requires.log;
+      answered = record {
+        counted = (refl, refl);
+        plain = λ e is. cc;
+        written = λ is. cc;
+        log = stays-same g.T.Station m m a refl refl c.requires.log;
+        found = behind-of g.T.Station m.end [] m.held m.number (cut_after m []).whole a a
+            (λ e. stays-still g.T.Station _ a (g.met.T.Station.only_now a) (g.met.T.Station.counts_now a))
+            (in-still g.T.Station m [] a c.requires.log (g.met.T.Station.only_now a) (g.met.T.Station.counts_now a));
+      };
+    }
 
 pub loop-at-preserved : goal.loop-at-preserved
 loop-at-preserved g c =
     let found = c.in-Some.ensures in
+    let m = c.args.self.now in
+    let l = c.loop-at.self in
+    let k = c.extend.new.self in
+    let n = c.take_line.new.self in
+    let a = c.args.station.now in
+    let b = c.loop-at.station in
+    let x = c.take_line.new.station in
     let xs = c.args.chunk.now in
-    let s = g.T.Station.said c.args.station.now in
-    let t = g.T.Station.said c.loop-at.station in
-    let u = g.T.Station.said c.take_line.new.station in
-    let waited = waits-more s t c.args.self.now c.loop-at.self c.extend.new.self (take c.loop-at.start xs)
-    (take (c.in-Some.at - c.loop-at.start) (drop c.loop-at.start xs)) c.loop-at.waiting.items
-    c.loop-at.invariant.waits c.in_ok-extend.ensures.takes c.extend.ensures.held in
-    let next = waits-line s t u c.args.self.now c.extend.new.self c.take_line.new.self _ c.loop-at.waiting.items
-    c.take_line.new.waiting.items waited c.in_ok-take_line.ensures.lags c.in_ok-take_line.ensures.says in
+    let so_far = c.loop-at.invariant in
+    let line = c.in_ok-take_line.ensures in
+    let waited = waits-more (g.T.Station.said a) (g.T.Station.said b) m l k (take c.loop-at.start xs)
+    (take (c.in-Some.at - c.loop-at.start) (drop c.loop-at.start xs)) c.loop-at.waiting.items so_far.waits
+    c.in_ok-extend.ensures.takes c.extend.ensures.held in
+    let next = waits-line (g.T.Station.said a) (g.T.Station.said b) (g.T.Station.said x) m k n _ c.loop-at.waiting.items
+    c.take_line.new.waiting.items waited line.lags line.says in
     let Q : List ℕ → Type 0 =
-    λ bytes. Waits s u c.args.self.now c.take_line.new.self bytes c.take_line.new.waiting.items in
+    λ bytes. Waits (g.T.Station.said a) (g.T.Station.said x) m n bytes c.take_line.new.waiting.items in
     let grown = c.in_ok-extend.ensures.number in
-    let goes : StaysBeside g.T.Station c.args.self.now c.take_line.new.self c.args.station.now c.take_line.new.station =
-    stays-then g.T.Station c.args.self.now c.loop-at.self c.take_line.new.self c.args.station.now c.loop-at.station
-    c.take_line.new.station c.loop-at.invariant.goes
-    (stays-from g.T.Station c.loop-at.self c.extend.new.self c.take_line.new.self c.loop-at.station
-    c.take_line.new.station c.extend.ensures.held c.extend.ensures.end c.in_ok-take_line.ensures.log) in
-    let F : List ℕ → Type 0 = λ ys. FindsIn g.T.Station c.args.self.now ys c.args.station.now c.take_line.new.station in
+    let goes : StaysBeside g.T.Station m n a x =
+    stays-then g.T.Station m l n a b x so_far.answered.log
+    (stays-from g.T.Station l k n b x c.extend.ensures.held c.extend.ensures.end line.answered.log) in
     record {
       within = omega (arith, found.1);
       waits = subst Q (take-line xs c.loop-at.start c.in-Some.at found.0 found.1 found.2) next;
-      asks = c.in_ok-take_line.ensures.asks;
-      few = c.in_ok-take_line.ensures.few;
-      number = omega (arith, found.0, grown, c.in_ok-take_line.ensures.next, c.loop-at.invariant.number);
-      goes = goes;
-      log = is-again g.T.Station c.args.self.now c.take_line.new.self c.args.station.now c.take_line.new.station
-          c.requires.log goes;
-      found = subst F (take-line xs c.loop-at.start c.in-Some.at found.0 found.1 found.2)
-          (in-waits g.T.Station c.args.self.now c.extend.new.self _ (10 ∷ []) c.loop-at.waiting.items c.args.station.now
-          c.loop-at.station c.take_line.new.station
-          (in-more g.T.Station c.args.self.now (take c.loop-at.start xs) _ c.args.station.now c.loop-at.station
-          c.loop-at.invariant.found) waited
-          (idle-moved c.loop-at.self.end c.extend.new.self.end _ c.extend.ensures.end c.loop-at.invariant.idle)
-          (stays-to g.T.Station c.args.self.now c.loop-at.self c.extend.new.self c.args.station.now c.loop-at.station
-          c.extend.ensures.held c.extend.ensures.end c.loop-at.invariant.goes) c.take_line.ensures.found);
-      idle = c.in_ok-take_line.ensures.idle;
-      disk_quiet = c.in_ok-take_line.ensures.disk_quiet ∙ c.loop-at.invariant.disk_quiet;
-      disk = λ e. only-waiting g.T.Station c.args.station.now c.loop-at.station c.take_line.new.station c.args.self.now
-          c.loop-at.self c.extend.new.self xs c.loop-at.start c.in-Some.at c.loop-at.waiting.items found.0 found.1
-          found.2 (c.loop-at.invariant.disk e) waited
-          (c.take_line.ensures.disk (c.extend.ensures.end
-          ∙ none-stays g.T.Station c.args.self.now c.loop-at.self c.args.station.now c.loop-at.station
-          c.loop-at.invariant.goes e));
-      quiet = c.in_ok-take_line.ensures.quiet ∙ c.loop-at.invariant.quiet;
+      waiting = line.waiting;
+      number = omega (arith, found.0, grown, line.next, so_far.number);
+      log = is-again g.T.Station m n a x c.requires.log goes;
+      answered = record {
+        counted = counts-then g.T.Station went_on a b x so_far.answered.counted line.answered.counted;
+        plain = λ e is. cc;
+        written = λ is. cc;
+        log = goes;
+        found = behind-next g.T.Station m k xs c.loop-at.start c.in-Some.at c.loop-at.waiting.items a b x found.0
+            found.1 found.2 so_far.answered.found waited
+            (idle-moved l.end k.end _ c.extend.ensures.end so_far.waiting.idle)
+            (stays-to g.T.Station m l k a b c.extend.ensures.held c.extend.ensures.end so_far.answered.log)
+            line.answered.found;
+      };
     }
 
 -- where memory is refused, every line that ended so far was answered, but for asks that wait
-pub returns-in_err-extend-clause-first : goal.returns-in_err-extend-clause-first
-returns-in_err-extend-clause-first g c =
-    λ e. first-taken _ _ c.args.self.now c.args.chunk.now c.loop-at.start c.loop-at.invariant.waits.first
+pub returns-in_err-extend-clause-says : goal.returns-in_err-extend-clause-says
+returns-in_err-extend-clause-says g c =
+    let p = err_from_is_err_and c.from_residual.result c.from_residual.ensures.1 in
+    rw (p.1, p.2)
+    (replies-memory _ _ _ _ _ _ c.in_err-extend.ensures.err
+    (first-taken _ _ c.args.self.now c.args.chunk.now c.loop-at.start c.loop-at.invariant.waits.first))
 
-pub returns-in_err-extend-2-clause-first : goal.returns-in_err-extend-2-clause-first
-returns-in_err-extend-2-clause-first g c =
-    λ e. first-taken _ _ c.args.self.now c.args.chunk.now c.loop-at.start c.loop-at.invariant.waits.first
+pub returns-in_err-extend-clause-answered : goal.returns-in_err-extend-clause-answered
+returns-in_err-extend-clause-answered g c =
+    let so_far = c.loop-at.invariant.answered in
+    let p = err_from_is_err_and c.from_residual.result c.from_residual.ensures.1 in
+    rw (p.1, p.2)
+    (answered-memory g.T.Station _ c.args.self.now _ [] _ c.args.station.now c.loop-at.station
+    c.in_err-extend.ensures.err so_far.counted
+    (behind-front g.T.Station c.args.self.now c.args.chunk.now c.loop-at.start c.args.station.now c.loop-at.station
+    so_far.found))
 
-pub returns-in_err-take_line-clause-first : goal.returns-in_err-take_line-clause-first
-returns-in_err-take_line-clause-first g c =
+pub returns-in_err-extend-2-clause-says : goal.returns-in_err-extend-2-clause-says
+returns-in_err-extend-2-clause-says g c =
+    let p = err_from_is_err_and c.from_residual-in_err-extend-2.result c.from_residual-in_err-extend-2.ensures.1 in
+    rw (p.1, p.2)
+    (replies-memory _ _ _ _ _ _ c.in_err-extend-2.ensures.err
+    (first-taken _ _ c.args.self.now c.args.chunk.now c.loop-at.start c.loop-at.invariant.waits.first))
+
+pub returns-in_err-extend-2-clause-answered : goal.returns-in_err-extend-2-clause-answered
+returns-in_err-extend-2-clause-answered g c =
+    let so_far = c.loop-at.invariant.answered in
+    let p = err_from_is_err_and c.from_residual-in_err-extend-2.result c.from_residual-in_err-extend-2.ensures.1 in
+    rw (p.1, p.2)
+    (answered-memory g.T.Station _ c.args.self.now _ [] _ c.args.station.now c.loop-at.station
+    c.in_err-extend-2.ensures.err so_far.counted
+    (behind-front g.T.Station c.args.self.now c.args.chunk.now c.loop-at.start c.args.station.now c.loop-at.station
+    so_far.found))
+
+-- where a line could not be taken in, so many of those that ended with it were answered
+pub returns-in_err-take_line-clause-says : goal.returns-in_err-take_line-clause-says
+returns-in_err-take_line-clause-says g c =
     let found = c.in-Some.ensures in
+    let m = c.args.self.now in
+    let k = c.extend.new.self in
     let xs = c.args.chunk.now in
     let s = g.T.Station.said c.args.station.now in
     let t = g.T.Station.said c.loop-at.station in
     let u = g.T.Station.said c.take_line.new.station in
-    let waited = waits-more s t c.args.self.now c.loop-at.self c.extend.new.self (take c.loop-at.start xs)
+    let waited = waits-more s t m c.loop-at.self k (take c.loop-at.start xs)
     (take (c.in-Some.at - c.loop-at.start) (drop c.loop-at.start xs)) c.loop-at.waiting.items
     c.loop-at.invariant.waits c.in_ok-extend.ensures.takes c.extend.ensures.held in
-    let Q : List ℕ → Type 0 = λ bytes.
-    SaysFirst s u c.args.self.now.held c.args.self.now.number (cut_after c.args.self.now bytes).whole in
+    let says = replies-line _ s t u m k _ c.loop-at.waiting.items waited c.in_err-take_line.ensures.says in
+    let whole = take-line xs c.loop-at.start c.in-Some.at found.0 found.1 found.2 in
     let p = err_from_is_err_and c.from_residual-in_err-take_line.result c.from_residual-in_err-take_line.ensures.1 in
-    rw (p.1, p.2) (λ e. first-taken s u c.args.self.now xs (c.in-Some.at + 1)
-    (subst Q (take-line xs c.loop-at.start c.in-Some.at found.0 found.1 found.2)
-    (first-line s t u c.args.self.now c.extend.new.self _ c.loop-at.waiting.items waited
-    (says-whole _ _ _ _ _ c.in_err-take_line.ensures.says e))))
+    rw (p.1, p.2) (replies-front _ s u m xs (c.in-Some.at + 1) (rw (← whole) says))
 
--- and where the disk failed too
-pub returns-in_err-take_line-clause-stopped : goal.returns-in_err-take_line-clause-stopped
-returns-in_err-take_line-clause-stopped g c =
+pub returns-in_err-take_line-clause-answered : goal.returns-in_err-take_line-clause-answered
+returns-in_err-take_line-clause-answered g c =
     let found = c.in-Some.ensures in
+    let m = c.args.self.now in
+    let l = c.loop-at.self in
+    let k = c.extend.new.self in
+    let a = c.args.station.now in
+    let b = c.loop-at.station in
+    let x = c.take_line.new.station in
     let xs = c.args.chunk.now in
-    let s = g.T.Station.said c.args.station.now in
-    let t = g.T.Station.said c.loop-at.station in
-    let u = g.T.Station.said c.take_line.new.station in
-    let waited = waits-more s t c.args.self.now c.loop-at.self c.extend.new.self (take c.loop-at.start xs)
-    (take (c.in-Some.at - c.loop-at.start) (drop c.loop-at.start xs)) c.loop-at.waiting.items
-    c.loop-at.invariant.waits c.in_ok-extend.ensures.takes c.extend.ensures.held in
-    let Q : List ℕ → Type 0 = λ bytes.
-    SaysFirst s u c.args.self.now.held c.args.self.now.number (cut_after c.args.self.now bytes).whole in
+    let so_far = c.loop-at.invariant in
+    let line = c.in_err-take_line.ensures.answered in
+    let waited = waits-more (g.T.Station.said a) (g.T.Station.said b) m l k (take c.loop-at.start xs)
+    (take (c.in-Some.at - c.loop-at.start) (drop c.loop-at.start xs)) c.loop-at.waiting.items so_far.waits
+    c.in_ok-extend.ensures.takes c.extend.ensures.held in
+    let W : List ℕ → Type 0 = λ bytes. WritesOne m.held (cut_after m bytes).whole in
     let p = err_from_is_err_and c.from_residual-in_err-take_line.result c.from_residual-in_err-take_line.ensures.1 in
-    rw (p.1, p.2) (λ e. first-taken s u c.args.self.now xs (c.in-Some.at + 1)
-    (subst Q (take-line xs c.loop-at.start c.in-Some.at found.0 found.1 found.2)
-    (first-line s t u c.args.self.now c.extend.new.self _ c.loop-at.waiting.items waited
-    (says-stopped _ _ _ _ _ c.in_err-take_line.ensures.says e))))
-
--- where a say fails, a first part of what was to be said next was said
-pub returns-in_err-take_line-clause-part : goal.returns-in_err-take_line-clause-part
-returns-in_err-take_line-clause-part g c =
-    let found = c.in-Some.ensures in
-    let xs = c.args.chunk.now in
-    let s = g.T.Station.said c.args.station.now in
-    let t = g.T.Station.said c.loop-at.station in
-    let u = g.T.Station.said c.take_line.new.station in
-    let waited = waits-more s t c.args.self.now c.loop-at.self c.extend.new.self (take c.loop-at.start xs)
-    (take (c.in-Some.at - c.loop-at.start) (drop c.loop-at.start xs)) c.loop-at.waiting.items
-    c.loop-at.invariant.waits c.in_ok-extend.ensures.takes c.extend.ensures.held in
-    let Q : List ℕ → Type 0 = λ bytes. SaysPart s u (told_in c.args.self.now bytes) in
-    let p = err_from_is_err_and c.from_residual-in_err-take_line.result c.from_residual-in_err-take_line.ensures.1 in
-    rw (p.1, p.2) (λ e. subst Q (take-append-drop (c.in-Some.at + 1) xs)
-    (part-more s u c.args.self.now (take (c.in-Some.at + 1) xs) (drop (c.in-Some.at + 1) xs)
-    (subst Q (take-line xs c.loop-at.start c.in-Some.at found.0 found.1 found.2)
-    (waits-part s t u c.args.self.now c.extend.new.self _ (10 ∷ []) c.loop-at.waiting.items waited
-    (says-part _ _ _ _ _ c.in_err-take_line.ensures.says e)))))
-
--- the disk
-pub returns-in_err-extend-clause-disk : goal.returns-in_err-extend-clause-disk
-returns-in_err-extend-clause-disk g c =
-    λ e. only-front g.T.Station _ _ c.args.self.now c.args.chunk.now c.loop-at.start (c.loop-at.invariant.disk e)
-
-pub returns-in_err-extend-2-clause-disk : goal.returns-in_err-extend-2-clause-disk
-returns-in_err-extend-2-clause-disk g c =
-    λ e. only-front g.T.Station _ _ c.args.self.now c.args.chunk.now c.loop-at.start (c.loop-at.invariant.disk e)
-
-pub returns-in_err-take_line-clause-disk : goal.returns-in_err-take_line-clause-disk
-returns-in_err-take_line-clause-disk g c =
-    let found = c.in-Some.ensures in
-    let xs = c.args.chunk.now in
-    let waited = waits-more (g.T.Station.said c.args.station.now) (g.T.Station.said c.loop-at.station) c.args.self.now
-    c.loop-at.self c.extend.new.self (take c.loop-at.start xs)
-    (take (c.in-Some.at - c.loop-at.start) (drop c.loop-at.start xs)) c.loop-at.waiting.items
-    c.loop-at.invariant.waits c.in_ok-extend.ensures.takes c.extend.ensures.held in
-    λ e. only-front g.T.Station _ _ c.args.self.now xs (c.in-Some.at + 1)
-    (only-waiting g.T.Station c.args.station.now c.loop-at.station c.take_line.new.station
-    c.args.self.now c.loop-at.self
-    c.extend.new.self xs c.loop-at.start c.in-Some.at c.loop-at.waiting.items found.0 found.1 found.2
-    (c.loop-at.invariant.disk e) waited
-    (c.take_line.ensures.disk (c.extend.ensures.end
-    ∙ none-stays g.T.Station c.args.self.now c.loop-at.self c.args.station.now c.loop-at.station
-    c.loop-at.invariant.goes e)))
+    rw (p.1, p.2) (record {
+      counted = answered-counts g.T.Station a b x so_far.answered.counted line;
+      plain = λ e. line.plain (c.extend.ensures.end ∙ none-stays g.T.Station m l a b so_far.answered.log e);
+      written = λ is. writes-front m xs (c.in-Some.at + 1)
+          (subst W (take-line xs c.loop-at.start c.in-Some.at found.0 found.1 found.2)
+          (writes-next m k _ c.loop-at.waiting.items (g.T.Station.said a) (g.T.Station.said b) waited
+          (line.written is)));
+      log = tt;
+      found = behind-front g.T.Station m xs (c.in-Some.at + 1) a x
+          (behind-next g.T.Station m k xs c.loop-at.start c.in-Some.at c.loop-at.waiting.items a b x found.0 found.1
+          found.2 so_far.answered.found waited
+          (idle-moved l.end k.end _ c.extend.ensures.end so_far.waiting.idle)
+          (stays-to g.T.Station m l k a b c.extend.ensures.held c.extend.ensures.end so_far.answered.log)
+          line.found);
+    })
 
 -- what is left of the chunk is of the line that has not ended, and what waits is said
 pub returns-clause-chunk : goal.returns-clause-chunk
@@ -194,91 +191,60 @@ returns-clause-chunk g c =
     on_ok_weaker c.say_waiting.result
     (λ says. subst M (sym c.say_waiting.ensures.same)
     (subst Q whole (waits-said s t u c.args.self.now c.extend-2.new.self _ c.loop-at.waiting.items waited says)))
-    c.say_waiting.ensures.said
+    (text-whole c.say_waiting.result t u _ c.say_waiting.ensures.says)
 
-pub returns-clause-part : goal.returns-clause-part
-returns-clause-part g c =
+pub returns-clause-says : goal.returns-clause-says
+returns-clause-says g c =
     let xs = c.args.chunk.now in
+    let m = c.args.self.now in
     let s = g.T.Station.said c.args.station.now in
     let t = g.T.Station.said c.loop-at.station in
     let u = g.T.Station.said c.say_waiting.new.station in
     let whole = ap (λ (ys : List ℕ). take c.loop-at.start xs ++ ys) (take_rest xs c.loop-at.start)
     ∙ take-append-drop c.loop-at.start xs in
-    let waited = waits-more s t c.args.self.now c.loop-at.self c.extend-2.new.self (take c.loop-at.start xs) _
+    let waited = waits-more s t m c.loop-at.self c.extend-2.new.self (take c.loop-at.start xs) _
     c.loop-at.waiting.items c.loop-at.invariant.waits c.in_ok-extend-2.ensures.takes c.extend-2.ensures.held in
-    let Q : List ℕ → Type 0 = λ bytes. SaysPart s u (told_in c.args.self.now bytes) in
-    λ e. subst Q whole
-    (waits-some s t u c.args.self.now c.extend-2.new.self _ c.loop-at.waiting.items waited
-    (c.say_waiting.ensures.part e))
+    let Q : List ℕ → Type 0 =
+    λ bytes. SaysReplies c.say_waiting.result s u m.held m.number (cut_after m bytes).whole in
+    subst Q whole
+    (replies-rest c.say_waiting.result s t u m c.extend-2.new.self _ c.loop-at.waiting.items waited
+    c.say_waiting.ensures.says)
 
-pub returns-clause-first : goal.returns-clause-first
-returns-clause-first g c =
-    let s = g.T.Station.said c.args.station.now in
-    let t = g.T.Station.said c.loop-at.station in
-    let u = g.T.Station.said c.say_waiting.new.station in
-    λ e. first-taken s u c.args.self.now c.args.chunk.now c.loop-at.start
-    (first-quiet s t u c.args.self.now _ c.loop-at.invariant.waits.first (c.say_waiting.ensures.nothing e))
-
-pub returns-clause-disk : goal.returns-clause-disk
-returns-clause-disk g c =
+pub returns-clause-answered : goal.returns-clause-answered
+returns-clause-answered g c =
     let xs = c.args.chunk.now in
+    let m = c.args.self.now in
+    let l = c.loop-at.self in
+    let k = c.extend-2.new.self in
+    let a = c.args.station.now in
+    let b = c.loop-at.station in
+    let x = c.say_waiting.new.station in
+    let r = c.say_waiting.result in
+    let Idle = c.loop-at.waiting.items ≡ [] in
+    let idle = c.loop-at.invariant.waiting.idle in
+    let so_far = c.loop-at.invariant.answered in
+    let front = (cut_after m (take c.loop-at.start xs)).whole in
     let whole = ap (λ (ys : List ℕ). take c.loop-at.start xs ++ ys) (take_rest xs c.loop-at.start)
     ∙ take-append-drop c.loop-at.start xs in
-    let waited = waits-more (g.T.Station.said c.args.station.now) (g.T.Station.said c.loop-at.station) c.args.self.now
-    c.loop-at.self c.extend-2.new.self (take c.loop-at.start xs) _ c.loop-at.waiting.items c.loop-at.invariant.waits
-    c.in_ok-extend-2.ensures.takes c.extend-2.ensures.held in
-    let Q : List ℕ → Type 0 = λ bytes.
-    OnlySays g.T.Station (told_in c.args.self.now bytes) c.args.station.now c.say_waiting.new.station in
-    λ e. subst Q whole
-    (only-rest g.T.Station c.args.station.now c.loop-at.station c.say_waiting.new.station c.args.self.now
-    c.extend-2.new.self (take c.loop-at.start xs) _ c.loop-at.waiting.items (c.loop-at.invariant.disk e) waited
-    c.say_waiting.ensures.disk)
-
--- the log
-pub returns-in_err-extend-clause-found : goal.returns-in_err-extend-clause-found
-returns-in_err-extend-clause-found g c =
-    in-front g.T.Station c.args.self.now c.args.chunk.now c.loop-at.start _ _ c.loop-at.invariant.found
-
-pub returns-in_err-extend-2-clause-found : goal.returns-in_err-extend-2-clause-found
-returns-in_err-extend-2-clause-found g c =
-    in-front g.T.Station c.args.self.now c.args.chunk.now c.loop-at.start _ _ c.loop-at.invariant.found
-
-pub returns-in_err-take_line-clause-found : goal.returns-in_err-take_line-clause-found
-returns-in_err-take_line-clause-found g c =
-    let found = c.in-Some.ensures in
-    let xs = c.args.chunk.now in
-    let waited = waits-more (g.T.Station.said c.args.station.now) (g.T.Station.said c.loop-at.station) c.args.self.now
-    c.loop-at.self c.extend.new.self (take c.loop-at.start xs)
-    (take (c.in-Some.at - c.loop-at.start) (drop c.loop-at.start xs)) c.loop-at.waiting.items
-    c.loop-at.invariant.waits c.in_ok-extend.ensures.takes c.extend.ensures.held in
-    let F : List ℕ → Type 0 = λ ys. FindsIn g.T.Station c.args.self.now ys c.args.station.now c.take_line.new.station in
-    in-front g.T.Station c.args.self.now xs (c.in-Some.at + 1) c.args.station.now c.take_line.new.station
-    (subst F (take-line xs c.loop-at.start c.in-Some.at found.0 found.1 found.2)
-    (in-waits g.T.Station c.args.self.now c.extend.new.self _ (10 ∷ []) c.loop-at.waiting.items c.args.station.now
-    c.loop-at.station c.take_line.new.station
-    (in-more g.T.Station c.args.self.now (take c.loop-at.start xs) _ c.args.station.now c.loop-at.station
-    c.loop-at.invariant.found) waited
-    (idle-moved c.loop-at.self.end c.extend.new.self.end _ c.extend.ensures.end c.loop-at.invariant.idle)
-    (stays-to g.T.Station c.args.self.now c.loop-at.self c.extend.new.self c.args.station.now c.loop-at.station
-    c.extend.ensures.held c.extend.ensures.end c.loop-at.invariant.goes) c.take_line.ensures.found))
-
-pub returns-clause-found : goal.returns-clause-found
-returns-clause-found g c =
-    in-rest g.T.Station c.args.self.now c.loop-at.self (c.loop-at.waiting.items ≡ []) c.args.chunk.now
-    c.args.station.now c.loop-at.station c.say_waiting.new.station
-    (in-front g.T.Station c.args.self.now c.args.chunk.now c.loop-at.start c.args.station.now c.loop-at.station
-    c.loop-at.invariant.found) c.loop-at.invariant.goes c.loop-at.invariant.idle c.say_waiting.ensures.idle
-
-pub returns-clause-log : goal.returns-clause-log
-returns-clause-log g c =
-    let M : Moment → Type 0 =
-    λ m. StaysBeside g.T.Station c.args.self.now m c.args.station.now c.say_waiting.new.station in
-    on_ok_weaker c.say_waiting.result
-    (λ none. subst M (sym c.say_waiting.ensures.same)
-    (stays-to g.T.Station c.args.self.now c.loop-at.self c.extend-2.new.self c.args.station.now
-    c.say_waiting.new.station
-    c.extend-2.ensures.held c.extend-2.ensures.end
-    (stays-rest g.T.Station c.args.self.now c.loop-at.self (c.loop-at.waiting.items ≡ []) c.args.station.now
-    c.loop-at.station c.say_waiting.new.station c.loop-at.invariant.goes c.loop-at.invariant.idle
-    c.say_waiting.ensures.idle)))
-    c.say_waiting.ensures.none
+    let waited = waits-more (g.T.Station.said a) (g.T.Station.said b) m l k (take c.loop-at.start xs) _
+    c.loop-at.waiting.items c.loop-at.invariant.waits c.in_ok-extend-2.ensures.takes c.extend-2.ensures.held in
+    let O : List ℕ → Type 0 = λ bytes. OnlySays g.T.Station (told_in m bytes) a x in
+    let S : Moment → Type 0 = λ n. StaysBeside g.T.Station m n a x in
+    let goes = subst S (sym c.say_waiting.ensures.same)
+    (stays-to g.T.Station m l k a x c.extend-2.ensures.held c.extend-2.ensures.end
+    (stays-rest g.T.Station m l Idle a b x so_far.log idle c.say_waiting.ensures.idle)) in
+    record {
+      counted = counts-then g.T.Station r a b x so_far.counted c.say_waiting.ensures.said.counted;
+      plain = λ e is. c.say_waiting.ensures.said.plain is;
+      written = λ is. absurd (c.say_waiting.ensures.said.plain is);
+      log = on_ok_weaker r (λ none. goes) c.say_waiting.ensures.none;
+      found = behind-of g.T.Station m.end [] m.held m.number (cut_after m xs).whole a x
+          (λ e. subst O whole
+          (only-rest g.T.Station a b x m k (take c.loop-at.start xs) _ c.loop-at.waiting.items
+          (behind-only g.T.Station m.end [] m.held m.number front a b so_far.found e) waited
+          c.say_waiting.ensures.said.found))
+          (in-rest g.T.Station m l Idle xs a b x
+          (in-front g.T.Station m xs c.loop-at.start a b
+          (behind-lines g.T.Station m.end [] m.held m.number front a b so_far.found))
+          so_far.log idle c.say_waiting.ensures.idle);
+    }
