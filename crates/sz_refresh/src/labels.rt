@@ -16,7 +16,7 @@ ghost use Rattle.sz_ops_region.specs.Regions.{is_regions};
 ghost use Rattle.sz_refresh.specs.Changes.{reaches};
 ghost use Rattle.sz_refresh.specs.Names.{first_of};
 
-use crate::named::{add_named, named};
+use crate::named::{add_named, least_of, named};
 use std::alloc::Global;
 use std::sync::Arc;
 use sz_cells::{Cell, CellBits, NoMemory};
@@ -24,9 +24,10 @@ use sz_region::add_cell;
 use sz_spec::{Array, OpAt};
 
 /// Adds the cells that are related to a cell of a set, by the old input or by the new one, given
-/// the labels of both.
+/// the labels of both. A label names no later cell than its own, so nothing is looked at before the
+/// first cell that is named.
 ///
-/// Takes time in the number of the array's cells, and memory for two bitmaps.
+/// Takes time in the number of the array's cells from there on, and memory for two bitmaps.
 pub(crate) fn add_joined(
     alloc: Global,
     at: &OpAt,
@@ -51,9 +52,11 @@ pub(crate) fn add_joined(
     to.shape();
     let old_firsts = firsts_of(alloc, old_labels, from)?;
     let new_firsts = firsts_of(alloc, new_labels, from)?;
+    let least = least_of(&old_firsts).min(least_of(&new_firsts));
     to.add_bits(from);
     add_named(
         1,
+        least,
         old_labels.cells(),
         &old_firsts,
         new_labels.cells(),
