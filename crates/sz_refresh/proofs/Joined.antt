@@ -44,19 +44,19 @@ threshold-of op known = (cc)
 -- ---- labels
 
 -- that of a cell that is not high names none
-low-named : (t : ℤ) (g : Grid) (v : Option ℤ) (n : ℕ) (o : Cell) → v ≡ labelled_at t g o → is_high t g o ≡ false
+pub low-named : (t : ℤ) (g : Grid) (v : Option ℤ) (n : ℕ) (o : Cell) → v ≡ labelled_at t g o → is_high t g o ≡ false
     → named 1 n v ≡ None
 low-named t g v n o is low = ap (named 1 n) (is ∙ label-low t g o low)
 
 -- that of a high cell names one that is connected to it
-record IsFirst (t : ℤ) (g : Grid) (o : Cell) (v : Option ℤ) : Type 0 where
+pub record IsFirst (t : ℤ) (g : Grid) (o : Cell) (v : Option ℤ) : Type 0 where
   pub place : ℕ
   pub is : named 1 (size_of g.extent) v ≡ Some place
   pub small : place < size_of g.extent
   pub early : place ≤ index_of g.extent o
   pub there : is_connected t g o (cell_of g.extent place) ≡ true
 
-high-named : (t : ℤ) (g : Grid) (v : Option ℤ) (o : Cell) → v ≡ labelled_at t g o → holds g.extent o ≡ true
+pub high-named : (t : ℤ) (g : Grid) (v : Option ℤ) (o : Cell) → v ≡ labelled_at t g o → holds g.extent o ≡ true
     → is_high t g o ≡ true → IsFirst t g o v
 high-named t g v o is held high =
     let n = size_of g.extent in
@@ -218,6 +218,31 @@ side s inputs t out from marked values o is work made own marks held_values held
     (ap (λ (set : Cells). set.extent) marks ∙ both) has_marked here
     ∙ ap (λ (v : Option ℤ). has from o || has_named 1 v marked) read
 
+-- the label of an index
+pub labelled-index : (s : Site) (inputs : List Grid) (t : ℤ) (out : Grid) (values : List (Option ℤ)) (k : ℕ)
+    → s.op ≡ Regions t → IsAtWork s inputs → out ≡ output_of s.op inputs → values ≡ out.values → k < size_of s.out
+    → get_or values k None ≡ labelled_at t (input_at inputs 0) (cell_of s.out k)
+labelled-index s inputs t out values k is work made held_values few =
+    let o : Cell = cell_of s.out k in
+    let out_shape : out.extent ≡ s.out = ap (λ (z : Grid). z.extent) made ∙ out-at_work s inputs work in
+    let inside : holds out.extent o ≡ true = ap (λ (d : Extent). holds d o) out_shape ∙ cell-held s.out k few in
+    sym (unwrap_or-slice_get out.values (index_of out.extent o) None
+    ∙ ap₂ (λ (vs : List (Option ℤ)) (d : Extent). get_or vs (index_of d o) None) (sym held_values) out_shape
+    ∙ ap (λ (n : ℕ). get_or values n None) (index-cell s.out k))
+    ∙ ap (λ (z : Grid). value_at z o) made
+    ∙ output-value s.op inputs o (sym (ap (λ (z : Grid). holds z.extent o) made) ∙ inside)
+    ∙ ap (λ (op : Op). value_of op inputs o) is
+
+-- the marked cells are of the input's shape
+pub marked-shape : (s : Site) (inputs : List Grid) (t : ℤ) (out : Grid) (from marked : Cells) → s.op ≡ Regions t
+    → IsAtWork s inputs → out ≡ output_of s.op inputs → marked ≡ with_those (no_cells out.extent) (firsts out from)
+    → marked.extent ≡ (input_at inputs 0).extent
+marked-shape s inputs t out from marked is work made marks =
+    ap (λ (set : Cells). set.extent) marks
+    ∙ ap (λ (z : Grid). z.extent) made
+    ∙ out-at_work s inputs work
+    ∙ sym (grid-shape s inputs t is work)
+
 -- the same of the labels of one list of inputs, by their indexes
 side-before : (s : Site) (inputs : List Grid) (t : ℤ) (out : Grid) (from marked : Cells) (values : List (Option ℤ))
     (k least : ℕ) → s.op ≡ Regions t → IsAtWork s inputs → out ≡ output_of s.op inputs
@@ -228,23 +253,11 @@ side-before s inputs t out from marked values k least is work made marks held_va
     let g : Grid = input_at inputs 0 in
     let o : Cell = cell_of s.out k in
     let shape : g.extent ≡ s.out = grid-shape s inputs t is work in
-    let out_shape : out.extent ≡ s.out = ap (λ (z : Grid). z.extent) made ∙ out-at_work s inputs work in
-    let both : out.extent ≡ g.extent = out_shape ∙ sym shape in
-    let held : holds s.out o ≡ true = cell-held s.out k few in
-    let here : holds g.extent o ≡ true = ap (λ (d : Extent). holds d o) shape ∙ held in
-    let inside : holds out.extent o ≡ true = ap (λ (d : Extent). holds d o) both ∙ here in
-    let place : index_of s.out o ≡ k = index-cell s.out k in
-    let value : value_at out o ≡ labelled_at t g o =
-    ap (λ (z : Grid). value_at z o) made
-    ∙ output-value s.op inputs o (sym (ap (λ (z : Grid). holds z.extent o) made) ∙ inside)
-    ∙ ap (λ (op : Op). value_of op inputs o) is in
-    let read : value_at out o ≡ get_or values k None =
-    unwrap_or-slice_get out.values (index_of out.extent o) None
-    ∙ ap₂ (λ (vs : List (Option ℤ)) (d : Extent). get_or vs (index_of d o) None) (sym held_values) out_shape
-    ∙ ap (λ (n : ℕ). get_or values n None) place in
-    before-marked t g (get_or values k None) o marked least (sym read ∙ value) here
-    (ap (λ (set : Cells). set.extent) marks ∙ both) none
-    (subst (λ (n : ℕ). n < least) (sym (ap (λ (d : Extent). index_of d o) shape ∙ place)) low)
+    let here : holds g.extent o ≡ true = ap (λ (d : Extent). holds d o) shape ∙ cell-held s.out k few in
+    before-marked t g (get_or values k None) o marked least
+    (labelled-index s inputs t out values k is work made held_values few) here
+    (marked-shape s inputs t out from marked is work made marks) none
+    (subst (λ (n : ℕ). n < least) (sym (ap (λ (d : Extent). index_of d o) shape ∙ index-cell s.out k)) low)
 
 -- and of both
 pub joined-before : (s : Site) (a b : List Grid) (t : ℤ) (old new : Grid) (from was now : Cells)

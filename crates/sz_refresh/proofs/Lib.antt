@@ -2,6 +2,7 @@
 pub mod Affected
 pub mod Changes
 pub mod Covered
+pub mod Gaps
 pub mod Joined
 pub mod Matched
 pub mod Names

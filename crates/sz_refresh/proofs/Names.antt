@@ -8,7 +8,7 @@ use Rattle.std.proofs.Common.{ltb-true, lt-ltb, le-leb, leb-true, eqb-true, eq-e
 use Rattle.std.proofs.Common.{if◌then◌else◌, ℤ, negsuc, of_z, w64, FitsSigned}
 use Rattle.std.proofs.Math.Bool.{and-false}
 use Rattle.std.specs.List.{list_any}
-use Rattle.std.proofs.lemmas.Bool.{and_parts, and_from, cases_Bool, or_cases, or_left, or_right, false_from_ne_true}
+use Rattle.std.proofs.lemmas.Bool.{and_parts, and_from, cases_Bool, cases_lt, or_cases, or_left, or_right, false_from_ne_true}
 use Rattle.std.proofs.lemmas.Bool.Decides.{nat_tests}
 use Rattle.sz_cells.specs.declared.Cell.{Cell}
 use Rattle.sz_cells.specs.declared.Run.{Run}
@@ -206,10 +206,36 @@ below-all to test n all =
     ap (λ (b : Bool). b && test (index_of to.extent o))
     (lt-ltb (index_of to.extent o) n (omega (arith, index-below to.extent o held, all))))
 
+-- where no index passes from a number on
+pub below-rest : (to : Cells) (test : ℕ → Bool) (n : ℕ)
+    → ((k : ℕ) → n ≤ k → k < size_of to.extent → test k ≡ false)
+    → with_those to (is_below test n to.extent) ≡ with_those to (λ o. test (index_of to.extent o))
+below-rest to test n fails =
+    with-ext to (is_below test n to.extent) (λ o. test (index_of to.extent o))
+    (λ o held.
+    let i : ℕ = index_of to.extent o in
+    elim (cases_lt i n) [
+      | inl low ↦ ap (λ (b : Bool). b && test i) (lt-ltb i n low)
+      | inr high ↦
+          let none : test i ≡ false = fails i high (index-below to.extent o held) in
+          ap (λ (b : Bool). nat_lt i n && b) none ∙ and-false (nat_lt i n) ∙ sym none
+    ])
+
 -- one index more that passes
 pub one-more : (test : ℕ → Bool) (start n : ℕ) → ((k : ℕ) → start ≤ k → k < n → test k ≡ true) → test n ≡ true
     → (k : ℕ) → start ≤ k → k < n + 1 → test k ≡ true
 one-more test start n before here k low high =
+    elim (cases_Bool (k == n)) [
+      | inl same ↦ ap test (eqb-true k n same) ∙ here
+      | inr other ↦
+          let apart : k ≡ n → ⊥ = λ same. true≢false (sym (eq-eqb k n same) ∙ other) in
+          before k low (omega (arith, high, apart))
+    ]
+
+-- and one that fails
+pub one-idle : (test : ℕ → Bool) (idle n : ℕ) → ((k : ℕ) → idle ≤ k → k < n → test k ≡ false) → test n ≡ false
+    → (k : ℕ) → idle ≤ k → k < n + 1 → test k ≡ false
+one-idle test idle n before here k low high =
     elim (cases_Bool (k == n)) [
       | inl same ↦ ap test (eqb-true k n same) ∙ here
       | inr other ↦

@@ -25,9 +25,10 @@ use sz_spec::{Array, OpAt};
 
 /// Adds the cells that are related to a cell of a set, by the old input or by the new one, given
 /// the labels of both. A label names no later cell than its own, so nothing is looked at before the
-/// first cell that is named.
+/// first cell that is named; and neighbours are at most a row of cells apart, so nothing behind the
+/// first gap of so many cells that name none, after all that are named.
 ///
-/// Takes time in the number of the array's cells from there on, and memory for two bitmaps.
+/// Takes time in the number of the array's cells between, and memory for two bitmaps.
 pub(crate) fn add_joined(
     alloc: Global,
     at: &OpAt,
@@ -53,10 +54,12 @@ pub(crate) fn add_joined(
     let old_firsts = firsts_of(alloc, old_labels, from)?;
     let new_firsts = firsts_of(alloc, new_labels, from)?;
     let least = least_of(&old_firsts).min(least_of(&new_firsts));
+    let gap = from.shape().cols;
     to.add_bits(from);
     add_named(
         1,
         least,
+        gap,
         old_labels.cells(),
         &old_firsts,
         new_labels.cells(),

@@ -5,7 +5,8 @@ ghost use Rattle.std.specs.Prelude.{false, length, pos, true};
 ghost use Rattle.std.specs.List.{list_any};
 ghost use Rattle.sz_cells.specs.Extent.{size_of, index_of};
 ghost use Rattle.sz_cells.specs.Cells.{with_those};
-ghost use Rattle.sz_refresh.specs.Names.{index_above, named, has_named, is_named, LieWithin};
+ghost use Rattle.sz_refresh.specs.Names.{index_above, named, has_named, is_named};
+ghost use Rattle.sz_refresh.specs.Names.{EndAfter, LieWithin};
 
 use sz_cells::{CellBits, Run};
 use sz_spec::Value;
@@ -18,12 +19,15 @@ struct Span {
 }
 
 /// Adds the cells whose value, in one of two lists, names a cell of the set of that list: by its
-/// index, counted from a first number. The cells before a given one are known to name none.
+/// index, counted from a first number. The cells before a given one are known to name none, and so
+/// are those behind a gap of so many that name none, where it lies behind all cells of the sets.
 ///
-/// Takes time in the number of the shape's cells from that one on, and no memory.
+/// Takes time in the number of the shape's cells from the first of these to the end of such a gap,
+/// and no memory.
 pub(crate) fn add_named(
     first: u32,
     from: u32,
+    gap: u32,
     old: &[Value],
     old_set: &CellBits,
     new: &[Value],
@@ -34,6 +38,8 @@ pub(crate) fn add_named(
     requires from { from ≤ size_of to.old.extent }
     requires before { (k : ℕ) → k < from
         → is_named first old.now old_set.now new.now new_set.now k ≡ false }
+    requires gap { EndAfter gap first old.now old_set.now new.now new_set.now
+        (size_of to.old.extent) }
     requires old { length old.now ≡ size_of to.old.extent }
     requires new { length new.now ≡ size_of to.old.extent }
     ensures { to.new ≡ with_those to.old (λ o.
@@ -43,11 +49,18 @@ pub(crate) fn add_named(
     let old_span = span_of(old_set);
     let new_span = span_of(new_set);
     let mut start = from;
+    let mut idle = old_span.last.max(new_span.last) + 1;
     for index in from..size {
+        if idle <= index && index - idle >= gap {
+            add_between(start, index, to);
+            return;
+        }
         let place = index as usize;
         let is_named = has_named(first, old[place], old_span, old_set)
             || has_named(first, new[place], new_span, new_set);
-        if !is_named {
+        if is_named {
+            idle = idle.max(index + 1);
+        } else {
             add_between(start, index, to);
             start = index + 1;
         }
@@ -87,8 +100,9 @@ fn span_of(set: &CellBits) -> Span
     ensures within { LieWithin result.least result.last set.now }
     ensures order { result.least ≤ result.last }
     ensures last { result.last < size_of set.now.extent }
+    ensures few { result.last < 1048576 }
 {
-    set.shape().size(); // there is a cell
+    set.shape().size(); // there is a cell, and there are not too many
     match set.next_after(0) {
         Some(least) => Span {
             least,

@@ -282,5 +282,6 @@ fn add_matched(
     from.shape(); // the set is that of its cells
     let keys = input_of(at, old, 0).cells();
     let new_keys = input_of(at, new, 0).cells();
-    add_named(0, 0, keys, from, new_keys, from, to);
+    let size = to.shape().size();
+    add_named(0, 0, size, keys, from, new_keys, from, to);
 }

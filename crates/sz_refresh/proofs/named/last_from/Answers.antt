@@ -17,8 +17,7 @@ pub loop-last-preserved : goal.loop-last-preserved
 loop-last-preserved c =
     let set = c.args.set.now in
     let next = next-least set (c.loop-last.last + 1) c.in-Some.later c.shape.ensures.rising
-    (sym c.next_after.ensures ∙ c.in-Some.is) in
-    (
+    (sym c.next_after.ensures ∙ c.in-Some.is) in (
       omega (arith, next.0, c.loop-last.invariant.0),
       rising-below 0 (size_of set.extent) c.in-Some.later set.indexes c.shape.ensures.rising next.1,
     )

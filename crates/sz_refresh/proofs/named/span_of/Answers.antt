@@ -1,5 +1,5 @@
 -- The next index from 0 on is the least.
-use Rattle.std.proofs.Common.{◌≡◌, ℕ, ◌<◌, ◌≤◌, sym, ◌∙◌, arith}
+use Rattle.std.proofs.Common.{◌≡◌, ℕ, ◌<◌, ◌≤◌, sym, ap, ◌∙◌, arith}
 use Rattle.sz_cells.specs.Extent.{size_of}
 use Rattle.sz_cells.proofs.LawsOfSets.{next-least, none-next}
 use Rattle.sz_cells.proofs.Rising.{rising-below}
@@ -20,3 +20,9 @@ returns-in-Some-clause-within c = λ k there.
 pub returns-in-None-clause-within : goal.returns-in-None-clause-within
 returns-in-None-clause-within c = λ k there.
     absurd (omega (arith, none-next c.args.set.now 0 k (sym c.next_after.ensures ∙ c.in-None.is) there))
+
+pub returns-in-Some-clause-few : goal.returns-in-Some-clause-few
+returns-in-Some-clause-few c =
+    let size : c.size.result ≡ size_of c.args.set.now.extent =
+    c.size.ensures.value ∙ ap size_of c.shape.ensures.value in
+    omega (arith, c.last_from.ensures.below, size, c.size.ensures.few)
