@@ -4,7 +4,8 @@
 -- from before a gap of so many indexes to behind it comes to a cell in it, which is connected to both and so has their
 -- label.
 use Rattle.std.proofs.Common.{◌≡◌, ℕ, ◌+◌, ◌*◌, ◌<◌, ◌≤◌, ℤ, Bool, true, false, ◌&&◌, ◌||◌, ◌==◌, List, [], ◌∷◌}
-use Rattle.std.proofs.Common.{Option, Some, None, sym, ap, ap₂, subst, ◌∙◌, arith, inl, inr, get_or, eqb-true, true≢false}
+use Rattle.std.proofs.Common.{Option, Some, None, sym, ap, ap₂, subst, ◌∙◌, arith, inl, inr}
+use Rattle.std.proofs.Common.{get_or, eqb-true, true≢false}
 use Rattle.std.specs.List.{list_any}
 use Rattle.std.proofs.lemmas.Bool.{and_parts, cases_Bool, cases_lt, or_cases, or_left, or_right, false_from_ne_true}
 use Rattle.sz_cells.specs.declared.Cell.{Cell}
@@ -18,10 +19,10 @@ use Rattle.sz_spec.specs.Evaluation.{output_of}
 use Rattle.sz_spec.specs.LawsRegions.{Leads}
 use Rattle.sz_spec.specs.Operators.Regions.{is_high, is_connected, are_neighbours, label_of, labelled_at}
 use Rattle.sz_spec.specs.Work.{IsAtWork}
-use Rattle.sz_spec.proofs.Components.{connected-self, connected-back, connected-parts, connected-led, connected-both_high}
+use Rattle.sz_spec.proofs.Components.{connected-self, connected-back, connected-parts, connected-led}
 use Rattle.sz_spec.proofs.Components.{component-same, component-closed, leads-first}
 use Rattle.sz_ops_region.proofs.Labels.{grid-shape}
-use Rattle.sz_refresh.specs.Names.{named, is_at, has_named, is_named, EndAfter}
+use Rattle.sz_refresh.specs.Names.{named, is_at, has_named, EndAfter}
 use Rattle.sz_refresh.proofs.Joined.{firsts, IsFirst, high-named, low-named, labelled-index, marked-shape}
 use Rattle.sz_refresh.proofs.Names.{none-found}
 

@@ -1,13 +1,14 @@
 -- What follows of labels.
 --
--- The key idea: the label of a high cell names the first cell of its component, which is connected to it. So it names no
--- later cell than its own, and two high cells are connected exactly where their labels name one cell; and any other cell is related to itself alone.
-use Rattle.std.proofs.Common.{◌≡◌, ℕ, ◌+◌, ◌-◌, ◌<◌, ◌≤◌, ℤ, pos, Bool, true, false, ◌&&◌, ◌||◌, ◌==◌, nat_le, nat_lt}
+-- The key idea: the label of a high cell names the first cell of its component, which is connected to it. So it names
+-- no later cell than its own, and two high cells are connected exactly where their labels name one cell; and any other
+-- cell is related to itself alone.
+use Rattle.std.proofs.Common.{◌≡◌, ℕ, ◌+◌, ◌-◌, ◌<◌, ◌≤◌, ℤ, Bool, true, false, ◌&&◌, ◌||◌, ◌==◌, nat_le, nat_lt}
 use Rattle.std.proofs.Common.{List, Option, Some, None, refl, sym, ap, ap₂, subst, ◌∙◌, arith, inl, inr, get_or}
 use Rattle.std.proofs.Common.{lt-ltb, le-leb, true≢false, if◌then◌else◌, option_map}
 use Rattle.std.specs.List.{list_any}
 use Rattle.std.proofs.Math.Bool.{or-false}
-use Rattle.std.proofs.lemmas.Bool.{cases_Bool, cases_lt, or_cases, or_left, or_right}
+use Rattle.std.proofs.lemmas.Bool.{cases_Bool, cases_lt, or_cases, or_right}
 use Rattle.std.proofs.lemmas.Option.{unwrap_or-slice_get}
 use Rattle.sz_cells.specs.declared.Cell.{Cell}
 use Rattle.sz_cells.specs.Extent.{Extent, size_of, holds, index_of, cell_of}
@@ -24,7 +25,7 @@ use Rattle.sz_spec.specs.Values.{Grid, input_at, value_at}
 use Rattle.sz_spec.specs.Shapes.{Site}
 use Rattle.sz_spec.specs.Evaluation.{value_of, output_of}
 use Rattle.sz_spec.specs.Lineage.{related}
-use Rattle.sz_spec.specs.Operators.Regions.{is_high, is_connected, component_of, label_of, labelled_at}
+use Rattle.sz_spec.specs.Operators.Regions.{is_high, is_connected, label_of, labelled_at}
 use Rattle.sz_spec.specs.Work.{IsAtWork}
 use Rattle.sz_spec.proofs.Components.{label-high, label-low, connected-self, connected-back, connected-parts}
 use Rattle.sz_spec.proofs.Components.{component-same}

@@ -1,18 +1,21 @@
 -- What follows of numbers that name cells.
 --
--- The key ideas: a number outside the ends of a set's indexes names none of its cells. And the cells of an unbroken range of indexes that pass are added at once, where it ends. What was added
--- is what passes below the start of the range.
+-- The key ideas: a number outside the ends of a set's indexes names none of its cells. And the cells of an unbroken
+-- range of indexes that pass are added at once, where it ends: what was added is what passes below the start of the
+-- range.
 use Rattle.std.proofs.Common.{◌≡◌, ℕ, ◌+◌, ◌-◌, ◌<◌, ◌≤◌, Bool, true, false, ◌&&◌, ◌||◌, ◌==◌, nat_le, nat_lt}
-use Rattle.std.proofs.Common.{List, [], ◌∷◌, refl, sym, ap, ◌∙◌, arith, inl, inr, subst, Option, Some, None}
-use Rattle.std.proofs.Common.{ltb-true, lt-ltb, le-leb, leb-true, eqb-true, eq-eqb, true≢false, min, max, ap₂, pos}
+use Rattle.std.proofs.Common.{List, [], ◌∷◌, refl, sym, ap, ◌∙◌, arith, inl, inr, Option, Some, None}
+use Rattle.std.proofs.Common.{ltb-true, lt-ltb, le-leb, leb-true, eqb-true, eq-eqb, true≢false}
+use Rattle.std.proofs.Common.{min, max, ap₂, pos}
 use Rattle.std.proofs.Common.{if◌then◌else◌, ℤ, negsuc, of_z, w64, FitsSigned}
 use Rattle.std.proofs.Math.Bool.{and-false}
 use Rattle.std.specs.List.{list_any}
-use Rattle.std.proofs.lemmas.Bool.{and_parts, and_from, cases_Bool, cases_lt, or_cases, or_left, or_right, false_from_ne_true}
+use Rattle.std.proofs.lemmas.Bool.{and_parts, and_from, cases_Bool, cases_lt, or_cases, or_left, or_right}
+use Rattle.std.proofs.lemmas.Bool.{false_from_ne_true}
 use Rattle.std.proofs.lemmas.Bool.Decides.{nat_tests}
 use Rattle.sz_cells.specs.declared.Cell.{Cell}
 use Rattle.sz_cells.specs.declared.Run.{Run}
-use Rattle.sz_cells.specs.Extent.{Extent, size_of, holds, index_of}
+use Rattle.sz_cells.specs.Extent.{Extent, size_of, index_of}
 use Rattle.sz_cells.specs.Cells.{Cells, has, cells_where, with_those}
 use Rattle.sz_cells.specs.Runs.{run_cells}
 use Rattle.sz_cells.proofs.Sets.{same_truth, index-below, any-range}

@@ -3,9 +3,9 @@
 -- The key idea: a set of all cells reaches each output cell by the cell at its own place, or by one to which it is
 -- mapped.
 use Rattle.std.proofs.Common.{◌≡◌, ℕ, zero, suc, ◌+◌, ◌-◌, ◌*◌, ◌/◌, ◌%◌, ◌<◌, ◌≤◌, ℤ, Bool, true, false, ◌&&◌, ◌||◌}
-use Rattle.std.proofs.Common.{◌==◌, not, nat_le, nat_lt, List, [], ◌∷◌, length, Ok, refl, sym, ap, ap₂, subst, ◌∙◌}
+use Rattle.std.proofs.Common.{◌==◌, not, nat_le, nat_lt, List, [], ◌∷◌, length, Ok, refl, sym, ap, subst, ◌∙◌}
 use Rattle.std.proofs.Common.{arith, inl, inr, ltb-true, lt-ltb, le-leb, leb-true, eq-eqb, eqb-true, if◌then◌else◌}
-use Rattle.std.specs.List.{list_any, range_with_len}
+use Rattle.std.specs.List.{list_any}
 use Rattle.std.proofs.lemmas.Bool.{and_parts, and_from, cases_Bool, or_left, or_right}
 use Rattle.sz_cells.specs.declared.Cell.{Cell}
 use Rattle.sz_cells.specs.Extent.{Extent, is_extent, size_of, holds, index_of, cell_of, row_in, layer_of}

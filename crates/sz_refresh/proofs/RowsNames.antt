@@ -2,9 +2,8 @@
 --
 -- The key idea: on numbers, sets and kernels that are written out every definition is a computation. Expected values
 -- by hand.
-use Rattle.std.proofs.Common.{◌≡◌, ℕ, ◌<◌, ◌≤◌, ◌==◌, ◌||◌, pos, negsuc, true, false, Some, None, List, [], ◌∷◌, refl}
+use Rattle.std.proofs.Common.{◌≡◌, ◌==◌, ◌||◌, pos, negsuc, true, false, Some, None, [], ◌∷◌, refl}
 use Rattle.std.proofs.Common.{arith, true≢false, eqb-true, inl, inr, sym}
-use Rattle.std.specs.List.{list_any}
 use Rattle.std.proofs.lemmas.Bool.{or_cases}
 use Rattle.sz_cells.specs.Cells.{Cells}
 use Rattle.sz_cells.specs.Extent.{flat}

@@ -2,8 +2,9 @@
 //! that of a changed cell, and the changed cells.
 //!
 //! Cells are related exactly where they are one or have one label, and a label names the first cell
-//! of its region. So the first cells of the changed cells' regions are marked, and then the label
-//! of each cell is looked at once: no region is made as a set.
+//! of its region. So the first cells of the changed cells' regions are marked, and then the labels
+//! are looked at, from the first marked cell on until a row of cells has none that names a marked
+//! one: no region is made as a set.
 
 ghost use Rattle.std.specs.Prelude.{◌≡◌, map, IfSome, IfOk, OnOk, true};
 ghost use Rattle.std.specs.Arc.{arc_value};

@@ -133,8 +133,8 @@ fn add_reached(
     }
 }
 
-/// The same for a set of all cells, where each output cell is related to some cell of the input: all
-/// cells are added.
+/// The same for a set of all cells, where each output cell is related to some cell of the input:
+/// all cells are added.
 fn add_all(
     at: &OpAt,
     old: &[Arc<Array>],

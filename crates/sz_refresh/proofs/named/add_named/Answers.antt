@@ -1,13 +1,14 @@
 -- Where an index fails, the range before it is added, and the next one starts behind it. Behind a gap none passes.
-use Rattle.std.proofs.Common.{◌≡◌, ℕ, ◌+◌, ◌<◌, ◌≤◌, Bool, ◌||◌, true, false, None, get_or, refl, sym, ap, ◌∙◌, arith}
+use Rattle.std.proofs.Common.{◌≡◌, ℕ, ◌+◌, ◌≤◌, Bool, ◌||◌, true, false, None, get_or, refl, sym, ap, ◌∙◌, arith}
 use Rattle.std.proofs.Common.{max}
 use Rattle.std.proofs.lemmas.Bool.{or_left}
 use Rattle.std.proofs.lemmas.Bool.Decides.{nat_tests}
-use Rattle.sz_cells.specs.Extent.{Extent, size_of}
+use Rattle.sz_cells.specs.Extent.{size_of}
 use Rattle.sz_cells.specs.Cells.{with_those}
 use Rattle.sz_region.proofs.Added.{own-at}
 use Rattle.sz_refresh.specs.Names.{has_named, is_named}
-use Rattle.sz_refresh.proofs.Names.{is_below, below-none, below-more, below-skip, below-all, below-rest, one-more, one-idle}
+use Rattle.sz_refresh.proofs.Names.{is_below, below-none, below-more, below-skip, below-all, below-rest}
+use Rattle.sz_refresh.proofs.Names.{one-more, one-idle}
 use Rattle.sz_refresh.proofs.named.add_named.Goals as goal
 use Rattle.sz_refresh.proofs.named.add_named.Goals.{then-has_named, else-has_named}
 use Rattle.sz_refresh.proofs.named.add_named.Goals.{then-is_named, else-is_named}

@@ -1,5 +1,5 @@
 -- A value that names nothing is found nowhere.
-use Rattle.std.proofs.Common.{◌≡◌, ℤ, Option, sym, ap, ◌∙◌}
+use Rattle.std.proofs.Common.{ℤ, Option, sym, ap, ◌∙◌}
 use Rattle.sz_refresh.specs.Names.{has_named}
 use Rattle.sz_refresh.proofs.Names.{none-found}
 use Rattle.sz_refresh.proofs.named.has_named.Goals as goal

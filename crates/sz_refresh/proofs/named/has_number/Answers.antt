@@ -1,5 +1,5 @@
 -- A number below 0 names no cell, nor does what it is told as.
-use Rattle.std.proofs.Common.{◌≡◌, ℕ, ℤ, pos, Some, of_z, w64, ap, subst, ◌∙◌, ◌≤◌}
+use Rattle.std.proofs.Common.{ℕ, ℤ, pos, Some, of_z, w64, ap, subst, ◌∙◌, ◌≤◌}
 use Rattle.std.proofs.lemmas.Int.{to_z-of_z}
 use Rattle.sz_cells.specs.Extent.{size_of}
 use Rattle.sz_refresh.specs.Names.{has_named}

@@ -1,5 +1,5 @@
 -- No index of the set is before the least.
-use Rattle.std.proofs.Common.{◌≡◌, ℕ, ◌<◌, ◌≤◌, ◌==◌, sym, ◌∙◌, arith}
+use Rattle.std.proofs.Common.{◌==◌, sym, ◌∙◌, arith}
 use Rattle.std.specs.List.{list_any}
 use Rattle.std.proofs.lemmas.Bool.{false_from_ne_true}
 use Rattle.sz_cells.specs.Extent.{size_of}

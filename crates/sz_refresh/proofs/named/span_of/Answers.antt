@@ -1,5 +1,5 @@
 -- The next index from 0 on is the least.
-use Rattle.std.proofs.Common.{◌≡◌, ℕ, ◌<◌, ◌≤◌, sym, ap, ◌∙◌, arith}
+use Rattle.std.proofs.Common.{◌≡◌, sym, ap, ◌∙◌, arith}
 use Rattle.sz_cells.specs.Extent.{size_of}
 use Rattle.sz_cells.proofs.LawsOfSets.{next-least, none-next}
 use Rattle.sz_cells.proofs.Rising.{rising-below}
