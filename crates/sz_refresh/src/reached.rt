@@ -35,7 +35,8 @@ use sz_spec::{Array, Dir, Mode, Op, OpAt, SourceRef, arity, has_mode};
 /// output, and of connected regions, which are told by their labels, the new output too.
 ///
 /// Takes memory for bitmaps. Takes time in the number of cells that are changed and affected, but
-/// for connected regions and the table of a lookup, of which each output cell is looked at.
+/// for the table of a lookup, of which each output cell is looked at, and for connected regions,
+/// whose labels are looked at from the first affected row to the last.
 pub(crate) fn affected_of(
     alloc: Global,
     at: &OpAt,
