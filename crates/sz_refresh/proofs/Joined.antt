@@ -1,17 +1,19 @@
 -- What follows of labels.
 --
--- The key idea: the label of a high cell names the first cell of its component, which is connected to it. So two high
--- cells are connected exactly where their labels name one cell; and any other cell is related to itself alone.
-use Rattle.std.proofs.Common.{◌≡◌, ℕ, ◌+◌, ◌-◌, ◌<◌, ℤ, pos, Bool, true, false, ◌&&◌, ◌||◌, ◌==◌, nat_le, nat_lt}
+-- The key idea: the label of a high cell names the first cell of its component, which is connected to it. So it names
+-- no later cell than its own, and two high cells are connected exactly where their labels name one cell; and any other
+-- cell is related to itself alone.
+use Rattle.std.proofs.Common.{◌≡◌, ℕ, ◌+◌, ◌-◌, ◌<◌, ◌≤◌, ℤ, Bool, true, false, ◌&&◌, ◌||◌, ◌==◌, nat_le, nat_lt}
 use Rattle.std.proofs.Common.{List, Option, Some, None, refl, sym, ap, ap₂, subst, ◌∙◌, arith, inl, inr, get_or}
 use Rattle.std.proofs.Common.{lt-ltb, le-leb, true≢false, if◌then◌else◌, option_map}
 use Rattle.std.specs.List.{list_any}
 use Rattle.std.proofs.Math.Bool.{or-false}
-use Rattle.std.proofs.lemmas.Bool.{cases_Bool, or_cases, or_left, or_right}
+use Rattle.std.proofs.lemmas.Bool.{cases_Bool, cases_lt, or_cases, or_right}
 use Rattle.std.proofs.lemmas.Option.{unwrap_or-slice_get}
 use Rattle.sz_cells.specs.declared.Cell.{Cell}
 use Rattle.sz_cells.specs.Extent.{Extent, size_of, holds, index_of, cell_of}
 use Rattle.sz_cells.specs.Cells.{Cells, is_same, any_cell, cells_where, has, no_cells, with_those}
+use Rattle.sz_cells.proofs.Sets.{cell-index, index-cell}
 use Rattle.sz_cells.proofs.Sets.{same_truth, is_same-refl, is_same-true, has-index, has-cells_where, cell-held}
 use Rattle.sz_cells.proofs.Sets.{any_cell-true, any_cell-from, any_cell-same_turned}
 use Rattle.sz_region.specs.Single.{is_cell}
@@ -23,7 +25,7 @@ use Rattle.sz_spec.specs.Values.{Grid, input_at, value_at}
 use Rattle.sz_spec.specs.Shapes.{Site}
 use Rattle.sz_spec.specs.Evaluation.{value_of, output_of}
 use Rattle.sz_spec.specs.Lineage.{related}
-use Rattle.sz_spec.specs.Operators.Regions.{is_high, is_connected, component_of, label_of, labelled_at}
+use Rattle.sz_spec.specs.Operators.Regions.{is_high, is_connected, label_of, labelled_at}
 use Rattle.sz_spec.specs.Work.{IsAtWork}
 use Rattle.sz_spec.proofs.Components.{label-high, label-low, connected-self, connected-back, connected-parts}
 use Rattle.sz_spec.proofs.Components.{component-same}
@@ -43,18 +45,19 @@ threshold-of op known = (cc)
 -- ---- labels
 
 -- that of a cell that is not high names none
-low-named : (t : ℤ) (g : Grid) (v : Option ℤ) (n : ℕ) (o : Cell) → v ≡ labelled_at t g o → is_high t g o ≡ false
+pub low-named : (t : ℤ) (g : Grid) (v : Option ℤ) (n : ℕ) (o : Cell) → v ≡ labelled_at t g o → is_high t g o ≡ false
     → named 1 n v ≡ None
 low-named t g v n o is low = ap (named 1 n) (is ∙ label-low t g o low)
 
 -- that of a high cell names one that is connected to it
-record IsFirst (t : ℤ) (g : Grid) (o : Cell) (v : Option ℤ) : Type 0 where
+pub record IsFirst (t : ℤ) (g : Grid) (o : Cell) (v : Option ℤ) : Type 0 where
   pub place : ℕ
   pub is : named 1 (size_of g.extent) v ≡ Some place
   pub small : place < size_of g.extent
+  pub early : place ≤ index_of g.extent o
   pub there : is_connected t g o (cell_of g.extent place) ≡ true
 
-high-named : (t : ℤ) (g : Grid) (v : Option ℤ) (o : Cell) → v ≡ labelled_at t g o → holds g.extent o ≡ true
+pub high-named : (t : ℤ) (g : Grid) (v : Option ℤ) (o : Cell) → v ≡ labelled_at t g o → holds g.extent o ≡ true
     → is_high t g o ≡ true → IsFirst t g o v
 high-named t g v o is held high =
     let n = size_of g.extent in
@@ -71,8 +74,34 @@ high-named t g v o is held high =
           ∙ ap₂ (λ (a b : Bool). if a && b then some else none) low few
           ∙ ap (λ (j : ℕ). Some j) back;
       small = first.2;
+      early = elim (cases_lt (index_of g.extent o) k) [
+        | inl before ↦
+            let other : is_connected t g o (cell_of g.extent (index_of g.extent o)) ≡ false =
+            first.4 (index_of g.extent o) before in
+            let same : is_connected t g o (cell_of g.extent (index_of g.extent o)) ≡ true =
+            ap (is_connected t g o) (cell-index g.extent o held) ∙ connected-self t g o held high in
+            absurd (true≢false (sym same ∙ other))
+        | inr least ↦ least
+      ];
       there = first.3;
     }
+
+-- before the least marked cell no label names a marked one
+before-marked : (t : ℤ) (g : Grid) (v : Option ℤ) (o : Cell) (marked : Cells) (least : ℕ) → v ≡ labelled_at t g o
+    → holds g.extent o ≡ true → marked.extent ≡ g.extent
+    → ((k : ℕ) → k < least → list_any (λ i. i == k) marked.indexes ≡ false) → index_of g.extent o < least
+    → has_named 1 v marked ≡ false
+before-marked t g v o marked least is held shape none low =
+    elim (cases_Bool (is_high t g o)) [
+      | inl high ↦
+          let one = high-named t g v o is held high in
+          ap (λ (d : Extent). list_any (is_at (named 1 (size_of d) v)) marked.indexes) shape
+          ∙ ap (λ (p : Option ℕ). list_any (is_at p) marked.indexes) one.is
+          ∙ none one.place (omega (arith, one.early, low))
+      | inr under ↦
+          ap (λ (p : Option ℕ). list_any (is_at p) marked.indexes)
+          (low-named t g v (size_of marked.extent) o is under) ∙ none-found marked.indexes
+    ]
 
 -- ---- what is related
 
@@ -189,6 +218,62 @@ side s inputs t out from marked values o is work made own marks held_values held
     own)
     (ap (λ (set : Cells). set.extent) marks ∙ both) has_marked here
     ∙ ap (λ (v : Option ℤ). has from o || has_named 1 v marked) read
+
+-- the label of an index
+pub labelled-index : (s : Site) (inputs : List Grid) (t : ℤ) (out : Grid) (values : List (Option ℤ)) (k : ℕ)
+    → s.op ≡ Regions t → IsAtWork s inputs → out ≡ output_of s.op inputs → values ≡ out.values → k < size_of s.out
+    → get_or values k None ≡ labelled_at t (input_at inputs 0) (cell_of s.out k)
+labelled-index s inputs t out values k is work made held_values few =
+    let o : Cell = cell_of s.out k in
+    let out_shape : out.extent ≡ s.out = ap (λ (z : Grid). z.extent) made ∙ out-at_work s inputs work in
+    let inside : holds out.extent o ≡ true = ap (λ (d : Extent). holds d o) out_shape ∙ cell-held s.out k few in
+    sym (unwrap_or-slice_get out.values (index_of out.extent o) None
+    ∙ ap₂ (λ (vs : List (Option ℤ)) (d : Extent). get_or vs (index_of d o) None) (sym held_values) out_shape
+    ∙ ap (λ (n : ℕ). get_or values n None) (index-cell s.out k))
+    ∙ ap (λ (z : Grid). value_at z o) made
+    ∙ output-value s.op inputs o (sym (ap (λ (z : Grid). holds z.extent o) made) ∙ inside)
+    ∙ ap (λ (op : Op). value_of op inputs o) is
+
+-- the marked cells are of the input's shape
+pub marked-shape : (s : Site) (inputs : List Grid) (t : ℤ) (out : Grid) (from marked : Cells) → s.op ≡ Regions t
+    → IsAtWork s inputs → out ≡ output_of s.op inputs → marked ≡ with_those (no_cells out.extent) (firsts out from)
+    → marked.extent ≡ (input_at inputs 0).extent
+marked-shape s inputs t out from marked is work made marks =
+    ap (λ (set : Cells). set.extent) marks
+    ∙ ap (λ (z : Grid). z.extent) made
+    ∙ out-at_work s inputs work
+    ∙ sym (grid-shape s inputs t is work)
+
+-- the same of the labels of one list of inputs, by their indexes
+side-before : (s : Site) (inputs : List Grid) (t : ℤ) (out : Grid) (from marked : Cells) (values : List (Option ℤ))
+    (k least : ℕ) → s.op ≡ Regions t → IsAtWork s inputs → out ≡ output_of s.op inputs
+    → marked ≡ with_those (no_cells out.extent) (firsts out from) → values ≡ out.values → k < size_of s.out
+    → ((j : ℕ) → j < least → list_any (λ i. i == j) marked.indexes ≡ false) → k < least
+    → has_named 1 (get_or values k None) marked ≡ false
+side-before s inputs t out from marked values k least is work made marks held_values few none low =
+    let g : Grid = input_at inputs 0 in
+    let o : Cell = cell_of s.out k in
+    let shape : g.extent ≡ s.out = grid-shape s inputs t is work in
+    let here : holds g.extent o ≡ true = ap (λ (d : Extent). holds d o) shape ∙ cell-held s.out k few in
+    before-marked t g (get_or values k None) o marked least
+    (labelled-index s inputs t out values k is work made held_values few) here
+    (marked-shape s inputs t out from marked is work made marks) none
+    (subst (λ (n : ℕ). n < least) (sym (ap (λ (d : Extent). index_of d o) shape ∙ index-cell s.out k)) low)
+
+-- and of both
+pub joined-before : (s : Site) (a b : List Grid) (t : ℤ) (old new : Grid) (from was now : Cells)
+    (olds news : List (Option ℤ)) (k first second : ℕ) → s.op ≡ Regions t → IsAtWork s a → IsAtWork s b
+    → old ≡ output_of s.op a → new ≡ output_of s.op b
+    → was ≡ with_those (no_cells old.extent) (firsts old from)
+    → now ≡ with_those (no_cells new.extent) (firsts new from) → olds ≡ old.values → news ≡ new.values
+    → ((j : ℕ) → j < first → list_any (λ i. i == j) was.indexes ≡ false)
+    → ((j : ℕ) → j < second → list_any (λ i. i == j) now.indexes ≡ false)
+    → k < size_of s.out → k < first → k < second → is_named 1 olds was news now k ≡ false
+joined-before s a b t old new from was now olds news k first second is work_a work_b made_a made_b marks_a marks_b
+    read_a read_b none_a none_b few low_a low_b =
+    ap₂ (λ (p q : Bool). p || q)
+    (side-before s a t old from was olds k first is work_a made_a marks_a read_a few none_a low_a)
+    (side-before s b t new from now news k second is work_b made_b marks_b read_b few none_b low_b)
 
 -- what a set reaches by the old labels or by the new ones
 pub joined-reaches : (s : Site) (a b : List Grid) (t : ℤ) (old new : Grid) (from was now to : Cells)

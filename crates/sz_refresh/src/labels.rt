@@ -2,8 +2,9 @@
 //! that of a changed cell, and the changed cells.
 //!
 //! Cells are related exactly where they are one or have one label, and a label names the first cell
-//! of its region. So the first cells of the changed cells' regions are marked, and then the label
-//! of each cell is looked at once: no region is made as a set.
+//! of its region. So the first cells of the changed cells' regions are marked, and then the labels
+//! are looked at, from the first marked cell on until a row of cells has none that names a marked
+//! one: no region is made as a set.
 
 ghost use Rattle.std.specs.Prelude.{◌≡◌, map, IfSome, IfOk, OnOk, true};
 ghost use Rattle.std.specs.Arc.{arc_value};
@@ -16,7 +17,7 @@ ghost use Rattle.sz_ops_region.specs.Regions.{is_regions};
 ghost use Rattle.sz_refresh.specs.Changes.{reaches};
 ghost use Rattle.sz_refresh.specs.Names.{first_of};
 
-use crate::named::{add_named, named};
+use crate::named::{add_named, least_of, named};
 use std::alloc::Global;
 use std::sync::Arc;
 use sz_cells::{Cell, CellBits, NoMemory};
@@ -24,9 +25,11 @@ use sz_region::add_cell;
 use sz_spec::{Array, OpAt};
 
 /// Adds the cells that are related to a cell of a set, by the old input or by the new one, given
-/// the labels of both.
+/// the labels of both. A label names no later cell than its own, so nothing is looked at before the
+/// first cell that is named; and neighbours are at most a row of cells apart, so nothing behind the
+/// first gap of so many cells that name none, after all that are named.
 ///
-/// Takes time in the number of the array's cells, and memory for two bitmaps.
+/// Takes time in the number of the array's cells between, and memory for two bitmaps.
 pub(crate) fn add_joined(
     alloc: Global,
     at: &OpAt,
@@ -51,9 +54,13 @@ pub(crate) fn add_joined(
     to.shape();
     let old_firsts = firsts_of(alloc, old_labels, from)?;
     let new_firsts = firsts_of(alloc, new_labels, from)?;
+    let least = least_of(&old_firsts).min(least_of(&new_firsts));
+    let gap = from.shape().cols;
     to.add_bits(from);
     add_named(
         1,
+        least,
+        gap,
         old_labels.cells(),
         &old_firsts,
         new_labels.cells(),

@@ -166,10 +166,10 @@ fn values_after<R: Threads + Sync>(
     }
 }
 
-/// Whether so many values of an operator are computed side by side, as a run of all its values
-/// would be. It settles the cost alone.
+/// Whether so many values of an operator are computed side by side. It settles the cost alone: it
+/// pays for an operator that reads many cells for each value.
 fn is_side_by_side(op: &Op, count: u32) -> bool {
-    count >= SIDE_BY_SIDE_FROM && matches!(op, Op::Clean { .. })
+    count >= SIDE_BY_SIDE_FROM && matches!(op, Op::Clean { .. } | Op::Convolve { .. })
 }
 
 /// The same, the values computed side by side: each place holds the old value, and gets a new one

@@ -16,12 +16,12 @@ ghost use Rattle.sz_spec.specs.Affected.{affected_by};
 ghost use Rattle.sz_ops_region.specs.Regions.{is_regions};
 ghost use Rattle.sz_refresh.specs.Changes.{changed_from, is_before, is_changed};
 ghost use Rattle.sz_refresh.specs.Changes.{HaveShapes, reaches};
-ghost use Rattle.sz_refresh.specs.Whole.{relates_itself};
+ghost use Rattle.sz_refresh.specs.Whole.{reaches_all};
 
 use crate::labels::add_joined;
 use crate::named::{add_between, add_named};
 use crate::near::add_round;
-use crate::whole::{is_whole, relates_itself};
+use crate::whole::{is_whole, reaches_all};
 use std::alloc::Global;
 use std::sync::Arc;
 use sz_cells::{CellBits, CellSet, NoMemory};
@@ -35,7 +35,8 @@ use sz_spec::{Array, Dir, Mode, Op, OpAt, SourceRef, arity, has_mode};
 /// output, and of connected regions, which are told by their labels, the new output too.
 ///
 /// Takes memory for bitmaps. Takes time in the number of cells that are changed and affected, but
-/// for connected regions and the table of a lookup, of which each output cell is looked at.
+/// for the table of a lookup, of which each output cell is looked at, and for connected regions,
+/// whose labels are looked at from the first affected row to the last.
 pub(crate) fn affected_of(
     alloc: Global,
     at: &OpAt,
@@ -119,7 +120,7 @@ fn add_reached(
     if set.runs().is_empty() {
         return Ok(());
     }
-    if relates_itself(at.op(), number) && is_whole(set) {
+    if reaches_all(at.op(), number) && is_whole(set) {
         add_all(at, old, new, number, set, to);
         return Ok(());
     }
@@ -133,7 +134,7 @@ fn add_reached(
     }
 }
 
-/// The same for a set of all cells, where each output cell is related to the one at its own place:
+/// The same for a set of all cells, where each output cell is related to some cell of the input:
 /// all cells are added.
 fn add_all(
     at: &OpAt,
@@ -143,7 +144,7 @@ fn add_all(
     _set: &CellSet,
     to: &mut CellBits,
 )
-    requires op { relates_itself at.now.op number ≡ true }
+    requires op { reaches_all at.now.op number ≡ true }
     requires old { extents_of (map (λ a. arc_value a) old.now) ≡ at.now.ins }
     requires new { extents_of (map (λ a. arc_value a) _new.now) ≡ at.now.ins }
     requires set { _set.now.extent ≡ extent_at at.now.ins number }
@@ -282,5 +283,6 @@ fn add_matched(
     from.shape(); // the set is that of its cells
     let keys = input_of(at, old, 0).cells();
     let new_keys = input_of(at, new, 0).cells();
-    add_named(0, keys, from, new_keys, from, to);
+    let size = to.shape().size();
+    add_named(0, 0, size, keys, from, new_keys, from, to);
 }

@@ -5,7 +5,7 @@ ghost use Rattle.std.specs.List.{slice_get};
 ghost use Rattle.sz_cells.specs.Extent.{holds};
 ghost use Rattle.sz_cells.specs.Cells.{has};
 ghost use Rattle.sz_cells.specs.declared.Cell.{Cell};
-ghost use Rattle.sz_refresh.specs.Whole.{has_middle, relates_itself};
+ghost use Rattle.sz_refresh.specs.Whole.{has_middle, reaches_all};
 
 use sz_cells::CellSet;
 use sz_spec::{Kernel, Op};
@@ -18,14 +18,15 @@ pub(crate) fn is_whole(set: &CellSet) -> bool
     set.count() == set.shape().size()
 }
 
-/// Whether each output cell of an operator is related to the cell at its own place of an input,
-/// whatever the inputs hold. The elementwise operators, which are so too, are left out: what a set
-/// reaches by them is found by words.
-pub(crate) fn relates_itself(op: &Op, number: u32) -> bool
-    ensures { result ≡ relates_itself op.now number }
+/// Whether each output cell of an operator is related to some cell of an input, whatever the inputs
+/// hold. The elementwise operators, of which it is true too, are left out: what a set reaches by
+/// them is found by words.
+pub(crate) fn reaches_all(op: &Op, number: u32) -> bool
+    ensures { result ≡ reaches_all op.now number }
 {
     match op {
         Op::Convolve { kernel } => number == 0 && has_middle(kernel),
+        Op::Transpose | Op::Slice { .. } | Op::Block { .. } | Op::FoldLayers { .. } => number == 0,
         Op::Lookup | Op::Regions { .. } | Op::Clean { .. } => number == 0,
         _ => false,
     }

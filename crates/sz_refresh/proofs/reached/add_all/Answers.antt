@@ -1,5 +1,5 @@
--- Each cell is reached by the one at its own place.
-use Rattle.std.proofs.Common.{◌≡◌, List, map, ap, ◌∙◌}
+-- Each cell is reached by some cell of the input.
+use Rattle.std.proofs.Common.{List, map, ap, ◌∙◌}
 use Rattle.std.specs.Arc.{arc_value}
 use Rattle.sz_cells.specs.Extent.{size_of}
 use Rattle.sz_spec.specs.Values.{Grid}

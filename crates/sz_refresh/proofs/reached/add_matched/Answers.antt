@@ -1,5 +1,5 @@
 -- A key is related to the cell that it names.
-use Rattle.std.proofs.Common.{◌≡◌, List, map, refl, ap, ◌∙◌}
+use Rattle.std.proofs.Common.{List, map, refl, ap, ◌∙◌}
 use Rattle.std.specs.Arc.{arc_value}
 use Rattle.sz_spec.specs.Values.{Grid}
 use Rattle.sz_region.proofs.Added.{own-at}

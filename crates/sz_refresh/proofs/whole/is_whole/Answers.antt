@@ -1,5 +1,5 @@
 -- As many rising indexes as there are cells are all of them.
-use Rattle.std.proofs.Common.{◌≡◌, length, ap, sym, ◌∙◌, eqb-true, true}
+use Rattle.std.proofs.Common.{ap, sym, ◌∙◌, eqb-true}
 use Rattle.sz_cells.specs.Extent.{size_of}
 use Rattle.sz_refresh.proofs.OwnPlaces.{whole-has}
 use Rattle.sz_refresh.proofs.whole.is_whole.Goals as goal
