@@ -1,0 +1,3 @@
+pub mod ShortNumber
+pub mod ShortSets
+pub mod Laws
