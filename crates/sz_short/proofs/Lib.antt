@@ -1,2 +1,3 @@
 pub mod ShortNumbers
 pub mod ShortRuns
+mod Rows

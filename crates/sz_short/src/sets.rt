@@ -40,10 +40,10 @@ fn put_runs(shape: &Shape, runs: &[Run], to: &mut Vec<u8>) -> Result<(), NoMemor
 {
     prove!(runs.len() <= shape.size() as usize); // so their number is one of four bytes
     put_short(runs.len() as u32, to)?;
-    let mut least = 0;
+    let mut from = 0;
     for run in runs {
-        put_run(least, *run, to)?;
-        least = run.last + 2;
+        put_run(from, *run, to)?;
+        from = run.last + 2;
     }
     Ok(())
 }

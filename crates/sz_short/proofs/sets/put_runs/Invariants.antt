@@ -9,5 +9,5 @@ abbrev pub invariant-loop-run : goal.invariant-loop-run
 invariant-loop-run l = record {
   items : l.to.items
       ≡ l.fn.to.items ++ (short_number (length l.runs) ++ short_runs 0 (take l.run-index l.runs));
-  least : l.least ≡ end_of 0 (take l.run-index l.runs);
+  from : l.from ≡ end_of 0 (take l.run-index l.runs);
 }
