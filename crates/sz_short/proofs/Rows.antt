@@ -1,8 +1,7 @@
 -- Rows: short numbers and short sets as they are by hand, and bytes on the other side of each edge.
-use Rattle.std.proofs.Common.{◌≡◌, ℕ, ◌<◌, ◌≤◌, List, [], ◌∷◌, ◌++◌, length, refl, arith}
+use Rattle.std.proofs.Common.{◌≡◌, ℕ, List, [], ◌∷◌, refl, arith}
 use Rattle.sz_cells.specs.Extent.{flat}
-use Rattle.sz_cells.specs.Cells.{Cells, no_cells}
-use Rattle.sz_region.specs.Counted.{IsAt}
+use Rattle.sz_cells.specs.Cells.{no_cells}
 use Rattle.sz_region.specs.Stores.{NoneAt}
 use Rattle.sz_short.specs.ShortNumber.{short_within, short_number, IsWithin, IsSmall, number_spelled, IsShortSpelling}
 use Rattle.sz_short.specs.ShortSets.{short_run, short_set_bytes, BeginsShortSet, NoShortSetBegins, IsRunFrom}

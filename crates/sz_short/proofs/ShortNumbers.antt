@@ -88,35 +88,35 @@ within-free zero m n x y is are same =
 within-free (suc more) m n x y is are same =
     elim (cases_lt m 128) [
       | inl low ↦ elim (cases_lt n 128) [
-          | inl less ↦
-              let whole : m ∷ x ≡ n ∷ y = ap (λ (w : List ℕ). w ++ x) (sym (within-one (suc more) m low)) ∙ same
-              ∙ ap (λ (w : List ℕ). w ++ y) (within-one (suc more) n less) in
-              let head : m ≡ n = cc in
-              let tail : x ≡ y = cc in
-              (head, tail)
-          | inr great ↦
-              let whole : m ∷ x ≡ (n % 128 + 128) ∷ (short_within more (n / 128) ++ y) =
-              ap (λ (w : List ℕ). w ++ x) (sym (within-one (suc more) m low)) ∙ same
-              ∙ ap (λ (w : List ℕ). w ++ y) (within-more more n great) in
-              let head : m ≡ n % 128 + 128 = cc in
-              absurd (omega arith)
+        | inl less ↦
+            let whole : m ∷ x ≡ n ∷ y = ap (λ (w : List ℕ). w ++ x) (sym (within-one (suc more) m low)) ∙ same
+            ∙ ap (λ (w : List ℕ). w ++ y) (within-one (suc more) n less) in
+            let head : m ≡ n = cc in
+            let tail : x ≡ y = cc in
+            (head, tail)
+        | inr great ↦
+            let whole : m ∷ x ≡ (n % 128 + 128) ∷ (short_within more (n / 128) ++ y) =
+            ap (λ (w : List ℕ). w ++ x) (sym (within-one (suc more) m low)) ∙ same
+            ∙ ap (λ (w : List ℕ). w ++ y) (within-more more n great) in
+            let head : m ≡ n % 128 + 128 = cc in
+            absurd (omega arith)
       ]
       | inr high ↦ elim (cases_lt n 128) [
-          | inl less ↦
-              let whole : (m % 128 + 128) ∷ (short_within more (m / 128) ++ x) ≡ n ∷ y =
-              ap (λ (w : List ℕ). w ++ x) (sym (within-more more m high)) ∙ same
-              ∙ ap (λ (w : List ℕ). w ++ y) (within-one (suc more) n less) in
-              let head : m % 128 + 128 ≡ n = cc in
-              absurd (omega arith)
-          | inr great ↦
-              let whole : (m % 128 + 128) ∷ (short_within more (m / 128) ++ x)
-              ≡ (n % 128 + 128) ∷ (short_within more (n / 128) ++ y) =
-              ap (λ (w : List ℕ). w ++ x) (sym (within-more more m high)) ∙ same
-              ∙ ap (λ (w : List ℕ). w ++ y) (within-more more n great) in
-              let head : m % 128 + 128 ≡ n % 128 + 128 = cc in
-              let tail : short_within more (m / 128) ++ x ≡ short_within more (n / 128) ++ y = cc in
-              let rest = within-free more (m / 128) (n / 128) x y (fits-rest more m is) (fits-rest more n are) tail in
-              (omega (arith, rest.0), rest.1)
+        | inl less ↦
+            let whole : (m % 128 + 128) ∷ (short_within more (m / 128) ++ x) ≡ n ∷ y =
+            ap (λ (w : List ℕ). w ++ x) (sym (within-more more m high)) ∙ same
+            ∙ ap (λ (w : List ℕ). w ++ y) (within-one (suc more) n less) in
+            let head : m % 128 + 128 ≡ n = cc in
+            absurd (omega arith)
+        | inr great ↦
+            let whole : (m % 128 + 128) ∷ (short_within more (m / 128) ++ x)
+            ≡ (n % 128 + 128) ∷ (short_within more (n / 128) ++ y) =
+            ap (λ (w : List ℕ). w ++ x) (sym (within-more more m high)) ∙ same
+            ∙ ap (λ (w : List ℕ). w ++ y) (within-more more n great) in
+            let head : m % 128 + 128 ≡ n % 128 + 128 = cc in
+            let tail : short_within more (m / 128) ++ x ≡ short_within more (n / 128) ++ y = cc in
+            let rest = within-free more (m / 128) (n / 128) x y (fits-rest more m is) (fits-rest more n are) tail in
+            (omega (arith, rest.0), rest.1)
       ]
     ]
 

@@ -2,7 +2,7 @@
 --
 -- The key idea: from which index on a run may begin is known from the runs before it, so its gap and its length say
 -- which run it is; and so the runs of two lists that begin one list of bytes are the same one after another.
-use Rattle.std.proofs.Common.{◌≡◌, ℕ, ◌+◌, ◌-◌, ◌^◌, ◌<◌, ◌≤◌, List, [], ◌∷◌, ◌++◌, length, drop, refl, sym, ap, ap₂}
+use Rattle.std.proofs.Common.{◌≡◌, ℕ, ◌+◌, ◌-◌, ◌<◌, ◌≤◌, List, [], ◌∷◌, ◌++◌, length, drop, refl, sym, ap, ap₂}
 use Rattle.std.proofs.Common.{subst, ◌∙◌, arith, append_assoc, length-append, length-drop}
 use Rattle.std.specs.List.{flat_map}
 use Rattle.std.proofs.Math.Seq.{drop-drop, drop-append_seam}
@@ -144,8 +144,8 @@ set-free e few a b x y is are same =
     = sym (append_assoc (short_number (length rs)) (short_runs 0 rs) x) ∙ same
     ∙ append_assoc (short_number (length ss)) (short_runs 0 ss) y in
     let count = short-free (length rs) (length ss) (short_runs 0 rs ++ x) (short_runs 0 ss ++ y)
-    (omega (arith, few, runs-length (size_of e) rs longest)) (omega (arith, few, runs-length (size_of e) ss other)) whole
-    in
+    (omega (arith, few, runs-length (size_of e) rs longest))
+    (omega (arith, few, runs-length (size_of e) ss other)) whole in
     let runs = runs-same 0 (size_of e) rs ss x y few longest other count.0 count.1 in
     let indexes : a.indexes ≡ b.indexes =
     sym (spelled-runs_of 0 (size_of e) a.indexes is.rising) ∙ ap (flat_map indexes_of) runs.0

@@ -1,7 +1,7 @@
 -- A short number: a number below 4,294,967,296 in 1 to 5 bytes, seven bits in each, the lowest
 -- first. The top bit of a byte is 1 where a further byte follows, and 0 in the last one, which is 0
 -- only where it is the only one. So a number has one spelling.
-use Rattle.std.specs.Prelude.{◌≡◌, ℕ, zero, suc, ◌+◌, ◌*◌, ◌/◌, ◌%◌, ◌^◌, ◌<◌, ◌≤◌, List, [], ◌∷◌}
+use Rattle.std.specs.Prelude.{ℕ, zero, suc, ◌+◌, ◌*◌, ◌/◌, ◌%◌, ◌^◌, ◌<◌, ◌≤◌, List, [], ◌∷◌}
 use Rattle.std.specs.Prelude.{if◌then◌else◌, nat_lt}
 
 -- the bytes of a number, seven bits in each, in at most so many bytes more than one

@@ -47,14 +47,14 @@ fn take_within(bytes: &[u8], at: u64, more: u32) -> Option<(u32, u64)>
         return None;
     }
     let (high, next) = take_within(bytes, at + 1, more - 1)?;
-    if high < LEAST_HIGH || high > MOST_HIGH {
+    if high < LEAST || high > MOST {
         return None;
     }
     Some((high * 128 + (byte - 128), next))
 }
 
 /// The least number that may be behind the lowest seven bits: a last byte of 0 would add nothing.
-const LEAST_HIGH: u32 = 1;
+const LEAST: u32 = 1;
 
 /// The largest number that may be behind the lowest seven bits of a number of 32 bits.
-const MOST_HIGH: u32 = 33_554_431;
+const MOST: u32 = 33_554_431;

@@ -82,12 +82,7 @@ pub fn take_set_2(
 
 /// The longest runs of a set of a shape whose short bytes begin at a place, and the place behind
 /// them.
-fn take_runs(
-    alloc: Global,
-    shape: &Shape,
-    bytes: &[u8],
-    at: u64,
-) -> Result<(Vec<Run>, u64), Take>
+fn take_runs(alloc: Global, shape: &Shape, bytes: &[u8], at: u64) -> Result<(Vec<Run>, u64), Take>
     ensures longest { IfOk result (λ r. AreRunsFrom 0 (size_of shape.now) r.0.items) }
     ensures bytes { IfOk result (λ r. IsAt bytes.now at r.1 (short_runs_bytes r.0.items)) }
     ensures err { IfErr result (λ e. SaysNoShortSet shape.now bytes.now at e) }

@@ -1,13 +1,13 @@
 -- The first byte says whether there is a rest; where there is, the rest has one byte fewer to go on.
-use Rattle.std.proofs.Common.{◌≡◌, ℕ, suc, ◌+◌, ◌-◌, ◌*◌, ◌<◌, ◌≤◌, List, length, get_or, subst, sym, arith, rules}
+use Rattle.std.proofs.Common.{◌≡◌, ℕ, suc, ◌+◌, ◌-◌, ◌*◌, ◌<◌, ◌≤◌, get_or, subst, sym, arith, rules}
 use Rattle.sz_region.specs.Counted.{IsAt}
 use Rattle.sz_region.specs.Stores.{NoneAt}
 use Rattle.sz_short.specs.ShortNumber.{short_within, IsWithin}
 use Rattle.sz_short.proofs.ShortNumbers.{none-past, none-long, none-behind, none-other, reads-one, reads-more}
 use Rattle.sz_short.proofs.ShortNumbers.{fits-one, fits-up}
 use Rattle.sz_short.proofs.numbers.+take_within.Goals as goal
-use Rattle.sz_short.proofs.numbers.+take_within.Goals.{then-high-lt-LEAST_HIGH-via-then-high-lt-LEAST_HIGH}
-use Rattle.sz_short.proofs.numbers.+take_within.Goals.{then-high-lt-LEAST_HIGH-via-else-high-lt-LEAST_HIGH+then-high-gt-MOST_HIGH}
+use Rattle.sz_short.proofs.numbers.+take_within.Goals.{then-high-lt-LEAST-via-then-high-lt-LEAST}
+use Rattle.sz_short.proofs.numbers.+take_within.Goals.{then-high-lt-LEAST-via-else-high-lt-LEAST+then-high-gt-MOST}
 
 pub returns-then-bytes-at-clause-none : goal.returns-then-bytes-at-clause-none
 returns-then-bytes-at-clause-none t c = none-past c.args.more c.args.bytes.now c.args.at (omega arith)
@@ -40,15 +40,15 @@ returns-in_err-high-clause-none t c =
     (none-behind (c.args.more - 1) bytes c.args.at (omega arith) (omega arith) c.in_err-high.ensures.none) in
     search rules
 
-pub returns-then-high-lt-LEAST_HIGH-clause-none : goal.returns-then-high-lt-LEAST_HIGH-clause-none
-returns-then-high-lt-LEAST_HIGH-clause-none t c =
+pub returns-then-high-lt-LEAST-clause-none : goal.returns-then-high-lt-LEAST-clause-none
+returns-then-high-lt-LEAST-clause-none t c =
     let bytes = c.args.bytes.now in
     let high = c.in_ok-high.high in
     let byte : c.from-byte.result ≡ get_or bytes c.args.at 0 = omega arith in
     let up : suc (c.args.more - 1) ≡ c.args.more = omega arith in
-    let wrong : 0 < high → 33554432 ≤ high = λ some. elim c.then-high-lt-LEAST_HIGH.branch [
-      | then-high-lt-LEAST_HIGH-via-then-high-lt-LEAST_HIGH w ↦ absurd (omega arith)
-      | then-high-lt-LEAST_HIGH-via-else-high-lt-LEAST_HIGH+then-high-gt-MOST_HIGH w ↦ omega arith
+    let wrong : 0 < high → 33554432 ≤ high = λ some. elim c.then-high-lt-LEAST.branch [
+      | then-high-lt-LEAST-via-then-high-lt-LEAST w ↦ absurd (omega arith)
+      | then-high-lt-LEAST-via-else-high-lt-LEAST+then-high-gt-MOST w ↦ omega arith
     ] in
     subst (λ (k : ℕ). NoneAt (IsWithin k) (short_within k) bytes c.args.at) up
     (none-other (c.args.more - 1) bytes c.args.at c.in_ok-high.next high (omega arith) (omega arith)

@@ -1,5 +1,5 @@
 -- A byte more was written, and the seven bits that it has are left no more.
-use Rattle.std.proofs.Common.{◌+◌, ◌/◌, ◌%◌, List, [], ◌∷◌, ◌++◌, ℕ, ap, sym, ◌∙◌, arith, append_assoc}
+use Rattle.std.proofs.Common.{◌+◌, ◌%◌, List, [], ◌∷◌, ◌++◌, ℕ, ap, sym, ◌∙◌, arith, append_assoc}
 use Rattle.std.proofs.lemmas.List.{append-nil}
 use Rattle.sz_short.proofs.ShortNumbers.{left-all, left-less, left-last}
 use Rattle.sz_short.proofs.numbers.put_short.Goals as goal

@@ -1,5 +1,5 @@
 -- A number of four bytes has at most four bytes more than one.
-use Rattle.std.proofs.Common.{ℕ, Option, Some, None}
+use Rattle.std.proofs.Common.{Option, Some, None}
 use Rattle.std.specs.Option.{IfNone}
 use Rattle.sz_region.specs.Stores.{NoneAt}
 use Rattle.sz_short.specs.ShortNumber.{short_number, IsSmall}

@@ -1,5 +1,5 @@
 -- The gap is read first, and then how many cells are behind the first.
-use Rattle.std.proofs.Common.{◌+◌, arith, rules}
+use Rattle.std.proofs.Common.{arith, rules}
 use Rattle.sz_short.proofs.ShortRuns.{none-behind, none-far}
 use Rattle.sz_short.proofs.sets.take_run.Goals as goal
 

@@ -1,5 +1,5 @@
 -- One run more stands behind those before it, and where it does not, no set begins.
-use Rattle.std.proofs.Common.{◌≡◌, ℕ, ◌+◌, ◌<◌, ◌≤◌, List, [], ◌∷◌, ◌++◌, length, refl, ap, sym, subst, ◌∙◌, arith}
+use Rattle.std.proofs.Common.{◌≡◌, ℕ, length, refl, ap, sym, subst, ◌∙◌, arith}
 use Rattle.std.proofs.lemmas.List.{length_push}
 use Rattle.sz_cells.specs.declared.Run.{Run}
 use Rattle.sz_cells.specs.Extent.{size_of}
@@ -15,7 +15,8 @@ use Rattle.sz_short.proofs.sets.take_runs.Goals as goal
 pub returns-in_default-clause-err : goal.returns-in_default-clause-err
 returns-in_default-clause-err c = (
   refl,
-  none-number c.args.shape.now c.args.bytes.now c.args.at (omega (arith, c.size-size.ensures)) c.in_default.ensures.none,
+  none-number c.args.shape.now c.args.bytes.now c.args.at (omega (arith, c.size-size.ensures))
+      c.in_default.ensures.none,
 )
 
 pub returns-in_default-take_run-clause-err : goal.returns-in_default-take_run-clause-err
@@ -31,7 +32,8 @@ returns-in_default-take_run-clause-err c =
     size c.in_default-take_run.ensures.none) in (
       refl,
       none-next c.args.shape.now bytes c.args.at c.in-Some.first c.loop-index.place c.in-Some.count runs
-          (omega (arith, c.size-size.ensures)) (omega arith) c.in-Some.ensures.some inv.longest inv.bytes (omega arith) none,
+          (omega (arith, c.size-size.ensures)) (omega arith) c.in-Some.ensures.some inv.longest inv.bytes (omega arith)
+          none,
     )
 
 pub loop-index-preserved : goal.loop-index-preserved
