@@ -2,7 +2,7 @@
 --
 -- The key idea: no word of a part begins another, so where a store begins, the parts that were read are its parts; and
 -- the same parts, with the sets spelled in the other way, make the other store.
-use Rattle.std.proofs.Common.{◌≡◌, ℕ, zero, suc, ◌+◌, ◌*◌, ◌^◌, ◌<◌, ◌≤◌, List, [], ◌∷◌, ◌++◌, length, take, drop, true}
+use Rattle.std.proofs.Common.{◌≡◌, ℕ, suc, ◌+◌, ◌*◌, ◌^◌, ◌<◌, ◌≤◌, List, [], ◌∷◌, ◌++◌, length, take, drop, true}
 use Rattle.std.proofs.Common.{get_or, refl, sym, ap, ap₂, subst, ◌∙◌, arith, append_assoc, length-append, length-drop}
 use Rattle.std.specs.List.{All, AllZip, flat_map}
 use Rattle.std.proofs.Math.Seq.{drop-drop, drop-append_seam}
@@ -12,7 +12,7 @@ use Rattle.std.proofs.lemmas.List.Elements.{All-head, All-tail, All-weaker, All-
 use Rattle.std.proofs.lemmas.Option.{unwrap_or-slice_get}
 use Rattle.sz_cells.specs.Extent.{Extent, is_extent}
 use Rattle.sz_cells.specs.Cells.{Cells}
-use Rattle.sz_cells.specs.SetBytes.{IsSetOf, set_bytes, four_bytes, BeginsSet}
+use Rattle.sz_cells.specs.SetBytes.{IsSetOf, set_bytes, four_bytes}
 use Rattle.sz_cells.proofs.LawsOfSets.{split-same, bytes-one}
 use Rattle.sz_spec.specs.Values.{extent_at, no_extent}
 use Rattle.sz_region.specs.declared.set_bytes.Take.{Take}
@@ -442,7 +442,8 @@ short-judged out ins bytes at place end next table block regions old mid new rig
     begins =
     let word = counted (listed_by set_bytes) table in
     let all : new ≡ (old ++ word) ++ block = two ∙ ap (λ (w : List ℕ). w ++ block) one in
-    respells-full short_set_bytes set_bytes out ins bytes at place end table block regions old mid new read there one two
+    respells-full short_set_bytes set_bytes out ins bytes at place end table block regions old mid new read there one
+    two
     (full-read set_bytes long-known out ins new (length old) (length old + length word) (length new) next table block
     regions right listed (written-first old word block new all) is (written-second old word block new all)
     (begins-long out ins new (length old) next regions begins))
@@ -457,6 +458,7 @@ pub long-judged : (out : Extent) (ins : List Extent) (bytes : List ℕ) (at plac
     → RespellsFull set_bytes short_set_bytes out ins bytes at end old new
 long-judged out ins bytes at place end next table block regions old mid new right listed read is there one two
     begins =
-    respells-full set_bytes short_set_bytes out ins bytes at place end table block regions old mid new read there one two
+    respells-full set_bytes short_set_bytes out ins bytes at place end table block regions old mid new read there one
+    two
     (full-read set_bytes long-known out ins bytes at place end next table block regions right listed read is there
     (begins-long out ins bytes at next regions begins))

@@ -1,11 +1,13 @@
 -- Rows: short numbers and short sets as they are by hand, and bytes on the other side of each edge.
-use Rattle.std.proofs.Common.{◌≡◌, ℕ, List, [], ◌∷◌, refl, arith}
+use Rattle.std.proofs.Common.{◌≡◌, ℕ, List, [], ◌∷◌, length, refl, arith}
 use Rattle.sz_cells.specs.Extent.{flat}
-use Rattle.sz_cells.specs.Cells.{no_cells}
+use Rattle.sz_cells.specs.Cells.{Cells, no_cells}
+use Rattle.sz_cells.specs.SetBytes.{set_bytes}
 use Rattle.sz_region.specs.Stores.{NoneAt}
 use Rattle.sz_short.specs.ShortNumber.{short_within, short_number, IsWithin, IsSmall, number_spelled, IsShortSpelling}
 use Rattle.sz_short.specs.ShortSets.{short_run, short_set_bytes, BeginsShortSet, NoShortSetBegins, IsRunFrom}
 use Rattle.sz_short.proofs.ShortNumbers.{fits-four, none-past, none-long, none-behind, none-other}
+use Rattle.sz_short.specs.ShortStores.{full_word, pay_word}
 use Rattle.sz_short.proofs.ShortRuns as runs
 
 -- ---- numbers
@@ -148,3 +150,27 @@ cut_short =
     runs.none-next (flat 3 4) bytes 0 1 1 1 [] (omega arith) (omega arith)
     (record { spelled = refl; within = omega arith }) tt (record { spelled = refl; within = omega arith }) (omega arith)
     none
+
+-- ---- stores
+
+-- `neg` on one cell, one region pair, in both forms
+abbrev one_cell : Cells
+one_cell = record { extent = flat 1 1; indexes = 0 ∷ [] }
+
+neg_store : (full_word short_set_bytes
+    (record { array = 0; set = one_cell } ∷ record { array = 1; set = one_cell } ∷ []) ((0 ∷ 1 ∷ []) ∷ [])
+    ≡ 0 ∷ 0 ∷ 0 ∷ 2 ∷ 0 ∷ 1 ∷ 0 ∷ 0 ∷ 1 ∷ 1 ∷ 0 ∷ 0 ∷ 0 ∷ 0 ∷ 0 ∷ 1 ∷ 0 ∷ 0 ∷ 0 ∷ 0 ∷ 0 ∷ 0 ∷ 0 ∷ 1 ∷ [])
+    × (length (full_word set_bytes
+    (record { array = 0; set = one_cell } ∷ record { array = 1; set = one_cell } ∷ []) ((0 ∷ 1 ∷ []) ∷ [])) ≡ 42)
+unfolding short_number short_within
+neg_store = (refl, refl)
+
+-- one entry: the payload is the same bytes in both forms
+pay_store : (pay_word short_set_bytes ((128 ∷ 0 ∷ []) ∷ []) (one_cell ∷ []) ((0 ∷ 0 ∷ []) ∷ [])
+    ≡ 0 ∷ 0 ∷ 0 ∷ 1 ∷ 0 ∷ 0 ∷ 0 ∷ 2 ∷ 128 ∷ 0 ∷ 0 ∷ 0 ∷ 0 ∷ 1 ∷ 1 ∷ 0 ∷ 0 ∷ 0 ∷ 0 ∷ 0 ∷ 1 ∷ 0 ∷ 0 ∷ 0 ∷ 0 ∷ 0 ∷ 0 ∷ 0
+    ∷ 0 ∷ [])
+    × (pay_word set_bytes ((128 ∷ 0 ∷ []) ∷ []) (one_cell ∷ []) ((0 ∷ 0 ∷ []) ∷ [])
+    ≡ 0 ∷ 0 ∷ 0 ∷ 1 ∷ 0 ∷ 0 ∷ 0 ∷ 2 ∷ 128 ∷ 0 ∷ 0 ∷ 0 ∷ 0 ∷ 1 ∷ 0 ∷ 0 ∷ 0 ∷ 1 ∷ 0 ∷ 0 ∷ 0 ∷ 0 ∷ 0 ∷ 0 ∷ 0 ∷ 0 ∷ 0 ∷ 0
+    ∷ 0 ∷ 1 ∷ 0 ∷ 0 ∷ 0 ∷ 0 ∷ 0 ∷ 0 ∷ 0 ∷ 0 ∷ [])
+unfolding short_number short_within
+pay_store = (refl, refl)

@@ -1,10 +1,15 @@
--- What a reader may take for granted of short numbers and short sets. Each law is proved.
-use Rattle.std.specs.Prelude.{◌≡◌, ℕ, ◌+◌, ◌^◌, ◌<◌, ◌≤◌, true, List, ◌++◌, length}
+-- What a reader may take for granted of short numbers, of short sets, and of stores by a spelling
+-- of their sets. Each law is proved.
+use Rattle.std.specs.Prelude.{◌≡◌, ◌↔◌, ℕ, ◌+◌, ◌^◌, ◌<◌, ◌≤◌, true, List, ◌++◌, length}
 use Rattle.sz_cells.specs.Extent.{Extent, is_extent}
 use Rattle.sz_cells.specs.Cells.{Cells}
-use Rattle.sz_cells.specs.SetBytes.{IsSetOf}
+use Rattle.sz_cells.specs.SetBytes.{IsSetOf, set_bytes}
+use Rattle.sz_region.specs.Parts.{Pairing, Entry}
+use Rattle.sz_region.specs.FullBytes.{BeginsRegions}
+use Rattle.sz_region.specs.PayBytes.{BeginsEntries}
 use Rattle.sz_short.specs.ShortNumber.{short_number, number_spelled, IsShortSpelling}
 use Rattle.sz_short.specs.ShortSets.{short_set_bytes, BeginsShortSet}
+use Rattle.sz_short.specs.ShortStores.{BeginsFull, BeginsPay}
 
 -- the bytes of a number are a short spelling, of this number, in at most 5 bytes
 abbrev pub NumbersHaveShortSpellings : Type 0
@@ -47,3 +52,15 @@ WrittenShortSetsAreRead = (e : Extent) (set : Cells) (before rest : List ℕ)
     BeginsShortSet e bytes (length before) (length before + length word) set
     × ((other : Cells) (next : ℕ) → BeginsShortSet e bytes (length before) next other
     → next ≤ length bytes → (other ≡ set) × (next ≡ length before + length word))
+
+-- where its sets have eight bytes a run, a store of full lineage is one as it is defined without a
+-- choice of spelling
+abbrev pub LongFullIsFull : Type 0
+LongFullIsFull = (out : Extent) (ins : List Extent) (bytes : List ℕ) (at next : ℕ)
+    (regions : List Pairing) → BeginsFull set_bytes out ins bytes at next regions
+    ↔ BeginsRegions out ins bytes at next regions
+
+-- and so is a store of payloads
+abbrev pub LongPayIsPay : Type 0
+LongPayIsPay = (out : Extent) (bytes : List ℕ) (at next : ℕ) (entries : List Entry)
+    → BeginsPay set_bytes out bytes at next entries ↔ BeginsEntries out bytes at next entries

@@ -4,6 +4,7 @@
 ghost use Rattle.sz_short.specs.Laws.{NumbersHaveShortSpellings, ShortSpellingsAreNumbers};
 ghost use Rattle.sz_short.specs.Laws.{BytesAreOneShortNumber, BytesAreOneShortSet};
 ghost use Rattle.sz_short.specs.Laws.{OneShortSetBegins, WrittenShortSetsAreRead};
+ghost use Rattle.sz_short.specs.Laws.{LongFullIsFull, LongPayIsPay};
 
 /// The bytes of a number are exactly its one short spelling.
 pub fn numbers_have_one_short_spelling()
@@ -25,4 +26,11 @@ pub fn short_bytes_are_one_set()
 /// What is written of a set is read again whatever follows it, and is read in no other way.
 pub fn written_short_sets_are_read()
     ensures { WrittenShortSetsAreRead }
+{}
+
+/// Where its sets have eight bytes a run, a store by its parts is a store as `sz_region` defines
+/// it.
+pub fn long_stores_are_stores()
+    ensures full { LongFullIsFull }
+    ensures pay { LongPayIsPay }
 {}

@@ -3,8 +3,8 @@
 //!
 //! [`put_set_2`] and [`take_set_2`] write and read the short bytes of a cell set. [`shorten_full`]
 //! and [`shorten_pay`] read a store and append its short form, [`widen_full`] and [`widen_pay`] do
-//! the converse. `docs/FORMATS.md` describes these bytes. Of 3 rows and 4 columns, the set of the runs 5 to 7 and 10 to
-//! 10 has 5 bytes, where `sz_region::put_set` spells it with 20:
+//! the converse. `docs/FORMATS.md` describes these bytes. Of 3 rows and 4 columns, the set of the
+//! runs 5 to 7 and 10 to 10 has 5 bytes, where `sz_region::put_set` spells it with 20:
 //!
 //! ```
 //! put_set_2(&set, &mut bytes)?;                   // 02 05 02 01 00

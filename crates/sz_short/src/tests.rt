@@ -1,9 +1,12 @@
-//! The bytes of short numbers and of a short set as they are written, and bytes that are none.
+//! The bytes of short numbers, of a short set and of stores as they are written, and bytes that are
+//! none.
 
 ghost use Rattle.std.specs.Prelude.{◌≡◌, IfOk};
 ghost use Rattle.sz_cells.specs.Extent.{flat};
 
+use crate::full::{shorten_full, widen_full};
 use crate::numbers::{put_short, take_short};
+use crate::pay::{shorten_pay, widen_pay};
 use crate::sets::{put_set_2, take_set_2};
 use std::alloc::Global;
 use std::test::Fail;
@@ -93,5 +96,61 @@ fn bytes_of_no_set_are_refused(rt: HostRuntime) -> Result<(), Fail> {
     let (none, next) = take_set_2(alloc, four_by_five()?, &no_run, 1)?;
     assert_eq!(rt; none.count(), 0);
     assert_eq!(rt; next, 2);
+    Ok(())
+}
+
+/// The shape of one cell.
+fn one_cell() -> Result<Shape, Fail>
+    ensures { IfOk result (λ s. s ≡ flat 1 1) }
+{
+    Ok(Shape::make(1, 1).ok_or("one cell is a shape")?)
+}
+
+#[test]
+fn a_full_store_is_shortened_and_widened(rt: HostRuntime) -> Result<(), Fail> {
+    let alloc = rt.alloc();
+    let cell = one_cell()?;
+    let long = [
+        0, 0, 0, 2, 0, 0, 0, 0, 1, 0, 0, 0, 0, 0, 0, 0, 0, 1, 0, 0, 0, 1, 0, 0, 0, 0, 0, 0, 0, 0,
+        0, 0, 0, 1, 0, 0, 0, 0, 0, 0, 0, 1,
+    ];
+    let short = [
+        0, 0, 0, 2, 0, 1, 0, 0, 1, 1, 0, 0, 0, 0, 0, 1, 0, 0, 0, 0, 0, 0, 0, 1,
+    ];
+    let mut shorter = Vec::new(alloc);
+    assert_eq!(rt;
+        shorten_full(alloc, cell, &[cell], &long, 0, &mut shorter)?,
+        42
+    );
+    assert_eq!(rt; shorter.as_slice(), short.as_slice());
+    let mut wider = Vec::new(alloc);
+    assert_eq!(rt;
+        widen_full(alloc, cell, &[cell], &short, 0, &mut wider)?,
+        24
+    );
+    assert_eq!(rt; wider.as_slice(), long.as_slice());
+    let refused = widen_full(alloc, cell, &[cell], &long, 0, &mut wider).err();
+    assert_eq!(rt; refused, Some(Take::Bad { at: 0 }));
+    Ok(())
+}
+
+#[test]
+fn a_payload_keeps_its_bytes(rt: HostRuntime) -> Result<(), Fail> {
+    let alloc = rt.alloc();
+    let cell = one_cell()?;
+    let long = [
+        0, 0, 0, 1, 0, 0, 0, 12, 0, 0, 0, 1, 0, 0, 0, 0, 0, 0, 0, 0, 0, 0, 0, 1, 0, 0, 0, 1, 0, 0,
+        0, 0, 0, 0, 0, 0, 0, 0, 0, 1, 0, 0, 0, 0, 0, 0, 0, 0,
+    ];
+    let short = [
+        0, 0, 0, 1, 0, 0, 0, 12, 0, 0, 0, 1, 0, 0, 0, 0, 0, 0, 0, 0, 0, 0, 0, 1, 1, 0, 0, 0, 0, 0,
+        1, 0, 0, 0, 0, 0, 0, 0, 0,
+    ];
+    let mut shorter = Vec::new(alloc);
+    assert_eq!(rt; shorten_pay(alloc, cell, &long, 0, &mut shorter)?, 48);
+    assert_eq!(rt; shorter.as_slice(), short.as_slice());
+    let mut wider = Vec::new(alloc);
+    assert_eq!(rt; widen_pay(alloc, cell, &short, 0, &mut wider)?, 39);
+    assert_eq!(rt; wider.as_slice(), long.as_slice());
     Ok(())
 }

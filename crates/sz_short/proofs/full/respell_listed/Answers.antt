@@ -1,6 +1,6 @@
 -- The array's byte is the same in either spelling.
-use Rattle.std.proofs.Common.{◌≡◌, ℕ, ◌+◌, ◌≤◌, List, [], ◌∷◌, ◌++◌, length, get_or, ap, sym, subst, ◌∙◌, arith, append_assoc}
-use Rattle.std.proofs.lemmas.Result.{IfOk-weaker, IfErr-weaker}
+use Rattle.std.proofs.Common.{◌≡◌, ℕ, ◌+◌, List, [], ◌∷◌, ◌++◌, get_or, ap, subst, ◌∙◌, arith, append_assoc}
+use Rattle.std.proofs.lemmas.Result.{IfOk-weaker}
 use Rattle.sz_cells.specs.Extent.{Extent}
 use Rattle.sz_cells.specs.Cells.{Cells}
 use Rattle.sz_cells.specs.SetBytes.{IsSetOf}
@@ -19,7 +19,8 @@ returns-clause-ok c =
     IfOk-weaker c.respell_set.result
     (λ n. (set : Cells) × IsSetOf c.in-Some.shape set × IsAt bytes (c.args.at + 1) n (read_bytes c.args.way set)
     × (c.respell_set.new.to.items ≡ c.push.new.self.items ++ written_bytes c.args.way set))
-    (λ n. (l : Listed) × IsListed c.args.out c.args.ins.now l × IsAt bytes c.args.at n (listed_by (read_bytes c.args.way) l)
+    (λ n. (l : Listed) × IsListed c.args.out c.args.ins.now l
+    × IsAt bytes c.args.at n (listed_by (read_bytes c.args.way) l)
     × (c.respell_set.new.to.items ≡ old ++ listed_by (written_bytes c.args.way) l))
     (λ n has. (
       record { array = byte; set = has.0 },

@@ -5,7 +5,7 @@ use Rattle.std.proofs.lemmas.List.{length_push}
 use Rattle.std.proofs.lemmas.List.Elements.{All-push}
 use Rattle.std.proofs.lemmas.Result.{err_from_is_err_and}
 use Rattle.sz_cells.specs.SetBytes.{four_bytes}
-use Rattle.sz_region.specs.FullBytes.{Listed, IsListed}
+use Rattle.sz_region.specs.FullBytes.{IsListed}
 use Rattle.sz_region.proofs.Appending.{kept-first}
 use Rattle.sz_region.proofs.Spans.{at-more, on_bad-weaker, no-number, no-table}
 use Rattle.sz_short.specs.ShortStores.{listed_by}

@@ -1,5 +1,5 @@
 -- The first is, and one after the other.
-use Rattle.std.proofs.Common.{◌≡◌, true, List, get_or, take, subst, ap, ◌∙◌, sym, arith}
+use Rattle.std.proofs.Common.{◌≡◌, true, subst, arith}
 use Rattle.std.specs.List.{All}
 use Rattle.std.proofs.lemmas.List.{take_all}
 use Rattle.std.proofs.lemmas.List.Elements.{All-more, All-cons}

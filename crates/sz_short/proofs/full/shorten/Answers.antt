@@ -1,13 +1,13 @@
 -- A store begins, so the parts that are read are its parts.
-use Rattle.std.proofs.Common.{◌≡◌, ℕ, ◌+◌, List, ◌++◌, length, sym, ◌∙◌, rules}
-use Rattle.std.proofs.lemmas.Result.{IfOk-weaker, IfErr-weaker, on_err_weaker, err_from_is_err_and}
+use Rattle.std.proofs.Common.{◌≡◌, ℕ, ◌+◌, List, ◌++◌, length}
+use Rattle.std.proofs.lemmas.Result.{IfOk-weaker, IfErr-weaker, err_from_is_err_and}
 use Rattle.sz_cells.specs.SetBytes.{set_bytes}
-use Rattle.sz_region.specs.Counted.{IsAt, counted, rows_bytes}
+use Rattle.sz_region.specs.Counted.{IsAt, rows_bytes}
 use Rattle.sz_region.specs.Stores.{OnBad, NoneAt, NoRegionsBegin}
 use Rattle.sz_region.proofs.Spans.{on_bad-weaker}
 use Rattle.sz_short.specs.ShortSets.{short_set_bytes}
-use Rattle.sz_short.specs.ShortStores.{listed_by, AreRowsOf, IsBlock, RespellsFull}
-use Rattle.sz_short.proofs.Respelling.{long-known, no-long, no-full-table, no-full-rows, long-judged, kept-before}
+use Rattle.sz_short.specs.ShortStores.{AreRowsOf, IsBlock, RespellsFull}
+use Rattle.sz_short.proofs.Respelling.{long-known, no-long, no-full-table, no-full-rows, long-judged}
 use Rattle.sz_short.proofs.full.shorten.Goals as goal
 
 pub returns-in_err-place-clause-err : goal.returns-in_err-place-clause-err

@@ -1,15 +1,11 @@
 -- What is written is a store exactly where a short one was read.
-use Rattle.std.proofs.Common.{◌≡◌, ℕ, ◌+◌, List, ◌++◌, length, subst, arith, rules}
+use Rattle.std.proofs.Common.{◌≡◌, ℕ, List, length, subst, arith, rules}
 use Rattle.std.proofs.lemmas.Result.{err_from_is_err_and}
-use Rattle.sz_cells.specs.SetBytes.{set_bytes}
-use Rattle.sz_region.specs.Counted.{counted}
 use Rattle.sz_region.specs.FullBytes.{BeginsRegions}
 use Rattle.sz_region.specs.Stores.{OnBad, NoRegionsBegin}
 use Rattle.sz_region.proofs.Spans.{on_bad-weaker}
 use Rattle.sz_short.specs.ShortSets.{short_set_bytes}
-use Rattle.sz_short.specs.ShortStores.{listed_by}
 use Rattle.sz_short.proofs.Respelling.{short-known, no-full-table, no-full-rows, no-short-judged, short-judged}
-use Rattle.sz_short.proofs.Respelling.{kept-before}
 use Rattle.sz_short.proofs.full.widen.Goals as goal
 
 pub returns-in_err-place-clause-err : goal.returns-in_err-place-clause-err

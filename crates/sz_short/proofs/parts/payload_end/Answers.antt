@@ -1,5 +1,5 @@
 -- A payload is as long as its number says.
-use Rattle.std.proofs.Common.{◌≡◌, ℕ, ◌+◌, ◌++◌, List, length, subst, arith, rules}
+use Rattle.std.proofs.Common.{◌≡◌, ℕ, ◌+◌, ◌++◌, length, subst, arith, rules}
 use Rattle.sz_region.specs.Counted.{IsAt}
 use Rattle.sz_region.specs.PayBytes.{IsShort, payload_bytes}
 use Rattle.sz_region.specs.Stores.{NoneAt}

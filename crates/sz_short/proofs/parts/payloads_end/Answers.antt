@@ -1,5 +1,5 @@
 -- One more payload stands behind those before it.
-use Rattle.std.proofs.Common.{◌≡◌, ℕ, ◌+◌, List, [], ◌∷◌, ◌++◌, length, arith, rules}
+use Rattle.std.proofs.Common.{◌+◌, [], ◌∷◌, ◌++◌, length, arith, rules}
 use Rattle.std.specs.List.{flat_map}
 use Rattle.std.proofs.lemmas.List.{length_push}
 use Rattle.std.proofs.lemmas.List.Elements.{All-push}

@@ -1,6 +1,6 @@
 -- Rows have as many bytes as their number and their width say, so where the product is no number of 64 bits, or there
 -- are fewer bytes, no rows are there.
-use Rattle.std.proofs.Common.{◌≡◌, ℕ, ◌+◌, ◌*◌, ◌++◌, List, length, subst, sym, arith, rules}
+use Rattle.std.proofs.Common.{◌≡◌, ℕ, ◌+◌, ◌*◌, ◌++◌, length, subst, arith, rules}
 use Rattle.std.specs.List.{flat_map}
 use Rattle.sz_cells.specs.SetBytes.{four_bytes}
 use Rattle.sz_region.specs.Counted.{IsAt, rows_bytes}

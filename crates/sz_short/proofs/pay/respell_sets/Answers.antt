@@ -1,5 +1,5 @@
 -- One more set stands behind those before it, and was written behind them.
-use Rattle.std.proofs.Common.{◌≡◌, ℕ, ◌+◌, List, [], ◌∷◌, ◌++◌, length, take, ap, subst, ◌∙◌, arith, rules}
+use Rattle.std.proofs.Common.{◌≡◌, ◌+◌, [], ◌∷◌, ◌++◌, length, take, ◌∙◌, arith, rules}
 use Rattle.std.specs.List.{flat_map}
 use Rattle.std.proofs.lemmas.List.{length_push}
 use Rattle.std.proofs.lemmas.List.Elements.{All-push}
@@ -21,7 +21,8 @@ returns-in_err-place-clause-err c =
     let spell = read_bytes c.args.way in
     let none = on_bad-weaker c.in_err-place.field-0.0
     (λ missing. no-table (IsSetOf c.args.out) spell (read-known c.args.way c.args.out c.requires) c.args.bytes.now
-    c.args.at c.in-Some.count c.loop-index.place inv.sets c.in-Some.ensures.some (omega arith) inv.each inv.bytes missing
+    c.args.at c.in-Some.count c.loop-index.place inv.sets c.in-Some.ensures.some (omega arith) inv.each inv.bytes
+    missing
     (omega (arith, inv.count)))
     c.in_err-place.ensures.err in
     let p = err_from_is_err_and c.from_residual-in_err-place.result c.from_residual-in_err-place.ensures.1 in

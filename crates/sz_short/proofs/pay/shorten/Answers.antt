@@ -1,6 +1,6 @@
 -- A store begins, so the parts that are read are its parts.
-use Rattle.std.proofs.Common.{◌≡◌, ℕ, List, ◌++◌, length, take, sym, subst, ◌∙◌, rules}
-use Rattle.std.proofs.lemmas.Result.{IfOk-weaker, IfErr-weaker, on_err_weaker, err_from_is_err_and}
+use Rattle.std.proofs.Common.{◌≡◌, ℕ, List, ◌++◌, length, take, subst, rules}
+use Rattle.std.proofs.lemmas.Result.{IfOk-weaker, IfErr-weaker, err_from_is_err_and}
 use Rattle.sz_cells.specs.SetBytes.{set_bytes}
 use Rattle.sz_region.specs.Counted.{IsAt, counted, rows_bytes}
 use Rattle.sz_region.specs.PayBytes.{payload_bytes}
@@ -9,8 +9,8 @@ use Rattle.sz_region.proofs.Appending.{kept-first}
 use Rattle.sz_region.proofs.Spans.{on_bad-weaker}
 use Rattle.sz_short.specs.ShortSets.{short_set_bytes}
 use Rattle.sz_short.specs.ShortStores.{AreRowsOf, IsBlock, RespellsPay}
-use Rattle.sz_short.proofs.Respelling.{long-known, kept-before}
-use Rattle.sz_short.proofs.RespellingPay.{no-long-pay, no-pay-payloads, no-pay-sets, no-pay-rows, long-pay-judged}
+use Rattle.sz_short.proofs.Respelling.{long-known}
+use Rattle.sz_short.proofs.RespellingPay.{no-long-pay, no-pay-sets, no-pay-rows, long-pay-judged}
 use Rattle.sz_short.proofs.pay.shorten.Goals as goal
 
 pub returns-in_err-far-clause-err : goal.returns-in_err-far-clause-err
@@ -43,7 +43,8 @@ returns-clause-ok c =
     IfOk-weaker c.copy_rows.result
     (λ n. (block : List ℕ) × IsBlock 2 block × IsAt bytes c.in_ok-far.far n block × (new ≡ two ++ block))
     (λ n. RespellsPay set_bytes short_set_bytes c.args.out bytes c.args.at n old new)
-    (λ n more. long-pay-judged c.args.out bytes c.args.at c.in_ok-place.place c.in_ok-far.far n begins.0 ps.0 ss.0 more.0
+    (λ n more. long-pay-judged c.args.out bytes c.args.at c.in_ok-place.place c.in_ok-far.far n begins.0 ps.0 ss.0
+    more.0
     begins.1 old one two new c.requires ps.1 ps.2 ss.1 ss.2 more.1 more.2 ps.3 ss.3 more.3 begins.2)
     c.copy_rows.ensures.ok
 
@@ -56,6 +57,7 @@ returns-clause-err c =
     (λ e. OnBad e (NoneAt (AreRowsOf 2) rows_bytes bytes c.in_ok-far.far))
     (λ e. OnBad e (NoEntriesBegin c.args.out bytes c.args.at))
     (λ e says. on_bad-weaker e (λ none. no-long-pay c.args.out bytes c.args.at
-    (no-pay-rows set_bytes long-known c.args.out bytes c.args.at c.in_ok-place.place c.in_ok-far.far ps.0 ss.0 c.requires
+    (no-pay-rows set_bytes long-known c.args.out bytes c.args.at c.in_ok-place.place c.in_ok-far.far ps.0 ss.0
+    c.requires
     ps.1 ps.2 ss.1 ss.2 none)) says)
     c.copy_rows.ensures.err

@@ -1,15 +1,14 @@
 -- What is written is a store exactly where a short one was read.
-use Rattle.std.proofs.Common.{◌≡◌, ℕ, List, ◌++◌, length, take, subst, arith, rules}
+use Rattle.std.proofs.Common.{◌≡◌, ℕ, List, length, take, subst, arith, rules}
 use Rattle.std.proofs.lemmas.Result.{err_from_is_err_and}
-use Rattle.sz_cells.specs.SetBytes.{set_bytes}
 use Rattle.sz_region.specs.Counted.{counted}
 use Rattle.sz_region.specs.PayBytes.{payload_bytes, BeginsEntries}
 use Rattle.sz_region.specs.Stores.{OnBad, NoEntriesBegin}
 use Rattle.sz_region.proofs.Appending.{kept-first}
 use Rattle.sz_region.proofs.Spans.{on_bad-weaker}
 use Rattle.sz_short.specs.ShortSets.{short_set_bytes}
-use Rattle.sz_short.proofs.Respelling.{short-known, kept-before}
-use Rattle.sz_short.proofs.RespellingPay.{no-pay-payloads, no-pay-sets, no-pay-rows, no-pay-judged, short-pay-judged}
+use Rattle.sz_short.proofs.Respelling.{short-known}
+use Rattle.sz_short.proofs.RespellingPay.{no-pay-sets, no-pay-rows, no-pay-judged, short-pay-judged}
 use Rattle.sz_short.proofs.pay.widen.Goals as goal
 
 pub returns-in_err-far-clause-err : goal.returns-in_err-far-clause-err
@@ -70,7 +69,8 @@ returns-clause-ok c =
     let more = c.in_ok-next.ensures.ok in
     let begins = c.in_ok-find_store.ensures.ok in
     let begin : c.len-begin.result ≡ length old = first_of (omega arith, search rules) in
-    short-pay-judged c.args.out c.args.bytes.now c.args.at c.in_ok-place.place c.in_ok-far.far c.in_ok-next.next begins.0
+    short-pay-judged c.args.out c.args.bytes.now c.args.at c.in_ok-place.place c.in_ok-far.far c.in_ok-next.next
+    begins.0
     ps.0 ss.0 more.0 begins.1 old one two new c.requires ps.1 ps.2 ss.1 ss.2 more.1 more.2 ps.3 ss.3 more.3
     (subst (λ (xs : List ℕ). BeginsEntries c.args.out xs (length old) begins.0 begins.1) c.deref.ensures.value
     (subst (λ (k : ℕ). BeginsEntries c.args.out c.deref.result.now k begins.0 begins.1) begin begins.2))
