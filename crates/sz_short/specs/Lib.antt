@@ -1,0 +1,5 @@
+pub mod ShortNumber
+pub mod ShortSets
+pub mod Ways
+pub mod ShortStores
+pub mod Laws
