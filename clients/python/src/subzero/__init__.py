@@ -30,6 +30,7 @@ from .faults import (
     TooManyPaths,
 )
 from .flow import Flow, Input, Node
+from .keeping import strategies
 from .later import Future, Later, Pipeline
 from .paths import Path
 from .run import Explanation, Run
@@ -62,6 +63,7 @@ __all__ = [
     "Session",
     "SubZeroError",
     "TooManyPaths",
+    "strategies",
     "suspects_table",
 ]
 

@@ -28,6 +28,7 @@ import numpy as np
 
 from .cells import Integers, Mask, Shape, Values, values_of
 from .faults import OutOfStep, SubZeroError
+from .keeping import chosen_for
 
 HEADER = b"\x01SubZero log 1\r\n"
 _VERSION = 4
@@ -101,6 +102,10 @@ class HeldFlow:
     shown: str = ""
     names: list[str | None] = field(default_factory=list)
     lists: dict[int, list[str]] = field(default_factory=dict)
+
+    def list_of(self, number: int) -> list[str]:
+        """The strategies of a node by its number: those that were set, else those that the program chooses."""
+        return self.lists.get(number) or chosen_for(str(self.nodes[number]["op"]))
 
     def difference(self, other: HeldFlow) -> str | None:
         """In what another flow differs from this one, in words; None where the program would see the same flow."""
