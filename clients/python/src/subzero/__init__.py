@@ -18,6 +18,7 @@ matplotlib), `python -m subzero` tells what can be done from a shell.
 from typing import TYPE_CHECKING
 
 from .catalogue import suspects_table
+from .checking import Sound, Unsound, check
 from .faults import (
     BadInput,
     Cancelled,
@@ -61,8 +62,11 @@ __all__ = [
     "Room",
     "Run",
     "Session",
+    "Sound",
     "SubZeroError",
     "TooManyPaths",
+    "Unsound",
+    "check",
     "strategies",
     "suspects_table",
 ]

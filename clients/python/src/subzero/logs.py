@@ -262,7 +262,7 @@ def groups(file: BinaryIO) -> Iterator[Group]:
         if head and head[0] != 1:
             return
         length = int.from_bytes(head[2:], "big")
-        if len(head) < 10 or not 1 <= head[1] <= 4 or at + 10 + length >= size:
+        if len(head) < 10 or not 1 <= head[1] <= 4 or at + 10 + length > size:
             raise OutOfStep(f"the log is bad at {at}")
         yield Group(at, head[1], at + 10, length)
         at += 10 + length
