@@ -208,8 +208,8 @@ class Kept(unittest.TestCase):
                 forward = run.explain(big, (30, 30), to=smooth, direction="forward")[0]
                 self.assertEqual((dict(back.steps)[clean], dict(forward.steps)[clean]), ANSWERED[word], word)
 
-    def test_small_is_the_store_of_fewest_bytes(self) -> None:
-        """Of all that keep a store, by what a log of the tutorial's image takes for a run."""
+    def test_small_takes_the_fewest_bytes_in_a_log(self) -> None:
+        """Of all that keep a store, for a run on the tutorial's image."""
         table = np.arange(0, 900, 3).reshape(1, 300)
         for name in ("clean", "labels", "looked"):
             sizes: dict[str, int] = {}

@@ -46,7 +46,7 @@ def strategies(word: str, operator: str) -> list[str]:
     - "asked backward": `full_one_b`, which finds by an output cell the cells that it was made of
     - "asked forward": `full_one_f`, which finds by a cell of the inputs the output cells that it touched
     - "both": these two; they take the most memory, and the longest start
-    - "small": `comp_many`, the smallest store: it has only the cells whose lineage is not the cell itself
+    - "small": `comp_many`, a small store: it has only the cells whose lineage is not the cell itself
     - "nothing": `blackbox`: an ask goes through the whole node again
 
     All other operators have a mapping, which answers in both directions and needs no store, so that each word stands
