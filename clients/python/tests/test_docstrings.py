@@ -11,11 +11,11 @@ import numpy as np
 
 import subzero
 
-MODULES = "session flow run spread catalogue later cells logs locks program faults progress numerals".split()
-MODULES += ["view", "tiles.mosaic"]
+MODULES = "session flow keeping run spread catalogue later cells logs locks checking program faults progress".split()
+MODULES += ["numerals", "view", "tiles.mosaic"]
 WITHIN = {  # calls from one module of the client to another, and what a class above has an example of
     "BaseArray": {"is_of"},
-    "Flow": {"session", "defined", "is_of", "is_same", "shapes", "check_start", "started_on", "of_held"},
+    "Flow": {"session", "defined", "is_of", "is_same", "shapes", "check_start", "started_on", "of_held", "kept_of"},
     "Refused": {"because"},
     "Room": {"cells"},
     "Session": {"closed", "pid", "order", "holdings", "hold_flow", "remember", "set_strategies", "runs_on"},
@@ -53,7 +53,7 @@ class Docstrings(unittest.TestCase):
         finder = doctest.DocTestFinder()
         tests = [test for name in MODULES for test in finder.find(importlib.import_module(f"subzero.{name}"))]
         shown = "".join(example.source for test in tests for example in test.examples)
-        missing = [name for name in ("tiled", "view", "suspects_table") if f"subzero.{name}(" not in shown]
+        missing = [name for name in ("tiled", "view", "suspects_table", "check", "strategies") if f"subzero.{name}(" not in shown]
         for name in subzero.__all__:
             thing = getattr(subzero, name)
             if inspect.isclass(thing) and not issubclass(thing, Exception):

@@ -32,7 +32,7 @@ except ImportError:
 
 ROOT = Path(__file__).resolve().parents[3]
 TUTORIAL, README = ROOT / "docs" / "TUTORIAL.md", ROOT / "README.md"
-MADE = ["back.png", "changed.png", "touched.png", "x.session"]
+MADE = ["back.png", "changed.png", "survey.log", "touched.png", "x.session"]
 
 
 def blocks(text: str) -> list[tuple[str, str]]:

@@ -18,6 +18,7 @@ matplotlib), `python -m subzero` tells what can be done from a shell.
 from typing import TYPE_CHECKING
 
 from .catalogue import suspects_table
+from .checking import Sound, Unsound, check
 from .faults import (
     BadInput,
     Cancelled,
@@ -30,6 +31,7 @@ from .faults import (
     TooManyPaths,
 )
 from .flow import Flow, Input, Node
+from .keeping import strategies
 from .later import Future, Later, Pipeline
 from .paths import Path
 from .run import Explanation, Run
@@ -60,8 +62,12 @@ __all__ = [
     "Room",
     "Run",
     "Session",
+    "Sound",
     "SubZeroError",
     "TooManyPaths",
+    "Unsound",
+    "check",
+    "strategies",
     "suspects_table",
 ]
 

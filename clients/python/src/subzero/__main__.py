@@ -4,16 +4,12 @@ from __future__ import annotations
 
 import argparse
 import importlib
-import os
-import subprocess
 import sys
 from collections.abc import Sequence
 
-from . import __version__
-from .faults import SubZeroError
-from .locks import lock_log
+from . import __version__, checking
+from .faults import ProgramEnded, SubZeroError
 from .logs import told
-from .program import find
 
 
 def info(words: Sequence[str]) -> int:
@@ -25,11 +21,16 @@ def info(words: Sequence[str]) -> int:
 def check(words: Sequence[str]) -> int:
     """Run the program's check of a log, which no session has open meanwhile."""
     log = _log("check", "Compares the stores of a log with what their operators relate.", words)
-    lock = lock_log(log, alone=False)
     try:
-        return subprocess.run([find(), "check", log], stdin=subprocess.DEVNULL, check=False).returncode
-    finally:
-        os.close(lock)
+        found = checking.check(log)
+    except ProgramEnded as fault:  # it is told as the program tells it
+        print(fault.text or fault, file=sys.stderr)
+        return fault.status
+    if isinstance(found, checking.Sound):
+        print(f"sound {found.versions}")
+    else:
+        print(f"unsound version {found.version} node {found.node} {found.strategy}")
+    return 0
 
 
 def demo(words: Sequence[str]) -> int:

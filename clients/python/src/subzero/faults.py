@@ -2,6 +2,8 @@
 
 from __future__ import annotations
 
+import re
+
 _RULES = {
     1: "the line is not JSON",
     2: "the line is longer than 33,554,432 bytes",
@@ -90,7 +92,8 @@ class OutOfStep(SubZeroError):
 class ProgramEnded(SubZeroError):
     """The program has ended, so that a line has no reply.
 
-    `status` is its exit status (below 0: the signal that ended it), `text` what it wrote on standard error.
+    `status` is its exit status (below 0: the signal that ended it), `text` what it wrote on standard error. `place` is
+    the byte of a bad log at which it is bad, and else None.
     """
 
     def __init__(self, status: int, text: str) -> None:
@@ -101,6 +104,8 @@ class ProgramEnded(SubZeroError):
         super().__init__(f"subzero ended with status {status}: {why}" + (f"; it wrote: {text}" if text else ""))
         self.status = status
         self.text = text
+        bad = re.search(r"^subzero: bad log at (\d+)$", text, re.M)
+        self.place = None if bad is None else int(bad[1])
 
 
 class Refused(SubZeroError):

@@ -13,6 +13,7 @@ from numpy.typing import ArrayLike
 
 from .cells import Shape, number_of, short
 from .faults import BadInput, OutOfStep, Refused, SubZeroError
+from .keeping import OPERATORS, WITHOUT_MAPPING, Keep, chosen_for, names_of
 from .logs import HeldFlow
 
 if TYPE_CHECKING:
@@ -21,14 +22,6 @@ if TYPE_CHECKING:
 MOST_FLOWS = 1024
 
 _GREATEST_NUMBER = 2**32 - 1
-_KEPT = frozenset(
-    "map blackbox full_one_b full_one_f full_many_b full_many_f pay_one pay_many comp_one comp_many".split()
-)
-_TRACED = frozenset(("lookup", "regions", "clean"))
-_OPERATORS = frozenset(
-    "neg abs add_k mul_k clip add sub mul min max transpose slice convolve block fold_layers lookup regions "
-    "clean".split()
-)
 
 _LABELS = {
     "add_k": "plus {k}",
@@ -159,6 +152,18 @@ class Node(Operand):
             told = f"{len(self.parameters['kernel'])} by {len(self.parameters['kernel'][0])}"
         return f"{self.op} ({told})" if told else self.op
 
+    @property
+    def kept(self) -> list[str]:
+        """The names of the strategies by which its lineage is kept, in runs that are started from now on.
+
+        >>> labels.kept
+        ['blackbox']
+        >>> flow.keep(labels, "small")
+        >>> labels.kept
+        ['comp_many']
+        """
+        return self.flow.kept_of(self)
+
 
 Place: TypeAlias = Input | Node
 """An array of a flow: a base array that it takes, or the output of a node."""
@@ -167,11 +172,15 @@ Place: TypeAlias = Input | Node
 class Flow:
     """A flow that is being built. Each operator's method gives the new node.
 
-    `x`, `a`, `b` are arrays of this flow: `flow.input(0)`, or an earlier node. `keep` is how the node's lineage is
-    kept: one to three names of strategies, as in docs/FORMATS.md, or None for the program's own choice. `name` is a
-    name for people, by which `flow[name]` and `run[name]` give the node; it is kept in a log. Every method raises
-    BadInput for what could not be sent; rules on values (a kernel of even sides, a limit above the other) are the
-    program's, and `define` tells them. Nodes can be written as formulas too: see `subzero.flow.Operand`.
+    `x`, `a`, `b` are arrays of this flow: `flow.input(0)`, or an earlier node. `name` is a name for people, by which
+    `flow[name]` and `run[name]` give the node; it is kept in a log. Every method raises BadInput for what could not be
+    sent; rules on values (a kernel of even sides, a limit above the other) are the program's, and `define` tells them.
+    Nodes can be written as formulas too: see `subzero.flow.Operand`.
+
+    `keep` is how the node's lineage is kept, which changes no answer but what runs and asks cost: a word, "asked
+    backward", "asked forward", "both", "small" or "nothing" (`subzero.strategies` says what each stands for), or a list
+    of one to three names of strategies, as in docs/FORMATS.md; None is the program's own choice, "nothing". `keep_all`
+    says it of all nodes, and `node.kept` tells it.
 
     `flow.name` is the name that is shown, `flow.program_name` that by which the program knows the flow, which is
     another one where `replace` took it.
@@ -270,7 +279,7 @@ class Flow:
         number = _place(place).number
         return self._base[number] if isinstance(place, Input) else self.shapes(self._base)[number]
 
-    def neg(self, x: Place, *, keep: Sequence[str] | None = None, name: str | None = None) -> Node:
+    def neg(self, x: Place, *, keep: Keep | None = None, name: str | None = None) -> Node:
         """Each value negated. Empty cells stay empty, and what is no whole number of 64 bits becomes empty: so in all
         arithmetic.
 
@@ -284,7 +293,7 @@ class Flow:
         """
         return self._node("neg", (x,), keep, name)
 
-    def abs(self, x: Place, *, keep: Sequence[str] | None = None, name: str | None = None) -> Node:
+    def abs(self, x: Place, *, keep: Keep | None = None, name: str | None = None) -> Node:
         """Each value's distance from 0. Gives a node of the shape of `x`.
 
         >>> flow = session.flow("f")
@@ -295,7 +304,7 @@ class Flow:
         """
         return self._node("abs", (x,), keep, name)
 
-    def add_k(self, x: Place, k: int, *, keep: Sequence[str] | None = None, name: str | None = None) -> Node:
+    def add_k(self, x: Place, k: int, *, keep: Keep | None = None, name: str | None = None) -> Node:
         """Each value plus the whole number `k`. Gives a node of the shape of `x`.
 
         >>> flow = session.flow("f")
@@ -306,7 +315,7 @@ class Flow:
         """
         return self._node("add_k", (x,), keep, name, k=number_of(k, "k"))
 
-    def mul_k(self, x: Place, k: int, *, keep: Sequence[str] | None = None, name: str | None = None) -> Node:
+    def mul_k(self, x: Place, k: int, *, keep: Keep | None = None, name: str | None = None) -> Node:
         """Each value times the whole number `k`. Gives a node of the shape of `x`.
 
         >>> flow = session.flow("f")
@@ -317,7 +326,7 @@ class Flow:
         """
         return self._node("mul_k", (x,), keep, name, k=number_of(k, "k"))
 
-    def clip(self, x: Place, lo: int, hi: int, *, keep: Sequence[str] | None = None, name: str | None = None) -> Node:
+    def clip(self, x: Place, lo: int, hi: int, *, keep: Keep | None = None, name: str | None = None) -> Node:
         """Each value, or `lo` where it is below, `hi` where it is above. Gives a node of the shape of `x`.
 
         `lo` above `hi` is refused when the flow is defined.
@@ -330,7 +339,7 @@ class Flow:
         """
         return self._node("clip", (x,), keep, name, lo=number_of(lo, "lo"), hi=number_of(hi, "hi"))
 
-    def add(self, a: Place, b: Place, *, keep: Sequence[str] | None = None, name: str | None = None) -> Node:
+    def add(self, a: Place, b: Place, *, keep: Keep | None = None, name: str | None = None) -> Node:
         """The sum of two arrays of one shape, cell by cell; empty where one of them is. Gives a node of that shape.
 
         Another shape of `b` is refused at the start, as for `sub`, `mul`, `min` and `max`.
@@ -343,7 +352,7 @@ class Flow:
         """
         return self._node("add", (a, b), keep, name)
 
-    def sub(self, a: Place, b: Place, *, keep: Sequence[str] | None = None, name: str | None = None) -> Node:
+    def sub(self, a: Place, b: Place, *, keep: Keep | None = None, name: str | None = None) -> Node:
         """The first of two arrays of one shape less the second, cell by cell. Gives a node of that shape.
 
         >>> flow = session.flow("f")
@@ -354,7 +363,7 @@ class Flow:
         """
         return self._node("sub", (a, b), keep, name)
 
-    def mul(self, a: Place, b: Place, *, keep: Sequence[str] | None = None, name: str | None = None) -> Node:
+    def mul(self, a: Place, b: Place, *, keep: Keep | None = None, name: str | None = None) -> Node:
         """The product of two arrays of one shape, cell by cell. Gives a node of that shape.
 
         >>> flow = session.flow("f")
@@ -365,7 +374,7 @@ class Flow:
         """
         return self._node("mul", (a, b), keep, name)
 
-    def min(self, a: Place, b: Place, *, keep: Sequence[str] | None = None, name: str | None = None) -> Node:
+    def min(self, a: Place, b: Place, *, keep: Keep | None = None, name: str | None = None) -> Node:
         """The lesser of two arrays of one shape, cell by cell. Gives a node of that shape.
 
         >>> flow = session.flow("f")
@@ -376,7 +385,7 @@ class Flow:
         """
         return self._node("min", (a, b), keep, name)
 
-    def max(self, a: Place, b: Place, *, keep: Sequence[str] | None = None, name: str | None = None) -> Node:
+    def max(self, a: Place, b: Place, *, keep: Keep | None = None, name: str | None = None) -> Node:
         """The greater of two arrays of one shape, cell by cell. Gives a node of that shape.
 
         >>> flow = session.flow("f")
@@ -387,7 +396,7 @@ class Flow:
         """
         return self._node("max", (a, b), keep, name)
 
-    def transpose(self, x: Place, *, keep: Sequence[str] | None = None, name: str | None = None) -> Node:
+    def transpose(self, x: Place, *, keep: Keep | None = None, name: str | None = None) -> Node:
         """Rows as columns, in each layer. Gives a node of shape (width, height), or (layers, width, height).
 
         >>> flow = session.flow("f")
@@ -399,7 +408,7 @@ class Flow:
         return self._node("transpose", (x,), keep, name, shape_from=lambda shape: (*shape[:-2], shape[-1], shape[-2]))
 
     def slice(
-        self, x: Place, r0: int, c0: int, h: int, w: int, *, keep: Sequence[str] | None = None, name: str | None = None
+        self, x: Place, r0: int, c0: int, h: int, w: int, *, keep: Keep | None = None, name: str | None = None
     ) -> Node:
         """The `h` by `w` cells from row `r0` and column `c0` on, in each layer. Gives a node of shape (h, w), or
         (layers, h, w).
@@ -420,7 +429,7 @@ class Flow:
         )
 
     def convolve(
-        self, x: Place, kernel: ArrayLike, *, keep: Sequence[str] | None = None, name: str | None = None
+        self, x: Place, kernel: ArrayLike, *, keep: Keep | None = None, name: str | None = None
     ) -> Node:
         """The sum of the cells round each cell, weighted by `kernel`: whole numbers, odd by odd, at most 9 by 9.
 
@@ -443,7 +452,7 @@ class Flow:
         return self._node("convolve", (x,), keep, name, kernel=weights.tolist())
 
     def block(
-        self, x: Place, fold: str, h: int, w: int, *, keep: Sequence[str] | None = None, name: str | None = None
+        self, x: Place, fold: str, h: int, w: int, *, keep: Keep | None = None, name: str | None = None
     ) -> Node:
         """Each `h` by `w` block of a layer folded into one cell by `fold`: "sum", "min", "max" or "count", of the cells
         that are not empty.
@@ -469,7 +478,7 @@ class Flow:
             w=wide,
         )
 
-    def fold_layers(self, x: Place, fold: str, *, keep: Sequence[str] | None = None, name: str | None = None) -> Node:
+    def fold_layers(self, x: Place, fold: str, *, keep: Keep | None = None, name: str | None = None) -> Node:
         """All layers folded into one, cell by cell, by `fold`: "sum", "min", "max" or "count". Gives a node of shape
         (height, width).
 
@@ -481,7 +490,7 @@ class Flow:
         """
         return self._node("fold_layers", (x,), keep, name, shape_from=lambda shape: shape[-2:], fold=_fold(fold))
 
-    def lookup(self, a: Place, table: Place, *, keep: Sequence[str] | None = None, name: str | None = None) -> Node:
+    def lookup(self, a: Place, table: Place, *, keep: Keep | None = None, name: str | None = None) -> Node:
         """For each value of `a` that is a column of `table`, an array of one row, the table's value there; else empty.
         Gives a node of the shape of `a`.
 
@@ -495,7 +504,7 @@ class Flow:
         """
         return self._node("lookup", (a, table), keep, name)
 
-    def regions(self, x: Place, t: int, *, keep: Sequence[str] | None = None, name: str | None = None) -> Node:
+    def regions(self, x: Place, t: int, *, keep: Keep | None = None, name: str | None = None) -> Node:
         """Labels of the regions of cells of `t` and more, joined by their four neighbours; 0 elsewhere. Gives a node of
         the shape of `x`.
 
@@ -509,7 +518,7 @@ class Flow:
         """
         return self._node("regions", (x,), keep, name, t=number_of(t, "t"))
 
-    def clean(self, x: Place, t: int, *, keep: Sequence[str] | None = None, name: str | None = None) -> Node:
+    def clean(self, x: Place, t: int, *, keep: Keep | None = None, name: str | None = None) -> Node:
         """Each cell of `t` and more replaced by the least of its up to eight neighbours below `t`; other cells as they
         are. Gives a node of the shape of `x`.
 
@@ -556,11 +565,11 @@ class Flow:
             self._of_two_axes.append(node)
         return node
 
-    def keep(self, node: Node, strategies: Sequence[str]) -> None:
-        """Set how a node's lineage is kept, for runs started later: one to three names of strategies.
+    def keep(self, node: Node, strategies: Keep) -> None:
+        """Set how a node's lineage is kept, for runs started later: a word, or one to three names of strategies.
 
-        It is sent with the flow, and at once where that is defined. Raises BadInput for what is no strategy, and
-        Refused with number 18, which says why, for one that the node cannot have.
+        It is sent with the flow, and at once where that is defined. Raises BadInput for what is no word and no
+        strategy, and Refused with number 18, which says why, for one that the node cannot have.
 
         >>> flow.keep(labels, ["comp_one"])
         >>> run = session.start(flow, sky)
@@ -570,9 +579,28 @@ class Flow:
         """
         if not isinstance(node, Node) or node.flow is not self:
             raise BadInput(f"{short(node)} is no node of the flow {self.name}")
-        self._kept.append((node, _strategies(strategies)))
+        self._kept.append((node, names_of(strategies, node.op)))
         if self._defined:
             self._send_kept()
+
+    def keep_all(self, strategies: Keep) -> None:
+        """Set how the lineage of each node is kept that the flow has so far, as `keep` does: by a word, each by its own
+        operator.
+
+        >>> flow.keep_all("both")
+        >>> labels.kept
+        ['full_one_b', 'full_one_f']
+        """
+        self._kept += [(node, names_of(strategies, node.op)) for node in self.nodes]
+        if self._defined:
+            self._send_kept()
+
+    def kept_of(self, node: Node) -> list[str]:
+        """The strategies by which a node's lineage is kept in runs that are started from now on."""
+        said = [names for other, names in self._kept if other is node]
+        if said or not self._defined:
+            return list(said[-1] if said else chosen_for(node.op))
+        return list(self.session.holdings().flows[self.program_name].list_of(node.number))
 
     def define(self) -> Flow:
         """Send the flow, and how its nodes are kept; gives itself. A second call sends what is not yet accepted.
@@ -647,7 +675,7 @@ class Flow:
         flow = cls(session, held.shown or held.name, held.inputs)
         for node, name in zip(held.nodes, held.names):
             parameters = {key: value for key, value in node.items() if key not in ("op", "from")}
-            if node["op"] not in _OPERATORS:
+            if node["op"] not in OPERATORS:
                 raise OutOfStep(f"the flow {held.name} has the operator {node['op']}, which this client does not know")
             sources = [flow.inputs[at["i"]] if "i" in at else flow.nodes[at["n"]] for at in node["from"]]
             getattr(flow, node["op"])(*sources, **parameters, name=name)
@@ -696,7 +724,7 @@ class Flow:
         while self._kept:
             node, strategies = self._kept.pop(0)  # one that is refused is not sent again
             known = session.holdings().flows.get(self.program_name)
-            if known is not None and known.lists.get(node.number) == strategies:
+            if known is not None and known.list_of(node.number) == strategies:
                 continue
             try:
                 session.set_strategies(self.program_name, node.number, strategies)
@@ -709,7 +737,7 @@ class Flow:
         self,
         op: str,
         sources: tuple[Place, ...],
-        keep: Sequence[str] | None,
+        keep: Keep | None,
         name: str | None,
         *,
         shape_from: Callable[[Shape], Shape] = lambda shape: shape,
@@ -730,7 +758,7 @@ class Flow:
             raise BadInput(f"{short(name)} is no name of a node: a text of 1 to 64 characters that can be shown")
         if name is not None and any(node.name == name for node in self.nodes):
             raise BadInput(f"the flow {self.name} has a node named {name!r} already")
-        strategies = None if keep is None else _strategies(keep)
+        strategies = None if keep is None else names_of(keep, op)
         node = Node(self, len(self.nodes), op, parameters, sources, shape_from, name)
         self.nodes.append(node)
         if strategies is not None:
@@ -798,9 +826,9 @@ def _why_unfit(node: Node, strategies: list[str]) -> str | None:
     for name in strategies:
         if strategies.count(name) > 1:
             return f"{node} got the strategy {name} twice"
-        if name == "map" and node.op in _TRACED:
+        if name == "map" and node.op in WITHOUT_MAPPING:
             return f"{node} cannot be kept by map, which is for all operators but lookup, regions and clean"
-        if name.startswith(("pay_", "comp_")) and node.op not in _TRACED:
+        if name.startswith(("pay_", "comp_")) and node.op not in WITHOUT_MAPPING:
             return f"{node} cannot be kept by {name}, which is for lookup, regions and clean alone"
     return None
 
@@ -809,15 +837,6 @@ def _fold(fold: str) -> str:
     if fold not in ("sum", "min", "max", "count"):
         raise BadInput(f"{short(fold)} is no fold: sum, min, max or count")
     return fold
-
-
-def _strategies(keep: Sequence[str]) -> list[str]:
-    if isinstance(keep, str):
-        raise BadInput(f"strategies are a list of names, as in [{keep!r}]")
-    for name in keep:
-        if name not in _KEPT:
-            raise BadInput(f"{short(name)} is no strategy: {', '.join(sorted(_KEPT))}")
-    return list(keep)
 
 
 def _source(place: Place) -> dict[str, int]:

@@ -28,6 +28,7 @@ import numpy as np
 
 from .cells import Integers, Mask, Shape, Values, values_of
 from .faults import OutOfStep, SubZeroError
+from .keeping import chosen_for
 
 HEADER = b"\x01SubZero log 1\r\n"
 _VERSION = 4
@@ -101,6 +102,10 @@ class HeldFlow:
     shown: str = ""
     names: list[str | None] = field(default_factory=list)
     lists: dict[int, list[str]] = field(default_factory=dict)
+
+    def list_of(self, number: int) -> list[str]:
+        """The strategies of a node by its number: those that were set, else those that the program chooses."""
+        return self.lists.get(number) or chosen_for(str(self.nodes[number]["op"]))
 
     def difference(self, other: HeldFlow) -> str | None:
         """In what another flow differs from this one, in words; None where the program would see the same flow."""
@@ -257,7 +262,7 @@ def groups(file: BinaryIO) -> Iterator[Group]:
         if head and head[0] != 1:
             return
         length = int.from_bytes(head[2:], "big")
-        if len(head) < 10 or not 1 <= head[1] <= 4 or at + 10 + length >= size:
+        if len(head) < 10 or not 1 <= head[1] <= 4 or at + 10 + length > size:
             raise OutOfStep(f"the log is bad at {at}")
         yield Group(at, head[1], at + 10, length)
         at += 10 + length
