@@ -1,6 +1,7 @@
 -- How many kinds of lineage region pairs have that are the kinds.
 --
--- The key idea: where the pairs stand for an operator's relation, and no output cell is in two, the lineage of each cell
+-- The key idea: where the pairs stand for an operator's relation, and no output cell is in two, the lineage of each
+-- cell
 -- of a pair's output set is the pair's input sets. So the pairs have exactly the lineages of the cells, but that of no
 -- cell, and each of them once.
 use Rattle.std.proofs.Common.{◌≡◌, ◌≢◌, ◌∙◌, ℕ, zero, suc, ◌+◌, ◌<◌, ◌≤◌, Bool, true, false, ◌&&◌, ◌==◌, not}
@@ -13,7 +14,8 @@ use Rattle.std.proofs.lemmas.List.{length-map, get_or-map, same_lists}
 use Rattle.std.proofs.lemmas.List.Elements.{All-nil, All-cons, All-head, All-tail}
 use Rattle.std.proofs.lemmas.List.Folds.{list_all-map}
 use Rattle.std.proofs.lemmas.List.FromFn.{get_or-map-range_with_len, length-map-range_with_len}
-use Rattle.std.proofs.lemmas.Option.{slice_get_within, get_or_from_slice_get, unwrap_or-slice_get, slice_get-map, same_Some}
+use Rattle.std.proofs.lemmas.Option.{slice_get_within, get_or_from_slice_get}
+use Rattle.std.proofs.lemmas.Option.{unwrap_or-slice_get, slice_get-map, same_Some}
 use Rattle.sz_cells.specs.declared.Cell.{Cell}
 use Rattle.sz_cells.specs.Extent.{Extent, holds, size_of, cell_of}
 use Rattle.sz_cells.specs.Cells.{Cells, cells_where, has, no_cells}
@@ -148,7 +150,8 @@ pair-over out ins table ns r all names shapes = record {
       let same : 0 + suc i ≡ suc i = omega arith in
       subst (IsSetOf (extent_at ins i)) (sym (unwrap_or-slice_get r.ins i (no_cells no_extent)))
       (subst (λ (k : ℕ). IsSetOf (extent_at (out ∷ ins) k) (get_or r.ins i (no_cells no_extent))) same
-      (sets-named out ins table ns 0 (r.out ∷ r.ins) (suc i) (get_or r.ins i (no_cells no_extent)) all names.named there));
+      (sets-named out ins table ns 0 (r.out ∷ r.ins) (suc i)
+      (get_or r.ins i (no_cells no_extent)) all names.named there));
 }
 
 pairs-over : (out : Extent) (ins : List Extent) (table : List Listed) (names : List (List ℕ)) (rs : List Pairing)
@@ -257,7 +260,8 @@ lineage-own s inputs rs m r o are at here =
     (λ x cell. sym (are.exact i o x inside held cell) ∙ stands-own rs m r i o x are.kinds at here))
     ∙ set-own e (set_of r i) (over.each i inside) in
     same_lists (map f (range_with_len 0 (length inputs))) (indexes_in r.ins)
-    (length-map-range_with_len f 0 (length inputs) ∙ (long ∙ (sym wide ∙ sym (length-map r.ins (λ (x : Cells). x.indexes)))))
+    (length-map-range_with_len f 0 (length inputs) ∙
+    (long ∙ (sym wide ∙ sym (length-map r.ins (λ (x : Cells). x.indexes)))))
     (λ i d within.
     let inside : i < length inputs = omega (arith, length-map-range_with_len f 0 (length inputs), within) in
     let there : i < length r.ins = omega (arith, inside, long, wide) in
@@ -308,7 +312,8 @@ codes-different s inputs rs are m n x at too =
 -- the lineages of the cells of a shape, but those of no cell
 abbrev lineages_over : Op → List Grid → Extent → List (List (List ℕ))
 lineages_over op inputs e =
-    filter (λ sets. not (is_nothing sets)) (map (λ k. lineage_of op inputs (cell_of e k)) (range_with_len 0 (size_of e)))
+    filter (λ sets. not (is_nothing sets))
+    (map (λ k. lineage_of op inputs (cell_of e k)) (range_with_len 0 (size_of e)))
 
 not-from : (b : Bool) → b ≡ false → not b ≡ true
 not-from b fails = rw fails refl
@@ -350,7 +355,8 @@ pair-cell s inputs rs b are found =
     let own = lineage-own s inputs rs one.0 r (cell_of s.out first.0) are pair.1 here in
     let some : is_nothing (indexes_in r.ins) ≡ false =
     list_all-map (λ (set : List ℕ). length set == 0) (λ (x : Cells). x.indexes) r.ins ∙ sides.ins in
-    kept-from (λ sets. not (is_nothing sets)) (same_sets b) (λ k. lineage_of s.op inputs (cell_of s.out k)) (size_of s.out)
+    kept-from (λ sets. not (is_nothing sets)) (same_sets b) (λ k. lineage_of s.op inputs (cell_of s.out k))
+    (size_of s.out)
     0 first.0 (omega arith) (omega (arith, first.1))
     (not-from (is_nothing (lineage_of s.op inputs (cell_of s.out first.0))) (ap is_nothing own ∙ some))
     (sets-same b (lineage_of s.op inputs (cell_of s.out first.0)) (sets-one b one.1 one.3 ∙ (pair.2 ∙ sym own)))

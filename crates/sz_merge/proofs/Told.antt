@@ -2,9 +2,9 @@
 --
 -- The key idea: a store with region pairs is one of a strategy of full lineage, its pairs are the kinds, and they stand
 -- for what the store before stood for, which is the relation.
-use Rattle.std.proofs.Common.{◌≡◌, ◌∙◌, ℕ, Bool, true, false, List, [], ◌∷◌, ◌++◌, map, length, refl, sym, ap, ap₂}
-use Rattle.std.proofs.Common.{subst, inl, inr, All, true≢false}
-use Rattle.std.specs.Prelude.{Result, Ok}
+use Rattle.std.proofs.Common.{◌≡◌, ◌∙◌, ℕ, false, List, [], ◌∷◌, ◌++◌, map, length, refl, ap, ap₂}
+use Rattle.std.proofs.Common.{inl, inr, All, true≢false}
+use Rattle.std.specs.Prelude.{Result}
 use Rattle.std.specs.List.{AllZip, filter}
 use Rattle.std.specs.Result.{result_unwrap_or}
 use Rattle.std.proofs.lemmas.Bool.{cases_Bool}
@@ -16,15 +16,14 @@ use Rattle.sz_spec.specs.declared.modes.Strategy.{Strategy}
 use Rattle.sz_spec.specs.declared.modes.Strategy.TheVariants as strategy
 use Rattle.sz_spec.specs.declared.shapes.ShapeFault.{ShapeFault}
 use Rattle.sz_spec.specs.Values.{Grid, extents_of, no_extent}
-use Rattle.sz_spec.specs.Shapes.{Site, output_extent, shape_of}
+use Rattle.sz_spec.specs.Shapes.{Site, output_extent}
 use Rattle.sz_spec.specs.Kinds.{kinds_of}
 use Rattle.sz_spec.specs.Modes.{mode_of, is_stored}
 use Rattle.sz_region.specs.Parts.{Pairing}
 use Rattle.sz_region.specs.Images.{measure_of}
 use Rattle.sz_region.specs.Laws.{IsTheRelation}
-use Rattle.sz_store.specs.Kept.{Holding, regions, entries, Keep, NodeLineage, holding_stands, stored_in}
+use Rattle.sz_store.specs.Kept.{Holding, regions, entries, Keep, holding_stands, stored_in}
 use Rattle.sz_store.specs.Words.{Begins, BeginEach}
-use Rattle.sz_shelf.specs.Tags.{Tag}
 use Rattle.sz_merge.specs.Distinct.{AreKinds}
 use Rattle.sz_merge.specs.Merged.{IsMergedTo, IsMergedKeep, kinds_in, kinds_of_holding}
 use Rattle.sz_merge.specs.Laws.{keeps_pairs, paired_in, NumbersToldAreTheKinds}
@@ -77,7 +76,8 @@ told-next s inputs t ts first rest one more =
     ]
 
 -- those of stores one after another
-all-told : (s : Site) (inputs : List Grid) (ts : List Strategy) (bytes : List ℕ) (at next : ℕ) (before after : List Keep)
+all-told : (s : Site) (inputs : List Grid) (ts : List Strategy) (bytes : List ℕ) (at next : ℕ)
+    (before after : List Keep)
     → AreOver s inputs → BeginEach s ts bytes at next after → AllZip (IsMergedKeep s) before after
     → All (λ f. IsTheRelation (measure_of s inputs) (holding_stands s f.holding)) after
     → kinds_in after ≡ map (λ (u : Strategy). kinds_of s.op inputs) (paired_in ts)
