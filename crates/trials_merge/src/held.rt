@@ -17,8 +17,8 @@ use sz_shelf::Pass;
 /// For how many turns something is waited for.
 const LIMIT: u64 = 1_000_000_000;
 
-/// A gate that holds each merge until it is let go. It counts the merges that it held, how many were
-/// let go, and how often something did not come.
+/// A gate that holds each merge until it is let go. It counts the merges that it held, how many
+/// were let go, and how often something did not come.
 #[derive(Drop)]
 pub struct Holding {
     held: AtomicU64,
@@ -89,12 +89,7 @@ fn ask_while_held<R: Wait>(
 }
 
 /// Attends to the tasks, where they are there.
-fn attend<R: Wait>(
-    alloc: Global,
-    rt: &R,
-    tasks: &mut Option<Receiver<MergeTask>>,
-    gate: &Holding,
-) {
+fn attend<R: Wait>(alloc: Global, rt: &R, tasks: &mut Option<Receiver<MergeTask>>, gate: &Holding) {
     if let Some(tasks) = tasks.take() {
         attend_merges(alloc, rt, tasks, gate);
     }

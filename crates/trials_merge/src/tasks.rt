@@ -79,7 +79,12 @@ pub fn pairs(alloc: Global, store: &NodeStore) -> Result<usize, Fail> {
 }
 
 /// Whether a look from one cell finds all by the store, in both directions.
-pub fn finds_all<R: Wait>(alloc: Global, rt: &R, bench: &Bench, pass: &mut Pass) -> Result<bool, Fail>
+pub fn finds_all<R: Wait>(
+    alloc: Global,
+    rt: &R,
+    bench: &Bench,
+    pass: &mut Pass,
+) -> Result<bool, Fail>
     requires { place_of pass.old ≡ bench.now }
     ensures { place_of pass.new ≡ place_of pass.old }
 {
