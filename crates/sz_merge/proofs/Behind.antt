@@ -3,17 +3,15 @@
 -- The key idea: at most one store begins at a place, and it ends at one place, so what is read of the bytes is the
 -- store that they were written of. What was put is read whatever follows, so one word more leaves the others as they
 -- are.
-use Rattle.std.proofs.Common.{◌≡◌, ℕ, suc, ◌+◌, ◌<◌, ◌≤◌, Bool, true, false, List, [], ◌∷◌, ◌++◌, map, length, get_or}
+use Rattle.std.proofs.Common.{◌≡◌, ℕ, suc, ◌+◌, ◌<◌, ◌≤◌, true, false, List, [], ◌∷◌, ◌++◌, length, get_or}
 use Rattle.std.proofs.Common.{take, drop, refl, sym, ap, ap₂, subst, ◌∙◌, arith, append_assoc, length-append}
 use Rattle.std.proofs.Common.{length-drop}
 use Rattle.std.proofs.Common.{slice_range, drop-cons, All, ◌-◌, ◌*◌}
 use Rattle.std.specs.List.{AllZip}
-use Rattle.std.proofs.lemmas.Bool.{cases_Bool}
 use Rattle.std.proofs.lemmas.List.{take_more, take-append-drop, append-nil}
 use Rattle.std.proofs.lemmas.List.Elements.{filter-append}
 use Rattle.std.proofs.Math.Seq.{drop-append_seam, take-append_seam}
 use Rattle.sz_cells.specs.declared.Cell.{Cell}
-use Rattle.sz_spec.specs.declared.modes.Mode.{Mode}
 use Rattle.sz_spec.specs.declared.modes.Mode.TheVariants as mode
 use Rattle.sz_spec.specs.declared.modes.Strategy.{Strategy}
 use Rattle.sz_spec.specs.Shapes.{Site}
@@ -24,17 +22,17 @@ use Rattle.sz_region.specs.Putting.{HasShapes, CanPutRegions}
 use Rattle.sz_region.specs.FullBytes.{Listed, IsFullWord, BeginsRegions}
 use Rattle.sz_region.specs.PayBytes.{BeginsEntries}
 use Rattle.sz_region.specs.LawsStores.{AreRight}
-use Rattle.sz_region.proofs.FullStores.{regions-read, regions-one, behind-word}
+use Rattle.sz_region.proofs.FullStores.{regions-read, behind-word}
 use Rattle.sz_payload.specs.Begins.{BeginsPayloads}
-use Rattle.sz_store.specs.Kept.{Holding, regions, entries, Keep, stored_in, NodeLineage, is_whole}
+use Rattle.sz_store.specs.Kept.{regions, entries, Keep, stored_in, NodeLineage, is_whole}
 use Rattle.sz_cells.specs.Extent.{Extent, is_extent}
 use Rattle.sz_region.proofs.PayStores.{entries-one}
 use Rattle.std.proofs.Math.Nat.{mul-le-mul_right}
 use Rattle.std.proofs.lemmas.List.Elements.{All-head}
-use Rattle.sz_store.specs.Words.{Begins, BeginEach}
+use Rattle.sz_store.specs.Words.{BeginEach}
 use Rattle.sz_store.proofs.Reading.{each-append, each-behind, stores-one, payloads-begin}
 use Rattle.sz_merge.specs.Distinct.{AreKinds}
-use Rattle.sz_merge.specs.Merged.{IsMergedTo, IsMergedKeep, kinds_in, kinds_of_holding, IsPartMerged, HasPart}
+use Rattle.sz_merge.specs.Merged.{IsMergedKeep, kinds_in, kinds_of_holding, IsPartMerged, HasPart}
 use Rattle.sz_merge.specs.Merged.{ArePartsMerged, AreCopied, AreRead, AreMerged}
 
 -- ---- one store
@@ -322,7 +320,8 @@ begin-whole s site list own stores old bytes seen same_site same_list none same 
     subst (λ (b : List ℕ). BeginEach s ts b 0 (length b) stores) (sym same)
     (subst (λ (b : List ℕ). BeginEach s ts b 0 (length bytes) stores) (append-nil bytes)
     (subst (λ (n : ℕ). BeginEach s ts (bytes ++ []) n (length bytes) stores) (ap length none)
-    (subst (λ (us : List Strategy). BeginEach s (stored_in us) (bytes ++ []) (length old) (length bytes) stores) same_list
+    (subst (λ (us : List Strategy). BeginEach s (stored_in us) (bytes ++ []) (length old)
+    (length bytes) stores) same_list
     (subst (λ (t : Site). BeginEach t (stored_in own) (bytes ++ []) (length old) (length bytes) stores) same_site
     begin))))
 

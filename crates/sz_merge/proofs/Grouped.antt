@@ -1,15 +1,14 @@
 -- Cells by their numbers: one cell more goes behind those of its number.
-use Rattle.std.proofs.Common.{◌≡◌, ℕ, ◌+◌, ◌<◌, ◌≤◌, Bool, true, false, ◌&&◌, ◌||◌, ◌==◌, nat_lt, nat_le, inl, inr}
-use Rattle.std.proofs.Common.{List, [], ◌∷◌, map, length, get_or, set, refl, sym, ap, subst, ◌∙◌, arith, All}
+use Rattle.std.proofs.Common.{◌≡◌, ℕ, ◌+◌, ◌<◌, ◌≤◌, Bool, true, ◌&&◌, ◌||◌, ◌==◌, nat_lt, inl, inr}
+use Rattle.std.proofs.Common.{List, [], length, get_or, set, sym, ap, ◌∙◌, arith, All}
 use Rattle.std.proofs.Common.{eqb-true, eq-eqb, true≢false, get_or-set_other, length-set}
 use Rattle.std.specs.Prelude.{replicate}
 use Rattle.std.proofs.lemmas.Bool.{cases_Bool}
 use Rattle.std.proofs.lemmas.Bool.Decides.{nat_tests}
 use Rattle.std.proofs.lemmas.List.{get_or-set_same, get_or-replicate, length-replicate}
-use Rattle.std.proofs.lemmas.List.Elements.{All-weaker, All-nil}
+use Rattle.std.proofs.lemmas.List.Elements.{All-nil}
 use Rattle.sz_cells.specs.declared.Run.{Run}
-use Rattle.sz_cells.specs.Runs.{AreRunsFrom, covers}
-use Rattle.sz_merge.specs.Marks.{AreRunsOf, AreGroups, HasCellMore}
+use Rattle.sz_merge.specs.Marks.{AreGroups, HasCellMore}
 
 pub groups-none : (labels : List ℕ) (count : ℕ) → AreGroups labels count 0 (replicate count [])
 groups-none labels count = record {

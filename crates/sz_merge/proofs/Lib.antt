@@ -1,8 +1,13 @@
--- The lemmas: of lineages made by tests, of marks, of groups, of kinds, of stores one after another, and of stores on a
--- shelf.
+-- The lemmas: of lineages made by tests, of marks, of groups, of kinds, of stores one after another, of stores on a
+-- shelf, of how many different lineages there are, and of the numbers that are told; and rows of what the definitions
+-- compute.
 pub mod Sets
 pub mod Marked
 pub mod Grouped
 pub mod Sorting
 pub mod Behind
 pub mod Swapped
+pub mod Different
+pub mod Counted
+pub mod Told
+mod Rows

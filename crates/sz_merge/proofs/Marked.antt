@@ -4,9 +4,9 @@
 -- another makes a run, one run after another a set, and a set more is a region pair more.
 use Rattle.std.proofs.Common.{◌≡◌, ℕ, ◌+◌, ◌<◌, ◌≤◌, Bool, true, false, ◌&&◌, ◌||◌, ◌==◌, Some, inl, inr}
 use Rattle.std.proofs.Common.{nat_le, nat_lt, take}
-use Rattle.std.proofs.Common.{List, [], ◌∷◌, ◌++◌, map, length, get_or, set, refl, sym, ap, ap₂, subst, ◌∙◌, arith}
+use Rattle.std.proofs.Common.{List, [], ◌∷◌, ◌++◌, length, get_or, set, refl, sym, ap, subst, ◌∙◌, arith}
 use Rattle.std.proofs.Common.{eqb-true, eq-eqb, true≢false, get_or-set_other, length-set}
-use Rattle.std.specs.List.{slice_get, list_any, All, range_with_len}
+use Rattle.std.specs.List.{slice_get, list_any}
 use Rattle.std.specs.Prelude.{replicate}
 use Rattle.std.proofs.lemmas.Bool.{cases_Bool}
 use Rattle.std.proofs.lemmas.Bool.Decides.{nat_tests}
@@ -76,7 +76,8 @@ marked-none ins r labels before after kept = record {
   long = refl;
   kept = kept;
   each = λ k test inside at.
-      kept (get_or labels k 0) (sets_where ins test) at ∙ ap Some (sets_where-ext ins test (λ i x. test i x || (false && has_in r i x)) (λ i x. sym (or-false (test i x))));
+      kept (get_or labels k 0) (sets_where ins test) at ∙ ap Some
+      (sets_where-ext ins test (λ i x. test i x || (false && has_in r i x)) (λ i x. sym (or-false (test i x))));
 }
 
 pub marked-ext : (ins : List Extent) (r : Pairing) (c d : ℕ → Bool) (old new : List ℕ)
@@ -87,7 +88,8 @@ marked-ext ins r c d old new before after same marked = record {
   kept = marked.kept;
   each = λ k test inside at.
       marked.each k test inside at
-      ∙ ap Some (sets_where-ext ins (λ i x. test i x || (c k && has_in r i x)) (λ i x. test i x || (d k && has_in r i x))
+      ∙ ap Some (sets_where-ext ins (λ i x. test i x || (c k && has_in r i x))
+      (λ i x. test i x || (d k && has_in r i x))
       (λ i x. ap (λ b. test i x || (b && has_in r i x)) (same k inside)));
 }
 
@@ -164,9 +166,11 @@ pub run-more : (ins : List Extent) (r : Pairing) (f k : ℕ) (old labels : List 
     → a ≡ get_or labels k 0 → KeepsNumbers between after → IsNext ins r after a b
     → AreMarked ins r (λ j. nat_le f j && nat_lt j (k + 1)) old (set labels k b) before after
 run-more ins r f k old labels before between after a b was low inside is kept next =
-    marked-ext ins r (λ j. (nat_le f j && nat_lt j k) || (j == k)) (λ j. nat_le f j && nat_lt j (k + 1)) old (set labels k b)
+    marked-ext ins r (λ j. (nat_le f j && nat_lt j k) || (j == k)) (λ j. nat_le f j && nat_lt j (k + 1)) old
+    (set labels k b)
     before after (λ j within. run-step f k j low)
-    (marked-both ins r (λ j. nat_le f j && nat_lt j k) (λ j. j == k) old labels (set labels k b) before between after was
+    (marked-both ins r (λ j. nat_le f j && nat_lt j k) (λ j. j == k) old labels
+    (set labels k b) before between after was
     (marked-one ins r labels between after k a b (omega (arith, was.long, inside)) is kept next))
 
 -- all of them
@@ -184,7 +188,8 @@ pub covers-more : (runs : List Run) (i j : ℕ) (run : Run) → i < length runs 
 covers-more runs i j run inside read =
     sym (ap (λ (rs : List Run). covers rs j) (take_more runs i run inside)
     ∙ list_any-append (λ (r : Run). is_in r j) (take i runs) (get_or runs i run ∷ [])
-    ∙ ap (λ b. covers (take i runs) j || b) (or-false (is_in (get_or runs i run) j) ∙ ap (λ (r : Run). is_in r j) (sym read)))
+    ∙ ap (λ b. covers (take i runs) j || b)
+    (or-false (is_in (get_or runs i run) j) ∙ ap (λ (r : Run). is_in r j) (sym read)))
 
 pub runs-more : (ins : List Extent) (r : Pairing) (runs : List Run) (i : ℕ) (run : Run) (old mid new : List ℕ)
     (before between after : List (List Cells)) → i < length runs → run ≡ get_or runs i run

@@ -2,11 +2,11 @@
 --
 -- The key idea: of each input a lineage has the set of the cells that pass a test, so what is true of two tests cell by
 -- cell is true of two lineages.
-use Rattle.std.proofs.Common.{◌≡◌, ℕ, zero, suc, ◌+◌, ◌<◌, ◌≤◌, Bool, true, false, ◌&&◌, ◌||◌, ◌==◌}
+use Rattle.std.proofs.Common.{◌≡◌, ℕ, zero, suc, ◌+◌, ◌<◌, ◌≤◌, Bool, true, false, ◌||◌, ◌==◌}
 use Rattle.std.proofs.Common.{◌++◌, take, drop, Some, List, [], ◌∷◌, map, length, get_or, refl, sym, ap, ap₂, subst}
 use Rattle.std.proofs.Common.{◌∙◌, arith}
-use Rattle.std.proofs.Common.{length-append, eqb-true, true≢false, inl, inr, ◌⊎◌}
-use Rattle.std.specs.List.{range_with_len, list_all, filter, All, slice_get}
+use Rattle.std.proofs.Common.{length-append, eqb-true, inl, inr, ◌⊎◌}
+use Rattle.std.specs.List.{range_with_len, list_all, All, slice_get}
 use Rattle.std.proofs.lemmas.Bool.{and_parts, cases_lt}
 use Rattle.std.proofs.lemmas.List.{get_or-map, length-map, same_lists, get_or_default}
 use Rattle.std.proofs.lemmas.List.{map-append, take_more, append-nil}
@@ -17,7 +17,7 @@ use Rattle.std.proofs.lemmas.List.FromFn.{get_or-map-range_with_len, length-map-
 use Rattle.std.proofs.lemmas.Option.{unwrap_or-slice_get, slice_get-map, slice_get_within, slice_get-get_or}
 use Rattle.std.proofs.lemmas.Option.{same_Some}
 use Rattle.sz_cells.specs.declared.Cell.{Cell}
-use Rattle.sz_cells.specs.Extent.{Extent, holds, size_of, cell_of, is_extent}
+use Rattle.sz_cells.specs.Extent.{Extent, holds, size_of, is_extent}
 use Rattle.sz_cells.specs.Cells.{Cells, cells_where, has, union_of, no_cells}
 use Rattle.sz_cells.proofs.Sets.{cells_where-ext, has-cells_where}
 use Rattle.sz_cells.proofs.Rising.{filter-false}
@@ -55,7 +55,8 @@ pub set-where : (ins : List Extent) (p : ℕ → Cell → Bool) (i : ℕ) → i 
     → set_at (sets_where ins p) i ≡ cells_where (extent_at ins i) (p i)
 set-where ins p i inside =
     unwrap_or-slice_get (sets_where ins p) i (no_cells no_extent)
-    ∙ get_or-map-range_with_len (λ k. cells_where (extent_at ins k) (p k)) 0 (length ins) i i (no_cells no_extent) inside
+    ∙ get_or-map-range_with_len (λ k. cells_where (extent_at ins k) (p k)) 0 (length ins) i i
+    (no_cells no_extent) inside
     (omega arith)
 
 pub has-where : (ins : List Extent) (p : ℕ → Cell → Bool) (i : ℕ) (x : Cell) → i < length ins
@@ -102,7 +103,8 @@ empty-where : (e : Extent) (p : Cell → Bool) → (length (cells_where e p).ind
     → cells_where e p ≡ cells_where e (λ x. false)
 empty-where e p none =
     let make : List ℕ → Cells = λ xs. record { extent = e; indexes = xs } in
-    ap make (nil-of (cells_where e p).indexes (eqb-true (length (cells_where e p).indexes) 0 none) ∙ sym (filter-false (range_with_len 0 (size_of e))))
+    ap make (nil-of (cells_where e p).indexes (eqb-true (length (cells_where e p).indexes) 0 none) ∙ sym
+    (filter-false (range_with_len 0 (size_of e))))
 
 pub nothing-where : (ins : List Extent) (p : ℕ → Cell → Bool) → is_nothing (sets_where ins p) ≡ true
     → sets_where ins p ≡ nothing ins
@@ -110,7 +112,8 @@ nothing-where ins p none =
     map-range_ext (λ i. cells_where (extent_at ins i) (p i)) (λ i. cells_where (extent_at ins i) (λ x. false))
     (length ins) 0
     (λ i low high. empty-where (extent_at ins i) (p i)
-    (all-range (λ (s : Cells). length s.indexes == 0) (λ k. cells_where (extent_at ins k) (p k)) (length ins) 0 none i low
+    (all-range (λ (s : Cells). length s.indexes == 0) (λ k. cells_where (extent_at ins k) (p k))
+    (length ins) 0 none i low
     high))
 
 -- the sets have the inputs' shapes
@@ -127,7 +130,8 @@ extents-where ins p =
     ) in
     let there : i < length (sets_where ins p) = omega (arith, where-length ins p, within) in
     get_or-map (λ (s : Cells). s.extent) (sets_where ins p) i (no_cells no_extent) d there
-    ∙ ap (λ (s : Cells). s.extent) (get_or-map-range_with_len (λ k. cells_where (extent_at ins k) (p k)) 0 (length ins) i i
+    ∙ ap (λ (s : Cells). s.extent)
+    (get_or-map-range_with_len (λ k. cells_where (extent_at ins k) (p k)) 0 (length ins) i i
     (no_cells no_extent) within (omega arith))
     ∙ (unwrap_or-slice_get ins i no_extent ∙ get_or_default ins i no_extent d within))
 
@@ -219,7 +223,8 @@ spelling-one (e ∷ ins) (x ∷ a) (y ∷ b) right is_a is_b same =
     (All-head (λ (s : Cells). IsSetOf s.extent s) x a is_a.right) in
     let set_y : IsSetOf e y = subst (λ (f : Extent). IsSetOf f y) of_y.0
     (All-head (λ (s : Cells). IsSetOf s.extent s) y b is_b.right) in
-    let one = bytes-one e x y (spelling a) (spelling b) (All-head (λ (f : Extent). is_extent f ≡ true) e ins right) set_x
+    let one = bytes-one e x y (spelling a) (spelling b)
+    (All-head (λ (f : Extent). is_extent f ≡ true) e ins right) set_x
     set_y same in
     let rest = spelling-one ins a b (All-tail (λ (f : Extent). is_extent f ≡ true) e ins right)
     (record { extents = of_x.1; right = All-tail (λ (s : Cells). IsSetOf s.extent s) x a is_a.right })

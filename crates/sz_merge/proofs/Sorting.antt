@@ -3,16 +3,16 @@
 -- The key idea: an output cell is in the region pair of its own number alone, and the lineage of that number is what
 -- stands behind the cell. Numbers of different region pairs differ, since the numbers that are left of a range rise,
 -- and so do their lineages, since each lineage has one number.
-use Rattle.std.proofs.Common.{◌≡◌, ◌≢◌, ℕ, zero, suc, ◌+◌, ◌<◌, ◌≤◌, Bool, true, false, ◌&&◌, ◌||◌, ◌==◌, ◌⊎◌}
-use Rattle.std.proofs.Common.{nat_lt, nat_le, inl, inr, List, [], ◌∷◌, map, length, get_or, refl, sym, ap, ap₂, subst}
+use Rattle.std.proofs.Common.{◌≡◌, ℕ, zero, suc, ◌+◌, ◌<◌, ◌≤◌, Bool, true, false, ◌&&◌, ◌||◌, ◌==◌}
+use Rattle.std.proofs.Common.{nat_lt, inl, inr, List, [], ◌∷◌, map, length, get_or, refl, sym, ap, ap₂, subst}
 use Rattle.std.proofs.Common.{◌++◌}
 use Rattle.std.proofs.Common.{◌∙◌, arith, eqb-true, eq-eqb, ltb-true, lt-ltb, le-leb, true≢false, All, Some, not}
 use Rattle.std.specs.List.{slice_get, list_any, filter, range_with_len, flat_map}
 use Rattle.std.specs.Option.{option_map}
-use Rattle.std.proofs.lemmas.Bool.{cases_Bool, cases_lt, or_cases, or_left, or_right, and_parts, and_from}
+use Rattle.std.proofs.lemmas.Bool.{cases_Bool, or_cases, or_left, or_right, and_parts, and_from}
 use Rattle.std.proofs.lemmas.Bool.{false_from_ne_true}
 use Rattle.std.proofs.lemmas.Bool.Decides.{nat_tests}
-use Rattle.std.proofs.lemmas.List.{length-map, get_or-map, map-append}
+use Rattle.std.proofs.lemmas.List.{length-map, map-append}
 use Rattle.std.proofs.lemmas.List.FromFn.{map-range_with_len_more}
 use Rattle.std.specs.Prelude.{if◌then◌else◌}
 use Rattle.std.proofs.lemmas.List.Elements.{All-head, All-tail, All-from_get_or, filter-append}
@@ -21,20 +21,20 @@ use Rattle.std.proofs.lemmas.Option.{get_or_from_slice_get}
 use Rattle.sz_cells.specs.declared.Cell.{Cell}
 use Rattle.sz_cells.specs.declared.Run.{Run}
 use Rattle.sz_cells.specs.Extent.{Extent, size_of, holds, index_of, cell_of}
-use Rattle.sz_cells.specs.Cells.{Cells, has, cells_where, no_cells}
+use Rattle.sz_cells.specs.Cells.{Cells, has, cells_where}
 use Rattle.sz_cells.specs.Rising.{AreRising}
 use Rattle.sz_cells.specs.Runs.{AreRunsFrom, covers, indexes_of, is_in}
 use Rattle.sz_cells.proofs.Sets.{same_truth, index-below, cell-index, index-cell, cell-held, has-cells_where_any}
 use Rattle.sz_cells.proofs.Sets.{any-filter_range}
 use Rattle.sz_cells.proofs.Rising.{filter-rising}
 use Rattle.sz_cells.proofs.Runs.{any-covers}
-use Rattle.sz_spec.specs.Values.{extent_at, no_extent}
+use Rattle.sz_spec.specs.Values.{extent_at}
 use Rattle.sz_region.specs.Parts.{Pairing}
 use Rattle.sz_region.specs.Putting.{HasShapes}
 use Rattle.sz_region.specs.Stands.{set_of, full_stands}
 use Rattle.sz_tables.specs.Rows.{set_at}
 use Rattle.sz_tables.specs.Tables.{AreDifferent, spelled}
-use Rattle.sz_merge.specs.Lineages.{sets_where, nothing, behind, list_at, is_nothing}
+use Rattle.sz_merge.specs.Lineages.{nothing, behind, list_at, is_nothing}
 use Rattle.sz_merge.specs.Marks.{AreLabels, AreGroups, region_at, is_kind, kinds_below}
 use Rattle.sz_merge.specs.Distinct.{AreKinds, HasBothSides}
 use Rattle.sz_merge.proofs.Sets.{set-where, has-where, nothing-where, extents-where, extent-of}
@@ -211,10 +211,12 @@ kind-sides out ins rs labels groups lists n sorted inside above some =
     record {
       out = λ none.
           true≢false (sym there
-          ∙ (ap (λ (xs : List ℕ). holds out o && list_any (λ j. j == index_of out o) xs) none ∙ and-false (holds out o)));
+          ∙ (ap (λ (xs : List ℕ). holds out o && list_any (λ j. j == index_of out o) xs) none ∙ and-false
+          (holds out o)));
       ins = false_from_ne_true (is_nothing (list_at lists n))
           (λ none.
-          let no : is_nothing (behind ins rs o) ≡ true = ap is_nothing (sym (list-is lists n (behind ins rs o) at)) ∙ none in
+          let no : is_nothing (behind ins rs o) ≡ true = ap is_nothing (sym (list-is lists n (behind ins rs o) at))
+          ∙ none in
           let zero : slice_get lists n ≡ Some (nothing ins) =
           at ∙ ap Some (nothing-where ins (λ i x. full_stands rs i o x) no) in
           omega (arith, sorted.apart n 0 (nothing ins) zero sorted.numbers.zero, above));
@@ -423,7 +425,8 @@ range-more n =
     ∙ map-range_with_len_more (λ k. k) 0 n n (omega arith)
     ∙ ap (λ (ns : List ℕ). ns ++ n ∷ []) (map-id (range_with_len 0 n))
 
-cond-map : {X Y : Type 0} (f : X → Y) (x : X) (b : Bool) → map f (if b then x ∷ [] else []) ≡ (if b then f x ∷ [] else [])
+cond-map : {X Y : Type 0} (f : X → Y) (x : X) (b : Bool) → map f (if b then x ∷ [] else []) ≡
+    (if b then f x ∷ [] else [])
 cond-map f x true = refl
 cond-map f x false = refl
 

@@ -2,10 +2,9 @@
 --
 -- The key idea: each of them stands for the same as the one before, so where that stands for exactly the relation, so
 -- does this.
-use Rattle.std.proofs.Common.{◌≡◌, ◌∙◌, ℕ, ◌<◌, true, List, [], ◌∷◌, map, length, refl, sym, ap, ap₂, subst, All}
+use Rattle.std.proofs.Common.{◌≡◌, ◌∙◌, ℕ, List, [], ◌∷◌, map, refl, sym, ap₂, subst, All}
 use Rattle.std.specs.List.{AllZip}
 use Rattle.std.proofs.lemmas.List.Elements.{All-head, All-tail, All-cons, All-nil}
-use Rattle.sz_cells.specs.declared.Cell.{Cell}
 use Rattle.sz_spec.specs.declared.modes.Strategy.{Strategy}
 use Rattle.sz_spec.specs.Values.{Grid}
 use Rattle.sz_spec.specs.Shapes.{Site}

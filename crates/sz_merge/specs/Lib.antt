@@ -1,7 +1,8 @@
 -- What stands behind an output cell, which region pairs are kinds, what stays true of numbered
--- lineages and cells, and what merged stores are.
+-- lineages and cells, what merged stores are, and the law of the numbers that are told.
 pub mod Lineages
 pub mod Distinct
 pub mod Spelled
 pub mod Marks
 pub mod Merged
+pub mod Laws

@@ -1,10 +1,10 @@
 -- What stands behind an output cell: of each input a set of its cells.
 use Rattle.std.specs.Prelude.{◌≡◌, ℕ, ◌==◌, List, [], map, length, Bool, false, unwrap_or, Some}
-use Rattle.std.specs.List.{range_with_len, list_all, flat_map, slice_get, AllZip}
+use Rattle.std.specs.List.{range_with_len, list_all, flat_map, slice_get}
 use Rattle.sz_cells.specs.declared.Cell.{Cell}
 use Rattle.sz_cells.specs.Extent.{Extent}
 use Rattle.sz_cells.specs.Cells.{Cells, cells_where, union_of}
-use Rattle.sz_cells.specs.SetBytes.{IsSetOf, set_bytes}
+use Rattle.sz_cells.specs.SetBytes.{set_bytes}
 use Rattle.sz_spec.specs.Values.{extent_at}
 use Rattle.sz_region.specs.Parts.{Pairing}
 use Rattle.sz_region.specs.Stands.{full_stands}

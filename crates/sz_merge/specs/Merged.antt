@@ -1,17 +1,13 @@
 -- What a merged store is: it stands for the same, and its region pairs are the kinds of lineage.
-use Rattle.std.specs.Prelude.{◌≡◌, ◌≢◌, ℕ, ◌<◌, ◌≤◌, List, [], ◌∷◌, ◌++◌, map, length, true, false}
+use Rattle.std.specs.Prelude.{◌≡◌, ℕ, ◌<◌, ◌≤◌, List, [], ◌∷◌, ◌++◌, length, true}
 use Rattle.std.specs.Prelude.{All}
-use Rattle.std.specs.Prelude.{Some}
-use Rattle.std.specs.List.{AllZip, slice_get}
+use Rattle.std.specs.List.{AllZip}
 use Rattle.sz_cells.specs.declared.Cell.{Cell}
-use Rattle.sz_cells.specs.Extent.{Extent}
-use Rattle.sz_cells.specs.Cells.{has}
 use Rattle.sz_spec.specs.declared.modes.Strategy.{Strategy}
 use Rattle.sz_spec.specs.Shapes.{Site}
-use Rattle.sz_region.specs.Parts.{Pairing, Entry}
+use Rattle.sz_region.specs.Parts.{Entry}
 use Rattle.sz_payload.specs.Begins.{BeginsPayloads}
 use Rattle.sz_region.specs.Putting.{HasShapes}
-use Rattle.sz_tables.specs.Tables.{AreDifferent}
 use Rattle.sz_store.specs.Kept.{Holding, regions, entries, Keep, NodeLineage, holding_stands}
 use Rattle.sz_store.specs.Kept.{is_whole, stored_in}
 use Rattle.sz_store.specs.Words.{Begins, BeginEach}

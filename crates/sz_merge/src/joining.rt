@@ -3,12 +3,14 @@
 ghost use Rattle.std.specs.Prelude.{◌≡◌, ◌<◌, map, length, Some, IfOk};
 ghost use Rattle.std.specs.List.{slice_get};
 ghost use Rattle.std.specs.Arc.{arc_value};
+ghost use Rattle.sz_cells.specs.Cells.{union_of};
 ghost use Rattle.sz_merge.specs.Lineages.{joined, list_at, KeepsNumbers};
 ghost use Rattle.sz_merge.specs.Marks.{IsNext};
 
 use crate::lineages::LineageTable;
 use std::alloc::Global;
 use std::sync::Arc;
+use sz_cells::laws::a_set_is_its_cells;
 use sz_cells::{CellSet, NoMemory};
 use sz_region::Region;
 
@@ -92,8 +94,26 @@ fn join_sets(
 {
     let mut both = Vec::new(alloc);
     for input in 0..sets.len() {
-        let set = sets[input].union(alloc, &more[input])?;
-        both.push(Arc::new(alloc, set)?)?;
+        let set = join_set(alloc, &sets[input], &more[input])?;
+        both.push(set)?;
     }
     Ok(both)
+}
+
+/// The cells of either set. The second one is shared where the first has none.
+fn join_set(
+    alloc: Global,
+    set: &Arc<CellSet>,
+    more: &Arc<CellSet>,
+) -> Result<Arc<CellSet>, NoMemory>
+    requires { (arc_value more.now).extent ≡ (arc_value set.now).extent }
+    ensures { IfOk result
+        (λ a. arc_value a ≡ union_of (arc_value set.now) (arc_value more.now)) }
+{
+    if set.runs().is_empty() {
+        a_set_is_its_cells(more);
+        return Ok(Arc::try_clone(more)?);
+    }
+    let both = set.union(alloc, more)?;
+    Ok(Arc::new(alloc, both)?)
 }

@@ -19,14 +19,17 @@ ghost use Rattle.sz_store.specs.Kept.{is_whole, stored_in};
 ghost use Rattle.sz_store.specs.Words.{BeginEach};
 ghost use Rattle.sz_merge.specs.Merged.{AreMerged, AreRead};
 
+mod gate;
 mod grouping;
 mod joining;
 mod kinds;
+pub mod laws;
 mod lineages;
 mod marking;
 mod parts;
 mod task;
 
+pub use crate::gate::{MergeGate, NoMergeGate};
 use crate::parts::{merge_parts, within_limits};
 pub use crate::task::{MergeTask, attend_merges};
 use std::alloc::Global;

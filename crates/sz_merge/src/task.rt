@@ -4,6 +4,7 @@ ghost use Rattle.std.specs.Prelude.{◌≡◌, ◌+◌, true, OnOk};
 ghost use Rattle.std.specs.Arc.{arc_value};
 ghost use Rattle.sz_shelf.specs.Passes.{place_of};
 
+use crate::gate::MergeGate;
 use crate::merge;
 use crossbeam_channel::Receiver;
 use std::alloc::Global;
@@ -31,18 +32,29 @@ pub struct MergeTask {
 }
 
 /// Merges the stores of each task that comes, and puts them in the place of those on its shelf,
-/// until the channel is closed. A task that is refused for memory is left undone.
+/// until the channel is closed. A task that is refused for memory is left undone. Between a merge
+/// and the turn in which it is put in its place the gate is called.
 ///
 /// While a task is merged, its shelf is free: asks are answered as before and after.
-pub fn attend_merges<R: Wait>(alloc: Global, rt: &R, tasks: Receiver<MergeTask>) {
+pub fn attend_merges<G: MergeGate, R: Wait>(
+    alloc: Global,
+    rt: &R,
+    tasks: Receiver<MergeTask>,
+    gate: &G,
+) {
     for task in tasks.iter(rt) {
-        let _ = merge_task(alloc, rt, task);
+        let _ = merge_task(alloc, rt, task, gate);
     }
 }
 
 /// Merges the stores of a task's shelf, in two turns: a share of them is taken, and the merged ones
 /// are put in their place. After `NoMemory` they are not.
-fn merge_task<R: Wait>(alloc: Global, rt: &R, task: MergeTask) -> Result<(), NoMemory> {
+fn merge_task<G: MergeGate, R: Wait>(
+    alloc: Global,
+    rt: &R,
+    task: MergeTask,
+    gate: &G,
+) -> Result<(), NoMemory> {
     let MergeTask {
         at,
         list,
@@ -50,17 +62,18 @@ fn merge_task<R: Wait>(alloc: Global, rt: &R, task: MergeTask) -> Result<(), NoM
         pass,
     } = task;
     let mut pass = pass;
-    merge_on(alloc, rt, &at, &list, &shelf, &mut pass)
+    merge_on(alloc, rt, &at, &list, &shelf, &mut pass, gate)
 }
 
 /// Merges the stores of a sealed shelf.
-fn merge_on<R: Wait>(
+fn merge_on<G: MergeGate, R: Wait>(
     alloc: Global,
     rt: &R,
     at: &Arc<OpAt>,
     list: &[Strategy],
     shelf: &Shelf,
     pass: &mut Pass,
+    gate: &G,
 ) -> Result<(), NoMemory>
     requires own { place_of pass.old ≡ shelf.now }
     requires saw { pass.old.saw ≡ true }
@@ -75,6 +88,7 @@ fn merge_on<R: Wait>(
     pass.kept(); // its tag is one
     let merged = merge(alloc, at, list, &store)?;
     let store = Arc::new(alloc, merged.store)?;
+    gate.before_swap();
     shelf.swap(rt, pass, store);
     Ok(())
 }

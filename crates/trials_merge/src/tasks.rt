@@ -11,10 +11,10 @@ use std::alloc::Global;
 use std::sync::{Arc, Wait};
 use std::test::Fail;
 use sz_cells::{NoMemory, Run, Shape};
-use sz_merge::{MergeTask, attend_merges};
+use sz_merge::{MergeTask, NoMergeGate, attend_merges};
 use sz_region::take_regions;
 use sz_shelf::{Look, Pass, Placed, SealReply};
-use sz_spec::Dir;
+use sz_spec::{Dir, Strategy};
 use sz_store::NodeStore;
 
 /// One region pair, of the two sets that have all cells.
@@ -30,7 +30,7 @@ const ALL: [Run; 1] = [Run {
 }];
 
 /// Places each piece, and seals.
-fn fill<R: Wait>(alloc: Global, rt: &R, bench: &Bench, pass: &mut Pass) -> Result<(), Fail>
+pub fn fill<R: Wait>(alloc: Global, rt: &R, bench: &Bench, pass: &mut Pass) -> Result<(), Fail>
     requires { place_of pass.old ≡ bench.now }
     ensures own { place_of pass.new ≡ place_of pass.old }
     ensures saw { IfOk result (λ _. pass.new.saw ≡ true) }
@@ -45,7 +45,7 @@ fn fill<R: Wait>(alloc: Global, rt: &R, bench: &Bench, pass: &mut Pass) -> Resul
 }
 
 /// The stores that are handed out.
-fn given<R: Wait>(
+pub fn given<R: Wait>(
     alloc: Global,
     rt: &R,
     bench: &Bench,
@@ -69,7 +69,7 @@ fn spelled(alloc: Global, store: &NodeStore) -> Result<Vec<u8>, Fail> {
 }
 
 /// How many region pairs some stores have.
-fn pairs(alloc: Global, store: &NodeStore) -> Result<usize, Fail> {
+pub fn pairs(alloc: Global, store: &NodeStore) -> Result<usize, Fail> {
     let shape = Shape::make(1, 130).ok_or("a row of 130 is a shape")?;
     let bytes = spelled(alloc, store)?;
     match take_regions(alloc, shape, &[shape], &bytes, 0) {
@@ -78,8 +78,13 @@ fn pairs(alloc: Global, store: &NodeStore) -> Result<usize, Fail> {
     }
 }
 
-/// Whether a look from one cell finds all, in both directions.
-fn finds_all<R: Wait>(alloc: Global, rt: &R, bench: &Bench, pass: &mut Pass) -> Result<bool, Fail>
+/// Whether a look from one cell finds all by the store, in both directions.
+pub fn finds_all<R: Wait>(
+    alloc: Global,
+    rt: &R,
+    bench: &Bench,
+    pass: &mut Pass,
+) -> Result<bool, Fail>
     requires { place_of pass.old ≡ bench.now }
     ensures { place_of pass.new ≡ place_of pass.old }
 {
@@ -89,10 +94,10 @@ fn finds_all<R: Wait>(alloc: Global, rt: &R, bench: &Bench, pass: &mut Pass) -> 
     Ok(done && back.runs() == ALL.as_slice() && on.runs() == ALL.as_slice())
 }
 
-/// Whether a look found the seal.
+/// Whether a look read the store.
 fn is_done(look: Look) -> bool {
     match look {
-        Look::Done(_) => true,
+        Look::Done(read) => read.strategy() == Strategy::FullManyB,
         Look::Unsealed { .. } => false,
     }
 }
@@ -102,7 +107,7 @@ fn attend<R: Wait>(alloc: Global, rt: &R, task: MergeTask) -> Result<bool, NoMem
     let (to, from) = crossbeam_channel::unbounded::<MergeTask, Global>(alloc)?;
     let sent = to.send(rt, task).is_ok();
     drop(to);
-    attend_merges(alloc, rt, from);
+    attend_merges(alloc, rt, from, &NoMergeGate);
     Ok(sent)
 }
 

@@ -13,7 +13,8 @@ add_run-requires-clause-later c =
     let groups = c.args.groups.now.items in
     let old = c.index_mut-group.result.now in
     let was : get_or (map (λ g. g.items) groups) c.args.number [] ≡ old.items =
-    read-map (λ g. g.items) groups c.args.number old old.items [] c.requires.there c.index_mut-group.ensures.value refl in
+    read-map (λ g. g.items) groups c.args.number old old.items [] c.requires.there c.index_mut-group.ensures.value
+    refl in
     rw was at c.requires.later
 
 pub returns : goal.returns
@@ -23,7 +24,8 @@ returns c =
     let new = c.add_run.new.runs in
     let k = c.args.index in
     let was : get_or (map (λ g. g.items) groups) c.args.number [] ≡ old.items =
-    read-map (λ g. g.items) groups c.args.number old old.items [] c.requires.there c.index_mut-group.ensures.value refl in
+    read-map (λ g. g.items) groups c.args.number old old.items [] c.requires.there c.index_mut-group.ensures.value
+    refl in
     let more : HasCellMore old.items k new.items = record {
       longest = c.in_ok-add_run.ensures.longest;
       begun = c.in_ok-add_run.ensures.begun;

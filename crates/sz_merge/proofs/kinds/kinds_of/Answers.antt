@@ -1,5 +1,5 @@
 -- What stands behind the cells is numbered, and the cells are sorted by their numbers.
-use Rattle.std.proofs.Common.{◌≡◌, ◌∙◌, ℕ, List, map, length, sym, ap, subst, All}
+use Rattle.std.proofs.Common.{◌∙◌, List, map, sym, ap, subst, All}
 use Rattle.std.specs.Arc.{arc_value}
 use Rattle.sz_cells.specs.Extent.{Extent}
 use Rattle.sz_region.specs.Parts.{Pairing}

@@ -1,20 +1,12 @@
 -- The group of the number at hand is taken out, and those behind it stay.
-use Rattle.std.proofs.Common.{◌≡◌, ◌≢◌, ◌∙◌, ◌++◌, ◌∷◌, [], ℕ, ◌+◌, ◌<◌, ◌≤◌, ◌==◌, ◌&&◌, List, map, length, get_or}
-use Rattle.std.proofs.Common.{set}
-use Rattle.std.proofs.Common.{refl, sym, ap, ap₂, subst, arith, cond, not, nat_lt, Bool, get_or-set_other, length-set}
-use Rattle.std.proofs.Common.{All}
+use Rattle.std.proofs.Common.{◌≡◌, ◌∙◌, [], ◌<◌, List, map, length, get_or}
+use Rattle.std.proofs.Common.{sym, ap, subst, arith, get_or-set_other, length-set}
 use Rattle.std.specs.Arc.{arc_value}
-use Rattle.std.specs.List.{filter, range_with_len}
-use Rattle.std.proofs.lemmas.List.{length-map, map-set, map-append}
+use Rattle.std.proofs.lemmas.List.{length-map, map-set}
 use Rattle.sz_cells.specs.declared.Run.{Run}
-use Rattle.sz_cells.specs.Extent.{Extent, size_of}
-use Rattle.sz_cells.specs.Cells.{Cells}
+use Rattle.sz_cells.specs.Extent.{size_of}
 use Rattle.sz_cells.specs.Runs.{AreRunsFrom}
-use Rattle.sz_region.specs.Parts.{Pairing}
-use Rattle.sz_tables.specs.Tables.{spelled}
 use Rattle.sz_tables.proofs.Taking.{read-map}
-use Rattle.sz_merge.specs.Lineages.{list_at}
-use Rattle.sz_merge.specs.Marks.{kinds_below, region_at, is_kind}
 use Rattle.sz_merge.proofs.Sorting.{kinds-more}
 use Rattle.sz_merge.proofs.kinds.regions_of.Goals as goal
 
@@ -24,7 +16,13 @@ add_kind-requires-clause-runs c =
     let groups = c.loop-number.groups.items in
     let all = map (λ g. g.items) c.args.groups.items in
     let inside : n < length groups =
-    omega (arith, c.loop-number-test.true, c.len-number-end.ensures.count, c.requires.many, c.loop-number.invariant.many) in
+    omega (
+      arith,
+      c.loop-number-test.true,
+      c.len-number-end.ensures.count,
+      c.requires.many,
+      c.loop-number.invariant.many,
+    ) in
     let here : get_or (map (λ g. g.items) groups) n [] ≡ c.replace-group.result.items =
     read-map (λ g. g.items) groups n c.index_mut.result.now c.replace-group.result.items [] inside
     c.index_mut.ensures.value (ap (λ g. g.items) c.replace-group.ensures.value) in

@@ -20,7 +20,8 @@ loop-set-preserved c =
     let y : Cells = c.deref.result.now in
     let inside : i < length xs = omega (arith, length-map sets (λ a. arc_value a), c.loop-set-test.true) in
     let here : get_or xs i x ≡ x =
-    read-map (λ a. arc_value a) sets i c.set-item.result x x c.loop-set-test.true c.set-item.is c.deref-in-loop-set.ensures
+    read-map (λ a. arc_value a) sets i c.set-item.result x x c.loop-set-test.true c.set-item.is
+    c.deref-in-loop-set.ensures
     in
     let there : get_or xs i y ≡ y =
     read-map (λ a. arc_value a) sets i c.set-item.result y y c.loop-set-test.true c.set-item.is c.deref.ensures in

@@ -1,13 +1,13 @@
 -- The runs of the output set are marked one after another, and together they are the set.
-use Rattle.std.proofs.Common.{◌≡◌, ◌∙◌, ℕ, ◌<◌, ◌≤◌, List, [], length, get_or, take, refl, sym, ap, subst, arith, false}
+use Rattle.std.proofs.Common.{◌≡◌, ◌∙◌, ℕ, ◌<◌, List, [], length, get_or, take, refl, sym, ap, subst, arith, false}
 use Rattle.std.proofs.lemmas.List.{take_all, get_or_default}
 use Rattle.sz_cells.specs.declared.Run.{Run}
 use Rattle.sz_cells.specs.Extent.{Extent, size_of}
 use Rattle.sz_cells.specs.Cells.{Cells}
-use Rattle.sz_cells.specs.Runs.{runs_of, covers, Spells, AreRunsFrom, is_in}
+use Rattle.sz_cells.specs.Runs.{runs_of, covers, Spells, is_in}
 use Rattle.sz_cells.proofs.Runs.{runs-at}
 use Rattle.sz_region.specs.Parts.{Pairing}
-use Rattle.sz_merge.specs.Marks.{IsNext, AreMarked, AreNumbers}
+use Rattle.sz_merge.specs.Marks.{IsNext, AreMarked}
 use Rattle.sz_merge.proofs.Marked.{marked-none, marked-ext, runs-more, runs-all, numbers-kept}
 use Rattle.sz_merge.proofs.marking.mark.Goals as goal
 
@@ -42,7 +42,8 @@ pub mark_run-requires-clause-order : goal.mark_run-requires-clause-order
 unfolding no_run
 mark_run-requires-clause-order c =
     let runs = c.runs-run-items.result.now in
-    (runs-at 0 (size_of c.deref.result.now.extent) runs c.loop-run.run-index no_run c.runs-run-items.ensures.spelled.longest
+    (runs-at 0 (size_of c.deref.result.now.extent) runs c.loop-run.run-index no_run
+    c.runs-run-items.ensures.spelled.longest
     c.loop-run-test.true).1
 
 pub mark_run-requires-clause-within : goal.mark_run-requires-clause-within

@@ -1,5 +1,5 @@
 -- One cell more is marked by the step from its number.
-use Rattle.std.proofs.Common.{◌≡◌, ◌∙◌, ℕ, ◌+◌, ◌<◌, ◌≤◌, List, length, get_or, set, sym, ap, subst, arith}
+use Rattle.std.proofs.Common.{◌≡◌, ◌∙◌, ◌+◌, ◌<◌, List, length, get_or, subst, arith}
 use Rattle.std.proofs.lemmas.List.{get_or_default}
 use Rattle.sz_cells.specs.Extent.{Extent}
 use Rattle.sz_merge.specs.Marks.{IsNext}
@@ -24,7 +24,8 @@ loop-index-preserved c =
     record {
       ins = made.ins ∙ inv.ins;
       marked = run-more ins r c.args.run.first i c.args.labels.now.items labels c.args.lineages.now.lists
-          c.loop-index.lineages.lists after c.in_ok-last.last.from c.in_ok-last.last.to inv.marked c.loop-index.auto.index
+          c.loop-index.lineages.lists after c.in_ok-last.last.from c.in_ok-last.last.to inv.marked
+          c.loop-index.auto.index
           inside is made.kept next;
       last = next;
       numbers = numbers-set labels after i c.in_ok-last.last.to

@@ -1,5 +1,5 @@
 -- The cells of the run before this one are marked.
-use Rattle.std.proofs.Common.{◌≡◌, ℕ, ◌&&◌, nat_le, nat_lt, map}
+use Rattle.std.proofs.Common.{◌≡◌, ◌&&◌, nat_le, nat_lt}
 use Rattle.sz_merge.specs.Marks.{AreMarked, IsNext, AreNumbers}
 use Rattle.sz_merge.proofs.marking.mark_run.Given as goal
 

@@ -1,5 +1,5 @@
 -- The region pairs that are read are the store's, and their kinds are put.
-use Rattle.std.proofs.Common.{◌≡◌, ◌∙◌, ◌++◌, ◌∷◌, [], ℕ, ◌<◌, ◌≤◌, List, map, length, sym, ap, subst, arith, All}
+use Rattle.std.proofs.Common.{◌≡◌, ◌∙◌, ◌++◌, ◌∷◌, [], ℕ, ◌<◌, List, map, length, sym, ap, subst, arith, All}
 use Rattle.std.specs.Arc.{arc_value}
 use Rattle.std.proofs.lemmas.List.{length-map}
 use Rattle.sz_cells.specs.declared.Cell.{Cell}
@@ -52,7 +52,8 @@ returns c =
     (subst (λ (xs : _). All (HasShapes c.out.result c.ins.result.now) (map (λ a. arc_value a) xs))
     (sym c.deref-2.ensures.value) c.in_ok-merged.ensures.shapes)) in
     let are : AreKinds ms =
-    subst (λ (xs : _). AreKinds (map (λ a. arc_value a) xs)) (sym c.deref-2.ensures.value) c.in_ok-merged.ensures.kinds in
+    subst (λ (xs : _). AreKinds (map (λ a. arc_value a) xs))
+    (sym c.deref-2.ensures.value) c.in_ok-merged.ensures.kinds in
     let same : (i : ℕ) (o x : Cell) → i < length s.ins → full_stands ms i o x ≡ full_stands rs i o x =
     λ i o x inside.
     ap (λ (xs : _). full_stands (map (λ a. arc_value a) xs) i o x) c.deref-2.ensures.value
@@ -66,7 +67,8 @@ returns c =
       length-map c.deref-2.result.now (λ a. arc_value a),
       ap length c.deref-2.ensures.value,
     ) in
-    full-merged s c.args.bytes.now c.args.place c.in_ok-regions.next rs ms c.args.to.now.items c.put_regions.new.to.items
+    full-merged s c.args.bytes.now c.args.place c.in_ok-regions.next rs ms c.args.to.now.items
+    c.put_regions.new.to.items
     put.1 put.0 c.args.kinds.now.items c.push.new.self.items c.within_limits.ensures.right
     c.in_ok-regions.ensures.begins c.in_ok-regions.ensures.within are shapes same put.2 put.3
     (c.in_ok-push.ensures.items ∙ ap (λ (n : ℕ). c.args.kinds.now.items ++ n ∷ []) many)

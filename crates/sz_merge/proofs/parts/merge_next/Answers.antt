@@ -1,5 +1,5 @@
 -- A store of entries is copied.
-use Rattle.std.proofs.Common.{◌≡◌, ◌∙◌, refl, sym, subst}
+use Rattle.std.proofs.Common.{◌∙◌, refl, sym, subst}
 use Rattle.sz_spec.specs.declared.modes.Mode.{Mode}
 use Rattle.sz_merge.specs.Merged.{IsPartMerged}
 use Rattle.sz_merge.proofs.Behind.{pay-merged, comp-merged}

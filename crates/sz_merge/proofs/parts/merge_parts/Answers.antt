@@ -1,5 +1,5 @@
 -- The store of the next strategy begins behind those that were merged, and is merged.
-use Rattle.std.proofs.Common.{◌≡◌, ℕ, ◌≤◌, List, length, get_or, inl, inr, subst, sym, arith}
+use Rattle.std.proofs.Common.{ℕ, ◌≤◌, length, get_or, inl, inr, subst, sym}
 use Rattle.std.proofs.lemmas.Bool.{cases_Bool}
 use Rattle.std.proofs.lemmas.List.{get_or_default}
 use Rattle.sz_spec.specs.declared.modes.Strategy.TheVariants as strategy

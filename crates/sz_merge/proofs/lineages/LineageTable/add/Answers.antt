@@ -1,5 +1,5 @@
 -- A word that is there is that of an equal lineage.
-use Rattle.std.proofs.Common.{◌≡◌, ◌∙◌, ◌++◌, ◌<◌, ◌≤◌, ℕ, List, map, length, sym, ap, subst, arith, Some, All}
+use Rattle.std.proofs.Common.{◌≡◌, ◌∙◌, ◌++◌, ◌≤◌, ℕ, List, map, length, sym, ap, subst, arith, All}
 use Rattle.std.specs.Arc.{arc_value}
 use Rattle.std.specs.List.{slice_get}
 use Rattle.sz_cells.specs.Cells.{Cells}

@@ -1,0 +1,2 @@
+-- A lemma on closures that cross threads.
+mod Crossing

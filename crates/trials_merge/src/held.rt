@@ -1,0 +1,136 @@
+//! A merge that is held between its two turns, while asks are answered.
+
+ghost use Rattle.std.specs.Prelude.{◌≡◌, true};
+ghost use Rattle.sz_shelf.specs.Passes.{place_of};
+
+use crate::bench::Bench;
+use crate::tasks::{fill, finds_all, given, pairs};
+use crossbeam_channel::Receiver;
+use std::alloc::Global;
+use std::sync::Wait;
+use std::sync::atomic::{AtomicU64, Ordering};
+use std::test::Fail;
+use std::thread::{self, Threads};
+use sz_merge::{MergeGate, MergeTask, attend_merges};
+use sz_shelf::Pass;
+
+/// For how many turns something is waited for.
+const LIMIT: u64 = 1_000_000_000;
+
+/// A gate that holds each merge until it is let go. It counts the merges that it held, how many
+/// were let go, and how often something did not come.
+#[derive(Drop)]
+pub struct Holding {
+    held: AtomicU64,
+    let_go: AtomicU64,
+    missed: AtomicU64,
+}
+
+impl Holding {
+    /// Nothing is held yet.
+    fn new() -> Holding {
+        Holding {
+            held: AtomicU64::new(0),
+            let_go: AtomicU64::new(0),
+            missed: AtomicU64::new(0),
+        }
+    }
+
+    /// Waits until one was counted.
+    fn wait_for(&self, count: &AtomicU64) {
+        for _ in 0..LIMIT {
+            if count.load(Ordering::SeqCst) != 0 {
+                return;
+            }
+        }
+        self.missed.fetch_add(1, Ordering::SeqCst);
+    }
+}
+
+impl MergeGate for Holding {
+    fn before_swap(&self) {
+        self.held.fetch_add(1, Ordering::SeqCst);
+        self.wait_for(&self.let_go);
+    }
+}
+
+/// Whether asks are answered by the stores as so many region pairs, in both directions.
+fn is_answered<R: Wait>(
+    alloc: Global,
+    rt: &R,
+    bench: &Bench,
+    pass: &mut Pass,
+    count: usize,
+) -> Result<bool, Fail>
+    requires { place_of pass.old ≡ bench.now }
+    ensures { place_of pass.new ≡ place_of pass.old }
+{
+    let found = finds_all(alloc, rt, bench, pass)?;
+    let store = given(alloc, rt, bench, pass)?;
+    Ok(found && pairs(alloc, &store)? == count)
+}
+
+/// Waits until a merge is held, asks, and lets it go. Whether the asks were answered by the stores
+/// that are not merged.
+fn ask_while_held<R: Wait>(
+    alloc: Global,
+    rt: &R,
+    bench: &Bench,
+    pass: &mut Pass,
+    gate: &Holding,
+) -> Result<bool, Fail>
+    requires { place_of pass.old ≡ bench.now }
+    ensures { place_of pass.new ≡ place_of pass.old }
+{
+    gate.wait_for(&gate.held);
+    let answered = is_answered(alloc, rt, bench, pass, 3);
+    gate.let_go.fetch_add(1, Ordering::SeqCst);
+    answered
+}
+
+/// Attends to the tasks, where they are there.
+fn attend<R: Wait>(alloc: Global, rt: &R, tasks: &mut Option<Receiver<MergeTask>>, gate: &Holding) {
+    if let Some(tasks) = tasks.take() {
+        attend_merges(alloc, rt, tasks, gate);
+    }
+}
+
+/// Merges in this thread, and asks in another one while the merge is held. Whether the asks were
+/// answered.
+fn merge_beside_asks<R: Threads + Wait + Sync>(
+    rt: &R,
+    alloc: Global,
+    bench: &Bench,
+    pass: &mut Pass,
+    tasks: Receiver<MergeTask>,
+    gate: &Holding,
+) -> Result<bool, Fail>
+    requires { place_of pass.old ≡ bench.now }
+    ensures { place_of pass.new ≡ place_of pass.old }
+{
+    let mut tasks = Some(tasks);
+    let (answered, _) = thread::join_mut(
+        rt,
+        &mut || ask_while_held(alloc, rt, bench, pass, gate),
+        &mut || attend(alloc, rt, &mut tasks, gate),
+    );
+    answered
+}
+
+#[test]
+fn asks_are_answered_while_a_merge_is_held(rt: HostRuntime) -> Result<(), Fail> {
+    let alloc = rt.alloc();
+    let (bench, mut pass) = Bench::new(alloc)?;
+    fill(alloc, &rt, &bench, &mut pass)?;
+    let mut other = bench.split(&mut pass)?;
+    let (to, from) = crossbeam_channel::unbounded::<MergeTask, Global>(alloc)?;
+    assert!(rt; to.send(&rt, bench.task(alloc, pass)?).is_ok());
+    drop(to);
+    let gate = Holding::new();
+    assert!(rt; is_answered(alloc, &rt, &bench, &mut other, 3)?);
+    assert!(rt; merge_beside_asks(&rt, alloc, &bench, &mut other, from, &gate)?);
+    assert!(rt; is_answered(alloc, &rt, &bench, &mut other, 1)?);
+    assert_eq!(rt; gate.held.load(Ordering::SeqCst), 1);
+    assert_eq!(rt; gate.missed.load(Ordering::SeqCst), 0);
+    Ok(())
+}
