@@ -248,7 +248,7 @@ cat >"$here/src/main.rt" <<'RT'
 //! `merges ROW SIDE STEP` does the steps of a row up to one, and prints the sizes of the stores behind the last.
 #![tactic(auto)]
 
-ghost use Rattle.std.specs.Prelude.{◌≡◌, map};
+ghost use Rattle.std.specs.Prelude.{◌≡◌, ◌∷◌, [], map};
 ghost use Rattle.std.specs.Arc.{arc_value};
 ghost use Rattle.sz_spec.specs.Values.{extents_of};
 

@@ -49,8 +49,7 @@ returns-in-Ok-clause-counted g c =
     let b = c.catalogue_of.new.station in
     let reads = g.S.Source.faults c.args.source.now in
     counted-behind g.T.Station c.run_on.result reads reads (g.S.Source.faults c.run_on.new.source) a b
-    c.run_on.new.station
-    (
+    c.run_on.new.station (
       refl,
       c.catalogue_of.ensures.output.1 ∙ c.sync.ensures.output.1,
       c.in-Ok.ensures.counted
