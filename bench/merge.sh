@@ -8,9 +8,9 @@
 # that also places them, and one that also merges. So `make`, `place` and `merge` are what a process takes more than the one before it, in
 # milliseconds of the processor, the best of three, and likewise `built` and `merged` are the bytes of memory, a cell, at the peak of building
 # and of merging more than the peak of the arrays alone. Behind these stand what merging takes beside building (making and placing), and its
-# peak beside that of building, each with a star where it is past 1.5 and past 3; then the bytes of the stores before and after, a cell, and the
-# number of region pairs before and after. It is no test: nothing is compared. It needs python3, works in a folder of its own, and takes what
-# was built in this checkout.
+# peak beside that of building (0 where building does not raise the peak), each with a star where it is past 1.5 and past 3; then the bytes of
+# the stores before and after, a cell, and the number of region pairs before and after. It is no test: nothing is compared. It needs python3,
+# works in a folder of its own, and takes what was built in this checkout.
 #
 #     bench/merge.sh [SIDE..]      MERGE_ROWS='plus block' bench/merge.sh 256 for some rows alone
 set -euo pipefail
@@ -373,7 +373,7 @@ for row, name in ROWS:
         cells = side * side
         make, place, merge = (steps[k][0] - steps[k - 1][0] for k in (1, 2, 3))
         built, merged = (max(steps[k][1] - steps[0][1], 1) / cells for k in (2, 3))
-        time, room = merge / max(make + place, 0.1), merged / built
+        time, room = merge / max(make + place, 0.1), merged / built if built > 1 else 0
         bytes_, fewer, pairs, kinds = measured(row, side, 4)[2]
         print(f"{name:20} {side:5} {make:8.0f} {place:8.0f} {merge:8.0f} {time:8.2f}{'*' if time > 1.5 else ' '} {built:8.0f} {merged:8.0f}"
               f" {room:8.2f}{'*' if room > 3 else ' '} {bytes_ / cells:8.1f} {fewer / cells:8.1f} {pairs:8} {kinds:8}", flush=True)
