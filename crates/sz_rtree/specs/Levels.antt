@@ -1,5 +1,5 @@
 -- What keeps a look short: boxes, each round a run of rectangles whose numbers follow one another.
-use Rattle.std.specs.Prelude.{ℕ, ◌≤◌, ◌<◌, ◌+◌, ◌*◌, ◌/◌, ◌^◌, List, length}
+use Rattle.std.specs.Prelude.{ℕ, ◌≤◌, ◌<◌, ◌+◌, ◌*◌, ◌/◌, ◌^◌, List, ◌∷◌, length}
 use Rattle.std.specs.Prelude.{slice_index_or, All, map}
 use Rattle.std.specs.Global.{Vec}
 use Rattle.std.specs.Vec.{vec_capacity}
@@ -33,6 +33,12 @@ HasRoom count level = count ≤ vec_capacity level.boxes * level.span
 -- how many boxes each level can hold without more memory
 abbrev pub box_capacities : List Level → List ℕ
 box_capacities levels = map (λ level. vec_capacity level.boxes) levels
+
+-- how much each list of a tree can hold without more memory: the rectangles, the levels, and the
+-- boxes of each level
+abbrev pub capacities_of : Vec Bounds → Vec Level → List ℕ
+capacities_of rectangles levels =
+    vec_capacity rectangles ∷ vec_capacity levels ∷ box_capacities levels.items
 
 -- no rectangle from the number `from` up to `end` overlaps `bounds`
 abbrev pub MissesUpTo : List Bounds → Bounds → ℕ → ℕ → Type 0

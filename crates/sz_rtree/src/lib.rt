@@ -65,17 +65,16 @@ pub struct RTree {
 }
 
 impl Model for RTree {
-    ghost use Rattle.std.specs.Prelude.{◌∷◌, vec_capacity};
     ghost use Rattle.sz_rtree.specs.Rectangles.{Rectangles};
 
     ghost Value = { Rectangles };
 
-    ghost use Rattle.sz_rtree.specs.Levels.{IsReady, box_capacities};
+    ghost use Rattle.sz_rtree.specs.Levels.{IsReady, capacities_of};
 
     ghost view = { λ t. record {
       rectangles = t.rectangles.items;
       spare = t.spare;
-      capacities = vec_capacity t.rectangles ∷ box_capacities t.levels.items;
+      capacities = capacities_of t.rectangles t.levels;
     } };
 
     ghost invariant = { λ t. IsReady t.rectangles t.spare t.levels.items };
