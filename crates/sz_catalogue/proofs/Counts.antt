@@ -23,7 +23,7 @@ use Rattle.sz_catalogue.specs.Holdings.{Version, Holdings, version_numbered, hel
 use Rattle.sz_catalogue.specs.Rules.{first_of, judged, has_room, has_no_room_for_array, most_arrays}
 use Rattle.sz_catalogue.specs.Rules.{most_cells, most_versions}
 use Rattle.sz_catalogue.specs.Rules.{has_no_flow, has_no_array, has_wrong_base, has_broken_shapes, first_broken}
-use Rattle.sz_catalogue.specs.Rules.{has_no_room_for_version, greatest_number}
+use Rattle.sz_catalogue.specs.Rules.{has_no_room_for_version, greatest_number, has_too_many_units, most_units}
 use Rattle.sz_catalogue.specs.Holdings.{Named, next_number}
 use Rattle.sz_catalogue.specs.Starts.{version_started, workflow_of}
 use Rattle.sz_catalogue.specs.Changes.{with_array, with_version, with_await}
@@ -119,15 +119,44 @@ start-known c name base h =
     let f = first-passed (has_no_room_for_version c name base) rule.NoRoomForVersion [] e.1 in
     record { flow = a.0; arrays = b.0; count = d.0; fits = e.0; room = f.0 }
 
+-- what is known of a plan that nothing refuses
+pub record IsPlan (c : Holdings) (name : List ℕ) (base : List BaseName) (units : ℕ) : Type 0 where
+  pub flow : has_no_flow c name ≡ false
+  pub arrays : has_no_array c base ≡ false
+  pub count : has_wrong_base c name base ≡ false
+  pub fits : has_broken_shapes c name base ≡ false
+  pub few : units ≤ most_units
+
+pub plan-known : (c : Holdings) (name : List ℕ) (base : List BaseName) (units back forward : ℕ)
+    → judged c (command.Plan name base units back forward) ≡ None → IsPlan c name base units
+plan-known c name base units back forward h =
+    let last : List (Bool × Refusal) = (has_too_many_units units, rule.TooManyUnits) ∷ [] in
+    let fourth : List (Bool × Refusal) =
+    (has_broken_shapes c name base, rule.ShapesDoNotFit (first_broken c name base)) ∷ last in
+    let third : List (Bool × Refusal) = (has_wrong_base c name base, rule.WrongBase) ∷ fourth in
+    let second : List (Bool × Refusal) = (has_no_array c base, rule.NoSuchArray) ∷ third in
+    let a = first-passed (has_no_flow c name) rule.NoSuchFlow second h in
+    let b = first-passed (has_no_array c base) rule.NoSuchArray third a.1 in
+    let d = first-passed (has_wrong_base c name base) rule.WrongBase fourth b.1 in
+    let e = first-passed (has_broken_shapes c name base) (rule.ShapesDoNotFit (first_broken c name base)) last d.1 in
+    let f = first-passed (has_too_many_units units) rule.TooManyUnits [] e.1 in
+    record { flow = a.0; arrays = b.0; count = d.0; fits = e.0; few = within units f.0 } where
+      within : (n : ℕ) → nat_lt most_units n ≡ false → n ≤ most_units
+      within n f = grind (arith, nat_tests)
+
 not-false : (b : Bool) → not b ≡ false → b ≡ true
 not-false true h = refl
 not-false false h = (cc)
 
 -- its count, and the room for its outputs and for its number
+pub right-count : (c : Holdings) (name : List ℕ) (base : List BaseName) → has_wrong_base c name base ≡ false
+    → length base ≡ (workflow_of c name).graph.inputs
+right-count c name base right =
+    let same = not-false (length base == (workflow_of c name).graph.inputs) right in grind (arith, nat_tests)
+
 pub start-count : (c : Holdings) (name : List ℕ) (base : List BaseName) → IsStart c name base
     → length base ≡ (workflow_of c name).graph.inputs
-start-count c name base start =
-    let same = not-false (length base == (workflow_of c name).graph.inputs) start.count in grind (arith, nat_tests)
+start-count c name base start = right-count c name base start.count
 
 pub start-room : (c : Holdings) (name : List ℕ) (base : List BaseName) → IsStart c name base
     → has_room c (output_cells (version_started c name base)) ≡ true

@@ -10,9 +10,11 @@ pub mod Counts
 pub mod Entries
 pub mod Order
 pub mod Judging
+pub mod FlowSites
 pub mod Refusals
 pub mod PathStarts
 mod RowsSaid
 mod Rows
 mod RowsLimits
 mod RowsPaths
+mod RowsPlans

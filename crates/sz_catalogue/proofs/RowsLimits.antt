@@ -11,6 +11,8 @@ use Rattle.sz_spec.specs.declared.op.Op.TheVariants as op
 use Rattle.sz_spec.specs.declared.flow.SourceRef.TheVariants.{Input}
 use Rattle.sz_spec.specs.declared.modes.Strategy.TheVariants as strategy
 use Rattle.sz_spec.specs.Flows.{Graph}
+use Rattle.sz_planner.specs.Offers.{offer_of, others, offers_among, offers_of, black_box_of}
+use Rattle.sz_planner.specs.Costs.{cheapest, cost_over, least_cost, offer_over, list_within}
 use Rattle.sz_script.specs.declared.command.Command.{Command}
 use Rattle.sz_script.specs.declared.command.Command.TheVariants as command
 use Rattle.sz_catalogue.specs.Holdings.{Holdings, no_holdings}
@@ -73,6 +75,11 @@ start-4097 = refl
 start-4097_unequal : says (versions 4096) (command.Start f (base a 1 ∷ base f 1 ∷ [])) ≡ codes "refused 13 0"
 unfolding digits
 start-4097_unequal = refl
+
+-- a plan holds nothing, so it is not refused there
+plan-4097 : says (versions 4096) (command.Plan f (base a 1 ∷ base a 1 ∷ []) 0 1 2) ≡ codes "plan 6 0 map"
+unfolding digits offer_of others offers_among offers_of black_box_of cheapest cost_over least_cost offer_over list_within
+plan-4097 = refl
 
 -- ---- numbers of versions
 

@@ -28,6 +28,7 @@ use Rattle.sz_catalogue.specs.Starts.{path_start, cell_named}
 use Rattle.sz_catalogue.specs.Rules.{version_of, judged}
 use Rattle.sz_catalogue.specs.Responses.{Response, array_held, flow_held, strategy_set, started}
 use Rattle.sz_catalogue.specs.Responses.{done, cells, explained, values, refused}
+use Rattle.sz_catalogue.specs.Plans.{plan_for}
 
 -- ---- what is held after
 
@@ -102,7 +103,7 @@ traced v dir path =
 
 -- ---- commands
 
--- the commands that change what is held and no version
+-- the commands that change no version and look at none: what they say is of what else is held
 abbrev pub changes_no_version : Command → Bool
 changes_no_version (command.Array name array) = true
 changes_no_version (command.Csv name array) = true
@@ -110,6 +111,7 @@ changes_no_version (command.Layers name array) = true
 changes_no_version (command.Flow name flow) = true
 changes_no_version (command.Strategy name node list) = true
 changes_no_version (command.Start name base) = false
+changes_no_version (command.Plan name base units back forward) = true
 changes_no_version (command.Await n) = false
 changes_no_version (command.Ask n dir path named) = false
 changes_no_version (command.Explain n dir path named) = false
@@ -128,6 +130,8 @@ accepted c (command.Strategy name node list) =
     (with_strategies c name node list, strategy_set name node)
 accepted c (command.Start name base) =
     (with_version c (next_number c) (version_started c name base), started (next_number c))
+accepted c (command.Plan name base units back forward) =
+    (c, plan_for (version_started c name base) units back forward)
 accepted c (command.Await n) = (with_await c n, done n)
 accepted c (command.Ask n dir path named) =
     (c, cells (cells_answered (version_of c n) dir path named))

@@ -1,6 +1,6 @@
 -- What is kept true of what a session holds.
-use Rattle.std.specs.Prelude.{◌≡◌, ℕ, ◌≤◌, List, [], map, length, String, Vec, true, Option, Some}
-use Rattle.std.specs.Prelude.{None, Result, Ok, Err, if◌then◌else◌, string_bytes}
+use Rattle.std.specs.Prelude.{◌≡◌, ℕ, ◌≤◌, List, [], map, length, String, Vec, Bool, true, false, Option}
+use Rattle.std.specs.Prelude.{Some, None, Result, Ok, Err, if◌then◌else◌, string_bytes}
 use Rattle.std.specs.Option.{option_map_or}
 use Rattle.std.specs.Arc.{arc_value}
 use Rattle.std.specs.declared.sync.Arc.{Arc}
@@ -53,3 +53,13 @@ abbrev pub refusal_by : Holdings → Result (List Extent) ℕ → Option Refusal
 refusal_by c (Err n) = Some (refusal.ShapesDoNotFit n)
 refusal_by c (Ok outputs) =
     if has_no_room_for_outputs c (cells_of outputs) then Some refusal.NoRoomForVersion else None
+
+-- the rule of room for a version, which is one of a start and none of a plan
+abbrev pub is_of_room : Refusal → Bool
+is_of_room refusal.NoRoomForVersion = true
+is_of_room _ = false
+
+-- nothing refuses a start, but want of room
+abbrev pub is_open : Option Refusal → Bool
+is_open None = true
+is_open (Some rule) = is_of_room rule

@@ -1,8 +1,10 @@
 -- The files of definitions, the lower ones first.
 pub mod Holdings
 pub mod Starts
+pub mod Sites
 pub mod Rules
 pub mod Responses
+pub mod Plans
 pub mod Changes
 pub mod Kept
 pub mod Order

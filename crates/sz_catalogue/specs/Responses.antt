@@ -12,7 +12,8 @@ use Rattle.sz_script.specs.Words.{name_of_strategy}
 
 -- an array is held as this version of a name; a flow is held under a name; the strategies of a node
 -- of a flow are set; a version is started; it is awaited; these cells; the ways of a path's steps,
--- and how many cells are traced for them; this array; the line is refused
+-- and how many cells are traced for them; this array; what a list of strategies that is planned
+-- costs, the units that it takes, and the list; the line is refused
 pub data Response : Type 0 where
   array_held : List ℕ → ℕ → Response
   flow_held : List ℕ → Response
@@ -22,6 +23,7 @@ pub data Response : Type 0 where
   cells : Cells → Response
   explained : List Strategy → ℕ → Response
   values : Grid → Response
+  planned : ℕ → ℕ → List Strategy → Response
   refused : Refusal → Response
 
 -- a blank and a number, and a blank and a text
@@ -62,6 +64,9 @@ reply_text (explained ways traced) =
     codes "explain" ++ flat_map (λ s. word_text (name_of_strategy s)) ways
     ++ codes " traced" ++ number_text traced
 reply_text (values array) = shape_text array.extent ++ flat_map value_text array.values
+reply_text (planned cost units list) =
+    codes "plan" ++ number_text cost ++ number_text units
+    ++ flat_map (λ s. word_text (name_of_strategy s)) list
 reply_text (refused rule) = codes "refused" ++ flat_map number_text (numbers_of rule)
 
 -- the reply line of a line: its number, a blank, the reply's text, a newline

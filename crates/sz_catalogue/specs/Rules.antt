@@ -43,6 +43,10 @@ most_cells = 4194304
 abbrev pub greatest_number : ℕ
 greatest_number = 4294967295
 
+-- the most units that a plan may have
+abbrev pub most_units : ℕ
+most_units = 65536
+
 -- ---- arrays and flows
 
 -- as many arrays are held as may be, or with this one there would be too many cells
@@ -92,7 +96,7 @@ has_bad_strategies c name node list = not (is_list_of (workflow_of c name).graph
 abbrev pub names_a_store : List Strategy → Bool
 names_a_store list = list_any is_stored list
 
--- ---- starts
+-- ---- starts and plans
 
 -- a base array is not held
 abbrev pub has_no_array : Holdings → List BaseName → Bool
@@ -127,6 +131,10 @@ has_no_room_for_outputs c cells =
 abbrev pub has_no_room_for_version : Holdings → List ℕ → List BaseName → Bool
 has_no_room_for_version c name base =
     has_no_room_for_outputs c (output_cells (version_started c name base))
+
+-- a plan has more units than it may
+abbrev pub has_too_many_units : ℕ → Bool
+has_too_many_units units = nat_lt most_units units
 
 -- ---- versions
 
@@ -179,6 +187,12 @@ rules_of c (command.Start name base) =
     ∷ (has_wrong_base c name base, refusal.WrongBase)
     ∷ (has_broken_shapes c name base, refusal.ShapesDoNotFit (first_broken c name base))
     ∷ (has_no_room_for_version c name base, refusal.NoRoomForVersion) ∷ []
+rules_of c (command.Plan name base units back forward) =
+    (has_no_flow c name, refusal.NoSuchFlow)
+    ∷ (has_no_array c base, refusal.NoSuchArray)
+    ∷ (has_wrong_base c name base, refusal.WrongBase)
+    ∷ (has_broken_shapes c name base, refusal.ShapesDoNotFit (first_broken c name base))
+    ∷ (has_too_many_units units, refusal.TooManyUnits) ∷ []
 rules_of c (command.Await n) =
     (has_no_version c n, refusal.NoSuchVersion) ∷ []
 rules_of c (command.Ask n dir path named) =

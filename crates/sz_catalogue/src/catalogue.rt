@@ -29,6 +29,7 @@ use crate::memory::{another_flow, another_owner, own_name};
 use crate::paths::is_joined;
 use crate::reply::Reply;
 use crate::shapes::cells_of;
+use crate::sites::sites_over;
 use crate::strategies::{is_list_of, names_a_store};
 use crate::version::{BaseArray, HeldVersion, Run};
 use crate::versions::HeldVersions;
@@ -75,6 +76,9 @@ const MOST_VERSIONS: usize = 4_096;
 
 /// The most cells that the arrays and the versions' outputs have together.
 const MOST_CELLS: u64 = 4_194_304;
+
+/// The most units that a plan may have.
+const MOST_UNITS: u32 = 65_536;
 
 /// The greatest number of a version.
 const GREATEST_NUMBER: u64 = 4_294_967_295;

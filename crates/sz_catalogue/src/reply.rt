@@ -13,6 +13,7 @@ use std::alloc::{AllocError, Global};
 use std::fmt::Write;
 use std::sync::Arc;
 use sz_cells::{CellSet, NoMemory, Run, Shape};
+use sz_planner::ChoiceList;
 use sz_script::{Name, Refusal, StrategyList, strategy_name};
 use sz_spec::{Array, Strategy, Value};
 
@@ -20,21 +21,46 @@ use sz_spec::{Array, Strategy, Value};
 #[derive(Drop)]
 pub enum Reply {
     /// An array is held as this version of its name.
-    Array { name: Name, version: u32 },
+    Array {
+        name: Name,
+        version: u32,
+    },
     /// A flow is held.
-    Flow { name: Name },
+    Flow {
+        name: Name,
+    },
     /// The strategies of a node of a flow are set.
-    Strategy { name: Name, node: u32 },
+    Strategy {
+        name: Name,
+        node: u32,
+    },
     /// A version is started.
-    Started { version: u32 },
+    Started {
+        version: u32,
+    },
     /// A version is awaited.
-    Done { version: u32 },
+    Done {
+        version: u32,
+    },
     /// The cells of an ask.
-    Cells { cells: CellSet },
+    Cells {
+        cells: CellSet,
+    },
     /// The way of each step of a path, and how many cells are traced for them.
-    Explain { used: StrategyList, traced: u64 },
+    Explain {
+        used: StrategyList,
+        traced: u64,
+    },
     /// The output of a node.
-    Values { array: Arc<Array> },
+    Values {
+        array: Arc<Array>,
+    },
+    /// A list of strategies that is planned, one a node, what it costs, and the units of its stores.
+    Plan {
+        cost: u64,
+        units: u32,
+        list: ChoiceList,
+    },
     /// The line is refused.
     Refused(Refusal),
 }
@@ -84,6 +110,10 @@ fn push_reply(text: &mut String, reply: &Reply) -> Result<(), AllocError>
             push_shape(text, array.shape())?;
             push_values(text, array.cells())
         }
+        Reply::Plan { cost, units, list } => {
+            write!(text, "plan {cost} {units}")?;
+            push_ways(text, list.as_slice())
+        }
         Reply::Refused(rule) => push_refusal(text, *rule),
     }
 }
@@ -128,7 +158,7 @@ fn push_cell(text: &mut String, shape: Shape, index: u32) -> Result<(), AllocErr
     }
 }
 
-/// Writes the ways of a path's steps, each behind a blank.
+/// Writes strategies, the ways of a path's steps or those of a plan, each behind a blank.
 fn push_ways(text: &mut String, ways: &[Strategy]) -> Result<(), AllocError>
     ensures { OnOk result (string_bytes text.new
         ≡ string_bytes text.old ++ flat_map (λ s. word_text (name_of_strategy s)) ways.now) }

@@ -90,6 +90,27 @@ of_start : AreTold read_as (
 unfolding serde_json_on_literals is_utf8 chars
 of_start = refl
 
+of_plan : AreTold read_as (
+    row (codes "{\"plan\":\"f\",\"base\":[[\"a\",1]],\"units\":1,\"back\":1,\"forward\":1}") []
+    ∷ row (codes "{\"plan\":\"f\",\"base\":[[\"a\",1]],\"units\":1,\"back\":1,\"forward\":1,\"more\":1}") (3 ∷ [])
+    ∷ row (codes "{\"base\":[[\"a\",1]],\"units\":1,\"back\":1,\"forward\":1}") (3 ∷ [])
+    ∷ row (codes "{\"plan\":1,\"base\":[[\"a\",1]],\"units\":1,\"back\":1,\"forward\":1}") (3 ∷ [])
+    ∷ row (codes "{\"plan\":1,\"plan\":\"f\",\"base\":[[\"a\",1]],\"units\":1,\"back\":1,\"forward\":1}") []
+    ∷ row (codes "{\"plan\":\"f\",\"units\":1,\"back\":1,\"forward\":1}") (3 ∷ [])
+    ∷ row (codes "{\"plan\":\"f\",\"base\":1,\"units\":1,\"back\":1,\"forward\":1}") (3 ∷ [])
+    ∷ row (codes "{\"plan\":\"f\",\"base\":[[\"a\"]],\"units\":1,\"back\":1,\"forward\":1}") (3 ∷ [])
+    ∷ row (codes "{\"plan\":\"f\",\"base\":[[\"a\",1]],\"back\":1,\"forward\":1}") (3 ∷ [])
+    ∷ row (codes "{\"plan\":\"f\",\"base\":[[\"a\",1]],\"units\":4294967296,\"back\":1,\"forward\":1}") (3 ∷ [])
+    ∷ row (codes "{\"plan\":\"f\",\"base\":[[\"a\",1]],\"units\":4294967295,\"back\":1,\"forward\":1}") []
+    ∷ row (codes "{\"plan\":\"f\",\"base\":[[\"a\",1]],\"units\":1,\"forward\":1}") (3 ∷ [])
+    ∷ row (codes "{\"plan\":\"f\",\"base\":[[\"a\",1]],\"units\":1,\"back\":-1,\"forward\":1}") (3 ∷ [])
+    ∷ row (codes "{\"plan\":\"f\",\"base\":[[\"a\",1]],\"units\":1,\"back\":1}") (3 ∷ [])
+    ∷ row (codes "{\"plan\":\"f\",\"base\":[[\"a\",1]],\"units\":1,\"back\":1,\"forward\":1.0}") (3 ∷ [])
+    ∷ row (codes "{\"plan\":\"f\",\"base\":[[\"a\",1]],\"units\":1,\"back\":1,\"forward\":1.0,\"forward\":0}") []
+    ∷ [])
+unfolding serde_json_on_literals is_utf8 chars
+of_plan = refl
+
 of_await : AreTold read_as (
     row (codes "{\"await\":1}") []
     ∷ row (codes "{\"await\":1,\"more\":1}") (3 ∷ [])

@@ -50,6 +50,17 @@ line-start : reading (codes "{\"start\":\"f\",\"base\":[[\"a\",1],[\"b\",4294967
 unfolding serde_json_on_literals is_utf8 chars
 line-start = refl
 
+line-plan : reading (codes "{\"plan\":\"f\",\"base\":[[\"a\",1]],\"units\":65536,\"back\":2,\"forward\":4294967295}")
+    ≡ Ok (command.Plan (codes "f") (record { name = codes "a"; version = 1 } ∷ []) 65536 2 4294967295)
+unfolding serde_json_on_literals is_utf8 chars
+line-plan = refl
+
+-- how many units there may be is no rule of lines, and the fields stand in any order
+line-plan_turned : reading (codes "{\"forward\":3,\"back\":2,\"units\":65537,\"base\":[],\"plan\":\"f\"}")
+    ≡ Ok (command.Plan (codes "f") [] 65537 2 3)
+unfolding serde_json_on_literals is_utf8 chars
+line-plan_turned = refl
+
 line-await : reading (codes "{\"await\":1}") ≡ Ok (command.Await 1)
 unfolding serde_json_on_literals is_utf8 chars
 line-await = refl

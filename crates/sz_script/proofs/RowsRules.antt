@@ -204,6 +204,15 @@ name-of_start : read_as (codes "{\"start\":\"F\",\"base\":[]}") ≡ 4 ∷ []
 unfolding serde_json_on_literals is_utf8 chars
 name-of_start = refl
 
+name-of_plan : read_as (codes "{\"plan\":\"F\",\"base\":[],\"units\":1,\"back\":1,\"forward\":1}") ≡ 4 ∷ []
+unfolding serde_json_on_literals is_utf8 chars
+name-of_plan = refl
+
+name-in_base_of_plan
+    : read_as (codes "{\"plan\":\"f\",\"base\":[[\"a\",1],[\"A\",1]],\"units\":1,\"back\":1,\"forward\":1}") ≡ 4 ∷ []
+unfolding serde_json_on_literals is_utf8 chars
+name-in_base_of_plan = refl
+
 name-in_base : read_as (codes "{\"start\":\"f\",\"base\":[[\"a\",1],[\"A\",1]]}") ≡ 4 ∷ []
 unfolding serde_json_on_literals is_utf8 chars
 name-in_base = refl

@@ -5,6 +5,7 @@ pub mod Layers
 pub mod Flow
 pub mod Strategy
 pub mod Start
+pub mod Plan
 pub mod Await
 pub mod Ask
 pub mod Explain
@@ -20,6 +21,7 @@ use Rattle.sz_script.specs.Forms.Layers.{layers_form}
 use Rattle.sz_script.specs.Forms.Flow.{flow_form}
 use Rattle.sz_script.specs.Forms.Strategy.{strategy_form}
 use Rattle.sz_script.specs.Forms.Start.{start_form}
+use Rattle.sz_script.specs.Forms.Plan.{plan_form}
 use Rattle.sz_script.specs.Forms.Await.{await_form}
 use Rattle.sz_script.specs.Forms.Ask.{ask_form}
 use Rattle.sz_script.specs.Forms.Explain.{explain_form}
@@ -27,7 +29,7 @@ use Rattle.sz_script.specs.Forms.Show.{show_form}
 
 abbrev pub forms : List Form
 forms = array_form ∷ csv_form ∷ layers_form ∷ flow_form ∷ strategy_form ∷ start_form
-    ∷ await_form ∷ ask_form ∷ explain_form ∷ show_form ∷ []
+    ∷ plan_form ∷ await_form ∷ ask_form ∷ explain_form ∷ show_form ∷ []
 
 -- what a value says by the first of these forms whose fields it has
 abbrev pub draft_by : List Form → Data → Option Draft

@@ -43,6 +43,15 @@ pub enum Command {
         name: Name,
         base: BaseList,
     },
+    /// Plan the strategies of a flow's nodes on base arrays, within so many units, for so many asks
+    /// in each direction.
+    Plan {
+        name: Name,
+        base: BaseList,
+        units: u32,
+        back: u32,
+        forward: u32,
+    },
     /// Await a version.
     Await {
         version: u32,
@@ -68,7 +77,7 @@ pub enum Command {
     },
 }
 
-/// A base array that a start names: its name, and its version from 1.
+/// A base array that a start or a plan names: its name, and its version from 1.
 #[derive(Debug, Drop)]
 pub struct BaseName {
     pub name: Name,

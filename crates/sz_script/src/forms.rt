@@ -7,6 +7,7 @@ mod csv_text;
 mod explain;
 mod flow;
 mod layers;
+mod plan;
 mod question;
 mod show;
 mod start;
@@ -45,6 +46,9 @@ pub fn command_of(alloc: Global, value: &Value) -> Result<Command, LineFault>
     }
     if has_fields(value, &["start", "base"]) {
         return start::read(alloc, value);
+    }
+    if has_fields(value, &["plan", "base", "units", "back", "forward"]) {
+        return plan::read(alloc, value);
     }
     if has_fields(value, &["await"]) {
         return awaiting::read(value);

@@ -50,6 +50,8 @@ pub enum Refusal {
     NotAwaited,
     /// The version has no such node.
     NoSuchNode,
+    /// A plan is to fit into too many units.
+    TooManyUnits,
 }
 
 /// What is printed of a refusal: its number, and the numbers behind it. Contracts see the list of
@@ -97,6 +99,7 @@ impl Refusal {
             Refusal::BadStrategies => number(18),
             Refusal::NotAwaited => number(19),
             Refusal::NoSuchNode => number(20),
+            Refusal::TooManyUnits => number(24),
         }
     }
 }

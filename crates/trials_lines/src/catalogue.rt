@@ -10,6 +10,7 @@ ghost use Rattle.sz_script.specs.Right.{is_right};
 ghost use Rattle.sz_catalogue.specs.Rules.{are_lists_for, judged};
 
 use std::alloc::Global;
+use std::fmt::Write;
 use std::sync::Arc;
 use std::test::Fail;
 use sz_catalogue::{
@@ -62,6 +63,19 @@ fn accept(held: &mut Held, command: Command) -> Result<Reply, NoMemory>
         Command::Strategy { name, node, list } => {
             held.accept(Command::Strategy { name, node, list })
         }
+        Command::Plan {
+            name,
+            base,
+            units,
+            back,
+            forward,
+        } => held.accept(Command::Plan {
+            name,
+            base,
+            units,
+            back,
+            forward,
+        }),
         Command::Start { name, base } => held.start(name, base.as_slice(), Mark { number: 1 }),
         Command::Await { version } => Ok(held.await_version(version, Mark { number: 2 })),
         Command::Ask { .. } => Ok(Reply::Done { version: 0 }),
@@ -99,7 +113,8 @@ fn fill(alloc: Global, held: &mut Held) -> Result<(), Fail> {
     Ok(())
 }
 
-/// Whether the last array and the last version that can be held are, and no further one.
+/// Whether the last array and the last version that can be held are, and no further one. A version
+/// that cannot be started can be planned.
 fn holds_the_last(alloc: Global, held: &mut Held) -> Result<bool, Fail> {
     let array = br#"{"array":"a","cells":[[5]]}"#;
     let start = br#"{"start":"f7","base":[["a",1]]}"#;
@@ -107,7 +122,9 @@ fn holds_the_last(alloc: Global, held: &mut Held) -> Result<bool, Fail> {
     let no_array = says(alloc, held, array, "7 refused 7\n")?;
     let last_version = says(alloc, held, start, "7 started 4096\n")?;
     let no_version = says(alloc, held, start, "7 refused 14\n")?;
-    Ok(last_array && no_array && last_version && no_version)
+    let plan = br#"{"plan":"f7","base":[["a",1]],"units":0,"back":1,"forward":0}"#;
+    let planned = says(alloc, held, plan, "7 plan 1 0 map\n")?;
+    Ok(last_array && no_array && last_version && no_version && planned)
 }
 
 /// Whether the last flow that can be held is, and no further one.
@@ -308,6 +325,69 @@ fn a_session_is_held(rt: HostRuntime) -> Result<(), Fail> {
     assert!(rt; finds(&held));
     assert!(rt; exchanges(&mut held));
     assert!(rt; counts_on(alloc, &mut held)?);
+    Ok(())
+}
+
+/// Whether a plan of the flow on the first array of `m` is answered by this text.
+fn plans(
+    alloc: Global,
+    held: &mut Held,
+    flow: &str,
+    units: u32,
+    back: u32,
+    forward: u32,
+    text: &str,
+) -> Result<bool, Fail> {
+    let mut line = format!(in alloc; "{{\"plan\":\"{flow}\",\"base\":[[\"m\",1]],")?;
+    write!(
+        line,
+        "\"units\":{units},\"back\":{back},\"forward\":{forward}}}"
+    )?;
+    says(alloc, held, line.as_bytes(), text)
+}
+
+/// Whether the flow `one`, of one node that cleans 2 by 2 cells, is planned for few units.
+fn plans_one(alloc: Global, held: &mut Held) -> Result<bool, Fail> {
+    let no_unit = plans(alloc, held, "one", 0, 1, 0, "7 plan 16 0 blackbox\n")?;
+    let back = plans(alloc, held, "one", 1, 1, 0, "7 plan 1 1 full_one_b\n")?;
+    let forward = plans(alloc, held, "one", 1, 0, 1, "7 plan 1 1 full_one_f\n")?;
+    let both = plans(alloc, held, "one", 1, 1, 1, "7 plan 5 1 full_one_b\n")?;
+    Ok(no_unit && back && forward && both)
+}
+
+/// Whether the units of a plan are at most 65,536, and the flow is looked for first.
+fn plans_within_limits(alloc: Global, held: &mut Held) -> Result<bool, Fail> {
+    let most = plans(alloc, held, "one", 65_536, 1, 0, "7 plan 1 1 full_one_b\n")?;
+    let more = plans(alloc, held, "one", 65_537, 1, 0, "7 refused 24\n")?;
+    let no_flow = plans(alloc, held, "none", 65_537, 1, 0, "7 refused 10\n")?;
+    Ok(most && more && no_flow)
+}
+
+#[test]
+fn strategies_are_planned(rt: HostRuntime) -> Result<(), Fail> {
+    let alloc = rt.alloc();
+    let mut held = Held::new(alloc);
+    let one = br#"{"flow":"one","inputs":1,"nodes":[{"op":"clean","t":10,"from":[{"i":0}]}]}"#;
+    let two = br#"{"flow":"two","inputs":1,"nodes":[{"op":"clean","t":10,"from":[{"i":0}]},
+        {"op":"clean","t":10,"from":[{"n":0}]}]}"#;
+    let _array = take(alloc, &mut held, br#"{"array":"m","cells":[[1,2],[3,40]]}"#)?;
+    let _flow = take(alloc, &mut held, one)?;
+    let _flow = take(alloc, &mut held, two)?;
+    assert!(rt; plans_one(alloc, &mut held)?);
+    assert!(rt; plans_within_limits(alloc, &mut held)?);
+    assert!(rt;
+        plans(
+            alloc,
+            &mut held,
+            "two",
+            1,
+            1,
+            0,
+            "7 plan 17 1 full_one_b blackbox\n"
+        )?
+    );
+    // nothing was started
+    assert!(rt; held.next_number() == 1);
     Ok(())
 }
 

@@ -21,6 +21,7 @@ fn lines_are_read_or_refused(rt: HostRuntime) {
     let flow = r#"{"flow":"f","inputs":1,"nodes":[
         {"op":"convolve","kernel":[[0,-1,0]],"from":[{"i":0}]},
         {"op":"block","fold":"count","h":2,"w":3,"from":[{"n":0}]}]}"#;
+    let plan = r#"{"plan":"f","base":[["a",1]],"units":65537,"back":0,"forward":4294967295}"#;
     let ask = r#"{"ask":2,"dir":"forward","path":[[0,1]],"cells":[[3,4],[5,6,7]]}"#;
     assert!(rt; refused(alloc, array.as_bytes()) == None);
     assert!(rt; refused(alloc, br#"{"csv":"t","text":"1,,3\n4,5,6\n"}"#) == None);
@@ -28,6 +29,7 @@ fn lines_are_read_or_refused(rt: HostRuntime) {
     assert!(rt; refused(alloc, flow.as_bytes()) == None);
     assert!(rt; refused(alloc, br#"{"strategy":"f","node":3,"list":["full_one_b"]}"#) == None);
     assert!(rt; refused(alloc, br#"{"start":"minus","base":[["sky",4294967295]]}"#) == None);
+    assert!(rt; refused(alloc, plan.as_bytes()) == None);
     assert!(rt; refused(alloc, br#"{"await":"x","await":1}"#) == None);
     assert!(rt; refused(alloc, ask.as_bytes()) == None);
     assert!(rt; refused(alloc, br#"{"explain":1,"dir":"back","path":[],"cells":[]}"#) == None);

@@ -11,8 +11,11 @@ ghost use Rattle.sz_catalogue.specs.Holdings.{array_version, flow_named, version
 ghost use Rattle.sz_catalogue.specs.Holdings.{shapes_of, output_cells};
 ghost use Rattle.sz_catalogue.specs.Starts.{base_of, bases_of, workflow_of, version_started};
 ghost use Rattle.sz_catalogue.specs.Rules.{judged, has_room, are_lists_for, has_no_version};
-ghost use Rattle.sz_catalogue.specs.Rules.{version_of};
+ghost use Rattle.sz_catalogue.specs.Rules.{version_of, has_no_flow, has_no_array, has_wrong_base};
+ghost use Rattle.sz_catalogue.specs.Rules.{has_broken_shapes};
+ghost use Rattle.sz_catalogue.specs.Sites.{sites_of};
 ghost use Rattle.sz_catalogue.specs.Changes.{accepted, changes_no_version, with_version};
+ghost use Rattle.sz_catalogue.specs.Plans.{plan_over, plan_for};
 ghost use Rattle.sz_catalogue.specs.Seen.{response_of};
 
 use super::Catalogue;
@@ -22,16 +25,20 @@ use crate::lists::BaseArrays;
 use crate::memory::{another_flow, another_owner, own_name};
 use crate::reply::Reply;
 use crate::shapes::cells_of;
+use crate::sites::sites_over;
 use crate::version::{BaseArray, HeldVersion, Run};
+use std::alloc::Global;
 use sz_cells::NoMemory;
+use sz_planner::laws::{best_choices_are_one, lists_are_best_choices};
 use sz_script::{BaseName, Command, Name, StrategyList};
-use sz_spec::{Array, Flow};
+use sz_spec::{Array, Flow, OpAt, output_shapes};
 
 impl<K: Carried> Catalogue<K> {
-    /// Takes a command that changes what is held but no version, and is refused by no rule.
+    /// Takes a command that changes no version and looks at none, and is refused by no rule.
     /// Without memory nothing is changed.
     ///
-    /// Takes time in the command, and in the logarithm of what is held.
+    /// Takes time in the command, and in the logarithm of what is held; for a plan, in the flow's
+    /// nodes times the units.
     pub fn accept(&mut self, command: Command) -> Result<Reply, NoMemory>
         requires right { is_right command ≡ true }
         requires judged { judged self.old command ≡ None }
@@ -45,6 +52,13 @@ impl<K: Carried> Catalogue<K> {
             Command::Layers { name, array } => self.hold_array(name, array),
             Command::Flow { name, flow } => self.hold_flow(name, flow),
             Command::Strategy { name, node, list } => Ok(self.set_list(name, node, list)),
+            Command::Plan {
+                name,
+                base,
+                units,
+                back,
+                forward,
+            } => self.plan(name.as_str(), base.as_slice(), units, back, forward),
             Command::Start { .. } => unreachable!(),
             Command::Await { .. } => unreachable!(),
             Command::Ask { .. } => unreachable!(),
@@ -91,6 +105,45 @@ impl<K: Carried> Catalogue<K> {
     {
         self.flows.set_list(name.as_str(), node, list);
         Reply::Strategy { name, node }
+    }
+
+    /// What is planned for the version that a start would make.
+    fn plan(
+        &self,
+        name: &str,
+        base: &[BaseName],
+        units: u32,
+        back: u32,
+        forward: u32,
+    ) -> Result<Reply, NoMemory>
+        requires judged { judged self.now (command.Plan name.now base.now units back forward)
+            ≡ None }
+        ensures { IfOk result (λ r. response_of r
+            ≡ plan_for (version_started self.now name.now base.now) units back forward) }
+    {
+        let sites = self.sites_named(name, base)?;
+        plan_over(self.alloc, &sites, units, back, forward)
+    }
+
+    /// The operators of the nodes of the version that a start would make.
+    fn sites_named(&self, name: &str, base: &[BaseName]) -> Result<Vec<OpAt>, NoMemory>
+        requires flow { has_no_flow self.now name.now ≡ false }
+        requires arrays { has_no_array self.now base.now ≡ false }
+        requires count { has_wrong_base self.now name.now base.now ≡ false }
+        requires fits { has_broken_shapes self.now name.now base.now ≡ false }
+        ensures value { IfOk result (λ sites.
+            sites.items ≡ sites_of (version_started self.now name.now base.now)) }
+        ensures few { IfOk result (λ sites. length sites.items ≤ 32) }
+    {
+        let Some(held) = self.flows.get(name) else {
+            unreachable!()
+        };
+        let flow = held.flow();
+        let shapes = self.shapes_named(self.alloc, base)?;
+        match output_shapes(self.alloc, flow, &shapes)? {
+            Ok(outputs) => sites_over(self.alloc, flow.nodes(), &shapes, &outputs),
+            Err(_) => unreachable!(),
+        }
     }
 
     /// Starts a version of a flow, where no rule refuses the start, with what is kept with it.
@@ -245,4 +298,26 @@ impl<K: Carried> Catalogue<K> {
         self.cells += cells;
         Ok(())
     }
+}
+
+/// What is planned for operators at their shapes.
+fn plan_over(
+    alloc: Global,
+    sites: &[OpAt],
+    units: u32,
+    back: u32,
+    forward: u32,
+) -> Result<Reply, NoMemory>
+    requires few { length sites.now ≤ 32 }
+    requires limit { units ≤ 65536 }
+    ensures { IfOk result (λ r. response_of r ≡ plan_over sites.now units back forward) }
+{
+    lists_are_best_choices();
+    best_choices_are_one();
+    let planned = sz_planner::plan(alloc, sites, units, back, forward)?;
+    Ok(Reply::Plan {
+        cost: planned.cost,
+        units: planned.units,
+        list: planned.list,
+    })
 }

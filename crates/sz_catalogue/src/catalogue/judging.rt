@@ -8,12 +8,12 @@ ghost use Rattle.sz_script.specs.declared.refusal.Refusal.TheVariants as rule;
 ghost use Rattle.sz_catalogue.specs.Holdings.{shapes_of};
 ghost use Rattle.sz_catalogue.specs.Starts.{bases_of};
 ghost use Rattle.sz_catalogue.specs.Rules.{judged, first_of, has_no_array, has_named_cell};
-ghost use Rattle.sz_catalogue.specs.Rules.{is_not_awaited};
-ghost use Rattle.sz_catalogue.specs.Kept.{refusal_by};
+ghost use Rattle.sz_catalogue.specs.Rules.{is_not_awaited, has_too_many_units};
+ghost use Rattle.sz_catalogue.specs.Kept.{refusal_by, is_of_room, is_open};
 ghost use Rattle.sz_catalogue.specs.Seen.{Judges};
 ghost use Rattle.sz_script.specs.Right.{is_right};
 
-use super::{Catalogue, GREATEST_NUMBER, MOST_ARRAYS, MOST_CELLS, MOST_FLOWS};
+use super::{Catalogue, GREATEST_NUMBER, MOST_ARRAYS, MOST_CELLS, MOST_FLOWS, MOST_UNITS};
 use crate::carried::Carried;
 use crate::paths::is_joined;
 use crate::shapes::cells_of;
@@ -55,6 +55,13 @@ impl<K: Carried> Catalogue<K> {
             Command::Start { name, base } => {
                 self.refusal_of_start(alloc, name.as_str(), base.as_slice())
             }
+            Command::Plan {
+                name,
+                base,
+                units,
+                back: _,
+                forward: _,
+            } => self.refusal_of_plan(alloc, name.as_str(), base.as_slice(), *units),
             Command::Await { version } => Ok(self.refusal_of_await(*version)),
             Command::Ask {
                 version,
@@ -160,7 +167,11 @@ impl<K: Carried> Catalogue<K> {
     }
 
     /// The shapes of the base arrays that are held.
-    fn shapes_named(&self, alloc: Global, base: &[BaseName]) -> Result<Vec<Shape>, NoMemory>
+    pub(super) fn shapes_named(
+        &self,
+        alloc: Global,
+        base: &[BaseName],
+    ) -> Result<Vec<Shape>, NoMemory>
         ensures { IfOk result (λ v. v.items ≡ shapes_of (bases_of self.now base.now)) }
     {
         let mut shapes = Vec::with_capacity(alloc, base.len())?;
@@ -184,6 +195,24 @@ impl<K: Carried> Catalogue<K> {
         } else {
             None
         }
+    }
+
+    /// The rule that refuses a plan: what refuses a start, but want of room, and then its own.
+    fn refusal_of_plan(
+        &self,
+        alloc: Global,
+        name: &str,
+        base: &[BaseName],
+        units: u32,
+    ) -> Result<Option<Refusal>, NoMemory>
+        ensures { (back forward : ℕ) → IfOk result
+            (λ r. r ≡ judged self.now (command.Plan name.now base.now units back forward)) }
+    {
+        let refusal = self.refusal_of_start(alloc, name, base)?;
+        if is_open(refusal) {
+            return Ok(refusal_of_units(units));
+        }
+        Ok(refusal)
     }
 
     /// The rule that refuses an await.
@@ -254,6 +283,37 @@ impl<K: Carried> Catalogue<K> {
         if node as usize >= run.flow().nodes().len() {
             return Some(Refusal::NoSuchNode);
         }
+        None
+    }
+}
+
+/// Whether nothing refuses a start, but want of room.
+fn is_open(refusal: Option<Refusal>) -> bool
+    ensures { result ≡ is_open refusal }
+{
+    match refusal {
+        Some(refusal) => is_of_room(refusal),
+        None => true,
+    }
+}
+
+/// Whether a rule is that of room for a version.
+fn is_of_room(refusal: Refusal) -> bool
+    ensures { result ≡ is_of_room refusal }
+{
+    match refusal {
+        Refusal::NoRoomForVersion => true,
+        _ => false,
+    }
+}
+
+/// The rule that refuses so many units.
+fn refusal_of_units(units: u32) -> Option<Refusal>
+    ensures { result ≡ first_of ((has_too_many_units units, rule.TooManyUnits) ∷ []) }
+{
+    if units > MOST_UNITS {
+        Some(Refusal::TooManyUnits)
+    } else {
         None
     }
 }

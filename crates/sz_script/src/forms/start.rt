@@ -49,14 +49,14 @@ fn start_on(alloc: Global, name: &str, base: Vec<BaseName>) -> Result<Command, L
 }
 
 /// Whether the name of each base array is one.
-fn are_named(base: &[BaseName]) -> bool
+pub(super) fn are_named(base: &[BaseName]) -> bool
     ensures { result ≡ list_all (λ b. is_name b.name) base.now }
 {
     base.iter().all(|b| is_name(b.name.as_str()))
 }
 
 /// [[NAME,U],..]
-fn bases_of(alloc: Global, list: &[Value]) -> Result<Option<Vec<BaseName>>, AllocError>
+pub(super) fn bases_of(alloc: Global, list: &[Value]) -> Result<Option<Vec<BaseName>>, AllocError>
     ensures { IfOk result (λ o. option_map (λ v. v.items) o
         ≡ each_of base_in (map view list.now)) }
 {

@@ -32,3 +32,15 @@ returns-in-Start g c =
     c.as_str-in-Start.ensures c.as_slice-in-Start.ensures
     ∙ ap (judged c.args.self.now) (sym c.in-Start.is))
     c.refusal_of_start.ensures
+
+pub returns-in-Plan : goal.returns-in-Plan
+returns-in-Plan g c =
+    let units = c.in-Plan.units in
+    let back = c.in-Plan.back in
+    let forward = c.in-Plan.forward in
+    IfOk-weaker c.refusal_of_plan.result _ _
+    (λ r p. p
+    ∙ ap₂ (λ (name : List ℕ) (base : List BaseName). judged c.args.self.now (command.Plan name base units back forward))
+    c.as_str-in-Plan.ensures c.as_slice-in-Plan.ensures
+    ∙ ap (judged c.args.self.now) (sym c.in-Plan.is))
+    (c.refusal_of_plan.ensures back forward)
