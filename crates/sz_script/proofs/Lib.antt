@@ -15,6 +15,7 @@ mod RowsForms
 mod RowsFields
 mod RowsNames
 mod RowsRules
+mod RowsRefusals
 mod RowsNodes
 mod RowsLayers
 mod RowsTexts
