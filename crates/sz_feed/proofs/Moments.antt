@@ -95,7 +95,7 @@ replies-alike c n a b lines (inl same) = ap (λ (l : List ℕ). replies_to c n (
 replies-alike c n a b lines (inr long) = rw (line-long c a long.0, line-long c b long.1, long.2) refl
 
 -- and leave one catalogue
-after_lines-alike : (c : State) (a b : List ℕ) (lines : List (List ℕ)) → Alike a b
+pub after_lines-alike : (c : State) (a b : List ℕ) (lines : List (List ℕ)) → Alike a b
     → after_lines c (a ∷ lines) ≡ after_lines c (b ∷ lines)
 after_lines-alike c a b lines (inl same) = ap (λ (l : List ℕ). after_lines c (l ∷ lines)) same
 after_lines-alike c a b lines (inr long) = rw (line-long c a long.0, line-long c b long.1, long.2) refl

@@ -20,6 +20,7 @@ use Rattle.sz_shelf.specs.Passes.{Onlooker, newcomer}
 use Rattle.sz_query.specs.declared.used.Used.TheVariants as used
 use Rattle.sz_query.specs.Views.{View, by_map, by_store, by_shelf, by_growth, by_trace, used_of, traced_by, IsUsable}
 use Rattle.sz_query.specs.Laws.{may_change}
+use Rattle.sz_query.specs.Growths.{FoundOpen}
 use Rattle.sz_query.specs.Turns.{LookedOnce, IsAsked}
 use Rattle.sz_query.specs.Answers.{answered, traced_of, most_traced_of, AreSteps}
 
@@ -310,3 +311,13 @@ looked-placing z looked = absurd (omega (arith, ap (λ (ks : List ℕ). length k
 
 pub looked-sealing : (z : TableId) → LookedOnce (fresh z) (sealing z) → ⊥
 looked-sealing z looked = true≢false looked.saw
+
+-- the arrays of a view that is built are lent where its pass took a turn that found no seal, and nowhere else
+pub open-looked : (z : TableId) → FoundOpen (record (fresh z) { turns = 1 })
+open-looked z = record { turned = omega arith; unsealed = refl }
+
+pub open-no_turn : (z : TableId) → FoundOpen (fresh z) → ⊥
+open-no_turn z found = absurd (omega (arith, found.turned))
+
+pub open-sealed : (z : TableId) → FoundOpen (record (fresh z) { saw = true; turns = 1; found_sealed = true }) → ⊥
+open-sealed z found = true≢false found.unsealed

@@ -2,7 +2,8 @@
 -- values on both sides of each.
 --
 -- The key idea: on written-out values each is a computation; what does not hold gives two different ones as equal.
-use Rattle.std.proofs.Common.{◌≡◌, ℕ, List, [], ◌∷◌, Some, None, Option, refl, sym, ap, arith, false, true≢false}
+use Rattle.std.proofs.Common.{◌≡◌, ℕ, ◌+◌, List, [], ◌∷◌, Some, None, Option, refl, sym, ap, arith, false}
+use Rattle.std.proofs.Common.{true≢false}
 use Rattle.std.proofs.Common.{filter, inl, inr, length, get_or}
 use Rattle.std.specs.List.{range_with_len}
 use Rattle.std.specs.List.Sorted.{IsStrictlySortedBy}
@@ -18,14 +19,16 @@ use Rattle.sz_script.specs.declared.command.Command.{Command}
 use Rattle.sz_script.specs.declared.command.Command.TheVariants as command
 use Rattle.sz_script.specs.declared.command.NamedCell.{NamedCell}
 use Rattle.sz_store.specs.Kept.{Holding, Keep, NodeLineage, regions, entries}
-use Rattle.sz_catalogue.specs.Holdings.{Base, Version, Holdings, no_holdings, array_version}
-use Rattle.sz_log.specs.Log.{empty_log}
+use Rattle.sz_catalogue.specs.Holdings.{Base, Version, Holdings, no_holdings, array_version, held_cells}
+use Rattle.sz_catalogue.specs.Rules as rules
+use Rattle.sz_log.specs.Laws.{Reads}
+use Rattle.sz_log.specs.Log.{Entry, empty_log}
 use Rattle.sz_log.proofs.Rows.{one}
 use Rattle.sz_recover.specs.Logs.{Kept, is_of_kind}
 use Rattle.sz_recover.specs.Growing.{durable, without, IsVersionIn, IsInOrder, Growth, GrowsOrKeeps}
 use Rattle.sz_recover.specs.OneReading.{unplaced, bare, all_bare}
 use Rattle.sz_recover.proofs.Rows.{whole}
-use Rattle.sz_recover.proofs.RowsLogs.{empty-made}
+use Rattle.sz_recover.proofs.RowsLogs.{empty-made, made-kept}
 use Rattle.sz_recover.proofs.RowsSound.{array, version, held, right, wrong}
 
 -- ---- which lines stand in groups of which kind
@@ -140,6 +143,18 @@ pub order-falls : IsInOrder (record held { versions = (2, version) ∷ (1, versi
 unfolding IsStrictlySortedBy
 order-falls is = cc
 
+-- the same number twice
+pub order-twice : IsInOrder (record held { versions = (1, version) ∷ (1, version) ∷ [] }) → ⊥
+unfolding IsStrictlySortedBy
+order-twice is = cc
+
+-- more versions, or more cells, than may be held
+pub order-versions : (c : Holdings) → length c.versions ≡ rules.most_versions + 1 → IsInOrder c → ⊥
+order-versions c many is = omega (arith, many, is.few)
+
+pub order-cells : (c : Holdings) → held_cells c ≡ rules.most_cells + 1 → IsInOrder c → ⊥
+order-cells c many is = omega (arith, many, is.few_cells)
+
 -- a version that is none of what is held
 pub order-version : IsInOrder (record no_holdings { versions = (1, version) ∷ [] }) → ⊥
 order-version is = let own = (is.each 1 version refl).flow in cc
@@ -163,6 +178,14 @@ stays-empty = inl empty-made
 pub stays-not_cut : GrowsOrKeeps 16 one growth empty_log [] → ⊥
 stays-not_cut (inl is) = true≢false (sym is.header)
 stays-not_cut (inr is) = true≢false (sym is.header)
+
+-- nor is the empty log, where stores were kept: it keeps none, and does not end behind the group
+pub stays-not_kept : GrowsOrKeeps 16 one (record growth { kept = right ∷ [] }) empty_log empty_log → ⊥
+stays-not_kept (inl is) = made-kept no_holdings right is
+stays-not_kept (inr is) = none is.entries is.read where
+  none : (es : List Entry) → Reads empty_log 16 es 53 → ⊥
+  none [] (end, closed) = omega (arith, end)
+  none (e ∷ es) (group, body, rest) = cc
 
 -- ---- what one reading keeps: the number and the stores, and not which pieces were placed
 

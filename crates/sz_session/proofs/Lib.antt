@@ -1,5 +1,6 @@
 -- The files of lemmas and of worked rows.
 pub mod Ends
+pub mod Written
 pub mod Loads
 pub mod Makings
 pub mod Checkings

@@ -2,14 +2,19 @@
 --
 -- The key idea: a count that rose rose by one status alone; and what a session of no log leaves is told apart from what
 -- one of a log does.
-use Rattle.std.proofs.Common.{◌≡◌, ℕ, ◌+◌, List, Option, Some, None, refl, arith}
+use Rattle.std.proofs.Common.{◌≡◌, ℕ, ◌+◌, List, [], ◌∷◌, Option, Some, None, refl, sym, subst, arith, true, true≢false}
+use Rattle.std.proofs.Common.{inl, inr}
 use Rattle.sz_outside.specs.Outside.{Rose}
 use Rattle.sz_outside.specs.declared.stations.Station.{Ghosts}
+use Rattle.sz_commands.specs.Lines.{lines_of}
+use Rattle.sz_commands.specs.Logged.{makes_durable}
+use Rattle.sz_commands.specs.States.{State}
+use Rattle.sz_feed.specs.Calls.{WritesOne}
 use Rattle.sz_feed.specs.Moments.{Moment}
 use Rattle.sz_feed.specs.Serving.{Opening, Answered}
 use Rattle.sz_feed.specs.Running.{StandsBehind}
 use Rattle.sz_session.specs.Statuses.{NoneRose, AreCounted, EndsLines}
-use Rattle.sz_session.specs.Sessions.{FindsOf, TurnsOn, EndsTurn, EndsSession}
+use Rattle.sz_session.specs.Sessions.{FindsOf, WritesRest, WritesLine, TurnsOn, EndsTurn, EndsSession}
 use Rattle.sz_session.specs.declared.serving.Status.{Status}
 use Rattle.sz_session.specs.declared.serving.Status.TheVariants as status
 
@@ -113,3 +118,25 @@ module _ {X : Type 0} (T : Ghosts X) (old new : X) where
   pub session-plain : (limit : ℕ) (o : Opening) (left : Option (List ℕ)) (reads_before reads : ℕ)
       → EndsSession T status.DiskFault limit o None left reads_before reads old new → ⊥
   session-plain limit o left reads_before reads session = session.plain refl refl
+
+  -- ---- which disk fails
+
+  -- none in a turn in which no line ends, nor in a session of no bytes
+  pub ends_turn-written : (limit : ℕ) (o : Opening) (left : Option (List ℕ)) (reads_before reads : ℕ) (before : Moment)
+      → o.left ≡ Some [] → EndsTurn T status.DiskFault limit o 0 left reads_before reads before old new → ⊥
+  ends_turn-written limit o left reads_before reads before told turn =
+      subst (λ (l : Option (List ℕ)). WritesRest before l 0) told (turn.written refl)
+
+  pub session-written : (limit : ℕ) (o : Opening) (end : Option ℕ) (left : Option (List ℕ)) (reads_before reads : ℕ)
+      → o.left ≡ Some [] → EndsSession T status.DiskFault limit o end left reads_before reads old new → ⊥
+  session-written limit o end left reads_before reads told session =
+      subst (λ (l : Option (List ℕ)). WritesLine o.held l) told (session.written refl)
+
+-- a blank line is written to no log, and one that makes something durable is
+pub writes-blank : (s : State) → WritesLine s (Some (32 ∷ 10 ∷ [])) → ⊥
+writes-blank s (inl is) = true≢false (sym is)
+writes-blank s (inr none) = none
+
+pub writes-one : (s : State) (bytes line : List ℕ) → lines_of bytes ≡ line ∷ [] → makes_durable s.held line ≡ true
+    → WritesLine s (Some bytes)
+writes-one s bytes line is durable = subst (λ (ls : List (List ℕ)). WritesOne s ls) (sym is) (inl durable)

@@ -3,13 +3,15 @@
 --
 -- It is told from the opening of the session on. A session of no log is one whose log stays: its
 -- disk is as before.
-use Rattle.std.specs.Prelude.{◌≡◌, ℕ, ◌+◌, Option, Some, None, List}
+use Rattle.std.specs.Prelude.{◌≡◌, ℕ, ◌+◌, Option, Some, None, List, drop}
 use Rattle.sz_outside.specs.declared.stations.Station.{Ghosts}
 use Rattle.sz_commands.specs.States.{State}
-use Rattle.sz_feed.specs.Moments.{Moment}
+use Rattle.sz_commands.specs.Lines.{lines_of}
+use Rattle.sz_feed.specs.Moments.{Moment, cut_after}
 use Rattle.sz_feed.specs.Serving.{Opening, Answered}
+use Rattle.sz_feed.specs.Calls.{WritesOne}
 use Rattle.sz_feed.specs.Disks.{StaysFinding, FoundInPart}
-use Rattle.sz_feed.specs.Running.{IsBeside, StaysBeside, FindsRest, FindsNext, FindsAll}
+use Rattle.sz_feed.specs.Running.{IfSome, IsBeside, StaysBeside, FindsRest, FindsNext, FindsAll}
 use Rattle.sz_feed.specs.Running.{StandsBehind}
 use Rattle.sz_session.specs.Statuses.{EndsLines, NoneRose, AreCounted}
 use Rattle.sz_session.specs.declared.serving.Status.{Status}
@@ -25,6 +27,16 @@ abbrev pub FindsOf : {X : Type 0} → Ghosts X → Option ℕ → Opening → Ty
 FindsOf T None o Claim old new = StaysFinding T (FoundInPart o.held o.left o.said) old new
 FindsOf T (Some at) o Claim old new = Claim
 
+-- Where the source tells its bytes, one of the lines that end in those from a place on is written to
+-- a log.
+abbrev pub WritesRest : Moment → Option (List ℕ) → ℕ → Type 0
+WritesRest m left total =
+    IfSome left (λ bytes. WritesOne m.held (cut_after m (drop total bytes)).whole)
+
+-- one of all lines of its bytes, from what was held as the session began
+abbrev pub WritesLine : State → Option (List ℕ) → Type 0
+WritesLine s left = IfSome left (λ bytes. WritesOne s (lines_of bytes))
+
 -- A turn took in the next so many bytes behind those that were read before, and the lines that end
 -- in them have their replies said; no count of faults rose.
 pub record TurnsOn {X : Type 0} (T : Ghosts X) (o : Opening) (total count : ℕ)
@@ -37,23 +49,26 @@ pub record TurnsOn {X : Type 0} (T : Ghosts X) (o : Opening) (total count : ℕ)
   pub found : FindsOf T before.end o (FindsNext T before o.left total count old new) old new
 
 -- A turn ended the session with a status, other than that it is done. No disk fails where there is
--- no log.
+-- no log, nor where no line is written to it.
 pub record EndsTurn {X : Type 0} (T : Ghosts X) (s : Status) (limit : ℕ) (o : Opening) (total : ℕ)
     (left : Option (List ℕ)) (reads_before reads : ℕ) (before : Moment) (old new : X)
     : Type 0 where
   pub ends : EndsLines o.held s limit o.left left o.said (T.said new)
   pub counted : AreCounted T s reads_before reads old new
   pub plain : before.end ≡ None → s ≡ status.DiskFault → ⊥
+  pub written : s ≡ status.DiskFault → WritesRest before o.left total
   pub not_done : s ≡ status.Done → ⊥
   pub found : FindsOf T before.end o (FindsRest T before o.left total old new) old new
 
 -- A session that opened so, beside a log that ended at a place or none, ended with a status. Where
--- it is done, the log is one of all its lines.
+-- it is done, the log is one of all its lines; and no disk fails where there is no log, nor where no
+-- line is written to it.
 pub record EndsSession {X : Type 0} (T : Ghosts X) (s : Status) (limit : ℕ) (o : Opening)
     (end : Option ℕ) (left : Option (List ℕ)) (reads_before reads : ℕ) (old new : X)
     : Type 0 where
   pub ends : EndsLines o.held s limit o.left left o.said (T.said new)
   pub counted : AreCounted T s reads_before reads old new
   pub plain : end ≡ None → s ≡ status.DiskFault → ⊥
+  pub written : s ≡ status.DiskFault → WritesLine o.held o.left
   pub behind : s ≡ status.Done → StandsBehind T o.held end o.left old new
   pub found : FindsOf T end o (FindsAll T o.held end o.left old new) old new

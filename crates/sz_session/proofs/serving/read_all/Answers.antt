@@ -15,6 +15,7 @@ use Rattle.sz_session.specs.Sessions.{EndsSession}
 use Rattle.sz_session.specs.declared.serving.Status.{Status}
 use Rattle.sz_session.proofs.Ends.{end-ends, end-counted, none-then, counted-behind, plain-end, done-end}
 use Rattle.sz_session.proofs.Ends.{turn-behind, of-both, of-stays, of-claim}
+use Rattle.sz_session.proofs.Written.{end-failed, line-written, last-written}
 use Rattle.sz_session.proofs.serving.read_all.Goals as goal
 
 pub chunks-init : goal.chunks-init
@@ -148,6 +149,8 @@ returns-in-Ok-eq0 g c =
           (none-then g.T.Station reads (g.S.Source.faults c.chunks.source) read_now a b y so_far.counted turn.counted)
           (end-counted g.T.Station r read_now read_now y x refl ended.counted);
       plain = λ e is. plain-end r (ended.plain (none-stays g.T.Station first last a y goes e)) is;
+      written = λ is. last-written o.held o.left left o.said (g.T.Station.said y) last total answered is_all
+          (ended.written (end-failed r is));
       behind = λ is. all-behind g.T.Station o.held o.left before left o.said (g.T.Station.said a) (g.T.Station.said y)
           first last end total a x asked.1.0 answered is_all
           (stays-then g.T.Station first last end a y x goes
@@ -183,6 +186,8 @@ returns-in-Err g c =
       ends = turn.ends;
       counted = turn-behind (g.S.Source.faults c.args.source.now) a so_far.counted turn;
       plain = λ e is. turn.plain (so_far.plain e) is;
+      written = λ is. line-written o.held o.left (g.S.Source.left c.chunks.source) o.said (g.T.Station.said b) mid total
+          so_far.answered (turn.written is);
       behind = λ is. absurd (turn.not_done is);
       found = of-both g.T.Station first.end o _ a x
           (λ e. stays-both g.T.Station _ _ _ _ (so_far.disk e)

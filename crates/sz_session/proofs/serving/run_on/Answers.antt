@@ -64,6 +64,7 @@ returns-in_default g c =
       ends = none-in_lines z left (g.T.Station.said a);
       counted = (refl, refl, refl);
       plain = λ e is. cc;
+      written = λ is. cc;
       behind = λ is. cc;
       found = all-still g.T.Station z c.args.recovered.end.at left a c.requires.log (g.met.T.Station.only_now a)
           (g.met.T.Station.counts_now a);
@@ -78,6 +79,7 @@ returns-in_default-of_log g c =
       ends = none-in_lines z left (g.T.Station.said a);
       counted = (refl, refl, refl);
       plain = λ e is. cc;
+      written = λ is. cc;
       behind = λ is. cc;
       found = all-still g.T.Station z c.args.recovered.end.at left a c.requires.log (g.met.T.Station.only_now a)
           (g.met.T.Station.counts_now a);

@@ -3,6 +3,7 @@ use Rattle.std.proofs.Common.{◌≡◌, [], take, arith, refl}
 use Rattle.std.proofs.lemmas.Result.{err_from_is_err_and}
 use Rattle.sz_feed.specs.Moments.{cut_after}
 use Rattle.sz_session.proofs.Ends.{turn-ends, turn-counted, plain-turn, not-done, of-both}
+use Rattle.sz_session.proofs.Written.{turn-failed, rest-written}
 use Rattle.sz_feed.proofs.Told.{answered-turn, read-failed, past-limit}
 use Rattle.sz_feed.proofs.Beside.{is-again}
 use Rattle.sz_feed.proofs.Calls.{behind-only, behind-lines}
@@ -22,6 +23,7 @@ returns-in_err-count-clause-ends g c =
       ends = read-failed o.held _ _ _ _ _ m c.args.total so_far c.in_err-count.ensures.kept;
       counted = (c.in_err-count.ensures.fault, refl, refl);
       plain = λ e is. cc;
+      written = λ is. cc;
       not_done = λ is. cc;
       found = of-both g.T.Station m.end o _ a a
           (λ e. between-stays g.T.Station o.held _ _ _ _ _ m c.args.total so_far
@@ -44,6 +46,7 @@ returns-then-count-gt0-clause-ends g c =
           so_far c.in_ok-count.ensures.bytes;
       counted = (c.in_ok-count.ensures.quiet, refl, refl);
       plain = λ e is. cc;
+      written = λ is. cc;
       not_done = λ is. cc;
       found = of-both g.T.Station m.end o _ a a
           (λ e. between-stays g.T.Station o.held _ _ _ _ _ m c.args.total so_far
@@ -72,6 +75,8 @@ returns-in_err-take_chunk-clause-ends g c =
       ends = turn-ends o.held c.args.limit _ _ _ _ total count buffer stopped.answered so_far gives stopped.says;
       counted = turn-counted _ _ stopped.answered c.in_ok-count.ensures.quiet;
       plain = λ e is. plain-turn _ (stopped.answered.plain e) is;
+      written = λ is. rest-written o.held _ _ _ _ _ m total count buffer so_far gives
+          (stopped.answered.written (turn-failed _ is));
       not_done = λ is. not-done _ is;
       found = of-both g.T.Station m.end o _ a x
           (λ e. turn-stays g.T.Station o.held _ _ _ _ _ _ m total count buffer so_far gives
