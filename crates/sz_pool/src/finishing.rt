@@ -20,7 +20,7 @@ use sz_spec::{Strategy, Tally};
 /// workers did or left undone. After `NoMemory` the shelf may have more pieces.
 ///
 /// A shelf that is sealed costs one load. Else each missing piece costs two turns and a look at its
-/// 64 cells, and the search for it goes over the pieces before it.
+/// 64 cells, and the searches for all of them together go over the pieces once.
 pub fn finish<R: Wait>(
     alloc: Global,
     rt: &R,
