@@ -224,6 +224,7 @@ line-versions c d kind (Ok (command.Strategy name node list)) is =
     let order = command.Strategy name node list in
     chosen (is_of_kind kind order && is_none (judged c order)) c (accepted c order).0 d refl is
 line-versions c d kind (Ok (command.Start name base)) is = cc
+line-versions c d kind (Ok (command.Plan name base units back forward)) is = cc
 line-versions c d kind (Ok (command.Await n)) is = cc
 line-versions c d kind (Ok (command.Ask n dir path named)) is = cc
 line-versions c d kind (Ok (command.Explain n dir path named)) is = cc

@@ -365,6 +365,7 @@ commands-keep c (command.Layers name array) order right free = array-in-order c 
 commands-keep c (command.Flow name flow) order right free = flow-in-order c name flow order free
 commands-keep c (command.Strategy name node list) order right free = strategies-in-order c name node list order free
 commands-keep c (command.Start name base) order right free = start-in-order c name base order right free
+commands-keep c (command.Plan name base units back forward) order right free = order
 commands-keep c (command.Await n) order right free = await-in-order c n order free
 commands-keep c (command.Ask n dir path named) order right free = order
 commands-keep c (command.Explain n dir path named) order right free = order

@@ -81,6 +81,7 @@ no-line c d (Ok (command.Layers name array)) is = cc
 no-line c d (Ok (command.Flow name flow)) is = cc
 no-line c d (Ok (command.Strategy name node list)) is = cc
 no-line c d (Ok (command.Start name base)) is = cc
+no-line c d (Ok (command.Plan name base units back forward)) is = cc
 no-line c d (Ok (command.Await n)) is = cc
 no-line c d (Ok (command.Ask n dir path named)) is = cc
 no-line c d (Ok (command.Explain n dir path named)) is = cc

@@ -9,6 +9,7 @@ use Rattle.std.proofs.Math.Nat.{mul-pos}
 use Rattle.sz_cells.specs.Extent.{is_extent}
 use Rattle.sz_cells.proofs.Shapes.{within-sides, layered-is_extent}
 use Rattle.sz_spec.specs.declared.modes.Strategy.{Strategy}
+use Rattle.sz_script.specs.declared.command.BaseName.{BaseName}
 use Rattle.sz_script.specs.declared.command.Command.{Command}
 use Rattle.sz_script.specs.declared.command.Command.TheVariants as command
 use Rattle.sz_script.specs.Fields.{has_fields, at, list_at, number_in, list_in}
@@ -21,6 +22,7 @@ use Rattle.sz_script.specs.Forms.Layers.{layers_form, with_layers}
 use Rattle.sz_script.specs.Forms.Flow.{flow_form, with_flow}
 use Rattle.sz_script.specs.Forms.Strategy.{strategy_form}
 use Rattle.sz_script.specs.Forms.Start.{start_form, base_in, with_base}
+use Rattle.sz_script.specs.Forms.Plan.{plan_form, within_units}
 use Rattle.sz_script.specs.Forms.Await.{await_form}
 use Rattle.sz_script.specs.Forms.Ask.{ask_form, as_ask}
 use Rattle.sz_script.specs.Forms.Explain.{explain_form, as_explain}
@@ -81,6 +83,7 @@ HasRightArray (command.Layers name array) = is_extent array.extent ≡ true
 HasRightArray (command.Flow name flow) = Unit {0}
 HasRightArray (command.Strategy name node list) = Unit {0}
 HasRightArray (command.Start name base) = Unit {0}
+HasRightArray (command.Plan name base units back forward) = Unit {0}
 HasRightArray (command.Await n) = Unit {0}
 HasRightArray (command.Ask n dir path named) = Unit {0}
 HasRightArray (command.Explain n dir path named) = Unit {0}
@@ -143,6 +146,24 @@ strategy-draft d x is =
 start-draft : (d : _) (x : Draft) → start_form.draft d ≡ Some x → IsRightDraft x
 start-draft d x is = two-parts with_base (λ name base bad many. tt) _ (list_at base_in (codes "base") d) x is
 
+plan-draft : (d : _) (x : Draft) → plan_form.draft d ≡ Some x → IsRightDraft x
+plan-draft d x is =
+    let base : Option (List BaseName) = list_at base_in (codes "base") d in
+    let units : Option ℕ = at number_in (codes "units") d in
+    let back : Option ℕ = at number_in (codes "back") d in
+    let forward : Option ℕ = at number_in (codes "forward") d in
+    let from_back : List ℕ → List BaseName → ℕ → ℕ → Option Draft =
+    λ name bases u b. option_map (within_units name bases u b) forward in
+    let from_units : List ℕ → List BaseName → ℕ → Option Draft =
+    λ name bases u. option_and_then (from_back name bases u) back in
+    let from_base : List ℕ → List BaseName → Option Draft =
+    λ name bases. option_and_then (from_units name bases) units in
+    found IsRightDraft (λ (name : List ℕ). option_and_then (from_base name) base) _ x
+    (λ name one. found IsRightDraft (from_base name) base x
+    (λ bases two. found IsRightDraft (from_units name bases) units x
+    (λ u three. found IsRightDraft (from_back name bases u) back x
+    (λ b four. mapped IsRightDraft (within_units name bases u b) forward x (λ f bad many. tt) four) three) two) one) is
+
 await-draft : (d : _) (x : Draft) → await_form.draft d ≡ Some x → IsRightDraft x
 await-draft d x is =
     mapped IsRightDraft (λ (n : ℕ). plain (command.Await n)) (at number_in (codes "await") d) x (λ n bad many. tt) is
@@ -185,7 +206,7 @@ forms-right = (
         flow-draft,
         (
           strategy-draft,
-          (start-draft, (await-draft, (ask-draft, (explain-draft, (show-draft, tt))))),
+          (start-draft, (plan-draft, (await-draft, (ask-draft, (explain-draft, (show-draft, tt)))))),
         ),
       ),
     ),

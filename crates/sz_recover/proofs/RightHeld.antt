@@ -59,7 +59,7 @@ use Rattle.sz_recover.specs.Taking.{IsFitting, site_over}
 use Rattle.sz_recover.proofs.InOrder.{named-in}
 use Rattle.sz_recover.proofs.Keyed.{put-found, set-found}
 use Rattle.sz_recover.proofs.RightArrays.{HasRightArray, arrays-right}
-use Rattle.sz_recover.proofs.Shapes.{nodes-fit}
+use Rattle.sz_catalogue.proofs.FlowSites.{nodes-fit}
 
 -- ---- what is held is right
 
@@ -137,6 +137,7 @@ commands-right c (command.Strategy name node list) right is own free =
     ((rules.has_bad_strategies c name node list, refusal.BadStrategies) ∷ []) free).0
 commands-right c (command.Start name base) right is own free =
     record { arrays = right.arrays; flows = right.flows }
+commands-right c (command.Plan name base units back forward) right is own free = right
 commands-right c (command.Await n) right is own free = record { arrays = right.arrays; flows = right.flows }
 commands-right c (command.Ask n dir path named) right is own free = right
 commands-right c (command.Explain n dir path named) right is own free = right

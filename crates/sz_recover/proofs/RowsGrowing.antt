@@ -56,6 +56,10 @@ kinds-strategy name node list = refl
 pub kinds-start : (name : List ℕ) (base : List BaseName) → kinds_of (command.Start name base) ≡ []
 kinds-start name base = refl
 
+pub kinds-plan : (name : List ℕ) (base : List BaseName) (units back forward : ℕ)
+    → kinds_of (command.Plan name base units back forward) ≡ []
+kinds-plan name base units back forward = refl
+
 pub kinds-await : (n : ℕ) → kinds_of (command.Await n) ≡ []
 kinds-await n = refl
 

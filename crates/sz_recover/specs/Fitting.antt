@@ -4,27 +4,14 @@ use Rattle.std.specs.Prelude.{option_map}
 use Rattle.std.specs.Option.{option_map_or}
 use Rattle.std.specs.Arc.{arc_value}
 use Rattle.std.specs.declared.sync.Arc.{Arc}
-use Rattle.sz_spec.specs.declared.flow.Node.{Node}
 use Rattle.sz_spec.specs.declared.modes.Strategy.{Strategy}
-use Rattle.sz_spec.specs.Shapes.{Site, output_extent}
-use Rattle.sz_spec.specs.FlowShapes.{node_inputs}
+use Rattle.sz_spec.specs.Shapes.{Site}
 use Rattle.sz_store.specs.Kept.{NodeLineage, is_whole}
 use Rattle.sz_script.specs.declared.command.BaseName.{BaseName}
-use Rattle.sz_catalogue.specs.Holdings.{Base, Version, shapes_of}
-use Rattle.sz_catalogue.specs.Starts.{outputs_of}
+use Rattle.sz_catalogue.specs.Holdings.{Base, Version}
+pub use Rattle.sz_catalogue.specs.Sites.{site_in, sites_of}
 use Rattle.sz_catalogue.specs.Rules.{names_a_store}
 use Rattle.sz_recover.specs.Bodies.{NodePart, VersionBody}
-
--- ---- a version's operators at their shapes
-
--- the operator of a node, at the shapes that it has in a version
-abbrev pub site_in : Version → Node → Site
-site_in v x =
-    let ins = node_inputs (shapes_of v.base) (outputs_of v) x in
-    record { op = x.op; ins = ins; out = output_extent x.op ins }
-
-abbrev pub sites_of : Version → List Site
-sites_of v = map (site_in v) v.flow.nodes
 
 -- ---- stores that fit
 

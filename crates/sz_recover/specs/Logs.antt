@@ -38,6 +38,7 @@ is_of_kind kind (command.Layers name array) = kind == 1
 is_of_kind kind (command.Flow name flow) = kind == 2
 is_of_kind kind (command.Strategy name node list) = kind == 3
 is_of_kind kind (command.Start name base) = false
+is_of_kind kind (command.Plan name base units back forward) = false
 is_of_kind kind (command.Await n) = false
 is_of_kind kind (command.Ask n dir path named) = false
 is_of_kind kind (command.Explain n dir path named) = false

@@ -6,11 +6,10 @@ use Rattle.sz_cells.specs.SetBytes.{four_bytes}
 use Rattle.sz_cells.specs.Extent.{Extent}
 use Rattle.sz_spec.specs.declared.flow.Node.{Node}
 use Rattle.sz_spec.specs.declared.modes.Strategy.{Strategy}
-use Rattle.sz_spec.specs.Flows.{Graph, is_source}
-use Rattle.sz_spec.specs.FlowShapes.{node_inputs, output_shapes}
+use Rattle.sz_spec.specs.Flows.{Graph}
+use Rattle.sz_spec.specs.FlowShapes.{output_shapes}
 use Rattle.sz_spec.specs.Modes.{number_of}
-use Rattle.sz_spec.specs.Shapes as shapes
-use Rattle.sz_spec.specs.Shapes.{Site, output_extent, shape_of}
+use Rattle.sz_spec.specs.Shapes.{Site}
 use Rattle.sz_region.specs.Counted.{counted, IsAt}
 use Rattle.sz_region.specs.Stores.{AreFew}
 use Rattle.sz_store.specs.Kept.{NodeLineage, stored_in}
@@ -20,6 +19,7 @@ use Rattle.sz_script.specs.declared.command.BaseName.{BaseName}
 use Rattle.sz_catalogue.specs.Holdings.{Base, Version, Holdings, array_version, flow_named}
 use Rattle.sz_catalogue.specs.Holdings.{shapes_of, cells_of}
 use Rattle.sz_catalogue.specs.Rules as rules
+pub use Rattle.sz_catalogue.specs.Sites.{site_over, IsFitting}
 use Rattle.sz_recover.specs.Bodies.{NodePart, VersionBody, name_bytes, base_bytes, list_bytes}
 use Rattle.sz_recover.specs.Fitting.{named_base}
 use Rattle.sz_recover.specs.Lawful.{IsLawful}
@@ -137,19 +137,6 @@ pub record FitShapes (c : Holdings) (h : Begun) (outs : List Extent) : Type 0 wh
 
 abbrev pub NoShapesFit : Holdings → Begun → Type 0
 NoShapesFit c h = (outs : List Extent) → FitShapes c h outs → ⊥
-
--- the operator of a node, between base arrays and outputs of these shapes
-abbrev pub site_over : List Extent → List Extent → Node → Site
-site_over base outs x =
-    let ins = node_inputs base outs x in
-    record { op = x.op; ins = ins; out = output_extent x.op ins }
-
--- a node that can stand there: its sources are there, and its shape rule holds of them
-pub record IsFitting (base outs : List Extent) (x : Node) : Type 0 where
-  pub arity : length x.from ≡ shapes.arity x.op
-  pub sources : All (λ s. is_source (length base) (length outs) s ≡ true) x.from
-  pub parameters : shapes.has_right_parameters x.op ≡ true
-  pub shape : (e : Extent) × (shape_of x.op (node_inputs base outs x) ≡ Ok e)
 
 -- ---- the nodes
 

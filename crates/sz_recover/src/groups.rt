@@ -111,6 +111,7 @@ fn is_of_kind(kind: u8, command: &Command) -> bool
         Command::Flow { .. } => kind == 2,
         Command::Strategy { .. } => kind == 3,
         Command::Start { .. } => false,
+        Command::Plan { .. } => false,
         Command::Await { .. } => false,
         Command::Ask { .. } => false,
         Command::Explain { .. } => false,

@@ -18,11 +18,12 @@ use crate::lists::{is_list_for, names_a_store, take_list};
 use crate::reading::TakeFault;
 use std::alloc::Global;
 use std::sync::Arc;
+use sz_catalogue::site_over;
 use sz_cells::laws::a_shape_is_within_limits;
 use sz_cells::{NoMemory, Shape};
 use sz_region::Take;
 use sz_script::StrategyList;
-use sz_spec::{Node, OpAt, Strategy, input_shapes};
+use sz_spec::{Node, OpAt, Strategy};
 use sz_store::NodeStore;
 
 /// The lists and the stores of nodes that stand one behind the other, the first one at a place, and
@@ -129,12 +130,8 @@ fn op_at(
     requires { IsFitting base.now outputs.now node.now }
     ensures { IfOk result (λ a. arc_value a ≡ site_over base.now outputs.now node.now) }
 {
-    let ins = input_shapes(alloc, base, outputs, node.from.as_slice())?;
-    let op = node.op.copy(alloc)?;
-    match OpAt::of(op, ins) {
-        Ok(at) => Ok(Arc::new(alloc, at)?),
-        Err(_) => unreachable!(),
-    }
+    let site = site_over(alloc, node, base, outputs)?;
+    Ok(Arc::new(alloc, site)?)
 }
 
 /// Every shape is within the limits.

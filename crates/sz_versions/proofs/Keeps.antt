@@ -167,6 +167,7 @@ keeps-accepted c (order.Flow name flow) k right none kind =
 keeps-accepted c (order.Strategy name node list) k right none kind =
     keeps-strategies c name node list k none
 keeps-accepted c (order.Start name base) k right none kind = cc
+keeps-accepted c (order.Plan name base units back forward) k right none kind = k
 keeps-accepted c (order.Await n) k right none kind = cc
 keeps-accepted c (order.Ask n dir path named) k right none kind = cc
 keeps-accepted c (order.Explain n dir path named) k right none kind = cc

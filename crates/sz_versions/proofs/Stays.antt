@@ -156,6 +156,7 @@ accepted-stay c (order.Layers name array) kind n held awaited = refl
 accepted-stay c (order.Flow name flow) kind n held awaited = refl
 accepted-stay c (order.Strategy name node list) kind n held awaited = refl
 accepted-stay c (order.Start name base) kind n held awaited = cc
+accepted-stay c (order.Plan name base units back forward) kind n held awaited = refl
 accepted-stay c (order.Await m) kind n held awaited = cc
 accepted-stay c (order.Ask m dir path named) kind n held awaited = cc
 accepted-stay c (order.Explain m dir path named) kind n held awaited = cc

@@ -56,6 +56,7 @@ fn accept(held: &mut Catalogue<()>, command: Command) -> Result<(), Fail>
         Command::Layers { .. } => Err(Fail::from("another command")),
         Command::Strategy { .. } => Err(Fail::from("another command")),
         Command::Start { .. } => Err(Fail::from("another command")),
+        Command::Plan { .. } => Err(Fail::from("another command")),
         Command::Await { .. } => Err(Fail::from("another command")),
         Command::Ask { .. } => Err(Fail::from("another command")),
         Command::Explain { .. } => Err(Fail::from("another command")),

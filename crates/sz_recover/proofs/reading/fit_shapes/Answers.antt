@@ -8,7 +8,8 @@ use Rattle.sz_spec.specs.Flows.{Graph, is_well_formed}
 use Rattle.sz_spec.specs.FlowShapes.{output_shapes}
 use Rattle.sz_catalogue.specs.Holdings.{Base}
 use Rattle.sz_recover.specs.Taking.{Begun, IsFitting}
-use Rattle.sz_recover.proofs.Shapes.{well-of, few-outputs, nodes-fit}
+use Rattle.sz_catalogue.proofs.FlowSites.{few-outputs, nodes-fit}
+use Rattle.sz_recover.proofs.Shapes.{well-of}
 use Rattle.sz_recover.proofs.reading.fit_shapes.Goals as goal
 
 pub cells_of-requires : goal.cells_of-requires
