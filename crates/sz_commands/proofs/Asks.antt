@@ -32,6 +32,7 @@ ask-stays c (command.Layers name array) is = cc
 ask-stays c (command.Flow name flow) is = cc
 ask-stays c (command.Strategy name node list) is = cc
 ask-stays c (command.Start name base) is = cc
+ask-stays c (command.Plan name base units back forward) is = cc
 ask-stays c (command.Await n) is = cc
 ask-stays c (command.Explain n dir path named) is = cc
 ask-stays c (command.Show n node) is = cc

@@ -32,6 +32,7 @@ line-kind kind (order.Flow name flow) own = subst (λ (k : ℕ). is_kind k ≡ t
 line-kind kind (order.Strategy name node list) own =
     subst (λ (k : ℕ). is_kind k ≡ true) (sym (eqb-true kind 3 own)) refl
 line-kind kind (order.Start name base) own = absurd (true≢false (sym own))
+line-kind kind (order.Plan name base units back forward) own = absurd (true≢false (sym own))
 line-kind kind (order.Await n) own = absurd (true≢false (sym own))
 line-kind kind (order.Ask n dir path named) own = absurd (true≢false (sym own))
 line-kind kind (order.Explain n dir path named) own = absurd (true≢false (sym own))
@@ -45,6 +46,7 @@ line-changes kind (order.Layers name array) own = refl
 line-changes kind (order.Flow name flow) own = refl
 line-changes kind (order.Strategy name node list) own = refl
 line-changes kind (order.Start name base) own = absurd (true≢false (sym own))
+line-changes kind (order.Plan name base units back forward) own = refl
 line-changes kind (order.Await n) own = absurd (true≢false (sym own))
 line-changes kind (order.Ask n dir path named) own = absurd (true≢false (sym own))
 line-changes kind (order.Explain n dir path named) own = absurd (true≢false (sym own))
@@ -62,6 +64,7 @@ rests-durable c (order.Start name base) none =
     let new = next-is_new c.versions (next_number c) (omega arith) in
     starts-not-logged c (next_number c) (version_started c name base)
     (ap (λ (o : Option Version). is_none o) new) refl
+rests-durable c (order.Plan name base units back forward) none = refl
 rests-durable c (order.Await n) none = absurd (true≢false none)
 rests-durable c (order.Ask n dir path named) none = refl
 rests-durable c (order.Explain n dir path named) none = refl
@@ -75,6 +78,7 @@ accepted-held s (order.Layers name array) = refl
 accepted-held s (order.Flow name flow) = refl
 accepted-held s (order.Strategy name node list) = refl
 accepted-held s (order.Start name base) = refl
+accepted-held s (order.Plan name base units back forward) = refl
 accepted-held s (order.Await n) = refl
 accepted-held s (order.Ask n dir path named) = refl
 accepted-held s (order.Explain n dir path named) = refl

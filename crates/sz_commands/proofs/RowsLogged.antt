@@ -127,6 +127,10 @@ lasts-await n = refl
 pub lasts-start : (name : List ℕ) (base : List BaseName) → lasts (command.Start name base) ≡ false
 lasts-start name base = refl
 
+pub lasts-plan : (name : List ℕ) (base : List BaseName) (units back forward : ℕ)
+    → lasts (command.Plan name base units back forward) ≡ false
+lasts-plan name base units back forward = refl
+
 pub lasts-ask : (n : ℕ) (dir : Dir) (path : List Step) (named : List NamedCell)
     → lasts (command.Ask n dir path named) ≡ false
 lasts-ask n dir path named = refl

@@ -31,6 +31,7 @@ is_ask (command.Layers name array) = false
 is_ask (command.Flow name flow) = false
 is_ask (command.Strategy name node list) = false
 is_ask (command.Start name base) = false
+is_ask (command.Plan name base units back forward) = false
 is_ask (command.Await n) = false
 is_ask (command.Explain n dir path named) = false
 is_ask (command.Show n node) = false

@@ -30,6 +30,7 @@ traced_along c (command.Layers name array) = 0
 traced_along c (command.Flow name flow) = 0
 traced_along c (command.Strategy name node list) = 0
 traced_along c (command.Start name base) = 0
+traced_along c (command.Plan name base units back forward) = 0
 traced_along c (command.Await n) = 0
 traced_along c (command.Show n node) = 0
 
@@ -43,6 +44,7 @@ most_along c (command.Layers name array) = 0
 most_along c (command.Flow name flow) = 0
 most_along c (command.Strategy name node list) = 0
 most_along c (command.Start name base) = 0
+most_along c (command.Plan name base units back forward) = 0
 most_along c (command.Await n) = 0
 most_along c (command.Show n node) = 0
 

@@ -119,6 +119,7 @@ lasts (command.Layers name array) = true
 lasts (command.Flow name flow) = true
 lasts (command.Strategy name node list) = true
 lasts (command.Start name base) = false
+lasts (command.Plan name base units back forward) = false
 lasts (command.Await n) = true
 lasts (command.Ask n dir path named) = false
 lasts (command.Explain n dir path named) = false

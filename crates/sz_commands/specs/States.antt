@@ -74,6 +74,8 @@ accepted s (command.Flow name flow) = changed s (changes.accepted s.held (comman
 accepted s (command.Strategy name node list) =
     changed s (changes.accepted s.held (command.Strategy name node list))
 accepted s (command.Start name base) = changed s (changes.accepted s.held (command.Start name base))
+accepted s (command.Plan name base units back forward) =
+    changed s (changes.accepted s.held (command.Plan name base units back forward))
 accepted s (command.Await n) = changed s (changes.accepted s.held (command.Await n))
 accepted s (command.Explain n dir path named) =
     changed s (changes.accepted s.held (command.Explain n dir path named))

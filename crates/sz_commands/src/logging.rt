@@ -275,6 +275,7 @@ fn what_lasts(command: &Command) -> Lasting
         Command::Strategy { .. } => Lasting::Line(3),
         Command::Await { version } => Lasting::Version(*version),
         Command::Start { .. }
+        | Command::Plan { .. }
         | Command::Ask { .. }
         | Command::Explain { .. }
         | Command::Show { .. } => Lasting::Nothing,

@@ -411,6 +411,19 @@ impl Session {
             Command::Strategy { name, node, list } => {
                 self.accept(Command::Strategy { name, node, list })
             }
+            Command::Plan {
+                name,
+                base,
+                units,
+                back,
+                forward,
+            } => self.accept(Command::Plan {
+                name,
+                base,
+                units,
+                back,
+                forward,
+            }),
             Command::Start { name, base } => self.start(rt, name, base),
             Command::Await { version } => self.await_version(rt, version),
             Command::Ask {
@@ -433,7 +446,7 @@ impl Session {
         }
     }
 
-    /// Takes a command that changes what is held and no version.
+    /// Takes a command that changes no version and looks at none.
     pub(crate) fn accept(&mut self, command: Command) -> Result<Reply, NoMemory>
         requires right { is_right command ≡ true }
         requires judged { judged self.old.held command ≡ None }

@@ -31,6 +31,7 @@ accepted-plain c (order.Layers name array) = refl
 accepted-plain c (order.Flow name flow) = refl
 accepted-plain c (order.Strategy name node list) = refl
 accepted-plain c (order.Start name base) = refl
+accepted-plain c (order.Plan name base units back forward) = refl
 accepted-plain c (order.Await n) = refl
 accepted-plain c (order.Ask n dir path named) = refl
 accepted-plain c (order.Explain n dir path named) = refl
