@@ -34,6 +34,7 @@ from .flow import Flow, Input, Node
 from .keeping import strategies
 from .later import Future, Later, Pipeline
 from .paths import Path
+from .plans import Choice, Plan
 from .run import Explanation, Run
 from .session import BaseArray, Room, Session
 
@@ -46,6 +47,7 @@ __all__ = [
     "BadInput",
     "BaseArray",
     "Cancelled",
+    "Choice",
     "Explanation",
     "Flow",
     "Future",
@@ -56,6 +58,7 @@ __all__ = [
     "OutOfStep",
     "Path",
     "Pipeline",
+    "Plan",
     "ProgramEnded",
     "ProgramMissing",
     "Refused",

@@ -25,6 +25,7 @@ _RULES = {
     18: "there is no such node, or its list of strategies is empty, too long, or has one twice or unfit",
     19: "the version is not awaited",
     20: "there is no such node to show",
+    24: "a plan has more than 65,536 units",
 }
 
 _FAULTS = {

@@ -15,6 +15,7 @@ from .cells import Shape, number_of, short
 from .faults import BadInput, OutOfStep, Refused, SubZeroError
 from .keeping import OPERATORS, WITHOUT_MAPPING, Keep, chosen_for, names_of
 from .logs import HeldFlow
+from .plans import Plan, plan_of
 
 if TYPE_CHECKING:
     from .session import BaseArray, Session
@@ -583,17 +584,42 @@ class Flow:
         if self._defined:
             self._send_kept()
 
-    def keep_all(self, strategies: Keep) -> None:
+    def keep_all(self, strategies: Keep | Plan) -> None:
         """Set how the lineage of each node is kept that the flow has so far, as `keep` does: by a word, each by its own
-        operator.
+        operator, or by a plan, each as the plan has it.
+
+        Raises BadInput for a plan of another flow.
 
         >>> flow.keep_all("both")
         >>> labels.kept
         ['full_one_b', 'full_one_f']
+        >>> flow.keep_all(flow.plan(sky, back=100, forward=0, budget=3))
+        >>> labels.kept
+        ['full_many_b']
         """
-        self._kept += [(node, names_of(strategies, node.op)) for node in self.nodes]
+        if isinstance(strategies, Plan):
+            if strategies.flow is not self:
+                raise BadInput(f"{strategies!r} is a plan of another flow: make one by {self.name}'s own plan")
+            self._kept += [(choice.node, [choice.strategy]) for choice in strategies.choices]
+        else:
+            self._kept += [(node, names_of(strategies, node.op)) for node in self.nodes]
         if self._defined:
             self._send_kept()
+
+    def plan(
+        self, base: BaseArray | Sequence[BaseArray], *, back: int = 0, forward: int = 0, budget: int
+    ) -> Plan:
+        """The strategies that cost least where so many asks come backward and forward through the flow on these base
+        arrays, and their stores take at most `budget` units of 4,096 bytes. It defines the flow where that was not done
+        yet, and changes nothing else: `keep_all` sets the plan.
+
+        It is reckoned by rules of thumb (docs/FORMATS.md, "Plans"), which say nothing of real sizes and times. Raises
+        BadInput and Refused as a start does, without 14, and Refused with 24 for more than 65,536 units.
+
+        >>> flow.plan(sky, back=100, forward=100, budget=16)
+        <Plan of stars: 5 units of 16, cost 3,400>
+        """
+        return plan_of(self, base, back, forward, budget)
 
     def kept_of(self, node: Node) -> list[str]:
         """The strategies by which a node's lineage is kept in runs that are started from now on."""

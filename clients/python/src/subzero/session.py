@@ -424,18 +424,8 @@ class Session:
         >>> session.start(flow, sky)
         <Run 2 of stars on sky 1>
         """
-        arrays = [base] if isinstance(base, BaseArray) else list(base)
-        if not isinstance(flow, Flow):
-            raise BadInput(f"{short(flow)} is no flow: build one by session.flow")
-        if not flow.is_of(self):
-            raise BadInput(f"{flow!r} is of another session: build it again in this one")
-        for array in arrays:
-            if not isinstance(array, BaseArray):
-                raise BadInput(f"{short(array)} is no array that the session holds: hand it in by session.array")
-            self._check_own(array)
+        arrays = self.ready(flow, base)
         shapes = [array.shape for array in arrays]
-        flow.check_start(shapes)
-        flow.define()
         named = tuple((array.name, array.version) for array in arrays)
         line = json.dumps({"start": flow.program_name, "base": named}, separators=(",", ":")).encode() + b"\n"
 
@@ -455,6 +445,22 @@ class Session:
         self.holdings()
         flow.started_on(shapes)
         return self._runs.setdefault(int(reply.split()[-1]), Run(self, int(reply.split()[-1]), flow, tuple(arrays)))
+
+    def ready(self, flow: Flow, base: BaseArray | Sequence[BaseArray]) -> list[BaseArray]:
+        """The base arrays of a flow, which is defined where that was not done yet. Raises BadInput for a flow or an
+        array of another session."""
+        arrays = [base] if isinstance(base, BaseArray) else list(base)
+        if not isinstance(flow, Flow):
+            raise BadInput(f"{short(flow)} is no flow: build one by session.flow")
+        if not flow.is_of(self):
+            raise BadInput(f"{flow!r} is of another session: build it again in this one")
+        for array in arrays:
+            if not isinstance(array, BaseArray):
+                raise BadInput(f"{short(array)} is no array that the session holds: hand it in by session.array")
+            self._check_own(array)
+        flow.check_start([array.shape for array in arrays])
+        flow.define()
+        return arrays
 
     def held_run(self, number: int, flow: Flow | None = None, base: Sequence[BaseArray] | None = None) -> Run:
         """A run that the session holds already, as from its log: `session.runs[number]`.
@@ -663,6 +669,6 @@ def _hold_line_of(name: str, reply: Reply) -> Hold:
 
 def _may_hold(line: bytes) -> bool:
     """Whether a line may be of a form that makes the session hold more: none that has a field of another form is."""
-    if line.startswith((b'{"ask":', b'{"explain":', b'{"show":', b'{"await":')):
+    if line.startswith((b'{"ask":', b'{"explain":', b'{"show":', b'{"await":', b'{"plan":')):
         return False
     return any(form in line for form in (b'"array"', b'"layers"', b'"csv"', b'"flow"', b'"strategy"', b'"start"'))
