@@ -2,9 +2,13 @@
 
 from __future__ import annotations
 
+import contextlib
 import os
 import re
+import signal
 import subprocess
+import threading
+from collections.abc import Iterator
 from dataclasses import dataclass
 from typing import Literal
 
@@ -91,30 +95,53 @@ def check(log: str | os.PathLike[str], *, program: str | os.PathLike[str] | None
 
 def _said(program: str, log: str, lock: int) -> str:
     """What the program's check of a log says; it has the lock too, and so keeps it where this process is killed."""
-    running = subprocess.Popen(
-        [program, "check", log],
-        stdin=subprocess.DEVNULL,
-        stdout=subprocess.PIPE,
-        stderr=subprocess.PIPE,
-        pass_fds=(lock,),
-        text=True,
-        errors="replace",
-    )
-    with running, progress.shown(f"checking {os.path.basename(log)}") as step:
-        try:
-            while True:
-                try:
-                    said, wrote = running.communicate(timeout=step.seconds)
-                    break
-                except subprocess.TimeoutExpired:
-                    step.show()
-        except BaseException:
-            running.kill()
-            running.wait()
-            raise
+    try:
+        with _interrupt_held():
+            running = subprocess.Popen(
+                [program, "check", log],
+                stdin=subprocess.DEVNULL,
+                stdout=subprocess.PIPE,
+                stderr=subprocess.PIPE,
+                pass_fds=(lock,),
+                text=True,
+                errors="replace",
+            )
+        with running, progress.shown(f"checking {os.path.basename(log)}") as step:
+            try:
+                while True:
+                    try:
+                        said, wrote = running.communicate(timeout=step.seconds)
+                        break
+                    except subprocess.TimeoutExpired:
+                        step.show()
+            except BaseException:
+                running.kill()
+                running.wait()
+                raise
+    except KeyboardInterrupt:  # also one that came before the loop did
+        running.kill()
+        running.wait()
+        raise
     if running.returncode != 0:
         raise ProgramEnded(running.returncode, wrote.strip())
     return said
+
+
+@contextlib.contextmanager
+def _interrupt_held() -> Iterator[None]:
+    """An interrupt that comes meanwhile is raised behind it, so that a program that was begun within is known."""
+    came: list[int] = []
+    before = signal.getsignal(signal.SIGINT)
+    holds = threading.current_thread() is threading.main_thread() and callable(before)
+    if holds:
+        signal.signal(signal.SIGINT, lambda number, _: came.append(number))
+    try:
+        yield
+    finally:
+        if holds:
+            signal.signal(signal.SIGINT, before)
+    if came:
+        raise KeyboardInterrupt
 
 
 def _read(said: str) -> Sound | Unsound:
