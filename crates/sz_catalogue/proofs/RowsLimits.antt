@@ -78,7 +78,8 @@ start-4097_unequal = refl
 
 -- a plan holds nothing, so it is not refused there
 plan-4097 : says (versions 4096) (command.Plan f (base a 1 ∷ base a 1 ∷ []) 0 1 2) ≡ codes "plan 6 0 map"
-unfolding digits offer_of others offers_among offers_of black_box_of cheapest cost_over least_cost offer_over list_within
+unfolding digits offer_of others offers_among offers_of black_box_of cheapest cost_over least_cost offer_over
+    list_within
 plan-4097 = refl
 
 -- ---- numbers of versions

@@ -40,39 +40,47 @@ cleaned = after held
 -- ---- what is planned
 
 plan-no_unit : says cleaned (command.Plan (codes "one") (base m 1 ∷ []) 0 1 0) ≡ codes "plan 16 0 blackbox"
-unfolding digits offer_of others offers_among offers_of black_box_of cheapest cost_over least_cost offer_over list_within
+unfolding digits offer_of others offers_among offers_of black_box_of cheapest cost_over least_cost offer_over
+    list_within
 plan-no_unit = refl
 
 plan-one_unit : says cleaned (command.Plan (codes "one") (base m 1 ∷ []) 1 1 0) ≡ codes "plan 1 1 full_one_b"
-unfolding digits offer_of others offers_among offers_of black_box_of cheapest cost_over least_cost offer_over list_within
+unfolding digits offer_of others offers_among offers_of black_box_of cheapest cost_over least_cost offer_over
+    list_within
 plan-one_unit = refl
 
 plan-forward : says cleaned (command.Plan (codes "one") (base m 1 ∷ []) 1 0 1) ≡ codes "plan 1 1 full_one_f"
-unfolding digits offer_of others offers_among offers_of black_box_of cheapest cost_over least_cost offer_over list_within
+unfolding digits offer_of others offers_among offers_of black_box_of cheapest cost_over least_cost offer_over
+    list_within
 plan-forward = refl
 
 -- full_one_f costs the same
 plan-both_ways : says cleaned (command.Plan (codes "one") (base m 1 ∷ []) 1 1 1) ≡ codes "plan 5 1 full_one_b"
-unfolding digits offer_of others offers_among offers_of black_box_of cheapest cost_over least_cost offer_over list_within
+unfolding digits offer_of others offers_among offers_of black_box_of cheapest cost_over least_cost offer_over
+    list_within
 plan-both_ways = refl
 
 plan-two_nodes : says cleaned (command.Plan (codes "two") (base m 1 ∷ []) 1 1 0) ≡ codes "plan 17 1 full_one_b blackbox"
-unfolding digits offer_of others offers_among offers_of black_box_of cheapest cost_over least_cost offer_over list_within
+unfolding digits offer_of others offers_among offers_of black_box_of cheapest cost_over least_cost offer_over
+    list_within
 plan-two_nodes = refl
 
 -- 3 asks back and 2 forward, at each of two nodes: 3 and 2 * 4
 plan-two_units : says cleaned (command.Plan (codes "two") (base m 1 ∷ []) 2 3 2)
     ≡ codes "plan 22 2 full_one_b full_one_b"
-unfolding digits offer_of others offers_among offers_of black_box_of cheapest cost_over least_cost offer_over list_within
+unfolding digits offer_of others offers_among offers_of black_box_of cheapest cost_over least_cost offer_over
+    list_within
 plan-two_units = refl
 
 -- no ask: each list costs nothing, and the first by number stands
 plan-no_ask : says cleaned (command.Plan (codes "two") (base m 1 ∷ []) 9 0 0) ≡ codes "plan 0 2 full_one_b full_one_b"
-unfolding digits offer_of others offers_among offers_of black_box_of cheapest cost_over least_cost offer_over list_within
+unfolding digits offer_of others offers_among offers_of black_box_of cheapest cost_over least_cost offer_over
+    list_within
 plan-no_ask = refl
 
 plan-mapped : says held (command.Plan f (base a 1 ∷ []) 0 1 0) ≡ codes "plan 1 0 map"
-unfolding digits offer_of others offers_among offers_of black_box_of cheapest cost_over least_cost offer_over list_within
+unfolding digits offer_of others offers_among offers_of black_box_of cheapest cost_over least_cost offer_over
+    list_within
 plan-mapped = refl
 
 -- nothing is changed by it
@@ -82,7 +90,8 @@ plan-changes_nothing = refl
 -- ---- what is refused
 
 plan-most_units : says cleaned (command.Plan (codes "one") (base m 1 ∷ []) 65536 1 0) ≡ codes "plan 1 1 full_one_b"
-unfolding digits offer_of others offers_among offers_of black_box_of cheapest cost_over least_cost offer_over list_within
+unfolding digits offer_of others offers_among offers_of black_box_of cheapest cost_over least_cost offer_over
+    list_within
 plan-most_units = refl
 
 plan-past_most : says cleaned (command.Plan (codes "one") (base m 1 ∷ []) 65537 1 0) ≡ codes "refused 24"

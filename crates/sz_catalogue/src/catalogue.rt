@@ -22,14 +22,12 @@ ghost use Rattle.sz_catalogue.specs.Kept.{IsRun};
 ghost use Rattle.sz_catalogue.specs.Seen.{response_of, Judges};
 
 use crate::arrays::HeldArrays;
-use crate::carried::Carried;
 use crate::flows::{HeldFlow, HeldFlows};
 use crate::lists::{BaseArrays, StrategyLists};
 use crate::memory::{another_flow, another_owner, own_name};
 use crate::paths::is_joined;
 use crate::reply::Reply;
 use crate::shapes::cells_of;
-use crate::sites::sites_over;
 use crate::strategies::{is_list_of, names_a_store};
 use crate::version::{BaseArray, HeldVersion, Run};
 use crate::versions::HeldVersions;
@@ -42,15 +40,15 @@ use sz_spec::{Array, Dir, Flow, Strategy, output_shapes};
 
 /// Everything held: arrays and flows by name, and versions by number.
 #[derive(Drop)]
-pub struct Catalogue<K: Carried> {
+pub struct Catalogue {
     arrays: HeldArrays,
     flows: HeldFlows,
-    versions: HeldVersions<K>,
+    versions: HeldVersions,
     cells: u64,
     alloc: Global,
 }
 
-impl<K: Carried> Model for Catalogue<K> {
+impl Model for Catalogue {
     ghost use Rattle.sz_catalogue.specs.Holdings.{Holdings};
     ghost use Rattle.sz_catalogue.specs.Order.{IsKept};
 
@@ -83,9 +81,9 @@ const MOST_UNITS: u32 = 65_536;
 /// The greatest number of a version.
 const GREATEST_NUMBER: u64 = 4_294_967_295;
 
-impl<K: Carried> Catalogue<K> {
+impl Catalogue {
     /// The catalogue that holds nothing. Takes no memory.
-    pub fn new(alloc: Global) -> Catalogue<K>
+    pub fn new(alloc: Global) -> Catalogue
         ensures { result ≡ no_holdings }
     {
         Catalogue {
@@ -129,7 +127,7 @@ impl<K: Carried> Catalogue<K> {
     }
 
     /// The version of a number. Logarithmic in the versions, and takes no memory.
-    pub fn version(&self, number: u32) -> Option<&HeldVersion<K>>
+    pub fn version(&self, number: u32) -> Option<&HeldVersion>
         ensures { option_copied result ≡ version_numbered self.now number }
     {
         match self.versions.get(number) {

@@ -1,10 +1,8 @@
 //! What a session holds: arrays and flows by name, and versions by number.
 //!
 //! A [`Catalogue`] judges a command, takes one that no rule refuses, and is read by name and by
-//! number. With each version something is kept that belongs to it: whoever holds the catalogue says
-//! what ([`Carried`]). So a start and an await are calls of their own, that are given what is kept
-//! from then on, and [`Catalogue::exchange`] hands out what is kept and takes another in its place.
-//! [`reply_text`] writes the line of a [`Reply`].
+//! number. A start and an await are calls of their own. [`reply_text`] writes the line of a
+//! [`Reply`].
 //!
 //! ```
 //! let mut held = Catalogue::new(alloc);
@@ -29,7 +27,6 @@
 #![tactic(auto)]
 
 mod arrays;
-mod carried;
 mod catalogue;
 mod flows;
 pub mod laws;
@@ -43,7 +40,6 @@ mod strategies;
 mod version;
 mod versions;
 
-pub use carried::Carried;
 pub use catalogue::Catalogue;
 pub use lists::{BaseArrays, StrategyLists};
 pub use reply::{Reply, reply_text};

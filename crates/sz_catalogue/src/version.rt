@@ -11,31 +11,27 @@ ghost use Rattle.sz_catalogue.specs.Starts.{outputs_of, inputs_of, step_start};
 ghost use Rattle.sz_catalogue.specs.Rules.{are_lists_for};
 ghost use Rattle.sz_catalogue.specs.Kept.{IsRun};
 
-use crate::carried::Carried;
 use crate::lists::{BaseArrays, StrategyLists};
 use crate::paths::source_of;
 use std::alloc::Global;
 use std::marker::Model;
-use std::mem;
 use std::sync::Arc;
 use sz_cells::{NoMemory, Shape};
 use sz_script::{Name, PathStep};
 use sz_spec::{Array, Dir, Flow, SourceRef, output_shapes};
 
 /// A run of a flow: the flow and the name under which it is held, its base arrays, the strategies
-/// of its nodes as they were at the start, one list a node, whether it was awaited, and what is
-/// kept with it, which belongs to it.
+/// of its nodes as they were at the start, one list a node, and whether it was awaited.
 #[derive(Drop)]
-pub struct HeldVersion<K: Carried> {
+pub struct HeldVersion {
     pub flow_name: Name,
     pub flow: Arc<Flow>,
     pub base: BaseArrays,
     pub lists: StrategyLists,
     pub awaited: bool,
-    pub kept: K,
 }
 
-impl<K: Carried> Model for HeldVersion<K> {
+impl Model for HeldVersion {
     ghost use Rattle.std.specs.Arc.{arc_value};
     ghost use Rattle.sz_catalogue.specs.Holdings.{Version};
 
@@ -48,40 +44,14 @@ impl<K: Carried> Model for HeldVersion<K> {
       lists = v.lists;
       awaited = v.awaited;
     } };
-
-    ghost invariant = { λ v. K.belongs v.kept (record {
-      flow_name = v.flow_name;
-      flow = arc_value v.flow;
-      base = v.base;
-      lists = v.lists;
-      awaited = v.awaited;
-    }) };
 }
 
-impl<K: Carried> HeldVersion<K> {
-    /// What is kept with the version. It belongs to it.
-    pub fn kept(&self) -> &K
-        ensures { K.belongs result.now self.now }
-    {
-        &self.kept
-    }
-
-    /// What is kept with the version, with this in its place.
-    fn exchange(&mut self, kept: K) -> K
-        requires { K.belongs kept self.old }
-        ensures same { self.new ≡ self.old }
-        ensures belongs { K.belongs result self.old }
-    {
-        mem::replace(&mut self.kept, kept)
-    }
-
-    /// Notes that the version was awaited, with what is kept with it from then on.
-    fn note_await(&mut self, kept: K)
-        requires { K.belongs kept (record self.old { awaited = true }) }
+impl HeldVersion {
+    /// Notes that the version was awaited.
+    fn note_await(&mut self)
         ensures { self.new ≡ record self.old { awaited = true } }
     {
         self.awaited = true;
-        self.kept = kept;
     }
 }
 
@@ -116,12 +86,12 @@ pub fn base_shapes(alloc: Global, base: &[BaseArray]) -> Result<Vec<Shape>, NoMe
 /// A version with the shapes of its outputs: of a flow that is well formed, on as many base arrays
 /// as it takes, whose shapes fit, with a list of strategies for each node.
 #[derive(Drop)]
-pub struct Run<K: Carried> {
-    version: HeldVersion<K>,
+pub struct Run {
+    version: HeldVersion,
     outputs: Vec<Shape>,
 }
 
-impl<K: Carried> Model for Run<K> {
+impl Model for Run {
     ghost use Rattle.sz_catalogue.specs.Holdings.{Version};
     ghost use Rattle.sz_catalogue.specs.Kept.{IsRun};
 
@@ -132,9 +102,9 @@ impl<K: Carried> Model for Run<K> {
     ghost invariant = { λ r. IsRun r.version r.outputs.items };
 }
 
-impl<K: Carried> Run<K> {
+impl Run {
     /// The run that a version is. Linear in the flow's sources.
-    pub fn make(alloc: Global, version: HeldVersion<K>) -> Result<Run<K>, NoMemory>
+    pub fn make(alloc: Global, version: HeldVersion) -> Result<Run, NoMemory>
         requires right { is_well_formed version.flow ≡ true }
         requires count { length version.base ≡ version.flow.inputs }
         requires fits { result_err (output_shapes version.flow (shapes_of version.base)) ≡ None }
@@ -149,7 +119,7 @@ impl<K: Carried> Run<K> {
     }
 
     /// The version.
-    pub fn version(&self) -> &HeldVersion<K>
+    pub fn version(&self) -> &HeldVersion
         ensures { result.now ≡ self.now }
     {
         &self.version
@@ -208,20 +178,10 @@ impl<K: Carried> Run<K> {
         only.array.shape()
     }
 
-    /// What is kept with the version, with this in its place.
-    pub fn exchange(&mut self, kept: K) -> K
-        requires { K.belongs kept self.old }
-        ensures same { self.new ≡ self.old }
-        ensures belongs { K.belongs result self.old }
-    {
-        self.version.exchange(kept)
-    }
-
-    /// Notes that the version was awaited, with what is kept with it from then on.
-    pub fn note_await(&mut self, kept: K)
-        requires { K.belongs kept (record self.old { awaited = true }) }
+    /// Notes that the version was awaited.
+    pub fn note_await(&mut self)
         ensures { self.new ≡ record self.old { awaited = true } }
     {
-        self.version.note_await(kept);
+        self.version.note_await();
     }
 }

@@ -8,7 +8,6 @@ ghost use Rattle.std.specs.BTreeMap.{is_at, insert_entry};
 ghost use Rattle.std.specs.Option.{option_copied};
 ghost use Rattle.sz_catalogue.specs.Holdings.{greatest, no_version};
 
-use crate::carried::Carried;
 use crate::version::Run;
 use std::alloc::Global;
 use std::collections::BTreeMap;
@@ -17,11 +16,11 @@ use sz_cells::NoMemory;
 
 /// The versions held, each under its number.
 #[derive(Drop)]
-pub struct HeldVersions<K: Carried> {
-    by_number: BTreeMap<u32, Run<K>>,
+pub struct HeldVersions {
+    by_number: BTreeMap<u32, Run>,
 }
 
-impl<K: Carried> Model for HeldVersions<K> {
+impl Model for HeldVersions {
     ghost use Rattle.std.specs.Prelude.{ℕ, List};
     ghost use Rattle.sz_catalogue.specs.Holdings.{Version};
 
@@ -30,8 +29,8 @@ impl<K: Carried> Model for HeldVersions<K> {
     ghost view = { λ v. v.by_number.entries };
 }
 
-impl<K: Carried> HeldVersions<K> {
-    pub fn new(alloc: Global) -> HeldVersions<K>
+impl HeldVersions {
+    pub fn new(alloc: Global) -> HeldVersions
         ensures { result ≡ [] }
     {
         HeldVersions {
@@ -47,7 +46,7 @@ impl<K: Carried> HeldVersions<K> {
     }
 
     /// The version of a number. Logarithmic in the versions.
-    pub fn get(&self, number: u32) -> Option<&Run<K>>
+    pub fn get(&self, number: u32) -> Option<&Run>
         ensures { option_copied result ≡ lookup (is_at (nat_cmp number)) self.now }
     {
         self.by_number.get(&number)
@@ -64,7 +63,7 @@ impl<K: Carried> HeldVersions<K> {
     }
 
     /// Holds a version under a number. Logarithmic in the versions.
-    pub fn push(&mut self, number: u32, run: Run<K>) -> Result<(), NoMemory>
+    pub fn push(&mut self, number: u32, run: Run) -> Result<(), NoMemory>
         ensures held { OnOk result (self.new ≡ insert_entry nat_cmp self.old number run) }
         ensures err { OnErr result (self.new ≡ self.old) }
         ensures rising { OnOk result (IsStrictlySortedBy nat_cmp (keys_of self.new)) }
@@ -73,30 +72,9 @@ impl<K: Carried> HeldVersions<K> {
         Ok(())
     }
 
-    /// What is kept with a version that is held, with this in its place. Logarithmic in the
-    /// versions.
-    pub fn exchange(&mut self, number: u32, kept: K) -> K
+    /// Notes that a version that is held was awaited. Logarithmic in the versions.
+    pub fn note_await(&mut self, number: u32)
         requires held { is_some (lookup (is_at (nat_cmp number)) self.old) ≡ true }
-        requires belongs { K.belongs kept
-            (unwrap_or (lookup (is_at (nat_cmp number)) self.old) no_version) }
-        ensures same { self.new ≡ self.old }
-        ensures belongs { K.belongs result
-            (unwrap_or (lookup (is_at (nat_cmp number)) self.old) no_version) }
-    {
-        let Some(run) = self.by_number.get_mut(&number) else {
-            unreachable!()
-        };
-        run.exchange(kept)
-    }
-
-    /// Notes that a version that is held was awaited, with what is kept with it from then on.
-    /// Logarithmic in the versions.
-    pub fn note_await(&mut self, number: u32, kept: K)
-        requires held { is_some (lookup (is_at (nat_cmp number)) self.old) ≡ true }
-        requires belongs { K.belongs kept
-            (record (unwrap_or (lookup (is_at (nat_cmp number)) self.old) no_version) {
-              awaited = true;
-            }) }
         ensures { self.new ≡ set_value (is_at (nat_cmp number)) self.old
             (record (unwrap_or (lookup (is_at (nat_cmp number)) self.old) no_version) {
               awaited = true;
@@ -105,6 +83,6 @@ impl<K: Carried> HeldVersions<K> {
         let Some(run) = self.by_number.get_mut(&number) else {
             return;
         };
-        run.note_await(kept);
+        run.note_await();
     }
 }

@@ -17,7 +17,6 @@ use Rattle.sz_catalogue.specs.Holdings.{Holdings}
 use Rattle.sz_catalogue.specs.Rules.{judged, version_of}
 use Rattle.sz_recover.specs.Logs.{is_of_kind}
 use Rattle.sz_commands.specs.Lines.{is_blank}
-use Rattle.sz_commands.specs.Asks.{is_ask}
 use Rattle.sz_commands.specs.Given.{Gives}
 use Rattle.sz_commands.specs.Logged.{lasts, makes, makes_judged, makes_read, makes_durable}
 use Rattle.sz_commands.specs.Logged.{IsLineGroup, IsVersionGroup, IsGroupFor, IsGroupOf, Appends}
@@ -129,22 +128,6 @@ refused-makes c command rule is = ap (makes_judged c command) is
 
 -- ---- lines
 
--- an ask makes nothing durable
-ask-makes : (c : Holdings) (ask : Command) (rule : Option Refusal) → is_ask ask ≡ true
-    → makes_judged c ask rule ≡ false
-ask-makes c ask (Some rule) is = refl
-ask-makes c (order.Ask n dir path named) None is = refl
-ask-makes c (order.Array name array) None is = sym is
-ask-makes c (order.Csv name array) None is = sym is
-ask-makes c (order.Layers name array) None is = sym is
-ask-makes c (order.Flow name flow) None is = sym is
-ask-makes c (order.Strategy name node list) None is = sym is
-ask-makes c (order.Start name base) None is = refl
-ask-makes c (order.Plan name base units back forward) None is = refl
-ask-makes c (order.Await n) None is = absurd (true≢false (sym is))
-ask-makes c (order.Explain n dir path named) None is = refl
-ask-makes c (order.Show n node) None is = refl
-
 -- a line that is not blank makes what it is read as does
 filled-makes : (c : Holdings) (line : List ℕ) → is_blank line ≡ false
     → makes_durable c line ≡ makes_read c (reading line)
@@ -152,6 +135,7 @@ filled-makes c line full = ap (λ (b : Bool). if b then false else makes_read c 
 
 -- whether what a line gives makes something durable
 abbrev pub makes_given : Holdings → Given → Bool
+makes_given c (given.Ask command) = makes_judged c command (judged c command)
 makes_given c (given.Other command) = makes_judged c command (judged c command)
 makes_given c _ = false
 
@@ -160,8 +144,7 @@ pub given-makes : (c : Holdings) (line : List ℕ) (g : Given) → Gives line g 
 given-makes c line given.Nothing blank =
     ap (λ (b : Bool). if b then false else makes_read c (reading line)) blank
 given-makes c line (given.Refused rule) (full, read) = filled-makes c line full ∙ ap (makes_read c) read
-given-makes c line (given.Ask ask) (full, read, is) =
-    filled-makes c line full ∙ ap (makes_read c) read ∙ ask-makes c ask (judged c ask) is
+given-makes c line (given.Ask ask) (full, read, is) = filled-makes c line full ∙ ap (makes_read c) read
 given-makes c line (given.Other command) (full, read) = filled-makes c line full ∙ ap (makes_read c) read
 
 -- the group of a command is that of a line that is read as it

@@ -16,12 +16,11 @@ use Rattle.sz_recover.specs.Growing.{durable}
 use Rattle.sz_recover.specs.Logs.{is_of_kind}
 use Rattle.sz_catalogue.specs.Order.{IsInOrder}
 use Rattle.sz_recover.proofs.Durable.{starts-not-logged, awaits-once}
-use Rattle.sz_commands.specs.States.{State, accepted, after_command}
+use Rattle.sz_commands.specs.States.{State, apart, accepted, after_command}
 use Rattle.sz_commands.specs.Logged.{lasts, HasLog, KeepsLog}
 use Rattle.sz_versions.specs.Bodies.{IsSoundBody}
 use Rattle.sz_commands.proofs.Logged.{rest-keeps, IsStep, await-step}
 use Rattle.sz_versions.proofs.Ordered.{catalogue-in-order}
-use Rattle.sz_commands.proofs.States.{accepted-end}
 
 -- a line stands in groups of a kind
 pub line-kind : (kind : ℕ) (command : Command) → is_of_kind kind command ≡ true → is_kind kind ≡ true
@@ -94,6 +93,11 @@ pub left-held : (s d : State) (command : Command) (r : Response) → accepted s 
     → d.held ≡ (changes.accepted s.held command).0
 left-held s d command r is = ap (λ (p : State × Response). p.0.held) (sym is) ∙ accepted-held s command
 
+-- so it is where that is known apart
+pub left-apart : (s d : State) (command : Command) (r : Response) → accepted (apart s) command ≡ (apart d, r)
+    → d.held ≡ (changes.accepted s.held command).0
+left-apart s d command r is = left-held (apart s) (apart d) command r is
+
 -- ---- where the log ends
 
 -- a session that makes nothing durable keeps its log
@@ -105,11 +109,10 @@ rests-keep {X} T s t a log place same =
 
 -- so does a command that makes nothing durable
 pub nothing-keeps : {X : Type 0} (T : Ghosts X) (s t : State) (command : Command) (r : Response) (a : X)
-    → HasLog T s.held s.end a → accepted s command ≡ (t, r) → lasts command ≡ false
+    → HasLog T s.held s.end a → accepted (apart s) command ≡ (apart t, r) → t.end ≡ s.end → lasts command ≡ false
     → KeepsLog T s.held s.end t.held t.end a a
-nothing-keeps {X} T s t command r a log is none =
-    rests-keep T s t a log (ap (λ (p : State × Response). p.0.end) (sym is) ∙ accepted-end s command)
-    (ap durable (left-held s t command r is) ∙ rests-durable s.held command none)
+nothing-keeps {X} T s t command r a log is place none =
+    rests-keep T s t a log place (ap durable (left-apart s t command r is) ∙ rests-durable s.held command none)
 
 -- and a state that is left
 pub same-keeps : {X : Type 0} (T : Ghosts X) (s t : State) (a : X) → HasLog T s.held s.end a → t ≡ s

@@ -12,7 +12,7 @@ use Rattle.sz_versions.specs.Efforts.{most_traced, sizes_along}
 use Rattle.sz_versions.specs.Views.{strategy_told}
 use Rattle.sz_commands.specs.States.{cells_by}
 use Rattle.sz_versions.specs.Searches.{Search, IsAnswerTo}
-use Rattle.sz_commands.specs.Inquiries.{IsInquiryBy}
+use Rattle.sz_versions.specs.Inquiries.{IsInquiryBy}
 use Rattle.sz_versions.proofs.Inquiries.{found-cells, found-ways, found-traced, found-least, found-most}
 use Rattle.sz_versions.proofs.FromLogs.{recalled-cells, recalled-ways, recalled-traced}
 

@@ -1,25 +1,14 @@
--- What is asked along a path of a version that is held: by what it carries, or by the stores that
--- the log gave of it.
-use Rattle.std.specs.Prelude.{◌≡◌, ℕ, List, Option, Some, None, true}
+-- What is asked along a path of the version of a number that is held: by what is kept of it, or by
+-- the stores that the log gave of it.
+use Rattle.std.specs.Prelude.{ℕ, List}
 use Rattle.sz_spec.specs.declared.modes.Dir.{Dir}
 use Rattle.sz_spec.specs.Paths.{Step}
-use Rattle.sz_store.specs.Kept.{NodeLineage}
 use Rattle.sz_script.specs.declared.command.NamedCell.{NamedCell}
-use Rattle.sz_catalogue.specs.Holdings.{Version}
 use Rattle.sz_catalogue.specs.Rules.{version_of}
 use Rattle.sz_commands.specs.States.{State, logged_of}
-use Rattle.sz_versions.specs.Searches.{Search, IsSearchOf}
-use Rattle.sz_versions.specs.Recalled.{IsRecallOf}
+use Rattle.sz_versions.specs.Searches.{Search}
+use Rattle.sz_versions.specs.Inquiries.{IsInquiryBy}
 
--- The search is that of a path of a version, by the stores that the log gave of it, where it gave
--- some: then the version is awaited.
-abbrev pub IsInquiryBy : Option (List (Option NodeLineage)) → Version → Dir → List Step
-    → List NamedCell → Search → Type 0
-IsInquiryBy None v dir path named s = IsSearchOf v dir path named s
-IsInquiryBy (Some stores) v dir path named s =
-    (v.awaited ≡ true) × IsRecallOf v stores dir path named s
-
--- so it is of the version of a number
 abbrev pub IsInquiryOf : State → ℕ → Dir → List Step → List NamedCell → Search → Type 0
 IsInquiryOf c n dir path named s =
     IsInquiryBy (logged_of c n) (version_of c.held n) dir path named s

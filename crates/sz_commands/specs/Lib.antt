@@ -7,5 +7,6 @@ pub mod Commands
 pub mod Asks
 pub mod Given
 pub mod States
+pub mod Carrying
 pub mod Inquiries
 pub mod Logged

@@ -2,9 +2,10 @@
 --
 -- Beside its catalogue a session of a log has, of each version that the log gave, the stores that
 -- were read of it. Such a version is answered by what these stand for, and any other by the
--- composed relation. Of a log that is sound both are the same.
-use Rattle.std.specs.Prelude.{ℕ, List, [], ◌==◌, Option, Some, None, find}
-use Rattle.std.specs.Prelude.{option_map, Result, Ok, Err}
+-- composed relation. Of a log that is sound both are the same. What stands of what is kept of the
+-- nodes of each version is seen too, so that what says that a session stays says it of that as well
+-- (`Carrying` says what a line does to it).
+use Rattle.std.specs.Prelude.{ℕ, List, [], Option, Some, None, Result, Ok, Err}
 use Rattle.sz_cells.specs.Cells.{Cells}
 use Rattle.sz_spec.specs.declared.modes.Dir.{Dir}
 use Rattle.sz_spec.specs.Paths.{Step}
@@ -20,31 +21,34 @@ use Rattle.sz_catalogue.specs.Changes as changes
 use Rattle.sz_catalogue.specs.Responses.{Response, cells, refused}
 use Rattle.sz_recover.specs.Logs.{Kept}
 use Rattle.sz_versions.specs.Recalled.{cells_recalled}
+use Rattle.sz_versions.specs.Residents.{Stored, logged_under}
 
--- the catalogue; the stores of the versions that the log gave; and, of a session of a log, where
--- the log's first closed gate stands
+-- the catalogue; the stores of the versions that the log gave; of each version, by its number, what
+-- stands of what is kept of its nodes: all but the passes of shelves; and, of a session of a log,
+-- where the log's first closed gate stands
 pub record State : Type 0 where
   pub held : Holdings
   pub logged : List Kept
+  pub stored : List (ℕ × List Stored)
   pub end : Option ℕ
 
 -- what a session of no log holds
 abbrev pub state_of : Holdings → State
-state_of c = record { held = c; logged = []; end = None }
+state_of c = record { held = c; logged = []; stored = []; end = None }
 
 -- what is held where nothing is
 abbrev pub nothing_held : State
 nothing_held = state_of no_holdings
 
--- the same but for where the log ends
+-- the same but for what is kept of nodes, and where the log ends: of neither does a reply speak
 abbrev pub apart : State → State
-apart s = record s { end = None }
+apart s = record s { stored = []; end = None }
 
 -- ---- what is answered
 
 -- the stores that the log gave of a version, by its number
 abbrev pub logged_of : State → ℕ → Option (List (Option NodeLineage))
-logged_of s n = option_map (λ (k : Kept). k.stores) (find (λ (k : Kept). k.number == n) s.logged)
+logged_of s n = logged_under n s.logged
 
 -- the cells of an ask: by the stores that the log gave, and else by the composed relation
 abbrev pub cells_by : Option (List (Option NodeLineage)) → Version → Dir → List Step

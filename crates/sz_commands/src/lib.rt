@@ -12,8 +12,13 @@
 //! let reply = session.command(rt, line, number, &mut station, &gate, &mut tally)?;
 //! ```
 //!
-//! Contracts see a session as a `State`: its catalogue, and beside it the stores that a log gave. A
-//! log that was opened is gone on from by [`Session::of_log`]: it holds what the log holds,
+//! Contracts see a session as a `State`: its catalogue, beside it the stores that a log gave, and
+//! of each version what stands of what is kept of its nodes, be it a shelf, stores that were built,
+//! or stores that were read. `specs/Carrying` says what a line does to these (`StoredBehind`): a
+//! start adds those of its version, the first await of a version leaves none of its nodes on a
+//! shelf, and every other line leaves all.
+//!
+//! A log that was opened is gone on from by [`Session::of_log`]: it holds what the log holds,
 //! computes the values of its versions again, and answers of each by the stores that were read of
 //! it, whatever they stand for (`cells_recalled` of `sz_versions`). Where they stand for the
 //! relation that is the composed relation.
@@ -28,10 +33,11 @@
 //! a text are, and `specs/Transcript` what a session says to all of them. `docs/FORMATS.md`
 //! describes lines and replies.
 //!
-//! To whoever changes this crate: what a version carries is its own (`IsTrailOf` of `sz_versions`):
-//! a call that works on it takes it out of the catalogue and leaves one that stands in, which
-//! belongs to the version too (`take_out`, `put_back`). Before an await the tally of an ask is
-//! known from below and above, and once the version is awaited exactly.
+//! To whoever changes this crate: the catalogue has the versions, and beside it the session has
+//! what is carried of each (`HeldRuns` of `sz_versions`). What is kept true of both is
+//! `IsInService`: each version has what is its own, and there is nothing else. A call that changes
+//! the one changes the other. Before an await the tally of an ask is known from below and above,
+//! and once the version is awaited exactly.
 #![tactic(auto)]
 
 mod asking;

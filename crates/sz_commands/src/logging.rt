@@ -11,13 +11,14 @@ ghost use Rattle.std.specs.Prelude.{IfOk, OnOk};
 ghost use Rattle.sz_script.specs.Reading.{reading};
 ghost use Rattle.sz_script.specs.Right.{is_right};
 ghost use Rattle.sz_script.specs.declared.command.Command.TheVariants as order;
-ghost use Rattle.sz_catalogue.specs.Rules.{judged, version_of, has_no_version};
+ghost use Rattle.sz_catalogue.specs.Rules.{judged, version_of};
 ghost use Rattle.sz_catalogue.specs.Changes as changes;
 ghost use Rattle.sz_catalogue.specs.Seen.{response_of};
 ghost use Rattle.sz_recover.specs.Logs.{is_of_kind};
 ghost use Rattle.sz_commands.specs.States.{apart, accepted, after_command};
 ghost use Rattle.sz_commands.specs.Commands.{traced_for, most_for, traced_along, most_along};
 ghost use Rattle.sz_commands.specs.Given.{Gives, IsRight, Takes, traced_for_given, most_for_given};
+ghost use Rattle.sz_commands.specs.Carrying.{FinishesEntry, StoredBy, StoredAfter, StoredBehind};
 ghost use Rattle.sz_commands.specs.Faults.{CountsTell};
 ghost use Rattle.sz_commands.specs.Logged.{IsLogOf, HasLog, KeepsLog, StopsInLog, held_after};
 ghost use Rattle.sz_commands.specs.Logged.{IsLasting, Appends, IsGroupOf, IsGroupFor, IsLineGroup};
@@ -29,9 +30,9 @@ use std::thread::Threads;
 use sz_catalogue::Reply;
 use sz_log::{LogEnd, append};
 use sz_outside::{Gate, Station};
-use sz_script::{Command, LineFault};
+use sz_script::Command;
 use sz_spec::Tally;
-use sz_versions::{Carry, body_for};
+use sz_versions::body_for;
 
 /// What a command makes durable.
 #[derive(Clone, Copy, Drop)]
@@ -61,6 +62,7 @@ impl Session {
         requires room { tally.old + 32 * 1048576 < 2 ^ 63 }
         requires log { HasLog T.Station self.old.held self.old.end station.old }
         ensures reply { IfOk result (λ r. Takes (apart self.old) given (apart self.new) r) }
+        ensures stored { OnOk result (StoredBehind self.old line.now self.new) }
         ensures least { OnOk result (tally.old + traced_for_given self.old given ≤ tally.new) }
         ensures most { OnOk result (tally.new ≤ tally.old + most_for_given self.old given) }
         ensures log { OnOk result (KeepsLog T.Station self.old.held self.old.end
@@ -82,7 +84,10 @@ impl Session {
         match given {
             Given::Nothing => Ok(None),
             Given::Refused(rule) => Ok(Some(Reply::Refused(rule))),
-            Given::Ask(command) => Ok(Some(self.judge(rt, command, number, gate, tally)?)),
+            Given::Ask(command) => {
+                let reply = self.judge_on(rt, command, line, number, station, gate, tally)?;
+                Ok(Some(reply))
+            }
             Given::Other(command) => {
                 let reply = self.judge_on(rt, command, line, number, station, gate, tally)?;
                 Ok(Some(reply))
@@ -107,6 +112,7 @@ impl Session {
         requires log { HasLog T.Station self.old.held self.old.end station.old }
         ensures reply { IfOk result
             (λ r. after_command (apart self.old) command ≡ (apart self.new, response_of r)) }
+        ensures stored { OnOk result (StoredAfter self.old command self.new) }
         ensures least { OnOk result (tally.old + traced_for self.old command ≤ tally.new) }
         ensures most { OnOk result (tally.new ≤ tally.old + most_for self.old command) }
         ensures log { OnOk result (KeepsLog T.Station self.old.held self.old.end
@@ -127,10 +133,9 @@ impl Session {
             → Appends T.Station (IsGroupFor self.old.held line.now command)
             self.old.end self.new.end station.old station.new) }
     {
-        match self.catalogue.judge(self.alloc, &command) {
-            Ok(()) => self.accept_on(rt, command, line, number, station, gate, tally),
-            Err(LineFault::Refused(refusal)) => Ok(Reply::Refused(refusal)),
-            Err(LineFault::NoMemory) => Err(Stop::NoMemory),
+        match self.ruling(&command)? {
+            None => self.accept_on(rt, command, line, number, station, gate, tally),
+            Some(rule) => Ok(Reply::Refused(rule)),
         }
     }
 
@@ -152,6 +157,7 @@ impl Session {
         requires log { HasLog T.Station self.old.held self.old.end station.old }
         ensures reply { IfOk result
             (λ r. accepted (apart self.old) command ≡ (apart self.new, response_of r)) }
+        ensures stored { OnOk result (StoredBy self.old command self.new) }
         ensures least { OnOk result (tally.old + traced_along self.old command ≤ tally.new) }
         ensures most { OnOk result (tally.new ≤ tally.old + most_along self.old command) }
         ensures log { OnOk result (KeepsLog T.Station self.old.held self.old.end
@@ -196,6 +202,7 @@ impl Session {
         requires log { IsLogOf T.Station self.old.held end.at station.old }
         ensures reply { IfOk result
             (λ r. accepted (apart self.old) command ≡ (apart self.new, response_of r)) }
+        ensures stored { OnOk result (StoredBy self.old command self.new) }
         ensures log { OnOk result (KeepsLog T.Station self.old.held self.old.end
             self.new.held self.new.end station.old station.new) }
         ensures stops { StopsInLog T.Station self.old.held self.old.end
@@ -226,6 +233,8 @@ impl Session {
         requires log { IsLogOf T.Station self.old.held end.at station.old }
         ensures reply { IfOk result (λ r. accepted (apart self.old) (order.Await version)
             ≡ (apart self.new, response_of r)) }
+        ensures stored { OnOk result (FinishesEntry (version_of self.old.held version).awaited
+            version self.old.stored self.new.stored) }
         ensures log { OnOk result (KeepsLog T.Station self.old.held self.old.end
             self.new.held self.new.end station.old station.new) }
         ensures stops { StopsInLog T.Station self.old.held self.old.end
@@ -243,25 +252,14 @@ impl Session {
             self.old.end self.new.end station.old station.new) }
     {
         if self.is_awaited(version) {
-            return Ok(self.await_version(rt, version)?);
+            return Ok(self.await_again(version));
         }
         let run = self.whole_run(rt, version)?;
         self.catalogue.is_in_order();
         let body = body_for(self.alloc, &self.catalogue, version, &run)?;
         let next = append(station, end, 4, &body)?;
         self.end = Some(next);
-        Ok(self.note_await(version, Carry::Run(run)))
-    }
-
-    /// Whether a version that is held was awaited.
-    fn is_awaited(&self, version: u32) -> bool
-        requires { has_no_version self.now.held version ≡ false }
-        ensures { result ≡ (version_of self.now.held version).awaited }
-    {
-        let Some(held) = self.catalogue.version(version) else {
-            unreachable!()
-        };
-        held.awaited
+        Ok(self.note_await(version, run))
     }
 }
 

@@ -1,8 +1,7 @@
 //! A session: what is held, and what a line does to it.
 //!
-//! Contracts see a session as a `State`. Each version that is started here carries the runs of its
-//! nodes and their stores (`VersionRun`), so that no value is computed twice; of each that a log
-//! gave the session has them beside the catalogue (`Recalled`).
+//! Contracts see a session as a `State`. Beside the catalogue it has of each version the runs of
+//! its nodes and what is kept of them (`HeldRuns`), so that no value is computed twice.
 
 ghost use Rattle.std.specs.Prelude.{◌≡◌, ◌+◌, ◌*◌, ◌^◌, ◌<◌, ◌≤◌, true, false, None, Err, map};
 ghost use Rattle.std.specs.Prelude.{IfOk, OnOk, OnErr, length, if◌then◌else◌, Some, is_some};
@@ -13,23 +12,21 @@ ghost use Rattle.sz_script.specs.declared.command.Command.TheVariants as order;
 ghost use Rattle.sz_catalogue.specs.Rules.{judged, version_of, has_no_version, is_not_joined};
 ghost use Rattle.sz_catalogue.specs.Rules.{is_out_of_range};
 ghost use Rattle.sz_catalogue.specs.Changes.{way_of, traced, changes_no_version};
-ghost use Rattle.sz_commands.specs.States.{apart, accepted, after_command, cells_told};
+ghost use Rattle.sz_commands.specs.States.{apart, accepted, cells_told};
 ghost use Rattle.sz_catalogue.specs.Seen.{response_of};
 ghost use Rattle.sz_commands.specs.Commands.{Responds, traced_for_line, traced_for, traced_along};
 ghost use Rattle.sz_commands.specs.Commands.{most_for_line, most_for, most_along};
 ghost use Rattle.sz_versions.specs.Efforts.{most_traced};
 ghost use Rattle.sz_versions.specs.Stores.{IsTrailOf};
-ghost use Rattle.sz_versions.specs.Carries.{IsCarryOf};
 ghost use Rattle.sz_versions.specs.Views.{strategy_told};
-ghost use Rattle.sz_versions.specs.Searches.{IsSearchOf};
 ghost use Rattle.sz_commands.specs.States.{nothing_held};
-ghost use Rattle.sz_commands.specs.States.{logged_of};
+ghost use Rattle.sz_commands.specs.Carrying.{AreGiven, AddsEntry, IsFinishedIn, FinishesEntry};
+ghost use Rattle.sz_commands.specs.Carrying.{StoredBy, StoredBehind};
 ghost use Rattle.sz_commands.specs.Logged.{HasLog, KeepsLog, StopsInLog, held_after, makes_durable};
 ghost use Rattle.sz_commands.specs.Logged.{Appends, IsGroupOf};
 ghost use Rattle.sz_script.specs.Reading.{reading};
 ghost use Rattle.sz_commands.specs.Faults.{CountsTell};
 ghost use Rattle.sz_commands.specs.Inquiries.{IsInquiryOf};
-ghost use Rattle.sz_versions.specs.Recalls.{IsRecalledIn};
 ghost use Rattle.sz_versions.specs.Runs.{executions_of};
 ghost use Rattle.sz_commands.specs.Asks.{is_ask, IsAskLine, IsBegun, ask_reply};
 ghost use Rattle.sz_commands.specs.Asks.{traced_for_asks, most_for_asks};
@@ -54,18 +51,15 @@ use sz_script::{
     BaseList, Command, LineFault, Name, NamedCells, Path, Refusal, StrategyList, laws, read_line,
 };
 use sz_spec::{Dir, Strategy, Tally};
-use sz_versions::{
-    Carry, Hands, Inquiry, Recalled, VersionRun, ended, find, inquiry_along, inquiry_recalled,
-    recall_each, run_version,
-};
+use sz_versions::{Hands, HeldRuns, Inquiry, VersionRun, run_version};
 
-/// A session: what is held, each version with the runs of its nodes and what is kept of them; the
-/// versions that a log gave, and where that log ends; the channel through which tasks go to
-/// workers; and bitmaps for the asks to come.
+/// A session: what is held; the runs of the nodes of each version, with what is kept of them; where
+/// the log ends, where it has one; the channel through which tasks go to workers; and bitmaps for
+/// the asks to come.
 #[derive(Drop)]
 pub struct Session {
-    pub(crate) catalogue: Catalogue<Carry>,
-    recalled: Vec<Recalled>,
+    pub(crate) catalogue: Catalogue,
+    pub(crate) runs: HeldRuns,
     pub(crate) end: Option<LogEnd>,
     pub(crate) alloc: Global,
     hands: Hands,
@@ -75,19 +69,20 @@ pub struct Session {
 }
 
 impl Model for Session {
-    ghost use Rattle.std.specs.Prelude.{map, option_map};
+    ghost use Rattle.std.specs.Prelude.{option_map};
     ghost use Rattle.sz_commands.specs.States.{State};
-    ghost use Rattle.sz_versions.specs.Recalls.{IsInService};
+    ghost use Rattle.sz_versions.specs.Residents.{IsInService, logged_in, stored_in};
 
     ghost Value = { State };
 
     ghost view = { λ s. record {
       held = s.catalogue;
-      logged = map (λ r. r.kept) s.recalled.items;
+      logged = logged_in s.runs;
+      stored = stored_in s.runs;
       end = option_map (λ e. e.at) s.end;
     } };
 
-    ghost invariant = { λ s. IsInService s.catalogue s.recalled.items };
+    ghost invariant = { λ s. IsInService s.catalogue s.runs };
 }
 
 /// Why a command was not done. The session is to be let go then.
@@ -145,7 +140,7 @@ impl Session {
         let (to, tasks) = tasks(alloc)?;
         Ok(Session {
             catalogue: Catalogue::new(alloc),
-            recalled: Vec::new(alloc),
+            runs: HeldRuns::new(alloc),
             end: None,
             alloc,
             hands: Hands::of(to, workers),
@@ -161,17 +156,19 @@ impl Session {
     pub fn of_log<R: Threads + Sync>(
         rt: &R,
         alloc: Global,
-        recovered: Recovered<Carry>,
+        recovered: Recovered,
         workers: u32,
         askers: u32,
     ) -> Result<Session, NoMemory>
         requires workers { (1 ≤ workers) × (workers ≤ 64) }
         requires askers { (1 ≤ askers) × (askers ≤ 64) }
-        ensures { IfOk result (λ s. s ≡ record {
+        ensures state { IfOk result (λ s. s ≡ record {
           held = recovered.catalogue;
           logged = recovered.stores.items;
+          stored = s.stored;
           end = Some recovered.end.at;
         }) }
+        ensures given { IfOk result (λ s. AreGiven s.stored) }
     {
         let Recovered {
             catalogue,
@@ -179,11 +176,11 @@ impl Session {
             stores,
         } = recovered;
         catalogue.is_in_order();
-        let recalled = recall_each(rt, alloc, &catalogue, stores)?;
+        let runs = HeldRuns::recalled(rt, alloc, &catalogue, stores)?;
         let (to, tasks) = tasks(alloc)?;
         Ok(Session {
             catalogue,
-            recalled,
+            runs,
             end: Some(end),
             alloc,
             hands: Hands::of(to, workers),
@@ -231,6 +228,7 @@ impl Session {
         ensures least { OnOk result
             (tally.old + traced_for_line self.old line.now ≤ tally.new) }
         ensures most { OnOk result (tally.new ≤ tally.old + most_for_line self.old line.now) }
+        ensures stored { OnOk result (StoredBehind self.old line.now self.new) }
         ensures kept { result ≡ Err Stop.NoMemory
             → (self.new ≡ self.old) × (station.new ≡ station.old) }
 
@@ -332,9 +330,20 @@ impl Session {
         ensures begun { IfOk result (λ a. IsBegun self.old line.now a) }
         ensures same { self.new ≡ self.old }
     {
-        match self.catalogue.judge(self.alloc, &line.ask) {
-            Ok(()) => self.open(line),
-            Err(LineFault::Refused(rule)) => Ok(Asked::Refused { rule }),
+        match self.ruling(&line.ask)? {
+            None => self.open(line),
+            Some(rule) => Ok(Asked::Refused { rule }),
+        }
+    }
+
+    /// The rule that refuses a command, where one does.
+    pub(crate) fn ruling(&self, command: &Command) -> Result<Option<Refusal>, NoMemory>
+        requires { is_right command.now ≡ true }
+        ensures { IfOk result (λ rule. judged self.now.held command.now ≡ rule) }
+    {
+        match self.catalogue.judge(self.alloc, command) {
+            Ok(()) => Ok(None),
+            Err(LineFault::Refused(rule)) => Ok(Some(rule)),
             Err(LineFault::NoMemory) => Err(NoMemory),
         }
     }
@@ -362,30 +371,6 @@ impl Session {
         })
     }
 
-    /// Judges a command, and takes it where no rule refuses it.
-    pub(crate) fn judge<G: Gate, R: Threads + Wait + Sync>(
-        &mut self,
-        rt: &R,
-        command: Command,
-        number: u64,
-        gate: &G,
-        tally: &mut Tally,
-    ) -> Result<Reply, NoMemory>
-        requires right { is_right command ≡ true }
-        requires room { tally.old + 32 * 1048576 < 2 ^ 63 }
-        ensures reply { IfOk result
-            (λ r. after_command self.old command ≡ (self.new, response_of r)) }
-        ensures least { OnOk result (tally.old + traced_for self.old command ≤ tally.new) }
-        ensures most { OnOk result (tally.new ≤ tally.old + most_for self.old command) }
-        ensures kept { OnErr result (self.new ≡ self.old) }
-    {
-        match self.catalogue.judge(self.alloc, &command) {
-            Ok(()) => self.take(rt, command, number, gate, tally),
-            Err(LineFault::Refused(refusal)) => Ok(Reply::Refused(refusal)),
-            Err(LineFault::NoMemory) => Err(NoMemory),
-        }
-    }
-
     /// Takes a command that no rule refuses.
     pub(crate) fn take<G: Gate, R: Threads + Wait + Sync>(
         &mut self,
@@ -398,7 +383,10 @@ impl Session {
         requires right { is_right command ≡ true }
         requires judged { judged self.old.held command ≡ None }
         requires room { tally.old + 32 * 1048576 < 2 ^ 63 }
-        ensures reply { IfOk result (λ r. accepted self.old command ≡ (self.new, response_of r)) }
+        ensures reply { IfOk result
+            (λ r. accepted (apart self.old) command ≡ (apart self.new, response_of r)) }
+        ensures stored { OnOk result (StoredBy self.old command self.new) }
+        ensures end { OnOk result (self.new.end ≡ self.old.end) }
         ensures least { OnOk result (tally.old + traced_along self.old command ≤ tally.new) }
         ensures most { OnOk result (tally.new ≤ tally.old + most_along self.old command) }
         ensures kept { OnErr result (self.new ≡ self.old) }
@@ -468,8 +456,11 @@ impl Session {
     ) -> Result<Reply, NoMemory>
         requires right { is_right (order.Start name base) ≡ true }
         requires judged { judged self.old.held (order.Start name base) ≡ None }
-        ensures reply { IfOk result
-            (λ r. accepted self.old (order.Start name base) ≡ (self.new, response_of r)) }
+        ensures reply { IfOk result (λ r. accepted (apart self.old) (order.Start name base)
+            ≡ (apart self.new, response_of r)) }
+        ensures stored { OnOk result
+            (AddsEntry self.old.held self.old.stored self.new.stored) }
+        ensures end { OnOk result (self.new.end ≡ self.old.end) }
         ensures kept { OnErr result (self.new ≡ self.old) }
     {
         let run = run_version(
@@ -480,79 +471,84 @@ impl Session {
             name.as_str(),
             base.as_slice(),
         )?;
-        let reply = self
-            .catalogue
-            .start(name, base.as_slice(), Carry::Run(run))?;
-        Ok(reply)
+        let number = self.catalogue.next_number() as u32;
+        self.runs.add(number, run)?;
+        match self.catalogue.start(name, base.as_slice()) {
+            Ok(reply) => Ok(reply),
+            Err(fault) => {
+                self.runs.take_back();
+                Err(fault)
+            }
+        }
     }
 
     /// Awaits a version: makes what is missing of its stores, takes them off their shelves, and
-    /// notes the await. One that a log gave was awaited before, and has its stores.
+    /// notes the await. One that was awaited before stays as it is.
     pub(crate) fn await_version<R: Wait>(&mut self, rt: &R, version: u32) -> Result<Reply, NoMemory>
         requires judged { judged self.old.held (order.Await version) ≡ None }
-        ensures reply { IfOk result
-            (λ r. accepted self.old (order.Await version) ≡ (self.new, response_of r)) }
+        ensures reply { IfOk result (λ r. accepted (apart self.old) (order.Await version)
+            ≡ (apart self.new, response_of r)) }
+        ensures stored { OnOk result (FinishesEntry (version_of self.old.held version).awaited
+            version self.old.stored self.new.stored) }
+        ensures end { OnOk result (self.new.end ≡ self.old.end) }
         ensures kept { OnErr result (self.new ≡ self.old) }
     {
-        if find(&self.recalled, version).is_some() {
-            return Ok(self.note_await(version, Carry::Logged));
+        if self.is_awaited(version) {
+            return Ok(self.await_again(version));
         }
         let run = self.whole_run(rt, version)?;
-        Ok(self.note_await(version, Carry::Run(run)))
+        Ok(self.note_await(version, run))
     }
 
-    /// What a version carries once it is awaited: what is missing of its stores is made, and they
-    /// are taken off their shelves. One that stands in for it is held meanwhile.
+    /// Whether a version that is held was awaited.
+    pub(crate) fn is_awaited(&self, version: u32) -> bool
+        requires { has_no_version self.now.held version ≡ false }
+        ensures { result ≡ (version_of self.now.held version).awaited }
+    {
+        let Some(held) = self.catalogue.version(version) else {
+            unreachable!()
+        };
+        held.awaited
+    }
+
+    /// Awaits a version that was awaited before: nothing changes.
+    pub(crate) fn await_again(&mut self, version: u32) -> Reply
+        requires judged { judged self.old.held (order.Await version) ≡ None }
+        requires awaited { (version_of self.old.held version).awaited ≡ true }
+        ensures { accepted self.old (order.Await version) ≡ (self.new, response_of result) }
+    {
+        self.catalogue.await_version(version)
+    }
+
+    /// What is carried of a version once it is awaited: what is missing of its stores is made, and
+    /// they are taken off their shelves. What is kept of it stays meanwhile.
     pub(crate) fn whole_run<R: Wait>(
         &mut self,
         rt: &R,
         version: u32,
     ) -> Result<VersionRun, NoMemory>
-        requires { has_no_version self.old.held version ≡ false }
+        requires held { has_no_version self.old.held version ≡ false }
+        requires first { (version_of self.old.held version).awaited ≡ false }
         ensures whole { IfOk result (λ run.
             IsTrailOf (record (version_of self.old.held version) { awaited = true }) run) }
         ensures same { self.new ≡ self.old }
     {
-        let run = self.take_out(version)?;
-        let Some(held) = self.catalogue.version(version) else {
-            unreachable!()
-        };
-        ended(self.alloc, rt, run, held.lists.as_slice())
+        self.runs.whole(self.alloc, rt, &self.catalogue, version)
     }
 
-    /// Notes that a version was awaited, with what the catalogue has of it from then on.
-    pub(crate) fn note_await(&mut self, version: u32, carry: Carry) -> Reply
+    /// Notes that a version was awaited, with what is carried of it from then on.
+    pub(crate) fn note_await(&mut self, version: u32, run: VersionRun) -> Reply
         requires judged { judged self.old.held (order.Await version) ≡ None }
-        requires own { IsCarryOf (record (version_of self.old.held version) { awaited = true })
-            carry }
-        ensures { accepted self.old (order.Await version) ≡ (self.new, response_of result) }
+        requires first { (version_of self.old.held version).awaited ≡ false }
+        requires own { IsTrailOf (record (version_of self.old.held version) { awaited = true })
+            run }
+        ensures reply { accepted (apart self.old) (order.Await version)
+            ≡ (apart self.new, response_of result) }
+        ensures stored { AllZip (IsFinishedIn version) self.old.stored self.new.stored }
+        ensures end { self.new.end ≡ self.old.end }
     {
-        self.catalogue.await_version(version, carry)
-    }
-
-    /// What a version carries, to be worked on. One that stands in for it is held meanwhile.
-    fn take_out(&mut self, version: u32) -> Result<VersionRun, NoMemory>
-        requires { has_no_version self.old.held version ≡ false }
-        ensures own { IfOk result (λ run. IsTrailOf (version_of self.old.held version) run) }
-        ensures same { self.new ≡ self.old }
-    {
-        let Some(held) = self.catalogue.version(version) else {
-            unreachable!()
-        };
-        let other = held.kept().stand_in(self.alloc)?;
-        match self.catalogue.exchange(version, other) {
-            Carry::Run(run) => Ok(run),
-            Carry::Logged => Err(NoMemory), // each that a log gave is among the recalled ones
-        }
-    }
-
-    /// Puts back what a version carries.
-    fn put_back(&mut self, version: u32, run: VersionRun)
-        requires held { has_no_version self.old.held version ≡ false }
-        requires own { IsTrailOf (version_of self.old.held version) run }
-        ensures { self.new ≡ self.old }
-    {
-        self.catalogue.exchange(version, Carry::Run(run));
+        self.runs.replace(version, run);
+        self.catalogue.await_version(version)
     }
 
     /// What is found along a path of a version, for an ask or explain that no rule refuses.
@@ -602,66 +598,8 @@ impl Session {
             (λ s. IsInquiryOf self.old version dir path.now named.now s) }
         ensures same { self.new ≡ self.old }
     {
-        if let Some(recalled) = find(&self.recalled, version) {
-            return self.inquiry_logged(recalled, version, dir, path, named);
-        }
-        let mut run = self.take_out(version)?;
-        let inquiry = self.inquiry_by(version, &mut run, dir, path, named);
-        self.put_back(version, run);
-        inquiry
-    }
-
-    /// What is asked along a path of a version that a log gave.
-    fn inquiry_logged(
-        &self,
-        recalled: &Recalled,
-        version: u32,
-        dir: Dir,
-        path: &Path,
-        named: &NamedCells,
-    ) -> Result<Inquiry, NoMemory>
-        requires number { recalled.now.kept.number ≡ version }
-        requires own { IsRecalledIn self.now.held recalled.now }
-        requires stores { logged_of self.now version ≡ Some recalled.now.kept.stores }
-        requires joined { is_not_joined self.now.held version dir path.now ≡ false }
-        requires range { is_out_of_range self.now.held version dir path.now named.now ≡ false }
-        ensures { IfOk result (λ s. IsInquiryOf self.now version dir path.now named.now s) }
-    {
-        let Some(held) = self.catalogue.version(version) else {
-            unreachable!()
-        };
-        inquiry_recalled(
-            self.alloc,
-            held,
-            recalled.runs(),
-            recalled.stores(),
-            dir,
-            path,
-            named,
-        )
-    }
-
-    /// What is asked along a path of a version, by what it carries.
-    fn inquiry_by(
-        &self,
-        version: u32,
-        run: &mut VersionRun,
-        dir: Dir,
-        path: &Path,
-        named: &NamedCells,
-    ) -> Result<Inquiry, NoMemory>
-        requires version { has_no_version self.now.held version ≡ false }
-        requires own { IsTrailOf (version_of self.now.held version) run.old }
-        requires joined { is_not_joined self.now.held version dir path.now ≡ false }
-        requires range { is_out_of_range self.now.held version dir path.now named.now ≡ false }
-        ensures search { IfOk result
-            (λ s. IsSearchOf (version_of self.now.held version) dir path.now named.now s) }
-        ensures own { IsTrailOf (version_of self.now.held version) run.new }
-    {
-        let Some(held) = self.catalogue.version(version) else {
-            unreachable!()
-        };
-        inquiry_along(self.alloc, held, run, dir, path, named)
+        self.runs
+            .inquiry(self.alloc, &self.catalogue, version, dir, path, named)
     }
 
     /// By which way each step of a path is answered, and how many cells are traced.
@@ -697,21 +635,14 @@ impl Session {
     }
 
     /// The runs of the nodes of a version.
-    fn runs_of(&self, version: u32) -> Result<&[NodeRun], NoMemory>
+    fn runs_of(&self, version: u32) -> &[NodeRun]
         requires { has_no_version self.now.held version ≡ false }
-        ensures { IfOk result (λ runs. map execution_of runs.now
-            ≡ executions_of (version_of self.now.held version)) }
+        ensures { map execution_of result.now ≡ executions_of (version_of self.now.held version) }
     {
-        if let Some(recalled) = find(&self.recalled, version) {
-            return Ok(recalled.runs());
-        }
-        let Some(held) = self.catalogue.version(version) else {
+        let Some(runs) = self.runs.runs(version) else {
             unreachable!()
         };
-        match held.kept() {
-            Carry::Run(run) => Ok(run.runs()),
-            Carry::Logged => Err(NoMemory), // each that a log gave is among the recalled ones
-        }
+        runs
     }
 
     /// The output of a node of a version, for a show that no rule refuses.
@@ -720,7 +651,7 @@ impl Session {
         ensures { IfOk result
             (λ r. accepted self.now (order.Show version node) ≡ (self.now, response_of r)) }
     {
-        let runs = self.runs_of(version)?;
+        let runs = self.runs_of(version);
         let run = &runs[node as usize];
         Ok(Reply::Values {
             array: Arc::try_clone(&run.out)?,

@@ -4,7 +4,7 @@
 -- relation. Such a version is held and awaited, and no command changes one that is; so it stays so line by line, and
 -- each command does what it does to the catalogue.
 use Rattle.std.proofs.Common.{◌≡◌, ℕ, ◌+◌, List, [], ◌∷◌, ◌++◌, Bool, true, false, not, refl, sym, ap, ◌∙◌, subst}
-use Rattle.std.proofs.Common.{inl, inr, Option, Some, None, is_none, is_some, unwrap_or, cond, eqb-true}
+use Rattle.std.proofs.Common.{inl, inr, Option, Some, None, is_none, is_some, unwrap_or, cond, eqb-true, true≢false}
 use Rattle.std.specs.Prelude.{All, Result, Ok, Err, ◌&&◌, ◌==◌, if◌then◌else◌, find, option_map, ⊤}
 use Rattle.std.specs.Result.{result_err}
 use Rattle.std.specs.Ordering.{nat_cmp}
@@ -26,12 +26,13 @@ use Rattle.sz_script.specs.declared.command.Command.TheVariants as order
 use Rattle.sz_script.specs.declared.refusal.Refusal.{Refusal}
 use Rattle.sz_script.specs.declared.refusal.Refusal.TheVariants as refusal
 use Rattle.sz_catalogue.specs.Holdings.{Version, Holdings, no_holdings, no_version, shapes_of}
+use Rattle.sz_catalogue.specs.Holdings.{next_number, version_numbered}
 use Rattle.sz_catalogue.specs.Kept.{IsWorkflow}
 use Rattle.sz_catalogue.specs.Starts.{workflow_of, bases_of, version_started}
 use Rattle.sz_catalogue.specs.Rules as rules
 use Rattle.sz_catalogue.specs.Rules.{judged, version_of, has_no_version}
 use Rattle.sz_catalogue.specs.Changes as changes
-use Rattle.sz_catalogue.specs.Changes.{changes_no_version, with_version}
+use Rattle.sz_catalogue.specs.Changes.{changes_no_version, with_version, with_await}
 use Rattle.sz_catalogue.specs.Responses.{Response, cells, reply_line}
 use Rattle.sz_catalogue.proofs.Bases.{bases-length}
 use Rattle.sz_recover.specs.Bodies.{VersionBody}
@@ -51,7 +52,7 @@ use Rattle.sz_versions.specs.Runs.{executions_of, IsSoundVersion, AreSound}
 use Rattle.sz_feed.specs.Laws.{SoundLogsArePlain}
 use Rattle.sz_versions.proofs.Keeps.{rule-fails, not_false, flow-sound, version-sound, keeps-accepted}
 use Rattle.sz_versions.proofs.FromLogs.{recalled-sound}
-use Rattle.sz_versions.proofs.Stays.{AwaitedStay, accepted-stay, started-stay, awaited-stay}
+use Rattle.sz_versions.proofs.Stays.{awaited-stay, await-other, insert-other, started-new}
 
 -- ---- tests and lists
 
@@ -180,6 +181,11 @@ log-answers disk at c kept made sound =
         };
       }
 
+-- each version that is held and awaited is held as it was
+abbrev AwaitedStay : Holdings → Holdings → Type 0
+AwaitedStay c d = (n : ℕ) → has_no_version c n ≡ false → (version_of c n).awaited ≡ true
+    → version_numbered d n ≡ version_numbered c n
+
 -- it stays one where versions that are awaited stay
 answering-stays : (c d : Holdings) → AwaitedStay c d → (k : Kept) → IsAnswering c k → IsAnswering d k
 answering-stays c d stay k h =
@@ -192,16 +198,30 @@ answering-stays c d stay k h =
       own = subst (λ (v : Version). IsAnswered v k.stores) (sym version) h.own;
     }
 
+-- a version that is started has a number of its own
+start-stays : (c : Holdings) (v : Version) → AwaitedStay c (with_version c (next_number c) v)
+start-stays c v n held awaited = insert-other c.versions (next_number c) n v (λ is. true≢false
+    (sym (started-new c) ∙ ap (has_no_version c) (sym is) ∙ held))
+
+-- an await changes none that is awaited
+await-stays : (c : Holdings) (m : ℕ) → AwaitedStay c (with_await c m)
+await-stays c m n held awaited = by (n == m) refl where
+  by : (b : Bool) → (n == m) ≡ b → version_numbered (with_await c m) n ≡ version_numbered c n
+  by true is =
+      subst (λ (k : ℕ). version_numbered (with_await c k) n ≡ version_numbered c n) (eqb-true n m is)
+      (awaited-stay c n held awaited n)
+  by false is = await-other c m n is
+
 -- and each command leaves them
 command-stays : (c : Holdings) (command : Command) → AwaitedStay c (changes.accepted c command).0
-command-stays c (order.Array name array) = accepted-stay c (order.Array name array) refl
-command-stays c (order.Csv name array) = accepted-stay c (order.Csv name array) refl
-command-stays c (order.Layers name array) = accepted-stay c (order.Layers name array) refl
-command-stays c (order.Flow name flow) = accepted-stay c (order.Flow name flow) refl
-command-stays c (order.Strategy name node list) = accepted-stay c (order.Strategy name node list) refl
-command-stays c (order.Start name base) = started-stay c (version_started c name base)
+command-stays c (order.Array name array) = λ m held awaited. refl
+command-stays c (order.Csv name array) = λ m held awaited. refl
+command-stays c (order.Layers name array) = λ m held awaited. refl
+command-stays c (order.Flow name flow) = λ m held awaited. refl
+command-stays c (order.Strategy name node list) = λ m held awaited. refl
+command-stays c (order.Start name base) = start-stays c (version_started c name base)
 command-stays c (order.Plan name base units back forward) = λ m held awaited. refl
-command-stays c (order.Await n) = awaited-stay c n
+command-stays c (order.Await n) = await-stays c n
 command-stays c (order.Ask n dir path named) = λ m held awaited. refl
 command-stays c (order.Explain n dir path named) = λ m held awaited. refl
 command-stays c (order.Show n node) = λ m held awaited. refl

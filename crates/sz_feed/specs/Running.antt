@@ -3,7 +3,7 @@
 -- Of each line the log is written before its reply is said. So a stop finds the replies of so many
 -- lines said whole, and a part of the next one's; and the log holds what is durable behind those
 -- lines, or behind the next one too. It does so where some of that line's reply is said.
-use Rattle.std.specs.Prelude.{◌≡◌, ◌⊎◌, ℕ, ◌+◌, ◌≤◌, List, length, take, drop}
+use Rattle.std.specs.Prelude.{◌≡◌, ◌⊎◌, ℕ, ◌+◌, ◌≤◌, List, [], length, take, drop}
 use Rattle.std.specs.Prelude.{Option, Some, None, ⊤}
 use Rattle.sz_outside.specs.Outside.{Says}
 use Rattle.sz_outside.specs.declared.stations.Station.{Ghosts}
@@ -118,4 +118,4 @@ StandsBehind T s end left old new = IfSome left (λ bytes. IfSome end (λ at.
 -- what is held as a log is gone on from: the catalogue that its groups make, and the stores that
 -- they give
 abbrev pub state_of_log : Holdings → List Kept → State
-state_of_log c kept = record { held = c; logged = kept; end = None }
+state_of_log c kept = record { held = c; logged = kept; stored = []; end = None }

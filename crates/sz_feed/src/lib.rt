@@ -18,9 +18,10 @@
 //! says what was said of a source by then (`Answered`, `Done`, a first part, the first so many
 //! lines); `specs/Disks` that the disk is as before, or what the making of a log leaves of it;
 //! `specs/Running` what a stop finds of lines beside their log; and `specs/Calls` what a call does
-//! to its station: what was said, what the counts of faults tell of how it ended (`CountsTell`), and
-//! what a stop finds, of a session of no log as of one whose log stays (`IsAnswered`). `specs/Laws`
-//! has what a reader may take for granted of lines and transcripts, proved in `sz_session`'s `laws`.
+//! to its station: what was said, what the counts of faults tell of how it ended (`CountsTell`),
+//! and what a stop finds, of a session of no log as of one whose log stays (`IsAnswered`).
+//! `specs/Laws` has what a reader may take for granted of lines and transcripts, proved in
+//! `sz_session`'s `laws`.
 //!
 //! To whoever changes this crate: a feed is at each turn *like* the moment of what was read
 //! (`AreAlike`), since it keeps less of a line past the limit. All that this rests on of a line's

@@ -31,7 +31,7 @@ use crate::opening::Recovered;
 use std::alloc::Global;
 use std::sync::Arc;
 use std::thread::Threads;
-use sz_catalogue::{BaseArray, Carried, Catalogue, HeldVersion};
+use sz_catalogue::{BaseArray, Catalogue, HeldVersion};
 use sz_cells::{CellBits, NoMemory, Shape};
 use sz_flow::{NodeRun, run_all};
 use sz_ops::{Aid, piece, prepare_lineage};
@@ -55,10 +55,10 @@ pub struct WrongStore {
 /// Runs each version again, and makes each store again: takes time and memory as both take, and for
 /// each cell of each array, the output's or the inputs' as the store is asked from, that of two
 /// images of one cell. It keeps one version and one store at a time, and waits for nobody.
-pub fn unsound<K: Carried, R: Threads + Sync>(
+pub fn unsound<R: Threads + Sync>(
     rt: &R,
     alloc: Global,
-    r: &Recovered<K>,
+    r: &Recovered,
 ) -> Result<Option<WrongStore>, NoMemory>
     ensures { IfOk result (λ w. TellsOfAll r.now.catalogue r.now.stores.items w) }
 {
@@ -71,10 +71,10 @@ pub fn unsound<K: Carried, R: Threads + Sync>(
 }
 
 /// The first wrong store of an entry.
-fn wrong_of_entry<K: Carried, R: Threads + Sync>(
+fn wrong_of_entry<R: Threads + Sync>(
     rt: &R,
     alloc: Global,
-    catalogue: &Catalogue<K>,
+    catalogue: &Catalogue,
     kept: &KeptVersion,
 ) -> Result<Option<WrongStore>, NoMemory>
     requires entry { IsEntryOf catalogue.now kept.now }
@@ -95,10 +95,10 @@ fn wrong_of_entry<K: Carried, R: Threads + Sync>(
 }
 
 /// The first node of a version that has a wrong store, and that store's strategy.
-fn wrong_of_version<K: Carried, R: Threads + Sync>(
+fn wrong_of_version<R: Threads + Sync>(
     rt: &R,
     alloc: Global,
-    version: &HeldVersion<K>,
+    version: &HeldVersion,
     nodes: &[Option<Arc<NodeStore>>],
 ) -> Result<Option<(u32, Strategy)>, NoMemory>
     requires run { (outputs : List Extent) × IsRun version.now outputs }
@@ -114,10 +114,10 @@ fn wrong_of_version<K: Carried, R: Threads + Sync>(
 }
 
 /// The runs of a version's nodes.
-fn run_again<K: Carried, R: Threads + Sync>(
+fn run_again<R: Threads + Sync>(
     rt: &R,
     alloc: Global,
-    version: &HeldVersion<K>,
+    version: &HeldVersion,
 ) -> Result<Vec<NodeRun>, NoMemory>
     requires run { (outputs : List Extent) × IsRun version.now outputs }
     ensures { IfOk result (λ v. map execution_of v.items ≡ executions_of version.now) }

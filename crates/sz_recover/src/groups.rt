@@ -10,24 +10,10 @@ use crate::reading::{TakeFault, take_version_body};
 use std::alloc::Global;
 use std::marker::Model;
 use std::sync::Arc;
-use sz_catalogue::{Carried, Catalogue, HeldVersion};
+use sz_catalogue::{Catalogue, HeldVersion};
 use sz_script::laws::commands_are_right;
 use sz_script::{Command, LineFault, read_line};
 use sz_store::NodeStore;
-
-/// What can be kept with a version before anything is made of it.
-pub trait Blank: Carried {
-    ghost use Rattle.std.specs.Prelude.{◌≡◌, true};
-    ghost use Rattle.sz_catalogue.specs.Holdings.{Version};
-
-    /// What belongs to any version that was awaited.
-    fn blank() -> Self
-        ensures { (v : Version) → v.awaited ≡ true → Self.belongs result v };
-}
-
-impl Blank for () {
-    fn blank() {}
-}
 
 /// A version that a log has, with its stores: for each node those of its list, where that has a
 /// strategy that keeps one.
@@ -51,9 +37,9 @@ const VERSION_KIND: u8 = 4;
 
 /// Takes a group of a kind with a body over what is held, and keeps the stores of a version. `Bad`
 /// exactly where the group is bad there.
-pub(crate) fn act<K: Blank>(
+pub(crate) fn act(
     alloc: Global,
-    catalogue: &mut Catalogue<K>,
+    catalogue: &mut Catalogue,
     kept: &mut Vec<KeptVersion>,
     kind: u8,
     body: &[u8],
@@ -71,9 +57,9 @@ pub(crate) fn act<K: Blank>(
 }
 
 /// Takes the line of a group of a kind.
-fn act_as_line<K: Blank>(
+fn act_as_line(
     alloc: Global,
-    catalogue: &mut Catalogue<K>,
+    catalogue: &mut Catalogue,
     kind: u8,
     body: &[u8],
 ) -> Result<(), TakeFault>
@@ -120,9 +106,9 @@ fn is_of_kind(kind: u8, command: &Command) -> bool
 }
 
 /// Adds the version of a body, and keeps its stores.
-fn act_as_version<K: Blank>(
+fn act_as_version(
     alloc: Global,
-    catalogue: &mut Catalogue<K>,
+    catalogue: &mut Catalogue,
     kept: &mut Vec<KeptVersion>,
     body: &[u8],
 ) -> Result<(), TakeFault>
@@ -138,7 +124,6 @@ fn act_as_version<K: Blank>(
         base: taken.base,
         lists: taken.lists,
         awaited: true,
-        kept: K::blank(),
     };
     catalogue.add_version(taken.number, version)?;
     kept.push(KeptVersion {

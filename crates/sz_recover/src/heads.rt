@@ -18,7 +18,7 @@ use crate::reading::TakeFault;
 use std::alloc::Global;
 use std::marker::Model;
 use std::sync::Arc;
-use sz_catalogue::{BaseArray, Carried, Catalogue};
+use sz_catalogue::{BaseArray, Catalogue};
 use sz_script::Name;
 use sz_spec::Flow;
 
@@ -49,9 +49,9 @@ impl Model for Head {
 }
 
 /// What stands before the nodes of a body, and the place behind it.
-pub(crate) fn take_head<K: Carried>(
+pub(crate) fn take_head(
     alloc: Global,
-    catalogue: &Catalogue<K>,
+    catalogue: &Catalogue,
     body: &[u8],
 ) -> Result<(Head, u64), TakeFault>
     ensures held { IfOk result (λ r. IsBegun catalogue.now r.0) }
@@ -78,7 +78,7 @@ pub(crate) fn take_head<K: Carried>(
 }
 
 /// The number in front, where it is at least 1 and not held.
-fn take_new_number<K: Carried>(catalogue: &Catalogue<K>, body: &[u8]) -> Option<u32>
+fn take_new_number(catalogue: &Catalogue, body: &[u8]) -> Option<u32>
     ensures new { IfSome result (λ n. IsNewNumber catalogue.now n) }
     ensures bytes { IfSome result (λ n. IsAt body.now 0 4 (four_bytes n)) }
     ensures none { IfNone result (NoneAt (IsNewNumber catalogue.now) four_bytes body.now 0) }
@@ -91,9 +91,9 @@ fn take_new_number<K: Carried>(catalogue: &Catalogue<K>, body: &[u8]) -> Option<
 }
 
 /// The name that stands at a place, the flow that is held under it, and the place behind it.
-fn take_flow<K: Carried>(
+fn take_flow(
     alloc: Global,
-    catalogue: &Catalogue<K>,
+    catalogue: &Catalogue,
     bytes: &[u8],
     at: u64,
 ) -> Result<(Name, Arc<Flow>, u64), TakeFault>
@@ -112,9 +112,9 @@ fn take_flow<K: Carried>(
 
 /// The base arrays that stand with their number before them at a place, each as it is held, and
 /// the place behind them.
-fn take_bases<K: Carried>(
+fn take_bases(
     alloc: Global,
-    catalogue: &Catalogue<K>,
+    catalogue: &Catalogue,
     bytes: &[u8],
     at: u64,
 ) -> Result<(Vec<BaseArray>, u64), TakeFault>
@@ -139,9 +139,9 @@ fn take_bases<K: Carried>(
 }
 
 /// The base array that stands at a place, as it is held, and the place behind it.
-fn take_base<K: Carried>(
+fn take_base(
     alloc: Global,
-    catalogue: &Catalogue<K>,
+    catalogue: &Catalogue,
     bytes: &[u8],
     at: u64,
 ) -> Result<(BaseArray, u64), TakeFault>

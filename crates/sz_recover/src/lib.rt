@@ -13,7 +13,7 @@
 //! let body = version_body(alloc, &catalogue, version, &stores)?;
 //! // over a catalogue that holds its flow and its base arrays, and no version of its number
 //! let taken = take_version_body(alloc, &other, &body)?;   // taken.number == version
-//! let opened: Recovered<()> = catalogue_of(alloc, &mut station)?;
+//! let opened: Recovered = catalogue_of(alloc, &mut station)?;
 //! let wrong = unsound(rt, alloc, &opened)?;   // None: each store is sound
 //! ```
 //!
@@ -54,7 +54,7 @@ mod reading;
 mod writing;
 
 pub use checking::{WrongStore, unsound};
-pub use groups::{Blank, KeptVersion};
+pub use groups::KeptVersion;
 pub use opening::{RecoverFault, Recovered, catalogue_of};
 pub use reading::{TakeFault, TakenVersion, take_version_body};
 pub use writing::version_body;

@@ -9,10 +9,10 @@ ghost use Rattle.sz_recover.specs.Logs.{IsPlain, has_read};
 ghost use Rattle.sz_recover.specs.Opened.{AreOfVersions};
 ghost use Rattle.sz_recover.specs.Props.{entries-prop};
 
-use crate::groups::{Blank, KeptVersion, act};
+use crate::groups::{KeptVersion, act};
 use crate::reading::TakeFault;
 use std::alloc::{AllocError, AllocFailed, Global};
-use sz_catalogue::{Carried, Catalogue};
+use sz_catalogue::Catalogue;
 use sz_log::{Group, LogEnd, group_at, is_log};
 use sz_outside::{Failed, Station};
 
@@ -20,8 +20,8 @@ use sz_outside::{Failed, Station};
 /// the stores of its versions, in the order of the log: those of each version that is held, which
 /// was awaited, and no others.
 #[derive(Drop)]
-pub struct Recovered<K: Carried> {
-    pub catalogue: Catalogue<K>,
+pub struct Recovered {
+    pub catalogue: Catalogue,
     pub end: LogEnd,
     pub stores: Vec<KeptVersion>,
     ghost entries: { AreOfVersions catalogue stores.items } by { entries-prop catalogue stores.items },
@@ -78,10 +78,7 @@ impl<T: Drop> From<AllocFailed<T>> for RecoverFault {
 ///
 /// Takes time in the bytes of the log, and for each group time in the logarithm of what is held;
 /// and memory in what is held, in the stores, and in the longest group.
-pub fn catalogue_of<T: Station, K: Blank>(
-    alloc: Global,
-    station: &mut T,
-) -> Result<Recovered<K>, RecoverFault>
+pub fn catalogue_of<T: Station>(alloc: Global, station: &mut T) -> Result<Recovered, RecoverFault>
     ensures made { IfOk result
         (λ r. IsMade (T.disk station.old) r.end.at r.catalogue r.stores.items) }
     ensures why { IfErr result (λ e. SaysWhy (T.disk station.old) e) }
@@ -109,10 +106,10 @@ pub fn catalogue_of<T: Station, K: Blank>(
 
 /// Takes the groups of a log, from nothing on, and gives the place of the first closed gate.
 #[tactic(auto, using(crate::proofs::Entries::nothing_kept))]
-fn act_each<T: Station, K: Blank>(
+fn act_each<T: Station>(
     alloc: Global,
     station: &mut T,
-    catalogue: &mut Catalogue<K>,
+    catalogue: &mut Catalogue,
     kept: &mut Vec<KeptVersion>,
 ) -> Result<u64, RecoverFault>
     requires nothing { catalogue.old ≡ no_holdings }
@@ -143,10 +140,10 @@ fn act_each<T: Station, K: Blank>(
 
 /// Takes the group that stands at a place, and gives the place of the next gate; nothing at a
 /// closed gate.
-fn take_next<T: Station, K: Blank>(
+fn take_next<T: Station>(
     alloc: Global,
     station: &mut T,
-    catalogue: &mut Catalogue<K>,
+    catalogue: &mut Catalogue,
     kept: &mut Vec<KeptVersion>,
     at: u64,
 ) -> Result<Option<u64>, RecoverFault>

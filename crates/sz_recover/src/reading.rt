@@ -13,7 +13,7 @@ use crate::nodes::take_nodes;
 use std::alloc::{AllocError, AllocFailed, Global};
 use std::marker::Model;
 use std::sync::Arc;
-use sz_catalogue::{BaseArray, BaseArrays, Carried, Catalogue, StrategyLists};
+use sz_catalogue::{BaseArray, BaseArrays, Catalogue, StrategyLists};
 use sz_cells::{NoMemory, Shape};
 use sz_script::Name;
 use sz_spec::{Flow, output_shapes};
@@ -100,9 +100,9 @@ impl From<NoMemory> for TakeFault {
 ///
 /// Takes time and memory in the number of bytes, of which each is read once, and in the flow, and
 /// for each name time in the logarithm of what is held.
-pub fn take_version_body<K: Carried>(
+pub fn take_version_body(
     alloc: Global,
-    catalogue: &Catalogue<K>,
+    catalogue: &Catalogue,
     body: &[u8],
 ) -> Result<TakenVersion, TakeFault>
     ensures lawful { IfOk result (λ t.
@@ -132,9 +132,9 @@ pub fn take_version_body<K: Carried>(
 
 /// The shapes of the base arrays, and of the outputs that the flow makes of them. `Bad` where they
 /// do not fit, or there is no room for the outputs.
-fn fit_shapes<K: Carried>(
+fn fit_shapes(
     alloc: Global,
-    catalogue: &Catalogue<K>,
+    catalogue: &Catalogue,
     head: &Head,
 ) -> Result<(Vec<Shape>, Vec<Shape>), TakeFault>
     ensures base { IfOk result (λ r. r.0.items ≡ shapes_of head.now.base) }

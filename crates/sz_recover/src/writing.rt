@@ -15,7 +15,7 @@ ghost use Rattle.sz_recover.specs.Fitting.{part_of, parts_of, named_base, body_o
 
 use std::alloc::Global;
 use std::sync::Arc;
-use sz_catalogue::{BaseArray, Carried, Catalogue};
+use sz_catalogue::{BaseArray, Catalogue};
 use sz_cells::NoMemory;
 use sz_script::{Name, StrategyList};
 use sz_spec::Strategy;
@@ -27,9 +27,9 @@ use sz_store::NodeStore;
 /// Takes time and memory in the stores. `NoMemory` also where a name has more than 255 bytes, a
 /// list more than 255 strategies, or there are 2^32 base arrays or nodes: none of these is so of a
 /// version that a line started.
-pub fn version_body<K: Carried>(
+pub fn version_body(
     alloc: Global,
-    catalogue: &Catalogue<K>,
+    catalogue: &Catalogue,
     version: u32,
     stores: &[Option<Arc<NodeStore>>],
 ) -> Result<Vec<u8>, NoMemory>

@@ -27,8 +27,8 @@ abbrev pub FindsOf : {X : Type 0} → Ghosts X → Option ℕ → Opening → Ty
 FindsOf T None o Claim old new = StaysFinding T (FoundInPart o.held o.left o.said) old new
 FindsOf T (Some at) o Claim old new = Claim
 
--- Where the source tells its bytes, one of the lines that end in those from a place on is written to
--- a log.
+-- Where the source tells its bytes, one of the lines that end in those from a place on is written
+-- to a log.
 abbrev pub WritesRest : Moment → Option (List ℕ) → ℕ → Type 0
 WritesRest m left total =
     IfSome left (λ bytes. WritesOne m.held (cut_after m (drop total bytes)).whole)
@@ -61,8 +61,8 @@ pub record EndsTurn {X : Type 0} (T : Ghosts X) (s : Status) (limit : ℕ) (o : 
   pub found : FindsOf T before.end o (FindsRest T before o.left total old new) old new
 
 -- A session that opened so, beside a log that ended at a place or none, ended with a status. Where
--- it is done, the log is one of all its lines; and no disk fails where there is no log, nor where no
--- line is written to it.
+-- it is done, the log is one of all its lines; and no disk fails where there is no log, nor where
+-- no line is written to it.
 pub record EndsSession {X : Type 0} (T : Ghosts X) (s : Status) (limit : ℕ) (o : Opening)
     (end : Option ℕ) (left : Option (List ℕ)) (reads_before reads : ℕ) (old new : X)
     : Type 0 where

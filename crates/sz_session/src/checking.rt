@@ -39,7 +39,7 @@ pub(crate) fn check_log<T: Station, R: Threads + Sync>(
 fn check_opened<T: Station, R: Threads + Sync>(
     rt: &R,
     alloc: Global,
-    log: &Recovered<()>,
+    log: &Recovered,
     station: &mut T,
 ) -> Status
     requires { IsMade (T.disk station.old) log.now.end.at log.now.catalogue log.now.stores.items }
@@ -58,11 +58,7 @@ fn check_opened<T: Station, R: Threads + Sync>(
 }
 
 /// The line of a log that was opened.
-fn line_of<R: Threads + Sync>(
-    rt: &R,
-    alloc: Global,
-    log: &Recovered<()>,
-) -> Result<Vec<u8>, NoMemory>
+fn line_of<R: Threads + Sync>(rt: &R, alloc: Global, log: &Recovered) -> Result<Vec<u8>, NoMemory>
     ensures { IfOk result
         (λ line. TellsLine log.now.catalogue log.now.stores.items line.items) }
 {

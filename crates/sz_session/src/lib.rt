@@ -26,10 +26,11 @@
 //!
 //! What follows of these clauses are the laws of [`endings`]: what was said by each status (`done`,
 //! `after_say_fault`, `ready`, `checked`, ..), that a call is done only where no fault was counted
-//! (`quiet`), nor ends for want of memory where one was ([`endings::want_of_memory_hides_no_fault`]),
-//! that there is no other ending without one (`completes`, `init_completes`, `check_completes`,
-//! `run_completes`), which statuses come where and nowhere else (`unlike`, `broken`, `barred`, ..),
-//! and that each exit number is that of one status.
+//! (`quiet`), nor ends for want of memory where one was
+//! ([`endings::want_of_memory_hides_no_fault`]), that there is no other ending without one
+//! (`completes`, `init_completes`, `check_completes`, `run_completes`), which statuses come where
+//! and nowhere else (`unlike`, `broken`, `barred`, ..), and that each exit number is that of one
+//! status.
 //!
 //! ```text
 //! {"array":"a","cells":[[5]]}                                         1 array a 1
@@ -55,9 +56,9 @@
 //! has its reply said (`Answered` of `sz_feed`), and the one function that reads asks for it.
 //! `specs/Statuses` says what each status tells of what was read and said, and what the counts of
 //! faults tell of it in every mode (`AreCounted`); `specs/Sessions` what a turn leaves, and how a
-//! session of lines ends; `specs/Checking` what a check tells; and `specs/Modes` puts these together,
-//! mode by mode. `proofs/Modes` goes through the modes once (`by-mode`), and each law that speaks of
-//! a status in any of them goes by it.
+//! session of lines ends; `specs/Checking` what a check tells; and `specs/Modes` puts these
+//! together, mode by mode. `proofs/Modes` goes through the modes once (`by-mode`), and each law
+//! that speaks of a status in any of them goes by it.
 #![tactic(auto)]
 
 mod checking;
@@ -70,4 +71,3 @@ mod staff;
 
 pub use serving::{Status, serve};
 pub use sz_commands::{AskLine, Session, Stop};
-pub use sz_versions::Carry;

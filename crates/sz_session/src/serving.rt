@@ -32,7 +32,6 @@ use sz_commands::Session;
 use sz_feed::{Feed, Halt};
 use sz_outside::{Failed, Gate, Source, Station};
 use sz_recover::{Recovered, catalogue_of};
-use sz_versions::Carry;
 use sz_words::{Job, JobMode, WordsFault, read_words};
 
 /// How a call of `serve` ended.
@@ -295,7 +294,7 @@ pub(crate) fn run_on<
 >(
     rt: &R,
     alloc: Global,
-    recovered: Recovered<Carry>,
+    recovered: Recovered,
     job: Job,
     source: &mut S,
     station: &mut T,

@@ -41,11 +41,11 @@ use Rattle.sz_catalogue.specs.Changes.{outputs, way_of, is_black_box, traced}
 use Rattle.sz_recover.specs.Bodies.{BeginNodes, IsBodyOf}
 use Rattle.sz_recover.specs.Fitting.{FitsNode, FitNodes, Fit, site_in, sites_of, part_of, parts_of, body_of}
 use Rattle.sz_versions.specs.Runs.{executions_of, IsSoundVersion}
-use Rattle.sz_versions.specs.Stores.{nothing, whole, IsKeptOf}
+use Rattle.sz_versions.specs.Stores.{Keeping, nothing, whole, read, IsKeptOf, keeping_from}
 use Rattle.sz_versions.specs.Efforts.{most_traced}
 use Rattle.sz_versions.specs.Views.{view_by, list_of, IsViewOf, strategy_told, are_there}
 use Rattle.sz_versions.specs.Searches.{Search, IsSearchOf, IsAnswerTo}
-use Rattle.sz_versions.specs.Recalled.{execution_at, stores_at, keeping_from, recalled_view, cells_recalled, IsRecallOf}
+use Rattle.sz_versions.specs.Recalled.{execution_at, stores_at, recalled_view, cells_recalled, IsRecallOf}
 use Rattle.sz_recover.specs.Soundness.{IsSoundNode, AreSoundNodes}
 use Rattle.sz_versions.specs.Recalled.{HasEachStore, SoundStoresAnswerTheRelation}
 use Rattle.sz_versions.proofs.Ways.{way-is_listed, way-supported, view_by-site, view_by-usable, view_by-stays}
@@ -166,20 +166,20 @@ recalled-at v stores dir s sound fit there =
 -- ---- the view for each way
 
 -- what is so of the mapping, of a trace, and of a store for a way that keeps one, is so of the view by stores
-by-whole : (e : Execution) (k : NodeLineage) (P : Strategy → View → Type 0) → P strategy.Map (by_map e.site)
+by-read : (e : Execution) (k : NodeLineage) (P : Strategy → View → Type 0) → P strategy.Map (by_map e.site)
     → P strategy.BlackBox (by_trace e.site e.inputs)
     → ((t : Strategy) → is_stored t ≡ true → is_black_box t ≡ false → P t (by_store e.site k t)) → (s : Strategy)
-    → P s (view_by s e (whole k))
-by-whole e k P mapped black stored strategy.Map = mapped
-by-whole e k P mapped black stored strategy.FullOneB = stored strategy.FullOneB refl refl
-by-whole e k P mapped black stored strategy.FullOneF = stored strategy.FullOneF refl refl
-by-whole e k P mapped black stored strategy.FullManyB = stored strategy.FullManyB refl refl
-by-whole e k P mapped black stored strategy.FullManyF = stored strategy.FullManyF refl refl
-by-whole e k P mapped black stored strategy.PayOne = stored strategy.PayOne refl refl
-by-whole e k P mapped black stored strategy.PayMany = stored strategy.PayMany refl refl
-by-whole e k P mapped black stored strategy.CompOne = stored strategy.CompOne refl refl
-by-whole e k P mapped black stored strategy.CompMany = stored strategy.CompMany refl refl
-by-whole e k P mapped black stored strategy.BlackBox = black
+    → P s (view_by s e (read k))
+by-read e k P mapped black stored strategy.Map = mapped
+by-read e k P mapped black stored strategy.FullOneB = stored strategy.FullOneB refl refl
+by-read e k P mapped black stored strategy.FullOneF = stored strategy.FullOneF refl refl
+by-read e k P mapped black stored strategy.FullManyB = stored strategy.FullManyB refl refl
+by-read e k P mapped black stored strategy.FullManyF = stored strategy.FullManyF refl refl
+by-read e k P mapped black stored strategy.PayOne = stored strategy.PayOne refl refl
+by-read e k P mapped black stored strategy.PayMany = stored strategy.PayMany refl refl
+by-read e k P mapped black stored strategy.CompOne = stored strategy.CompOne refl refl
+by-read e k P mapped black stored strategy.CompMany = stored strategy.CompMany refl refl
+by-read e k P mapped black stored strategy.BlackBox = black
 
 -- it can be used
 kept-usable : (list : List Strategy) (s : Strategy) (e : Execution) (kept : Option NodeLineage)
@@ -188,7 +188,7 @@ kept-usable : (list : List Strategy) (s : Strategy) (e : Execution) (kept : Opti
 kept-usable list s e None listed supported ins fits =
     view_by-usable true list s e nothing listed supported ins (λ awaited. fits)
 kept-usable list s e (Some k) listed supported ins fits =
-    by-whole e k (λ t w. is_listed list t ≡ true → supports e.site.op t ≡ true → IsUsable w)
+    by-read e k (λ t w. is_listed list t ≡ true → supports e.site.op t ≡ true → IsUsable w)
     (λ there mapped. mapped) (λ there any. ins)
     (λ t stored black there any. record {
       site = fits.1.site;
@@ -203,7 +203,7 @@ kept-stays : (list : List Strategy) (s : Strategy) (e : Execution) (kept : Optio
     → w ≡ view_by s e (keeping_from kept)
 kept-stays list s e None w listed fits asked = view_by-stays list s e nothing w listed (λ awaited. fits) asked
 kept-stays list s e (Some k) w listed fits asked =
-    by-whole e k (λ t v. IsAsked v w → w ≡ v) (λ h. h) (λ h. h) (λ t stored black h. h) s asked
+    by-read e k (λ t v. IsAsked v w → w ≡ v) (λ h. h) (λ h. h) (λ t stored black h. h) s asked
 
 -- it is told by the way
 kept-told : (list : List Strategy) (s : Strategy) (e : Execution) (kept : Option NodeLineage)
@@ -211,7 +211,7 @@ kept-told : (list : List Strategy) (s : Strategy) (e : Execution) (kept : Option
     → strategy_told (used_of (view_by s e (keeping_from kept))) ≡ s
 kept-told list s e None listed fits = view_by-told list s e nothing listed (λ awaited. fits)
 kept-told list s e (Some k) listed fits =
-    by-whole e k (λ t v. strategy_told (used_of v) ≡ t) refl refl (λ t stored black. refl) s
+    by-read e k (λ t v. strategy_told (used_of v) ≡ t) refl refl (λ t stored black. refl) s
 
 -- and as traced where that is black box
 kept-traced : (list : List Strategy) (s : Strategy) (e : Execution) (kept : Option NodeLineage)
@@ -219,12 +219,31 @@ kept-traced : (list : List Strategy) (s : Strategy) (e : Execution) (kept : Opti
     → traced_by (view_by s e (keeping_from kept)) ≡ (if is_black_box s then size_of e.site.out else 0)
 kept-traced list s e None listed fits = view_by-traced list s e nothing listed (λ awaited. fits)
 kept-traced list s e (Some k) listed fits =
-    by-whole e k (λ t v. traced_by v ≡ (if is_black_box t then size_of e.site.out else 0)) refl refl
+    by-read e k (λ t v. traced_by v ≡ (if is_black_box t then size_of e.site.out else 0)) refl refl
     (λ t stored black. sym (ap (λ (b : Bool). if b then size_of e.site.out else 0) black)) s
 
--- stores that stand for the relation are what is kept of the execution
+-- stores that were read are looked at as stores that were made are
+abbrev made : Option NodeLineage → Keeping
+made None = nothing
+made (Some k) = whole k
+
+view-made : (s : Strategy) (e : Execution) (kept : Option NodeLineage)
+    → view_by s e (keeping_from kept) ≡ view_by s e (made kept)
+view-made s e None = refl
+view-made strategy.Map e (Some k) = refl
+view-made strategy.FullOneB e (Some k) = refl
+view-made strategy.FullOneF e (Some k) = refl
+view-made strategy.FullManyB e (Some k) = refl
+view-made strategy.FullManyF e (Some k) = refl
+view-made strategy.PayOne e (Some k) = refl
+view-made strategy.PayMany e (Some k) = refl
+view-made strategy.CompOne e (Some k) = refl
+view-made strategy.CompMany e (Some k) = refl
+view-made strategy.BlackBox e (Some k) = refl
+
+-- and where they stand for the relation, those would be what is kept of the execution
 kept-sound : (b : Bool) (list : List Strategy) (e : Execution) (kept : Option NodeLineage) → FitsNode e.site list kept
-    → HasEachStore kept → IsSoundNode e kept → IsKeptOf b e list (keeping_from kept)
+    → HasEachStore kept → IsSoundNode e kept → IsKeptOf b e list (made kept)
 kept-sound b list e None fits each sound = λ awaited. fits
 kept-sound b list e (Some k) fits each sound = (
   fits.0,
@@ -394,7 +413,7 @@ sound-view : (v : Version) (stores : List (Option NodeLineage)) (dir : Dir) (s :
 sound-view v stores dir s each sound h =
     let own = kept-sound v.awaited (list_of v s) h.execution h.kept h.fits (each-at stores s.node h.kept each h.at)
     (sound-at (executions_of v) stores s.node h.execution h.kept sound h.here h.at) in
-    (h.execution, h.here, keeping_from h.kept, own, h.is)
+    (h.execution, h.here, made h.kept, own, h.is ∙ view-made (way_of v dir s) h.execution h.kept)
 
 pub sound-recalled : (v : Version) (stores : List (Option NodeLineage)) (dir : Dir) (path : List Step)
     → IsSoundVersion v → Fit v stores → All HasEachStore stores → AreSoundNodes (executions_of v) stores

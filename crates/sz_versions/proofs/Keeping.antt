@@ -1,11 +1,10 @@
 -- What is kept of each node of a version, at its place.
 use Rattle.std.proofs.Common.{◌≡◌, ℕ, suc, zero, List, [], ◌∷◌, ◌++◌, map, length, Bool, true, false}
-use Rattle.std.proofs.Common.{◌<◌, ◌≤◌, ◌+◌, take, get_or, refl, sym, ap, ap₂, ◌∙◌, subst, arith, drop, Some}
+use Rattle.std.proofs.Common.{◌<◌, ◌≤◌, ◌+◌, take, get_or, refl, sym, ap, ◌∙◌, subst, arith, drop, Some}
 use Rattle.std.proofs.Common.{true≢false}
 use Rattle.std.proofs.Math.Seq.{drop-nil, take-suc}
 use Rattle.std.specs.List.{All, list_all, slice_get}
 use Rattle.std.proofs.lemmas.Bool.{and_parts}
-use Rattle.std.proofs.lemmas.List.{map-append}
 use Rattle.std.proofs.lemmas.List.Elements.{All-nil, All-cons}
 use Rattle.sz_spec.specs.declared.flow.Node.{Node}
 use Rattle.sz_spec.specs.declared.op.Op.{Op}
@@ -14,12 +13,8 @@ use Rattle.sz_spec.specs.Values.{Grid}
 use Rattle.sz_spec.specs.Flows.{array_of}
 use Rattle.sz_spec.specs.Modes.{supports}
 use Rattle.sz_flow.specs.Executions.{Execution, execution, executions_from}
-use Rattle.sz_catalogue.specs.Holdings.{Version}
 use Rattle.sz_catalogue.specs.Rules.{is_list_for, are_lists_for}
-use Rattle.sz_versions.specs.Runs.{executions_of}
-use Rattle.sz_versions.specs.Stores.{Keeping, nothing, growing, whole, IsKeptOf, AreKeptOf, AreListed, IsOwn, settled}
-use Rattle.sz_versions.specs.Stores.{Trail, IsTrailOf, settled_trail, keeping_of}
-use Rattle.sz_versions.specs.declared.runs.NodeStores.{NodeStores}
+use Rattle.sz_versions.specs.Stores.{Keeping, nothing, growing, whole, read, IsKeptOf, AreKeptOf, AreListed, IsOwn}
 use Rattle.sz_versions.proofs.PathViews.{list-parts}
 
 -- ---- what is kept of each node
@@ -153,6 +148,17 @@ pub kept-own : (b : Bool) (e : Execution) (list : List Strategy) (k : Keeping) �
 kept-own b e list nothing own = tt
 kept-own b e list (growing z p) own = own.2.own
 kept-own b e list (whole k) own = tt
+kept-own b e list (read k) own = tt
+
+pub keeps-own : (b : Bool) (es : List Execution) (lists : List (List Strategy)) (keeps : List Keeping)
+    → AreKeptOf b es lists keeps → All IsOwn keeps
+keeps-own b [] [] [] h = All-nil IsOwn
+keeps-own b [] [] (k ∷ keeps) h = absurd h
+keeps-own b [] (l ∷ lists) keeps h = absurd h
+keeps-own b (d ∷ es) [] keeps h = absurd h
+keeps-own b (d ∷ es) (l ∷ lists) [] h = absurd h
+keeps-own b (d ∷ es) (l ∷ lists) (k ∷ keeps) h =
+    All-cons IsOwn k keeps (kept-own b d l k h.0) (keeps-own b es lists keeps h.1)
 
 -- what is kept of a version is also what is kept of one that is not awaited
 pub kept-before : (b : Bool) (es : List Execution) (lists : List (List Strategy)) (keeps : List Keeping)
@@ -167,34 +173,7 @@ kept-before b (d ∷ es) (l ∷ lists) (k ∷ keeps) h = (at k h.0, kept-before 
   at nothing own = λ never. absurd (true≢false (sym never))
   at (growing z p) own = (refl, own.1, own.2)
   at (whole k) own = own
-
--- and without what still grows it is what is kept of the version
-pub kept-settled : (b : Bool) (es : List Execution) (lists : List (List Strategy)) (keeps : List Keeping)
-    → AreKeptOf b es lists keeps → AreKeptOf b es lists (map settled keeps)
-kept-settled b [] [] [] h = tt
-kept-settled b [] [] (k ∷ keeps) h = absurd h
-kept-settled b [] (l ∷ lists) keeps h = absurd h
-kept-settled b (d ∷ es) [] keeps h = absurd h
-kept-settled b (d ∷ es) (l ∷ lists) [] h = absurd h
-kept-settled b (d ∷ es) (l ∷ lists) (k ∷ keeps) h = (at k h.0, kept-settled b es lists keeps h.1) where
-  at : (k : Keeping) → IsKeptOf b d l k → IsKeptOf b d l (settled k)
-  at nothing own = own
-  at (growing z p) own = λ awaited. absurd (true≢false (sym awaited ∙ own.0))
-  at (whole k) own = own
-
--- one more that is settled
-pub settled-more : (xs ks : List NodeStores) (x y : NodeStores) → map keeping_of ks ≡ map settled (map keeping_of xs)
-    → keeping_of y ≡ settled (keeping_of x)
-    → map keeping_of (ks ++ y ∷ []) ≡ map settled (map keeping_of (xs ++ x ∷ []))
-settled-more xs ks x y same own =
-    map-append keeping_of ks (y ∷ [])
-    ∙ ap₂ (λ (ls : List Keeping) (l : Keeping). ls ++ l ∷ []) same own
-    ∙ sym (ap (map settled) (map-append keeping_of xs (x ∷ []))
-    ∙ map-append settled (map keeping_of xs) (keeping_of x ∷ []))
-
--- a run that stands in for another belongs to the version that the other belongs to
-pub trail-settled : (v : Version) (t : Trail) → IsTrailOf v t → IsTrailOf v (settled_trail t)
-trail-settled v t own = (own.0, kept-settled v.awaited (executions_of v) v.lists t.kept own.1)
+  at (read k) own = own
 
 -- ---- the first so many
 

@@ -123,13 +123,12 @@ version-sound c n all held =
     let P : Option Version → Type 0 = λ o. IfSome o IsSoundVersion in
     subst P (version-found c n held) (IfSome-lookup_from_All IsSoundVersion (is_at (nat_cmp n)) c.versions all)
 
-pub keeps-await : (c : Holdings) (n : ℕ) → AreSound c
-    → judged c (order.Await n) ≡ None → AreSound (with_await c n)
-keeps-await c n k none =
-    let held = rule-fails (rules.has_no_version c n) refusal.NoSuchVersion [] none in
+pub keeps-awaited : (c : Holdings) (n : ℕ) → AreSound c → rules.has_no_version c n ≡ false
+    → AreSound (with_await c n)
+keeps-awaited c n k held =
     let v = version_of c n in
     let w : Version = record v { awaited = true } in
-    let old = version-sound c n k.versions held.0 in
+    let old = version-sound c n k.versions held in
     let new : IsSoundVersion w = record {
       run = (
         old.run.0,
@@ -145,6 +144,11 @@ keeps-await c n k none =
       flows = k.flows;
       versions = All-values-set_value (is_at (nat_cmp n)) IsSoundVersion c.versions w k.versions new;
     }
+
+pub keeps-await : (c : Holdings) (n : ℕ) → AreSound c
+    → judged c (order.Await n) ≡ None → AreSound (with_await c n)
+keeps-await c n k none =
+    keeps-awaited c n k (rule-fails (rules.has_no_version c n) refusal.NoSuchVersion [] none).0
 
 -- what is held stays sound where no version is started or awaited
 pub keeps-accepted : (c : Holdings) (command : Command) → AreSound c

@@ -2,20 +2,18 @@
 --
 -- The key idea: a pass off which others were split is of the same shelf, for the same tag, so each statement on what is
 -- kept goes through; and how many were split off adds up.
-use Rattle.std.proofs.Common.{◌≡◌, ℕ, zero, suc, ◌+◌, ◌<◌, ◌≤◌, ◌++◌, List, [], ◌∷◌, map, length, Bool, true, false}
+use Rattle.std.proofs.Common.{◌≡◌, ℕ, zero, suc, ◌+◌, ◌<◌, ◌++◌, List, [], ◌∷◌, map, length, Bool, true, false}
 use Rattle.std.proofs.Common.{set}
 use Rattle.std.proofs.Common.{get_or, refl, sym, ap, ◌∙◌, subst, arith, if◌then◌else◌}
-use Rattle.std.specs.List.{AllZip}
 use Rattle.sz_spec.specs.declared.modes.Dir.{Dir}
 use Rattle.sz_spec.specs.declared.modes.Strategy.{Strategy}
 use Rattle.sz_spec.specs.Modes.{is_stored}
 use Rattle.sz_spec.specs.Paths.{Step}
 use Rattle.sz_flow.specs.Executions.{Execution}
-use Rattle.sz_shelf.specs.Passes.{Onlooker}
 use Rattle.sz_catalogue.specs.Holdings.{Version}
 use Rattle.sz_catalogue.specs.Changes.{way_of}
 use Rattle.sz_versions.specs.Runs.{executions_of}
-use Rattle.sz_versions.specs.Stores.{Keeping, nothing, growing, whole, IsKeptOf, AreKeptOf, Trail, IsTrailOf}
+use Rattle.sz_versions.specs.Stores.{Keeping, nothing, growing, whole, read, IsKeptOf, AreKeptOf, Trail, IsTrailOf}
 use Rattle.sz_versions.specs.Stores.{keeping_of}
 use Rattle.sz_versions.specs.Lending.{lent, once_viewed, changed_at, once_asked, once_along, IsLent, AreLent}
 use Rattle.sz_versions.specs.declared.runs.NodeStores.{NodeStores}
@@ -27,6 +25,7 @@ kept-lent : (b : Bool) (e : Execution) (list : List Strategy) (n : ℕ) (k : Kee
 kept-lent b e list n nothing own = own
 kept-lent b e list n (growing z p) own = (own.0, own.1, record { own = own.2.own; tag = own.2.tag })
 kept-lent b e list n (whole kept) own = own
+kept-lent b e list n (read kept) own = own
 
 kept-viewed : (b : Bool) (e : Execution) (list : List Strategy) (s : Strategy) (k : Keeping) → IsKeptOf b e list k
     → IsKeptOf b e list (once_viewed s k)
@@ -80,11 +79,13 @@ lent-more : (n m : ℕ) (k : Keeping) → lent m (lent n k) ≡ lent (n + m) k
 lent-more n m nothing = refl
 lent-more n m (growing z p) = ap (λ (i : ℕ). growing z record p { splits = i }) (omega arith)
 lent-more n m (whole kept) = refl
+lent-more n m (read kept) = refl
 
 lent-none : (k : Keeping) → k ≡ lent 0 k
 lent-none nothing = refl
 lent-none (growing z p) = ap (λ (i : ℕ). growing z record p { splits = i }) (omega arith)
 lent-none (whole kept) = refl
+lent-none (read kept) = refl
 
 lent-on : (k l m : Keeping) → IsLent k l → IsLent l m → IsLent k m
 lent-on k l m first more =

@@ -9,5 +9,11 @@ pub mod Kept
 pub mod Keeps
 pub mod Stays
 pub mod FromLogs
+mod Still
+mod Along
+pub mod Residents
+mod Service
 pub mod Ordered
 pub mod Trails
+pub mod RowsLending
+pub mod RowsResidents

@@ -1,11 +1,12 @@
--- The versions that a log gave stay as they are.
+-- The versions that are held stay as they are.
 --
--- The key idea: they are held and awaited, and no command changes a version that is.
-use Rattle.std.proofs.Common.{take, length, get_or, zero, ◌≡◌, ℕ, suc, ◌<◌, List, [], ◌∷◌, map, Bool, true, false, refl}
+-- The key idea: a start puts one in under a number that is new, an await changes one that is not awaited, and no other
+-- command changes any.
+use Rattle.std.proofs.Common.{take, length, get_or, zero, ◌≡◌, ℕ, suc, ◌<◌, List, [], ◌∷◌, Bool, true, false, refl}
 use Rattle.std.proofs.Common.{sym, ap, ◌∙◌}
 use Rattle.std.proofs.lemmas.Bool.Decides.{nat_tests}
-use Rattle.std.proofs.Common.{true≢false, subst, arith, Option, Some, None, unwrap_or, cond, eqb-true}
-use Rattle.std.specs.Prelude.{All, ◌==◌, is_none, find, option_map, nat_lt, if◌then◌else◌}
+use Rattle.std.proofs.Common.{true≢false, subst, arith, Option, Some, None, cond, eqb-true}
+use Rattle.std.specs.Prelude.{All, ◌==◌, is_none, find, nat_lt, if◌then◌else◌}
 use Rattle.std.specs.Ordering.{nat_cmp, is_eq, match_ordering}
 use Rattle.std.proofs.Common.{Ordering, Less, Equal, Greater}
 use Rattle.std.specs.Cmp.{nat_cmp_is}
@@ -13,20 +14,13 @@ use Rattle.std.specs.Map.{lookup, set_value, values_of}
 use Rattle.std.specs.BTreeMap.{is_at, insert_entry}
 use Rattle.sz_script.specs.declared.command.Command.{Command}
 use Rattle.sz_script.specs.declared.command.Command.TheVariants as order
-use Rattle.sz_catalogue.specs.Holdings.{Version, Holdings, version_numbered, no_version, next_number}
+use Rattle.sz_catalogue.specs.Holdings.{Version, Holdings, version_numbered, next_number}
 use Rattle.sz_catalogue.specs.Rules.{version_of, has_no_version}
 use Rattle.sz_catalogue.specs.Changes as changes
 use Rattle.sz_catalogue.specs.Changes.{with_version, with_await, changes_no_version}
 use Rattle.sz_catalogue.proofs.Numbers.{next-is_new}
-use Rattle.sz_recover.specs.Logs.{Kept}
-use Rattle.sz_recover.specs.Fitting.{Fit}
 use Rattle.sz_catalogue.specs.Order.{IsInOrder, IsVersionIn}
-use Rattle.sz_versions.specs.Runs.{executions_of, AreSound, IsSoundVersion}
-use Rattle.sz_versions.specs.Recalls.{Recall, IsRecalledIn, AreRecalled}
-use Rattle.sz_versions.specs.Carries.{IsCarryOf, settled_carry}
-use Rattle.sz_versions.specs.declared.carry.Carry.{Carry}
-use Rattle.sz_versions.specs.declared.carry.Carry.TheVariants as carry
-use Rattle.sz_versions.proofs.Keeping.{trail-settled}
+use Rattle.sz_versions.specs.Runs.{AreSound, IsSoundVersion}
 use Rattle.sz_versions.proofs.Keeps.{version-found}
 
 -- ---- lists
@@ -36,7 +30,7 @@ all-turn : {X : Type 0} (P Q : X → Type 0) (xs : List X) → ((x : X) → P x 
 all-turn P Q xs turn all = λ i d lt. turn _ (all i d lt)
 
 -- the first that passes
-find-passes : {X : Type 0} (test : X → Bool) (xs : List X) (x : X) → find test xs ≡ Some x → test x ≡ true
+pub find-passes : {X : Type 0} (test : X → Bool) (xs : List X) (x : X) → find test xs ≡ Some x → test x ≡ true
 find-passes test [] x h = cc
 find-passes test (y ∷ xs) x h = at (test y) refl (find-passes test xs x) h where
   at : (b : Bool) → test y ≡ b → (find test xs ≡ Some x → test x ≡ true)
@@ -89,25 +83,6 @@ found-at {X} test (y ∷ xs) (suc i) x none lt is passes =
       at true rest h = cc
       at false rest h = rest h
 
--- the number that is looked for is found
-pub found-number : (rs : List Recall) (n : ℕ) (r : Recall)
-    → find (λ (x : Recall). x.kept.number == n) rs ≡ Some r → r.kept.number ≡ n
-found-number rs n r h = eqb-true r.kept.number n (find-passes (λ (x : Recall). x.kept.number == n) rs r h)
-
--- among what is seen of them it is found too
-pub found-kept : (rs : List Recall) (n : ℕ)
-    → find (λ (k : Kept). k.number == n) (map (λ (r : Recall). r.kept) rs)
-    ≡ option_map (λ (r : Recall). r.kept) (find (λ (r : Recall). r.kept.number == n) rs)
-found-kept [] n = refl
-found-kept (r ∷ rs) n = at (r.kept.number == n) (found-kept rs n) where
-  at : (b : Bool)
-      → find (λ (k : Kept). k.number == n) (map (λ (x : Recall). x.kept) rs)
-      ≡ option_map (λ (x : Recall). x.kept) (find (λ (x : Recall). x.kept.number == n) rs)
-      → cond b (Some r.kept) (find (λ (k : Kept). k.number == n) (map (λ (x : Recall). x.kept) rs))
-      ≡ option_map (λ (x : Recall). x.kept) (cond b (Some r) (find (λ (x : Recall). x.kept.number == n) rs))
-  at true rest = refl
-  at false rest = rest
-
 -- ---- what is in order
 
 -- flows and versions that are in order are sound
@@ -118,49 +93,26 @@ order-sound c order = record {
       order.versions;
 }
 
--- ---- what stands in
-
-pub carry-settled : (v : Version) (c : Carry) → IsCarryOf v c → IsCarryOf v (settled_carry c)
-carry-settled v (carry.Run run) own = trail-settled v run own
-carry-settled v carry.Logged own = tt
-
 -- ---- versions that stay
 
--- each version that is held and awaited is held as it was
-abbrev pub AwaitedStay : Holdings → Holdings → Type 0
-AwaitedStay c d = (n : ℕ) → has_no_version c n ≡ false → (version_of c n).awaited ≡ true
-    → version_numbered d n ≡ version_numbered c n
-
-pub recalled-stay : (c d : Holdings) (rs : List Recall) → AwaitedStay c d → AreRecalled c rs → AreRecalled d rs
-recalled-stay c d rs stay all = all-turn (IsRecalledIn c) (IsRecalledIn d) rs one all where
-  one : (r : Recall) → IsRecalledIn c r → IsRecalledIn d r
-  one r h =
-      let same = stay r.kept.number h.held h.own.awaited in
-      let version : version_of d r.kept.number ≡ version_of c r.kept.number =
-      ap (λ (o : Option Version). unwrap_or o no_version) same in
-      record {
-        held = ap (λ (o : Option Version). is_none o) same ∙ h.held;
-        own = record {
-          awaited = ap (λ (v : Version). v.awaited) version ∙ h.own.awaited;
-          executions = h.own.executions ∙ ap executions_of (sym version);
-          fit = subst (λ (v : Version). Fit v r.kept.stores) (sym version) h.own.fit;
-        };
-      }
+-- under each number the same version is held
+abbrev pub SameStay : Holdings → Holdings → Type 0
+SameStay c d = (n : ℕ) → version_numbered d n ≡ version_numbered c n
 
 -- where no version changes
 pub accepted-stay : (c : Holdings) (command : Command) → changes_no_version command ≡ true
-    → AwaitedStay c (changes.accepted c command).0
-accepted-stay c (order.Array name array) kind n held awaited = refl
-accepted-stay c (order.Csv name array) kind n held awaited = refl
-accepted-stay c (order.Layers name array) kind n held awaited = refl
-accepted-stay c (order.Flow name flow) kind n held awaited = refl
-accepted-stay c (order.Strategy name node list) kind n held awaited = refl
-accepted-stay c (order.Start name base) kind n held awaited = cc
-accepted-stay c (order.Plan name base units back forward) kind n held awaited = refl
-accepted-stay c (order.Await m) kind n held awaited = cc
-accepted-stay c (order.Ask m dir path named) kind n held awaited = cc
-accepted-stay c (order.Explain m dir path named) kind n held awaited = cc
-accepted-stay c (order.Show m node) kind n held awaited = cc
+    → SameStay c (changes.accepted c command).0
+accepted-stay c (order.Array name array) kind n = refl
+accepted-stay c (order.Csv name array) kind n = refl
+accepted-stay c (order.Layers name array) kind n = refl
+accepted-stay c (order.Flow name flow) kind n = refl
+accepted-stay c (order.Strategy name node list) kind n = refl
+accepted-stay c (order.Start name base) kind n = cc
+accepted-stay c (order.Plan name base units back forward) kind n = refl
+accepted-stay c (order.Await m) kind n = cc
+accepted-stay c (order.Ask m dir path named) kind n = cc
+accepted-stay c (order.Explain m dir path named) kind n = cc
+accepted-stay c (order.Show m node) kind n = cc
 
 -- ---- one version more
 
@@ -182,7 +134,7 @@ is-other q n differ = at (is_eq (nat_cmp q n)) refl where
   at false is = is
 
 -- under another number is found what was
-insert-other : (es : List (ℕ × Version)) (n q : ℕ) (v : Version) → (q ≡ n → ⊥)
+pub insert-other : (es : List (ℕ × Version)) (n q : ℕ) (v : Version) → (q ≡ n → ⊥)
     → lookup (is_at (nat_cmp q)) (insert_entry nat_cmp es n v) ≡ lookup (is_at (nat_cmp q)) es
 insert-other [] n q v differ = rw (is-other q n differ) refl
 insert-other (e ∷ es) n q v differ = step (nat_cmp n e.0) refl (insert-other es n q v differ) where
@@ -196,17 +148,23 @@ insert-other (e ∷ es) n q v differ = step (nat_cmp n e.0) refl (insert-other e
       let other : is_eq (nat_cmp q e.0) ≡ false = is-other q e.0 (λ h. differ (h ∙ sym same)) in rw other refl
   step Greater is rest = ap (λ (o : Option Version). cond (is_eq (nat_cmp q e.0)) (Some e.1) o) rest
 
--- a version that is started has a number of its own
-pub started-stay : (c : Holdings) (v : Version) → AwaitedStay c (with_version c (next_number c) v)
-started-stay c v n held awaited =
-    insert-other c.versions (next_number c) n v (λ is. new is) where
-      new : n ≡ next_number c → ⊥
-      new is =
-          let none = next-is_new c.versions (next_number c) (omega arith) in
-          let found = version-found c n held in
-          let clash : None ≡ Some (version_of c n) =
-          sym none ∙ ap (λ (k : ℕ). lookup (is_at (nat_cmp k)) c.versions) (sym is) ∙ found in
-          cc
+-- and under its own the one that is put in
+pub insert-here : (es : List (ℕ × Version)) (n : ℕ) (v : Version)
+    → lookup (is_at (nat_cmp n)) (insert_entry nat_cmp es n v) ≡ Some v
+insert-here [] n v = rw (is-self n) refl
+insert-here (e ∷ es) n v = step (nat_cmp n e.0) refl (insert-here es n v) where
+  step : (o : Ordering) → nat_cmp n e.0 ≡ o
+      → lookup (is_at (nat_cmp n)) (insert_entry nat_cmp es n v) ≡ Some v
+      → lookup (is_at (nat_cmp n)) (match_ordering o ((n, v) ∷ e ∷ es) ((e.0, v) ∷ es)
+      (e ∷ insert_entry nat_cmp es n v)) ≡ Some v
+  step Less is rest = rw (is-self n) refl
+  step Equal is rest = rw is refl
+  step Greater is rest = rw is rest
+
+-- a version that is started has a number that is new
+pub started-new : (c : Holdings) → has_no_version c (next_number c) ≡ true
+started-new c =
+    ap (λ (o : Option Version). is_none o) (next-is_new c.versions (next_number c) (omega arith))
 
 -- ---- an await
 
@@ -240,17 +198,29 @@ set-here (e ∷ es) n old v h = at (is_eq (nat_cmp n e.0)) refl (set-here es n o
   at true is rest found = rw is refl
   at false is rest found = rw is (rest found)
 
--- an await leaves a version that is awaited
-pub awaited-stay : (c : Holdings) (m : ℕ) → AwaitedStay c (with_await c m)
-awaited-stay c m n held awaited = at (n == m) refl where
-  at : (b : Bool) → (n == m) ≡ b → version_numbered (with_await c m) n ≡ version_numbered c n
+-- the version of a number, once it was awaited
+pub await-here : (c : Holdings) (n : ℕ) → has_no_version c n ≡ false
+    → version_numbered (with_await c n) n ≡ Some (record (version_of c n) { awaited = true })
+await-here c n held =
+    let v = version_of c n in
+    set-here c.versions n v (record v { awaited = true }) (version-found c n held)
+
+-- and those of other numbers
+pub await-other : (c : Holdings) (n q : ℕ) → (q == n) ≡ false
+    → version_numbered (with_await c n) q ≡ version_numbered c q
+await-other c n q other =
+    set-other c.versions n q (record (version_of c n) { awaited = true }) (λ h. unequal q n other h)
+
+-- an await of a version that is awaited leaves each as it is
+pub awaited-stay : (c : Holdings) (n : ℕ) → has_no_version c n ≡ false → (version_of c n).awaited ≡ true
+    → SameStay c (with_await c n)
+awaited-stay c n held awaited q = at (q == n) refl where
+  at : (b : Bool) → (q == n) ≡ b → version_numbered (with_await c n) q ≡ version_numbered c q
   at true is =
-      let same : n ≡ m = eqb-true n m is in
+      let same : q ≡ n = eqb-true q n is in
       let v = version_of c n in
-      let P : ℕ → Type 0 = λ k. version_numbered (with_await c k) n ≡ version_numbered c n in
+      let P : ℕ → Type 0 = λ k. version_numbered (with_await c n) k ≡ version_numbered c k in
       let kept : record v { awaited = true } ≡ v =
       ap (λ (b : Bool). record v { awaited = b }) (sym awaited) in
-      subst P same (set-here c.versions n v (record v { awaited = true }) (version-found c n held)
-      ∙ ap (λ (x : Version). Some x) kept ∙ sym (version-found c n held))
-  at false is =
-      set-other c.versions m n (record (version_of c m) { awaited = true }) (λ h. unequal n m is h)
+      subst P (sym same) (await-here c n held ∙ ap (λ (x : Version). Some x) kept ∙ sym (version-found c n held))
+  at false is = await-other c n q is

@@ -18,7 +18,7 @@ use Rattle.sz_recover.specs.Soundness.{IsSoundNode, AreSoundNodes}
 use Rattle.sz_recover.proofs.Sites.{sites-same}
 use Rattle.sz_versions.specs.Bodies.{store_in}
 use Rattle.sz_versions.specs.Runs.{executions_of, IsSoundVersion}
-use Rattle.sz_versions.specs.Stores.{Keeping, nothing, growing, whole, IsKeptOf, AreKeptOf, Trail, IsTrailOf}
+use Rattle.sz_versions.specs.Stores.{Keeping, nothing, growing, whole, read, IsKeptOf, AreKeptOf, Trail, IsTrailOf}
 use Rattle.sz_versions.specs.Stores.{keeping_of}
 use Rattle.sz_versions.specs.declared.runs.NodeStores.{NodeStores}
 
@@ -30,12 +30,14 @@ store-fits e list nothing own = own refl
 store-fits e list (growing z p) own = absurd (true≢false own.0)
 store-fits e list (whole kept) own =
     (own.0, record { site = own.1.site; own = own.1.list; whole = own.1.whole })
+store-fits e list (read kept) own = absurd own
 
 store-sound : (e : Execution) (list : List Strategy) (k : Keeping) → IsKeptOf true e list k
     → IsSoundNode e (store_in k)
 store-sound e list nothing own = tt
 store-sound e list (growing z p) own = absurd (true≢false own.0)
 store-sound e list (whole kept) own = own.1.exact
+store-sound e list (read kept) own = absurd own
 
 -- ---- all nodes
 

@@ -26,7 +26,7 @@ use Rattle.sz_query.specs.Turns.{IsAsked}
 use Rattle.sz_query.specs.Laws.{IsFaithful}
 use Rattle.sz_catalogue.specs.Changes.{is_black_box}
 use Rattle.sz_shelf.specs.Tags.{Tag}
-use Rattle.sz_versions.specs.Stores.{Keeping, nothing, growing, whole, IsKeptOf}
+use Rattle.sz_versions.specs.Stores.{Keeping, nothing, growing, whole, read, IsKeptOf}
 use Rattle.sz_versions.specs.Views.{view_kept, view_by, strategy_told}
 
 -- the strategy at the front of a list is the one that is looked for, or that is further on
@@ -143,6 +143,7 @@ view_by-site s e kept =
       at t nothing = refl
       at t (growing z p) = refl
       at t (whole k) = refl
+      at t (read k) = refl
 
 -- it can be used where the way is a supported one of the list, for which this is kept
 pub view_by-usable : (b : Bool) (list : List Strategy) (s : Strategy) (e : Execution) (kept : Keeping)
@@ -170,6 +171,7 @@ view_by-usable b list s e kept listed supported ins own =
         stored = stored;
         listed = ap (λ (ts : List Strategy). is_listed ts t) own.1.list ∙ there;
       }
+      at t stored there (read k) own = absurd own
 
 -- and then it stands for the relation of its operator
 pub view_by-faithful : (b : Bool) (list : List Strategy) (s : Strategy) (e : Execution) (kept : Keeping)
@@ -191,6 +193,7 @@ view_by-faithful b list s e kept gs listed supported same own =
           let found = ap (λ (ts : List Strategy). is_listed ts t) own.1.stored ∙ listed-stored t list stored there in
           subst (λ (xs : List Grid). R xs (holding_for t k.stores)) same
           (holding-is (R e.inputs) t k.stores own.1.exact found)
+      at t stored there (read k) own = absurd own
 
 -- it is told as traced by no more than its output
 pub view_by-few : (s : Strategy) (e : Execution) (kept : Keeping)
@@ -202,6 +205,7 @@ view_by-few s e kept =
       at t nothing = omega arith
       at t (growing z p) = omega arith
       at t (whole k) = omega arith
+      at t (read k) = omega arith
 
 -- ---- the view once it was asked
 
@@ -219,6 +223,7 @@ view_by-stays list s e kept w listed own asked =
       at t stored there nothing own h = nothing-kept (w ≡ view_kept t e nothing) e list t there stored own
       at t stored there (growing z p) own h = absurd (true≢false own.0)
       at t stored there (whole k) own h = h
+      at t stored there (read k) own h = h
 
 -- and is told as traced by all of its output exactly where the way is black box
 pub view_by-traced : (list : List Strategy) (s : Strategy) (e : Execution) (kept : Keeping)
@@ -235,6 +240,7 @@ view_by-traced list s e kept listed own =
       at t stored there nothing own = nothing-kept (traced_by (view_kept t e nothing) ≡ 0) e list t there stored own
       at t stored there (growing z p) own = absurd (true≢false own.0)
       at t stored there (whole k) own = refl
+      at t stored there (read k) own = refl
 
 -- what is told of a step by it is the way
 pub view_by-told : (list : List Strategy) (s : Strategy) (e : Execution) (kept : Keeping)
@@ -251,6 +257,7 @@ view_by-told list s e kept listed own =
           nothing-kept (strategy_told (used_of (view_kept t e nothing)) ≡ t) e list t there stored own
       at t stored there (growing z p) own = absurd (true≢false own.0)
       at t stored there (whole k) own = refl
+      at t stored there (read k) own = refl
 
 -- whether or not the version is awaited, where the way is black box it is told as traced by all of its output
 pub view_by-least : (s : Strategy) (e : Execution) (kept : Keeping) (w : View) → IsAsked (view_by s e kept) w

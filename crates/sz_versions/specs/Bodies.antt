@@ -6,13 +6,14 @@ use Rattle.sz_recover.specs.Bodies.{IsBodyOf}
 use Rattle.sz_recover.specs.Fitting.{Fit, sites_of, body_of}
 use Rattle.sz_recover.specs.Soundness.{AreSoundNodes}
 use Rattle.sz_versions.specs.Runs.{executions_of}
-use Rattle.sz_versions.specs.Stores.{Keeping, nothing, growing, whole}
+use Rattle.sz_versions.specs.Stores.{Keeping, nothing, growing, whole, read}
 
--- the stores that are kept of a node, where they are whole
+-- the stores that were made of a node, where they are whole
 abbrev pub store_in : Keeping → Option NodeLineage
 store_in nothing = None
 store_in (growing z p) = None
 store_in (whole kept) = Some kept
+store_in (read kept) = None
 
 -- The bytes are the body of a version, under its number, with stores of its nodes that fit it, each
 -- of which stands for exactly the relation.

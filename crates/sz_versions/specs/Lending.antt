@@ -5,15 +5,17 @@ use Rattle.sz_spec.specs.declared.modes.Dir.{Dir}
 use Rattle.sz_spec.specs.declared.modes.Strategy.{Strategy}
 use Rattle.sz_spec.specs.Modes.{is_stored}
 use Rattle.sz_spec.specs.Paths.{Step}
+use Rattle.sz_shelf.specs.Passes.{Onlooker, place_of}
 use Rattle.sz_catalogue.specs.Holdings.{Version}
 use Rattle.sz_catalogue.specs.Changes.{way_of}
-use Rattle.sz_versions.specs.Stores.{Keeping, nothing, growing, whole, Trail}
+use Rattle.sz_versions.specs.Stores.{Keeping, nothing, growing, whole, read, Trail}
 
 -- what is kept, once so many passes were split off the one that is kept beside a shelf
 abbrev pub lent : ℕ → Keeping → Keeping
 lent n nothing = nothing
 lent n (growing z p) = growing z record p { splits = p.splits + n }
 lent n (whole kept) = whole kept
+lent n (read kept) = read kept
 
 -- ---- to views
 
@@ -47,3 +49,21 @@ IsLent before after = (n : ℕ) × (after ≡ lent n before)
 
 abbrev pub AreLent : List Keeping → List Keeping → Type 0
 AreLent before after = AllZip IsLent before after
+
+-- ---- to whatever else
+
+-- What is kept of a node stays, but for the pass beside a shelf: that is one of the shelf still.
+abbrev pub IsKeptStill : Keeping → Keeping → Type 0
+IsKeptStill nothing after = after ≡ nothing
+IsKeptStill (growing z p) after =
+    (q : Onlooker) × (after ≡ growing z q) × (place_of q ≡ place_of p)
+IsKeptStill (whole kept) after = after ≡ whole kept
+IsKeptStill (read kept) after = after ≡ read kept
+
+abbrev pub AreKeptStill : List Keeping → List Keeping → Type 0
+AreKeptStill before after = AllZip IsKeptStill before after
+
+-- so it is of a trail
+pub record IsTrailStill (before after : Trail) : Type 0 where
+  pub executions : after.executions ≡ before.executions
+  pub kept : AreKeptStill before.kept after.kept

@@ -5,7 +5,8 @@ pub mod Views
 pub mod Lending
 pub mod Efforts
 pub mod Searches
+pub mod Along
 pub mod Recalled
-pub mod Recalls
-pub mod Carries
+pub mod Inquiries
+pub mod Residents
 pub mod Bodies

@@ -21,7 +21,7 @@ use Rattle.sz_catalogue.specs.Changes.{way_of, cells_answered}
 use Rattle.sz_recover.specs.Fitting.{Fit}
 use Rattle.sz_recover.specs.Soundness.{AreSoundNodes}
 use Rattle.sz_versions.specs.Runs.{executions_of, IsSoundVersion}
-use Rattle.sz_versions.specs.Stores.{Keeping, nothing, whole}
+use Rattle.sz_versions.specs.Stores.{keeping_from}
 use Rattle.sz_versions.specs.Views.{view_by}
 use Rattle.sz_versions.specs.Searches.{Search}
 
@@ -34,11 +34,6 @@ execution_at v n = unwrap_or (slice_get (executions_of v) n) (execution op.Neg [
 -- the stores of a node, and none where there is no such node
 abbrev pub stores_at : List (Option NodeLineage) → ℕ → Option NodeLineage
 stores_at stores n = unwrap_or (slice_get stores n) None
-
--- what is kept of a node that has these stores: they are whole
-abbrev pub keeping_from : Option NodeLineage → Keeping
-keeping_from None = nothing
-keeping_from (Some kept) = whole kept
 
 -- the view of a step: that of the execution of its node, with the node's stores, for the way of the
 -- step

@@ -14,7 +14,7 @@ use Rattle.sz_query.specs.Views.{View, by_map, by_trace, by_store, by_growth}
 use Rattle.sz_catalogue.specs.Holdings.{Version}
 use Rattle.sz_catalogue.specs.Changes.{way_of}
 use Rattle.sz_versions.specs.Runs.{executions_of}
-use Rattle.sz_versions.specs.Stores.{Keeping, nothing, growing, whole, IsKeptOf}
+use Rattle.sz_versions.specs.Stores.{Keeping, nothing, growing, whole, read, IsKeptOf}
 
 -- the view of an execution by what a strategy keeps: by its store, by its shelf while that grows,
 -- and where there is none by a trace
@@ -22,6 +22,7 @@ abbrev pub view_kept : Strategy → Execution → Keeping → View
 view_kept s e nothing = by_trace e.site e.inputs
 view_kept s e (growing z p) = by_growth e.site e.inputs z (split_off p) s
 view_kept s e (whole kept) = by_store e.site kept s
+view_kept s e (read kept) = by_store e.site kept s
 
 -- The view of an execution, with what is kept of it, for each way that a step can go.
 abbrev pub view_by : Strategy → Execution → Keeping → View
@@ -40,8 +41,8 @@ view_by strategy.BlackBox e kept = by_trace e.site e.inputs
 abbrev pub list_of : Version → Step → List Strategy
 list_of v s = unwrap_or (slice_get v.lists s.node) []
 
--- The view by which a step is answered: that of the execution of its node, with what is kept of it
--- for the node's list, for the way of the step.
+-- The view by which a step of a version that was started here is answered: that of the execution of
+-- its node, with what is kept of it for the node's list, for the way of the step.
 abbrev pub IsViewOf : Version → Dir → Step → View → Type 0
 IsViewOf v dir s view =
     (e : Execution) × (slice_get (executions_of v) s.node ≡ Some e)

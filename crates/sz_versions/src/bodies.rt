@@ -10,7 +10,7 @@ ghost use Rattle.sz_versions.specs.Stores.{IsTrailOf, keeping_of};
 use crate::runs::{NodeStores, VersionRun};
 use std::alloc::Global;
 use std::sync::Arc;
-use sz_catalogue::{Carried, Catalogue};
+use sz_catalogue::Catalogue;
 use sz_cells::NoMemory;
 use sz_recover::version_body;
 use sz_store::NodeStore;
@@ -18,9 +18,9 @@ use sz_store::NodeStore;
 /// The body of a version that is held, with the stores that its run has once it is awaited.
 ///
 /// Takes time and memory in the stores.
-pub fn body_for<K: Carried>(
+pub fn body_for(
     alloc: Global,
-    catalogue: &Catalogue<K>,
+    catalogue: &Catalogue,
     version: u32,
     run: &VersionRun,
 ) -> Result<Vec<u8>, NoMemory>
@@ -35,7 +35,7 @@ pub fn body_for<K: Carried>(
     version_body(alloc, catalogue, version, &stores)
 }
 
-/// The stores of each node, where they are whole.
+/// The stores that were made of each node, where they are whole.
 fn stores_of(alloc: Global, run: &VersionRun) -> Result<Vec<Option<Arc<NodeStore>>>, NoMemory>
     ensures { IfOk result (λ v. lineages v.items ≡ map store_in run.now.kept) }
 {
@@ -46,7 +46,7 @@ fn stores_of(alloc: Global, run: &VersionRun) -> Result<Vec<Option<Arc<NodeStore
     Ok(stores)
 }
 
-/// The stores of a node, where they are whole.
+/// The stores that were made of a node, where they are whole.
 fn store_of(kept: &NodeStores) -> Result<Option<Arc<NodeStore>>, NoMemory>
     ensures { IfOk result
         (λ s. option_map (λ a. arc_value a) s ≡ store_in (keeping_of kept.now)) }
@@ -55,5 +55,6 @@ fn store_of(kept: &NodeStores) -> Result<Option<Arc<NodeStore>>, NoMemory>
         NodeStores::Nothing => Ok(None),
         NodeStores::Growing { .. } => Ok(None),
         NodeStores::Whole { store } => Ok(Some(Arc::try_clone(store)?)),
+        NodeStores::Read { .. } => Ok(None),
     }
 }

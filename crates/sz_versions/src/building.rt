@@ -1,15 +1,17 @@
 //! When the stores of a version are built, and of what: at its start each node whose list has a
 //! strategy that keeps one has a shelf, on which workers may place what they make; and at its await
-//! what is missing is made, and the stores are taken off. Nothing else in this crate says when.
+//! what is missing is made, and the stores are shared off it. Nothing else in this crate says when.
 
 ghost use Rattle.std.specs.Prelude.{◌≡◌, true, false, map, IfOk};
 ghost use Rattle.std.specs.List.{list_all};
 ghost use Rattle.sz_spec.specs.Modes.{supports};
 ghost use Rattle.sz_flow.specs.Executions.{execution_of};
 ghost use Rattle.sz_shelf.specs.Places.{Place};
+ghost use Rattle.sz_shelf.specs.Passes.{place_of};
 ghost use Rattle.std.specs.Arc.{arc_value};
 ghost use Rattle.sz_versions.specs.Stores.{IsKeptOf, AreKeptOf, AreListed, AreStoresFor};
-ghost use Rattle.sz_versions.specs.Stores.{has_stored, keeping_of, IsShelfFor};
+ghost use Rattle.sz_versions.specs.Stores.{has_stored, keeping_of, IsShelfFor, whole};
+ghost use Rattle.sz_versions.specs.Lending.{IsKeptStill, AreKeptStill, IsTrailStill};
 
 use crate::runs::{NodeStores, VersionRun};
 use std::alloc::Global;
@@ -109,21 +111,23 @@ fn shelf_for(
     Shelf::make(alloc, Arc::try_clone(&run.at)?, run.inputs.as_slice(), list)
 }
 
-/// A version's run with the stores of each node whole. It takes the time of what workers left
-/// undone.
-pub fn ended<R: Wait>(
+/// A version's run with the stores of each node whole, beside the one that it has: they share the
+/// runs, and of what that one keeps nothing changes but that passes took turns. It takes the time
+/// of what workers left undone.
+pub(crate) fn ended<R: Wait>(
     alloc: Global,
     rt: &R,
-    run: VersionRun,
+    run: &mut VersionRun,
     lists: &[StrategyList],
 ) -> Result<VersionRun, NoMemory>
-    requires listed { AreListed run.executions lists.now }
-    requires kept { AreKeptOf false run.executions lists.now run.kept }
-    ensures executions { IfOk result (λ v. v.executions ≡ run.executions) }
-    ensures whole { IfOk result (λ v. AreKeptOf true run.executions lists.now v.kept) }
+    requires listed { AreListed run.old.executions lists.now }
+    requires kept { AreKeptOf false run.old.executions lists.now run.old.kept }
+    ensures executions { IfOk result (λ v. v.executions ≡ run.old.executions) }
+    ensures whole { IfOk result (λ v. AreKeptOf true run.old.executions lists.now v.kept) }
+    ensures still { IsTrailStill run.old run.new }
 {
-    let VersionRun { runs, stores } = run;
-    let stores = whole_stores(alloc, rt, &runs, lists, stores)?;
+    let runs = Arc::try_clone(&run.runs)?;
+    let stores = whole_stores(alloc, rt, &run.runs, lists, &mut run.stores)?;
     Ok(VersionRun { runs, stores })
 }
 
@@ -133,21 +137,24 @@ fn whole_stores<R: Wait>(
     rt: &R,
     runs: &[NodeRun],
     lists: &[StrategyList],
-    begun: Vec<NodeStores>,
+    begun: &mut [NodeStores],
 ) -> Result<Vec<NodeStores>, NoMemory>
     requires listed { AreListed (map execution_of runs.now) lists.now }
     requires kept { AreKeptOf false (map execution_of runs.now) lists.now
-        (map keeping_of begun.items) }
-    ensures { IfOk result (λ v.
+        (map keeping_of begun.old) }
+    ensures whole { IfOk result (λ v.
         AreKeptOf true (map execution_of runs.now) lists.now (map keeping_of v.items)) }
+    ensures still { AreKeptStill (map keeping_of begun.old) (map keeping_of begun.new) }
 {
     let mut stores = Vec::with_capacity(alloc, runs.len())?;
-    let mut begun = begun.into_iter();
     for node in 0..runs.len() {
-        let Some(one) = begun.next() else {
-            unreachable!()
-        };
-        stores.push(end(alloc, rt, &runs[node], lists[node].as_slice(), one)?)?;
+        stores.push(end(
+            alloc,
+            rt,
+            &runs[node],
+            lists[node].as_slice(),
+            &mut begun[node],
+        )?)?;
     }
     Ok(stores)
 }
@@ -158,27 +165,51 @@ fn end<R: Wait>(
     rt: &R,
     run: &NodeRun,
     list: &[Strategy],
-    begun: NodeStores,
+    begun: &mut NodeStores,
 ) -> Result<NodeStores, NoMemory>
     requires supported { list_all (supports (execution_of run.now).site.op) list.now ≡ true }
-    requires kept { IsKeptOf false (execution_of run.now) list.now (keeping_of begun) }
-    ensures { IfOk result (λ s. IsKeptOf true (execution_of run.now) list.now (keeping_of s)) }
+    requires kept { IsKeptOf false (execution_of run.now) list.now (keeping_of begun.old) }
+    ensures whole { IfOk result
+        (λ s. IsKeptOf true (execution_of run.now) list.now (keeping_of s)) }
+    ensures still { IsKeptStill (keeping_of begun.old) (keeping_of begun.new) }
 {
     match begun {
-        NodeStores::Nothing => {
-            if !has_stored(list) {
-                return Ok(NodeStores::Nothing);
-            }
-            let (shelf, pass) = shelf_for(alloc, run, list)?;
-            Ok(NodeStores::Whole {
-                store: taken(alloc, rt, run, list, &shelf, pass)?,
-            })
-        }
+        NodeStores::Nothing => made(alloc, rt, run, list),
         NodeStores::Growing { shelf, pass } => Ok(NodeStores::Whole {
-            store: taken(alloc, rt, run, list, &shelf, pass)?,
+            store: taken(alloc, rt, run, list, shelf, pass)?,
         }),
-        NodeStores::Whole { store } => Ok(NodeStores::Whole { store }),
+        NodeStores::Whole { store } => shared(store),
+        NodeStores::Read { .. } => unreachable!(),
     }
+}
+
+/// The same stores, shared once more.
+fn shared(store: &Arc<NodeStore>) -> Result<NodeStores, NoMemory>
+    ensures { IfOk result (λ s. keeping_of s ≡ whole (arc_value store.now)) }
+{
+    Ok(NodeStores::Whole {
+        store: Arc::try_clone(store)?,
+    })
+}
+
+/// The stores of a run for a list, whole, of which nothing is kept: they are made, where a strategy
+/// of the list keeps one.
+fn made<R: Wait>(
+    alloc: Global,
+    rt: &R,
+    run: &NodeRun,
+    list: &[Strategy],
+) -> Result<NodeStores, NoMemory>
+    requires { list_all (supports (execution_of run.now).site.op) list.now ≡ true }
+    ensures { IfOk result (λ s. IsKeptOf true (execution_of run.now) list.now (keeping_of s)) }
+{
+    if !has_stored(list) {
+        return Ok(NodeStores::Nothing);
+    }
+    let (shelf, mut pass) = shelf_for(alloc, run, list)?;
+    Ok(NodeStores::Whole {
+        store: taken(alloc, rt, run, list, &shelf, &mut pass)?,
+    })
 }
 
 /// The stores on a shelf, once what is missing was made and placed.
@@ -188,15 +219,16 @@ fn taken<R: Wait>(
     run: &NodeRun,
     list: &[Strategy],
     shelf: &Shelf,
-    pass: Pass,
+    pass: &mut Pass,
 ) -> Result<Arc<NodeStore>, NoMemory>
-    requires { IsShelfFor (execution_of run.now) list.now shelf.now pass }
-    ensures { IfOk result (λ s. AreStoresFor (execution_of run.now) list.now (arc_value s)) }
+    requires { IsShelfFor (execution_of run.now) list.now shelf.now pass.old }
+    ensures stands { IfOk result
+        (λ s. AreStoresFor (execution_of run.now) list.now (arc_value s)) }
+    ensures place { place_of pass.new ≡ place_of pass.old }
 {
-    let mut pass = pass;
     let mut tally = Tally::new();
-    finish(alloc, rt, run, list, shelf, &mut pass, &mut tally)?;
-    match shelf.store_of(alloc, rt, &mut pass)? {
+    finish(alloc, rt, run, list, shelf, pass, &mut tally)?;
+    match shelf.store_of(alloc, rt, pass)? {
         Some(store) => Ok(store),
         None => unreachable!(),
     }

@@ -1,24 +1,24 @@
 //! What is asked along a path of a version.
 
-ghost use Rattle.std.specs.Prelude.{◌≡◌, ◌*◌, ◌≤◌, ℕ, true, length, map, take, IfOk, OnOk, OnErr};
-ghost use Rattle.std.specs.List.{AllZip, list_all};
+ghost use Rattle.std.specs.Prelude.{◌≡◌, ◌*◌, ◌≤◌, true, length, map, IfOk, OnOk, OnErr};
+ghost use Rattle.std.specs.List.{list_all};
 ghost use Rattle.std.specs.Arc.{arc_value};
 ghost use Rattle.sz_cells.specs.Extent.{holds};
 ghost use Rattle.sz_cells.specs.Cells.{named_in};
 ghost use Rattle.sz_spec.specs.Paths.{is_joined, source_of, is_there};
 ghost use Rattle.sz_flow.specs.Executions.{execution_of};
 ghost use Rattle.sz_shelf.specs.Passes.{place_of, with_split, split_off};
-ghost use Rattle.sz_query.specs.Views.{view_of, by_map, by_trace, by_growth, most_traced_by};
-ghost use Rattle.sz_query.specs.Answers.{most_traced_of};
+ghost use Rattle.sz_query.specs.Views.{view_of, by_map, by_trace, by_store, by_growth};
+ghost use Rattle.sz_query.specs.Views.{most_traced_by};
+ghost use Rattle.sz_query.specs.Answers.{most_traced_of, AreSteps};
 ghost use Rattle.sz_catalogue.specs.Starts.{step_start, path_start, cell_named};
 ghost use Rattle.sz_catalogue.specs.Rules.{has_named_cell};
 ghost use Rattle.sz_versions.specs.Runs.{IsSoundVersion};
-ghost use Rattle.sz_versions.specs.Stores.{IsTrailOf, IsOwn, keeping_of};
-ghost use Rattle.sz_versions.specs.Views.{view_by, view_kept, IsViewOf, are_there};
-ghost use Rattle.sz_versions.specs.Lending.{lent, once_viewed, once_asked, once_along};
-ghost use Rattle.sz_versions.specs.Searches.{IsSearchOf};
+ghost use Rattle.sz_versions.specs.Stores.{IsOwn, keeping_of};
+ghost use Rattle.sz_versions.specs.Views.{view_by, view_kept, are_there};
+ghost use Rattle.sz_versions.specs.Lending.{lent, once_viewed, once_asked, IsTrailStill};
+ghost use Rattle.sz_versions.specs.Along.{view_in, views_along, search_along, IsTrailFor};
 
-use crate::carry::Carry;
 use crate::inquiry::Inquiry;
 use crate::runs::{NodeStores, VersionRun};
 use std::alloc::Global;
@@ -30,29 +30,29 @@ use sz_query::{Growing, NodeRunRef, NodeView};
 use sz_script::{NamedCell, NamedCells, Path, PathStep};
 use sz_shelf::{Pass, Shelf};
 use sz_spec::{Array, ArrayList, Dir, Strategy, way};
+use sz_store::NodeStore;
 
 /// What is asked along a path from some named cells, each step by the view of its node for the way
 /// of the step. It shares what the run holds, and a view of a shelf has a pass that is split off,
-/// for which the run is lent: of the run, nothing but these splits changes, and where there is no
-/// memory, those for the first steps.
-pub fn inquiry_along(
+/// which counts it: of what the run keeps nothing else changes.
+pub(crate) fn inquiry_along(
     alloc: Global,
-    version: &HeldVersion<Carry>,
+    version: &HeldVersion,
     run: &mut VersionRun,
     dir: Dir,
     path: &Path,
     named: &NamedCells,
 ) -> Result<Inquiry, NoMemory>
     requires sound { IsSoundVersion version.now }
-    requires run { IsTrailOf version.now run.old }
+    requires run { IsTrailFor version.now run.old }
     requires joined { is_joined dir version.now.flow path.now ≡ true }
+    requires steps { AreSteps dir (views_along version.now dir path.now run.old)
+        (map (λ s. s.input) path.now) (path_start dir version.now path.now) }
     requires named { list_all (has_named_cell (path_start dir version.now path.now)) named.now
         ≡ true }
-    ensures search { IfOk result (λ s. IsSearchOf version.now dir path.now named.now s) }
-    ensures counted { OnOk result (run.new ≡ once_along version.now dir path.now run.old) }
-    ensures err { OnErr result
-        ((n : ℕ) × (run.new ≡ once_along version.now dir (take n path.now) run.old)) }
-    ensures own { IsTrailOf version.now run.new }
+    ensures search { IfOk result
+        (λ s. s ≡ search_along version.now dir path.now named.now run.old) }
+    ensures still { IsTrailStill run.old run.new }
 {
     let steps = path.as_slice();
     let start = start_of(version, run, dir, steps[0]);
@@ -68,9 +68,9 @@ pub fn inquiry_along(
 }
 
 /// The shape in which a step starts: backward, of its node's output; forward, of its input.
-fn start_of(_version: &HeldVersion<Carry>, run: &VersionRun, dir: Dir, step: PathStep) -> Shape
+fn start_of(_version: &HeldVersion, run: &VersionRun, dir: Dir, step: PathStep) -> Shape
     requires sound { IsSoundVersion _version.now }
-    requires run { IsTrailOf _version.now run.now }
+    requires run { IsTrailFor _version.now run.now }
     requires there { is_there (source_of _version.now.flow step) ≡ true }
     ensures { result ≡ step_start dir _version.now step }
 {
@@ -82,11 +82,7 @@ fn start_of(_version: &HeldVersion<Carry>, run: &VersionRun, dir: Dir, step: Pat
 }
 
 /// The cells of a shape that are named.
-pub(crate) fn cells_at(
-    alloc: Global,
-    shape: Shape,
-    named: &[NamedCell],
-) -> Result<CellSet, NoMemory>
+fn cells_at(alloc: Global, shape: Shape, named: &[NamedCell]) -> Result<CellSet, NoMemory>
     requires { list_all (has_named_cell shape) named.now ≡ true }
     ensures { IfOk result (λ s. s ≡ named_in shape (map (cell_named shape) named.now)) }
 {
@@ -111,7 +107,7 @@ fn cell_at(shape: Shape, named: NamedCell) -> Cell
 }
 
 /// The number of each step's input.
-pub(crate) fn inputs_of(alloc: Global, path: &[PathStep]) -> Result<Vec<u32>, NoMemory>
+fn inputs_of(alloc: Global, path: &[PathStep]) -> Result<Vec<u32>, NoMemory>
     ensures { IfOk result (λ v. v.items ≡ map (λ s. s.input) path.now) }
 {
     let mut inputs = Vec::with_capacity(alloc, path.len())?;
@@ -124,21 +120,19 @@ pub(crate) fn inputs_of(alloc: Global, path: &[PathStep]) -> Result<Vec<u32>, No
 /// The view of each step's node.
 fn views_of(
     alloc: Global,
-    version: &HeldVersion<Carry>,
+    version: &HeldVersion,
     run: &mut VersionRun,
     dir: Dir,
     path: &[PathStep],
 ) -> Result<Vec<NodeView>, NoMemory>
     requires sound { IsSoundVersion version.now }
-    requires run { IsTrailOf version.now run.old }
+    requires run { IsTrailFor version.now run.old }
     requires there { are_there version.now.flow path.now ≡ true }
     ensures views { IfOk result
-        (λ v. AllZip (IsViewOf version.now dir) path.now (map view_of v.items)) }
+        (λ v. map view_of v.items ≡ views_along version.now dir path.now run.old) }
     ensures few { IfOk result
         (λ v. most_traced_of (map view_of v.items) ≤ length path.now * 1048576) }
-    ensures counted { OnOk result (run.new ≡ once_along version.now dir path.now run.old) }
-    ensures err { OnErr result
-        ((n : ℕ) × (run.new ≡ once_along version.now dir (take n path.now) run.old)) }
+    ensures still { IsTrailStill run.old run.new }
 {
     let mut views = Vec::with_capacity(alloc, path.len())?;
     for step in path {
@@ -150,15 +144,15 @@ fn views_of(
 /// The view of a step's node, for the way of the step.
 fn view_at(
     alloc: Global,
-    version: &HeldVersion<Carry>,
+    version: &HeldVersion,
     run: &mut VersionRun,
     dir: Dir,
     step: PathStep,
 ) -> Result<NodeView, NoMemory>
     requires sound { IsSoundVersion version.now }
-    requires run { IsTrailOf version.now run.old }
+    requires run { IsTrailFor version.now run.old }
     requires there { is_there (source_of version.now.flow step) ≡ true }
-    ensures view { IfOk result (λ w. IsViewOf version.now dir step (view_of w)) }
+    ensures view { IfOk result (λ w. view_of w ≡ view_in version.now dir run.old step) }
     ensures few { IfOk result (λ w. most_traced_by (view_of w) ≤ 1048576) }
     ensures counted { OnOk result (run.new ≡ once_asked version.now dir step run.old) }
     ensures err { OnErr result (run.new ≡ run.old) }
@@ -199,8 +193,8 @@ fn view_by(
     }
 }
 
-/// The view by what a strategy keeps: by its store, by its shelf while that grows, and where
-/// nothing is kept by a trace.
+/// The view by what a strategy keeps: by its store, made or read, by its shelf while that grows,
+/// and where nothing is kept by a trace.
 fn kept_view(
     alloc: Global,
     way: Strategy,
@@ -216,12 +210,21 @@ fn kept_view(
     match stores {
         NodeStores::Nothing => trace_view(alloc, run),
         NodeStores::Growing { shelf, pass } => growing_view(alloc, way, run, shelf, pass),
-        NodeStores::Whole { store } => Ok(NodeView::Kept {
-            at: Arc::try_clone(&run.at)?,
-            store: Arc::try_clone(store)?,
-            s: way,
-        }),
+        NodeStores::Whole { store } => store_view(way, run, store),
+        NodeStores::Read { store } => store_view(way, run, store),
     }
+}
+
+/// The view by a strategy's store.
+fn store_view(way: Strategy, run: &NodeRun, store: &Arc<NodeStore>) -> Result<NodeView, NoMemory>
+    ensures { IfOk result (λ w. view_of w
+        ≡ by_store (execution_of run.now).site (arc_value store.now) way) }
+{
+    Ok(NodeView::Kept {
+        at: Arc::try_clone(&run.at)?,
+        store: Arc::try_clone(store)?,
+        s: way,
+    })
 }
 
 /// The view by a shelf on which a strategy's store grows, with a pass that is split off.
@@ -244,7 +247,7 @@ fn growing_view(
 }
 
 /// The view by the mapping of cells.
-pub(crate) fn map_view(run: &NodeRun) -> Result<NodeView, NoMemory>
+fn map_view(run: &NodeRun) -> Result<NodeView, NoMemory>
     ensures { IfOk result (λ w. view_of w ≡ by_map (execution_of run.now).site) }
 {
     let at = Arc::try_clone(&run.at)?;
@@ -252,7 +255,7 @@ pub(crate) fn map_view(run: &NodeRun) -> Result<NodeView, NoMemory>
 }
 
 /// The view by a trace over the arrays that the node took.
-pub(crate) fn trace_view(alloc: Global, run: &NodeRun) -> Result<NodeView, NoMemory>
+fn trace_view(alloc: Global, run: &NodeRun) -> Result<NodeView, NoMemory>
     ensures { IfOk result (λ w. view_of w
         ≡ by_trace (execution_of run.now).site (execution_of run.now).inputs) }
 {

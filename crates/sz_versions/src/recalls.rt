@@ -1,114 +1,58 @@
-//! The versions that a log gave: of each the runs of its nodes, computed again, and its stores as
-//! they were read.
+//! The versions that a log gave: of each the runs of its nodes, computed again, beside the stores
+//! that were read of it.
 
-ghost use Rattle.std.specs.Prelude.{◌≡◌, ◌==◌, find, map, All, Some, None, IfOk, IfSome, IfNone};
+ghost use Rattle.std.specs.Prelude.{◌≡◌, map, true, All, option_map, IfOk};
 ghost use Rattle.std.specs.Arc.{arc_value};
 ghost use Rattle.sz_catalogue.specs.Holdings.{arrays_of};
-ghost use Rattle.sz_recover.specs.Opened.{IsEntryOf};
-ghost use Rattle.sz_versions.specs.Recalls.{IsRecalledIn, AreRecalled};
-ghost use Rattle.sz_flow.specs.Executions.{execution_of};
 ghost use Rattle.sz_recover.specs.Fitting.{lineages};
+ghost use Rattle.sz_recover.specs.Opened.{IsEntryOf};
+ghost use Rattle.sz_versions.specs.Stores.{keeping_of, keeping_from};
+ghost use Rattle.sz_versions.specs.Residents.{IsResident, kept_of};
 
+use crate::held::HeldRun;
+use crate::runs::{NodeStores, VersionRun};
 use std::alloc::Global;
-use std::marker::Model;
 use std::sync::Arc;
 use std::thread::Threads;
-use sz_catalogue::{BaseArray, Carried, Catalogue};
+use sz_catalogue::{BaseArray, Catalogue};
 use sz_cells::NoMemory;
-use sz_flow::{NodeRun, run_all};
+use sz_flow::run_all;
 use sz_recover::KeptVersion;
 use sz_spec::Array;
 use sz_store::NodeStore;
 
-/// A version that a log gave. Contracts see its stores, and the executions.
-#[derive(Drop)]
-pub struct Recalled {
-    pub(crate) kept: KeptVersion,
-    pub(crate) runs: Vec<NodeRun>,
-}
-
-impl Model for Recalled {
-    ghost use Rattle.std.specs.Prelude.{map};
-    ghost use Rattle.sz_flow.specs.Executions.{execution_of};
-    ghost use Rattle.sz_versions.specs.Recalls.{Recall};
-
-    ghost Value = { Recall };
-
-    ghost view = { λ r. record { kept = r.kept; executions = map execution_of r.runs.items } };
-}
-
-impl Recalled {
-    /// The runs of its nodes.
-    pub fn runs(&self) -> &[NodeRun]
-        ensures { map execution_of result.now ≡ self.now.executions }
-    {
-        &self.runs
-    }
-
-    /// Its stores.
-    pub fn stores(&self) -> &[Option<Arc<NodeStore>>]
-        ensures { lineages result.now ≡ self.now.kept.stores }
-    {
-        &self.kept.nodes
-    }
-
-    /// The version's number.
-    fn number(&self) -> u32
-        ensures { result ≡ self.now.kept.number }
-    {
-        self.kept.version
-    }
-}
-
-/// The version of a number among those that a log gave. Costs a look at each of them.
-pub fn find(recalled: &[Recalled], version: u32) -> Option<&Recalled>
-    ensures some { IfSome result
-        (λ r. find (λ x. x.kept.number == version) recalled.now ≡ Some r.now) }
-    ensures none { IfNone result (find (λ x. x.kept.number == version) recalled.now ≡ None) }
-{
-    for at in 0..recalled.len() {
-        let one = &recalled[at];
-        if one.number() == version {
-            return Some(one);
-        }
-    }
-    None
-}
-
-/// What a session has of each version of a catalogue that a log gave, with its stores: the values
-/// of its nodes are computed again, each once.
-pub fn recall_each<R: Threads + Sync, K: Carried>(
+/// What is carried of each version of a catalogue that a log gave, with its stores: the values of
+/// its nodes are computed again, each once.
+pub(crate) fn recall_each<R: Threads + Sync>(
     rt: &R,
     alloc: Global,
-    catalogue: &Catalogue<K>,
+    catalogue: &Catalogue,
     stores: Vec<KeptVersion>,
-) -> Result<Vec<Recalled>, NoMemory>
+) -> Result<Vec<HeldRun>, NoMemory>
     requires { All (IsEntryOf catalogue.now) stores.items }
-    ensures own { IfOk result (λ v. AreRecalled catalogue.now v.items) }
-    ensures kept { IfOk result (λ v. map (λ r. r.kept) v.items ≡ stores.items) }
+    ensures own { IfOk result (λ v. All (IsResident catalogue.now) v.items) }
+    ensures logged { IfOk result (λ v. All (λ r. r.logged ≡ true) v.items) }
+    ensures kept { IfOk result (λ v. map kept_of v.items ≡ stores.items) }
 {
     let count = stores.len();
     let mut recalled = Vec::with_capacity(alloc, count)?;
-    let mut stores = stores.into_iter();
-    for _at in 0..count {
-        let Some(kept) = stores.next() else {
-            unreachable!()
-        };
-        recalled.push(recall(rt, alloc, catalogue, kept)?)?;
+    for at in 0..count {
+        recalled.push(recall(rt, alloc, catalogue, &stores[at])?)?;
     }
     Ok(recalled)
 }
 
-/// What a session has of a version.
-fn recall<R: Threads + Sync, K: Carried>(
+/// What is carried of a version.
+fn recall<R: Threads + Sync>(
     rt: &R,
     alloc: Global,
-    catalogue: &Catalogue<K>,
-    kept: KeptVersion,
-) -> Result<Recalled, NoMemory>
-    requires { IsEntryOf catalogue.now kept }
-    ensures own { IfOk result (λ r. IsRecalledIn catalogue.now r) }
-    ensures kept { IfOk result (λ r. r.kept ≡ kept) }
+    catalogue: &Catalogue,
+    kept: &KeptVersion,
+) -> Result<HeldRun, NoMemory>
+    requires { IsEntryOf catalogue.now kept.now }
+    ensures own { IfOk result (λ r. IsResident catalogue.now r) }
+    ensures logged { IfOk result (λ r. r.logged ≡ true) }
+    ensures kept { IfOk result (λ r. kept_of r ≡ kept.now) }
 {
     catalogue.is_in_order();
     let Some(held) = catalogue.version(kept.version) else {
@@ -116,7 +60,36 @@ fn recall<R: Threads + Sync, K: Carried>(
     };
     let arrays = arrays_of(alloc, held.base.as_slice())?;
     let runs = run_all(rt, alloc, &held.flow, &arrays)?;
-    Ok(Recalled { kept, runs })
+    let stores = stores_read(alloc, &kept.nodes)?;
+    Ok(HeldRun {
+        number: kept.version,
+        logged: true,
+        run: VersionRun::of(alloc, runs, stores)?,
+    })
+}
+
+/// What is kept of each node: the stores that were read of it.
+fn stores_read(alloc: Global, nodes: &[Option<Arc<NodeStore>>]) -> Result<Vec<NodeStores>, NoMemory>
+    ensures { IfOk result (λ v. map keeping_of v.items ≡ map keeping_from (lineages nodes.now)) }
+{
+    let mut stores = Vec::with_capacity(alloc, nodes.len())?;
+    for node in nodes {
+        stores.push(store_read(node)?)?;
+    }
+    Ok(stores)
+}
+
+/// What is kept of a node: the stores that were read of it, where there are some.
+fn store_read(node: &Option<Arc<NodeStore>>) -> Result<NodeStores, NoMemory>
+    ensures { IfOk result
+        (λ s. keeping_of s ≡ keeping_from (option_map (λ a. arc_value a) node.now)) }
+{
+    match node {
+        Some(store) => Ok(NodeStores::Read {
+            store: Arc::try_clone(store)?,
+        }),
+        None => Ok(NodeStores::Nothing),
+    }
 }
 
 /// The arrays of base arrays, shared.

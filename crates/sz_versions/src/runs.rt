@@ -1,8 +1,8 @@
-//! What a version that is held carries: the runs of its nodes, and what is kept of each.
+//! What is carried of a version: the runs of its nodes, and what is kept of each.
 
 ghost use Rattle.std.specs.Prelude.{◌≡◌, map, IfOk};
 ghost use Rattle.sz_flow.specs.Executions.{execution_of};
-ghost use Rattle.sz_versions.specs.Stores.{keeping_of, settled, settled_trail};
+ghost use Rattle.sz_versions.specs.Stores.{keeping_of};
 
 use std::alloc::Global;
 use std::marker::Model;
@@ -21,21 +21,8 @@ pub enum NodeStores {
     Growing { shelf: Arc<Shelf>, pass: Pass },
     /// Its stores, which are whole.
     Whole { store: Arc<NodeStore> },
-}
-
-impl NodeStores {
-    /// The stores, where they are whole, and else nothing.
-    fn settled(&self) -> Result<NodeStores, NoMemory>
-        ensures { IfOk result (λ s. keeping_of s ≡ settled (keeping_of self.now)) }
-    {
-        match self {
-            NodeStores::Nothing => Ok(NodeStores::Nothing),
-            NodeStores::Growing { .. } => Ok(NodeStores::Nothing),
-            NodeStores::Whole { store } => Ok(NodeStores::Whole {
-                store: Arc::try_clone(store)?,
-            }),
-        }
-    }
+    /// Stores that were read of a log, whatever they stand for.
+    Read { store: Arc<NodeStore> },
 }
 
 /// The run of a version: the runs of its nodes, and what is kept of each, in the order of the
@@ -81,20 +68,5 @@ impl VersionRun {
         ensures { map execution_of result.now ≡ self.now.executions }
     {
         &self.runs
-    }
-
-    /// A run that stands in for this one while it is worked on: the same runs, with the stores that
-    /// are whole.
-    pub fn stand_in(&self, alloc: Global) -> Result<VersionRun, NoMemory>
-        ensures { IfOk result (λ v. v ≡ settled_trail self.now) }
-    {
-        let mut stores = Vec::with_capacity(alloc, self.stores.len())?;
-        for one in &self.stores {
-            stores.push(one.settled()?)?;
-        }
-        Ok(VersionRun {
-            runs: Arc::try_clone(&self.runs)?,
-            stores,
-        })
     }
 }

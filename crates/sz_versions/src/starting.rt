@@ -1,4 +1,4 @@
-//! What a version that is started carries.
+//! What is carried of a version that is started.
 
 ghost use Rattle.std.specs.Prelude.{◌≡◌, All, false, map, None, IfOk};
 ghost use Rattle.std.specs.Arc.{arc_value};
@@ -11,7 +11,6 @@ ghost use Rattle.sz_catalogue.specs.Kept.{IsWorkflow};
 ghost use Rattle.sz_versions.specs.Stores.{IsTrailOf};
 
 use crate::building::{begun, prepared};
-use crate::carry::Carry;
 use crate::runs::VersionRun;
 use crate::tasks::Hands;
 use std::alloc::Global;
@@ -23,13 +22,13 @@ use sz_flow::run_all;
 use sz_script::BaseName;
 use sz_spec::Array;
 
-/// What the version that a start makes carries: the runs of its nodes, each value computed once,
-/// and for each node with a stored strategy what its lineage needs, prepared once, and a shelf, of
-/// which tasks are handed out.
+/// What is carried of the version that a start makes: the runs of its nodes, each value computed
+/// once, and for each node with a stored strategy what its lineage needs, prepared once, and a
+/// shelf, of which tasks are handed out.
 pub fn run_version<R: Threads + Wait + Sync>(
     rt: &R,
     alloc: Global,
-    catalogue: &Catalogue<Carry>,
+    catalogue: &Catalogue,
     hands: &Hands,
     name: &str,
     base: &[BaseName],
@@ -58,7 +57,7 @@ pub fn run_version<R: Threads + Wait + Sync>(
 /// The base arrays of these names and versions, all of which are held.
 fn arrays_named(
     alloc: Global,
-    catalogue: &Catalogue<Carry>,
+    catalogue: &Catalogue,
     base: &[BaseName],
 ) -> Result<Vec<Arc<Array>>, NoMemory>
     requires { has_no_array catalogue.now base.now ≡ false }

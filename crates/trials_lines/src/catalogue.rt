@@ -14,28 +14,15 @@ use std::fmt::Write;
 use std::sync::Arc;
 use std::test::Fail;
 use sz_catalogue::{
-    BaseArray, BaseArrays, Carried, Catalogue, HeldVersion, Reply, StrategyLists, reply_text,
+    BaseArray, BaseArrays, Catalogue, HeldVersion, Reply, StrategyLists, reply_text,
 };
 use sz_cells::{Cell, CellSet, NoMemory, Shape};
 use sz_script::{Command, LineFault, Name, StrategyList, read_line};
 use sz_spec::{Array, Flow, Node, Strategy, output_shapes};
 
-/// What is kept with a version here: a number, which belongs to any version.
-#[derive(Drop)]
-struct Mark {
-    number: u32,
-}
-
-impl Carried for Mark {
-    ghost belongs = { λ kept v. Unit {0} };
-}
-
-/// A catalogue that keeps a number with each of its versions.
-type Held = Catalogue<Mark>;
-
 /// Reads a line, judges its command and takes it. A reply to a line that changes nothing is that it
 /// is done.
-fn take(alloc: Global, held: &mut Held, line: &[u8]) -> Result<Reply, Fail> {
+fn take(alloc: Global, held: &mut Catalogue, line: &[u8]) -> Result<Reply, Fail> {
     sz_script::laws::commands_are_right();
     let command = match read_line(alloc, line) {
         Ok(command) => command,
@@ -51,7 +38,7 @@ fn take(alloc: Global, held: &mut Held, line: &[u8]) -> Result<Reply, Fail> {
 }
 
 /// Takes a command that no rule refuses.
-fn accept(held: &mut Held, command: Command) -> Result<Reply, NoMemory>
+fn accept(held: &mut Catalogue, command: Command) -> Result<Reply, NoMemory>
     requires right { is_right command ≡ true }
     requires judged { judged held.old command ≡ None }
 {
@@ -76,8 +63,8 @@ fn accept(held: &mut Held, command: Command) -> Result<Reply, NoMemory>
             back,
             forward,
         }),
-        Command::Start { name, base } => held.start(name, base.as_slice(), Mark { number: 1 }),
-        Command::Await { version } => Ok(held.await_version(version, Mark { number: 2 })),
+        Command::Start { name, base } => held.start(name, base.as_slice()),
+        Command::Await { version } => Ok(held.await_version(version)),
         Command::Ask { .. } => Ok(Reply::Done { version: 0 }),
         Command::Explain { .. } => Ok(Reply::Done { version: 0 }),
         Command::Show { .. } => Ok(Reply::Done { version: 0 }),
@@ -85,7 +72,7 @@ fn accept(held: &mut Held, command: Command) -> Result<Reply, NoMemory>
 }
 
 /// Whether a line is answered by this text.
-fn says(alloc: Global, held: &mut Held, line: &[u8], text: &str) -> Result<bool, Fail> {
+fn says(alloc: Global, held: &mut Catalogue, line: &[u8], text: &str) -> Result<bool, Fail> {
     let reply = take(alloc, held, line)?;
     let said = reply_text(alloc, 7, &reply)?;
     Ok(said.as_slice() == text.as_bytes())
@@ -99,7 +86,7 @@ fn flow_line(alloc: Global, number: u32) -> Result<String, Fail> {
 }
 
 /// Holds one array, one flow and one version fewer than can be held.
-fn fill(alloc: Global, held: &mut Held) -> Result<(), Fail> {
+fn fill(alloc: Global, held: &mut Catalogue) -> Result<(), Fail> {
     for _ in 0..4_095 {
         let _array = take(alloc, held, br#"{"array":"a","cells":[[5]]}"#)?;
     }
@@ -115,7 +102,7 @@ fn fill(alloc: Global, held: &mut Held) -> Result<(), Fail> {
 
 /// Whether the last array and the last version that can be held are, and no further one. A version
 /// that cannot be started can be planned.
-fn holds_the_last(alloc: Global, held: &mut Held) -> Result<bool, Fail> {
+fn holds_the_last(alloc: Global, held: &mut Catalogue) -> Result<bool, Fail> {
     let array = br#"{"array":"a","cells":[[5]]}"#;
     let start = br#"{"start":"f7","base":[["a",1]]}"#;
     let last_array = says(alloc, held, array, "7 array a 4096\n")?;
@@ -128,7 +115,7 @@ fn holds_the_last(alloc: Global, held: &mut Held) -> Result<bool, Fail> {
 }
 
 /// Whether the last flow that can be held is, and no further one.
-fn holds_the_last_flow(alloc: Global, held: &mut Held) -> Result<bool, Fail> {
+fn holds_the_last_flow(alloc: Global, held: &mut Catalogue) -> Result<bool, Fail> {
     let line = flow_line(alloc, 1_023)?;
     let last = says(alloc, held, line.as_bytes(), "7 flow f1023\n")?;
     let line = flow_line(alloc, 1_024)?;
@@ -139,7 +126,7 @@ fn holds_the_last_flow(alloc: Global, held: &mut Held) -> Result<bool, Fail> {
 #[test]
 fn the_last_array_flow_and_version_is_held(rt: HostRuntime) -> Result<(), Fail> {
     let alloc = rt.alloc();
-    let mut held = Held::new(alloc);
+    let mut held = Catalogue::new(alloc);
     fill(alloc, &mut held)?;
     assert!(rt; holds_the_last(alloc, &mut held)?);
     assert!(rt; holds_the_last_flow(alloc, &mut held)?);
@@ -147,8 +134,8 @@ fn the_last_array_flow_and_version_is_held(rt: HostRuntime) -> Result<(), Fail> 
 }
 
 /// A catalogue with an array `a` of one cell, and a flow `f` of one negation.
-fn with_flow(alloc: Global) -> Result<Held, Fail> {
-    let mut held = Held::new(alloc);
+fn with_flow(alloc: Global) -> Result<Catalogue, Fail> {
+    let mut held = Catalogue::new(alloc);
     let flow = br#"{"flow":"f","inputs":1,"nodes":[{"op":"neg","from":[{"i":0}]}]}"#;
     let _array = take(alloc, &mut held, br#"{"array":"a","cells":[[5]]}"#)?;
     let _flow = take(alloc, &mut held, flow)?;
@@ -156,7 +143,7 @@ fn with_flow(alloc: Global) -> Result<Held, Fail> {
 }
 
 /// The version of the flow `f` of one node on the first array of `a`, by black box and awaited.
-fn version_of(alloc: Global, flow: Arc<Flow>, array: Arc<Array>) -> Result<HeldVersion<Mark>, Fail>
+fn version_of(alloc: Global, flow: Arc<Flow>, array: Arc<Array>) -> Result<HeldVersion, Fail>
     ensures name { IfOk result (λ v. v.flow_name ≡ codes "f") }
     ensures flow { IfOk result (λ v. v.flow ≡ arc_value flow) }
     ensures base { IfOk result
@@ -176,7 +163,6 @@ fn version_of(alloc: Global, flow: Arc<Flow>, array: Arc<Array>) -> Result<HeldV
         base: BaseArrays::of(vec![in alloc; array]?),
         lists: StrategyLists::of(vec![in alloc; list]?),
         awaited: true,
-        kept: Mark { number: 0 },
     })
 }
 
@@ -216,7 +202,7 @@ fn cells_of(shapes: &[Shape]) -> u64
 
 /// How many cells the outputs of a version have, where its flow has one node and takes one base
 /// array, and the shapes fit.
-fn output_cells(alloc: Global, version: &HeldVersion<Mark>) -> Result<u64, Fail>
+fn output_cells(alloc: Global, version: &HeldVersion) -> Result<u64, Fail>
     requires base { length version.now.base ≡ 1 }
     requires lists { version.now.lists ≡ (strategy.BlackBox ∷ []) ∷ [] }
     ensures count { OnOk result (length version.now.base ≡ version.now.flow.inputs) }
@@ -237,7 +223,7 @@ fn output_cells(alloc: Global, version: &HeldVersion<Mark>) -> Result<u64, Fail>
 }
 
 /// Adds a version of `f` on the first array of `a` under a number that is not held.
-fn add(alloc: Global, held: &mut Held, number: u32) -> Result<(), Fail> {
+fn add(alloc: Global, held: &mut Catalogue, number: u32) -> Result<(), Fail> {
     let flow = Arc::try_clone(held.flow("f").ok_or("the flow")?)?;
     let array = Arc::try_clone(held.array("a", 1).ok_or("the array")?)?;
     let version = version_of(alloc, flow, array)?;
@@ -250,7 +236,7 @@ fn add(alloc: Global, held: &mut Held, number: u32) -> Result<(), Fail> {
 }
 
 /// Whether a version is the one that is added.
-fn is_added(version: Option<&HeldVersion<Mark>>) -> bool {
+fn is_added(version: Option<&HeldVersion>) -> bool {
     let Some(version) = version else {
         return false;
     };
@@ -267,7 +253,7 @@ fn is_added(version: Option<&HeldVersion<Mark>>) -> bool {
 }
 
 /// Whether strategies are set, a version is started and awaited, and a cell outside is refused.
-fn runs(alloc: Global, held: &mut Held) -> Result<bool, Fail> {
+fn runs(alloc: Global, held: &mut Catalogue) -> Result<bool, Fail> {
     let list = br#"{"strategy":"f","node":0,"list":["blackbox"]}"#;
     let start = br#"{"start":"f","base":[["a",1]]}"#;
     let outside = br#"{"ask":1,"dir":"back","path":[[0,0]],"cells":[[1,1]]}"#;
@@ -279,7 +265,7 @@ fn runs(alloc: Global, held: &mut Held) -> Result<bool, Fail> {
 }
 
 /// Whether what is held is found, and nothing else.
-fn finds(held: &Held) -> bool {
+fn finds(held: &Catalogue) -> bool {
     held.flow("f").is_some()
         && held.flow("a").is_none()
         && held.array("a", 1).is_some()
@@ -290,22 +276,8 @@ fn finds(held: &Held) -> bool {
         && !held.has_room(4_194_303)
 }
 
-/// The number that was kept with a version, with another in its place.
-fn exchanged(held: &mut Held, version: u32, number: u32) -> Option<u32> {
-    if held.version(version).is_none() {
-        return None;
-    }
-    Some(held.exchange(version, Mark { number }).number)
-}
-
-/// Whether the number that the await gave is handed out, and then the one that was put in its
-/// place.
-fn exchanges(held: &mut Held) -> bool {
-    exchanged(held, 1, 3) == Some(2) && exchanged(held, 1, 4) == Some(3)
-}
-
 /// Whether the next number is behind the greatest.
-fn counts_on(alloc: Global, held: &mut Held) -> Result<bool, Fail> {
+fn counts_on(alloc: Global, held: &mut Catalogue) -> Result<bool, Fail> {
     let start = br#"{"start":"f","base":[["a",1]]}"#;
     add(alloc, held, 7)?;
     let is_held = is_added(held.version(7));
@@ -323,7 +295,6 @@ fn a_session_is_held(rt: HostRuntime) -> Result<(), Fail> {
     let mut held = with_flow(alloc)?;
     assert!(rt; runs(alloc, &mut held)?);
     assert!(rt; finds(&held));
-    assert!(rt; exchanges(&mut held));
     assert!(rt; counts_on(alloc, &mut held)?);
     Ok(())
 }
@@ -331,7 +302,7 @@ fn a_session_is_held(rt: HostRuntime) -> Result<(), Fail> {
 /// Whether a plan of the flow on the first array of `m` is answered by this text.
 fn plans(
     alloc: Global,
-    held: &mut Held,
+    held: &mut Catalogue,
     flow: &str,
     units: u32,
     back: u32,
@@ -347,7 +318,7 @@ fn plans(
 }
 
 /// Whether the flow `one`, of one node that cleans 2 by 2 cells, is planned for few units.
-fn plans_one(alloc: Global, held: &mut Held) -> Result<bool, Fail> {
+fn plans_one(alloc: Global, held: &mut Catalogue) -> Result<bool, Fail> {
     let no_unit = plans(alloc, held, "one", 0, 1, 0, "7 plan 16 0 blackbox\n")?;
     let back = plans(alloc, held, "one", 1, 1, 0, "7 plan 1 1 full_one_b\n")?;
     let forward = plans(alloc, held, "one", 1, 0, 1, "7 plan 1 1 full_one_f\n")?;
@@ -356,7 +327,7 @@ fn plans_one(alloc: Global, held: &mut Held) -> Result<bool, Fail> {
 }
 
 /// Whether the units of a plan are at most 65,536, and the flow is looked for first.
-fn plans_within_limits(alloc: Global, held: &mut Held) -> Result<bool, Fail> {
+fn plans_within_limits(alloc: Global, held: &mut Catalogue) -> Result<bool, Fail> {
     let most = plans(alloc, held, "one", 65_536, 1, 0, "7 plan 1 1 full_one_b\n")?;
     let more = plans(alloc, held, "one", 65_537, 1, 0, "7 refused 24\n")?;
     let no_flow = plans(alloc, held, "none", 65_537, 1, 0, "7 refused 10\n")?;
@@ -366,7 +337,7 @@ fn plans_within_limits(alloc: Global, held: &mut Held) -> Result<bool, Fail> {
 #[test]
 fn strategies_are_planned(rt: HostRuntime) -> Result<(), Fail> {
     let alloc = rt.alloc();
-    let mut held = Held::new(alloc);
+    let mut held = Catalogue::new(alloc);
     let one = br#"{"flow":"one","inputs":1,"nodes":[{"op":"clean","t":10,"from":[{"i":0}]}]}"#;
     let two = br#"{"flow":"two","inputs":1,"nodes":[{"op":"clean","t":10,"from":[{"i":0}]},
         {"op":"clean","t":10,"from":[{"n":0}]}]}"#;

@@ -10,7 +10,7 @@ use std::thread::Threads;
 use sz_catalogue::reply_text;
 use sz_outside::{MemStation, NoGate, Station};
 use sz_recover::{Recovered, catalogue_of};
-use sz_session::{Carry, Session};
+use sz_session::Session;
 use sz_spec::Tally;
 
 /// The first bytes of a log.
@@ -78,7 +78,7 @@ fn opened<T: Station, R: Threads + Sync>(
     if station.sync().is_err() {
         return Err(Fail::from("not synced"));
     }
-    let recovered: Recovered<Carry> = match catalogue_of(alloc, station) {
+    let recovered: Recovered = match catalogue_of(alloc, station) {
         Ok(recovered) => recovered,
         Err(_) => return Err(Fail::from("not opened")),
     };

@@ -25,7 +25,7 @@ const BODY: [u8; 64] = [
 ];
 
 /// Takes a line that holds an array or a flow.
-fn take(alloc: Global, held: &mut Catalogue<()>, line: &[u8]) -> Result<(), Fail> {
+fn take(alloc: Global, held: &mut Catalogue, line: &[u8]) -> Result<(), Fail> {
     sz_script::laws::commands_are_right();
     let command = match read_line(alloc, line) {
         Ok(command) => command,
@@ -39,7 +39,7 @@ fn take(alloc: Global, held: &mut Catalogue<()>, line: &[u8]) -> Result<(), Fail
 }
 
 /// Takes a command that no rule refuses, where it holds an array or a flow.
-fn accept(held: &mut Catalogue<()>, command: Command) -> Result<(), Fail>
+fn accept(held: &mut Catalogue, command: Command) -> Result<(), Fail>
     requires right { is_right command ≡ true }
     requires judged { judged held.old command ≡ None }
 {
@@ -65,7 +65,7 @@ fn accept(held: &mut Catalogue<()>, command: Command) -> Result<(), Fail>
 }
 
 /// A catalogue that holds what the body names.
-fn holds_both(alloc: Global) -> Result<Catalogue<()>, Fail> {
+fn holds_both(alloc: Global) -> Result<Catalogue, Fail> {
     let mut held = Catalogue::new(alloc);
     take(alloc, &mut held, br#"{"array":"a","cells":[[5]]}"#)?;
     let flow = br#"{"flow":"f","inputs":1,"nodes":[{"op":"neg","from":[{"i":0}]}]}"#;
@@ -74,7 +74,7 @@ fn holds_both(alloc: Global) -> Result<Catalogue<()>, Fail> {
 }
 
 /// Whether a body is bad.
-fn is_bad(alloc: Global, held: &Catalogue<()>, body: &[u8]) -> Result<bool, Fail> {
+fn is_bad(alloc: Global, held: &Catalogue, body: &[u8]) -> Result<bool, Fail> {
     match take_version_body(alloc, held, body) {
         Ok(_) => Ok(false),
         Err(TakeFault::Bad) => Ok(true),
@@ -83,7 +83,7 @@ fn is_bad(alloc: Global, held: &Catalogue<()>, body: &[u8]) -> Result<bool, Fail
 }
 
 /// Whether the body is bad with another byte at a place.
-fn breaks(alloc: Global, held: &Catalogue<()>, place: usize, byte: u8) -> Result<bool, Fail>
+fn breaks(alloc: Global, held: &Catalogue, place: usize, byte: u8) -> Result<bool, Fail>
     requires { place < 64 }
 {
     let mut body = BODY;
@@ -92,7 +92,7 @@ fn breaks(alloc: Global, held: &Catalogue<()>, place: usize, byte: u8) -> Result
 }
 
 /// The version that the body says.
-fn read(alloc: Global, held: &Catalogue<()>) -> Result<TakenVersion, Fail>
+fn read(alloc: Global, held: &Catalogue) -> Result<TakenVersion, Fail>
     ensures added { IfOk result (λ t. CanBeAdded held.now t.number t.version) }
     ensures fit { IfOk result (λ t. Fit t.version t.stores) }
 {
@@ -121,10 +121,7 @@ fn is_right(taken: &TakenVersion) -> bool {
 }
 
 /// Adds a version that was read, and gives its stores.
-fn add(
-    held: &mut Catalogue<()>,
-    taken: TakenVersion,
-) -> Result<Vec<Option<Arc<NodeStore>>>, NoMemory>
+fn add(held: &mut Catalogue, taken: TakenVersion) -> Result<Vec<Option<Arc<NodeStore>>>, NoMemory>
     requires added { CanBeAdded held.old taken.number taken.version }
     requires fit { Fit taken.version taken.stores }
     ensures held { OnOk result (has_no_version held.new taken.number ≡ false) }
@@ -137,7 +134,6 @@ fn add(
         base: taken.base,
         lists: taken.lists,
         awaited: true,
-        kept: (),
     };
     held.add_version(taken.number, version)?;
     Ok(taken.stores)
@@ -147,7 +143,7 @@ fn add(
 /// the names of a flow and of arrays that are not held and one that is no name, an array's version
 /// that is not held, no base array, too many nodes, a strategy that is none and one that is not the
 /// operator's, a set that is not in the table, and a set with a cell outside the shape.
-fn each_breaks(alloc: Global, held: &Catalogue<()>) -> Result<bool, Fail> {
+fn each_breaks(alloc: Global, held: &Catalogue) -> Result<bool, Fail> {
     let number = breaks(alloc, held, 3, 0)?;
     let flow = breaks(alloc, held, 5, b'g')?;
     let name = breaks(alloc, held, 5, 0x80)?;
@@ -159,7 +155,7 @@ fn each_breaks(alloc: Global, held: &Catalogue<()>) -> Result<bool, Fail> {
 }
 
 /// The same of the node.
-fn each_breaks_of_node(alloc: Global, held: &Catalogue<()>) -> Result<bool, Fail> {
+fn each_breaks_of_node(alloc: Global, held: &Catalogue) -> Result<bool, Fail> {
     let empty = breaks(alloc, held, 20, 0)?;
     let none = breaks(alloc, held, 21, 11)?;
     let other = breaks(alloc, held, 21, 6)?;
@@ -169,7 +165,7 @@ fn each_breaks_of_node(alloc: Global, held: &Catalogue<()>) -> Result<bool, Fail
 }
 
 /// Whether a byte more, and a byte fewer, is bad.
-fn breaks_at_the_end(alloc: Global, held: &Catalogue<()>) -> Result<bool, Fail> {
+fn breaks_at_the_end(alloc: Global, held: &Catalogue) -> Result<bool, Fail> {
     let mut longer = Vec::from_slice(alloc, &BODY)?;
     longer.push(0)?;
     let more = is_bad(alloc, held, &longer)?;

@@ -51,7 +51,7 @@ fn log_with(alloc: Global, store: &[u8]) -> Result<Vec<u8>, Fail> {
 }
 
 /// What the log opens to.
-fn opened(alloc: Global, store: &[u8]) -> Result<Recovered<()>, Fail> {
+fn opened(alloc: Global, store: &[u8]) -> Result<Recovered, Fail> {
     let disk = log_with(alloc, store)?;
     let mut station = MemStation::new(alloc, disk, Vec::new(alloc), Vec::new(alloc))?;
     match catalogue_of(alloc, &mut station) {

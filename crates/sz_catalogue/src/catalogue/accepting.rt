@@ -19,7 +19,6 @@ ghost use Rattle.sz_catalogue.specs.Plans.{plan_over, plan_for};
 ghost use Rattle.sz_catalogue.specs.Seen.{response_of};
 
 use super::Catalogue;
-use crate::carried::Carried;
 use crate::flows::HeldFlow;
 use crate::lists::BaseArrays;
 use crate::memory::{another_flow, another_owner, own_name};
@@ -33,7 +32,7 @@ use sz_planner::laws::{best_choices_are_one, lists_are_best_choices};
 use sz_script::{BaseName, Command, Name, StrategyList};
 use sz_spec::{Array, Flow, OpAt, output_shapes};
 
-impl<K: Carried> Catalogue<K> {
+impl Catalogue {
     /// Takes a command that changes no version and looks at none, and is refused by no rule.
     /// Without memory nothing is changed.
     ///
@@ -146,32 +145,25 @@ impl<K: Carried> Catalogue<K> {
         }
     }
 
-    /// Starts a version of a flow, where no rule refuses the start, with what is kept with it.
-    /// Without memory nothing is changed.
+    /// Starts a version of a flow, where no rule refuses the start. Without memory nothing is
+    /// changed.
     ///
     /// Takes time in the flow, in the base arrays, and in the logarithm of what is held.
-    pub fn start(&mut self, name: Name, base: &[BaseName], kept: K) -> Result<Reply, NoMemory>
+    pub fn start(&mut self, name: Name, base: &[BaseName]) -> Result<Reply, NoMemory>
         requires judged { judged self.old (command.Start name base.now) ≡ None }
-        requires kept { K.belongs kept (version_started self.old name base.now) }
         ensures ok { IfOk result
             (λ r. (self.new, response_of r) ≡ accepted self.old (command.Start name base.now)) }
         ensures err { OnErr result (self.new ≡ self.old) }
     {
         let number = self.versions.next_number() as u32;
-        let version = self.version_started(name, base, kept)?;
+        let version = self.version_started(name, base)?;
         self.add(number, version)?;
         Ok(Reply::Started { version: number })
     }
 
     /// The version that a start makes.
-    fn version_started(
-        &self,
-        name: Name,
-        base: &[BaseName],
-        kept: K,
-    ) -> Result<HeldVersion<K>, NoMemory>
+    fn version_started(&self, name: Name, base: &[BaseName]) -> Result<HeldVersion, NoMemory>
         requires flow { is_some (flow_named self.now name) ≡ true }
-        requires kept { K.belongs kept (version_started self.now name base.now) }
         ensures started { IfOk result (λ v. v ≡ version_started self.now name base.now) }
         ensures right { OnOk result (is_well_formed (workflow_of self.now name).graph ≡ true) }
         ensures lists { OnOk result (are_lists_for (workflow_of self.now name).graph.nodes
@@ -189,7 +181,6 @@ impl<K: Carried> Catalogue<K> {
             base,
             lists,
             awaited: false,
-            kept,
         })
     }
 
@@ -223,30 +214,15 @@ impl<K: Carried> Catalogue<K> {
         Ok(())
     }
 
-    /// Notes that a version was awaited, where no rule refuses the await, with what is kept with it
-    /// from then on.
+    /// Notes that a version was awaited, where no rule refuses the await.
     ///
     /// Takes time in the logarithm of what is held, and no memory.
-    pub fn await_version(&mut self, number: u32, kept: K) -> Reply
+    pub fn await_version(&mut self, number: u32) -> Reply
         requires judged { judged self.old (command.Await number) ≡ None }
-        requires belongs { K.belongs kept
-            (record (version_of self.old number) { awaited = true }) }
         ensures { (self.new, response_of result) ≡ accepted self.old (command.Await number) }
     {
-        self.versions.note_await(number, kept);
+        self.versions.note_await(number);
         Reply::Done { version: number }
-    }
-
-    /// What is kept with the version of a number, with this in its place.
-    ///
-    /// Takes time in the logarithm of what is held, and no memory.
-    pub fn exchange(&mut self, number: u32, kept: K) -> K
-        requires held { has_no_version self.old number ≡ false }
-        requires belongs { K.belongs kept (version_of self.old number) }
-        ensures same { self.new ≡ self.old }
-        ensures belongs { K.belongs result (version_of self.old number) }
-    {
-        self.versions.exchange(number, kept)
     }
 
     /// Holds a version that is awaited, under a number: at least 1, and not held. The flow and the
@@ -255,7 +231,7 @@ impl<K: Carried> Catalogue<K> {
     /// nothing is changed.
     ///
     /// Takes time in the flow's sources, and in the logarithm of what is held.
-    pub fn add_version(&mut self, number: u32, version: HeldVersion<K>) -> Result<(), NoMemory>
+    pub fn add_version(&mut self, number: u32, version: HeldVersion) -> Result<(), NoMemory>
         requires some { 1 ≤ number }
         requires new { version_numbered self.old number ≡ None }
         requires awaited { version.awaited ≡ true }
@@ -277,7 +253,7 @@ impl<K: Carried> Catalogue<K> {
     }
 
     /// Holds a version under a number that is not held.
-    fn add(&mut self, number: u32, version: HeldVersion<K>) -> Result<(), NoMemory>
+    fn add(&mut self, number: u32, version: HeldVersion) -> Result<(), NoMemory>
         requires some { 1 ≤ number }
         requires new { version_numbered self.old number ≡ None }
         requires flow { option_map (λ w. w.graph) (flow_named self.old version.flow_name)

@@ -14,7 +14,6 @@ ghost use Rattle.sz_catalogue.specs.Seen.{Judges};
 ghost use Rattle.sz_script.specs.Right.{is_right};
 
 use super::{Catalogue, GREATEST_NUMBER, MOST_ARRAYS, MOST_CELLS, MOST_FLOWS, MOST_UNITS};
-use crate::carried::Carried;
 use crate::paths::is_joined;
 use crate::shapes::cells_of;
 use crate::strategies::is_list_of;
@@ -23,7 +22,7 @@ use sz_cells::{NoMemory, Shape};
 use sz_script::{BaseName, Command, LineFault, NamedCell, PathStep, Refusal};
 use sz_spec::{Array, Dir, Flow, Strategy, output_shapes};
 
-impl<K: Carried> Catalogue<K> {
+impl Catalogue {
     /// Whether a rule refuses a command, and which is the first that does. The command is one that
     /// a line can be: its names are names, and its flow is well formed.
     ///

@@ -8,7 +8,7 @@ use Rattle.sz_recover.proofs.HeadParts.{if_bad-weaker}
 use Rattle.sz_recover.proofs.groups.act.Goals as goal
 
 pub returns-then-kind-eq-VERSION_KIND-clause-err : goal.returns-then-kind-eq-VERSION_KIND-clause-err
-returns-then-kind-eq-VERSION_KIND-clause-err g c =
+returns-then-kind-eq-VERSION_KIND-clause-err c =
     let held = c.args.catalogue.now in
     let body = c.args.body.now in
     IfErr-weaker c.act_as_version.result (λ f. IfBad f (NoneIsLawful held body))
@@ -19,7 +19,7 @@ returns-then-kind-eq-VERSION_KIND-clause-err g c =
     c.act_as_version.ensures.err
 
 pub returns-clause-ok : goal.returns-clause-ok
-returns-clause-ok g c =
+returns-clause-ok c =
     let held = c.args.catalogue.now in
     let new = c.act_as_line.new.catalogue in
     let e = entry_of c.args.kind c.args.body.now in

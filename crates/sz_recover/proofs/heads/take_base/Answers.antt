@@ -5,12 +5,12 @@ use Rattle.sz_recover.proofs.HeadParts.{no-base-number, no-base-held}
 use Rattle.sz_recover.proofs.heads.take_base.Goals as goal
 
 pub returns-in_default-clause-err : goal.returns-in_default-clause-err
-returns-in_default-clause-err g c =
+returns-in_default-clause-err c =
     no-base-number c.args.catalogue.now c.args.bytes.now c.in_ok-name.name c.args.at c.in_ok-name.place
     c.in_ok-name.ensures.name c.in_ok-name.ensures.bytes c.in_default.ensures.none
 
 pub returns-in_default-array-clause-err : goal.returns-in_default-array-clause-err
-returns-in_default-array-clause-err g c =
+returns-in_default-array-clause-err c =
     let held = c.args.catalogue.now in
     let none : array_version held c.in_ok-name.name c.in-Some.version ≡ None =
     sym (c.in_default-array.ensures

@@ -15,11 +15,11 @@ use Rattle.sz_recover.proofs.HeadParts.{if_bad-weaker, held-free, arrays-held}
 use Rattle.sz_recover.proofs.heads.take_bases.Goals as goal
 
 pub returns-in_default-clause-err : goal.returns-in_default-clause-err
-returns-in_default-clause-err g c base rest few is =
+returns-in_default-clause-err c base rest few is =
     no-number c.args.bytes.now c.args.at (length base) (flat_map base_bytes base ++ rest) c.in_default.ensures.none is
 
 pub returns-in_err-only-clause-err : goal.returns-in_err-only-clause-err
-returns-in_err-only-clause-err g c =
+returns-in_err-only-clause-err c =
     let held = c.args.catalogue.now in
     let inv = c.loop-index.invariant in
     let items = c.loop-index.base.items in
@@ -33,7 +33,7 @@ returns-in_err-only-clause-err g c =
     rw (p.1, p.2) none
 
 pub loop-index-preserved : goal.loop-index-preserved
-loop-index-preserved g c =
+loop-index-preserved c =
     let held = c.args.catalogue.now in
     let inv = c.loop-index.invariant in
     let items = c.loop-index.base.items in

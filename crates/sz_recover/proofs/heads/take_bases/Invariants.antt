@@ -8,7 +8,7 @@ use Rattle.sz_recover.specs.Taking.{AreArrays}
 use Rattle.sz_recover.proofs.heads.take_bases.Given as goal
 
 abbrev pub invariant-loop-index : goal.invariant-loop-index
-invariant-loop-index g l = record {
+invariant-loop-index l = record {
   count : length l.base.items ≡ l._index;
   each : AreArrays l.catalogue l.base.items;
   bytes : IsAt l.bytes (l.at + 4) l.place (flat_map base_bytes (map named_base l.base.items));

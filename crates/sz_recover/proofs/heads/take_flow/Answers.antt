@@ -5,7 +5,7 @@ use Rattle.sz_recover.proofs.HeadParts.{no-flow-held}
 use Rattle.sz_recover.proofs.heads.take_flow.Goals as goal
 
 pub returns-in_default-clause-err : goal.returns-in_default-clause-err
-returns-in_default-clause-err g c =
+returns-in_default-clause-err c =
     let held = c.args.catalogue.now in
     no-flow-held held c.args.bytes.now c.in_ok-name.name c.args.at c.in_ok-name.next c.in_ok-name.ensures.bytes
     (sym (c.in_default.ensures

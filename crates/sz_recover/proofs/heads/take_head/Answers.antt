@@ -8,7 +8,7 @@ use Rattle.sz_recover.proofs.HeadParts.{if_bad-weaker, no-head-bases, no-head-co
 use Rattle.sz_recover.proofs.heads.take_head.Goals as goal
 
 pub returns-in_err-base-clause-err : goal.returns-in_err-base-clause-err
-returns-in_err-base-clause-err g c =
+returns-in_err-base-clause-err c =
     let held = c.args.catalogue.now in
     let bytes = c.args.body.now in
     let flow : FlowIs held bytes c.in-Some.number c.in_ok-flow_name.flow_name c.in_ok-flow_name.place = record {
@@ -23,7 +23,7 @@ returns-in_err-base-clause-err g c =
     rw (p.1, p.2) none
 
 pub returns-in_default-take_number-clause-err : goal.returns-in_default-take_number-clause-err
-returns-in_default-take_number-clause-err g c =
+returns-in_default-take_number-clause-err c =
     let held = c.args.catalogue.now in
     let bytes = c.args.body.now in
     let base = c.in_ok-base.base.items in

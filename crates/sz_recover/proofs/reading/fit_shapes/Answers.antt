@@ -13,7 +13,7 @@ use Rattle.sz_recover.proofs.Shapes.{well-of}
 use Rattle.sz_recover.proofs.reading.fit_shapes.Goals as goal
 
 pub cells_of-requires : goal.cells_of-requires
-cells_of-requires g c =
+cells_of-requires c =
     let flow : Graph = c.deref-flow.result.now in
     let well : is_well_formed flow ≡ true =
     well-of c.check.result flow (sym c.is_err.ensures.value ∙ c.if-is_err.false) c.check.ensures in
@@ -26,7 +26,7 @@ cells_of-requires g c =
     )
 
 pub returns-clause-nodes : goal.returns-clause-nodes
-returns-clause-nodes g c =
+returns-clause-nodes c =
     let flow : Graph = c.deref-flow.result.now in
     let outs : List Extent = c.in-Ok.outputs.items in
     let well : is_well_formed flow ≡ true =

@@ -12,18 +12,17 @@ use Rattle.sz_recover.specs.Taking.{Begun, site_over, AreNodesAt, NoNodesAt, Are
 use Rattle.sz_recover.proofs.HeadParts.{if_bad-weaker}
 use Rattle.sz_recover.proofs.Whole.{HeadIs, IsRead, version_read, carried, body-read}
 use Rattle.sz_recover.proofs.Whole.{no-body-head, no-body-shapes, no-body-nodes, no-body-end}
-use Rattle.sz_recover.proofs.reading.take_version_body.Given.{Over}
 use Rattle.sz_recover.proofs.reading.take_version_body.Goals as goal
 
 pub returns-in_err-head-clause-bad : goal.returns-in_err-head-clause-bad
-returns-in_err-head-clause-bad g c =
+returns-in_err-head-clause-bad c =
     let none = if_bad-weaker c.in_err-head.field-0.0 (no-body-head c.args.catalogue.now c.args.body.now)
     c.in_err-head.ensures.err in
     let p = err_from_is_err_and c.from_residual.result c.from_residual.ensures.1 in
     rw (p.1, p.2) none
 
 pub returns-in_err-base-clause-bad : goal.returns-in_err-base-clause-bad
-returns-in_err-base-clause-bad g c =
+returns-in_err-base-clause-bad c =
     let held = c.args.catalogue.now in
     let h : Begun = c.in_ok-head.head in
     let read : HeadIs held c.args.body.now h c.in_ok-head.place =
@@ -34,7 +33,7 @@ returns-in_err-base-clause-bad g c =
     rw (p.1, p.2) none
 
 pub returns-in_err-lists-clause-bad : goal.returns-in_err-lists-clause-bad
-returns-in_err-lists-clause-bad g c =
+returns-in_err-lists-clause-bad c =
     let held = c.args.catalogue.now in
     let body = c.args.body.now in
     let h : Begun = c.in_ok-head.head in
@@ -55,7 +54,7 @@ returns-in_err-lists-clause-bad g c =
     rw (p.1, p.2) none
 
 pub returns-then-end-body-clause-bad : goal.returns-then-end-body-clause-bad
-returns-then-end-body-clause-bad g c =
+returns-then-end-body-clause-bad c =
     let held = c.args.catalogue.now in
     let body = c.args.body.now in
     let h : Begun = c.in_ok-head.head in
@@ -74,7 +73,7 @@ returns-then-end-body-clause-bad g c =
     c.deref-3.result.now outs c.nodes-nodes.result.now h.flow.nodes c.deref-2.ensures.value c.deref-3.ensures.value
     nodes c.in_ok-lists.ensures.only) c.if-end-body.true
 
-whole : (g : Over) (c : goal.After-drop-base-2 g) → IsRead c.args.catalogue.now c.args.body.now c.head.inside.number
+whole : (c : goal.After-drop-base-2) → IsRead c.args.catalogue.now c.args.body.now c.head.inside.number
     (record {
       flow_name = c.head.inside.flow_name;
       flow = arc_value c.head.inside.flow;
@@ -82,7 +81,7 @@ whole : (g : Over) (c : goal.After-drop-base-2 g) → IsRead c.args.catalogue.no
       lists = c.of-2.result;
       awaited = true;
     }) (lineages c.in_ok-lists.stores.items)
-whole g c =
+whole c =
     let held = c.args.catalogue.now in
     let body = c.args.body.now in
     let h : Begun = c.in_ok-head.head in
@@ -123,13 +122,13 @@ whole g c =
     (sym (ap (λ (b : Begun). b.number) c.head.view_is)) own)
 
 pub returns-clause-lawful : goal.returns-clause-lawful
-returns-clause-lawful g c = (whole g c).lawful
+returns-clause-lawful c = (whole c).lawful
 
 pub returns-clause-said : goal.returns-clause-said
-returns-clause-said g c = (whole g c).said
+returns-clause-said c = (whole c).said
 
 pub returns-clause-fit : goal.returns-clause-fit
-returns-clause-fit g c = (whole g c).fit
+returns-clause-fit c = (whole c).fit
 
 pub returns-clause-added : goal.returns-clause-added
-returns-clause-added g c = (whole g c).added
+returns-clause-added c = (whole c).added

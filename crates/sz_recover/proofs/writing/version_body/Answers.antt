@@ -13,7 +13,7 @@ use Rattle.sz_recover.proofs.NodesPut.{fit-length, four-parts, body-whole}
 use Rattle.sz_recover.proofs.writing.version_body.Goals as goal
 
 pub returns : goal.returns
-returns g c =
+returns c =
     let n = c.args.version in
     let stores = c.args.stores.now in
     let kept = lineages stores in

@@ -14,7 +14,7 @@ use Rattle.sz_versions.proofs.Trails.{trail-fits, trail-sound}
 use Rattle.sz_versions.proofs.bodies.body_for.Goals as goal
 
 pub version_body-requires-clause-fit : goal.version_body-requires-clause-fit
-version_body-requires-clause-fit g c =
+version_body-requires-clause-fit c =
     let cat = c.args.catalogue.now in
     let n = c.args.version in
     let v = version_of cat n in
@@ -24,7 +24,7 @@ version_body-requires-clause-fit g c =
     (trail-fits v c.args.run.now (record { run = here.run }) c.requires.own)
 
 pub returns : goal.returns
-returns g c =
+returns c =
     let cat = c.args.catalogue.now in
     let n = c.args.version in
     let v = version_of cat n in

@@ -11,7 +11,7 @@ use Rattle.sz_versions.proofs.finding.start_of.Goals as goal
 
 pub bounds-runs-step-inside : goal.bounds-runs-step-inside
 bounds-runs-step-inside c =
-    let own = c.runs.ensures ∙ c.requires.run.0 in
+    let own = c.runs.ensures ∙ c.requires.run.executions in
     let within =
     run-there c.args._version.now c.args.step c.runs.result.now c.requires.sound c.requires.there own in
     let same : c.step.inside.node ≡ c.args.step.node = ap (λ (s : Step). s.node) c.step.view_is in
@@ -19,7 +19,7 @@ bounds-runs-step-inside c =
 
 pub bounds-ins-step-inside : goal.bounds-ins-step-inside
 bounds-ins-step-inside c =
-    let own = c.runs.ensures ∙ c.requires.run.0 in
+    let own = c.runs.ensures ∙ c.requires.run.executions in
     let v = c.args._version.now in
     let within = run-there v c.args.step c.runs.result.now c.requires.sound c.requires.there own in
     let node : c.step.inside.node ≡ c.args.step.node = ap (λ (s : Step). s.node) c.step.view_is in
@@ -34,7 +34,7 @@ bounds-ins-step-inside c =
 
 pub returns-in-Back : goal.returns-in-Back
 returns-in-Back c =
-    let own = c.runs.ensures ∙ c.requires.run.0 in
+    let own = c.runs.ensures ∙ c.requires.run.executions in
     let v = c.args._version.now in
     let within = run-there v c.args.step c.runs.result.now c.requires.sound c.requires.there own in
     let node : c.step.inside.node ≡ c.args.step.node = ap (λ (s : Step). s.node) c.step.view_is in
@@ -46,7 +46,7 @@ returns-in-Back c =
 
 pub returns-in-Forward : goal.returns-in-Forward
 returns-in-Forward c =
-    let own = c.runs.ensures ∙ c.requires.run.0 in
+    let own = c.runs.ensures ∙ c.requires.run.executions in
     let v = c.args._version.now in
     let within = run-there v c.args.step c.runs.result.now c.requires.sound c.requires.there own in
     let node : c.step.inside.node ≡ c.args.step.node = ap (λ (s : Step). s.node) c.step.view_is in

@@ -1,27 +1,28 @@
 -- The run of the step's node holds the node's execution, and its list says the way.
-use Rattle.std.proofs.Common.{◌≡◌, ◌<◌, ℕ, List, [], map, length, true, refl, sym, ap, ap₂, ◌∙◌, subst, arith, Some}
-use Rattle.std.proofs.Common.{Option, unwrap_or}
+use Rattle.std.proofs.Common.{◌≡◌, ◌<◌, ℕ, List, [], map, length, refl, sym, ap, ap₂, ◌∙◌, subst, arith, Some, true}
+use Rattle.std.proofs.Common.{Option, unwrap_or, zero, suc, ◌∷◌}
+use Rattle.std.specs.Prelude.{All}
+use Rattle.std.proofs.lemmas.List.Elements.{All-head, All-tail}
 use Rattle.std.specs.Arc.{arc_value}
 use Rattle.std.specs.List.{slice_get}
 use Rattle.std.specs.Option.{option_map}
 use Rattle.std.proofs.Math.Seq.{map-set_same}
 use Rattle.std.proofs.lemmas.List.{length-map}
-use Rattle.std.proofs.lemmas.Option.{slice_get-map, slice_get_read, slice_get_within}
+use Rattle.std.proofs.lemmas.Option.{slice_get-map, slice_get_read}
 use Rattle.std.proofs.lemmas.Result.{IfOk-weaker, on_ok_weaker, on_err_weaker}
+use Rattle.sz_spec.specs.declared.op.Op.TheVariants as op
 use Rattle.sz_spec.specs.declared.modes.Strategy.{Strategy}
 use Rattle.sz_spec.specs.Paths.{Step}
-use Rattle.sz_flow.specs.Executions.{Execution, execution_of}
+use Rattle.sz_flow.specs.Executions.{Execution, execution, execution_of}
 use Rattle.sz_cells.specs.Extent.{is_extent}
 use Rattle.sz_cells.proofs.Shapes.{sides}
 use Rattle.sz_query.specs.Views.{most_traced_by}
 use Rattle.sz_catalogue.specs.Holdings.{Version}
 use Rattle.sz_catalogue.specs.Changes.{way_of}
-use Rattle.sz_versions.specs.Runs.{executions_of}
-use Rattle.sz_versions.specs.Stores.{Keeping, Trail, IsKeptOf, keeping_of}
-use Rattle.sz_versions.specs.Views.{view_by, list_of}
+use Rattle.sz_versions.specs.Stores.{Keeping, nothing, Trail, IsOwn, keeping_of}
+use Rattle.sz_versions.specs.Views.{view_by}
 use Rattle.sz_versions.specs.Lending.{once_viewed, changed_at, once_asked}
-use Rattle.sz_versions.proofs.Keeping.{kept-at, kept-length, kept-own}
-use Rattle.sz_versions.proofs.Keeps.{some-same}
+use Rattle.sz_versions.specs.Along.{execution_in, kept_in}
 use Rattle.sz_versions.proofs.Ways.{view_by-few}
 use Rattle.sz_versions.proofs.Lending.{changed-set}
 use Rattle.sz_versions.proofs.Kept.{run-there, run-at, list-there, list-filled, way-at}
@@ -48,7 +49,7 @@ way-way-requires c =
 pub index-node-requires : goal.index-node-requires
 index-node-requires c =
     let runs = arc_value c.run.inside.runs in
-    let own = ap (λ (t : Trail). t.executions) c.run.view_is ∙ c.requires.run.0 in
+    let own = ap (λ (t : Trail). t.executions) c.run.view_is ∙ c.requires.run.executions in
     let within = run-there c.args.version.now c.args.step runs.items c.requires.sound c.requires.there own in
     let same : c.step.inside.node ≡ c.args.step.node = ap (λ (s : Step). s.node) c.step.view_is in
     omega (arith, within, same, ap (λ v. v.len) c.deref.ensures, runs.ok.0)
@@ -58,17 +59,16 @@ index_mut-stores-requires c =
     let v = c.args.version.now in
     let runs = arc_value c.run.inside.runs in
     let stores = c.run.inside.stores in
-    let own = ap (λ (t : Trail). t.executions) c.run.view_is ∙ c.requires.run.0 in
+    let own = ap (λ (t : Trail). t.executions) c.run.view_is ∙ c.requires.run.executions in
     let within = run-there v c.args.step runs.items c.requires.sound c.requires.there own in
     let same : c.step.inside.node ≡ c.args.step.node = ap (λ (s : Step). s.node) c.step.view_is in
-    let long = kept-length v.awaited (executions_of v) v.lists c.args.run.now.kept c.requires.run.1 in
     omega (
       arith,
       within,
       same,
       length-map runs.items execution_of,
       ap (λ (es : List Execution). length es) own,
-      long.0,
+      c.requires.run.long,
       length-map stores.items keeping_of,
       ap (λ (t : Trail). length t.kept) c.run.view_is,
       stores.ok.0,
@@ -79,90 +79,90 @@ below : (c : goal.After-index_mut-stores) → c.step.inside.node < length c.run.
 below c =
     let v = c.args.version.now in
     let runs = arc_value c.run.inside.runs in
-    let own = ap (λ (t : Trail). t.executions) c.run.view_is ∙ c.requires.run.0 in
+    let own = ap (λ (t : Trail). t.executions) c.run.view_is ∙ c.requires.run.executions in
     let within = run-there v c.args.step runs.items c.requires.sound c.requires.there own in
     let same : c.step.inside.node ≡ c.args.step.node = ap (λ (s : Step). s.node) c.step.view_is in
-    let long = kept-length v.awaited (executions_of v) v.lists c.args.run.now.kept c.requires.run.1 in
     omega (
       arith,
       within,
       same,
       length-map runs.items execution_of,
       ap (λ (es : List Execution). length es) own,
-      long.0,
+      c.requires.run.long,
       length-map c.run.inside.stores.items keeping_of,
       ap (λ (t : Trail). length t.kept) c.run.view_is,
     )
 
--- what is kept of the step's node, for the list at its place
-record IsFound (v : Version) (s : Step) (e : Execution) (k : Keeping) : Type 0 where
-  at : slice_get (executions_of v) s.node ≡ Some e
-  mine : IsKeptOf v.awaited e (list_of v s) k
+-- the execution of the step's node, and what is kept of it, are those of the trail
+record IsFound (t : Trail) (s : Step) (e : Execution) (k : Keeping) : Type 0 where
+  at : execution_in t s.node ≡ e
+  kept : kept_in t s.node ≡ k
+  own : IsOwn k
 
 found : (c : goal.After-index_mut-stores)
-    → IsFound c.args.version.now c.args.step (execution_of c.index-node.result.now)
+    → IsFound c.args.run.now c.args.step (execution_of c.index-node.result.now)
     (keeping_of c.index_mut-stores.result.now)
 found c =
     let v = c.args.version.now in
+    let t = c.args.run.now in
+    let n = c.args.step.node in
     let runs = arc_value c.run.inside.runs in
     let stores = c.run.inside.stores in
     let run = c.index-node.result.now in
-    let list = c.index-lists-step.result in
     let store = c.index_mut-stores.result.now in
-    let own = ap (λ (t : Trail). t.executions) c.run.view_is ∙ c.requires.run.0 in
+    let own = ap (λ (t : Trail). t.executions) c.run.view_is ∙ c.requires.run.executions in
     let within = run-there v c.args.step runs.items c.requires.sound c.requires.there own in
-    let node : c.step.inside.node ≡ c.args.step.node = ap (λ (s : Step). s.node) c.step.view_is in
+    let node : c.step.inside.node ≡ n = ap (λ (s : Step). s.node) c.step.view_is in
     let run_here = rw (c.deref.ensures, node) at c.index-node.ensures in
+    let at = run-at v n runs.items run own within run_here in
+    let inside : n < length stores.items = rw node at (below c) in
+    let stored : slice_get t.kept n ≡ Some (keeping_of store) =
+    ap (λ (t : Trail). slice_get t.kept n) (sym c.run.view_is)
+    ∙ slice_get-map keeping_of stores.items n
+    ∙ ap (option_map keeping_of)
+    (slice_get_read stores.items (length stores.items) n store refl inside
+    (rw node at c.index_mut-stores.ensures.value)) in
+    let own_all = c.requires.run.own in
+    record {
+      at = ap (λ (es : List Execution). unwrap_or (slice_get es n) (execution op.Neg [])) c.requires.run.executions
+          ∙ ap (λ (o : Option Execution). unwrap_or o (execution op.Neg [])) at;
+      kept = ap (λ (o : Option Keeping). unwrap_or o nothing) stored;
+      own = own-at t.kept n (keeping_of store) own_all stored;
+    } where
+      own-at : (ks : List Keeping) (n : ℕ) (k : Keeping) → All IsOwn ks → slice_get ks n ≡ Some k → IsOwn k
+      own-at [] n k all at = cc
+      own-at (x ∷ ks) zero k all at =
+          let same : x ≡ k = cc in subst IsOwn same (All-head IsOwn x ks all)
+      own-at (x ∷ ks) (suc n) k all at = own-at ks n k (All-tail IsOwn x ks all) at
+
+pub view_by-requires : goal.view_by-requires
+view_by-requires c = (found c).own
+
+-- the way by the list that is at the step's node
+the-way : (c : goal.After-index_mut-stores) → way_of c.args.version.now c.args.dir c.args.step ≡ c.way-way.result
+the-way c =
+    let v = c.args.version.now in
+    let list = c.index-lists-step.result in
+    let node : c.step.inside.node ≡ c.args.step.node = ap (λ (s : Step). s.node) c.step.view_is in
     let lists = c.as_slice-lists.ensures ∙ ap (λ (x : Version). x.lists) c.version.view_is in
     let list_here = rw (lists, node) at c.index-lists-step.is in
     let listed = slice_get_read v.lists (length v.lists) c.args.step.node list refl
     (list-there v c.args.step c.requires.sound c.requires.there) list_here in
-    let at = run-at v c.args.step.node runs.items run own within run_here in
-    let kept = kept-at v.awaited (executions_of v) v.lists c.args.run.now.kept c.args.step.node (execution_of run) list
-    c.requires.run.1 at listed in
-    let inside : c.args.step.node < length stores.items = omega (
-      arith,
-      slice_get_within c.args.run.now.kept c.args.step.node kept.0 kept.1,
-      length-map stores.items keeping_of,
-      ap (λ (t : Trail). length t.kept) c.run.view_is,
-    ) in
-    let stored : slice_get c.args.run.now.kept c.args.step.node ≡ Some (keeping_of store) =
-    ap (λ (t : Trail). slice_get t.kept c.args.step.node) (sym c.run.view_is)
-    ∙ slice_get-map keeping_of stores.items c.args.step.node
-    ∙ ap (option_map keeping_of)
-    (slice_get_read stores.items (length stores.items) c.args.step.node store refl inside
-    (rw node at c.index_mut-stores.ensures.value)) in
-    let same : kept.0 ≡ keeping_of store = some-same kept.0 (keeping_of store) (sym kept.1 ∙ stored) in
-    let of_list : list ≡ list_of v c.args.step =
-    sym (ap (λ (o : Option (List Strategy)). unwrap_or o []) listed) in
-    record {
-      at = at;
-      mine = subst (λ (l : List Strategy). IsKeptOf v.awaited (execution_of run) l (keeping_of store)) of_list
-          (subst (λ (k : Keeping). IsKeptOf v.awaited (execution_of run) list k) same kept.2);
-    }
-
-pub view_by-requires : goal.view_by-requires
-view_by-requires c =
-    let v = c.args.version.now in
-    kept-own v.awaited (execution_of c.index-node.result.now) (list_of v c.args.step)
-    (keeping_of c.index_mut-stores.result.now) (found c).mine
+    way-at v c.args.dir c.args.step list listed ∙ sym (rw c.as_slice.ensures at c.way-way.ensures)
 
 pub returns-clause-view : goal.returns-clause-view
 returns-clause-view c =
-    let v = c.args.version.now in
+    let h = found c.before.before in
+    let s = c.way-way.result in
+    let w = sym (the-way c.before.before) in
     let e = execution_of c.index-node.result.now in
     let k = keeping_of c.index_mut-stores.result.now in
-    let list = c.index-lists-step.result in
-    let node : c.step.inside.node ≡ c.args.step.node = ap (λ (s : Step). s.node) c.step.view_is in
-    let lists = c.as_slice-lists.ensures ∙ ap (λ (x : Version). x.lists) c.version.view_is in
-    let list_here = rw (lists, node) at c.index-lists-step.is in
-    let listed = slice_get_read v.lists (length v.lists) c.args.step.node list refl
-    (list-there v c.args.step c.requires.sound c.requires.there) list_here in
-    let way : way_of v c.args.dir c.args.step ≡ c.way-way.result =
-    way-at v c.args.dir c.args.step list listed ∙ sym (rw c.as_slice.ensures at c.way-way.ensures) in
-    let own = found c.before.before in
     IfOk-weaker c.view_by.result _ _
-    (λ w is. (e, own.at, k, own.mine, is ∙ ap (λ (s : Strategy). view_by s e k) (sym way))) c.view_by.ensures.view
+    (λ v is.
+    is ∙ ap₂ (λ (x : Execution) (y : Keeping). view_by s x y) (sym h.at) (sym h.kept)
+    ∙ ap (λ (x : Strategy).
+    view_by x (execution_in c.args.run.now c.args.step.node) (kept_in c.args.run.now c.args.step.node)) w)
+    c.view_by.ensures.view
 
 pub returns-clause-few : goal.returns-clause-few
 returns-clause-few c =
@@ -182,22 +182,15 @@ returns-clause-few c =
 
 pub returns-clause-counted : goal.returns-clause-counted
 returns-clause-counted c =
-    let v = c.args.version.now in
     let n = c.step.inside.node in
     let stores = c.run.inside.stores.items in
     let made : List Keeping → Trail =
     λ ks. record { executions = map execution_of (arc_value c.run.inside.runs).items; kept = ks } in
-    let list = c.index-lists-step.result in
     let node : n ≡ c.args.step.node = ap (λ (s : Step). s.node) c.step.view_is in
-    let lists = c.as_slice-lists.ensures ∙ ap (λ (x : Version). x.lists) c.version.view_is in
-    let list_here = rw (lists, node) at c.index-lists-step.is in
-    let listed = slice_get_read v.lists (length v.lists) c.args.step.node list refl
-    (list-there v c.args.step c.requires.sound c.requires.there) list_here in
-    let way : way_of v c.args.dir c.args.step ≡ c.way-way.result =
-    way-at v c.args.dir c.args.step list listed ∙ sym (rw c.as_slice.ensures at c.way-way.ensures) in
+    let way = the-way c.before.before in
     let changed : List Keeping → List Keeping = changed_at (once_viewed c.way-way.result) n in
     let asked : (ks : List Keeping) → changed ks
-    ≡ changed_at (once_viewed (way_of v c.args.dir c.args.step)) c.args.step.node ks =
+    ≡ changed_at (once_viewed (way_of c.args.version.now c.args.dir c.args.step)) c.args.step.node ks =
     λ ks. ap₂ (λ (s : Strategy) (i : ℕ). changed_at (once_viewed s) i ks) (sym way) node in
     on_ok_weaker c.view_by.result
     (λ is.
@@ -205,7 +198,7 @@ returns-clause-counted c =
     (below c.before.before)
     (is ∙ ap (λ k. once_viewed c.way-way.result (keeping_of k)) c.index_mut-stores.ensures.value))
     ∙ ap (λ (ks : List Keeping). made ks) (asked (map keeping_of stores))
-    ∙ ap (once_asked v c.args.dir c.args.step) c.run.view_is)
+    ∙ ap (once_asked c.args.version.now c.args.dir c.args.step) c.run.view_is)
     c.view_by.ensures.counted
 
 pub returns-clause-err : goal.returns-clause-err

@@ -1,15 +1,13 @@
--- Those so far have what they are to have, and the others are still to come.
-use Rattle.std.proofs.Common.{◌≡◌, ◌++◌, map, length}
+-- Those so far are carried of the versions of the first entries.
+use Rattle.std.proofs.Common.{◌≡◌, true, map, take, length}
 use Rattle.std.specs.Prelude.{All}
-use Rattle.sz_recover.specs.Opened.{IsEntryOf}
-use Rattle.sz_versions.specs.Recalls.{AreRecalled}
+use Rattle.sz_versions.specs.Residents.{IsResident, kept_of}
 use Rattle.sz_versions.proofs.recalls.recall_each.Given as goal
 
 abbrev pub invariant-loop-at : goal.invariant-loop-at
 invariant-loop-at g l = record {
-  end : l.count ≡ length l.fn.stores.items;
-  count : length l.recalled.items ≡ l._at;
-  own : AreRecalled l.catalogue l.recalled.items;
-  rest : All (IsEntryOf l.catalogue) l.stores.rest.items;
-  kept : map (λ r. r.kept) l.recalled.items ++ l.stores.rest.items ≡ l.fn.stores.items;
+  end : l.count ≡ length l.stores.items;
+  own : All (IsResident l.catalogue) l.recalled.items;
+  logged : All (λ r. r.logged ≡ true) l.recalled.items;
+  kept : map kept_of l.recalled.items ≡ take l.at l.stores.items;
 }

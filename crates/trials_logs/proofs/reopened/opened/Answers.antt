@@ -17,4 +17,4 @@ returns g c =
     opened-log g.T.Station _ c.in-Ok.recovered.end.at c.in-Ok.recovered.catalogue c.in-Ok.recovered.stores.items
     a b c.in-Ok.ensures.made c.catalogue_of.ensures.disk c.catalogue_of.ensures.stops
     (subst L (sym c.sync.ensures.disk) only) in
-    subst (λ (s : State). HasLog g.T.Station s.held s.end b) (sym c.in_ok-of_log.ensures) log
+    subst (λ (s : State). HasLog g.T.Station s.held s.end b) (sym c.in_ok-of_log.ensures.state) log

@@ -4,4 +4,4 @@ use Rattle.sz_catalogue.specs.Starts.{bases_of}
 use Rattle.sz_catalogue.proofs.catalogue.Catalogue.arrays_named.Given as goal
 
 abbrev pub invariant-loop-only : goal.invariant-loop-only
-invariant-loop-only g l = l.arrays.items ≡ bases_of l.self (take l.only-index l.base)
+invariant-loop-only l = l.arrays.items ≡ bases_of l.self (take l.only-index l.base)

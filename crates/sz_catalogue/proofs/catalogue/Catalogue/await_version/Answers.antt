@@ -8,7 +8,7 @@ use Rattle.sz_catalogue.proofs.Order.{await-in_order}
 use Rattle.sz_catalogue.proofs.catalogue.Catalogue.await_version.Goals as goal
 
 pub invariant_of-self : goal.invariant_of-self
-invariant_of-self g c =
+invariant_of-self c =
     let held : Holdings = record {
       arrays = c.self.inside.arrays;
       flows = c.self.inside.flows;

@@ -11,7 +11,7 @@ use Rattle.sz_catalogue.proofs.Order.{right-array, array-in_order}
 use Rattle.sz_catalogue.proofs.catalogue.Catalogue.hold_array.Goals as goal
 
 pub overflow_cast-result : goal.overflow_cast-result
-overflow_cast-result g c =
+overflow_cast-result c =
     let held : Holdings = record {
       arrays = c.self.inside.arrays;
       flows = c.self.inside.flows;
@@ -27,7 +27,7 @@ overflow_cast-result g c =
     )
 
 pub invariant_of-self-2 : goal.invariant_of-self-2
-invariant_of-self-2 g c =
+invariant_of-self-2 c =
     let held : Holdings = record {
       arrays = c.self.inside.arrays;
       flows = c.self.inside.flows;

@@ -7,7 +7,7 @@ use Rattle.sz_catalogue.proofs.Order.{right-flow, flow-new, flow-in_order}
 use Rattle.sz_catalogue.proofs.catalogue.Catalogue.hold_flow.Goals as goal
 
 pub invariant_of-self-2 : goal.invariant_of-self-2
-invariant_of-self-2 g c =
+invariant_of-self-2 c =
     let held : Holdings = record {
       arrays = c.self.inside.arrays;
       flows = c.self.inside.flows;

@@ -4,4 +4,4 @@ use Rattle.sz_catalogue.specs.Order.{IsInOrder}
 use Rattle.sz_catalogue.proofs.catalogue.Catalogue.is_in_order.Goals as goal
 
 pub returns : goal.returns
-returns g c = subst IsInOrder c.self.view_is c.self.invariant.order
+returns c = subst IsInOrder c.self.view_is c.self.invariant.order

@@ -7,25 +7,25 @@ use Rattle.sz_catalogue.specs.Rules.{judged}
 use Rattle.sz_catalogue.proofs.catalogue.Catalogue.refusal_of.Goals as goal
 
 pub returns-in-Array : goal.returns-in-Array
-returns-in-Array g c =
+returns-in-Array c =
     c.refusal_of_array.ensures.one c.in-Array.name ∙ ap (judged c.args.self.now) (sym c.in-Array.is)
 
 pub returns-in-Csv : goal.returns-in-Csv
-returns-in-Csv g c =
+returns-in-Csv c =
     c.refusal_of_array-in-Csv.ensures.csv c.in-Csv.name ∙ ap (judged c.args.self.now) (sym c.in-Csv.is)
 
 pub returns-in-Layers : goal.returns-in-Layers
-returns-in-Layers g c =
+returns-in-Layers c =
     c.refusal_of_array-in-Layers.ensures.layers c.in-Layers.name ∙ ap (judged c.args.self.now) (sym c.in-Layers.is)
 
 pub returns-in-Flow : goal.returns-in-Flow
-returns-in-Flow g c =
+returns-in-Flow c =
     c.refusal_of_flow.ensures c.in-Flow.flow
     ∙ ap (λ (name : List ℕ). judged c.args.self.now (command.Flow name c.in-Flow.flow)) c.as_str.ensures
     ∙ ap (judged c.args.self.now) (sym c.in-Flow.is)
 
 pub returns-in-Start : goal.returns-in-Start
-returns-in-Start g c =
+returns-in-Start c =
     IfOk-weaker c.refusal_of_start.result _ _
     (λ r p. p
     ∙ ap₂ (λ (name : List ℕ) (base : List BaseName). judged c.args.self.now (command.Start name base))
@@ -34,7 +34,7 @@ returns-in-Start g c =
     c.refusal_of_start.ensures
 
 pub returns-in-Plan : goal.returns-in-Plan
-returns-in-Plan g c =
+returns-in-Plan c =
     let units = c.in-Plan.units in
     let back = c.in-Plan.back in
     let forward = c.in-Plan.forward in

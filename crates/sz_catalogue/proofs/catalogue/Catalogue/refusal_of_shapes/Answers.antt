@@ -8,7 +8,7 @@ use Rattle.sz_spec.proofs.FlowShapes.{outputs-length}
 use Rattle.sz_catalogue.proofs.catalogue.Catalogue.refusal_of_shapes.Goals as goal
 
 pub refusal_of_outputs-requires : goal.refusal_of_outputs-requires
-refusal_of_outputs-requires g c =
+refusal_of_outputs-requires c =
     let found : output_shapes c.args.flow.now c.args.base.now ≡ Ok c.in-Ok.outputs.items =
     sym c.in_ok-node.ensures ∙ ap (result_map_both (λ v. v.items) (λ (n : ℕ). n)) c.in-Ok.is in
     omega (

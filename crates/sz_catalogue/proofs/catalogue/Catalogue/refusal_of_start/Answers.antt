@@ -15,7 +15,7 @@ use Rattle.sz_catalogue.proofs.Judging.{start-shapes}
 use Rattle.sz_catalogue.proofs.catalogue.Catalogue.refusal_of_start.Goals as goal
 
 pub refusal_of_shapes-requires-clause-count : goal.refusal_of_shapes-requires-clause-count
-refusal_of_shapes-requires-clause-count g c =
+refusal_of_shapes-requires-clause-count c =
     let held : has_no_array c.args.self.now c.args.base.now ≡ false =
     sym c.has_no_array.ensures ∙ c.if-has_no_array.false in
     let all : length c.deref-3.result.now ≡ length c.args.base.now =
@@ -26,7 +26,7 @@ refusal_of_shapes-requires-clause-count g c =
     omega (arith, all, flow, c.inputs.ensures, c.if-base-inputs.false)
 
 pub returns : goal.returns
-returns g c =
+returns c =
     let held : has_no_array c.args.self.now c.args.base.now ≡ false =
     sym c.has_no_array.ensures ∙ c.if-has_no_array.false in
     let some : flow_named c.args.self.now c.args.name.now ≡ Some c.in-Some.held.now =

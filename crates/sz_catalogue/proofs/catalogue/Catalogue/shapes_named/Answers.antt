@@ -10,7 +10,7 @@ use Rattle.sz_catalogue.proofs.catalogue.Catalogue.shapes_named.Goals as goal
 use Rattle.sz_catalogue.proofs.catalogue.Catalogue.shapes_named.Goals.{in-Some+in_ok-push-in-Some, in-None}
 
 pub loop-only-preserved : goal.loop-only-preserved
-loop-only-preserved g c =
+loop-only-preserved c =
     let named = ap (λ (n : List ℕ). array_version c.args.self.now n c.only-item.result.version) c.as_str.ensures in
     elim c.match-array.branch [
       | in-Some+in_ok-push-in-Some w ↦

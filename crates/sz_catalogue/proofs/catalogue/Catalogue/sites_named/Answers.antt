@@ -14,7 +14,7 @@ use Rattle.sz_catalogue.proofs.FlowSites.{enough, nodes-fit, started-sites}
 use Rattle.sz_catalogue.proofs.catalogue.Catalogue.sites_named.Goals as goal
 
 pub output_shapes-requires-clause-count : goal.output_shapes-requires-clause-count
-output_shapes-requires-clause-count g c =
+output_shapes-requires-clause-count c =
     let held = c.args.self.now in
     let some : flow_named held c.args.name.now ≡ Some c.in-Some.held.now =
     sym (c.in-Some.ensures ∙ ap (λ (h : Holdings). flow_named h c.args.name.now) c.self.view_is) in
@@ -23,7 +23,7 @@ output_shapes-requires-clause-count g c =
     ∙ sym (ap (λ (f : Graph). f.inputs) (c.deref.ensures ∙ c.flow-flow.ensures.value))
 
 pub sites_over-requires : goal.sites_over-requires
-sites_over-requires g c =
+sites_over-requires c =
     let flow : Graph = c.deref.result.now in
     let base : List Extent = c.deref-2.result.now in
     let outs : List Extent = c.in-Ok.outputs.items in
@@ -46,7 +46,7 @@ sites_over-requires g c =
     (nodes-fit flow base outs well count fits)))
 
 pub returns-clause-value : goal.returns-clause-value
-returns-clause-value g c =
+returns-clause-value c =
     let held = c.args.self.now in
     let base : List Extent = shapes_of (bases_of held c.args.base.now) in
     let outs : List Extent = c.in-Ok.outputs.items in

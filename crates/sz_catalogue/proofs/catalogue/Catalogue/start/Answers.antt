@@ -8,28 +8,28 @@ use Rattle.sz_catalogue.proofs.Order.{started-flow, started-bases}
 use Rattle.sz_catalogue.proofs.catalogue.Catalogue.start.Goals as goal
 
 pub add-requires-clause-new : goal.add-requires-clause-new
-add-requires-clause-new g c =
+add-requires-clause-new c =
     let number : c.next_number-number.result ≡ next_number c.args.self.now =
     c.next_number-number.ensures ∙ ap next_number c.self.view_is in
     ap (version_numbered c.args.self.now) number
     ∙ next-is_new c.args.self.now.versions (next_number c.args.self.now) (omega arith)
 
 pub add-requires-clause-count : goal.add-requires-clause-count
-add-requires-clause-count g c =
+add-requires-clause-count c =
     let known = start-known c.args.self.now c.args.name c.args.base.now c.requires.judged in
     rw c.in_ok-version.ensures.started
     (bases-length c.args.self.now c.args.base.now known.arrays
     ∙ start-count c.args.self.now c.args.name c.args.base.now known)
 
 pub add-requires-clause-room : goal.add-requires-clause-room
-add-requires-clause-room g c =
+add-requires-clause-room c =
     let known = start-known c.args.self.now c.args.name c.args.base.now c.requires.judged in
     rw c.in_ok-version.ensures.started (start-room c.args.self.now c.args.name c.args.base.now known)
 
 pub add-requires-clause-flow : goal.add-requires-clause-flow
-add-requires-clause-flow g c =
+add-requires-clause-flow c =
     let known = start-known c.args.self.now c.args.name c.args.base.now c.requires.judged in
     rw c.in_ok-version.ensures.started (started-flow c.args.self.now c.args.name known.flow)
 
 pub add-requires-clause-base : goal.add-requires-clause-base
-add-requires-clause-base g c = rw c.in_ok-version.ensures.started (started-bases c.args.self.now c.args.base.now)
+add-requires-clause-base c = rw c.in_ok-version.ensures.started (started-bases c.args.self.now c.args.base.now)

@@ -12,7 +12,7 @@ use Rattle.sz_catalogue.proofs.Runs.{run-source}
 use Rattle.sz_catalogue.proofs.version.Run.input_shape.Goals as goal
 
 pub base_shape-requires : goal.base_shape-requires
-base_shape-requires g c =
+base_shape-requires c =
     let there : source_of c.args.self.now.flow c.args.step ≡ Some (Input c.in-Some-Input.input) =
     ap (λ (g : Graph). source_of g c.args.step) (sym c.flow.ensures.value) ∙ sym c.source_of.ensures
     ∙ c.in-Some-Input.is ∙ ap (λ (s : SourceRef). Some s) c.in-Some-Input.field-0-is in
@@ -22,7 +22,7 @@ base_shape-requires g c =
     grind (arith, nat_tests)
 
 pub bounds-outputs-node : goal.bounds-outputs-node
-bounds-outputs-node g c =
+bounds-outputs-node c =
     let there : source_of c.args.self.now.flow c.args.step ≡ Some (Node c.in-Some-Node.node) =
     ap (λ (g : Graph). source_of g c.args.step) (sym c.flow.ensures.value) ∙ sym c.source_of.ensures
     ∙ c.in-Some-Node.is ∙ ap (λ (s : SourceRef). Some s) c.in-Some-Node.field-0-is in
@@ -32,7 +32,7 @@ bounds-outputs-node g c =
     grind (arith, nat_tests)
 
 pub returns-in-Some-Input : goal.returns-in-Some-Input
-returns-in-Some-Input g c =
+returns-in-Some-Input c =
     let there : source_of c.args.self.now.flow c.args.step ≡ Some (Input c.in-Some-Input.input) =
     ap (λ (g : Graph). source_of g c.args.step) (sym c.flow.ensures.value) ∙ sym c.source_of.ensures
     ∙ c.in-Some-Input.is ∙ ap (λ (s : SourceRef). Some s) c.in-Some-Input.field-0-is in
@@ -41,7 +41,7 @@ returns-in-Some-Input g c =
     c.outputs-outputs.ensures.run there).1
 
 pub returns-in-Some-Node : goal.returns-in-Some-Node
-returns-in-Some-Node g c =
+returns-in-Some-Node c =
     let there : source_of c.args.self.now.flow c.args.step ≡ Some (Node c.in-Some-Node.node) =
     ap (λ (g : Graph). source_of g c.args.step) (sym c.flow.ensures.value) ∙ sym c.source_of.ensures
     ∙ c.in-Some-Node.is ∙ ap (λ (s : SourceRef). Some s) c.in-Some-Node.field-0-is in

@@ -6,12 +6,12 @@ use Rattle.sz_catalogue.proofs.Runs.{outputs-count}
 use Rattle.sz_catalogue.proofs.version.Run.outputs.Goals as goal
 
 pub returns-clause-count : goal.returns-clause-count
-returns-clause-count g c =
+returns-clause-count c =
     ap length c.deref.ensures.value ∙ outputs-count c.self.inside.version c.self.inside.outputs.items c.self.invariant
     ∙ ap (λ (v : Version). length v.flow.nodes) c.self.view_is
 
 pub returns-clause-few : goal.returns-clause-few
-returns-clause-few g c =
+returns-clause-few c =
     omega (
       arith,
       ap length c.deref.ensures.value,
@@ -20,4 +20,4 @@ returns-clause-few g c =
     )
 
 pub returns-clause-run : goal.returns-clause-run
-returns-clause-run g c = rw (← c.self.view_is, c.deref.ensures.value) c.self.invariant
+returns-clause-run c = rw (← c.self.view_is, c.deref.ensures.value) c.self.invariant

@@ -7,7 +7,7 @@ use Rattle.sz_catalogue.proofs.Numbers.{greatest-is}
 use Rattle.sz_catalogue.proofs.versions.HeldVersions.next_number.Goals as goal
 
 pub returns-in-Some : goal.returns-in-Some
-returns-in-Some g c =
+returns-in-Some c =
     let last = greatest-is c.self.inside.by_number.entries (btree_map_len c.self.inside.by_number - 1)
     c.in-Some.number.now c.in-Some.field-0-1.now c.in-Some.ensures.last c.in-Some.ensures.all_up_to in
     ap (λ (n : ℕ). n + 1)

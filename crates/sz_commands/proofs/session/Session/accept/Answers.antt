@@ -1,13 +1,13 @@
--- What is held stays sound, and the versions that a log gave stay.
+-- What is held stays sound, and what is carried stays that of its versions.
 use Rattle.std.proofs.Common.{◌≡◌, sym, ap, subst}
 use Rattle.std.specs.Prelude.{None}
 use Rattle.sz_catalogue.specs.Holdings.{Holdings}
 use Rattle.sz_catalogue.specs.Responses.{Response}
 use Rattle.sz_catalogue.specs.Rules.{judged}
 use Rattle.sz_commands.specs.States.{State}
-use Rattle.sz_versions.specs.Recalls.{IsInService}
+use Rattle.sz_versions.specs.Residents.{IsInService}
 use Rattle.sz_versions.proofs.Keeps.{keeps-accepted}
-use Rattle.sz_versions.proofs.Stays.{recalled-stay, accepted-stay}
+use Rattle.sz_versions.proofs.Residents.{service-stays}
 use Rattle.sz_commands.proofs.States.{accepted-changed}
 use Rattle.sz_commands.proofs.session.Session.accept.Goals as goal
 
@@ -20,10 +20,9 @@ invariant_of-self-2 c =
     let cat = c.self.inside.catalogue in
     let none = subst (λ (s : State). judged s.held c.args.command ≡ None) (sym c.self.view_is) c.requires.judged in
     let after = sym (ap (λ (p : Holdings × Response). p.0) c.in_ok-reply.ensures.ok) in
-    subst (λ (h : Holdings). IsInService h c.self.inside.recalled.items) after (record {
-      sound = keeps-accepted cat c.args.command c.self.invariant.sound c.requires.right none c.requires.kind;
-      recalled = recalled-stay cat _ _ (accepted-stay cat c.args.command c.requires.kind) c.self.invariant.recalled;
-    })
+    subst (λ (h : Holdings). IsInService h c.self.inside.runs) after
+    (service-stays cat c.args.command c.self.inside.runs c.requires.kind
+    (keeps-accepted cat c.args.command c.self.invariant.sound c.requires.right none c.requires.kind) c.self.invariant)
 
 pub returns-clause-reply : goal.returns-clause-reply
 returns-clause-reply c =

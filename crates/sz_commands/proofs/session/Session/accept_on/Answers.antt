@@ -61,7 +61,7 @@ returns-in_err-take-in-Nothing-clause-stops g c =
 pub returns-in_ok-take-in-Nothing-clause-log : goal.returns-in_ok-take-in-Nothing-clause-log
 returns-in_ok-take-in-Nothing-clause-log g c =
     nothing-keeps g.T.Station c.args.self.now c.take-in-Nothing.new.self c.args.command _ c.args.station.now
-    c.requires.log c.in_ok-take-in-Nothing.ensures.reply c.in-Nothing.ensures
+    c.requires.log c.in_ok-take-in-Nothing.ensures.reply c.in_ok-take-in-Nothing.ensures.end c.in-Nothing.ensures
 
 pub returns-in_ok-take-in-Nothing-clause-stops : goal.returns-in_ok-take-in-Nothing-clause-stops
 returns-in_ok-take-in-Nothing-clause-stops g c =

@@ -2,11 +2,15 @@
 use Rattle.std.proofs.Common.{Some, refl, sym, ap, ◌∙◌, subst}
 use Rattle.sz_catalogue.specs.Changes as changes
 use Rattle.sz_catalogue.specs.Holdings.{Holdings}
-use Rattle.sz_commands.specs.States.{State}
+use Rattle.sz_catalogue.specs.Seen.{response_of}
+use Rattle.sz_commands.specs.States.{State, apart}
+use Rattle.sz_commands.specs.Carrying.{StoredBy}
 use Rattle.sz_commands.specs.Logged.{KeepsLog, IsLineGroup}
 use Rattle.sz_commands.proofs.Appending.{group-added}
+use Rattle.sz_commands.proofs.Carrying.{stored-left, line-leaves}
 use Rattle.sz_commands.proofs.Lasting.{left-held}
 use Rattle.sz_commands.proofs.Logged.{still-stops, log-ends, line-step, append-stops, append-keeps}
+use Rattle.sz_commands.proofs.States.{accepted-seen}
 use Rattle.sz_commands.proofs.session.Session.add_line.Goals as goal
 
 pub returns-in_err-reply-clause-stops : goal.returns-in_err-reply-clause-stops
@@ -54,3 +58,16 @@ returns-clause-appends g c =
     group-added g.T.Station (IsLineGroup c.args.command c.args.line.now) c.args.self.now.end c.args.end.at
     c.in_ok-next.next.at (record { kind = c.args.kind; body = c.args.line.now }) c.args.station.now c.append.new.station
     c.requires.end (c.requires.kind, refl) c.in_ok-next.ensures.added c.in_ok-next.ensures.end
+
+pub returns-clause-reply : goal.returns-clause-reply
+returns-clause-reply g c =
+    accepted-seen c.args.self.now c.accept.new.self c.args.command _ c.in_ok-reply.ensures.reply
+    ∙ ap (λ (s : State). (apart s, response_of c.in_ok-reply.reply)) (sym c.self.view_is)
+
+pub returns-clause-stored : goal.returns-clause-stored
+returns-clause-stored g c =
+    let s : State = c.args.self.now in
+    let command = c.args.command in
+    subst (λ (t : State). StoredBy s command t) (sym c.self.view_is)
+    (stored-left s c.accept.new.self command _ (line-leaves c.args.kind command c.requires.kind)
+    c.in_ok-reply.ensures.reply)

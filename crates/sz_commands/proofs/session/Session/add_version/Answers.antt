@@ -1,6 +1,7 @@
 -- The body acts on what the log holds as the await does on what the session holds. A version that was awaited before
 -- changes nothing that is durable.
-use Rattle.std.proofs.Common.{◌≡◌, ℕ, List, Option, Some, [], refl, sym, ap, ◌∙◌, subst}
+use Rattle.std.proofs.Common.{◌≡◌, ℕ, List, Bool, Option, Some, [], refl, sym, ap, ◌∙◌, subst}
+use Rattle.std.specs.List.{AllZip}
 use Rattle.sz_log.specs.Log.{Entry}
 use Rattle.sz_script.specs.declared.command.Command.TheVariants as order
 use Rattle.sz_script.specs.declared.refusal.Refusal.TheVariants as refusal
@@ -11,7 +12,9 @@ use Rattle.sz_catalogue.specs.Order.{IsInOrder}
 use Rattle.sz_catalogue.specs.Changes.{with_await}
 use Rattle.sz_recover.specs.Growing.{durable}
 use Rattle.sz_versions.specs.Bodies.{IsSoundBody}
+use Rattle.sz_versions.specs.Residents.{Stored, stored_in}
 use Rattle.sz_commands.specs.States.{State}
+use Rattle.sz_commands.specs.Carrying.{IsFinishedIn, FinishesEntry}
 use Rattle.sz_commands.specs.Logged.{KeepsLog, HasLog, IsVersionGroup, Appends}
 use Rattle.sz_commands.proofs.Appending.{group-added}
 use Rattle.sz_versions.proofs.Keeps.{rule-fails}
@@ -19,21 +22,15 @@ use Rattle.sz_commands.proofs.Lasting.{rests-keep, version-step, again-durable, 
 use Rattle.sz_commands.proofs.Logged.{still-stops, log-ends, append-stops, append-keeps, IsStep}
 use Rattle.sz_commands.proofs.session.Session.add_version.Goals as goal
 
-pub returns-in_err-await_version-clause-stops : goal.returns-in_err-await_version-clause-stops
-returns-in_err-await_version-clause-stops g c =
-    still-stops g.T.Station c.args.self.now.held (with_await c.args.self.now.held c.args.version)
-    c.args.self.now.end c.args.station.now (g.met.T.Station.only_now c.args.station.now)
-    (g.met.T.Station.counts_now c.args.station.now)
-
 pub returns-then-is_awaited-clause-log : goal.returns-then-is_awaited-clause-log
 returns-then-is_awaited-clause-log g c =
     let s : State = c.args.self.now in
-    let t : State = c.await_version.new.self in
+    let t : State = c.await_again.new.self in
     let n = c.args.version in
     let held = (rule-fails (has_no_version s.held n) refusal.NoSuchVersion [] c.requires.judged).0 in
     let on = sym c.is_awaited.ensures ∙ c.if-is_awaited.true in
-    let left = left-held s t (order.Await n) _ c.in_ok-await_version.ensures.reply in
-    let place = ap (λ (p : State × Response). p.0.end) (sym c.in_ok-await_version.ensures.reply) in
+    let left = left-held s t (order.Await n) _ c.await_again.ensures in
+    let place = ap (λ (p : State × Response). p.0.end) (sym c.await_again.ensures) in
     let log =
     subst (λ (o : Option ℕ). HasLog g.T.Station s.held o c.args.station.now) (sym c.requires.end) c.requires.log in
     rests-keep g.T.Station s t c.args.station.now log place
@@ -96,8 +93,9 @@ returns-clause-log g c =
     subst (λ (body : List ℕ). IsStep s.held (with_await s.held n) (E body)) (sym c.deref.ensures.value)
     (version-step s.held n c.in_ok-body.body.items in-order held off sound) in
     let left : t.held ≡ with_await s.held n =
-    ap (λ (p : State × Response). p.0.held) (sym c.note_await.ensures) ∙ ap (λ (h : Holdings). with_await h n) is in
-    let place : t.end ≡ Some c.in_ok-next.next.at = ap (λ (p : State × Response). p.0.end) (sym c.note_await.ensures) in
+    ap (λ (p : State × Response). p.0.held) (sym c.note_await.ensures.reply)
+    ∙ ap (λ (h : Holdings). with_await h n) is in
+    let place : t.end ≡ Some c.in_ok-next.next.at = c.note_await.ensures.end in
     subst (λ (h : Holdings). KeepsLog g.T.Station s.held s.end h t.end c.args.station.now c.append.new.station)
     (sym left)
     (subst (λ (o : Option ℕ). KeepsLog g.T.Station s.held s.end (with_await s.held n) o c.args.station.now
@@ -133,10 +131,32 @@ returns-clause-appends g c =
     ap (λ (x : State). x.held) (c.self.view_is ∙ c.in_ok-run.ensures.same) in
     let sound =
     subst (λ (h : Holdings). IsSoundBody n (version_of h n) c.in_ok-body.body.items) is c.in_ok-body.ensures in
-    let place : t.end ≡ Some c.in_ok-next.next.at = ap (λ (p : State × Response). p.0.end) (sym c.note_await.ensures) in
+    let place : t.end ≡ Some c.in_ok-next.next.at = c.note_await.ensures.end in
     let P : Entry → Type 0 = IsVersionGroup s.held n in
     λ off. subst (λ (o : Option ℕ). Appends g.T.Station P s.end o c.args.station.now c.append.new.station) (sym place)
     (group-added g.T.Station P s.end c.args.end.at c.in_ok-next.next.at
     (record { kind = 4; body = c.deref.result.now }) c.args.station.now c.append.new.station c.requires.end
     (refl, subst (λ (body : List ℕ). IsSoundBody n (version_of s.held n) body) (sym c.deref.ensures.value) sound)
     c.in_ok-next.ensures.added c.in_ok-next.ensures.end)
+
+-- ---- what is kept of nodes
+
+pub returns-then-is_awaited-clause-stored : goal.returns-then-is_awaited-clause-stored
+returns-then-is_awaited-clause-stored g c =
+    let s : State = c.args.self.now in
+    let t : State = c.await_again.new.self in
+    let on = sym c.is_awaited.ensures ∙ c.if-is_awaited.true in
+    let same : t.stored ≡ s.stored = ap (λ (p : State × Response). p.0.stored) (sym c.await_again.ensures) in
+    subst (λ (b : Bool). FinishesEntry b c.args.version s.stored t.stored) (sym on) same
+
+pub returns-clause-stored : goal.returns-clause-stored
+returns-clause-stored g c =
+    let s : State = c.args.self.now in
+    let t : State = c.note_await.new.self in
+    let n = c.args.version in
+    let off = sym c.is_awaited.ensures ∙ c.if-is_awaited.false in
+    let before : stored_in c.self.inside.runs ≡ s.stored =
+    ap (λ (x : State). x.stored) (c.self.view_is ∙ c.in_ok-run.ensures.same) in
+    let by = subst (λ (es : List (ℕ × List Stored)). AllZip (IsFinishedIn n) es t.stored) before
+    c.note_await.ensures.stored in
+    subst (λ (b : Bool). FinishesEntry b n s.stored t.stored) (sym off) by

@@ -1,44 +1,59 @@
--- The catalogue notes the await, and the versions that a log gave stay.
-use Rattle.std.proofs.Common.{◌≡◌, true, map, sym, ap, subst}
-use Rattle.std.specs.Prelude.{None, option_map}
-use Rattle.sz_log.specs.declared.LogEnd.{LogEnd}
+-- The catalogue notes the await, and what is carried of the version is put in the place of what was.
+use Rattle.std.proofs.Common.{◌≡◌, List, false, true, sym, ap, subst}
+use Rattle.std.specs.Prelude.{None}
+use Rattle.std.specs.List.{AllZip}
 use Rattle.sz_script.specs.declared.command.Command.TheVariants as order
 use Rattle.sz_catalogue.specs.Holdings.{Holdings}
+use Rattle.sz_catalogue.specs.Changes.{with_await}
 use Rattle.sz_catalogue.specs.Responses.{Response}
 use Rattle.sz_catalogue.specs.Rules.{judged, version_of}
-use Rattle.sz_versions.specs.Carries.{IsCarryOf}
-use Rattle.sz_commands.specs.States.{State, changed}
-use Rattle.sz_versions.specs.Recalls.{Recall, IsInService}
-use Rattle.sz_versions.proofs.Keeps.{keeps-await}
-use Rattle.sz_versions.proofs.Stays.{recalled-stay, awaited-stay}
+use Rattle.sz_versions.specs.Stores.{IsTrailOf}
+use Rattle.sz_versions.specs.Residents.{Resident, IsInService, stored_in}
+use Rattle.sz_versions.proofs.Residents.{residents-few, service-awaited}
+use Rattle.sz_commands.specs.States.{State}
+use Rattle.sz_commands.specs.Carrying.{IsFinishedIn}
+use Rattle.sz_commands.proofs.Carrying.{all-finished, stored-finished}
+use Rattle.sz_commands.proofs.Seen.{seen-awaited, is-held}
 use Rattle.sz_commands.proofs.session.Session.note_await.Goals as goal
 
-pub await_version-requires-clause-judged : goal.await_version-requires-clause-judged
-await_version-requires-clause-judged c =
-    subst (λ (s : State). judged s.held (order.Await c.args.version) ≡ None) (sym c.self.view_is) c.requires.judged
+pub replace-requires : goal.replace-requires
+replace-requires c =
+    record { once = residents-few c.self.inside.catalogue c.self.inside.runs c.args.version c.self.invariant.residents }
 
-pub await_version-requires-clause-belongs : goal.await_version-requires-clause-belongs
-await_version-requires-clause-belongs c =
-    subst (λ (s : State). IsCarryOf (record (version_of s.held c.args.version) { awaited = true }) c.args.carry)
-    (sym c.self.view_is) c.requires.own
+pub await_version-requires : goal.await_version-requires
+await_version-requires c =
+    let J : State → Type 0 = λ s. judged s.held (order.Await c.args.version) ≡ None in
+    record { judged = subst J (sym c.self.view_is) c.requires.judged }
 
 pub invariant_of-self : goal.invariant_of-self
 invariant_of-self c =
     let cat = c.self.inside.catalogue in
-    let rs = c.self.inside.recalled.items in
-    let none =
-    subst (λ (s : State). judged s.held (order.Await c.args.version) ≡ None) (sym c.self.view_is) c.requires.judged in
-    subst (λ (h : Holdings). IsInService h rs) (sym (ap (λ (p : Holdings × Response). p.0) c.await_version.ensures))
-    (record {
-      sound = keeps-await cat c.args.version c.self.invariant.sound none;
-      recalled = recalled-stay cat _ rs (awaited-stay cat c.args.version) c.self.invariant.recalled;
-    })
+    let rs = c.self.inside.runs in
+    let n = c.args.version in
+    let none = subst (λ (s : State). judged s.held (order.Await n) ≡ None) (sym c.self.view_is) c.requires.judged in
+    let own =
+    subst (λ (s : State). IsTrailOf (record (version_of s.held n) { awaited = true }) c.args.run) (sym c.self.view_is)
+    c.requires.own in
+    subst (λ (h : Holdings). IsInService h c.replace.new.self)
+    (sym (ap (λ (p : Holdings × Response). p.0) c.await_version.ensures))
+    (subst (λ (xs : List Resident). IsInService (with_await cat n) xs) (sym c.replace.ensures)
+    (service-awaited cat rs n c.args.run c.self.invariant (is-held cat n none) own))
 
-pub returns : goal.returns
-returns c =
-    let old : State = record {
-      held = c.self.inside.catalogue;
-      logged = map (λ (r : Recall). r.kept) c.self.inside.recalled.items;
-      end = option_map (λ (e : LogEnd). e.at) c.self.inside.end;
-    } in
-    rw (← c.self.view_is) (ap (changed old) (sym c.await_version.ensures))
+pub returns-clause-reply : goal.returns-clause-reply
+returns-clause-reply c =
+    let cat = c.self.inside.catalogue in
+    let n = c.args.version in
+    let first =
+    subst (λ (s : State). (version_of s.held n).awaited ≡ false) (sym c.self.view_is) c.requires.first in
+    rw (← c.self.view_is)
+    (seen-awaited cat _ c.self.inside.runs c.replace.new.self n c.args.run _ None c.self.invariant first
+    c.replace.ensures c.await_version.ensures)
+
+pub returns-clause-stored : goal.returns-clause-stored
+returns-clause-stored c =
+    let n = c.args.version in
+    let rs = c.self.inside.runs in
+    let all = all-finished _ _ c.args.run.kept c.requires.own.1 in
+    subst (λ (s : State). AllZip (IsFinishedIn n) s.stored (stored_in c.replace.new.self)) c.self.view_is
+    (subst (λ (xs : List Resident). AllZip (IsFinishedIn n) (stored_in rs) (stored_in xs)) (sym c.replace.ensures)
+    (stored-finished n c.args.run rs all))

@@ -9,8 +9,8 @@ use Rattle.sz_versions.proofs.Kept.{run-at, executions-length, output-at}
 use Rattle.sz_versions.proofs.Keeps.{can-show}
 use Rattle.sz_commands.proofs.session.Session.show.Goals as goal
 
-pub runs_of-requires : goal.runs_of-requires
-runs_of-requires c = (can-show c.args.self.now.held c.args.version c.args.node c.requires).0
+pub runs_of-runs-requires : goal.runs_of-runs-requires
+runs_of-runs-requires c = (can-show c.args.self.now.held c.args.version c.args.node c.requires).0
 
 pub bounds-runs-node : goal.bounds-runs-node
 bounds-runs-node c =
@@ -18,8 +18,8 @@ bounds-runs-node c =
     omega (
       arith,
       can.1,
-      ap (λ (es : List Execution). length es) c.in_ok-runs.ensures,
-      length-map c.in_ok-runs.runs.now execution_of,
+      ap (λ (es : List Execution). length es) c.runs_of-runs.ensures,
+      length-map c.runs_of-runs.result.now execution_of,
       executions-length (version_of c.args.self.now.held c.args.version),
     )
 
@@ -27,15 +27,15 @@ pub returns : goal.returns
 returns c =
     let can = can-show c.args.self.now.held c.args.version c.args.node c.requires in
     let v = version_of c.args.self.now.held c.args.version in
-    let runs = c.in_ok-runs.runs.now in
+    let runs = c.runs_of-runs.result.now in
     let within : c.args.node < length runs = omega (
       arith,
       can.1,
-      ap (λ (es : List Execution). length es) c.in_ok-runs.ensures,
+      ap (λ (es : List Execution). length es) c.runs_of-runs.ensures,
       length-map runs execution_of,
       executions-length v,
     ) in
-    let at = run-at v c.args.node runs c.index-runs-node.result c.in_ok-runs.ensures within c.index-runs-node.is in
+    let at = run-at v c.args.node runs c.index-runs-node.result c.runs_of-runs.ensures within c.index-runs-node.is in
     let shown = output-at v c.args.node (execution_of c.index-runs-node.result) at
     ∙ sym c.in_ok-try_clone.ensures in
     ap (λ (a : Grid). (c.args.self.now, values a)) shown

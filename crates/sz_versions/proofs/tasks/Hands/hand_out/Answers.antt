@@ -6,7 +6,7 @@ use Rattle.std.specs.Option.{option_map}
 use Rattle.std.proofs.lemmas.List.{length-map}
 use Rattle.std.proofs.lemmas.Option.{slice_get-map, slice_get_read}
 use Rattle.sz_flow.specs.Executions.{Execution, execution_of}
-use Rattle.sz_versions.specs.Stores.{Keeping, Trail, IsKeptOf, AreKeptOf, keeping_of}
+use Rattle.sz_versions.specs.Stores.{Keeping, Trail, IsKeptOf, keeping_of}
 use Rattle.sz_versions.specs.Lending.{lent, AreLent}
 use Rattle.sz_versions.proofs.Keeping.{kept-at, kept-length}
 use Rattle.sz_versions.proofs.Keeps.{some-same}
@@ -62,7 +62,8 @@ hand_out_node-requires g c =
     let runs = (arc_value c.loop-node.run-inside.runs).items in
     let stores = c.loop-node.run-inside.stores.items in
     let long = kept-length false r.executions lists r.kept c.requires in
-    let own = keeps-lent false r.executions lists r.kept (map keeping_of stores) c.loop-node.invariant.stores c.requires in
+    let own = keeps-lent false r.executions lists r.kept (map keeping_of stores) c.loop-node.invariant.stores
+    c.requires in
     let many : length runs ≡ length r.executions =
     sym (length-map runs execution_of) ∙ ap (λ (es : List Execution). length es) c.loop-node.invariant.runs in
     let few : n < length runs =

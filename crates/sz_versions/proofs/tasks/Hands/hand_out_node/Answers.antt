@@ -1,5 +1,5 @@
 -- What is kept is a shelf of the run, off whose pass one is split for each worker at the most.
-use Rattle.std.proofs.Common.{false, refl, sym, ap, ◌∙◌, subst, arith, ◌≡◌, ◌+◌, ℕ}
+use Rattle.std.proofs.Common.{false, sym, ap, ◌∙◌, subst, arith, ◌+◌, ℕ}
 use Rattle.std.specs.Arc.{arc_value}
 use Rattle.sz_claims.specs.Claims.{Claimant}
 use Rattle.sz_flow.specs.Executions.{execution_of}

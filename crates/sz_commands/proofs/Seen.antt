@@ -1,0 +1,45 @@
+-- The state that is seen of a catalogue, of what is carried, and of where a log ends.
+use Rattle.std.proofs.Common.{◌≡◌, ℕ, List, [], ◌∷◌, ◌++◌, false, sym, ap, ◌∙◌, Option, None}
+use Rattle.sz_script.specs.declared.command.BaseName.{BaseName}
+use Rattle.sz_script.specs.declared.command.Command.TheVariants as order
+use Rattle.sz_script.specs.declared.refusal.Refusal.TheVariants as refusal
+use Rattle.sz_catalogue.specs.Holdings.{Holdings}
+use Rattle.sz_catalogue.specs.Responses.{Response}
+use Rattle.sz_catalogue.specs.Rules.{judged, version_of, has_no_version}
+use Rattle.sz_catalogue.specs.Changes as changes
+use Rattle.sz_recover.specs.Logs.{Kept}
+use Rattle.sz_versions.specs.Stores.{Trail}
+use Rattle.sz_versions.specs.Residents.{Resident, IsInService, logged_in, stored_in, replaced_in}
+use Rattle.sz_versions.proofs.Keeps.{rule-fails}
+use Rattle.sz_versions.proofs.Residents.{logged-more, logged-replaced}
+use Rattle.sz_commands.specs.States.{State, apart, accepted}
+
+abbrev pub seen : Holdings → List Resident → Option ℕ → State
+seen c rs end = record { held = c; logged = logged_in rs; stored = stored_in rs; end = end }
+
+-- what is seen apart of a catalogue and of the stores that a log gave, with a reply
+abbrev told : List Kept → Holdings × Response → State × Response
+told ks p = (record { held = p.0; logged = ks; stored = []; end = None }, p.1)
+
+-- a version whose await no rule refuses is held
+pub is-held : (c : Holdings) (n : ℕ) → judged c (order.Await n) ≡ None → has_no_version c n ≡ false
+is-held c n none = (rule-fails (has_no_version c n) refusal.NoSuchVersion [] none).0
+
+-- an await, with a trail in place of the one that its version had
+pub seen-awaited : (c d : Holdings) (rs new : List Resident) (n : ℕ) (t : Trail) (r : Response) (end : Option ℕ)
+    → IsInService c rs → (version_of c n).awaited ≡ false → new ≡ replaced_in n t rs
+    → (d, r) ≡ changes.accepted c (order.Await n)
+    → accepted (apart (seen c rs end)) (order.Await n) ≡ (apart (seen d new end), r)
+seen-awaited c d rs new n t r end service first replaced is =
+    ap (told (logged_in rs)) (sym is)
+    ∙ ap (λ (ks : List Kept). told ks (d, r))
+    (sym (ap logged_in replaced ∙ logged-replaced c rs n t service.residents first))
+
+-- a start, with one more that no log gave
+pub seen-started : (c d : Holdings) (rs new : List Resident) (one : Resident) (name : List ℕ) (base : List BaseName)
+    (r : Response) (end : Option ℕ)
+    → one.logged ≡ false → new ≡ rs ++ one ∷ [] → (d, r) ≡ changes.accepted c (order.Start name base)
+    → accepted (apart (seen c rs end)) (order.Start name base) ≡ (apart (seen d new end), r)
+seen-started c d rs new one name base r end plain added is =
+    ap (told (logged_in rs)) (sym is)
+    ∙ ap (λ (ks : List Kept). told ks (d, r)) (sym (ap logged_in added ∙ logged-more rs one plain))

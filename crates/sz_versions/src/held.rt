@@ -1,0 +1,284 @@
+//! What a session carries of the versions that it holds: of each one run, whether it was started
+//! here or a log gave it.
+
+ghost use Rattle.std.specs.Prelude.{◌≡◌, ◌≤◌, ◌==◌, ◌++◌, ◌∷◌, [], List, find, map};
+ghost use Rattle.std.specs.Prelude.{true, false, Some, None, All, IfOk, OnOk, OnErr};
+ghost use Rattle.std.specs.Prelude.{IfSome, IfNone};
+ghost use Rattle.std.specs.List.{list_all, slice_get};
+ghost use Rattle.sz_spec.specs.Paths.{is_joined};
+ghost use Rattle.sz_flow.specs.Executions.{execution_of};
+ghost use Rattle.sz_catalogue.specs.Holdings.{Holdings};
+ghost use Rattle.sz_catalogue.specs.Starts.{path_start};
+ghost use Rattle.sz_catalogue.specs.Rules.{version_of, has_no_version, is_not_joined};
+ghost use Rattle.sz_catalogue.specs.Rules.{is_out_of_range, has_named_cell};
+ghost use Rattle.sz_recover.specs.Opened.{AreOfVersions};
+ghost use Rattle.sz_versions.specs.Runs.{executions_of, IsSoundVersion};
+ghost use Rattle.sz_versions.specs.Stores.{IsTrailOf};
+ghost use Rattle.sz_versions.specs.Inquiries.{IsInquiryBy};
+ghost use Rattle.sz_versions.specs.Residents.{Resident, AreResidents, IsInService, IsTrailBy};
+ghost use Rattle.sz_versions.specs.Residents.{residents_under, logged_in, logged_under, logged_of};
+ghost use Rattle.sz_versions.specs.Residents.{stored_in, replaced_in, IsStill};
+
+use crate::building::ended;
+use crate::finding::inquiry_along;
+use crate::inquiry::Inquiry;
+use crate::recalls::recall_each;
+use crate::runs::VersionRun;
+use std::alloc::Global;
+use std::marker::Model;
+use std::sync::Wait;
+use std::thread::Threads;
+use sz_catalogue::{Catalogue, HeldVersion};
+use sz_cells::NoMemory;
+use sz_flow::NodeRun;
+use sz_recover::KeptVersion;
+use sz_script::{NamedCells, Path};
+use sz_spec::Dir;
+
+/// What is carried of a version: its number, whether a log gave it, and its run. Contracts see it
+/// as a `Resident`.
+#[derive(Drop)]
+pub struct HeldRun {
+    pub(crate) number: u32,
+    pub(crate) logged: bool,
+    pub(crate) run: VersionRun,
+}
+
+impl Model for HeldRun {
+    ghost use Rattle.sz_versions.specs.Residents.{Resident};
+
+    ghost Value = { Resident };
+
+    ghost view = { λ r. record { number = r.number; logged = r.logged; trail = r.run } };
+}
+
+/// What is carried of each version that is held. Contracts see the list.
+#[derive(Drop)]
+pub struct HeldRuns {
+    runs: Vec<HeldRun>,
+}
+
+impl Model for HeldRuns {
+    ghost use Rattle.std.specs.Prelude.{List};
+    ghost use Rattle.sz_versions.specs.Residents.{Resident};
+
+    ghost Value = { List Resident };
+
+    ghost view = { λ h. h.runs.items };
+}
+
+impl HeldRuns {
+    /// Of no version. Takes no memory.
+    pub fn new(alloc: Global) -> HeldRuns
+        ensures { result ≡ [] }
+    {
+        HeldRuns {
+            runs: Vec::new(alloc),
+        }
+    }
+
+    /// What is carried of the versions that a log gave, which are all that are held: the values of
+    /// their nodes are computed again, each once, beside the stores that were read of them.
+    pub fn recalled<R: Threads + Sync>(
+        rt: &R,
+        alloc: Global,
+        catalogue: &Catalogue,
+        stores: Vec<KeptVersion>,
+    ) -> Result<HeldRuns, NoMemory>
+        requires { AreOfVersions catalogue.now stores.items }
+        ensures own { IfOk result (λ rs. AreResidents catalogue.now rs) }
+        ensures logged { IfOk result (λ rs. logged_in rs ≡ stores.items) }
+        ensures each { IfOk result (λ rs. All (λ r. r.logged ≡ true) rs) }
+    {
+        let runs = recall_each(rt, alloc, catalogue, stores)?;
+        Ok(HeldRuns { runs })
+    }
+
+    /// Carries the run of one version more, which was started here.
+    pub fn add(&mut self, number: u32, run: VersionRun) -> Result<(), NoMemory>
+        ensures ok { OnOk result (self.new
+            ≡ self.old ++ record { number = number; logged = false; trail = run } ∷ []) }
+        ensures err { OnErr result (self.new ≡ self.old) }
+    {
+        self.runs.push(HeldRun {
+            number,
+            logged: false,
+            run,
+        })?;
+        Ok(())
+    }
+
+    /// Lets the one go that was added last.
+    pub fn take_back(&mut self)
+        ensures { (rs : List Resident) (r : Resident)
+            → self.old ≡ rs ++ r ∷ [] → self.new ≡ rs }
+    {
+        let _ = self.runs.pop();
+    }
+
+    /// Carries another run of a version. Costs a look at each version.
+    pub fn replace(&mut self, number: u32, run: VersionRun)
+        requires once { residents_under number self.old ≤ 1 }
+        ensures { self.new ≡ replaced_in number run self.old }
+    {
+        match self.place_of(number) {
+            Some(at) => self.runs[at].replace(run),
+            None => {}
+        }
+    }
+
+    /// The runs of the nodes of a version. Costs a look at each version.
+    pub fn runs(&self, version: u32) -> Option<&[NodeRun]>
+        ensures some { IfSome result (λ runs. (c : Holdings) → AreResidents c self.now
+            → map execution_of runs.now ≡ executions_of (version_of c version)) }
+        ensures none { IfNone result (residents_under version self.now ≡ 0) }
+    {
+        match self.place_of(version) {
+            Some(at) => Some(self.runs[at].runs()),
+            None => None,
+        }
+    }
+
+    /// What is asked along a path of a version, for an ask or explain that no rule refuses: by what
+    /// is carried of it. Of that nothing changes but that passes were split off.
+    pub fn inquiry(
+        &mut self,
+        alloc: Global,
+        catalogue: &Catalogue,
+        version: u32,
+        dir: Dir,
+        path: &Path,
+        named: &NamedCells,
+    ) -> Result<Inquiry, NoMemory>
+        requires service { IsInService catalogue.now self.old }
+        requires held { has_no_version catalogue.now version ≡ false }
+        requires joined { is_not_joined catalogue.now version dir path.now ≡ false }
+        requires range { is_out_of_range catalogue.now version dir path.now named.now ≡ false }
+        ensures search { IfOk result (λ s. IsInquiryBy (logged_under version (logged_in self.old))
+            (version_of catalogue.now version) dir path.now named.now s) }
+        ensures service { IsInService catalogue.now self.new }
+        ensures logged { logged_in self.new ≡ logged_in self.old }
+        ensures stored { stored_in self.new ≡ stored_in self.old }
+    {
+        let Some(held) = catalogue.version(version) else {
+            unreachable!()
+        };
+        let Some(at) = self.place_of(version) else {
+            unreachable!()
+        };
+        self.runs[at].inquiry(alloc, held, dir, path, named)
+    }
+
+    /// What is carried of a version once it is awaited: its runs, and its stores whole. What is
+    /// missing of them is made on their shelves. Nothing else changes of what is carried; the run
+    /// that is given is to be carried in the other's place.
+    pub fn whole<R: Wait>(
+        &mut self,
+        alloc: Global,
+        rt: &R,
+        catalogue: &Catalogue,
+        version: u32,
+    ) -> Result<VersionRun, NoMemory>
+        requires service { IsInService catalogue.now self.old }
+        requires held { has_no_version catalogue.now version ≡ false }
+        requires first { (version_of catalogue.now version).awaited ≡ false }
+        ensures whole { IfOk result (λ run.
+            IsTrailOf (record (version_of catalogue.now version) { awaited = true }) run) }
+        ensures service { IsInService catalogue.now self.new }
+        ensures logged { logged_in self.new ≡ logged_in self.old }
+        ensures stored { stored_in self.new ≡ stored_in self.old }
+    {
+        let Some(held) = catalogue.version(version) else {
+            unreachable!()
+        };
+        let Some(at) = self.place_of(version) else {
+            unreachable!()
+        };
+        self.runs[at].whole(alloc, rt, held)
+    }
+
+    /// The place of a version.
+    fn place_of(&self, version: u32) -> Option<usize>
+        ensures some { IfSome result (λ i. (r : Resident) × (slice_get self.now i ≡ Some r)
+            × (find (λ x. x.number == version) self.now ≡ Some r)) }
+        ensures none { IfNone result (find (λ x. x.number == version) self.now ≡ None) }
+    {
+        place_among(&self.runs, version)
+    }
+}
+
+/// The first place of a version.
+fn place_among(runs: &[HeldRun], version: u32) -> Option<usize>
+    ensures some { IfSome result (λ i. (r : Resident) × (slice_get runs.now i ≡ Some r)
+        × (find (λ x. x.number == version) runs.now ≡ Some r)) }
+    ensures none { IfNone result (find (λ x. x.number == version) runs.now ≡ None) }
+{
+    for at in 0..runs.len() {
+        if runs[at].number() == version {
+            return Some(at);
+        }
+    }
+    None
+}
+
+impl HeldRun {
+    /// The version's number.
+    fn number(&self) -> u32
+        ensures { result ≡ self.now.number }
+    {
+        self.number
+    }
+
+    /// The runs of the version's nodes.
+    fn runs(&self) -> &[NodeRun]
+        ensures { map execution_of result.now ≡ self.now.trail.executions }
+    {
+        self.run.runs()
+    }
+
+    /// Carries another run, which was made here.
+    fn replace(&mut self, run: VersionRun)
+        ensures { self.new ≡ record { number = self.old.number; logged = false; trail = run } }
+    {
+        self.logged = false;
+        self.run = run;
+    }
+
+    /// What is asked along a path, by what is carried.
+    fn inquiry(
+        &mut self,
+        alloc: Global,
+        version: &HeldVersion,
+        dir: Dir,
+        path: &Path,
+        named: &NamedCells,
+    ) -> Result<Inquiry, NoMemory>
+        requires sound { IsSoundVersion version.now }
+        requires own { IsTrailBy self.old.logged version.now self.old.trail }
+        requires joined { is_joined dir version.now.flow path.now ≡ true }
+        requires named { list_all (has_named_cell (path_start dir version.now path.now)) named.now
+            ≡ true }
+        ensures search { IfOk result
+            (λ s. IsInquiryBy (logged_of self.old) version.now dir path.now named.now s) }
+        ensures still { IsStill self.old self.new }
+    {
+        inquiry_along(alloc, version, &mut self.run, dir, path, named)
+    }
+
+    /// What is carried of a version once it is awaited.
+    fn whole<R: Wait>(
+        &mut self,
+        alloc: Global,
+        rt: &R,
+        version: &HeldVersion,
+    ) -> Result<VersionRun, NoMemory>
+        requires sound { IsSoundVersion version.now }
+        requires first { version.now.awaited ≡ false }
+        requires own { IsTrailBy self.old.logged version.now self.old.trail }
+        ensures whole { IfOk result
+            (λ run. IsTrailOf (record version.now { awaited = true }) run) }
+        ensures still { IsStill self.old self.new }
+    {
+        ended(alloc, rt, &mut self.run, version.lists.as_slice())
+    }
+}
