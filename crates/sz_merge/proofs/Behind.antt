@@ -23,6 +23,7 @@ use Rattle.sz_region.specs.FullBytes.{Listed, IsFullWord, BeginsRegions}
 use Rattle.sz_region.specs.PayBytes.{BeginsEntries}
 use Rattle.sz_region.specs.LawsStores.{AreRight}
 use Rattle.sz_region.proofs.FullStores.{regions-read, behind-word}
+use Rattle.sz_region.proofs.ReadShapes.{read-shapes}
 use Rattle.sz_payload.specs.Begins.{BeginsPayloads}
 use Rattle.sz_store.specs.Kept.{regions, entries, Keep, stored_in, NodeLineage, is_whole}
 use Rattle.sz_cells.specs.Extent.{Extent, is_extent}
@@ -77,6 +78,33 @@ word-between bytes at next word rest low high spelled ends =
       high,
     ) in
     ap₂ (λ (n : ℕ) (b : List ℕ). take n b) long spelled ∙ take-append_seam word rest
+
+-- a store of kinds is copied
+pub full-kept : (s : Site) (bytes : List ℕ) (at next : ℕ) (rs : List Pairing) (old new kinds after : List ℕ)
+    → AreRight (s.out ∷ s.ins) → at ≤ length bytes → BeginsRegions s.out s.ins bytes at next rs → next ≤ length bytes
+    → AreKinds rs → new ≡ old ++ slice_range bytes at next → after ≡ kinds ++ length rs ∷ []
+    → IsPartMerged s mode.Full bytes at next old new kinds after
+full-kept s bytes at next rs old new kinds after right low begins high are more counted =
+    let added : new ≡ old ++ begins.word =
+    more ∙ ap (λ (b : List ℕ). old ++ b)
+    (word-between bytes at next begins.word begins.rest low high begins.spelled begins.ends) in
+    full-merged s bytes at next rs rs old new begins.word begins.table kinds after right begins high are
+    (read-shapes s.out s.ins bytes at next rs begins) (λ i o x inside. refl) begins.is_word added counted
+
+-- a store's place is not behind its end
+pub regions-order : (out : Extent) (ins : List Extent) (bytes : List ℕ) (at next : ℕ) (rs : List Pairing)
+    → at ≤ length bytes → next ≤ length bytes → BeginsRegions out ins bytes at next rs → at ≤ next
+regions-order out ins bytes at next rs low high begins =
+    omega (
+      arith,
+      ap length begins.spelled,
+      ap length begins.ends,
+      length-append begins.word begins.rest,
+      length-drop at bytes,
+      length-drop next bytes,
+      low,
+      high,
+    )
 
 pub entries-copied : (s : Site) (bytes : List ℕ) (at next : ℕ) (es : List Entry) (old new : List ℕ)
     → at ≤ length bytes → BeginsPayloads s bytes at next es → next ≤ length bytes

@@ -1,9 +1,10 @@
--- The lemmas: of lineages made by tests, of marks, of groups, of kinds, of stores one after another, of stores on a
--- shelf, of how many different lineages there are, and of the numbers that are told; and rows of what the definitions
--- compute.
+-- The lemmas: of lineages made by tests, of marks, of groups, of kinds, of pairs that are kinds as they are, of stores
+-- one after another, of stores on a shelf, of how many different lineages there are, and of the numbers that are told;
+-- and rows of what the definitions compute.
 pub mod Sets
 pub mod Marked
 pub mod Grouped
+pub mod Further
 pub mod Sorting
 pub mod Behind
 pub mod Swapped

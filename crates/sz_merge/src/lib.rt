@@ -12,13 +12,14 @@
 //! ```
 #![tactic(auto)]
 
-ghost use Rattle.std.specs.Prelude.{◌≡◌, ℕ, [], true, All, IfOk, OnOk};
+ghost use Rattle.std.specs.Prelude.{◌≡◌, ℕ, List, [], true, length, All, IfOk, OnOk};
 ghost use Rattle.std.specs.Arc.{arc_value};
 ghost use Rattle.sz_spec.specs.Modes.{supports};
 ghost use Rattle.sz_store.specs.Kept.{is_whole, stored_in};
 ghost use Rattle.sz_store.specs.Words.{BeginEach};
 ghost use Rattle.sz_merge.specs.Merged.{AreMerged, AreRead};
 
+mod apart;
 mod gate;
 mod grouping;
 mod joining;
@@ -27,6 +28,7 @@ pub mod laws;
 mod lineages;
 mod marking;
 mod parts;
+mod reading;
 mod task;
 
 pub use crate::gate::{MergeGate, NoMergeGate};
@@ -98,7 +100,36 @@ fn read_merged(
     }
 }
 
-/// Puts the words of the merged stores, and their numbers of kinds.
+/// Merged stores to share: those that are given where merging changes nothing.
+pub(crate) fn merge_shared(
+    alloc: Global,
+    at: &Arc<OpAt>,
+    list: &[Strategy],
+    store: &Arc<NodeStore>,
+) -> Result<Arc<NodeStore>, NoMemory>
+    requires site { (arc_value store.now).site ≡ arc_value at.now }
+    requires list { (arc_value store.now).list ≡ list.now }
+    requires whole { is_whole (arc_value store.now) ≡ true }
+    requires supported { All (λ t. supports (arc_value at.now).op t ≡ true) list.now }
+    ensures { IfOk result (λ a. (bytes : List ℕ) × (kinds : List ℕ)
+        × AreMerged (arc_value at.now) list.now (arc_value store.now).stores (arc_value a) bytes
+        kinds) }
+{
+    within_limits(at);
+    let mut bytes = Vec::new(alloc);
+    let mut kinds = Vec::new(alloc);
+    let same = put_merged(alloc, at, list, store, &mut bytes, &mut kinds)?;
+    if same {
+        let own = Arc::try_clone(store)?;
+        return Ok(own);
+    }
+    let store = read_merged(alloc, at, list, &bytes)?;
+    let merged = Arc::new(alloc, store)?;
+    Ok(merged)
+}
+
+/// Puts the words of the merged stores, and their numbers of kinds. Whether the words are those of
+/// the stores that are given.
 fn put_merged(
     alloc: Global,
     at: &OpAt,
@@ -106,17 +137,26 @@ fn put_merged(
     store: &NodeStore,
     to: &mut Vec<u8>,
     kinds: &mut Vec<u32>,
-) -> Result<(), NoMemory>
+) -> Result<bool, NoMemory>
     requires site { store.now.site ≡ at.now }
     requires list { store.now.list ≡ list.now }
     requires to { to.old.items ≡ [] }
     requires kinds { kinds.old.items ≡ [] }
-    ensures { OnOk result
+    ensures read { OnOk result
         (AreRead at.now (stored_in list.now) store.now.stores to.new.items kinds.new.items) }
+    ensures same { IfOk result (λ b. b ≡ true → BeginEach at.now (stored_in list.now) to.new.items
+        0 (length to.new.items) store.now.stores) }
 {
     within_limits(at);
     let mut bytes = Vec::new(alloc);
     store.put_bytes(&mut bytes)?;
     merge_parts(alloc, at, list, &bytes, to, kinds)?;
-    Ok(())
+    Ok(are_same(to, &bytes))
+}
+
+/// Whether two lists of bytes are one.
+fn are_same(bytes: &[u8], other: &[u8]) -> bool
+    ensures { result ≡ true → bytes.now ≡ other.now }
+{
+    bytes == other
 }

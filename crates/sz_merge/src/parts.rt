@@ -7,15 +7,17 @@ ghost use Rattle.std.specs.Arc.{arc_value};
 ghost use Rattle.sz_spec.specs.Modes.{mode_of, is_stored};
 ghost use Rattle.sz_spec.specs.declared.modes.Mode.TheVariants as mode;
 ghost use Rattle.sz_region.specs.LawsStores.{AreRight};
-ghost use Rattle.sz_region.specs.Parts.{Entry};
+ghost use Rattle.sz_region.specs.Parts.{Entry, Pairing};
 ghost use Rattle.sz_region.specs.FullBytes.{BeginsRegions};
 ghost use Rattle.sz_region.specs.PayBytes.{BeginsEntries};
 ghost use Rattle.sz_payload.specs.Begins.{BeginsPayloads};
 ghost use Rattle.sz_store.specs.Kept.{Keep, stored_in};
 ghost use Rattle.sz_store.specs.Words.{BeginEach};
+ghost use Rattle.sz_merge.specs.Distinct.{AreKinds};
 ghost use Rattle.sz_merge.specs.Merged.{IsPartMerged, HasPart, ArePartsMerged, AreCopied};
 
 use crate::kinds::kinds_of;
+use crate::reading::kinds_end;
 use std::alloc::Global;
 use std::sync::Arc;
 use sz_cells::laws::a_shape_is_within_limits;
@@ -105,7 +107,8 @@ fn merge_next(
     }
 }
 
-/// Merges a store of region pairs.
+/// Merges a store of region pairs. Its bytes are copied where its region pairs are kinds as they
+/// are.
 fn merge_full(
     alloc: Global,
     at: &OpAt,
@@ -114,7 +117,56 @@ fn merge_full(
     to: &mut Vec<u8>,
     kinds: &mut Vec<u32>,
 ) -> Result<u64, NoMemory>
-    requires { HasPart at.now mode.Full bytes.now place }
+    requires within { place ≤ length bytes.now }
+    ensures { IfOk result (λ next. IsPartMerged at.now mode.Full bytes.now place next to.old.items
+        to.new.items kinds.old.items kinds.new.items) }
+{
+    within_limits(at);
+    match kinds_end(alloc, at.out(), at.ins(), bytes, place)? {
+        Some((count, next)) => {
+            keep_pairs(at, bytes, place, next, count, to, kinds)?;
+            Ok(next)
+        }
+        None => {
+            let next = merge_pairs(alloc, at, bytes, place, to, kinds)?;
+            Ok(next)
+        }
+    }
+}
+
+/// Copies the bytes of a store whose region pairs are kinds as they are, so many.
+fn keep_pairs(
+    at: &OpAt,
+    bytes: &[u8],
+    place: u64,
+    next: u64,
+    count: u32,
+    to: &mut Vec<u8>,
+    kinds: &mut Vec<u32>,
+) -> Result<(), NoMemory>
+    requires place { place ≤ length bytes.now }
+    requires next { next ≤ length bytes.now }
+    requires kinds { (rs : List Pairing)
+        × BeginsRegions at.now.out at.now.ins bytes.now place next rs × AreKinds rs
+        × (length rs ≡ count) }
+    ensures { OnOk result (IsPartMerged at.now mode.Full bytes.now place next to.old.items
+        to.new.items kinds.old.items kinds.new.items) }
+{
+    within_limits(at);
+    append_part(bytes, place, next, to)?;
+    kinds.push(count)?;
+    Ok(())
+}
+
+/// Merges the region pairs of a store.
+fn merge_pairs(
+    alloc: Global,
+    at: &OpAt,
+    bytes: &[u8],
+    place: u64,
+    to: &mut Vec<u8>,
+    kinds: &mut Vec<u32>,
+) -> Result<u64, NoMemory>
     ensures { IfOk result (λ next. IsPartMerged at.now mode.Full bytes.now place next to.old.items
         to.new.items kinds.old.items kinds.new.items) }
 {

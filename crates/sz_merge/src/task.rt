@@ -5,7 +5,7 @@ ghost use Rattle.std.specs.Arc.{arc_value};
 ghost use Rattle.sz_shelf.specs.Passes.{place_of};
 
 use crate::gate::MergeGate;
-use crate::merge;
+use crate::merge_shared;
 use crossbeam_channel::Receiver;
 use std::alloc::Global;
 use std::sync::{Arc, Wait};
@@ -86,9 +86,8 @@ fn merge_on<G: MergeGate, R: Wait>(
         unreachable!() // the pass saw the seal
     };
     pass.kept(); // its tag is one
-    let merged = merge(alloc, at, list, &store)?;
-    let store = Arc::new(alloc, merged.store)?;
+    let merged = merge_shared(alloc, at, list, &store)?;
     gate.before_swap();
-    shelf.swap(rt, pass, store);
+    shelf.swap(rt, pass, merged);
     Ok(())
 }

@@ -18,5 +18,6 @@ returns c =
     let made = c.in_ok-store.ensures in
     merged-read s list before c.in_ok-store.store c.deref-3.result.now bytes kinds made.ok.0
     (subst (λ (x : Site). AreRight (x.out ∷ x.ins)) c.deref.ensures c.within_limits.ensures.right)
-    (subst (λ (x : Site). AreRead x (stored_in list) before bytes kinds) c.deref-2.ensures c.in_ok-put_merged.ensures)
+    (subst (λ (x : Site). AreRead x (stored_in list) before bytes kinds) c.deref-2.ensures
+    c.in_ok-put_merged.ensures.read)
     c.deref-3.ensures.value made.ok.1 made.site made.list made.whole

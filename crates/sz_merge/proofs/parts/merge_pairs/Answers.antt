@@ -10,7 +10,7 @@ use Rattle.sz_region.specs.Stands.{full_stands}
 use Rattle.sz_region.proofs.ReadShapes.{read-shapes}
 use Rattle.sz_merge.specs.Distinct.{AreKinds}
 use Rattle.sz_merge.proofs.Behind.{full-merged, can-put}
-use Rattle.sz_merge.proofs.parts.merge_full.Goals as goal
+use Rattle.sz_merge.proofs.parts.merge_pairs.Goals as goal
 
 pub kinds_of-requires : goal.kinds_of-requires
 kinds_of-requires c =
