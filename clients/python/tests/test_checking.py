@@ -12,6 +12,8 @@ import unittest
 from pathlib import Path
 from unittest import mock
 
+import interrupts
+
 import subzero
 from subzero import __main__ as shell
 from subzero import locks, logs
@@ -217,6 +219,7 @@ class Locked(WithLog):
                 time.sleep(0.05)
 
     def test_an_interrupt_ends_the_program_and_the_lock(self) -> None:
+        interrupts.heed(self)
         self.write()
         slow = self.fake(f"echo $$ >{self.log.with_name('pid')}; kill -INT {os.getpid()}; exec sleep 60")
         with self.assertRaises(KeyboardInterrupt):

@@ -18,6 +18,7 @@ from collections.abc import Sequence
 from pathlib import Path
 from typing import Any
 
+import interrupts
 import numpy as np
 
 import subzero
@@ -495,6 +496,7 @@ class Bytes(unittest.TestCase):
 
 class Commands(unittest.TestCase):
     def start(self, *words: str) -> subprocess.Popen[str]:
+        interrupts.heed(self)
         environment = {**os.environ, "PYTHONPATH": str(Path(subzero.__file__).parents[1])}
         process = subprocess.Popen(
             [sys.executable, "-m", "subzero", "view", *words],

@@ -14,6 +14,7 @@ from pathlib import Path
 from typing import Any, cast
 from unittest import mock
 
+import interrupts
 import numpy as np
 
 import subzero
@@ -466,6 +467,7 @@ class Interrupts(unittest.TestCase):
     """Ctrl-C, with the program stopped so that it answers nothing before the interrupt."""
 
     def setUp(self) -> None:
+        interrupts.heed(self)
         self.session = subzero.Session()
         self.addCleanup(self.session.close)
         self.sky = self.session.array("sky", [[1, 2], [3, 4]])

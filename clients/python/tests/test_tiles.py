@@ -15,6 +15,7 @@ from unittest import mock
 import numpy as np
 from scipy import ndimage
 
+import interrupts
 import reference
 import subzero
 from subzero.tiles import CannotTile, Limits, Mosaic, TiledArray, TiledRun
@@ -736,6 +737,7 @@ class Ends(unittest.TestCase):
         self.assertEqual(self.run_.values(self.last).tolist(), self.expected)
 
     def test_an_interrupt_stops_what_is_not_begun_and_it_goes_on_when_asked_again(self) -> None:
+        interrupts.heed(self)
         tiles = Holder.tiles
         calls: list[int] = []
         raised = threading.Event()
@@ -756,6 +758,7 @@ class Ends(unittest.TestCase):
         self.assertEqual(self.run_.values(self.last).tolist(), self.expected)
 
     def test_an_interrupt_that_leaves_the_mosaic_stops_its_programs(self) -> None:
+        interrupts.heed(self)
         tiles, kill = Holder.tiles, LocalCrew.kill
         pids: list[int | None] = []
         turn, stopping = threading.Lock(), threading.Event()
