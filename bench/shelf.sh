@@ -137,10 +137,10 @@ pub struct Bench {
 
 impl Model for Bench {
     ghost use Rattle.std.specs.Arc.{arc_value};
-    ghost use Rattle.sz_shelf.specs.Places.{Place};
+    ghost use Rattle.sz_shelf.specs.Places.{ShelfPlace};
     ghost use Rattle.turns.specs.Bench.{IsBench};
 
-    ghost Value = { Place };
+    ghost Value = { ShelfPlace };
 
     ghost view = { λ b. arc_value b.shelf };
 
@@ -417,7 +417,7 @@ enum What {
     /// The lineages of all pieces are made.
     Make,
     /// They are made and placed.
-    Place,
+    ShelfPlace,
     /// One thread makes and places them, and the others look at the shelf meanwhile.
     Beside,
     /// Looks at a sealed shelf, each in a turn.
@@ -435,7 +435,7 @@ fn what_of(word: &str) -> Option<What> {
         "turn" => Some(What::Turn),
         "ask" => Some(What::Ask),
         "make" => Some(What::Make),
-        "place" => Some(What::Place),
+        "place" => Some(What::ShelfPlace),
         "beside" => Some(What::Beside),
         "look" => Some(What::Look),
         "kept" => Some(What::Kept),
@@ -493,7 +493,7 @@ fn work<R: Wait>(
             }
         }
         What::Make => fill(alloc, rt, worker, number, threads, false),
-        What::Place => fill(alloc, rt, worker, number, threads, true),
+        What::ShelfPlace => fill(alloc, rt, worker, number, threads, true),
         What::Beside => {
             if number == 0 {
                 fill(alloc, rt, worker, 0, 1, true);

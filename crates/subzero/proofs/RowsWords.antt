@@ -14,8 +14,8 @@ use Rattle.std.specs.declared.io.ErrorKind.TheVariants.{OutOfMemory, InvalidData
 use Rattle.sz_words.specs.Job.{job_of}
 use Rattle.sz_words.specs.Place.{place_of}
 use Rattle.sz_words.specs.declared.Job.{Job}
-use Rattle.sz_words.specs.declared.JobMode.{JobMode}
-use Rattle.sz_words.specs.declared.JobMode.TheVariants.{Play, Init, Run, Check, Load}
+use Rattle.sz_words.specs.declared.arguments.JobMode.{JobMode}
+use Rattle.sz_words.specs.declared.arguments.JobMode.TheVariants.{Play, Init, Run, Check, Load}
 use Rattle.sz_words.proofs.Rows.{modes_without_a_place, modes_with_a_place, no_modes, places, no_place}
 use Rattle.sz_session.specs.Modes.{AsksFor, mode_in}
 use Rattle.subzero.specs.Words.{Args, words_in, job_asked, AreOther, place_named}

@@ -110,12 +110,8 @@ changes_no_version (command.Csv name array) = true
 changes_no_version (command.Layers name array) = true
 changes_no_version (command.Flow name flow) = true
 changes_no_version (command.Strategy name node list) = true
-changes_no_version (command.Start name base) = false
 changes_no_version (command.Plan name base units back forward) = true
-changes_no_version (command.Await n) = false
-changes_no_version (command.Ask n dir path named) = false
-changes_no_version (command.Explain n dir path named) = false
-changes_no_version (command.Show n node) = false
+changes_no_version _ = false
 
 -- what a command that no rule refuses changes, and its reply
 abbrev pub accepted : Holdings → Command → Holdings × Response

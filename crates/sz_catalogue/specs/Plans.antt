@@ -2,7 +2,7 @@
 -- would make, what it costs, and the units that its stores take.
 use Rattle.std.specs.Prelude.{ℕ, List}
 use Rattle.sz_spec.specs.Shapes.{Site}
-use Rattle.sz_spec.specs.Choices.{cost_of, units_of}
+use Rattle.sz_planner.specs.Choices.{cost_of, units_of}
 use Rattle.sz_planner.specs.Costs.{list_within}
 use Rattle.sz_catalogue.specs.Holdings.{Version}
 use Rattle.sz_catalogue.specs.Sites.{sites_of}

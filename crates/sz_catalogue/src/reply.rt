@@ -55,7 +55,7 @@ pub enum Reply {
     Values {
         array: Arc<Array>,
     },
-    /// A list of strategies that is planned, one a node, what it costs, and the units of its stores.
+    /// A list of strategies that is planned, one a node, its cost, and the units of its stores.
     Plan {
         cost: u64,
         units: u32,

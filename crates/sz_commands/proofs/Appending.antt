@@ -7,7 +7,7 @@ use Rattle.std.proofs.Common.{Option, None, Some, not}
 use Rattle.std.specs.Prelude.{if◌then◌else◌, Result, Ok}
 use Rattle.sz_outside.specs.Disk.{Told}
 use Rattle.sz_outside.specs.declared.stations.Station.{Ghosts}
-use Rattle.sz_log.specs.Log.{Entry}
+use Rattle.sz_log.specs.Log.{LogGroup}
 use Rattle.sz_log.specs.Steps.{Added, place_behind}
 use Rattle.sz_script.specs.Reading.{reading}
 use Rattle.sz_script.specs.declared.refusal.Refusal.{Refusal}
@@ -17,7 +17,7 @@ use Rattle.sz_catalogue.specs.Holdings.{Holdings}
 use Rattle.sz_catalogue.specs.Rules.{judged, version_of}
 use Rattle.sz_recover.specs.Logs.{is_of_kind}
 use Rattle.sz_commands.specs.Lines.{is_blank}
-use Rattle.sz_commands.specs.Given.{Gives}
+use Rattle.sz_commands.specs.Given.{LineGives}
 use Rattle.sz_commands.specs.Logged.{lasts, makes, makes_judged, makes_read, makes_durable}
 use Rattle.sz_commands.specs.Logged.{IsLineGroup, IsVersionGroup, IsGroupFor, IsGroupOf, Appends}
 use Rattle.sz_commands.specs.declared.session.Given.{Given}
@@ -28,7 +28,7 @@ use Rattle.sz_versions.proofs.Keeps.{not_false}
 -- ---- the group that is added
 
 -- a group that was added where the log ended, behind which it ends
-pub group-added : {X : Type 0} (T : Ghosts X) (IsSuch : Entry → Type 0) (end : Option ℕ) (at next : ℕ) (e : Entry)
+pub group-added : {X : Type 0} (T : Ghosts X) (IsSuch : LogGroup → Type 0) (end : Option ℕ) (at next : ℕ) (e : LogGroup)
     (a b : X) → end ≡ Some at → IsSuch e → Added (T.disk a) (T.disk b) at e
     → Told (T.disk a) (next ≡ place_behind at e) → Appends T IsSuch end (Some next) a b
 group-added {X} T IsSuch end at next e a b is such added place =
@@ -36,31 +36,22 @@ group-added {X} T IsSuch end at next e a b is such added place =
     (e, such, added, told-more (T.disk a) _ _ (λ (p : next ≡ place_behind at e). ap (λ (n : ℕ). Some n) p) place)
 
 -- one that is of a further form
-pub appends-as : {X : Type 0} (T : Ghosts X) (P Q : Entry → Type 0) (end next : Option ℕ) (a b : X)
-    → ((e : Entry) → P e → Q e) → Appends T P end next a b → Appends T Q end next a b
+pub appends-as : {X : Type 0} (T : Ghosts X) (P Q : LogGroup → Type 0) (end next : Option ℕ) (a b : X)
+    → ((e : LogGroup) → P e → Q e) → Appends T P end next a b → Appends T Q end next a b
 appends-as {X} T P Q None next a b turn added = tt
 appends-as {X} T P Q (Some at) next a b turn (e, such, added, place) = (e, turn e such, added, place)
 
 -- nothing is said of a session of no log
-pub appends-nowhere : {X : Type 0} (T : Ghosts X) (P : Entry → Type 0) (end next : Option ℕ) (a b : X)
+pub appends-nowhere : {X : Type 0} (T : Ghosts X) (P : LogGroup → Type 0) (end next : Option ℕ) (a b : X)
     → end ≡ None → Appends T P end next a b
 appends-nowhere {X} T P end next a b none =
     subst (λ (o : Option ℕ). Appends T P o next a b) (sym none) tt
 
 -- the line of a command that stands in groups of a kind is what the command makes durable
-pub line-group : (c : Holdings) (line : List ℕ) (command : Command) (e : Entry) → IsLineGroup command line e
+pub line-group : (c : Holdings) (line : List ℕ) (command : Command) (e : LogGroup) → IsLineGroup command line e
     → IsGroupFor c line command e
-line-group c line (order.Array name array) e such = such
-line-group c line (order.Csv name array) e such = such
-line-group c line (order.Layers name array) e such = such
-line-group c line (order.Flow name flow) e such = such
-line-group c line (order.Strategy name node list) e such = such
-line-group c line (order.Start name base) e such = such
-line-group c line (order.Plan name base units back forward) e such = such
 line-group c line (order.Await n) e such = absurd (true≢false (sym such.0))
-line-group c line (order.Ask n dir path named) e such = such
-line-group c line (order.Explain n dir path named) e such = such
-line-group c line (order.Show n node) e such = such
+line-group c line _ e such = such
 
 -- ---- commands
 
@@ -72,26 +63,12 @@ line-makes c kind (order.Csv name array) own = refl
 line-makes c kind (order.Layers name array) own = refl
 line-makes c kind (order.Flow name flow) own = refl
 line-makes c kind (order.Strategy name node list) own = refl
-line-makes c kind (order.Start name base) own = absurd (true≢false (sym own))
-line-makes c kind (order.Plan name base units back forward) own = absurd (true≢false (sym own))
-line-makes c kind (order.Await n) own = absurd (true≢false (sym own))
-line-makes c kind (order.Ask n dir path named) own = absurd (true≢false (sym own))
-line-makes c kind (order.Explain n dir path named) own = absurd (true≢false (sym own))
-line-makes c kind (order.Show n node) own = absurd (true≢false (sym own))
+line-makes c kind _ own = absurd (true≢false (sym own))
 
 -- one that does not last makes nothing durable
 pub nothing-makes : (c : Holdings) (command : Command) → lasts command ≡ false → makes c command ≡ false
-nothing-makes c (order.Array name array) none = none
-nothing-makes c (order.Csv name array) none = none
-nothing-makes c (order.Layers name array) none = none
-nothing-makes c (order.Flow name flow) none = none
-nothing-makes c (order.Strategy name node list) none = none
-nothing-makes c (order.Start name base) none = none
-nothing-makes c (order.Plan name base units back forward) none = none
 nothing-makes c (order.Await n) none = absurd (true≢false none)
-nothing-makes c (order.Ask n dir path named) none = none
-nothing-makes c (order.Explain n dir path named) none = none
-nothing-makes c (order.Show n node) none = none
+nothing-makes c _ none = none
 
 -- an await makes nothing durable where its version was awaited before, and else its version
 pub await-idle : (c : Holdings) (command : Command) (n : ℕ) → command ≡ order.Await n → makes c command ≡ false
@@ -110,7 +87,7 @@ pub await-writes : (c : Holdings) (command : Command) (n : ℕ) → command ≡ 
     → (version_of c n).awaited ≡ false → makes c command ≡ true
 await-writes c command n is off = ap (makes c) is ∙ ap not off
 
-pub await-group : (c : Holdings) (line : List ℕ) (command : Command) (n : ℕ) (e : Entry) → command ≡ order.Await n
+pub await-group : (c : Holdings) (line : List ℕ) (command : Command) (n : ℕ) (e : LogGroup) → command ≡ order.Await n
     → IsVersionGroup c n e → IsGroupFor c line command e
 await-group c line command n e is such = subst (λ (o : Command). IsGroupFor c line o e) (sym is) such
 
@@ -140,7 +117,7 @@ makes_given c (given.Other command) = makes_judged c command (judged c command)
 makes_given c _ = false
 
 -- so does the line
-pub given-makes : (c : Holdings) (line : List ℕ) (g : Given) → Gives line g → makes_durable c line ≡ makes_given c g
+pub given-makes : (c : Holdings) (line : List ℕ) (g : Given) → LineGives line g → makes_durable c line ≡ makes_given c g
 given-makes c line given.Nothing blank =
     ap (λ (b : Bool). if b then false else makes_read c (reading line)) blank
 given-makes c line (given.Refused rule) (full, read) = filled-makes c line full ∙ ap (makes_read c) read
@@ -148,7 +125,7 @@ given-makes c line (given.Ask ask) (full, read, is) = filled-makes c line full �
 given-makes c line (given.Other command) (full, read) = filled-makes c line full ∙ ap (makes_read c) read
 
 -- the group of a command is that of a line that is read as it
-pub read-group : (c : Holdings) (line : List ℕ) (command : Command) (e : Entry) → reading line ≡ Ok command
+pub read-group : (c : Holdings) (line : List ℕ) (command : Command) (e : LogGroup) → reading line ≡ Ok command
     → IsGroupFor c line command e → IsGroupOf c line (reading line) e
 read-group c line command e read such =
     subst (λ (r : Result Command Refusal). IsGroupOf c line r e) (sym read) such

@@ -7,7 +7,7 @@ use Rattle.sz_script.specs.declared.command.Command.{Command}
 use Rattle.sz_script.specs.declared.command.Command.TheVariants as command
 use Rattle.sz_script.specs.declared.refusal.Refusal.{Refusal}
 use Rattle.sz_query.specs.declared.path.Found.{Found}
-use Rattle.sz_commands.specs.States.{State, logged_of, accepted, after_command, after_judging}
+use Rattle.sz_commands.specs.States.{SessionState, logged_of, accepted, after_command, after_judging}
 use Rattle.sz_catalogue.specs.Rules.{judged, version_of}
 use Rattle.sz_catalogue.specs.Changes.{traced}
 use Rattle.sz_catalogue.specs.Responses.{cells, refused}
@@ -21,35 +21,26 @@ use Rattle.sz_commands.specs.declared.asking.Asked.TheVariants as asked
 use Rattle.sz_commands.proofs.Sought.{sought-cells, sought-least, sought-most}
 
 -- an ask changes nothing that is held
-pub ask-stays : (c : State) (ask : Command) → is_ask ask ≡ true → (after_command c ask).0 ≡ c
+pub ask-stays : (c : SessionState) (ask : Command) → is_ask ask ≡ true → (after_command c ask).0 ≡ c
 ask-stays c (command.Ask n dir path named) is = at (judged c.held (command.Ask n dir path named)) where
   at : (rule : Option Refusal) → (after_judging c (command.Ask n dir path named) rule).0 ≡ c
   at None = refl
   at (Some rule) = refl
-ask-stays c (command.Array name array) is = cc
-ask-stays c (command.Csv name array) is = cc
-ask-stays c (command.Layers name array) is = cc
-ask-stays c (command.Flow name flow) is = cc
-ask-stays c (command.Strategy name node list) is = cc
-ask-stays c (command.Start name base) is = cc
-ask-stays c (command.Plan name base units back forward) is = cc
-ask-stays c (command.Await n) is = cc
-ask-stays c (command.Explain n dir path named) is = cc
-ask-stays c (command.Show n node) is = cc
+ask-stays c _ is = cc
 
 -- ---- one ask
 
 -- the reply to an ask that a rule refuses, and what is told as traced
-pub refused-reply : (c : State) (l : AskLine) (rule : Refusal) → judged c.held l.ask ≡ Some rule
+pub refused-reply : (c : SessionState) (l : AskLine) (rule : Refusal) → judged c.held l.ask ≡ Some rule
     → ask_reply c l ≡ refused rule
 refused-reply c l rule is = ap (λ (o : Option Refusal). (after_judging c l.ask o).1) is
 
-pub refused-traced : (c : State) (l : AskLine) (rule : Refusal) → judged c.held l.ask ≡ Some rule
+pub refused-traced : (c : SessionState) (l : AskLine) (rule : Refusal) → judged c.held l.ask ≡ Some rule
     → traced_for c l.ask ≡ 0
 refused-traced c l rule is = ap (λ (o : Option Refusal). traced_if o (traced_along c l.ask)) is
 
 -- what was found for a search is the reply to its line
-searched-reply : (c : State) (l : AskLine) (n : ℕ) (s : Search) (f : Found) → IsSearched c l n s → IsAnswerTo s f
+searched-reply : (c : SessionState) (l : AskLine) (n : ℕ) (s : Search) (f : Found) → IsSearched c l n s → IsAnswerTo s f
     → IsReplyTo c l f.cells f.traced
 searched-reply c l n s f h a =
     let v = version_of c.held h.version in
@@ -68,7 +59,7 @@ searched-reply c l n s f h a =
     }
 
 -- an ask that was begun, and then worked on
-begun-worked : (c : State) (l : AskLine) (a b : Asked) → IsBegun c l a → IsWorked a b → IsEnded c l b
+begun-worked : (c : SessionState) (l : AskLine) (a b : Asked) → IsBegun c l a → IsWorked a b → IsEnded c l b
 begun-worked c l (asked.Refused rule) b h w = subst (IsEnded c l) (sym w) h
 begun-worked c l (asked.Open n s) (asked.Done found tally) h w =
     subst (λ (k : ℕ). IsReplyTo c l found.cells k) (sym w.1) (searched-reply c l n s found h w.0)
@@ -80,7 +71,7 @@ begun-worked c l asked.Lost b h w = absurd h
 
 -- ---- all of them
 
-pub all-worked : (c : State) (lines : List AskLine) (old new : List Asked) → AllZip (IsBegun c) lines old
+pub all-worked : (c : SessionState) (lines : List AskLine) (old new : List Asked) → AllZip (IsBegun c) lines old
     → AllZip IsWorked old new → AllZip (IsEnded c) lines new
 all-worked c [] [] [] h w = tt
 all-worked c [] [] (b ∷ new) h w = absurd w

@@ -23,7 +23,7 @@ use Rattle.sz_versions.specs.Stores.{Keeping, nothing, growing, whole, read, kee
 use Rattle.sz_versions.specs.Residents.{Resident, IsResident, IsTrailBy, stores_read, replaced_in}
 use Rattle.sz_versions.specs.Residents.{Stored, stored_of, stored_in}
 use Rattle.sz_commands.specs.Lines.{is_blank}
-use Rattle.sz_commands.specs.States.{State, accepted}
+use Rattle.sz_commands.specs.States.{SessionState, accepted}
 use Rattle.sz_commands.specs.Carrying.{is_finished, is_given, AreGiven, IsFinishedIn, EntriesIf, EntriesRead}
 use Rattle.sz_commands.specs.Carrying.{EntriesOf, StoredBy, StoredAfter, StoredBehind}
 
@@ -103,53 +103,37 @@ leaves_stored (order.Start name base) = false
 leaves_stored (order.Await n) = false
 leaves_stored _ = true
 
-pub stored-left : (s t : State) (command : Command) (r : Response) → leaves_stored command ≡ true
+pub stored-left : (s t : SessionState) (command : Command) (r : Response) → leaves_stored command ≡ true
     → accepted s command ≡ (t, r) → StoredBy s command t
-stored-left s t (order.Array name array) r kind is = ap (λ (p : State × Response). p.0.stored) (sym is)
-stored-left s t (order.Csv name array) r kind is = ap (λ (p : State × Response). p.0.stored) (sym is)
-stored-left s t (order.Layers name array) r kind is = ap (λ (p : State × Response). p.0.stored) (sym is)
-stored-left s t (order.Flow name flow) r kind is = ap (λ (p : State × Response). p.0.stored) (sym is)
-stored-left s t (order.Strategy name node list) r kind is = ap (λ (p : State × Response). p.0.stored) (sym is)
 stored-left s t (order.Start name base) r kind is = absurd (true≢false (sym kind))
 stored-left s t (order.Await n) r kind is = absurd (true≢false (sym kind))
-stored-left s t (order.Plan name base units back forward) r kind is = ap (λ (p : State × Response). p.0.stored) (sym is)
-stored-left s t (order.Ask n dir path named) r kind is = ap (λ (p : State × Response). p.0.stored) (sym is)
-stored-left s t (order.Explain n dir path named) r kind is = ap (λ (p : State × Response). p.0.stored) (sym is)
-stored-left s t (order.Show n node) r kind is = ap (λ (p : State × Response). p.0.stored) (sym is)
+stored-left s t _ r kind is = ap (λ (p : SessionState × Response). p.0.stored) (sym is)
 
 -- a line of a group is of such a one
 pub line-leaves : (kind : ℕ) (command : Command) → is_of_kind kind command ≡ true → leaves_stored command ≡ true
-line-leaves kind (order.Array name array) own = refl
-line-leaves kind (order.Csv name array) own = refl
-line-leaves kind (order.Layers name array) own = refl
-line-leaves kind (order.Flow name flow) own = refl
-line-leaves kind (order.Strategy name node list) own = refl
 line-leaves kind (order.Start name base) own = own
 line-leaves kind (order.Await n) own = own
-line-leaves kind (order.Plan name base units back forward) own = refl
-line-leaves kind (order.Ask n dir path named) own = refl
-line-leaves kind (order.Explain n dir path named) own = refl
-line-leaves kind (order.Show n node) own = refl
+line-leaves kind _ own = refl
 
 -- ---- lines
 
 -- a command that no rule refuses, and one that a rule refuses
-pub stored-taken : (s t : State) (command : Command) → judged s.held command ≡ None → StoredBy s command t
+pub stored-taken : (s t : SessionState) (command : Command) → judged s.held command ≡ None → StoredBy s command t
     → StoredAfter s command t
 stored-taken s t command free by =
     subst (λ (o : Option Refusal). EntriesIf s.held command o s.stored t.stored) (sym free) by
 
-pub stored-refused : (s t : State) (command : Command) (rule : Refusal) → judged s.held command ≡ Some rule
+pub stored-refused : (s t : SessionState) (command : Command) (rule : Refusal) → judged s.held command ≡ Some rule
     → t.stored ≡ s.stored → StoredAfter s command t
 stored-refused s t command rule is same =
     subst (λ (o : Option Refusal). EntriesIf s.held command o s.stored t.stored) (sym is) same
 
 -- a blank line, and one that is read as something
-pub stored-blank : (s t : State) (line : List ℕ) → is_blank line ≡ true → t.stored ≡ s.stored → StoredBehind s line t
+pub stored-blank : (s t : SessionState) (line : List ℕ) → is_blank line ≡ true → t.stored ≡ s.stored → StoredBehind s line t
 stored-blank s t line blank same =
     subst (λ (b : Bool). EntriesOf b s.held (reading line) s.stored t.stored) (sym blank) same
 
-pub stored-read : (s t : State) (line : List ℕ) (said : Result Command Refusal) → is_blank line ≡ false
+pub stored-read : (s t : SessionState) (line : List ℕ) (said : Result Command Refusal) → is_blank line ≡ false
     → reading line ≡ said → EntriesRead s.held said s.stored t.stored → StoredBehind s line t
 stored-read s t line said full is by =
     subst (λ (b : Bool). EntriesOf b s.held (reading line) s.stored t.stored) (sym full)

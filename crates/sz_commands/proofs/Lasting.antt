@@ -16,7 +16,7 @@ use Rattle.sz_recover.specs.Growing.{durable}
 use Rattle.sz_recover.specs.Logs.{is_of_kind}
 use Rattle.sz_catalogue.specs.Order.{IsInOrder}
 use Rattle.sz_recover.proofs.Durable.{starts-not-logged, awaits-once}
-use Rattle.sz_commands.specs.States.{State, apart, accepted, after_command}
+use Rattle.sz_commands.specs.States.{SessionState, apart, accepted, after_command}
 use Rattle.sz_commands.specs.Logged.{lasts, HasLog, KeepsLog}
 use Rattle.sz_versions.specs.Bodies.{IsSoundBody}
 use Rattle.sz_commands.proofs.Logged.{rest-keeps, IsStep, await-step}
@@ -30,12 +30,7 @@ line-kind kind (order.Layers name array) own = subst (λ (k : ℕ). is_kind k �
 line-kind kind (order.Flow name flow) own = subst (λ (k : ℕ). is_kind k ≡ true) (sym (eqb-true kind 2 own)) refl
 line-kind kind (order.Strategy name node list) own =
     subst (λ (k : ℕ). is_kind k ≡ true) (sym (eqb-true kind 3 own)) refl
-line-kind kind (order.Start name base) own = absurd (true≢false (sym own))
-line-kind kind (order.Plan name base units back forward) own = absurd (true≢false (sym own))
-line-kind kind (order.Await n) own = absurd (true≢false (sym own))
-line-kind kind (order.Ask n dir path named) own = absurd (true≢false (sym own))
-line-kind kind (order.Explain n dir path named) own = absurd (true≢false (sym own))
-line-kind kind (order.Show n node) own = absurd (true≢false (sym own))
+line-kind kind _ own = absurd (true≢false (sym own))
 
 -- and changes no version
 pub line-changes : (kind : ℕ) (command : Command) → is_of_kind kind command ≡ true → changes_no_version command ≡ true
@@ -44,12 +39,8 @@ line-changes kind (order.Csv name array) own = refl
 line-changes kind (order.Layers name array) own = refl
 line-changes kind (order.Flow name flow) own = refl
 line-changes kind (order.Strategy name node list) own = refl
-line-changes kind (order.Start name base) own = absurd (true≢false (sym own))
 line-changes kind (order.Plan name base units back forward) own = refl
-line-changes kind (order.Await n) own = absurd (true≢false (sym own))
-line-changes kind (order.Ask n dir path named) own = absurd (true≢false (sym own))
-line-changes kind (order.Explain n dir path named) own = absurd (true≢false (sym own))
-line-changes kind (order.Show n node) own = absurd (true≢false (sym own))
+line-changes kind _ own = absurd (true≢false (sym own))
 
 -- a command that makes nothing durable changes nothing that is
 pub rests-durable : (c : Holdings) (command : Command) → lasts command ≡ false
@@ -63,62 +54,50 @@ rests-durable c (order.Start name base) none =
     let new = next-is_new c.versions (next_number c) (omega arith) in
     starts-not-logged c (next_number c) (version_started c name base)
     (ap (λ (o : Option Version). is_none o) new) refl
-rests-durable c (order.Plan name base units back forward) none = refl
 rests-durable c (order.Await n) none = absurd (true≢false none)
-rests-durable c (order.Ask n dir path named) none = refl
-rests-durable c (order.Explain n dir path named) none = refl
-rests-durable c (order.Show n node) none = refl
+rests-durable c _ none = refl
 
 -- what a session holds after a command is what its catalogue holds
-pub accepted-held : (s : State) (command : Command) → (accepted s command).0.held ≡ (changes.accepted s.held command).0
-accepted-held s (order.Array name array) = refl
-accepted-held s (order.Csv name array) = refl
-accepted-held s (order.Layers name array) = refl
-accepted-held s (order.Flow name flow) = refl
-accepted-held s (order.Strategy name node list) = refl
-accepted-held s (order.Start name base) = refl
-accepted-held s (order.Plan name base units back forward) = refl
-accepted-held s (order.Await n) = refl
+pub accepted-held : (s : SessionState) (command : Command) → (accepted s command).0.held ≡ (changes.accepted s.held command).0
 accepted-held s (order.Ask n dir path named) = refl
-accepted-held s (order.Explain n dir path named) = refl
-accepted-held s (order.Show n node) = refl
+accepted-held s _ = refl
 
 -- a command that no rule refuses is accepted
-pub judged-accepted : (s : State) (command : Command) → judged s.held command ≡ None
+pub judged-accepted : (s : SessionState) (command : Command) → judged s.held command ≡ None
     → after_command s command ≡ accepted s command
 judged-accepted s command none = rw none refl
 
 -- the first of what a command leaves, where that is known
-pub left-held : (s d : State) (command : Command) (r : Response) → accepted s command ≡ (d, r)
+pub left-held : (s d : SessionState) (command : Command) (r : Response) → accepted s command ≡ (d, r)
     → d.held ≡ (changes.accepted s.held command).0
-left-held s d command r is = ap (λ (p : State × Response). p.0.held) (sym is) ∙ accepted-held s command
+left-held s d command r is = ap (λ (p : SessionState × Response). p.0.held) (sym is) ∙ accepted-held s command
 
 -- so it is where that is known apart
-pub left-apart : (s d : State) (command : Command) (r : Response) → accepted (apart s) command ≡ (apart d, r)
+pub left-apart : (s d : SessionState) (command : Command) (r : Response) → accepted (apart s) command ≡ (apart d, r)
     → d.held ≡ (changes.accepted s.held command).0
 left-apart s d command r is = left-held (apart s) (apart d) command r is
 
 -- ---- where the log ends
 
 -- a session that makes nothing durable keeps its log
-pub rests-keep : {X : Type 0} (T : Ghosts X) (s t : State) (a : X) → HasLog T s.held s.end a → t.end ≡ s.end
+pub rests-keep : {X : Type 0} (T : Ghosts X) (s t : SessionState) (a : X) → HasLog T s.held s.end a → t.end ≡ s.end
     → durable t.held ≡ durable s.held → KeepsLog T s.held s.end t.held t.end a a
 rests-keep {X} T s t a log place same =
     subst (λ (o : Option ℕ). KeepsLog T s.held s.end t.held o a a) (sym place)
     (rest-keeps T s.held t.held s.end a same log)
 
 -- so does a command that makes nothing durable
-pub nothing-keeps : {X : Type 0} (T : Ghosts X) (s t : State) (command : Command) (r : Response) (a : X)
+pub nothing-keeps : {X : Type 0} (T : Ghosts X) (s t : SessionState) (command : Command) (r : Response) (a : X)
     → HasLog T s.held s.end a → accepted (apart s) command ≡ (apart t, r) → t.end ≡ s.end → lasts command ≡ false
     → KeepsLog T s.held s.end t.held t.end a a
 nothing-keeps {X} T s t command r a log is place none =
     rests-keep T s t a log place (ap durable (left-apart s t command r is) ∙ rests-durable s.held command none)
 
 -- and a state that is left
-pub same-keeps : {X : Type 0} (T : Ghosts X) (s t : State) (a : X) → HasLog T s.held s.end a → t ≡ s
+pub same-keeps : {X : Type 0} (T : Ghosts X) (s t : SessionState) (a : X) → HasLog T s.held s.end a → t ≡ s
     → KeepsLog T s.held s.end t.held t.end a a
 same-keeps {X} T s t a log is =
-    rests-keep T s t a log (ap (λ (x : State). x.end) is) (ap (λ (x : State). durable x.held) is)
+    rests-keep T s t a log (ap (λ (x : SessionState). x.end) is) (ap (λ (x : SessionState). durable x.held) is)
 
 -- the body of a version that was not awaited
 pub version-step : (c : Holdings) (n : ℕ) (body : List ℕ) → IsInOrder c → has_no_version c n ≡ false

@@ -19,7 +19,7 @@ use Rattle.std.specs.Map.{lookup, keys_of, values_of}
 use Rattle.std.specs.BTreeMap.{is_at, insert_entry}
 use Rattle.sz_outside.specs.Disk.{Told, Only, Passes, Said, Same}
 use Rattle.sz_outside.specs.declared.stations.Station.{Ghosts}
-use Rattle.sz_log.specs.Log.{Entry, EndsAt}
+use Rattle.sz_log.specs.Log.{LogGroup, EndsAt}
 use Rattle.sz_log.specs.Steps.{Adds, AddsOrKeeps, Added, place_behind}
 use Rattle.sz_log.proofs.Moments.{seen_as}
 use Rattle.sz_store.specs.Kept.{NodeLineage}
@@ -29,8 +29,8 @@ use Rattle.sz_catalogue.specs.Holdings.{Version, Holdings, version_numbered, no_
 use Rattle.sz_catalogue.specs.Rules.{version_of, has_no_version, judged}
 use Rattle.sz_catalogue.specs.Changes.{accepted, with_await}
 use Rattle.sz_catalogue.proofs.Entries.{lookup-put}
-use Rattle.sz_recover.specs.Bodies.{IsBodyOf}
-use Rattle.sz_recover.specs.Fitting.{sites_of, Fit, body_of}
+use Rattle.sz_bodies.specs.Bodies.{IsBodyOf}
+use Rattle.sz_bodies.specs.Fitting.{sites_of, Fit, body_of}
 use Rattle.sz_recover.specs.Growing.{durable, IsInOrder, Growth}
 use Rattle.sz_recover.specs.Logs.{Kept, Acts, IsWellMade, IsMade, is_of_kind}
 use Rattle.sz_recover.specs.Opened.{IsEntryOf, AreOfVersions}
@@ -99,16 +99,16 @@ still-stops {X} T c d (Some at) a only counts =
 
 -- A group acts on what the log of c holds, and leaves what the log of d holds; with the stores that it has, stores
 -- that stand for the relation go on to.
-pub record IsStep (c d : Holdings) (e : Entry) : Type 0 where
+pub record IsStep (c d : Holdings) (e : LogGroup) : Type 0 where
   pub more : List Kept
   pub acts : Acts (durable c) e (durable d) more
   pub sound : (kept : List Kept) → AreOfVersions (durable c) kept → AreSoundKept (durable c) kept
       → AreSoundKept (durable d) (kept ++ more)
 
-abbrev growth-of : (c d : Holdings) (e : Entry) (kept : List Kept) → IsStep c d e → Growth
+abbrev growth-of : (c d : Holdings) (e : LogGroup) (kept : List Kept) → IsStep c d e → Growth
 growth-of c d e kept one = record { before = durable c; kept = kept; after = durable d; more = one.more }
 
-step-grown : (c d : Holdings) (e : Entry) (disk image : List ℕ) (at : ℕ) → IsStep c d e → Adds at e disk image
+step-grown : (c d : Holdings) (e : LogGroup) (disk image : List ℕ) (at : ℕ) → IsStep c d e → Adds at e disk image
     → GrowsTo disk at c image (place_behind at e) d
 step-grown c d e disk image at one adds kept made = record {
   more = one.more;
@@ -116,7 +116,7 @@ step-grown c d e disk image at one adds kept made = record {
   sound = one.sound kept (well-made disk at (durable c) kept made);
 }
 
-step-grows : (old new : Option (List ℕ)) (c d : Holdings) (e : Entry) (at next : ℕ) → IsStep c d e
+step-grows : (old new : Option (List ℕ)) (c d : Holdings) (e : LogGroup) (at next : ℕ) → IsStep c d e
     → Added old new at e → Told old (next ≡ place_behind at e) → Grows old at c new next d
 step-grows None new c d e at next one added place = added
 step-grows (Some disk) new c d e at next one (image, is, adds) place = (
@@ -125,7 +125,7 @@ step-grows (Some disk) new c d e at next one (image, is, adds) place = (
   subst (λ (n : ℕ). GrowsTo disk at c image n d) (sym place) (step-grown c d e disk image at one adds),
 )
 
-step-left : (c d : Holdings) (e : Entry) (old image : List ℕ) (at : ℕ) → IsStep c d e → AddsOrKeeps at e old image
+step-left : (c d : Holdings) (e : LogGroup) (old image : List ℕ) (at : ℕ) → IsStep c d e → AddsOrKeeps at e old image
     → LeavesLog at c d old image
 step-left c d e old image at one adds kept made =
     ⊎_elim (λ same. inl (at, grown-same c c kept image at refl same))
@@ -136,7 +136,7 @@ step-left c d e old image at one adds kept made =
     (logs-grow-or-stay old image at e (growth-of c d e kept one) made one.acts adds)
 
 -- an append of it
-pub step-keeps : {X : Type 0} (T : Ghosts X) (c d : Holdings) (e : Entry) (at next : ℕ) (a b : X) → IsStep c d e
+pub step-keeps : {X : Type 0} (T : Ghosts X) (c d : Holdings) (e : LogGroup) (at next : ℕ) (a b : X) → IsStep c d e
     → Added (T.disk a) (T.disk b) at e → Told (T.disk a) (next ≡ place_behind at e)
     → Only (T.disk b) (T.may_leave b) → GoesOn T c at d next a b
 step-keeps {X} T c d e at next a b one added place synced = record {
@@ -144,7 +144,7 @@ step-keeps {X} T c d e at next a b one added place synced = record {
   synced = synced;
 }
 
-pub step-stops : {X : Type 0} (T : Ghosts X) (c d : Holdings) (e : Entry) (at : ℕ) (a b : X) → IsStep c d e
+pub step-stops : {X : Type 0} (T : Ghosts X) (c d : Holdings) (e : LogGroup) (at : ℕ) (a b : X) → IsStep c d e
     → Told (T.disk a) (Passes (T.moment a) (T.moment b) (T.left_since a) (T.left_since b)
     (T.may_leave a) (T.may_leave b) (AddsOrKeeps at e) (Said (T.said a)))
     → StopsFinding T (LeavesLog at c d) (Said (T.said a)) a b
@@ -311,7 +311,7 @@ opened-stands (Some disk) at c kept made =
 
 -- ---- a group more, by where the log ends
 
-pub append-stops : {X : Type 0} (T : Ghosts X) (c d : Holdings) (end : Option ℕ) (at : ℕ) (e : Entry) (a b : X)
+pub append-stops : {X : Type 0} (T : Ghosts X) (c d : Holdings) (end : Option ℕ) (at : ℕ) (e : LogGroup) (a b : X)
     → end ≡ Some at → IsStep c d e
     → Told (T.disk a) (Passes (T.moment a) (T.moment b) (T.left_since a) (T.left_since b)
     (T.may_leave a) (T.may_leave b) (AddsOrKeeps at e) (Said (T.said a)))
@@ -319,7 +319,7 @@ pub append-stops : {X : Type 0} (T : Ghosts X) (c d : Holdings) (end : Option �
 append-stops {X} T c d end at e a b is one stops =
     subst (λ (o : Option ℕ). StopsInLog T c o d a b) (sym is) (step-stops T c d e at a b one stops)
 
-pub append-keeps : {X : Type 0} (T : Ghosts X) (c d : Holdings) (end : Option ℕ) (at next : ℕ) (e : Entry) (a b : X)
+pub append-keeps : {X : Type 0} (T : Ghosts X) (c d : Holdings) (end : Option ℕ) (at next : ℕ) (e : LogGroup) (a b : X)
     → end ≡ Some at → IsStep c d e → Added (T.disk a) (T.disk b) at e → Told (T.disk a) (next ≡ place_behind at e)
     → Only (T.disk b) (T.may_leave b) → KeepsLog T c end d (Some next) a b
 append-keeps {X} T c d end at next e a b is one added place synced =

@@ -7,13 +7,13 @@ use Rattle.std.proofs.lemmas.List.Elements.{All-cons, All-nil, All-head}
 use Rattle.std.specs.List.{list_all}
 use Rattle.sz_spec.specs.Values.{Grid}
 use Rattle.sz_store.specs.Kept.{NodeLineage}
-use Rattle.sz_shelf.specs.Places.{Place}
+use Rattle.sz_shelf.specs.Places.{ShelfPlace}
 use Rattle.sz_script.specs.declared.command.BaseName.{BaseName}
 use Rattle.sz_script.specs.declared.command.Command.TheVariants as command
 use Rattle.sz_script.specs.declared.refusal.Refusal.TheVariants as refusal
 use Rattle.sz_catalogue.specs.Holdings.{Holdings, no_holdings}
 use Rattle.sz_versions.specs.Residents.{Stored, none, on_shelf, built, given}
-use Rattle.sz_commands.specs.States.{State, nothing_held}
+use Rattle.sz_commands.specs.States.{SessionState, nothing_held}
 use Rattle.sz_commands.specs.Carrying.{Entries, is_finished, is_given, AreGiven, AddsEntry, FinishesEntry}
 use Rattle.sz_commands.specs.Carrying.{EntriesBy, EntriesIf, EntriesRead, StoredBehind}
 
@@ -30,7 +30,7 @@ nodes_first (e ∷ es) = e.1
 finished-none : is_finished none ≡ true
 finished-none = refl
 
-finished-shelf : (z : Place) → is_finished (on_shelf z) ≡ false
+finished-shelf : (z : ShelfPlace) → is_finished (on_shelf z) ≡ false
 finished-shelf z = refl
 
 finished-built : (k : NodeLineage) → is_finished (built k) ≡ true
@@ -45,7 +45,7 @@ given-given k = refl
 given-built : (k : NodeLineage) → is_given (built k) ≡ false
 given-built k = refl
 
-given-shelf : (z : Place) → is_given (on_shelf z) ≡ false
+given-shelf : (z : ShelfPlace) → is_given (on_shelf z) ≡ false
 given-shelf z = refl
 
 abbrev IsGivenEntry : ℕ × List Stored → Type 0
@@ -67,19 +67,19 @@ start-number : AddsEntry no_holdings [] ((2, none ∷ []) ∷ []) → ⊥
 start-number (nodes, is) = let n : 2 ≡ 1 = ap number_first is in omega (arith, n)
 
 -- before another, in its place, or with a change to it
-start-before : (z : Place)
+start-before : (z : ShelfPlace)
     → AddsEntry no_holdings ((7, none ∷ []) ∷ []) ((1, on_shelf z ∷ []) ∷ (7, none ∷ []) ∷ []) → ⊥
 start-before z (nodes, is) = let n : 1 ≡ 7 = ap number_first is in omega (arith, n)
 
-start-instead : (z : Place) → AddsEntry no_holdings ((7, none ∷ []) ∷ []) ((1, on_shelf z ∷ []) ∷ []) → ⊥
+start-instead : (z : ShelfPlace) → AddsEntry no_holdings ((7, none ∷ []) ∷ []) ((1, on_shelf z ∷ []) ∷ []) → ⊥
 start-instead z (nodes, is) = let n : 1 ≡ 7 = ap number_first is in omega (arith, n)
 
-start-changes : (z : Place) → AddsEntry no_holdings ((7, none ∷ []) ∷ []) ((7, on_shelf z ∷ []) ∷ (1, []) ∷ []) → ⊥
+start-changes : (z : ShelfPlace) → AddsEntry no_holdings ((7, none ∷ []) ∷ []) ((7, on_shelf z ∷ []) ∷ (1, []) ∷ []) → ⊥
 start-changes z (nodes, is) = let one : on_shelf z ∷ [] ≡ none ∷ [] = ap nodes_first is in cc
 
 -- ---- an await
 
-await-own : (z : Place) (k : NodeLineage)
+await-own : (z : ShelfPlace) (k : NodeLineage)
     → FinishesEntry false 1 ((1, on_shelf z ∷ none ∷ []) ∷ (2, on_shelf z ∷ []) ∷ [])
     ((1, built k ∷ none ∷ []) ∷ (2, on_shelf z ∷ []) ∷ [])
 await-own z k = (
@@ -88,19 +88,19 @@ await-own z k = (
 )
 
 -- one node is left on its shelf, or has what no log gave
-await-left : (z : Place) → FinishesEntry false 1 ((1, on_shelf z ∷ []) ∷ []) ((1, on_shelf z ∷ []) ∷ []) → ⊥
+await-left : (z : ShelfPlace) → FinishesEntry false 1 ((1, on_shelf z ∷ []) ∷ []) ((1, on_shelf z ∷ []) ∷ []) → ⊥
 await-left z (is, rest) = true≢false (sym (is.own refl))
 
-await-read : (z : Place) (k : NodeLineage)
+await-read : (z : ShelfPlace) (k : NodeLineage)
     → FinishesEntry false 1 ((1, on_shelf z ∷ []) ∷ []) ((1, given k ∷ []) ∷ []) → ⊥
 await-read z k (is, rest) = true≢false (sym (is.own refl))
 
 -- another version is finished
-await-other : (z : Place) (k : NodeLineage)
+await-other : (z : ShelfPlace) (k : NodeLineage)
     → FinishesEntry false 1 ((2, on_shelf z ∷ []) ∷ []) ((2, built k ∷ []) ∷ []) → ⊥
 await-other z k (is, rest) = let same : built k ∷ [] ≡ on_shelf z ∷ [] = is.other refl in cc
 
-await-number : (z : Place) (k : NodeLineage)
+await-number : (z : ShelfPlace) (k : NodeLineage)
     → FinishesEntry false 1 ((1, on_shelf z ∷ []) ∷ []) ((2, built k ∷ []) ∷ []) → ⊥
 await-number z k (is, rest) = let n : 2 ≡ 1 = is.number in omega (arith, n)
 
@@ -108,7 +108,7 @@ await-number z k (is, rest) = let n : 2 ≡ 1 = is.number in omega (arith, n)
 await-more : (k : NodeLineage) → FinishesEntry false 1 [] ((1, built k ∷ []) ∷ []) → ⊥
 await-more k is = is
 
-await-less : (z : Place) → FinishesEntry false 1 ((1, on_shelf z ∷ []) ∷ []) [] → ⊥
+await-less : (z : ShelfPlace) → FinishesEntry false 1 ((1, on_shelf z ∷ []) ∷ []) [] → ⊥
 await-less z is = is
 
 -- a second await
@@ -120,22 +120,22 @@ await-again_changes k is = let one : none ∷ [] ≡ built k ∷ [] = ap nodes_f
 
 -- ---- any other command, a refused one, and a line that gives none
 
-abbrev with_shelf : Place → Entries
+abbrev with_shelf : ShelfPlace → Entries
 with_shelf z = (1, on_shelf z ∷ []) ∷ []
 
 abbrev without : Entries
 without = (1, none ∷ []) ∷ []
 
-lost : (z : Place) → without ≡ with_shelf z → ⊥
+lost : (z : ShelfPlace) → without ≡ with_shelf z → ⊥
 lost z is = let one : none ∷ [] ≡ on_shelf z ∷ [] = ap nodes_first is in cc
 
 array-stays : (c : Holdings) (name : List ℕ) (grid : Grid) (es : Entries) → EntriesBy c (command.Array name grid) es es
 array-stays c name grid es = refl
 
-show-loses : (c : Holdings) (z : Place) (n node : ℕ) → EntriesBy c (command.Show n node) (with_shelf z) without → ⊥
+show-loses : (c : Holdings) (z : ShelfPlace) (n node : ℕ) → EntriesBy c (command.Show n node) (with_shelf z) without → ⊥
 show-loses c z n node is = lost z is
 
-plan-loses : (c : Holdings) (z : Place) (name : List ℕ) (base : List BaseName) (units back forward : ℕ)
+plan-loses : (c : Holdings) (z : ShelfPlace) (name : List ℕ) (base : List BaseName) (units back forward : ℕ)
     → EntriesBy c (command.Plan name base units back forward) (with_shelf z) without → ⊥
 plan-loses c z name base units back forward is = lost z is
 
@@ -143,7 +143,7 @@ refused-stays : (c : Holdings) (name : List ℕ) (base : List BaseName) (es : En
     → EntriesIf c (command.Start name base) (Some refusal.NoSuchFlow) es es
 refused-stays c name base es = refl
 
-refused-loses : (c : Holdings) (z : Place) (name : List ℕ) (base : List BaseName)
+refused-loses : (c : Holdings) (z : ShelfPlace) (name : List ℕ) (base : List BaseName)
     → EntriesIf c (command.Start name base) (Some refusal.NoSuchFlow) (with_shelf z) without → ⊥
 refused-loses c z name base is = lost z is
 
@@ -158,18 +158,18 @@ taken-adds name base = (none ∷ [], refl)
 taken-stays : (name : List ℕ) (base : List BaseName) → EntriesIf no_holdings (command.Start name base) None [] [] → ⊥
 taken-stays name base (nodes, is) = let n : 0 ≡ 1 = ap number_first is in omega (arith, n)
 
-read-loses : (c : Holdings) (z : Place) → EntriesRead c (Err refusal.NoJson) (with_shelf z) without → ⊥
+read-loses : (c : Holdings) (z : ShelfPlace) → EntriesRead c (Err refusal.NoJson) (with_shelf z) without → ⊥
 read-loses c z is = lost z is
 
 -- no version is held, so the await is refused
-read-await : (z : Place) (n : ℕ) → EntriesRead no_holdings (Ok (command.Await n)) (with_shelf z) without → ⊥
+read-await : (z : ShelfPlace) (n : ℕ) → EntriesRead no_holdings (Ok (command.Await n)) (with_shelf z) without → ⊥
 read-await z n is = lost z is
 
 -- a blank line
-blank-stays : (s : State) → StoredBehind s (32 ∷ []) s
+blank-stays : (s : SessionState) → StoredBehind s (32 ∷ []) s
 blank-stays s = refl
 
-blank-loses : (z : Place)
+blank-loses : (z : ShelfPlace)
     → StoredBehind (record nothing_held { stored = with_shelf z }) (32 ∷ []) (record nothing_held { stored = without })
     → ⊥
 blank-loses z is = lost z is

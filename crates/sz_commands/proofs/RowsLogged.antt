@@ -11,7 +11,7 @@ use Rattle.sz_spec.specs.declared.modes.Strategy.{Strategy}
 use Rattle.sz_spec.specs.Flows.{Graph}
 use Rattle.sz_spec.specs.Paths.{Step}
 use Rattle.sz_spec.specs.Values.{Grid}
-use Rattle.sz_log.specs.Log.{Entry, IsLog, empty_log, log_bytes}
+use Rattle.sz_log.specs.Log.{LogGroup, IsLog, empty_log, log_bytes}
 use Rattle.sz_log.specs.Steps.{Added}
 use Rattle.sz_script.specs.declared.command.BaseName.{BaseName}
 use Rattle.sz_script.specs.declared.command.NamedCell.{NamedCell}
@@ -21,7 +21,7 @@ use Rattle.sz_catalogue.specs.Holdings.{Holdings, no_holdings}
 use Rattle.sz_recover.specs.Logs.{Kept, IsMade}
 use Rattle.sz_recover.specs.Growing.{durable}
 use Rattle.sz_recover.specs.Soundness.{AreSoundKept}
-use Rattle.sz_recover.proofs.Rows as body
+use Rattle.sz_bodies.proofs.Rows as body
 use Rattle.sz_recover.proofs.RowsLogs.{empty-made}
 use Rattle.sz_recover.proofs.RowsSound.{version, held, right-sound}
 use Rattle.sz_commands.specs.Logged.{IsLogOf, HasLog, Grown, Grows, IsLeft, LeavesLog, GoesOn, KeepsLog}
@@ -34,7 +34,7 @@ use Rattle.sz_commands.specs.declared.logging.Lasting.TheVariants as lasting
 abbrev line : List ℕ
 line = 123 ∷ 125 ∷ []
 
-abbrev group_of : ℕ → List ℕ → Entry
+abbrev group_of : ℕ → List ℕ → LogGroup
 group_of kind bytes = record { kind = kind; body = bytes }
 
 pub line-array : (name : List ℕ) (grid : Grid) → IsLineGroup (command.Array name grid) line (group_of 1 line)
@@ -97,7 +97,7 @@ pub for-array : (c : Holdings) (name : List ℕ) (grid : Grid)
 for-array c name grid is = true≢false (sym is.0)
 
 -- of a line that is read as no command there is no group
-pub of-refused : (c : Holdings) (e : Entry) → IsGroupOf c line (Err refusal.NoJson) e → ⊥
+pub of-refused : (c : Holdings) (e : LogGroup) → IsGroupOf c line (Err refusal.NoJson) e → ⊥
 of-refused c e is = is
 
 pub of-array : (c : Holdings) (name : List ℕ) (grid : Grid)
@@ -195,7 +195,7 @@ durable-blank c = refl
 
 -- ---- one group is added, where the log ended
 
-any-size : (e : Entry) → IsLog empty_log (e ∷ []) (26 + length e.body) → ⊥
+any-size : (e : LogGroup) → IsLog empty_log (e ∷ []) (26 + length e.body) → ⊥
 any-size e is =
     let size : 17 ≡ length (log_bytes (e ∷ []) ++ is.gate ∷ is.behind) = ap (λ (l : List ℕ). length l) is.bytes in
     omega (arith, size, length-append (log_bytes (e ∷ [])) (is.gate ∷ is.behind))
@@ -203,7 +203,7 @@ any-size e is =
 empty : IsLog empty_log [] 16
 empty = record { gate = 0; behind = []; closed = omega arith; bytes = refl; place = refl; each = tt }
 
-none-added : (e : Entry) → Added (Some empty_log) (Some empty_log) 16 e → ⊥
+none-added : (e : LogGroup) → Added (Some empty_log) (Some empty_log) 16 e → ⊥
 none-added e (image, is, adds) =
     let same : image ≡ empty_log = ap (λ (o : Option (List ℕ)). unwrap_or o []) (sym is) in
     any-size e (subst (λ (l : List ℕ). IsLog l (e ∷ []) (26 + length e.body)) same (adds [] empty))
@@ -247,7 +247,7 @@ leaves-cut d leaves =
 
 module _ {X : Type 0} (T : Ghosts X) where
   -- a log that is as it was has no group more
-  pub appends-none : (IsSuch : Entry → Type 0) (next : Option ℕ) (old new : X) → T.disk old ≡ Some empty_log
+  pub appends-none : (IsSuch : LogGroup → Type 0) (next : Option ℕ) (old new : X) → T.disk old ≡ Some empty_log
       → T.disk new ≡ Some empty_log → Appends T IsSuch (Some 16) next old new → ⊥
   appends-none IsSuch next old new told is (e, such, added, end) =
       none-added e (subst (λ (o : Option (List ℕ)). Added (Some empty_log) o 16 e) is
@@ -257,7 +257,7 @@ module _ {X : Type 0} (T : Ghosts X) where
   pub appends-such : (next : Option ℕ) (old new : X) → Appends T (λ e. ⊥) (Some 16) next old new → ⊥
   appends-such next old new (e, such, added, end) = such
 
-  pub appends-no_log : (IsSuch : Entry → Type 0) (next : Option ℕ) (old new : X) → Appends T IsSuch None next old new
+  pub appends-no_log : (IsSuch : LogGroup → Type 0) (next : Option ℕ) (old new : X) → Appends T IsSuch None next old new
   appends-no_log IsSuch next old new = tt
 
   -- no write is pending where a session's log stands

@@ -12,13 +12,13 @@ use Rattle.sz_versions.specs.Stores.{Trail}
 use Rattle.sz_versions.specs.Residents.{Resident, IsInService, logged_in, stored_in, replaced_in}
 use Rattle.sz_versions.proofs.Keeps.{rule-fails}
 use Rattle.sz_versions.proofs.Residents.{logged-more, logged-replaced}
-use Rattle.sz_commands.specs.States.{State, apart, accepted}
+use Rattle.sz_commands.specs.States.{SessionState, apart, accepted}
 
-abbrev pub seen : Holdings → List Resident → Option ℕ → State
+abbrev pub seen : Holdings → List Resident → Option ℕ → SessionState
 seen c rs end = record { held = c; logged = logged_in rs; stored = stored_in rs; end = end }
 
 -- what is seen apart of a catalogue and of the stores that a log gave, with a reply
-abbrev told : List Kept → Holdings × Response → State × Response
+abbrev told : List Kept → Holdings × Response → SessionState × Response
 told ks p = (record { held = p.0; logged = ks; stored = []; end = None }, p.1)
 
 -- a version whose await no rule refuses is held

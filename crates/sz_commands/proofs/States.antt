@@ -9,10 +9,10 @@ use Rattle.sz_catalogue.specs.Responses.{Response}
 use Rattle.sz_catalogue.specs.Rules.{judged}
 use Rattle.sz_catalogue.specs.Changes as changes
 use Rattle.sz_catalogue.specs.Changes.{changes_no_version}
-use Rattle.sz_commands.specs.States.{State, apart, changed, accepted, after_judging, after_command, after_reading}
+use Rattle.sz_commands.specs.States.{SessionState, apart, changed, accepted, after_judging, after_command, after_reading}
 
 -- a command that changes no version changes the catalogue alone
-pub accepted-changed : (s : State) (d : Holdings) (command : Command) (r : Response)
+pub accepted-changed : (s : SessionState) (d : Holdings) (command : Command) (r : Response)
     → changes_no_version command ≡ true → (d, r) ≡ changes.accepted s.held command
     → accepted s command ≡ (record s { held = d }, r)
 accepted-changed s d (order.Array name array) r kind is = ap (changed s) (sym is)
@@ -20,31 +20,18 @@ accepted-changed s d (order.Csv name array) r kind is = ap (changed s) (sym is)
 accepted-changed s d (order.Layers name array) r kind is = ap (changed s) (sym is)
 accepted-changed s d (order.Flow name flow) r kind is = ap (changed s) (sym is)
 accepted-changed s d (order.Strategy name node list) r kind is = ap (changed s) (sym is)
-accepted-changed s d (order.Start name base) r kind is = cc
 accepted-changed s d (order.Plan name base units back forward) r kind is = ap (changed s) (sym is)
-accepted-changed s d (order.Await n) r kind is = cc
-accepted-changed s d (order.Ask n dir path named) r kind is = cc
-accepted-changed s d (order.Explain n dir path named) r kind is = cc
-accepted-changed s d (order.Show n node) r kind is = cc
+accepted-changed s d _ r kind is = cc
 
 -- ---- what is seen apart
 
 -- what a command does is the same wherever a log ends, and whatever is kept of nodes
-pub accepted-apart : (s : State) (command : Command)
+pub accepted-apart : (s : SessionState) (command : Command)
     → accepted (apart s) command ≡ (apart (accepted s command).0, (accepted s command).1)
-accepted-apart s (order.Array name array) = refl
-accepted-apart s (order.Csv name array) = refl
-accepted-apart s (order.Layers name array) = refl
-accepted-apart s (order.Flow name flow) = refl
-accepted-apart s (order.Strategy name node list) = refl
-accepted-apart s (order.Start name base) = refl
-accepted-apart s (order.Plan name base units back forward) = refl
-accepted-apart s (order.Await n) = refl
 accepted-apart s (order.Ask n dir path named) = refl
-accepted-apart s (order.Explain n dir path named) = refl
-accepted-apart s (order.Show n node) = refl
+accepted-apart s _ = refl
 
-command-apart : (s : State) (command : Command)
+command-apart : (s : SessionState) (command : Command)
     → after_command (apart s) command ≡ (apart (after_command s command).0, (after_command s command).1)
 command-apart s command = at (judged s.held command) where
   at : (rule : Option Refusal) → after_judging (apart s) command rule
@@ -52,16 +39,16 @@ command-apart s command = at (judged s.held command) where
   at None = accepted-apart s command
   at (Some rule) = refl
 
-pub reading-apart : (s : State) (r : Result Command Refusal)
+pub reading-apart : (s : SessionState) (r : Result Command Refusal)
     → after_reading (apart s) r ≡ (apart (after_reading s r).0, (after_reading s r).1)
 reading-apart s (Ok command) = command-apart s command
 reading-apart s (Err rule) = refl
 
 -- so where what it does is known, what is seen apart is too
-pub accepted-seen : (s t : State) (command : Command) (r : Response) → accepted s command ≡ (t, r)
+pub accepted-seen : (s t : SessionState) (command : Command) (r : Response) → accepted s command ≡ (t, r)
     → accepted (apart s) command ≡ (apart t, r)
-accepted-seen s t command r is = accepted-apart s command ∙ ap (λ (p : State × Response). (apart p.0, p.1)) is
+accepted-seen s t command r is = accepted-apart s command ∙ ap (λ (p : SessionState × Response). (apart p.0, p.1)) is
 
 -- so is the reply to a command
-pub reply-apart : (s : State) (command : Command) → (after_command (apart s) command).1 ≡ (after_command s command).1
-reply-apart s command = ap (λ (p : State × Response). p.1) (command-apart s command)
+pub reply-apart : (s : SessionState) (command : Command) → (after_command (apart s) command).1 ≡ (after_command s command).1
+reply-apart s command = ap (λ (p : SessionState × Response). p.1) (command-apart s command)

@@ -9,7 +9,7 @@ use Rattle.sz_script.specs.declared.command.NamedCell.{NamedCell}
 use Rattle.sz_script.specs.declared.command.Command.{Command}
 use Rattle.sz_script.specs.declared.command.Command.TheVariants as command
 use Rattle.sz_script.specs.Right.{is_right}
-use Rattle.sz_commands.specs.States.{State, after_command}
+use Rattle.sz_commands.specs.States.{SessionState, after_command}
 use Rattle.sz_catalogue.specs.Rules.{judged}
 use Rattle.sz_catalogue.specs.Responses.{Response, reply_line}
 use Rattle.sz_catalogue.specs.Responses as responses
@@ -25,16 +25,7 @@ use Rattle.sz_commands.specs.declared.asking.Asked.TheVariants as asked
 -- the command is an ask
 abbrev pub is_ask : Command → Bool
 is_ask (command.Ask n dir path named) = true
-is_ask (command.Array name array) = false
-is_ask (command.Csv name array) = false
-is_ask (command.Layers name array) = false
-is_ask (command.Flow name flow) = false
-is_ask (command.Strategy name node list) = false
-is_ask (command.Start name base) = false
-is_ask (command.Plan name base units back forward) = false
-is_ask (command.Await n) = false
-is_ask (command.Explain n dir path named) = false
-is_ask (command.Show n node) = false
+is_ask _ = false
 
 -- the line's command is an ask, with the names and the lists of one that was read
 abbrev pub IsAskLine : AskLine → Type 0
@@ -43,24 +34,24 @@ IsAskLine l = (is_ask l.ask ≡ true) × (is_right l.ask ≡ true)
 -- ---- what they say
 
 -- the reply to the line
-abbrev pub ask_reply : State → AskLine → Response
+abbrev pub ask_reply : SessionState → AskLine → Response
 ask_reply c l = (after_command c l.ask).1
 
 -- the reply lines of these lines, in their order: none changes what is held
-abbrev pub asks_text : State → List AskLine → List ℕ
+abbrev pub asks_text : SessionState → List AskLine → List ℕ
 asks_text c lines = flat_map (λ (l : AskLine). reply_line l.number (ask_reply c l)) lines
 
 -- how many cells are told as traced for them: at least, and at most
-abbrev pub traced_for_asks : State → List AskLine → ℕ
+abbrev pub traced_for_asks : SessionState → List AskLine → ℕ
 traced_for_asks c lines = sum_by (λ (l : AskLine). traced_for c l.ask) lines
 
-abbrev pub most_for_asks : State → List AskLine → ℕ
+abbrev pub most_for_asks : SessionState → List AskLine → ℕ
 most_for_asks c lines = sum_by (λ (l : AskLine). most_for c l.ask) lines
 
 -- ---- how far an ask is
 
 -- The ask of a line, which no rule refuses, is searched for.
-pub record IsSearched (c : State) (l : AskLine) (number : ℕ) (s : Search) : Type 0 where
+pub record IsSearched (c : SessionState) (l : AskLine) (number : ℕ) (s : Search) : Type 0 where
   pub line : number ≡ l.number
   pub judged : judged c.held l.ask ≡ None
   pub version : ℕ
@@ -71,7 +62,7 @@ pub record IsSearched (c : State) (l : AskLine) (number : ℕ) (s : Search) : Ty
   pub search : IsInquiryOf c version dir path named s
 
 -- Before it is answered, an ask is refused by its rule, or is open.
-abbrev pub IsBegun : State → AskLine → Asked → Type 0
+abbrev pub IsBegun : SessionState → AskLine → Asked → Type 0
 IsBegun c l (asked.Refused rule) = judged c.held l.ask ≡ Some rule
 IsBegun c l (asked.Open number s) = IsSearched c l number s
 IsBegun c l (asked.Done found tally) = ⊥
@@ -87,14 +78,14 @@ IsWorked (asked.Open number s) (asked.Open n t) = ⊥
 IsWorked a b = b ≡ a
 
 -- These cells are the reply to a line, and so much was told as traced.
-pub record IsReplyTo (c : State) (l : AskLine) (cells : Cells) (count : ℕ) : Type 0 where
+pub record IsReplyTo (c : SessionState) (l : AskLine) (cells : Cells) (count : ℕ) : Type 0 where
   pub reply : ask_reply c l ≡ responses.cells cells
   pub least : traced_for c l.ask ≤ count
   pub most : count ≤ most_for c l.ask
   pub few : count ≤ 33554432
 
 -- Behind its answer, an ask has its rule or its cells, or there was no memory.
-abbrev pub IsEnded : State → AskLine → Asked → Type 0
+abbrev pub IsEnded : SessionState → AskLine → Asked → Type 0
 IsEnded c l (asked.Refused rule) = judged c.held l.ask ≡ Some rule
 IsEnded c l (asked.Open number s) = ⊤
 IsEnded c l (asked.Done found tally) = IsReplyTo c l found.cells tally

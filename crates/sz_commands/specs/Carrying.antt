@@ -13,7 +13,7 @@ use Rattle.sz_catalogue.specs.Holdings.{Holdings, next_number}
 use Rattle.sz_catalogue.specs.Rules.{judged, version_of}
 use Rattle.sz_versions.specs.Residents.{Stored, none, on_shelf, built, given}
 use Rattle.sz_commands.specs.Lines.{is_blank}
-use Rattle.sz_commands.specs.States.{State}
+use Rattle.sz_commands.specs.States.{SessionState}
 
 -- of each version, by its number, what stands of its nodes
 abbrev pub Entries : Type 0
@@ -86,13 +86,13 @@ EntriesOf false c said old new = EntriesRead c said old new
 -- ---- what a session keeps
 
 -- behind a command that no rule refuses
-abbrev pub StoredBy : State → Command → State → Type 0
+abbrev pub StoredBy : SessionState → Command → SessionState → Type 0
 StoredBy s command t = EntriesBy s.held command s.stored t.stored
 
 -- behind any command
-abbrev pub StoredAfter : State → Command → State → Type 0
+abbrev pub StoredAfter : SessionState → Command → SessionState → Type 0
 StoredAfter s command t = EntriesIf s.held command (judged s.held command) s.stored t.stored
 
 -- behind a line
-abbrev pub StoredBehind : State → List ℕ → State → Type 0
+abbrev pub StoredBehind : SessionState → List ℕ → SessionState → Type 0
 StoredBehind s line t = EntriesOf (is_blank line) s.held (reading line) s.stored t.stored

@@ -5,10 +5,10 @@ use Rattle.sz_spec.specs.declared.modes.Dir.{Dir}
 use Rattle.sz_spec.specs.Paths.{Step}
 use Rattle.sz_script.specs.declared.command.NamedCell.{NamedCell}
 use Rattle.sz_catalogue.specs.Rules.{version_of}
-use Rattle.sz_commands.specs.States.{State, logged_of}
+use Rattle.sz_commands.specs.States.{SessionState, logged_of}
 use Rattle.sz_versions.specs.Searches.{Search}
 use Rattle.sz_versions.specs.Inquiries.{IsInquiryBy}
 
-abbrev pub IsInquiryOf : State → ℕ → Dir → List Step → List NamedCell → Search → Type 0
+abbrev pub IsInquiryOf : SessionState → ℕ → Dir → List Step → List NamedCell → Search → Type 0
 IsInquiryOf c n dir path named s =
     IsInquiryBy (logged_of c n) (version_of c.held n) dir path named s

@@ -8,7 +8,7 @@ use Rattle.std.specs.Prelude.{◌≡◌, ◌⊎◌, ℕ, List, [], ◌∷◌, �
 use Rattle.std.specs.Prelude.{Bool, true, false, not, if◌then◌else◌, Result, Ok, Err}
 use Rattle.sz_outside.specs.Disk.{Only, Said, Told}
 use Rattle.sz_outside.specs.declared.stations.Station.{Ghosts}
-use Rattle.sz_log.specs.Log.{Entry}
+use Rattle.sz_log.specs.Log.{LogGroup}
 use Rattle.sz_log.specs.Steps.{Added, place_behind}
 use Rattle.sz_script.specs.Reading.{reading}
 use Rattle.sz_script.specs.declared.refusal.Refusal.{Refusal}
@@ -19,7 +19,7 @@ use Rattle.sz_catalogue.specs.Rules.{judged, version_of}
 use Rattle.sz_recover.specs.Logs.{Kept, IsWellMade, IsMade, is_of_kind}
 use Rattle.sz_recover.specs.Growing.{durable}
 use Rattle.sz_recover.specs.Soundness.{AreSoundKept}
-use Rattle.sz_commands.specs.States.{State}
+use Rattle.sz_commands.specs.States.{SessionState}
 use Rattle.sz_commands.specs.Transcript.{after_lines}
 use Rattle.sz_commands.specs.Stops.{StopsFinding}
 use Rattle.sz_commands.specs.Lines.{is_blank}
@@ -105,7 +105,7 @@ OpenedLogsStand = (disk : Option (List ℕ)) (at : ℕ) (c : Holdings) (kept : L
 -- ---- lines
 
 -- what is held after a line: a blank one changes nothing
-abbrev pub held_after : State → List ℕ → Holdings
+abbrev pub held_after : SessionState → List ℕ → Holdings
 held_after s line = (after_lines s (line ∷ [])).held
 
 -- ---- what lasts
@@ -118,12 +118,8 @@ lasts (command.Csv name array) = true
 lasts (command.Layers name array) = true
 lasts (command.Flow name flow) = true
 lasts (command.Strategy name node list) = true
-lasts (command.Start name base) = false
-lasts (command.Plan name base units back forward) = false
 lasts (command.Await n) = true
-lasts (command.Ask n dir path named) = false
-lasts (command.Explain n dir path named) = false
-lasts (command.Show n node) = false
+lasts _ = false
 
 -- what is written: the line, in a group of a kind; the body of a version; or nothing
 abbrev pub IsLasting : Command → Lasting → Type 0
@@ -153,27 +149,27 @@ abbrev pub makes_durable : Holdings → List ℕ → Bool
 makes_durable c line = if is_blank line then false else makes_read c (reading line)
 
 -- The group is the line of a command, in a group of its kind.
-abbrev pub IsLineGroup : Command → List ℕ → Entry → Type 0
+abbrev pub IsLineGroup : Command → List ℕ → LogGroup → Type 0
 IsLineGroup order line e = (is_of_kind e.kind order ≡ true) × (e.body ≡ line)
 
 -- The group is the body of a version, with stores that stand for the relation.
-abbrev pub IsVersionGroup : Holdings → ℕ → Entry → Type 0
+abbrev pub IsVersionGroup : Holdings → ℕ → LogGroup → Type 0
 IsVersionGroup c n e = (e.kind ≡ 4) × IsSoundBody n (version_of c n) e.body
 
 -- The group is what the command of a line makes durable: of an await the body of its version, and
 -- of any other the line.
-abbrev pub IsGroupFor : Holdings → List ℕ → Command → Entry → Type 0
+abbrev pub IsGroupFor : Holdings → List ℕ → Command → LogGroup → Type 0
 IsGroupFor c line (command.Await n) e = IsVersionGroup c n e
 IsGroupFor c line order e = IsLineGroup order line e
 
-abbrev pub IsGroupOf : Holdings → List ℕ → Result Command Refusal → Entry → Type 0
+abbrev pub IsGroupOf : Holdings → List ℕ → Result Command Refusal → LogGroup → Type 0
 IsGroupOf c line (Err rule) e = ⊥
 IsGroupOf c line (Ok order) e = IsGroupFor c line order e
 
 -- One such group was added to the log of a session, where that ended, and the log ends behind it.
-abbrev pub Appends : {X : Type 0} → Ghosts X → (Entry → Type 0) → Option ℕ → Option ℕ → X → X
+abbrev pub Appends : {X : Type 0} → Ghosts X → (LogGroup → Type 0) → Option ℕ → Option ℕ → X → X
     → Type 0
 Appends T IsSuch None next old new = ⊤
-Appends T IsSuch (Some at) next old new = (e : Entry) × IsSuch e
+Appends T IsSuch (Some at) next old new = (e : LogGroup) × IsSuch e
     × Added (T.disk old) (T.disk new) at e
     × Told (T.disk old) (next ≡ Some (place_behind at e))

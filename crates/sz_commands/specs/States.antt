@@ -26,28 +26,28 @@ use Rattle.sz_versions.specs.Residents.{Stored, logged_under}
 -- the catalogue; the stores of the versions that the log gave; of each version, by its number, what
 -- stands of what is kept of its nodes: all but the passes of shelves; and, of a session of a log,
 -- where the log's first closed gate stands
-pub record State : Type 0 where
+pub record SessionState : Type 0 where
   pub held : Holdings
   pub logged : List Kept
   pub stored : List (ℕ × List Stored)
   pub end : Option ℕ
 
 -- what a session of no log holds
-abbrev pub state_of : Holdings → State
+abbrev pub state_of : Holdings → SessionState
 state_of c = record { held = c; logged = []; stored = []; end = None }
 
 -- what is held where nothing is
-abbrev pub nothing_held : State
+abbrev pub nothing_held : SessionState
 nothing_held = state_of no_holdings
 
 -- the same but for what is kept of nodes, and where the log ends: of neither does a reply speak
-abbrev pub apart : State → State
+abbrev pub apart : SessionState → SessionState
 apart s = record s { stored = []; end = None }
 
 -- ---- what is answered
 
 -- the stores that the log gave of a version, by its number
-abbrev pub logged_of : State → ℕ → Option (List (Option NodeLineage))
+abbrev pub logged_of : SessionState → ℕ → Option (List (Option NodeLineage))
 logged_of s n = logged_under n s.logged
 
 -- the cells of an ask: by the stores that the log gave, and else by the composed relation
@@ -56,49 +56,35 @@ abbrev pub cells_by : Option (List (Option NodeLineage)) → Version → Dir →
 cells_by None v dir path named = changes.cells_answered v dir path named
 cells_by (Some stores) v dir path named = cells_recalled v stores dir path named
 
-abbrev pub cells_told : State → ℕ → Dir → List Step → List NamedCell → Cells
+abbrev pub cells_told : SessionState → ℕ → Dir → List Step → List NamedCell → Cells
 cells_told s n dir path named =
     cells_by (logged_of s n) (version_of s.held n) dir path named
 
 -- ---- commands
 
 -- a catalogue that is changed, with the reply
-abbrev pub changed : State → Holdings × Response → State × Response
+abbrev pub changed : SessionState → Holdings × Response → SessionState × Response
 changed s r = (record s { held = r.0 }, r.1)
 
 -- what a command that no rule refuses changes, and its reply
-abbrev pub accepted : State → Command → State × Response
+abbrev pub accepted : SessionState → Command → SessionState × Response
 accepted s (command.Ask n dir path named) = (s, cells (cells_told s n dir path named))
-accepted s (command.Array name array) =
-    changed s (changes.accepted s.held (command.Array name array))
-accepted s (command.Csv name array) = changed s (changes.accepted s.held (command.Csv name array))
-accepted s (command.Layers name array) =
-    changed s (changes.accepted s.held (command.Layers name array))
-accepted s (command.Flow name flow) = changed s (changes.accepted s.held (command.Flow name flow))
-accepted s (command.Strategy name node list) =
-    changed s (changes.accepted s.held (command.Strategy name node list))
-accepted s (command.Start name base) = changed s (changes.accepted s.held (command.Start name base))
-accepted s (command.Plan name base units back forward) =
-    changed s (changes.accepted s.held (command.Plan name base units back forward))
-accepted s (command.Await n) = changed s (changes.accepted s.held (command.Await n))
-accepted s (command.Explain n dir path named) =
-    changed s (changes.accepted s.held (command.Explain n dir path named))
-accepted s (command.Show n node) = changed s (changes.accepted s.held (command.Show n node))
+accepted s order = changed s (changes.accepted s.held order)
 
 -- a command that a rule refuses changes nothing
-abbrev pub after_judging : State → Command → Option Refusal → State × Response
+abbrev pub after_judging : SessionState → Command → Option Refusal → SessionState × Response
 after_judging s command None = accepted s command
 after_judging s command (Some rule) = (s, refused rule)
 
-abbrev pub after_command : State → Command → State × Response
+abbrev pub after_command : SessionState → Command → SessionState × Response
 after_command s command = after_judging s command (judged s.held command)
 
 -- and so does a line that is read as no command
-abbrev pub after_reading : State → Result Command Refusal → State × Response
+abbrev pub after_reading : SessionState → Result Command Refusal → SessionState × Response
 after_reading s (Err rule) = (s, refused rule)
 after_reading s (Ok command) = after_command s command
 
 -- One line: refused where it is read as no command or a rule refuses the command, and else what the
 -- command changes and replies.
-abbrev pub after_line : State → List ℕ → State × Response
+abbrev pub after_line : SessionState → List ℕ → SessionState × Response
 after_line s line = after_reading s (reading line)

@@ -17,7 +17,7 @@ ghost use Rattle.sz_catalogue.specs.Seen.{response_of};
 ghost use Rattle.sz_recover.specs.Logs.{is_of_kind};
 ghost use Rattle.sz_commands.specs.States.{apart, accepted, after_command};
 ghost use Rattle.sz_commands.specs.Commands.{traced_for, most_for, traced_along, most_along};
-ghost use Rattle.sz_commands.specs.Given.{Gives, IsRight, Takes, traced_for_given, most_for_given};
+ghost use Rattle.sz_commands.specs.Given.{LineGives, IsRight, Takes, traced_for_given, most_for_given};
 ghost use Rattle.sz_commands.specs.Carrying.{FinishesEntry, StoredBy, StoredAfter, StoredBehind};
 ghost use Rattle.sz_commands.specs.Faults.{CountsTell};
 ghost use Rattle.sz_commands.specs.Logged.{IsLogOf, HasLog, KeepsLog, StopsInLog, held_after};
@@ -57,7 +57,7 @@ impl Session {
         gate: &G,
         tally: &mut Tally,
     ) -> Result<Option<Reply>, Stop>
-        requires gives { Gives line.now given }
+        requires gives { LineGives line.now given }
         requires right { IsRight given }
         requires room { tally.old + 32 * 1048576 < 2 ^ 63 }
         requires log { HasLog T.Station self.old.held self.old.end station.old }
@@ -176,12 +176,12 @@ impl Session {
             self.old.end self.new.end station.old station.new) }
     {
         let Some(end) = self.end else {
-            return Ok(self.take(rt, command, number, gate, tally)?);
+            return Ok(self.obey(rt, command, number, gate, tally)?);
         };
         match what_lasts(&command) {
             Lasting::Line(kind) => self.add_line(command, kind, line, end, station),
             Lasting::Version(version) => self.add_version(rt, version, end, station),
-            Lasting::Nothing => Ok(self.take(rt, command, number, gate, tally)?),
+            Lasting::Nothing => Ok(self.obey(rt, command, number, gate, tally)?),
         }
     }
 
@@ -263,7 +263,7 @@ impl Session {
     }
 }
 
-/// What a command makes durable. A further line form is a further arm here.
+/// What a command makes durable: nothing, but where it has an arm here.
 fn what_lasts(command: &Command) -> Lasting
     ensures { IsLasting command.now result }
 {
@@ -272,10 +272,6 @@ fn what_lasts(command: &Command) -> Lasting
         Command::Flow { .. } => Lasting::Line(2),
         Command::Strategy { .. } => Lasting::Line(3),
         Command::Await { version } => Lasting::Version(*version),
-        Command::Start { .. }
-        | Command::Plan { .. }
-        | Command::Ask { .. }
-        | Command::Explain { .. }
-        | Command::Show { .. } => Lasting::Nothing,
+        _ => Lasting::Nothing,
     }
 }

@@ -1,6 +1,6 @@
 //! A session: what is held, and what a line does to it.
 //!
-//! Contracts see a session as a `State`. Beside the catalogue it has of each version the runs of
+//! Contracts see a session as a `SessionState`. Beside the catalogue it has of each version the runs of
 //! its nodes and what is kept of them (`HeldRuns`), so that no value is computed twice.
 
 ghost use Rattle.std.specs.Prelude.{◌≡◌, ◌+◌, ◌*◌, ◌^◌, ◌<◌, ◌≤◌, true, false, None, Err, map};
@@ -30,7 +30,7 @@ ghost use Rattle.sz_commands.specs.Inquiries.{IsInquiryOf};
 ghost use Rattle.sz_versions.specs.Runs.{executions_of};
 ghost use Rattle.sz_commands.specs.Asks.{is_ask, IsAskLine, IsBegun, ask_reply};
 ghost use Rattle.sz_commands.specs.Asks.{traced_for_asks, most_for_asks};
-ghost use Rattle.sz_commands.specs.Given.{Gives, IsRight};
+ghost use Rattle.sz_commands.specs.Given.{LineGives, IsRight};
 ghost use Rattle.sz_commands.specs.declared.session.Given.TheVariants as given;
 
 use crate::asking::{AskLine, Asked, Askers, work_out};
@@ -70,10 +70,10 @@ pub struct Session {
 
 impl Model for Session {
     ghost use Rattle.std.specs.Prelude.{option_map};
-    ghost use Rattle.sz_commands.specs.States.{State};
+    ghost use Rattle.sz_commands.specs.States.{SessionState};
     ghost use Rattle.sz_versions.specs.Residents.{IsInService, logged_in, stored_in};
 
-    ghost Value = { State };
+    ghost Value = { SessionState };
 
     ghost view = { λ s. record {
       held = s.catalogue;
@@ -254,7 +254,7 @@ impl Session {
 
     /// What a line gives. Costs what reading it costs.
     pub fn read(&self, line: &[u8]) -> Result<Given, NoMemory>
-        ensures gives { IfOk result (λ g. Gives line.now g) }
+        ensures gives { IfOk result (λ g. LineGives line.now g) }
         ensures right { IfOk result (λ g. IsRight g) }
     {
         if is_blank(line) {
@@ -371,8 +371,9 @@ impl Session {
         })
     }
 
-    /// Takes a command that no rule refuses.
-    pub(crate) fn take<G: Gate, R: Threads + Wait + Sync>(
+    /// Does what a command orders that no rule refuses. One that neither starts, awaits, asks nor
+    /// looks is the catalogue's alone.
+    pub(crate) fn obey<G: Gate, R: Threads + Wait + Sync>(
         &mut self,
         rt: &R,
         command: Command,
@@ -392,26 +393,6 @@ impl Session {
         ensures kept { OnErr result (self.new ≡ self.old) }
     {
         match command {
-            Command::Array { name, array } => self.accept(Command::Array { name, array }),
-            Command::Csv { name, array } => self.accept(Command::Csv { name, array }),
-            Command::Layers { name, array } => self.accept(Command::Layers { name, array }),
-            Command::Flow { name, flow } => self.accept(Command::Flow { name, flow }),
-            Command::Strategy { name, node, list } => {
-                self.accept(Command::Strategy { name, node, list })
-            }
-            Command::Plan {
-                name,
-                base,
-                units,
-                back,
-                forward,
-            } => self.accept(Command::Plan {
-                name,
-                base,
-                units,
-                back,
-                forward,
-            }),
             Command::Start { name, base } => self.start(rt, name, base),
             Command::Await { version } => self.await_version(rt, version),
             Command::Ask {
@@ -431,6 +412,7 @@ impl Session {
                 cells,
             } => self.explain(rt, version, dir, &path, &cells, number, gate, tally),
             Command::Show { version, node } => self.show(version, node),
+            other => self.accept(other),
         }
     }
 

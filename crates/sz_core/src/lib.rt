@@ -1,5 +1,5 @@
-//! The pure machine of places, seals and looks: what the shelves of a version do, one event after
-//! the other.
+//! Not the core of the program, which runs none of it: the pure machine of places, seals and looks,
+//! by which the shelves of a version are told. It does what they do, one event after the other.
 //!
 //! Each node of a flow has a shelf. On it lie pairs of single cells, in pieces of the node's
 //! output: output cell `out` depends on cell `cell` of input `input`. An [`Event`] places a piece,

@@ -12,7 +12,7 @@ use Rattle.sz_outside.specs.declared.stations.Station.{Ghosts}
 use Rattle.sz_script.specs.Reading.{reading}
 use Rattle.sz_catalogue.specs.Holdings.{Holdings}
 use Rattle.sz_commands.specs.Lines.{Cut, is_blank, last_line}
-use Rattle.sz_commands.specs.States.{State, apart}
+use Rattle.sz_commands.specs.States.{SessionState, apart}
 use Rattle.sz_commands.specs.Transcript.{replies_to, after_lines}
 use Rattle.sz_feed.specs.Moments.{Moment, cut_after, moment_after}
 use Rattle.sz_feed.specs.Serving.{Advances, line_to_say}
@@ -147,19 +147,19 @@ pub is-moved : {X : Type 0} (T : Ghosts X) (m k : Moment) (a : X) → k.held ≡
     → IsBeside T k a
 is-moved {X} T m k a held end log =
     subst (λ (e : Option ℕ). HasLog T k.held.held e a) (sym end)
-    (subst (λ (s : State). HasLog T s.held m.end a) (sym held) log)
+    (subst (λ (s : SessionState). HasLog T s.held m.end a) (sym held) log)
 
 pub stays-from : {X : Type 0} (T : Ghosts X) (m k n : Moment) (a b : X) → k.held ≡ m.held → k.end ≡ m.end
     → StaysBeside T k n a b → StaysBeside T m n a b
 stays-from {X} T m k n a b held end goes =
     subst (λ (e : Option ℕ). GoesBeside T m.held.held e n.held.held n.end a b) end
-    (subst (λ (s : State). GoesBeside T s.held k.end n.held.held n.end a b) held goes)
+    (subst (λ (s : SessionState). GoesBeside T s.held k.end n.held.held n.end a b) held goes)
 
 pub stays-to : {X : Type 0} (T : Ghosts X) (m n k : Moment) (a b : X) → k.held ≡ n.held → k.end ≡ n.end
     → StaysBeside T m n a b → StaysBeside T m k a b
 stays-to {X} T m n k a b held end goes =
     subst (λ (e : Option ℕ). GoesBeside T m.held.held m.end k.held.held e a b) (sym end)
-    (subst (λ (s : State). GoesBeside T m.held.held m.end s.held n.end a b) (sym held) goes)
+    (subst (λ (s : SessionState). GoesBeside T m.held.held m.end s.held n.end a b) (sym held) goes)
 
 -- what holds is claimed of any value
 pub some-always : {A : Type 0} (o : Option A) (P : Type 0) → P → IfSome o (λ a. P)
@@ -179,7 +179,7 @@ some-none (Some at) P is = cc
 pub in-none : {X : Type 0} (T : Ghosts X) (m : Moment) (bytes : List ℕ) (a b : X) → m.end ≡ None → FindsIn T m bytes a b
 in-none {X} T m bytes a b plain = some-none m.end _ plain
 
-still-in : {X : Type 0} (T : Ghosts X) (s : State) (n : ℕ) (lines : List (List ℕ)) (e : Option ℕ) (a : X)
+still-in : {X : Type 0} (T : Ghosts X) (s : SessionState) (n : ℕ) (lines : List (List ℕ)) (e : Option ℕ) (a : X)
     → HasLog T s.held e a → OnlyNow T a → CountsNow T a → IfSome e (λ at. FindsLines T at s n lines a a)
 still-in {X} T s n lines None a log only counts = tt
 still-in {X} T s n lines (Some at) a log only counts = finds-still T at s n lines a log only counts
@@ -203,21 +203,21 @@ pub end-still : {X : Type 0} (T : Ghosts X) (m : Moment) (a : X) → IsBeside T 
 end-still {X} T m a log only counts = still-in T m.held m.number (last_line m.pending) m.end a log only counts
 
 -- what is held after a line does not depend on where a log ends
-held-apart : (s : State) (line : List ℕ)
+held-apart : (s : SessionState) (line : List ℕ)
     → (after_lines s (line ∷ [])).held ≡ (after_lines (apart s) (line ∷ [])).held
 held-apart s line = elim (cases_Bool (is_blank line)) [
   | inl blank ↦ rw blank refl
-  | inr other ↦ rw other (sym (ap (λ (p : State × _). p.0.held) (reading-apart s (reading line))))
+  | inr other ↦ rw other (sym (ap (λ (p : SessionState × _). p.0.held) (reading-apart s (reading line))))
 ]
 
 -- the moment of a session that has read so much of a line
-abbrev moment_with : State → List ℕ → ℕ → Moment
+abbrev moment_with : SessionState → List ℕ → ℕ → Moment
 moment_with s line n = record { held = apart s; pending = line; number = n; end = s.end }
 
-only-line : (s : State) (line : List ℕ) (n : ℕ) → line ∷ [] ≡ (cut_after (moment_with s line n) (10 ∷ [])).whole
+only-line : (s : SessionState) (line : List ℕ) (n : ℕ) → line ∷ [] ≡ (cut_after (moment_with s line n) (10 ∷ [])).whole
 only-line s line n = sym (ap (λ (c : Cut). c.whole) (line-only (moment_with s line n)))
 
-taken-in : {X : Type 0} (T : Ghosts X) (s : State) (line : List ℕ) (n : ℕ) (e : Option ℕ) (a b : X)
+taken-in : {X : Type 0} (T : Ghosts X) (s : SessionState) (line : List ℕ) (n : ℕ) (e : Option ℕ) (a b : X)
     → HasLog T s.held e a
     → StopsInLog T s.held e (held_after s line) a b
     → IfSome e (λ at. FindsLines T at (apart s) n (cut_after (moment_with s line n) (10 ∷ [])).whole a b)
@@ -227,7 +227,7 @@ taken-in {X} T s line n (Some at) a b log stops =
     (finds-taken T at (apart s) (held_after s line) n line a b (held-apart s line) log stops)
 
 -- a line was taken, or not, and nothing said
-pub in-taken : {X : Type 0} (T : Ghosts X) (s : State) (line given : List ℕ) (n : ℕ) (m : Moment) (a b : X)
+pub in-taken : {X : Type 0} (T : Ghosts X) (s : SessionState) (line given : List ℕ) (n : ℕ) (m : Moment) (a b : X)
     → moment_with s line n ≡ m → given ≡ line → IsBeside T m a → StopsInLog T s.held s.end (held_after s given) a b
     → FindsIn T m (10 ∷ []) a b
 in-taken {X} T s line given n m a b is same log stops =
@@ -295,7 +295,7 @@ then-in {X} T l m (Some at) None xs ys a b c one took goes two = absurd goes
 then-in {X} T l m (Some at) (Some next) xs ys a b c one took goes two =
     let k : Moment = moment_after l xs in
     let P : List (List ℕ) → Type 0 = λ ls. FindsLines T at l.held l.number ls a c in
-    let Q : State → Type 0 = λ z. GoesOn T l.held.held at z.held next a b in
+    let Q : SessionState → Type 0 = λ z. GoesOn T l.held.held at z.held next a b in
     subst P (sym (ap (λ (x : Cut). x.whole) (cut_after-parts l xs ys)))
     (finds-then T at next l.held l.number (cut_after l xs).whole (cut_after k ys).whole a b c
     (subst Q took.alike.held goes) took.says one (finds-alike T next m k ys b c took.alike two))
@@ -342,7 +342,7 @@ end-line {X} T m a b some one =
 pub end-held : (m n : Moment) (a b : Option (List ℕ)) → 0 < length m.pending → Advances a b m n (10 ∷ [])
     → n.held.held ≡ (after_lines m.held (last_line m.pending)).held
 end-held m n a b some took =
-    ap (λ (s : State). s.held) took.alike.held
+    ap (λ (s : SessionState). s.held) took.alike.held
     ∙ ap (λ (ls : List (List ℕ)). (after_lines m.held ls).held) (only-last m some)
 
 -- and a line of no bytes changes nothing

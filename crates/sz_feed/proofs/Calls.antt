@@ -12,7 +12,7 @@ use Rattle.sz_catalogue.specs.declared.reply.Reply.{Reply}
 use Rattle.sz_commands.specs.Asks.{asks_text}
 use Rattle.sz_commands.specs.Commands.{Responds}
 use Rattle.sz_commands.specs.Faults as faults
-use Rattle.sz_commands.specs.States.{State}
+use Rattle.sz_commands.specs.States.{SessionState}
 use Rattle.sz_commands.specs.Transcript.{replies_to}
 use Rattle.sz_commands.specs.declared.asking.AskLine.{AskLine}
 use Rattle.sz_commands.specs.declared.session.Stop.{Stop}
@@ -105,7 +105,7 @@ text-none A B halt.NoMemory a b x same silent =
     subst (λ (o : Option (List ℕ)). Says a o []) (sym same) (says-nothing a)
 
 -- the reply of a line
-pub text-line : {X U : Type 0} {u : Result U Halt} {bytes : List ℕ} (T : Ghosts X) (m : Moment) (z : State)
+pub text-line : {X U : Type 0} {u : Result U Halt} {bytes : List ℕ} (T : Ghosts X) (m : Moment) (z : SessionState)
     (r : Option Reply) (a b x : X) → IsSaid T u bytes b x → Responds m.held m.pending z r
     → bytes ≡ line_to_say m.number r → T.said b ≡ T.said a → SaysText u (T.said b) (T.said x) bytes
     → SaysText u (T.said a) (T.said x) (told_in m (10 ∷ []))
@@ -114,7 +114,7 @@ text-line {X} {U} {u} {bytes} T m z r a b x said replies told same says =
     (subst (λ (ys : List ℕ). SaysText u (T.said b) (T.said x) ys) (told ∙ sym (told-line m z r replies)) says)
 
 -- where memory was refused, the first so many of the replies were said
-pub replies-memory : (h : Halt) (a b : Option (List ℕ)) (s : State) (n : ℕ) (lines : List (List ℕ))
+pub replies-memory : (h : Halt) (a b : Option (List ℕ)) (s : SessionState) (n : ℕ) (lines : List (List ℕ))
     → ended (Unit {0}) h ≡ ended (Unit {0}) halt.NoMemory → SaysFirst a b s n lines
     → SaysReplies (ended (Unit {0}) h) a b s n lines
 replies-memory h a b s n lines is first =
@@ -130,19 +130,19 @@ answered-memory {X} T h m n first lines a b is counts found =
 -- ---- what a stop finds
 
 -- the two parts of it
-pub behind-of : {X : Type 0} (T : Ghosts X) (e : Option ℕ) (first : List ℕ) (s : State) (n : ℕ)
+pub behind-of : {X : Type 0} (T : Ghosts X) (e : Option ℕ) (first : List ℕ) (s : SessionState) (n : ℕ)
     (lines : List (List ℕ)) (a b : X) → (e ≡ None → OnlySays T (first ++ replies_to s n lines) a b)
     → IfSome e (λ at. FindsLines T at s n lines a b) → FindsBehind T e first s n lines a b
 behind-of {X} T None first s n lines a b none some = none refl
 behind-of {X} T (Some at) first s n lines a b none some = some
 
-pub behind-only : {X : Type 0} (T : Ghosts X) (e : Option ℕ) (first : List ℕ) (s : State) (n : ℕ)
+pub behind-only : {X : Type 0} (T : Ghosts X) (e : Option ℕ) (first : List ℕ) (s : SessionState) (n : ℕ)
     (lines : List (List ℕ)) (a b : X) → FindsBehind T e first s n lines a b → e ≡ None
     → OnlySays T (first ++ replies_to s n lines) a b
 behind-only {X} T None first s n lines a b found is = found
 behind-only {X} T (Some at) first s n lines a b found is = cc
 
-pub behind-lines : {X : Type 0} (T : Ghosts X) (e : Option ℕ) (first : List ℕ) (s : State) (n : ℕ)
+pub behind-lines : {X : Type 0} (T : Ghosts X) (e : Option ℕ) (first : List ℕ) (s : SessionState) (n : ℕ)
     (lines : List (List ℕ)) (a b : X) → FindsBehind T e first s n lines a b
     → IfSome e (λ at. FindsLines T at s n lines a b)
 behind-lines {X} T None first s n lines a b found = tt
@@ -180,7 +180,7 @@ behind-next {X} T l n xs start at waiting a b c le lt is one waits idle goes lin
     waits idle goes (behind-lines T n.end asks n.held n.number (cut_after n (10 ∷ [])).whole b c line)))
 
 -- the reply of a line that was taken, of a session of no log
-pub only-reply : {X : Type 0} (T : Ghosts X) (m : Moment) (z : State) (r : Option Reply) (bytes : List ℕ) (a b x : X)
+pub only-reply : {X : Type 0} (T : Ghosts X) (m : Moment) (z : SessionState) (r : Option Reply) (bytes : List ℕ) (a b x : X)
     → Responds m.held m.pending z r → bytes ≡ line_to_say m.number r → b ≡ a → OnlySays T bytes b x
     → OnlySays T (told_in m (10 ∷ [])) a x
 only-reply {X} T m z r bytes a b x replies told same says =

@@ -12,7 +12,7 @@ use Rattle.sz_outside.specs.declared.stations.Station.{Ghosts}
 use Rattle.sz_log.specs.Steps.{MakesIfFree}
 use Rattle.sz_commands.specs.Transcript.{transcript}
 use Rattle.sz_feed.specs.Moments.{Moment, told_in, told_at_end}
-use Rattle.sz_commands.specs.States.{State}
+use Rattle.sz_commands.specs.States.{SessionState}
 use Rattle.sz_feed.specs.Serving.{Advances, Answered, AreAll}
 use Rattle.sz_feed.specs.Making.{ready_line}
 use Rattle.sz_feed.specs.Disks.{StaysFinding, DiskStays, OnlySays, FoundInPart, StopsMaking}
@@ -226,7 +226,7 @@ only-line {X} T a b c l m n xs start at le lt is so_far took pending line =
 -- ---- sessions
 
 -- a turn
-pub turn-stays : {X : Type 0} (T : Ghosts X) (z : State) (all left next said : Option (List ℕ)) (a b : X) (m : Moment)
+pub turn-stays : {X : Type 0} (T : Ghosts X) (z : SessionState) (all left next said : Option (List ℕ)) (a b : X) (m : Moment)
     (total count : ℕ) (buffer : List ℕ) → Answered z all left said (T.said a) m total → Gives left next buffer count
     → OnlySays T (told_in m (take count buffer)) a b → StaysFinding T (FoundInPart z all said) a b
 turn-stays {X} T z all left next said a b m total count buffer so_far gives one =
@@ -234,7 +234,7 @@ turn-stays {X} T z all left next said a b m total count buffer so_far gives one 
     (λ found part. turn-in_part z all left next said (T.said a) (Some found) m total count buffer so_far gives part) one
 
 -- the end
-pub end-stays : {X : Type 0} (T : Ghosts X) (z : State) (all left said : Option (List ℕ)) (a b : X)
+pub end-stays : {X : Type 0} (T : Ghosts X) (z : SessionState) (all left said : Option (List ℕ)) (a b : X)
     (m : Moment) (total : ℕ)
     → Answered z all left said (T.said a) m total → AreAll all total
     → OnlySays T (told_at_end m) a b → StaysFinding T (FoundInPart z all said) a b
@@ -243,7 +243,7 @@ end-stays {X} T z all left said a b m total so_far is_all one =
     (λ found part. end-in_part z all left said (T.said a) (Some found) m total so_far is_all part) one
 
 -- between two turns
-pub between-stays : {X : Type 0} (T : Ghosts X) (z : State) (all left said : Option (List ℕ)) (a b : X)
+pub between-stays : {X : Type 0} (T : Ghosts X) (z : SessionState) (all left said : Option (List ℕ)) (a b : X)
     (m : Moment) (total : ℕ)
     → Answered z all left said (T.said a) m total → OnlySays T [] a b → StaysFinding T (FoundInPart z all said) a b
 between-stays {X} T z all left said a b m total so_far one =
@@ -251,12 +251,12 @@ between-stays {X} T z all left said a b m total so_far one =
     (λ found part. answered-in_part z all left said (T.said a) (Some found) m total so_far part) one
 
 -- before the first turn
-start-found : (z : State) (all said : Option (List ℕ)) (found : List ℕ) → SaysPart said (Some found) []
+start-found : (z : SessionState) (all said : Option (List ℕ)) (found : List ℕ) → SaysPart said (Some found) []
     → FoundInPart z all said found
 start-found z None said found part = tt
 start-found z (Some bytes) said found part = part-longer said (Some found) [] (transcript z bytes) part
 
-pub start-stays : {X : Type 0} (T : Ghosts X) (z : State) (all : Option (List ℕ)) (a b : X)
+pub start-stays : {X : Type 0} (T : Ghosts X) (z : SessionState) (all : Option (List ℕ)) (a b : X)
     → OnlySays T [] a b → StaysFinding T (FoundInPart z all (T.said a)) a b
 start-stays {X} T z all a b one = stays-finding T _ _ a b (λ found part. start-found z all (T.said a) found part) one
 

@@ -6,7 +6,7 @@ use Rattle.std.proofs.Common.{◌≡◌, ℕ, ◌+◌, List, [], ◌∷◌, ◌+
 use Rattle.std.proofs.Common.{append_assoc, arith, inl, inr}
 use Rattle.std.proofs.lemmas.Bool.{cases_Bool}
 use Rattle.sz_commands.specs.Lines.{lines_of, is_blank}
-use Rattle.sz_commands.specs.States.{State, after_line}
+use Rattle.sz_commands.specs.States.{SessionState, after_line}
 use Rattle.sz_catalogue.specs.Responses.{reply_line}
 use Rattle.sz_commands.specs.Transcript.{replies_to, after_lines}
 use Rattle.sz_feed.specs.Laws.{RepliesGoOn, TranscriptsGoOn, BlankLinesAreCounted, OtherLinesHaveOneReply}
@@ -31,7 +31,7 @@ replies-go_on c n (line ∷ first) rest =
     ]
 
 -- the catalogue after some lines and then others
-pub after_lines-append : (c : State) (first rest : List (List ℕ))
+pub after_lines-append : (c : SessionState) (first rest : List (List ℕ))
     → after_lines c (first ++ rest) ≡ after_lines (after_lines c first) rest
 after_lines-append c [] rest = refl
 after_lines-append c (line ∷ first) rest = elim (cases_Bool (is_blank line)) [

@@ -13,7 +13,7 @@ use Rattle.std.proofs.lemmas.List.Folds.{list_all-append}
 use Rattle.sz_script.specs.Reading.{line_limit}
 use Rattle.sz_script.specs.declared.refusal.Refusal.TheVariants.{TooLong}
 use Rattle.sz_commands.specs.Lines.{is_blank, Cut, bytes_first, before_cut, cut, last_line}
-use Rattle.sz_commands.specs.States.{State, after_line}
+use Rattle.sz_commands.specs.States.{SessionState, after_line}
 use Rattle.sz_catalogue.specs.Responses.{refused}
 use Rattle.sz_commands.specs.Transcript.{replies_to, after_lines, transcript}
 use Rattle.sz_feed.specs.Moments.{Moment, cut_after, moment_of, moment_after}
@@ -43,7 +43,7 @@ moment_after-parts m first rest =
     let before = cut_after m first in
     let further = cut_after (moment_after m first) rest in
     ap (moment_of m) (cut_after-parts m first rest)
-    ∙ ap₂ (λ (c : State) (n : ℕ). record m { held = c; pending = further.last; number = n })
+    ∙ ap₂ (λ (c : SessionState) (n : ℕ). record m { held = c; pending = further.last; number = n })
     (after_lines-append m.held before.whole further.whole)
     (numbers before.whole further.whole) where
       numbers : (xs ys : List (List ℕ)) → m.number + length (xs ++ ys) ≡ m.number + length xs + length ys
@@ -85,35 +85,35 @@ alike-append a b rest (inr long) = inr (
 )
 
 -- a line past the limit is refused
-line-long : (c : State) (line : List ℕ) → line_limit < length line → after_line c line ≡ (c, refused TooLong)
+line-long : (c : SessionState) (line : List ℕ) → line_limit < length line → after_line c line ≡ (c, refused TooLong)
 line-long c line long = let test : nat_lt line_limit (length line) ≡ true = grind (arith, nat_tests) in rw test refl
 
 -- lines that are alike have one reply, whatever comes behind them
-replies-alike : (c : State) (n : ℕ) (a b : List ℕ) (lines : List (List ℕ)) → Alike a b
+replies-alike : (c : SessionState) (n : ℕ) (a b : List ℕ) (lines : List (List ℕ)) → Alike a b
     → replies_to c n (a ∷ lines) ≡ replies_to c n (b ∷ lines)
 replies-alike c n a b lines (inl same) = ap (λ (l : List ℕ). replies_to c n (l ∷ lines)) same
 replies-alike c n a b lines (inr long) = rw (line-long c a long.0, line-long c b long.1, long.2) refl
 
 -- and leave one catalogue
-pub after_lines-alike : (c : State) (a b : List ℕ) (lines : List (List ℕ)) → Alike a b
+pub after_lines-alike : (c : SessionState) (a b : List ℕ) (lines : List (List ℕ)) → Alike a b
     → after_lines c (a ∷ lines) ≡ after_lines c (b ∷ lines)
 after_lines-alike c a b lines (inl same) = ap (λ (l : List ℕ). after_lines c (l ∷ lines)) same
 after_lines-alike c a b lines (inr long) = rw (line-long c a long.0, line-long c b long.1, long.2) refl
 
 -- ---- what beginnings that are alike tell and leave, before one cut
 
-told-first : (c : State) (n : ℕ) (a b : List ℕ) (ls : List (List ℕ)) (last : List ℕ) → Alike a b
+told-first : (c : SessionState) (n : ℕ) (a b : List ℕ) (ls : List (List ℕ)) (last : List ℕ) → Alike a b
     → replies_to c n (bytes_first a ls last).whole ≡ replies_to c n (bytes_first b ls last).whole
 told-first c n a b [] last h = refl
 told-first c n a b (x ∷ xs) last h = replies-alike c n (a ++ x) (b ++ x) xs (alike-append a b x h)
 
-some-first : (k : ℕ) (c : State) (n : ℕ) (a b : List ℕ) (ls : List (List ℕ)) (last : List ℕ) → Alike a b
+some-first : (k : ℕ) (c : SessionState) (n : ℕ) (a b : List ℕ) (ls : List (List ℕ)) (last : List ℕ) → Alike a b
     → replies_to c n (take k (bytes_first a ls last).whole) ≡ replies_to c n (take k (bytes_first b ls last).whole)
 some-first k c n a b [] last h = refl
 some-first zero c n a b (x ∷ xs) last h = refl
 some-first (suc k) c n a b (x ∷ xs) last h = replies-alike c n (a ++ x) (b ++ x) (take k xs) (alike-append a b x h)
 
-left-first : (c : State) (a b : List ℕ) (ls : List (List ℕ)) (last : List ℕ) → Alike a b
+left-first : (c : SessionState) (a b : List ℕ) (ls : List (List ℕ)) (last : List ℕ) → Alike a b
     → after_lines c (bytes_first a ls last).whole ≡ after_lines c (bytes_first b ls last).whole
 left-first c a b [] last h = refl
 left-first c a b (x ∷ xs) last h = after_lines-alike c (a ++ x) (b ++ x) xs (alike-append a b x h)
@@ -134,7 +134,7 @@ pending-first a b (x ∷ xs) last h = inl refl
 pub told_in-alike : AlikeTellTheSame
 told_in-alike m n bytes h =
     told-first m.held m.number m.pending n.pending (cut bytes).whole (cut bytes).last h.pending
-    ∙ ap₂ (λ (c : State) (k : ℕ). replies_to c k (cut_after n bytes).whole) h.held h.number
+    ∙ ap₂ (λ (c : SessionState) (k : ℕ). replies_to c k (cut_after n bytes).whole) h.held h.number
 
 -- also of the first so many lines
 pub some_told-alike : (k : ℕ) (m n : Moment) (bytes : List ℕ) → AreAlike m n
@@ -142,10 +142,10 @@ pub some_told-alike : (k : ℕ) (m n : Moment) (bytes : List ℕ) → AreAlike m
     ≡ replies_to n.held n.number (take k (cut_after n bytes).whole)
 some_told-alike k m n bytes h =
     some-first k m.held m.number m.pending n.pending (cut bytes).whole (cut bytes).last h.pending
-    ∙ ap₂ (λ (c : State) (i : ℕ). replies_to c i (take k (cut_after n bytes).whole)) h.held h.number
+    ∙ ap₂ (λ (c : SessionState) (i : ℕ). replies_to c i (take k (cut_after n bytes).whole)) h.held h.number
 
 -- and leave the same after these
-some_left-first : (k : ℕ) (c : State) (a b : List ℕ) (ls : List (List ℕ)) (last : List ℕ) → Alike a b
+some_left-first : (k : ℕ) (c : SessionState) (a b : List ℕ) (ls : List (List ℕ)) (last : List ℕ) → Alike a b
     → after_lines c (take k (bytes_first a ls last).whole) ≡ after_lines c (take k (bytes_first b ls last).whole)
 some_left-first k c a b [] last h = refl
 some_left-first zero c a b (x ∷ xs) last h = refl
@@ -155,7 +155,7 @@ pub some_left-alike : (k : ℕ) (m n : Moment) (bytes : List ℕ) → AreAlike m
     → after_lines m.held (take k (cut_after m bytes).whole) ≡ after_lines n.held (take k (cut_after n bytes).whole)
 some_left-alike k m n bytes h =
     some_left-first k m.held m.pending n.pending (cut bytes).whole (cut bytes).last h.pending
-    ∙ ap (λ (c : State). after_lines c (take k (cut_after n bytes).whole)) h.held
+    ∙ ap (λ (c : SessionState). after_lines c (take k (cut_after n bytes).whole)) h.held
 
 -- as many lines end in them
 pub count-alike : (m n : Moment) (bytes : List ℕ) → AreAlike m n
@@ -168,25 +168,25 @@ moment_after-alike m n bytes h =
     let rest = cut bytes in
     record {
       held = left-first m.held m.pending n.pending rest.whole rest.last h.pending
-          ∙ ap (λ (c : State). after_lines c (cut_after n bytes).whole) h.held;
+          ∙ ap (λ (c : SessionState). after_lines c (cut_after n bytes).whole) h.held;
       number = ap₂ ◌+◌ h.number (count-first m.pending n.pending rest.whole rest.last);
       pending = pending-first m.pending n.pending rest.whole rest.last h.pending;
     }
 
-end-long : (c : State) (n : ℕ) (a b : List ℕ) → line_limit < length a → line_limit < length b
+end-long : (c : SessionState) (n : ℕ) (a b : List ℕ) → line_limit < length a → line_limit < length b
     → is_blank a ≡ is_blank b
     → replies_to c n (last_line a) ≡ replies_to c n (last_line b)
 end-long c n [] b long long' same = absurd (omega arith)
 end-long c n (x ∷ a) [] long long' same = absurd (omega arith)
 end-long c n (x ∷ a) (y ∷ b) long long' same = replies-alike c n (x ∷ a) (y ∷ b) [] (inr (long, long', same))
 
-end-alike : (c : State) (n : ℕ) (a b : List ℕ) → Alike a b
+end-alike : (c : SessionState) (n : ℕ) (a b : List ℕ) → Alike a b
     → replies_to c n (last_line a) ≡ replies_to c n (last_line b)
 end-alike c n a b (inl same) = ap (λ (l : List ℕ). replies_to c n (last_line l)) same
 end-alike c n a b (inr long) = end-long c n a b long.0 long.1 long.2
 
 -- as do the first so many of their last lines, of which there is one at most
-last-long : (k : ℕ) (c : State) (n : ℕ) (a b : List ℕ) → line_limit < length a → line_limit < length b
+last-long : (k : ℕ) (c : SessionState) (n : ℕ) (a b : List ℕ) → line_limit < length a → line_limit < length b
     → is_blank a ≡ is_blank b
     → (replies_to c n (take k (last_line a)) ≡ replies_to c n (take k (last_line b)))
     × (after_lines c (take k (last_line a)) ≡ after_lines c (take k (last_line b)))
@@ -200,7 +200,7 @@ last-long (suc k) c n (x ∷ a) (y ∷ b) long long' same = (
   refl,
 )
 
-pub last-alike : (k : ℕ) (c : State) (n : ℕ) (a b : List ℕ) → Alike a b
+pub last-alike : (k : ℕ) (c : SessionState) (n : ℕ) (a b : List ℕ) → Alike a b
     → (replies_to c n (take k (last_line a)) ≡ replies_to c n (take k (last_line b)))
     × (after_lines c (take k (last_line a)) ≡ after_lines c (take k (last_line b)))
     × (length (last_line a) ≡ length (last_line b))
@@ -215,7 +215,7 @@ last-alike k c n a b (inr long) = last-long k c n a b long.0 long.1 long.2
 pub told_at_end-alike : AlikeEndTheSame
 told_at_end-alike m n h =
     end-alike m.held m.number m.pending n.pending h.pending
-    ∙ ap₂ (λ (c : State) (k : ℕ). replies_to c k (last_line n.pending)) h.held h.number
+    ∙ ap₂ (λ (c : SessionState) (k : ℕ). replies_to c k (last_line n.pending)) h.held h.number
 
 -- the first moment is like the third where both are like the second
 pub are_alike-trans : (l m n : Moment) → AreAlike l m → AreAlike m n → AreAlike l n

@@ -14,28 +14,19 @@ use Rattle.sz_catalogue.specs.Rules.{judged}
 use Rattle.sz_catalogue.specs.Responses.{Response, reply_line}
 use Rattle.sz_catalogue.specs.Changes as changes
 use Rattle.sz_commands.specs.Lines.{lines_of, is_blank}
-use Rattle.sz_commands.specs.States.{State, state_of, accepted, after_judging, after_reading, after_line}
+use Rattle.sz_commands.specs.States.{SessionState, state_of, accepted, after_judging, after_reading, after_line}
 use Rattle.sz_commands.specs.Transcript.{replies_to}
 use Rattle.sz_feed.specs.Plain.{plain_replies}
 use Rattle.sz_feed.specs.Laws.{SessionsOfNoLogArePlain}
 
 -- a catalogue and a reply, as a session of no log has them
-abbrev plainly : Holdings × Response → State × Response
+abbrev plainly : Holdings × Response → SessionState × Response
 plainly p = (state_of p.0, p.1)
 
 accepted-plain : (c : Holdings) (command : Command) → accepted (state_of c) command ≡ plainly
     (changes.accepted c command)
-accepted-plain c (order.Array name array) = refl
-accepted-plain c (order.Csv name array) = refl
-accepted-plain c (order.Layers name array) = refl
-accepted-plain c (order.Flow name flow) = refl
-accepted-plain c (order.Strategy name node list) = refl
-accepted-plain c (order.Start name base) = refl
-accepted-plain c (order.Plan name base units back forward) = refl
-accepted-plain c (order.Await n) = refl
 accepted-plain c (order.Ask n dir path named) = refl
-accepted-plain c (order.Explain n dir path named) = refl
-accepted-plain c (order.Show n node) = refl
+accepted-plain c _ = refl
 
 judging-plain : (c : Holdings) (command : Command) (rule : Option Refusal)
     → after_judging (state_of c) command rule ≡ plainly (changes.after_judging c command rule)
@@ -56,7 +47,7 @@ replies-plain c n [] = refl
 replies-plain c n (line ∷ lines) = elim (cases_Bool (is_blank line)) [
   | inl blank ↦ rw blank (replies-plain c (n + 1) lines)
   | inr other ↦
-      rw other (ap (λ (q : State × Response). reply_line n q.1 ++ replies_to q.0 (n + 1) lines) (line-plain c line)
+      rw other (ap (λ (q : SessionState × Response). reply_line n q.1 ++ replies_to q.0 (n + 1) lines) (line-plain c line)
       ∙ ap (λ (ys : List ℕ). reply_line n (changes.after_line c line).1 ++ ys)
       (replies-plain (changes.after_line c line).0 (n + 1) lines))
 ]

@@ -9,7 +9,7 @@ use Rattle.sz_outside.specs.declared.stations.Station.{Ghosts}
 use Rattle.sz_recover.specs.Logs.{Kept, IsWellMade}
 use Rattle.sz_recover.specs.Growing.{durable}
 use Rattle.sz_commands.specs.Logged.{makes_durable}
-use Rattle.sz_commands.specs.States.{State}
+use Rattle.sz_commands.specs.States.{SessionState}
 use Rattle.sz_commands.specs.declared.asking.AskLine.{AskLine}
 use Rattle.sz_feed.specs.Moments.{Moment}
 use Rattle.sz_feed.specs.Calls.{CountsStand, CountsTell, SaysText, SaysReplies, IsSaid, IsTaken, FindsBehind}
@@ -56,24 +56,24 @@ pub text-not_part : SaysText went_on (Some []) (Some []) (codes "b") → ⊥
 text-not_part says = cc
 
 -- of no lines nothing is said
-pub replies-none : (s : State) (n : ℕ) → SaysReplies went_on (Some []) (Some []) s n []
+pub replies-none : (s : SessionState) (n : ℕ) → SaysReplies went_on (Some []) (Some []) s n []
 replies-none s n = refl
 
-pub replies-stopped : (s : State) (n : ℕ) → SaysReplies by_memory (Some []) (Some []) s n []
+pub replies-stopped : (s : SessionState) (n : ℕ) → SaysReplies by_memory (Some []) (Some []) s n []
 replies-stopped s n = record { many = 0; within = omega arith; says = refl }
 
-pub replies-more : (s : State) (n : ℕ) → SaysReplies went_on (Some []) (Some (codes "b")) s n [] → ⊥
+pub replies-more : (s : SessionState) (n : ℕ) → SaysReplies went_on (Some []) (Some (codes "b")) s n [] → ⊥
 replies-more s n says = bytes-more [] 98 says
 
 -- ---- lines that are written
 
-pub writes-none : (s : State) → WritesOne s [] → ⊥
+pub writes-none : (s : SessionState) → WritesOne s [] → ⊥
 writes-none s writes = writes
 
-pub writes-this : (s : State) (line : List ℕ) → makes_durable s.held line ≡ true → WritesOne s (line ∷ [])
+pub writes-this : (s : SessionState) (line : List ℕ) → makes_durable s.held line ≡ true → WritesOne s (line ∷ [])
 writes-this s line is = inl is
 
-pub writes-other : (s : State) (line : List ℕ) → makes_durable s.held line ≡ false → WritesOne s (line ∷ []) → ⊥
+pub writes-other : (s : SessionState) (line : List ℕ) → makes_durable s.held line ≡ false → WritesOne s (line ∷ []) → ⊥
 writes-other s line rests writes = ⊎_elim (λ is. true≢false (sym is ∙ rests)) (λ none. none) writes
 
 -- ---- asks that wait
@@ -165,7 +165,7 @@ module _ {X : Type 0} (T : Ghosts X) (old new : X) where
       answered-no_log at none some answered =
           let still = none-stays T before now old new answered.log none in cc
 
-  module _ (first : List ℕ) (s : State) (n : ℕ) (lines : List (List ℕ)) where
+  module _ (first : List ℕ) (s : SessionState) (n : ℕ) (lines : List (List ℕ)) where
     -- where there is no log the disk reads as before
     pub behind-reads : FindsBehind T None first s n lines old new → T.disk new ≡ T.disk old
     behind-reads found = found.reads

@@ -9,7 +9,7 @@ use Rattle.sz_catalogue.specs.Holdings.{Holdings, no_holdings}
 use Rattle.sz_recover.specs.Logs.{Kept, IsWellMade}
 use Rattle.sz_recover.specs.Growing.{durable}
 use Rattle.sz_commands.specs.Lines.{lines_of}
-use Rattle.sz_commands.specs.States.{State}
+use Rattle.sz_commands.specs.States.{SessionState}
 use Rattle.sz_commands.specs.Transcript.{replies_to, after_lines}
 use Rattle.sz_feed.specs.Running.{IfSome, FoundBetween, FoundAt, PassesAmong, FindsLines, GoesBeside, FindsAll}
 use Rattle.sz_feed.specs.Running.{StandsBehind, state_of_log}
@@ -28,7 +28,7 @@ none-claim Claim = tt
 
 -- ---- between two lines
 
-abbrev state : State
+abbrev state : SessionState
 state = state_of_log no_holdings []
 
 -- of no lines nothing is said, and the log is as it was
@@ -42,7 +42,7 @@ between-nothing n = record {
 }
 
 -- a byte is not found said of no lines
-pub between-said : (kept : List Kept) (s : State) (n : ℕ) (image : List ℕ)
+pub between-said : (kept : List Kept) (s : SessionState) (n : ℕ) (image : List ℕ)
     → FoundBetween kept s n [] [] (Some []) image (120 ∷ []) → ⊥
 between-said kept s n image is =
     let none : is.bytes ≡ 0 = omega (arith, is.part) in
@@ -51,13 +51,13 @@ between-said kept s n image is =
     omega (arith, size ∙ cut)
 
 -- the replies of the first lines are found whole
-pub between-whole : (kept : List Kept) (s : State) (n : ℕ) (some more : List (List ℕ)) (said : Option (List ℕ))
+pub between-whole : (kept : List Kept) (s : SessionState) (n : ℕ) (some more : List (List ℕ)) (said : Option (List ℕ))
     (image found : List ℕ) (is : FoundBetween kept s n some more said image found)
     → length (replies_to s n some) ≤ is.bytes
 between-whole kept s n some more said image found is = is.whole
 
 -- and the disk is never found cut
-pub between-cut : (kept : List Kept) (s : State) (n : ℕ) (some more : List (List ℕ)) (said : Option (List ℕ))
+pub between-cut : (kept : List Kept) (s : SessionState) (n : ℕ) (some more : List (List ℕ)) (said : Option (List ℕ))
     (found : List ℕ) → FoundBetween kept s n some more said [] found → ⊥
 between-cut kept s n some more said found is =
     elim is.holds as (λ _. ⊥) [
@@ -67,13 +67,13 @@ between-cut kept s n some more said found is =
 
 -- ---- at some line
 
-pub at-cut : (kept : List Kept) (s : State) (n : ℕ) (lines : List (List ℕ)) (said : Option (List ℕ)) (found : List ℕ)
+pub at-cut : (kept : List Kept) (s : SessionState) (n : ℕ) (lines : List (List ℕ)) (said : Option (List ℕ)) (found : List ℕ)
     → FoundAt kept s n lines said [] found → ⊥
 at-cut kept s n lines said found is =
     between-cut kept s n (take is.many lines) (take (is.many + 1) lines) said found is.between
 
 -- no line is answered that is none of them
-pub at-said : (kept : List Kept) (s : State) (n : ℕ) (image : List ℕ)
+pub at-said : (kept : List Kept) (s : SessionState) (n : ℕ) (image : List ℕ)
     → FoundAt kept s n [] (Some []) image (120 ∷ []) → ⊥
 at-said kept s n image is =
     let none : is.many ≡ 0 = omega (arith, is.within) in
@@ -88,7 +88,7 @@ passes-within before now past since Among image said passes left = passes.within
 
 module _ {X : Type 0} (T : Ghosts X) (old new : X) where
   -- what a stop leaves since the call began is found at some line
-  pub finds-lines : (at : ℕ) (s : State) (n : ℕ) (lines : List (List ℕ)) (disk image said : List ℕ) (kept : List Kept)
+  pub finds-lines : (at : ℕ) (s : SessionState) (n : ℕ) (lines : List (List ℕ)) (disk image said : List ℕ) (kept : List Kept)
       → T.disk old ≡ Some disk → IsWellMade disk at (durable s.held) kept → FindsLines T at s n lines old new
       → T.left_since new (T.moment old) image said → FoundAt kept s n lines (T.said old) image said
   finds-lines at s n lines disk image said kept told made finds left =
@@ -98,7 +98,7 @@ module _ {X : Type 0} (T : Ghosts X) (old new : X) where
       let here : IfSome (Some disk) P = subst (λ (o : Option (List ℕ)). IfSome o P) told finds in
       (here kept made).within image said left
 
-  pub finds-all : (s : State) (at : ℕ) (bytes : List ℕ) → FindsAll T s (Some at) (Some bytes) old new
+  pub finds-all : (s : SessionState) (at : ℕ) (bytes : List ℕ) → FindsAll T s (Some at) (Some bytes) old new
       → FindsLines T at s 1 (lines_of bytes) old new
   finds-all s at bytes finds = finds
 
@@ -112,7 +112,7 @@ module _ {X : Type 0} (T : Ghosts X) (old new : X) where
   -- ---- behind all lines
 
   -- no write is pending
-  pub stands-synced : (s : State) (at : ℕ) (bytes disk image : List ℕ) → T.disk new ≡ Some disk
+  pub stands-synced : (s : SessionState) (at : ℕ) (bytes disk image : List ℕ) → T.disk new ≡ Some disk
       → StandsBehind T s (Some at) (Some bytes) old new → T.may_leave new image → image ≡ disk
   stands-synced s at bytes disk image told (next, goes) left =
       goes-synced T s.held (after_lines s (lines_of bytes)).held at next old new disk image told goes left

@@ -18,7 +18,7 @@ use Rattle.sz_catalogue.specs.Holdings.{Holdings}
 use Rattle.sz_recover.specs.Growing.{durable}
 use Rattle.sz_recover.specs.Logs.{Kept, IsWellMade}
 use Rattle.sz_recover.specs.Soundness.{AreSoundKept}
-use Rattle.sz_commands.specs.States.{State}
+use Rattle.sz_commands.specs.States.{SessionState}
 use Rattle.sz_commands.specs.Transcript.{replies_to, after_lines}
 use Rattle.sz_feed.specs.Moments.{Moment, cut_after, Alike, AreAlike}
 use Rattle.sz_commands.specs.Lines.{last_line, lines_of}
@@ -90,7 +90,7 @@ goes-said {X} T c d at next bytes a b x one says =
 -- ---- what a stop finds
 
 -- between lines and themselves is between them and more
-between-more : (kept : List Kept) (s : State) (n : ℕ) (some more : List (List ℕ)) (a : Option (List ℕ))
+between-more : (kept : List Kept) (s : SessionState) (n : ℕ) (some more : List (List ℕ)) (a : Option (List ℕ))
     (image found : List ℕ) → FoundBetween kept s n some some a image found
     → FoundBetween kept s n some (some ++ more) a image found
 between-more kept s n some more a image found f =
@@ -108,7 +108,7 @@ between-more kept s n some more a image found f =
     }
 
 -- and behind other lines, whose replies were said whole
-between-behind : (kept : List Kept) (s : State) (n : ℕ) (first some more : List (List ℕ)) (a b : Option (List ℕ))
+between-behind : (kept : List Kept) (s : SessionState) (n : ℕ) (first some more : List (List ℕ)) (a b : Option (List ℕ))
     (mid image found : List ℕ) (next : ℕ) (one : Grown s.held kept mid next (after_lines s first).held)
     → Says a b (replies_to s n first)
     → FoundBetween (kept ++ one.more) (after_lines s first) (n + length first) some more b image found
@@ -123,7 +123,7 @@ between-behind kept s n first some more a b mid image found next one says f =
     let P : List ℕ → Type 0 = λ ys. Says a (Some found) ys in
     let same : told ++ take f.bytes further ≡ take (length told + f.bytes) (replies_to s n (first ++ more)) =
     sym (ap (take (length told + f.bytes)) most ∙ take-append-add told further f.bytes) in
-    let L : List (List ℕ) → State → Type 0 = λ ls x. IsLeft s.held kept image x.held in
+    let L : List (List ℕ) → SessionState → Type 0 = λ ls x. IsLeft s.held kept image x.held in
     let here : (ls : List (List ℕ)) → IsLeft z.held (kept ++ one.more) image (after_lines z ls).held
     → IsLeft s.held kept image (after_lines s (first ++ ls)).held =
     λ ls left. subst (L ls) (sym (after_lines-append s first ls))
@@ -142,17 +142,17 @@ between-behind kept s n first some more a b mid image found next one says f =
     }
 
 -- between lines that tell and leave the same
-between-alike : (kept : List Kept) (s z : State) (n k : ℕ) (some more some' more' : List (List ℕ)) (a : Option (List ℕ))
+between-alike : (kept : List Kept) (s z : SessionState) (n k : ℕ) (some more some' more' : List (List ℕ)) (a : Option (List ℕ))
     (image found : List ℕ) → s ≡ z → replies_to s n some ≡ replies_to z k some' → replies_to s n more
     ≡ replies_to z k more'
     → after_lines s some ≡ after_lines z some' → after_lines s more ≡ after_lines z more'
     → FoundBetween kept s n some more a image found → FoundBetween kept z k some' more' a image found
 between-alike kept s z n k some more some' more' a image found held least most here there f =
     let P : List ℕ → Type 0 = λ ys. Says a (Some found) ys in
-    let L : (x y : State) → x ≡ y → IsLeft s.held kept image x.held → IsLeft z.held kept image y.held =
+    let L : (x y : SessionState) → x ≡ y → IsLeft s.held kept image x.held → IsLeft z.held kept image y.held =
     λ x y same left.
-    subst (λ (w : State). IsLeft w.held kept image y.held) held
-    (subst (λ (w : State). IsLeft s.held kept image w.held) same left) in
+    subst (λ (w : SessionState). IsLeft w.held kept image y.held) held
+    (subst (λ (w : SessionState). IsLeft s.held kept image w.held) same left) in
     record {
       bytes = f.bytes;
       whole = omega (arith, f.whole, ap length least);
@@ -166,7 +166,7 @@ between-alike kept s z n k some more some' more' a image found held least most h
 -- ---- of all lines
 
 -- what is found while some lines are answered is found while more are
-found-longer : (kept : List Kept) (s : State) (n : ℕ) (lines more : List (List ℕ)) (a : Option (List ℕ))
+found-longer : (kept : List Kept) (s : SessionState) (n : ℕ) (lines more : List (List ℕ)) (a : Option (List ℕ))
     (image found : List ℕ) → FoundAt kept s n lines a image found → FoundAt kept s n (lines ++ more) a image found
 found-longer kept s n lines more a image found f =
     let P : List (List ℕ) → List (List ℕ) → Type 0 = λ xs ys. FoundBetween kept s n xs ys a image found in
@@ -194,7 +194,7 @@ found-longer kept s n lines more a image found f =
     }
 
 -- and so is what is found while others are answered behind them
-found-behind : (kept : List Kept) (s : State) (n : ℕ) (first lines : List (List ℕ)) (a b : Option (List ℕ))
+found-behind : (kept : List Kept) (s : SessionState) (n : ℕ) (first lines : List (List ℕ)) (a b : Option (List ℕ))
     (mid image found : List ℕ) (next : ℕ) (one : Grown s.held kept mid next (after_lines s first).held)
     → Says a b (replies_to s n first)
     → FoundAt (kept ++ one.more) (after_lines s first) (n + length first) lines b image found
@@ -228,7 +228,7 @@ found-alike kept m k bytes a image found h f = record {
 }
 
 -- and so do last lines that are alike
-found-last : (kept : List Kept) (s : State) (n : ℕ) (x y : List ℕ) (a : Option (List ℕ)) (image found : List ℕ)
+found-last : (kept : List Kept) (s : SessionState) (n : ℕ) (x y : List ℕ) (a : Option (List ℕ)) (image found : List ℕ)
     → Alike x y → FoundAt kept s n (last_line x) a image found → FoundAt kept s n (last_line y) a image found
 found-last kept s n x y a image found h f =
     let here = last-alike f.many s n x y h in
@@ -240,7 +240,7 @@ found-last kept s n x y a image found h f =
     }
 
 -- no line was answered
-found-none : (kept : List Kept) (s : State) (n : ℕ) (lines : List (List ℕ)) (a : Option (List ℕ)) (image found : List ℕ)
+found-none : (kept : List Kept) (s : SessionState) (n : ℕ) (lines : List (List ℕ)) (a : Option (List ℕ)) (image found : List ℕ)
     (at : ℕ) → Said a found → IsWellMade image at (durable s.held) kept → FoundAt kept s n lines a image found
 found-none kept s n lines a image found at said made = record {
   many = 0;
@@ -258,7 +258,7 @@ found-none kept s n lines a image found at said made = record {
   quiet (Some all) is = ap (λ (xs : List ℕ). Some xs) (is ∙ sym (append-nil all))
 
 -- a line was taken or not, with nothing said
-found-taken : (kept : List Kept) (s : State) (n : ℕ) (line : List ℕ) (a : Option (List ℕ)) (image found : List ℕ)
+found-taken : (kept : List Kept) (s : SessionState) (n : ℕ) (line : List ℕ) (a : Option (List ℕ)) (image found : List ℕ)
     → Said a found → IsLeft s.held kept image s.held ⊎ IsLeft s.held kept image (after_lines s (line ∷ [])).held
     → FoundAt kept s n (line ∷ []) a image found
 found-taken kept s n line a image found said left = record {
@@ -277,7 +277,7 @@ found-taken kept s n line a image found said left = record {
   quiet (Some all) is = ap (λ (xs : List ℕ). Some xs) (is ∙ sym (append-nil all))
 
 -- its reply was said, or a part of it
-found-said : (kept : List Kept) (s : State) (n : ℕ) (line : List ℕ) (a : Option (List ℕ)) (image found : List ℕ)
+found-said : (kept : List Kept) (s : SessionState) (n : ℕ) (line : List ℕ) (a : Option (List ℕ)) (image found : List ℕ)
     → SaysPart a (Some found) (replies_to s n (line ∷ []))
     → IsLeft s.held kept image (after_lines s (line ∷ [])).held → FoundAt kept s n (line ∷ []) a image found
 found-said kept s n line a image found part left =
@@ -360,11 +360,11 @@ among-apart {n} {m} {past} {since} {A} {B} {step} {F} C both p = record {
 }
 
 -- what is found of a disk, while lines are answered
-abbrev FindsOn : Option (List ℕ) → ℕ → State → ℕ → List (List ℕ) → Option (List ℕ) → ℕ → ℕ → Since → Since → Type 0
+abbrev FindsOn : Option (List ℕ) → ℕ → SessionState → ℕ → List (List ℕ) → Option (List ℕ) → ℕ → ℕ → Since → Since → Type 0
 FindsOn o at s n lines a before now past since = IfSome o (λ disk. (kept : List Kept)
     → IsWellMade disk at (durable s.held) kept → PassesAmong before now past since (FoundAt kept s n lines a))
 
-finds-two : (o p : Option (List ℕ)) (before mid now : ℕ) (past half since : Since) (at next : ℕ) (s : State) (n : ℕ)
+finds-two : (o p : Option (List ℕ)) (before mid now : ℕ) (past half since : Since) (at next : ℕ) (s : SessionState) (n : ℕ)
     (first lines : List (List ℕ)) (a b : Option (List ℕ)) → Grows o at s.held p next (after_lines s first).held
     → Says a b (replies_to s n first) → FindsOn o at s n first a before mid past half
     → FindsOn p next (after_lines s first) (n + length first) lines b mid now half since
@@ -384,7 +384,7 @@ finds-two (Some disk) p before mid now past half since at next s n first lines a
     (one kept made) (more (kept ++ grown.more) grown.made)
 
 -- lines, and others behind them
-pub finds-then : {X : Type 0} (T : Ghosts X) (at next : ℕ) (s : State) (n : ℕ) (first lines : List (List ℕ)) (a b c : X)
+pub finds-then : {X : Type 0} (T : Ghosts X) (at next : ℕ) (s : SessionState) (n : ℕ) (first lines : List (List ℕ)) (a b c : X)
     → GoesOn T s.held at (after_lines s first).held next a b → Says (T.said a) (T.said b) (replies_to s n first)
     → FindsLines T at s n first a b → FindsLines T next (after_lines s first) (n + length first) lines b c
     → FindsLines T at s n (first ++ lines) a c
@@ -392,7 +392,7 @@ finds-then {X} T at next s n first lines a b c goes says one two =
     finds-two (T.disk a) (T.disk b) _ _ _ _ _ _ at next s n first lines (T.said a) (T.said b) goes.grows says one two
 
 -- further lines, which were not answered
-pub finds-longer : {X : Type 0} (T : Ghosts X) (at : ℕ) (s : State) (n : ℕ) (lines more : List (List ℕ)) (a b : X)
+pub finds-longer : {X : Type 0} (T : Ghosts X) (at : ℕ) (s : SessionState) (n : ℕ) (lines more : List (List ℕ)) (a b : X)
     → FindsLines T at s n lines a b → FindsLines T at s n (lines ++ more) a b
 finds-longer {X} T at s n lines more a b one =
     some-more (T.disk a) _ _
@@ -407,13 +407,13 @@ pub finds-alike : {X : Type 0} (T : Ghosts X) (at : ℕ) (m k : Moment) (bytes :
 finds-alike {X} T at m k bytes a b h one =
     some-more (T.disk a) _ _
     (λ disk finds kept made.
-    let own = subst (λ (s : State). IsWellMade disk at (durable s.held) kept) (sym h.held) made in
+    let own = subst (λ (s : SessionState). IsWellMade disk at (durable s.held) kept) (sym h.held) made in
     among-more (FoundAt kept m.held m.number (cut_after m bytes).whole (T.said a))
     (FoundAt kept k.held k.number (cut_after k bytes).whole (T.said a))
     (λ image found f. found-alike kept m k bytes (T.said a) image found h f) (finds kept own)) one
 
 -- and last lines
-pub finds-last : {X : Type 0} (T : Ghosts X) (at : ℕ) (s : State) (n : ℕ) (x y : List ℕ) (a b : X) → Alike x y
+pub finds-last : {X : Type 0} (T : Ghosts X) (at : ℕ) (s : SessionState) (n : ℕ) (x y : List ℕ) (a b : X) → Alike x y
     → FindsLines T at s n (last_line x) a b → FindsLines T at s n (last_line y) a b
 finds-last {X} T at s n x y a b h one =
     some-more (T.disk a) _ _
@@ -423,7 +423,7 @@ finds-last {X} T at s n x y a b h one =
 
 -- ---- one line
 
-still-on : (o a : Option (List ℕ)) (at : ℕ) (s : State) (n : ℕ) (lines : List (List ℕ)) (k : ℕ) (since : Since)
+still-on : (o a : Option (List ℕ)) (at : ℕ) (s : SessionState) (n : ℕ) (lines : List (List ℕ)) (k : ℕ) (since : Since)
     (A : List ℕ → Type 0) → Only o A
     → ((image found : List ℕ) → Told o (since k image found → A image × Said a found))
     → ((t : ℕ) (image found : List ℕ) → Told o (t ≤ k → A image → Said a found → since t image found))
@@ -441,7 +441,7 @@ still-on (Some disk) a at s n lines k since A synced only counts = λ kept made.
 }
 
 -- where no call is made no line is answered
-pub finds-still : {X : Type 0} (T : Ghosts X) (at : ℕ) (s : State) (n : ℕ) (lines : List (List ℕ)) (a : X)
+pub finds-still : {X : Type 0} (T : Ghosts X) (at : ℕ) (s : SessionState) (n : ℕ) (lines : List (List ℕ)) (a : X)
     → IsLogOf T s.held at a
     → ((image found : List ℕ) → Told (T.disk a)
     (T.left_since a (T.moment a) image found → T.may_leave a image × Said (T.said a) found))
@@ -451,7 +451,7 @@ pub finds-still : {X : Type 0} (T : Ghosts X) (at : ℕ) (s : State) (n : ℕ) (
 finds-still {X} T at s n lines a log only counts =
     still-on (T.disk a) (T.said a) at s n lines (T.moment a) (T.left_since a) (T.may_leave a) log.synced only counts
 
-taken-on : (o a : Option (List ℕ)) (at : ℕ) (s : State) (d : Holdings) (n : ℕ) (line : List ℕ) (before now : ℕ)
+taken-on : (o a : Option (List ℕ)) (at : ℕ) (s : SessionState) (d : Holdings) (n : ℕ) (line : List ℕ) (before now : ℕ)
     (past since : Since) (A B : List ℕ → Type 0) → d ≡ (after_lines s (line ∷ [])).held → Only o A
     → Told o (Passes before now past since A B (LeavesLog at s.held d) (Said a))
     → FindsOn o at s n (line ∷ []) a before now past since
@@ -464,13 +464,13 @@ taken-on (Some disk) a at s d n line before now past since A B held synced passe
     (leaves kept (subst (λ (i : List ℕ). IsWellMade i at (durable s.held) kept) (sym (synced old was)) made)))) passes
 
 -- a line is taken
-pub finds-taken : {X : Type 0} (T : Ghosts X) (at : ℕ) (s : State) (d : Holdings) (n : ℕ) (line : List ℕ) (a b : X)
+pub finds-taken : {X : Type 0} (T : Ghosts X) (at : ℕ) (s : SessionState) (d : Holdings) (n : ℕ) (line : List ℕ) (a b : X)
     → d ≡ (after_lines s (line ∷ [])).held → IsLogOf T s.held at a → StopsInLog T s.held (Some at) d a b
     → FindsLines T at s n (line ∷ []) a b
 finds-taken {X} T at s d n line a b held log stops =
     taken-on (T.disk a) (T.said a) at s d n line _ _ _ _ _ _ held log.synced stops
 
-said-on : (o p a b : Option (List ℕ)) (at next : ℕ) (s : State) (d : Holdings) (n : ℕ) (line bytes : List ℕ)
+said-on : (o p a b : Option (List ℕ)) (at next : ℕ) (s : SessionState) (d : Holdings) (n : ℕ) (line bytes : List ℕ)
     (before mid now : ℕ) (past half since : Since) (B C : List ℕ → Type 0) → d ≡ (after_lines s (line ∷ [])).held
     → bytes ≡ replies_to s n (line ∷ []) → b ≡ a → Grows o at s.held p next d → Only p B
     → Told p (Passes mid now half since B C Same (λ found. SaysPart b (Some found) bytes))
@@ -496,7 +496,7 @@ said-on (Some disk) p a b at next s d n line bytes before mid now past half sinc
     passes)
 
 -- and then its reply is said
-pub finds-said : {X : Type 0} (T : Ghosts X) (at next : ℕ) (s : State) (d : Holdings) (n : ℕ) (line bytes : List ℕ)
+pub finds-said : {X : Type 0} (T : Ghosts X) (at next : ℕ) (s : SessionState) (d : Holdings) (n : ℕ) (line bytes : List ℕ)
     (a b c : X) → d ≡ (after_lines s (line ∷ [])).held → bytes ≡ replies_to s n (line ∷ []) → T.said b ≡ T.said a
     → GoesOn T s.held at d next a b → OnlySays T bytes b c → FindsLines T at s n (line ∷ []) a b
     → FindsLines T at s n (line ∷ []) a c
@@ -506,7 +506,7 @@ finds-said {X} T at next s d n line bytes a b c held told same goes says one =
 
 -- ---- what came before
 
-before-on : (o a : Option (List ℕ)) (s : State) (at n : ℕ) (before now : ℕ) (past since : Since)
+before-on : (o a : Option (List ℕ)) (s : SessionState) (at n : ℕ) (before now : ℕ) (past since : Since)
     (A B : List ℕ → Type 0) → Only o A → Told o (Passes before now past since A B Same (Said a))
     → FindsOn o at s n [] a before now past since
 before-on None a s at n before now past since A B only passes = tt
@@ -517,7 +517,7 @@ before-on (Some disk) a s at n before now past since A B only passes = λ kept m
     (subst (λ (i : List ℕ). IsWellMade i at (durable s.held) kept) (sym (same ∙ only old was)) made)) passes
 
 -- calls that change no image and say nothing, before lines are answered
-pub finds-before : {X : Type 0} (T : Ghosts X) (s : State) (at : ℕ) (left : Option (List ℕ)) (a b x : X)
+pub finds-before : {X : Type 0} (T : Ghosts X) (s : SessionState) (at : ℕ) (left : Option (List ℕ)) (a b x : X)
     → T.disk b ≡ T.disk a → T.said b ≡ T.said a → StopsFinding T Same (Said (T.said a)) a b
     → Only (T.disk a) (T.may_leave a) → IsLogOf T s.held at b → FindsAll T s (Some at) left b x
     → FindsAll T s (Some at) left a x

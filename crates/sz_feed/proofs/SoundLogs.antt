@@ -16,7 +16,7 @@ use Rattle.sz_cells.specs.Extent.{Extent}
 use Rattle.sz_spec.specs.declared.modes.Dir.{Dir}
 use Rattle.sz_spec.specs.FlowShapes.{output_shapes}
 use Rattle.sz_spec.specs.Paths.{Step, is_joined}
-use Rattle.sz_log.specs.Log.{Entry}
+use Rattle.sz_log.specs.Log.{LogGroup}
 use Rattle.sz_store.specs.Kept.{NodeLineage}
 use Rattle.sz_script.specs.Reading.{reading}
 use Rattle.sz_script.proofs.LawsLines.{are_right}
@@ -35,15 +35,15 @@ use Rattle.sz_catalogue.specs.Changes as changes
 use Rattle.sz_catalogue.specs.Changes.{changes_no_version, with_version, with_await}
 use Rattle.sz_catalogue.specs.Responses.{Response, cells, reply_line}
 use Rattle.sz_catalogue.proofs.Bases.{bases-length}
-use Rattle.sz_recover.specs.Bodies.{VersionBody}
-use Rattle.sz_recover.specs.Fitting.{Fit, body_of}
-use Rattle.sz_recover.specs.Lawful.{IsLawful, version_said}
+use Rattle.sz_bodies.specs.Bodies.{VersionBody}
+use Rattle.sz_bodies.specs.Fitting.{Fit, body_of}
+use Rattle.sz_bodies.specs.Lawful.{IsLawful, version_said}
 use Rattle.sz_recover.specs.Logs.{Kept, Acts, ActEach, IsWellMade, is_of_kind, held_by}
 use Rattle.sz_recover.specs.Opened.{IsEntryOf}
 use Rattle.sz_recover.specs.Soundness.{AreSoundNodes, IsSoundKept, AreSoundKept}
 use Rattle.sz_recover.proofs.Entries.{well-made}
 use Rattle.sz_commands.specs.Lines.{lines_of, is_blank}
-use Rattle.sz_commands.specs.States.{State, logged_of, cells_by, accepted, after_judging, after_reading, after_line}
+use Rattle.sz_commands.specs.States.{SessionState, logged_of, cells_by, accepted, after_judging, after_reading, after_line}
 use Rattle.sz_commands.specs.Transcript.{replies_to}
 use Rattle.sz_feed.specs.Plain.{plain_replies}
 use Rattle.sz_versions.specs.Recalled.{HasEachStore}
@@ -76,12 +76,8 @@ line-kind kind (order.Csv name array) is = refl
 line-kind kind (order.Layers name array) is = refl
 line-kind kind (order.Flow name flow) is = refl
 line-kind kind (order.Strategy name node list) is = refl
-line-kind kind (order.Start name base) is = cc
 line-kind kind (order.Plan name base units back forward) is = refl
-line-kind kind (order.Await n) is = cc
-line-kind kind (order.Ask n dir path named) is = cc
-line-kind kind (order.Explain n dir path named) is = cc
-line-kind kind (order.Show n node) is = cc
+line-kind kind _ is = cc
 
 -- behind a line that is taken all is sound
 line-sound : (c d : Holdings) (kind : ℕ) (line : List ℕ) (r : Result Command Refusal) → reading line ≡ r → AreSound c
@@ -125,7 +121,7 @@ body-sound c b bytes sound is =
     }
 
 -- behind a group that acts all is sound
-acts-sound : (c d : Holdings) (e : Entry) (kept : List Kept) → AreSound c → Acts c e d kept → AreSound d
+acts-sound : (c d : Holdings) (e : LogGroup) (kept : List Kept) → AreSound c → Acts c e d kept → AreSound d
 acts-sound c d e kept sound (inl line) = line-sound c d e.kind e.body (reading e.body) refl sound line.held
 acts-sound c d e kept sound (inr v) =
     let b : VersionBody = body_of v.one.number v.version v.one.stores in
@@ -137,7 +133,7 @@ acts-sound c d e kept sound (inr v) =
     subst AreSound (sym v.held) added
 
 -- and behind groups one after another
-each-sound : (c d : Holdings) (es : List Entry) (kept : List Kept) → AreSound c → ActEach c es d kept → AreSound d
+each-sound : (c d : Holdings) (es : List LogGroup) (kept : List Kept) → AreSound c → ActEach c es d kept → AreSound d
 each-sound c d [] kept sound all = subst AreSound (sym all.0) sound
 each-sound c d (e ∷ es) kept sound all =
     each-sound all.0 d es all.2 (acts-sound c all.0 e all.1 sound all.3) all.4
@@ -214,17 +210,9 @@ await-stays c m n held awaited = by (n == m) refl where
 
 -- and each command leaves them
 command-stays : (c : Holdings) (command : Command) → AwaitedStay c (changes.accepted c command).0
-command-stays c (order.Array name array) = λ m held awaited. refl
-command-stays c (order.Csv name array) = λ m held awaited. refl
-command-stays c (order.Layers name array) = λ m held awaited. refl
-command-stays c (order.Flow name flow) = λ m held awaited. refl
-command-stays c (order.Strategy name node list) = λ m held awaited. refl
 command-stays c (order.Start name base) = start-stays c (version_started c name base)
-command-stays c (order.Plan name base units back forward) = λ m held awaited. refl
 command-stays c (order.Await n) = await-stays c n
-command-stays c (order.Ask n dir path named) = λ m held awaited. refl
-command-stays c (order.Explain n dir path named) = λ m held awaited. refl
-command-stays c (order.Show n node) = λ m held awaited. refl
+command-stays c _ = λ m held awaited. refl
 
 -- ---- an ask
 
@@ -267,30 +255,21 @@ ask-joined c n dir path named free =
 -- ---- lines
 
 -- a catalogue and a reply, as a session of a log has them
-abbrev beside : List Kept → Holdings × Response → State × Response
+abbrev beside : List Kept → Holdings × Response → SessionState × Response
 beside kept p = (state_of_log p.0 kept, p.1)
 
 accepted-plain : (c : Holdings) (kept : List Kept) (command : Command) → All (IsAnswering c) kept
     → judged c command ≡ None
     → accepted (state_of_log c kept) command ≡ beside kept (changes.accepted c command)
-accepted-plain c kept (order.Array name array) all free = refl
-accepted-plain c kept (order.Csv name array) all free = refl
-accepted-plain c kept (order.Layers name array) all free = refl
-accepted-plain c kept (order.Flow name flow) all free = refl
-accepted-plain c kept (order.Strategy name node list) all free = refl
-accepted-plain c kept (order.Start name base) all free = refl
-accepted-plain c kept (order.Plan name base units back forward) all free = refl
-accepted-plain c kept (order.Await n) all free = refl
 accepted-plain c kept (order.Ask n dir path named) all free =
     ap (λ (found : Cells). (state_of_log c kept, cells found))
     (cells-plain (version_of c n) (logged_of (state_of_log c kept) n) dir path named (found-answers c n kept all)
     (ask-joined c n dir path named free))
-accepted-plain c kept (order.Explain n dir path named) all free = refl
-accepted-plain c kept (order.Show n node) all free = refl
+accepted-plain c kept _ all free = refl
 
 -- What is so of what a line did, by the session and by the catalogue: it is the same, and each entry of the log is
 -- still of a version that is answered by its stores.
-record IsPlainly (kept : List Kept) (told : State × Response) (plain : Holdings × Response) : Type 0 where
+record IsPlainly (kept : List Kept) (told : SessionState × Response) (plain : Holdings × Response) : Type 0 where
   same : told ≡ beside kept plain
   all : All (IsAnswering plain.0) kept
 
@@ -321,7 +300,7 @@ replies-plain c kept n (line ∷ lines) all = elim (cases_Bool (is_blank line)) 
   | inl blank ↦ rw blank (replies-plain c kept (n + 1) lines all)
   | inr other ↦
       let one = line-plain c kept line all in
-      rw other (ap (λ (q : State × Response). reply_line n q.1 ++ replies_to q.0 (n + 1) lines) one.same
+      rw other (ap (λ (q : SessionState × Response). reply_line n q.1 ++ replies_to q.0 (n + 1) lines) one.same
       ∙ ap (λ (ys : List ℕ). reply_line n (changes.after_line c line).1 ++ ys)
       (replies-plain (changes.after_line c line).0 kept (n + 1) lines one.all))
 ]

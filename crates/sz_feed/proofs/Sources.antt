@@ -10,7 +10,7 @@ use Rattle.sz_outside.specs.Disk.{Told, Said}
 use Rattle.sz_outside.specs.declared.stations.Station.{Ghosts}
 use Rattle.sz_catalogue.specs.Holdings.{Holdings}
 use Rattle.sz_commands.specs.Lines.{Cut, cut, last_line, lines_of}
-use Rattle.sz_commands.specs.States.{State}
+use Rattle.sz_commands.specs.States.{SessionState}
 use Rattle.sz_commands.specs.Transcript.{after_lines}
 use Rattle.sz_feed.specs.Moments.{Moment, moment_before, cut_after, moment_after, Alike, AreAlike}
 use Rattle.sz_feed.specs.Serving.{Advances, HasAnswered, Answered, AreAll}
@@ -42,7 +42,7 @@ rest-still {X} T m all total a log only counts =
     some-all all _ (λ bytes. in-still T m (drop total bytes) a log only counts)
 
 -- where no read was made
-pub all-still : {X : Type 0} (T : Ghosts X) (z : State) (at : ℕ) (all : Option (List ℕ)) (a : X) → IsLogOf T z.held at a
+pub all-still : {X : Type 0} (T : Ghosts X) (z : SessionState) (at : ℕ) (all : Option (List ℕ)) (a : X) → IsLogOf T z.held at a
     → ((image found : List ℕ) → Told (T.disk a)
     (T.left_since a (T.moment a) image found → T.may_leave a image × Said (T.said a) found))
     → ((t : ℕ) (image found : List ℕ) → Told (T.disk a)
@@ -52,7 +52,7 @@ all-still {X} T z at all a log only counts =
     some-all all _ (λ bytes. finds-still T at z 1 (lines_of bytes) a log only counts)
 
 -- the bytes that a read gave were taken in
-pub next-taken : {X : Type 0} (T : Ghosts X) (z : State) (all left next said : Option (List ℕ)) (m : Moment)
+pub next-taken : {X : Type 0} (T : Ghosts X) (z : SessionState) (all left next said : Option (List ℕ)) (m : Moment)
     (total count : ℕ) (buffer : List ℕ) (a b : X) → Answered z all left said (T.said a) m total
     → Gives left next buffer count → FindsIn T m (take count buffer) a b → FindsNext T m all total count a b
 next-taken {X} T z None left next said m total count buffer a b so_far gives one = tt
@@ -78,13 +78,13 @@ rest-none {X} T m all total a b none = some-all all _ (λ bytes. in-none T m (dr
 -- ---- from the opening on
 
 -- what is held as a session begins, and where its log ends
-abbrev pub opened : State → Option ℕ → Moment
+abbrev pub opened : SessionState → Option ℕ → Moment
 opened z e = record { held = z; pending = []; number = 1; end = e }
 
-abbrev pub FindsRead : {X : Type 0} → Ghosts X → State → Option ℕ → Option (List ℕ) → ℕ → X → X → Type 0
+abbrev pub FindsRead : {X : Type 0} → Ghosts X → SessionState → Option ℕ → Option (List ℕ) → ℕ → X → X → Type 0
 FindsRead T z e all total a b = IfSome all (λ bytes. FindsIn T (opened z e) (take total bytes) a b)
 
-opened-advances : (z : State) (e : Option ℕ) (bytes : List ℕ) (left a b : Option (List ℕ)) (m : Moment) (count : ℕ)
+opened-advances : (z : SessionState) (e : Option ℕ) (bytes : List ℕ) (left a b : Option (List ℕ)) (m : Moment) (count : ℕ)
     → HasAnswered z bytes left a b m count → Advances a b (opened z e) m (take count bytes)
 opened-advances z e bytes left a b m count h =
     let one = so_far-advances z bytes left a b m count h in
@@ -94,7 +94,7 @@ opened-advances z e bytes left a b m count h =
     }
 
 -- nothing was read of a session that was opened
-pub answered-opened : (z : State) (e : Option ℕ) (left said : Option (List ℕ))
+pub answered-opened : (z : SessionState) (e : Option ℕ) (left said : Option (List ℕ))
     → Answered z left left said said (opened z e) 0
 answered-opened z e None said = tt
 answered-opened z e (Some bytes) said = record {
@@ -105,7 +105,7 @@ answered-opened z e (Some bytes) said = record {
 }
 
 -- before the first read
-pub read-start : {X : Type 0} (T : Ghosts X) (z : State) (all left said : Option (List ℕ)) (m : Moment) (a : X)
+pub read-start : {X : Type 0} (T : Ghosts X) (z : SessionState) (all left said : Option (List ℕ)) (m : Moment) (a : X)
     → Answered z all left said (T.said a) m 0 → IsBeside T m a
     → ((image found : List ℕ) → Told (T.disk a)
     (T.left_since a (T.moment a) image found → T.may_leave a image × Said (T.said a) found))
@@ -117,13 +117,13 @@ read-start {X} T z (Some bytes) left said m a so_far log only counts =
     in-still T (opened z m.end) [] a (is-moved T m (opened z m.end) a (sym so_far.alike.held) refl log) only counts
 
 -- the log went on from the opening
-from-opened : {X : Type 0} (T : Ghosts X) (z : State) (bytes : List ℕ) (left said b : Option (List ℕ)) (l m : Moment)
+from-opened : {X : Type 0} (T : Ghosts X) (z : SessionState) (bytes : List ℕ) (left said b : Option (List ℕ)) (l m : Moment)
     (a x : X) → HasAnswered z bytes left said b l 0 → StaysBeside T l m a x → StaysBeside T (opened z l.end) m a x
 from-opened {X} T z bytes left said b l m a x so_far goes =
     stays-from T (opened z l.end) l m a x so_far.alike.held refl goes
 
 -- a turn more
-pub read-more : {X : Type 0} (T : Ghosts X) (z : State) (all first left said : Option (List ℕ)) (l m : Moment)
+pub read-more : {X : Type 0} (T : Ghosts X) (z : SessionState) (all first left said : Option (List ℕ)) (l m : Moment)
     (total count : ℕ) (a b x : X) → said ≡ T.said a → Answered z all first said (T.said a) l 0
     → Answered z all left said (T.said b) m total → StaysBeside T l m a b → FindsRead T z l.end all total a b
     → FindsNext T m all total count b x → FindsRead T z l.end all (total + count) a x
@@ -137,7 +137,7 @@ read-more {X} T z (Some bytes) first left said l m total count a b x same start 
     (from-opened T z bytes first said (T.said a) l m a b start goes) two)
 
 -- all bytes, and lines behind them
-all-lines : {X : Type 0} (T : Ghosts X) (z : State) (e : Option ℕ) (bytes : List ℕ) (a b : X)
+all-lines : {X : Type 0} (T : Ghosts X) (z : SessionState) (e : Option ℕ) (bytes : List ℕ) (a b : X)
     → FindsIn T (opened z e) bytes a b → IfSome e (λ at. FindsLines T at z 1 (lines_of bytes) a b)
 all-lines {X} T z None bytes a b one = tt
 all-lines {X} T z (Some at) bytes a b one =
@@ -147,7 +147,7 @@ all-lines {X} T z (Some at) bytes a b one =
     (subst P (ap (λ (c : Cut). c.whole) (before_cut-nothing (cut bytes))) one))
 
 -- the session stopped in a turn
-pub all-rest : {X : Type 0} (T : Ghosts X) (z : State) (all first left said : Option (List ℕ)) (l m : Moment)
+pub all-rest : {X : Type 0} (T : Ghosts X) (z : SessionState) (all first left said : Option (List ℕ)) (l m : Moment)
     (total : ℕ) (a b x : X) → said ≡ T.said a → Answered z all first said (T.said a) l 0
     → Answered z all left said (T.said b) m total → StaysBeside T l m a b → FindsRead T z l.end all total a b
     → FindsRest T m all total b x → FindsAll T z l.end all a x
@@ -161,7 +161,7 @@ all-rest {X} T z (Some bytes) first left said l m total a b x same start so_far 
     (subst Q same (opened-advances z l.end bytes left said (T.said b) m total so_far))
     (from-opened T z bytes first said (T.said a) l m a b start goes) two))
 
-last-in : {X : Type 0} (T : Ghosts X) (z : State) (e f : Option ℕ) (bytes : List ℕ) (m : Moment) (a b x : X)
+last-in : {X : Type 0} (T : Ghosts X) (z : SessionState) (e f : Option ℕ) (bytes : List ℕ) (m : Moment) (a b x : X)
     → IfSome e (λ at. FindsLines T at z 1 (cut_after (opened z e) bytes).whole a b)
     → Advances (T.said a) (T.said b) (opened z e) m bytes → GoesBeside T z.held e m.held.held f a b
     → IfSome f (λ at. FindsLines T at m.held m.number (last_line m.pending) b x)
@@ -171,10 +171,10 @@ last-in {X} T z (Some at) None bytes m a b x one took goes two = absurd goes
 last-in {X} T z (Some at) (Some next) bytes m a b x one took goes two =
     let k : Moment = moment_after (opened z (Some at)) bytes in
     let P : List (List ℕ) → Type 0 = λ ls. FindsLines T at z 1 ls a x in
-    let Q : State → Type 0 = λ s. GoesOn T z.held at s.held next a b in
+    let Q : SessionState → Type 0 = λ s. GoesOn T z.held at s.held next a b in
     let first : cut_after (opened z (Some at)) bytes ≡ cut bytes = before_cut-nothing (cut bytes) in
     let here : FindsLines T next k.held m.number (last_line m.pending) b x =
-    subst (λ (s : State). FindsLines T next s m.number (last_line m.pending) b x) took.alike.held two in
+    subst (λ (s : SessionState). FindsLines T next s m.number (last_line m.pending) b x) took.alike.held two in
     let there : FindsLines T next k.held k.number (last_line m.pending) b x =
     subst (λ (n : ℕ). FindsLines T next k.held n (last_line m.pending) b x) took.alike.number here in
     subst P (ap (λ (c : Cut). c.whole ++ last_line c.last) first ∙ sym (lines_of-cut bytes))
@@ -183,7 +183,7 @@ last-in {X} T z (Some at) (Some next) bytes m a b x one took goes two =
     (finds-last T next k.held k.number m.pending k.pending b x took.alike.pending there))
 
 -- the source came to its end
-pub all-read : {X : Type 0} (T : Ghosts X) (z : State) (all first left said : Option (List ℕ)) (l m : Moment)
+pub all-read : {X : Type 0} (T : Ghosts X) (z : SessionState) (all first left said : Option (List ℕ)) (l m : Moment)
     (total : ℕ) (a b x : X) → said ≡ T.said a → Answered z all first said (T.said a) l 0
     → Answered z all left said (T.said b) m total → AreAll all total → StaysBeside T l m a b
     → FindsRead T z l.end all total a b → FindsAtEnd T m b x → FindsAll T z l.end all a x
@@ -200,7 +200,7 @@ all-read {X} T z (Some bytes) first left said l m total a b x same start so_far 
 -- ---- the log of all lines
 
 -- last lines that are alike leave the same
-last-left : (s : State) (a b : List ℕ) → Alike a b → after_lines s (last_line a) ≡ after_lines s (last_line b)
+last-left : (s : SessionState) (a b : List ℕ) → Alike a b → after_lines s (last_line a) ≡ after_lines s (last_line b)
 last-left s a b alike =
     ap (after_lines s) (sym (one_last a)) ∙ (last-alike 1 s 1 a b alike).1 ∙ ap (after_lines s) (one_last b) where
       one_last : (xs : List ℕ) → take 1 (last_line xs) ≡ last_line xs
@@ -208,13 +208,13 @@ last-left s a b alike =
       one_last (x ∷ xs) = refl
 
 -- what is held behind all lines of a text is what the last line leaves of what its whole lines left
-held-last : (z : State) (bytes : List ℕ) (m : Moment) → AreAlike m (moment_after (moment_before z) bytes)
+held-last : (z : SessionState) (bytes : List ℕ) (m : Moment) → AreAlike m (moment_after (moment_before z) bytes)
     → after_lines m.held (last_line m.pending) ≡ after_lines z (lines_of bytes)
 held-last z bytes m alike =
     let k : Moment = moment_after (moment_before z) bytes in
     let first : cut_after (moment_before z) bytes ≡ cut bytes = before_cut-nothing (cut bytes) in
     let whole : List (List ℕ) = (cut_after (moment_before z) bytes).whole in
-    ap (λ (s : State). after_lines s (last_line m.pending)) alike.held
+    ap (λ (s : SessionState). after_lines s (last_line m.pending)) alike.held
     ∙ last-left k.held m.pending k.pending alike.pending
     ∙ sym (after_lines-append z whole (last_line k.pending))
     ∙ ap (λ (c : Cut). after_lines z (c.whole ++ last_line c.last)) first
@@ -229,7 +229,7 @@ behind-from {X} T c d h (Some at) (Some next) a x goes same =
 
 -- All bytes were read, and what is held at last is what is held behind the line that had not ended. So the log went on
 -- to what is durable behind all lines.
-pub all-behind : {X : Type 0} (T : Ghosts X) (z : State) (all first left said b q : Option (List ℕ)) (l m n : Moment)
+pub all-behind : {X : Type 0} (T : Ghosts X) (z : SessionState) (all first left said b q : Option (List ℕ)) (l m n : Moment)
     (total : ℕ) (a x : X) → Answered z all first said b l 0 → Answered z all left said q m total → AreAll all total
     → StaysBeside T l n a x → n.held.held ≡ (after_lines m.held (last_line m.pending)).held
     → StandsBehind T z l.end all a x
@@ -239,4 +239,4 @@ all-behind {X} T z (Some bytes) first left said b q l m n total a x start so_far
     let P : List ℕ → Type 0 = λ xs. AreAlike m (moment_after (moment_before z) xs) in
     behind-from T z.held n.held.held (after_lines z (lines_of bytes)).held l.end n.end a x
     (from-opened T z bytes first said b l n a x start goes)
-    (held ∙ ap (λ (s : State). s.held) (held-last z bytes m (subst P whole so_far.alike)))
+    (held ∙ ap (λ (s : SessionState). s.held) (held-last z bytes m (subst P whole so_far.alike)))

@@ -12,7 +12,7 @@ use Rattle.sz_outside.specs.Outside.{Says, SaysPart, Gives, GivesNext, Keeps}
 use Rattle.sz_commands.specs.Lines.{lines_of, Cut, cut, last_line}
 use Rattle.sz_commands.specs.Transcript.{transcript, whole_replies}
 use Rattle.sz_feed.specs.Moments.{Moment, moment_before, cut_after, told_in, moment_after, told_at_end, AreAlike}
-use Rattle.sz_commands.specs.States.{State}
+use Rattle.sz_commands.specs.States.{SessionState}
 use Rattle.sz_feed.specs.Serving.{Advances, SaysFirst, HasAnswered, Answered, AreAll, Done, SaidOfRead, SaidToLimit}
 use Rattle.sz_feed.specs.Serving.{SaidInPart, SaidInLines}
 use Rattle.sz_feed.proofs.Cuts.{before_cut-nothing, lines_of-cut}
@@ -24,18 +24,18 @@ use Rattle.sz_feed.proofs.Turns.{advances-then, advances-part, advances-first, f
 -- ---- between two reads
 
 -- before the first byte
-abbrev pub start : State → Moment
+abbrev pub start : SessionState → Moment
 start z = moment_before z
 
 -- what the bytes so far told, and what is held
-pub so_far-advances : (z : State) (bytes : List ℕ) (left a b : Option (List ℕ)) (m : Moment) (count : ℕ)
+pub so_far-advances : (z : SessionState) (bytes : List ℕ) (left a b : Option (List ℕ)) (m : Moment) (count : ℕ)
     → HasAnswered z bytes left a b m count → Advances a b (start z) m (take count bytes)
 so_far-advances z bytes left a b m count h =
     let P : List ℕ → Type 0 = λ told. Says a b told in
     record { says = subst P (sym (told_in-whole z (take count bytes))) h.says; alike = h.alike }
 
 -- nothing was read yet
-pub answered-start : (z : State) (left said : Option (List ℕ)) → Answered z left left said said (start z) 0
+pub answered-start : (z : SessionState) (left said : Option (List ℕ)) → Answered z left left said said (start z) 0
 answered-start z None said = tt
 answered-start z (Some bytes) said = record {
   within = omega arith;
@@ -58,7 +58,7 @@ given-next bytes left next total count buffer is gives = let P : Option (List �
     → Type 0 = λ o. Gives o next buffer count in subst P is gives
 
 -- a read and the turn that takes in what it gave
-pub answered-turn : (z : State) (all left next a b c : Option (List ℕ)) (m n : Moment) (total count : ℕ)
+pub answered-turn : (z : SessionState) (all left next a b c : Option (List ℕ)) (m n : Moment) (total count : ℕ)
     (buffer : List ℕ)
     → Answered z all left a b m total → Gives left next buffer count → Advances b c m n (take count buffer)
     → Answered z all next a c n (total + count)
@@ -79,7 +79,7 @@ answered-turn z (Some bytes) left next a b c m n total count buffer so_far gives
     }
 
 -- a read that gave no byte came to the end
-pub all-read : (z : State) (all left next a b : Option (List ℕ)) (m : Moment) (total : ℕ) (buffer : List ℕ)
+pub all-read : (z : SessionState) (all left next a b : Option (List ℕ)) (m : Moment) (total : ℕ) (buffer : List ℕ)
     → 0 < length buffer
     → Answered z all left a b m total → Gives left next buffer 0 → AreAll all total
 all-read z None left next a b m total buffer some so_far gives = tt
@@ -91,7 +91,7 @@ all-read z (Some bytes) left next a b m total buffer some so_far gives =
 -- ---- the transcript, and what the first of its bytes tell
 
 -- a transcript is what the first bytes tell, and more
-pub transcript-front : (z : State) (bytes : List ℕ) (n : ℕ)
+pub transcript-front : (z : SessionState) (bytes : List ℕ) (n : ℕ)
     → (more : List ℕ) × (told_in (start z) (take n bytes) ++ more ≡ transcript z bytes)
 transcript-front z bytes n =
     let first = told_in (start z) (take n bytes) in
@@ -105,7 +105,7 @@ transcript-front z bytes n =
     )
 
 -- lines that end in the first bytes are the first of all lines
-pub lines-front : (z : State) (a b : Option (List ℕ)) (bytes : List ℕ) (n : ℕ)
+pub lines-front : (z : SessionState) (a b : Option (List ℕ)) (bytes : List ℕ) (n : ℕ)
     → SaysFirst a b z 1 (cut_after (start z) (take n bytes)).whole
     → SaysFirst a b z 1 (lines_of bytes)
 lines-front z a b bytes n p =
@@ -123,7 +123,7 @@ lines-front z a b bytes n p =
     (first-longer a b z 1 (first ++ further) last (first-longer a b z 1 first further p))
 
 -- what all bytes told, and what is told at their end, is the transcript
-pub whole-transcript : (z : State) (bytes : List ℕ) (m : Moment) (total : ℕ) → total ≡ length bytes
+pub whole-transcript : (z : SessionState) (bytes : List ℕ) (m : Moment) (total : ℕ) → total ≡ length bytes
     → AreAlike m (moment_after (start z) (take total bytes))
     → told_in (start z) (take total bytes) ++ told_at_end m ≡ transcript z bytes
 whole-transcript z bytes m total is_all alike =
@@ -136,7 +136,7 @@ whole-transcript z bytes m total is_all alike =
 -- ---- endings
 
 -- every byte was read, and what is told at the end was said
-pub done : (z : State) (limit : ℕ) (all left a b c : Option (List ℕ)) (m : Moment) (total : ℕ) → total ≤ limit
+pub done : (z : SessionState) (limit : ℕ) (all left a b c : Option (List ℕ)) (m : Moment) (total : ℕ) → total ≤ limit
     → Answered z all left a b m total → AreAll all total → Says b c (told_at_end m) → Done z limit all left a c
 done z limit None left a b c m total le so_far is_all end = tt
 done z limit (Some bytes) left a b c m total le so_far is_all end =
@@ -150,7 +150,7 @@ done z limit (Some bytes) left a b c m total le so_far is_all end =
     )
 
 -- a read failed between two lines or within one
-pub read-failed : (z : State) (all left next a b : Option (List ℕ)) (m : Moment) (total : ℕ)
+pub read-failed : (z : SessionState) (all left next a b : Option (List ℕ)) (m : Moment) (total : ℕ)
     → Answered z all left a b m total
     → Keeps left next → SaidOfRead z all next a b
 read-failed z None left next a b m total so_far keeps = tt
@@ -159,7 +159,7 @@ read-failed z (Some bytes) left next a b m total so_far keeps =
     (total, so_far.within, subst P so_far.is_left keeps, so_far.says)
 
 -- at the limit a further read gave a byte
-pub past-limit : (z : State) (limit : ℕ) (all left next a b : Option (List ℕ)) (m : Moment) (total count : ℕ)
+pub past-limit : (z : SessionState) (limit : ℕ) (all left next a b : Option (List ℕ)) (m : Moment) (total count : ℕ)
     (buffer : List ℕ) → total ≡ limit → count ≡ 1
     → Answered z all left a b m total → Gives left next buffer count → SaidToLimit z limit all next a b
 past-limit z limit None left next a b m total count buffer at one so_far gives = tt
@@ -174,7 +174,7 @@ past-limit z limit (Some bytes) left next a b m total count buffer at one so_far
     )
 
 -- a say failed in a turn
-pub turn-in_part : (z : State) (all left next a b c : Option (List ℕ)) (m : Moment) (total count : ℕ) (buffer : List ℕ)
+pub turn-in_part : (z : SessionState) (all left next a b c : Option (List ℕ)) (m : Moment) (total count : ℕ) (buffer : List ℕ)
     → Answered z all left a b m total → Gives left next buffer count → SaysPart b c (told_in m (take count buffer))
     → SaidInPart z all a c
 turn-in_part z None left next a b c m total count buffer so_far gives part = tt
@@ -189,7 +189,7 @@ turn-in_part z (Some bytes) left next a b c m total count buffer so_far gives pa
     subst Q front.1 (part-longer a c (told_in (start z) (take (total + count) bytes)) front.0 both)
 
 -- memory was refused in a turn
-pub turn-in_lines : (z : State) (all left next a b c : Option (List ℕ)) (m : Moment) (total count : ℕ) (buffer : List ℕ)
+pub turn-in_lines : (z : SessionState) (all left next a b c : Option (List ℕ)) (m : Moment) (total count : ℕ) (buffer : List ℕ)
     → Answered z all left a b m total → Gives left next buffer count
     → SaysFirst b c m.held m.number (cut_after m (take count buffer)).whole → SaidInLines z all a c
 turn-in_lines z None left next a b c m total count buffer so_far gives first = tt
@@ -201,7 +201,7 @@ turn-in_lines z (Some bytes) left next a b c m total count buffer so_far gives f
     (so_far-advances z bytes left a b m total so_far) first))
 
 -- between two turns what was said is a first part
-pub answered-in_part : (z : State) (all left a b c : Option (List ℕ)) (m : Moment) (total : ℕ)
+pub answered-in_part : (z : SessionState) (all left a b c : Option (List ℕ)) (m : Moment) (total : ℕ)
     → Answered z all left a b m total
     → SaysPart b c [] → SaidInPart z all a c
 answered-in_part z None left a b c m total so_far part = tt
@@ -213,7 +213,7 @@ answered-in_part z (Some bytes) left a b c m total so_far part =
     (part-then a b c told [] (so_far-advances z bytes left a b m total so_far).says part)))
 
 -- a say failed at the end
-pub end-in_part : (z : State) (all left a b c : Option (List ℕ)) (m : Moment) (total : ℕ)
+pub end-in_part : (z : SessionState) (all left a b c : Option (List ℕ)) (m : Moment) (total : ℕ)
     → Answered z all left a b m total → AreAll all total → SaysPart b c (told_at_end m) → SaidInPart z all a c
 end-in_part z None left a b c m total so_far is_all part = tt
 end-in_part z (Some bytes) left a b c m total so_far is_all part =
@@ -223,7 +223,7 @@ end-in_part z (Some bytes) left a b c m total so_far is_all part =
     (part-then a b c (told_in (start z) (take total bytes)) (told_at_end m) front.says part)
 
 -- memory was refused at the end
-pub end-in_lines : (z : State) (all left a b c : Option (List ℕ)) (m : Moment) (total : ℕ)
+pub end-in_lines : (z : SessionState) (all left a b c : Option (List ℕ)) (m : Moment) (total : ℕ)
     → Answered z all left a b m total
     → Says b c [] → SaidInLines z all a c
 end-in_lines z None left a b c m total so_far nothing = tt
@@ -235,6 +235,6 @@ end-in_lines z (Some bytes) left a b c m total so_far nothing =
     (first-whole a c (start z) (take total bytes) [] (says-quiet a b c told front.says nothing)))
 
 -- memory was refused before the first read
-pub none-in_lines : (z : State) (all said : Option (List ℕ)) → SaidInLines z all said said
+pub none-in_lines : (z : SessionState) (all said : Option (List ℕ)) → SaidInLines z all said said
 none-in_lines z None said = tt
 none-in_lines z (Some bytes) said = record { many = 0; within = omega arith; says = says-nothing said }

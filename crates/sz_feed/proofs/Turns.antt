@@ -11,7 +11,7 @@ use Rattle.std.proofs.lemmas.List.{take_more, append-nil, take-append-le, take-a
 use Rattle.std.proofs.Math.Seq.{take-append-add, take-append_seam}
 use Rattle.sz_outside.specs.Outside.{Says, SaysPart, Rose}
 use Rattle.sz_commands.specs.Lines.{is_within_line, Cut, before_cut, cut, last_line}
-use Rattle.sz_commands.specs.States.{State}
+use Rattle.sz_commands.specs.States.{SessionState}
 use Rattle.sz_commands.specs.Transcript.{replies_to, after_lines}
 use Rattle.sz_feed.specs.Moments.{Moment, cut_after, told_in, moment_of, moment_after, told_at_end, Alike, AreAlike}
 use Rattle.sz_feed.specs.Serving.{Advances, SaysFirst, line_to_say}
@@ -64,7 +64,7 @@ part-then (Some xs) b c x y p q =
     )
 
 -- saying the replies of the first so many of some lines is saying those of the first so many of more
-pub first-longer : (a b : Option (List ℕ)) (c : State) (n : ℕ) (lines more : List (List ℕ))
+pub first-longer : (a b : Option (List ℕ)) (c : SessionState) (n : ℕ) (lines more : List (List ℕ))
     → SaysFirst a b c n lines → SaysFirst a b c n (lines ++ more)
 first-longer a b c n lines more p =
     let P : List (List ℕ) → Type 0 = λ ls. Says a b (replies_to c n ls) in
@@ -206,13 +206,13 @@ advances-kept said m bytes kept within stands =
     }
 
 -- the reply of a line
-replies-line : (c next : State) (n : ℕ) (line : List ℕ) (r : Option Reply) → Responds c line next r
+replies-line : (c next : SessionState) (n : ℕ) (line : List ℕ) (r : Option Reply) → Responds c line next r
     → replies_to c n (line ∷ []) ≡ line_to_say n r
 replies-line c next n line None replies = rw replies.0 refl
 replies-line c next n line (Some r) replies = rw (replies.0, replies.1, append-nil) refl
 
 -- the catalogue that it leaves
-left-line : (c next : State) (line : List ℕ) (r : Option Reply) → Responds c line next r
+left-line : (c next : SessionState) (line : List ℕ) (r : Option Reply) → Responds c line next r
     → after_lines c (line ∷ []) ≡ next
 left-line c next line None replies = rw replies.0 (sym replies.1)
 left-line c next line (Some r) replies = rw (replies.0, replies.1) refl
@@ -222,22 +222,22 @@ pub line-only : (m : Moment) → cut_after m (10 ∷ []) ≡ record { whole = m.
 line-only m = ap (λ (line : List ℕ). record { whole = line ∷ []; last = [] }) (append-nil m.pending)
 
 -- the end of a line tells its reply, where it has one
-pub told-line : (m : Moment) (c : State) (r : Option Reply) → Responds m.held m.pending c r
+pub told-line : (m : Moment) (c : SessionState) (r : Option Reply) → Responds m.held m.pending c r
     → told_in m (10 ∷ []) ≡ line_to_say m.number r
 told-line m c r replies =
     ap (λ (x : Cut). replies_to m.held m.number x.whole) (line-only m)
     ∙ replies-line m.held c m.number m.pending r replies
 
 -- and leaves the catalogue that the line leaves
-pub moment-line : (m : Moment) (c : State) (r : Option Reply) → Responds m.held m.pending c r
+pub moment-line : (m : Moment) (c : SessionState) (r : Option Reply) → Responds m.held m.pending c r
     → moment_after m (10 ∷ []) ≡ record m { held = c; pending = []; number = m.number + 1 }
 moment-line m c r replies =
     ap (moment_of m) (line-only m)
-    ∙ ap (λ (x : State). record m { held = x; pending = []; number = m.number + 1 })
+    ∙ ap (λ (x : SessionState). record m { held = x; pending = []; number = m.number + 1 })
     (left-line m.held c m.pending r replies)
 
 -- the end of a line
-pub advances-line : (a b : Option (List ℕ)) (m : Moment) (c : State) (r : Option Reply)
+pub advances-line : (a b : Option (List ℕ)) (m : Moment) (c : SessionState) (r : Option Reply)
     → Responds m.held m.pending c r → Says a b (line_to_say m.number r)
     → Advances a b m (record m { held = c; pending = []; number = m.number + 1 }) (10 ∷ [])
 advances-line a b m c r replies says =

@@ -14,7 +14,7 @@ use Rattle.sz_outside.specs.declared.stations.Station.{Ghosts}
 use Rattle.sz_script.specs.declared.command.Command.{Command}
 use Rattle.sz_script.specs.Reading.{reading}
 use Rattle.sz_catalogue.specs.declared.reply.Reply.{Reply}
-use Rattle.sz_commands.specs.States.{State, apart, after_command}
+use Rattle.sz_commands.specs.States.{SessionState, apart, after_command}
 use Rattle.sz_commands.proofs.States.{reply-apart}
 use Rattle.sz_catalogue.specs.Responses.{Response, reply_line}
 use Rattle.sz_catalogue.specs.Seen.{response_of}
@@ -84,7 +84,7 @@ first-quiet a b c l lines p q = record {
 -- ---- the line of an ask
 
 -- the reply lines of asks, and of one more
-text-more : (c : State) (lines : List AskLine) (l : AskLine)
+text-more : (c : SessionState) (lines : List AskLine) (l : AskLine)
     → asks_text c (lines ++ l ∷ []) ≡ asks_text c lines ++ reply_line l.number (ask_reply c l)
 text-more c lines l =
     let f = λ (x : AskLine). reply_line x.number (ask_reply c x) in
@@ -92,7 +92,7 @@ text-more c lines l =
     ∙ ap (λ (ys : List ℕ). asks_text c lines ++ ys) (flat_map-cons f l [] ∙ append-nil (f l))
 
 -- the reply lines that were made are those of the asks
-pub text-told : (c : State) (lines : List AskLine) (replies : List Reply)
+pub text-told : (c : SessionState) (lines : List AskLine) (replies : List Reply)
     → map response_of replies ≡ map (ask_reply c) lines → told_text lines replies ≡ asks_text c lines
 text-told c [] replies is = refl
 text-told c (l ∷ lines) [] is = cc
@@ -103,19 +103,19 @@ text-told c (l ∷ lines) (r ∷ replies) is =
     ∙ sym (flat_map-cons (λ (x : AskLine). reply_line x.number (ask_reply c x)) l lines)
 
 -- the replies are the same wherever a log ends
-replies-apart : (s : State) (lines : List AskLine) → map (ask_reply s) lines ≡ map (ask_reply (apart s)) lines
+replies-apart : (s : SessionState) (lines : List AskLine) → map (ask_reply s) lines ≡ map (ask_reply (apart s)) lines
 replies-apart s [] = refl
 replies-apart s (l ∷ lines) =
     ap₂ (λ (x : Response) (xs : List Response). x ∷ xs) (sym (reply-apart s l.ask)) (replies-apart s lines)
 
 -- so what is sent is the text of the asks
-pub text-said : (c s : State) (lines lent told : List AskLine) (replies given : List Reply) (text sent : List ℕ)
+pub text-said : (c s : SessionState) (lines lent told : List AskLine) (replies given : List Reply) (text sent : List ℕ)
     → apart s ≡ c → lent ≡ lines → told ≡ lines → given ≡ replies → map response_of replies ≡ map (ask_reply s) lent
     → text ≡ told_text told given → sent ≡ text → sent ≡ asks_text c lines
 text-said c s lines lent told replies given text sent held one two three is made same =
     same ∙ made ∙ ap₂ told_text two three
     ∙ text-told c lines replies
-    (is ∙ replies-apart s lent ∙ ap₂ (λ (x : State) (ls : List AskLine). map (ask_reply x) ls) held one)
+    (is ∙ replies-apart s lent ∙ ap₂ (λ (x : SessionState) (ls : List AskLine). map (ask_reply x) ls) held one)
 
 -- one reply more
 pub told-more : (lines : List AskLine) (replies : List Reply) (l : AskLine) (r : Reply) → length lines ≡ length replies
@@ -130,11 +130,11 @@ told-more (k ∷ lines) (s ∷ replies) l r is =
     (reply_line l.number (response_of r)))
 
 -- what a line that gives an ask replies, and leaves
-line-ask : (c : State) (n : ℕ) (line : List ℕ) (ask : Command) → is_blank line ≡ false → reading line ≡ Ok ask
+line-ask : (c : SessionState) (n : ℕ) (line : List ℕ) (ask : Command) → is_blank line ≡ false → reading line ≡ Ok ask
     → replies_to c n (line ∷ []) ≡ reply_line n (after_command c ask).1
 line-ask c n line ask blank reads = rw (blank, reads, append-nil) refl
 
-left-ask : (c : State) (line : List ℕ) (ask : Command) → is_blank line ≡ false → reading line ≡ Ok ask
+left-ask : (c : SessionState) (line : List ℕ) (ask : Command) → is_blank line ≡ false → reading line ≡ Ok ask
     → is_ask ask ≡ true → after_lines c (line ∷ []) ≡ c
 left-ask c line ask blank reads is = rw (blank, reads) (ask-stays c ask is)
 
@@ -150,7 +150,7 @@ advances-ask a b m ask blank reads is says =
     ∙ line-ask m.held m.number m.pending ask blank reads in
     let left : moment_after m (10 ∷ []) ≡ record m { pending = []; number = m.number + 1 } =
     ap (moment_of m) (line-only m)
-    ∙ ap (λ (x : State). record m { held = x; pending = []; number = m.number + 1 })
+    ∙ ap (λ (x : SessionState). record m { held = x; pending = []; number = m.number + 1 })
     (left-ask m.held m.pending ask blank reads is) in
     record {
       says = subst P (sym told) says;
@@ -226,7 +226,7 @@ pub waits-more : (s t : Option (List ℕ)) (l m n : Moment) (xs ys : List ℕ) (
     → Waits s t l n (xs ++ ys) waiting
 waits-more s t l m n xs ys waiting w more held = record {
   told = λ later says.
-      let P : State → Type 0 = λ c. Says t later (asks_text c waiting) in
+      let P : SessionState → Type 0 = λ c. Says t later (asks_text c waiting) in
       advances-then s later later l m n xs ys (w.told later (subst P held says)) (more later);
   first = first-more s t l xs ys w.first;
 }

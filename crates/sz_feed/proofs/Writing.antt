@@ -13,7 +13,7 @@ use Rattle.sz_catalogue.specs.Holdings.{Holdings}
 use Rattle.sz_commands.specs.Asks.{asks_text}
 use Rattle.sz_commands.specs.Lines.{Cut, is_blank, bytes_first, cut, last_line}
 use Rattle.sz_commands.specs.Logged.{makes_durable}
-use Rattle.sz_commands.specs.States.{State}
+use Rattle.sz_commands.specs.States.{SessionState}
 use Rattle.sz_commands.specs.Transcript.{after_lines}
 use Rattle.sz_commands.specs.declared.asking.AskLine.{AskLine}
 use Rattle.sz_feed.specs.Moments.{Moment, cut_after, moment_after, Alike, AreAlike}
@@ -45,15 +45,15 @@ line-writes m is = subst (WritesOne m.held) (sym (only-pending m)) (inl is)
 -- ---- several
 
 -- one of those behind others
-writes-behind : (s : State) (first rest : List (List ℕ)) → WritesOne (after_lines s first) rest
+writes-behind : (s : SessionState) (first rest : List (List ℕ)) → WritesOne (after_lines s first) rest
     → WritesOne s (first ++ rest)
 writes-behind s [] rest writes = writes
 writes-behind s (line ∷ first) rest writes =
     inr (writes-behind (after_lines s (line ∷ [])) first rest
-    (subst (λ (z : State). WritesOne z rest) (after_lines-append s (line ∷ []) first) writes))
+    (subst (λ (z : SessionState). WritesOne z rest) (after_lines-append s (line ∷ []) first) writes))
 
 -- one of the first
-pub writes-first : (s : State) (first rest : List (List ℕ)) → WritesOne s first → WritesOne s (first ++ rest)
+pub writes-first : (s : SessionState) (first rest : List (List ℕ)) → WritesOne s first → WritesOne s (first ++ rest)
 writes-first s [] rest writes = absurd writes
 writes-first s (line ∷ first) rest (inl is) = inl is
 writes-first s (line ∷ first) rest (inr writes) =
@@ -73,20 +73,20 @@ writes-front l xs n writes =
 -- ---- behind other bytes
 
 -- lines behind beginnings that are alike are written together
-first-alike : (s : State) (a b : List ℕ) (lines : List (List ℕ)) (last : List ℕ) → Alike a b
+first-alike : (s : SessionState) (a b : List ℕ) (lines : List (List ℕ)) (last : List ℕ) → Alike a b
     → WritesOne s (bytes_first a lines last).whole → WritesOne s (bytes_first b lines last).whole
 first-alike s a b [] last alike writes = writes
 first-alike s a b (x ∷ xs) last alike (inl is) =
     inl (written-alike s.held (a ++ x) (b ++ x) (alike-append a b x alike) is)
 first-alike s a b (x ∷ xs) last alike (inr writes) =
-    inr (subst (λ (z : State). WritesOne z xs) (after_lines-alike s (a ++ x) (b ++ x) [] (alike-append a b x alike))
+    inr (subst (λ (z : SessionState). WritesOne z xs) (after_lines-alike s (a ++ x) (b ++ x) [] (alike-append a b x alike))
     writes)
 
 writes-alike : (m k : Moment) (bytes : List ℕ) → AreAlike m k → WritesOne m.held (cut_after m bytes).whole
     → WritesOne k.held (cut_after k bytes).whole
 writes-alike m k bytes alike writes =
     first-alike k.held m.pending k.pending (cut bytes).whole (cut bytes).last alike.pending
-    (subst (λ (s : State). WritesOne s (cut_after m bytes).whole) alike.held writes)
+    (subst (λ (s : SessionState). WritesOne s (cut_after m bytes).whole) alike.held writes)
 
 -- lines that end behind some bytes, from a moment like the one that those left
 pub writes-rest : (l m : Moment) (xs ys : List ℕ) → AreAlike m (moment_after l xs)
@@ -105,7 +105,7 @@ writes-next l k xs waiting s t waits writes =
     writes-rest l k xs (10 ∷ []) (waits.told half.0 half.1).alike writes
 
 -- last lines that are alike
-last-written : (s : State) (a b : List ℕ) → Alike a b → WritesOne s (last_line a) → WritesOne s (last_line b)
+last-written : (s : SessionState) (a b : List ℕ) → Alike a b → WritesOne s (last_line a) → WritesOne s (last_line b)
 last-written s a b (inl same) writes = subst (λ (l : List ℕ). WritesOne s (last_line l)) same writes
 last-written s [] b (inr long) writes = absurd writes
 last-written s (x ∷ a) b (inr long) (inl is) =
@@ -119,5 +119,5 @@ pub writes-last : (l m : Moment) (bytes : List ℕ) → AreAlike m (moment_after
 writes-last l m bytes alike writes =
     let c = cut_after l bytes in
     writes-behind l.held c.whole (last_line c.last)
-    (subst (λ (s : State). WritesOne s (last_line c.last)) alike.held
+    (subst (λ (s : SessionState). WritesOne s (last_line c.last)) alike.held
     (last-written m.held m.pending c.last alike.pending writes))

@@ -8,7 +8,7 @@ use Rattle.sz_outside.specs.Outside.{Rose, Stood, Says, SaysPart}
 use Rattle.sz_outside.specs.declared.stations.Station.{Ghosts}
 use Rattle.sz_commands.specs.Asks.{IsAskLine}
 use Rattle.sz_commands.specs.Logged.{KeepsLog, makes_durable}
-use Rattle.sz_commands.specs.States.{State}
+use Rattle.sz_commands.specs.States.{SessionState}
 use Rattle.sz_commands.specs.Transcript.{replies_to, after_lines}
 use Rattle.sz_commands.specs.declared.asking.AskLine.{AskLine}
 use Rattle.sz_feed.specs.Moments.{Moment}
@@ -48,7 +48,7 @@ SaysText (Err halt.NoMemory) said_before said text = Says said_before said []
 
 -- The replies of all of these lines were said, a first part of them where a say failed, and else
 -- those of the first so many, whole.
-abbrev pub SaysReplies : {U : Type 0} → Result U Halt → Option (List ℕ) → Option (List ℕ) → State
+abbrev pub SaysReplies : {U : Type 0} → Result U Halt → Option (List ℕ) → Option (List ℕ) → SessionState
     → ℕ → List (List ℕ) → Type 0
 SaysReplies (Ok u) said_before said s n lines = Says said_before said (replies_to s n lines)
 SaysReplies (Err halt.SayFault) said_before said s n lines =
@@ -82,7 +82,7 @@ pub record IsTaken {X U : Type 0} (T : Ghosts X) (r : Result U Halt) (before now
 -- ---- lines
 
 -- One of these lines, each taken from what those before it left, is written to a log.
-abbrev pub WritesOne : State → List (List ℕ) → Type 0
+abbrev pub WritesOne : SessionState → List (List ℕ) → Type 0
 WritesOne s [] = ⊥
 WritesOne s (line ∷ lines) =
     (makes_durable s.held line ≡ true) ⊎ WritesOne (after_lines s (line ∷ [])) lines
@@ -90,7 +90,7 @@ WritesOne s (line ∷ lines) =
 -- What a stop finds while lines are answered, before which a text is said: of a session of no log a
 -- first part of all that is said, over the disk as it was; and of one of a log, where nothing is
 -- said before them, so many of the lines answered, and a log of these.
-abbrev pub FindsBehind : {X : Type 0} → Ghosts X → Option ℕ → List ℕ → State → ℕ
+abbrev pub FindsBehind : {X : Type 0} → Ghosts X → Option ℕ → List ℕ → SessionState → ℕ
     → List (List ℕ) → X → X → Type 0
 FindsBehind T None first s n lines old new = OnlySays T (first ++ replies_to s n lines) old new
 FindsBehind T (Some at) first s n lines old new = FindsLines T at s n lines old new

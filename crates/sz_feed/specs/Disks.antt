@@ -6,7 +6,7 @@ use Rattle.sz_outside.specs.Disk.{Same}
 use Rattle.sz_outside.specs.declared.stations.Station.{Ghosts}
 use Rattle.sz_log.specs.Steps.{MakesIfFree}
 use Rattle.sz_commands.specs.Stops.{StopsFinding}
-use Rattle.sz_commands.specs.States.{State}
+use Rattle.sz_commands.specs.States.{SessionState}
 use Rattle.sz_feed.specs.Serving.{SaidInPart}
 use Rattle.sz_feed.specs.Making.{ready_line}
 
@@ -30,7 +30,7 @@ OnlySays T bytes old new =
     StaysFinding T (λ found. SaysPart (T.said old) (Some found) bytes) old new
 
 -- A first part of the transcript of a source's bytes was found said.
-abbrev pub FoundInPart : State → Option (List ℕ) → Option (List ℕ) → List ℕ → Type 0
+abbrev pub FoundInPart : SessionState → Option (List ℕ) → Option (List ℕ) → List ℕ → Type 0
 FoundInPart c left said_before found = SaidInPart c left said_before (Some found)
 
 -- At each moment a stop leaves of an image itself, or, where nothing keeps it from being made a

@@ -4,7 +4,7 @@ use Rattle.std.specs.Prelude.{Option}
 use Rattle.std.specs.List.{list_all}
 use Rattle.sz_outside.specs.Outside.{SaysPart}
 use Rattle.sz_catalogue.specs.Holdings.{Holdings}
-use Rattle.sz_commands.specs.States.{State, state_of, after_line}
+use Rattle.sz_commands.specs.States.{SessionState, state_of, after_line}
 use Rattle.sz_feed.specs.Plain.{plain_transcript}
 use Rattle.sz_catalogue.specs.Responses.{reply_line}
 use Rattle.sz_recover.specs.Logs.{Kept, IsWellMade}
@@ -82,13 +82,13 @@ MomentsGoByParts = (m : Moment) (first rest : List ℕ)
 
 -- a transcript is what is told of the bytes, and then what is told at their end
 abbrev pub TranscriptsAreTold : Type 0
-TranscriptsAreTold = (c : State) (bytes : List ℕ)
+TranscriptsAreTold = (c : SessionState) (bytes : List ℕ)
     → transcript c bytes
     ≡ told_in (moment_before c) bytes ++ told_at_end (moment_after (moment_before c) bytes)
 
 -- before the first byte, all whole lines of the bytes are told
 abbrev pub WholeLinesAreTold : Type 0
-WholeLinesAreTold = (c : State) (bytes : List ℕ)
+WholeLinesAreTold = (c : SessionState) (bytes : List ℕ)
     → told_in (moment_before c) bytes ≡ whole_replies c bytes
 
 -- moments that are alike tell the same of all bytes, and are alike after them
@@ -105,7 +105,7 @@ AlikeEndTheSame = (m n : Moment) → AreAlike m n → told_at_end m ≡ told_at_
 
 -- the first so many replies are a first part of the bytes of all replies
 abbrev pub FirstRepliesAreAPart : Type 0
-FirstRepliesAreAPart = (said_before said : Option (List ℕ)) (c : State) (n : ℕ)
+FirstRepliesAreAPart = (said_before said : Option (List ℕ)) (c : SessionState) (n : ℕ)
     (lines : List (List ℕ))
     → SaysFirst said_before said c n lines → SaysPart said_before said (replies_to c n lines)
 
@@ -114,14 +114,14 @@ FirstRepliesAreAPart = (said_before said : Option (List ℕ)) (c : State) (n : �
 -- the replies to some lines and then others are those to the first, and those to the others from
 -- the catalogue between, numbered onward
 abbrev pub RepliesGoOn : Type 0
-RepliesGoOn = (c : State) (n : ℕ) (first rest : List (List ℕ))
+RepliesGoOn = (c : SessionState) (n : ℕ) (first rest : List (List ℕ))
     → replies_to c n (first ++ rest)
     ≡ replies_to c n first ++ replies_to (after_lines c first) (n + length first) rest
 
 -- the transcript of bytes that end with a newline, and more behind them, is that of the first and
 -- then the replies to the lines of the rest
 abbrev pub TranscriptsGoOn : Type 0
-TranscriptsGoOn = (c : State) (first rest : List ℕ)
+TranscriptsGoOn = (c : SessionState) (first rest : List ℕ)
     → let whole = first ++ 10 ∷ [] in
     transcript c (whole ++ rest)
     ≡ transcript c whole
@@ -129,14 +129,14 @@ TranscriptsGoOn = (c : State) (first rest : List ℕ)
 
 -- a blank line is counted and has no reply
 abbrev pub BlankLinesAreCounted : Type 0
-BlankLinesAreCounted = (c : State) (n : ℕ) (line : List ℕ) (lines : List (List ℕ))
+BlankLinesAreCounted = (c : SessionState) (n : ℕ) (line : List ℕ) (lines : List (List ℕ))
     → is_blank line ≡ true
     → replies_to c n (line ∷ lines) ≡ replies_to c (n + 1) lines
 
 -- each other line has one reply, that of what it orders, and the lines behind it go on from what
 -- that left
 abbrev pub OtherLinesHaveOneReply : Type 0
-OtherLinesHaveOneReply = (c : State) (n : ℕ) (line : List ℕ) (lines : List (List ℕ))
+OtherLinesHaveOneReply = (c : SessionState) (n : ℕ) (line : List ℕ) (lines : List (List ℕ))
     → is_blank line ≡ false
     → replies_to c n (line ∷ lines)
     ≡ reply_line n (after_line c line).1 ++ replies_to (after_line c line).0 (n + 1) lines

@@ -11,7 +11,7 @@ use Rattle.sz_catalogue.specs.Holdings.{Holdings}
 use Rattle.sz_recover.specs.Logs.{Kept, IsWellMade}
 use Rattle.sz_recover.specs.Growing.{durable}
 use Rattle.sz_commands.specs.Lines.{last_line, lines_of}
-use Rattle.sz_commands.specs.States.{State}
+use Rattle.sz_commands.specs.States.{SessionState}
 use Rattle.sz_commands.specs.Transcript.{replies_to, after_lines}
 use Rattle.sz_feed.specs.Moments.{Moment, cut_after}
 use Rattle.sz_commands.specs.Logged.{IsLeft, HasLog, GoesOn}
@@ -26,7 +26,7 @@ IfSome (Some a) Claim = Claim a
 -- What a stop finds between some lines, whose replies are said, and more of them: of all replies so
 -- many bytes are said, behind what was said before. The log, which kept these stores when s was
 -- held, holds what is durable behind the first lines, if nothing more is said, or behind more.
-pub record FoundBetween (kept : List Kept) (s : State) (n : ℕ) (some more : List (List ℕ))
+pub record FoundBetween (kept : List Kept) (s : SessionState) (n : ℕ) (some more : List (List ℕ))
     (said_before : Option (List ℕ)) (image found : List ℕ) : Type 0 where
   pub bytes : ℕ
   pub whole : length (replies_to s n some) ≤ bytes
@@ -38,7 +38,7 @@ pub record FoundBetween (kept : List Kept) (s : State) (n : ℕ) (some more : Li
 
 -- What a stop finds while these lines are answered from s on, the first of which has this number:
 -- it is between the first so many of them and one more.
-pub record FoundAt (kept : List Kept) (s : State) (n : ℕ) (lines : List (List ℕ))
+pub record FoundAt (kept : List Kept) (s : SessionState) (n : ℕ) (lines : List (List ℕ))
     (said_before : Option (List ℕ)) (image found : List ℕ) : Type 0 where
   pub many : ℕ
   pub within : many ≤ length lines
@@ -59,7 +59,7 @@ pub record PassesAmong (before now : ℕ) (past since : ℕ → List ℕ → Lis
 
 -- So time passed from an old station to a new one, while these lines were answered by the session
 -- of a log that ended at a place; whatever stores the log had kept.
-abbrev pub FindsLines : {X : Type 0} → Ghosts X → ℕ → State → ℕ → List (List ℕ) → X → X → Type 0
+abbrev pub FindsLines : {X : Type 0} → Ghosts X → ℕ → SessionState → ℕ → List (List ℕ) → X → X → Type 0
 FindsLines T at s n lines old new = IfSome (T.disk old) (λ disk. (kept : List Kept)
     → IsWellMade disk at (durable s.held) kept
     → PassesAmong (T.moment old) (T.moment new) (T.left_since old) (T.left_since new)
@@ -104,18 +104,18 @@ FindsNext T m left total count old new =
     IfSome left (λ bytes. FindsIn T m (take count (drop total bytes)) old new)
 
 -- all lines of its bytes, from what was held as the session of a log began
-abbrev pub FindsAll : {X : Type 0} → Ghosts X → State → Option ℕ → Option (List ℕ) → X → X → Type 0
+abbrev pub FindsAll : {X : Type 0} → Ghosts X → SessionState → Option ℕ → Option (List ℕ) → X → X → Type 0
 FindsAll T s end left old new = IfSome left (λ bytes. IfSome end
     (λ at. FindsLines T at s 1 (lines_of bytes) old new))
 
 -- Where the source tells its bytes, the log went on from what it held to what is durable behind all
 -- of their lines, and no write is pending.
-abbrev pub StandsBehind : {X : Type 0} → Ghosts X → State → Option ℕ → Option (List ℕ) → X → X
+abbrev pub StandsBehind : {X : Type 0} → Ghosts X → SessionState → Option ℕ → Option (List ℕ) → X → X
     → Type 0
 StandsBehind T s end left old new = IfSome left (λ bytes. IfSome end (λ at.
     (next : ℕ) × GoesOn T s.held at (after_lines s (lines_of bytes)).held next old new))
 
 -- what is held as a log is gone on from: the catalogue that its groups make, and the stores that
 -- they give
-abbrev pub state_of_log : Holdings → List Kept → State
+abbrev pub state_of_log : Holdings → List Kept → SessionState
 state_of_log c kept = record { held = c; logged = kept; stored = []; end = None }

@@ -6,7 +6,7 @@ use Rattle.std.specs.List.{filter}
 use Rattle.sz_outside.specs.Outside.{Says, SaysPart}
 use Rattle.sz_catalogue.specs.declared.reply.Reply.{Reply}
 use Rattle.sz_catalogue.specs.Holdings.{no_holdings}
-use Rattle.sz_commands.specs.States.{State, state_of}
+use Rattle.sz_commands.specs.States.{SessionState, state_of}
 use Rattle.sz_catalogue.specs.Responses.{reply_line}
 use Rattle.sz_catalogue.specs.Seen.{response_of}
 use Rattle.sz_commands.specs.Lines.{lines_of}
@@ -33,7 +33,7 @@ load_line job =
 
 -- The source was read to its end, its bytes are no more than a session may have, and what was said
 -- is their transcript from what was held.
-abbrev pub Done : State → ℕ → Option (List ℕ) → Option (List ℕ) → Option (List ℕ)
+abbrev pub Done : SessionState → ℕ → Option (List ℕ) → Option (List ℕ) → Option (List ℕ)
     → Option (List ℕ) → Type 0
 Done c limit None left said_before said = ⊤
 Done c limit (Some bytes) left said_before said =
@@ -41,7 +41,7 @@ Done c limit (Some bytes) left said_before said =
 
 -- So many bytes were read, the others are left, and what was said is the replies of the whole lines
 -- that were read.
-abbrev pub SaidOfRead : State → Option (List ℕ) → Option (List ℕ) → Option (List ℕ)
+abbrev pub SaidOfRead : SessionState → Option (List ℕ) → Option (List ℕ) → Option (List ℕ)
     → Option (List ℕ) → Type 0
 SaidOfRead c None left said_before said = ⊤
 SaidOfRead c (Some bytes) left said_before said = (n : ℕ) × (n ≤ length bytes)
@@ -51,26 +51,26 @@ SaidOfRead c (Some bytes) left said_before said = (n : ℕ) × (n ≤ length byt
 -- The source had more bytes than a session may have: those and one more were read, and what was
 -- said is the replies of the whole lines among those.
 abbrev pub SaidToLimit :
-    State → ℕ → Option (List ℕ) → Option (List ℕ) → Option (List ℕ) → Option (List ℕ) → Type 0
+    SessionState → ℕ → Option (List ℕ) → Option (List ℕ) → Option (List ℕ) → Option (List ℕ) → Type 0
 SaidToLimit c limit None left said_before said = ⊤
 SaidToLimit c limit (Some bytes) left said_before said = (limit < length bytes)
     × (left ≡ Some (drop (limit + 1) bytes))
     × Says said_before said (whole_replies c (take limit bytes))
 
 -- What was said is a first part of the bytes of the transcript.
-abbrev pub SaidInPart : State → Option (List ℕ) → Option (List ℕ) → Option (List ℕ) → Type 0
+abbrev pub SaidInPart : SessionState → Option (List ℕ) → Option (List ℕ) → Option (List ℕ) → Type 0
 SaidInPart c None said_before said = ⊤
 SaidInPart c (Some bytes) said_before said = SaysPart said_before said (transcript c bytes)
 
 -- What was said is the replies of the first so many of these lines, all of each reply.
-pub record SaysFirst (said_before said : Option (List ℕ)) (c : State) (n : ℕ)
+pub record SaysFirst (said_before said : Option (List ℕ)) (c : SessionState) (n : ℕ)
     (lines : List (List ℕ)) : Type 0 where
   pub many : ℕ
   pub within : many ≤ length lines
   pub says : Says said_before said (replies_to c n (take many lines))
 
 -- What was said is the first so many of the reply lines of the transcript, whole.
-abbrev pub SaidInLines : State → Option (List ℕ) → Option (List ℕ) → Option (List ℕ) → Type 0
+abbrev pub SaidInLines : SessionState → Option (List ℕ) → Option (List ℕ) → Option (List ℕ) → Type 0
 SaidInLines c None said_before said = ⊤
 SaidInLines c (Some bytes) said_before said = SaysFirst said_before said c 1 (lines_of bytes)
 
@@ -88,20 +88,20 @@ IsPastLimit limit (Some bytes) = limit < length bytes
 
 -- what was held, and what source and station told, as the session began
 pub record Opening : Type 0 where
-  pub held : State
+  pub held : SessionState
   pub left : Option (List ℕ)
   pub said : Option (List ℕ)
 
 -- So many bytes were read. What was said is the replies of all whole lines among them, and what is
 -- held is like the moment after them.
-pub record HasAnswered (c : State) (bytes : List ℕ) (left said_before said : Option (List ℕ))
+pub record HasAnswered (c : SessionState) (bytes : List ℕ) (left said_before said : Option (List ℕ))
     (now : Moment) (count : ℕ) : Type 0 where
   pub within : count ≤ length bytes
   pub is_left : left ≡ Some (drop count bytes)
   pub says : Says said_before said (whole_replies c (take count bytes))
   pub alike : AreAlike now (moment_after (moment_before c) (take count bytes))
 
-abbrev pub Answered : State → Option (List ℕ) → Option (List ℕ) → Option (List ℕ)
+abbrev pub Answered : SessionState → Option (List ℕ) → Option (List ℕ) → Option (List ℕ)
     → Option (List ℕ) → Moment → ℕ → Type 0
 Answered c None left said_before said now count = ⊤
 Answered c (Some bytes) left said_before said now count =

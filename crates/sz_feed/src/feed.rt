@@ -21,7 +21,7 @@ ghost use Rattle.sz_feed.specs.Moments.{moment_before, cut_after, told_in, told_
 ghost use Rattle.sz_feed.specs.Serving.{Advances, line_to_say};
 ghost use Rattle.sz_commands.specs.States.{nothing_held};
 ghost use Rattle.sz_commands.specs.Asks.{IsAskLine, asks_text};
-ghost use Rattle.sz_commands.specs.Given.{Gives, IsRight, Takes};
+ghost use Rattle.sz_commands.specs.Given.{LineGives, IsRight, Takes};
 ghost use Rattle.sz_feed.specs.Waiting.{Lags, SaysBy, told_text};
 ghost use Rattle.sz_commands.specs.declared.session.Given.TheVariants as given;
 ghost use Rattle.sz_feed.specs.Running.{IsBeside};
@@ -258,7 +258,7 @@ impl Feed {
         gate: &G,
     ) -> Result<(), Halt>
         requires number { self.old.number + 1 < 2 ^ 64 }
-        requires gives { Gives self.old.pending given }
+        requires gives { LineGives self.old.pending given }
         requires right { IsRight given }
         requires log { IsBeside T.Station self.old station.old }
         ensures line { OnOk result (
@@ -284,7 +284,7 @@ impl Feed {
         station: &mut T,
         gate: &G,
     ) -> Result<Option<Reply>, Halt>
-        requires gives { Gives self.old.pending given }
+        requires gives { LineGives self.old.pending given }
         requires right { IsRight given }
         requires log { IsBeside T.Station self.old station.old }
         ensures reply { IfOk result (λ r. Takes self.old.held given self.new.held r) }
@@ -367,7 +367,7 @@ impl Feed {
         gate: &G,
     ) -> Result<(), Halt>
         requires number { self.old.number + 1 < 2 ^ 64 }
-        requires gives { Gives self.old.pending (given.Ask ask) }
+        requires gives { LineGives self.old.pending (given.Ask ask) }
         requires right { is_right ask ≡ true }
         requires asks { AllByRecursion IsAskLine waiting.old.items }
         requires few { length waiting.old.items ≤ 64 }

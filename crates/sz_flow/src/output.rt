@@ -6,7 +6,7 @@ ghost use Rattle.std.specs.Arc.{arc_value};
 ghost use Rattle.sz_cells.specs.Extent.{size_of, cell_of};
 ghost use Rattle.sz_spec.specs.Values.{extents_of};
 ghost use Rattle.sz_spec.specs.Evaluation.{value_of, output_of};
-ghost use Rattle.sz_region.specs.Walks.{values_before};
+ghost use Rattle.sz_frame.specs.Walks.{values_before};
 ghost use Rattle.sz_ops.specs.Aids.{aid_of};
 
 use rayon::prelude::*;

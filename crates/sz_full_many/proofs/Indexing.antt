@@ -15,7 +15,7 @@ use Rattle.sz_spec.specs.declared.modes.Dir.TheVariants.{Back, Forward}
 use Rattle.sz_spec.specs.declared.op.Op.{Op}
 use Rattle.sz_spec.specs.declared.op.Op.TheVariants.{Add, Sub, Mul, Min, Max, Lookup}
 use Rattle.sz_spec.specs.Shapes.{Site, arity}
-use Rattle.sz_region.specs.Parts.{Pairing}
+use Rattle.sz_frame.specs.Parts.{Pairing}
 use Rattle.sz_rtree.specs.Rectangles.{Rectangles}
 use Rattle.sz_tables.specs.Rows.{RowTable, pairings}
 use Rattle.sz_tables.specs.Stores.{IsPairOf}

@@ -20,9 +20,9 @@ use Rattle.sz_cells.specs.Laws.{IsInBounds}
 use Rattle.sz_cells.proofs.Sets.{any_cell-true}
 use Rattle.sz_spec.specs.declared.modes.Dir.{Dir}
 use Rattle.sz_spec.specs.Sides.{extent_after, image_between}
-use Rattle.sz_region.specs.Parts.{Pairing}
-use Rattle.sz_region.specs.Stands.{full_stands}
-use Rattle.sz_region.proofs.Added.{with-ext, with-none}
+use Rattle.sz_frame.specs.Parts.{Pairing}
+use Rattle.sz_frame.specs.Stands.{full_stands}
+use Rattle.sz_frame.proofs.Added.{with-ext, with-none}
 use Rattle.sz_rtree.specs.Rectangles.{Overlaps, IsNextHit}
 use Rattle.sz_tables.specs.Rows.{RowTable, pairings}
 use Rattle.sz_tables.specs.Scans.{near_set, far_set, pair_adds, pairs_add}

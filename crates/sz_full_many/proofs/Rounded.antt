@@ -12,7 +12,7 @@ use Rattle.sz_cells.specs.Extent.{Extent, size_of, holds, index_of, cell_of}
 use Rattle.sz_cells.specs.Cells.{Cells, has}
 use Rattle.sz_cells.specs.Laws.{IsInBounds}
 use Rattle.sz_cells.proofs.Sets.{cell-index, index-below}
-use Rattle.sz_region.proofs.Added.{IsNext}
+use Rattle.sz_frame.proofs.Added.{IsNext}
 
 -- the rectangle is round each cell of the set whose number is below n
 abbrev pub IsRoundBelow : Cells → ℕ → Option Bounds → Type 0

@@ -12,7 +12,7 @@ ghost use Rattle.sz_tables.specs.Sets.{IsRound};
 
 use std::alloc::Global;
 use sz_cells::{Bounds, Cell, CellBits, NoMemory};
-use sz_region::Region;
+use sz_frame::Region;
 use sz_rtree::RTree;
 use sz_spec::Dir;
 use sz_tables::bounds_of_set;

@@ -6,7 +6,7 @@ ghost use Rattle.sz_tables.specs.Rows.{runs_in, weight_of};
 ghost use Rattle.sz_tables.specs.Stores.{cells_in, most_given};
 
 use std::sync::Arc;
-use sz_region::Region;
+use sz_frame::Region;
 use sz_tables::runs_of_set;
 
 /// How many runs the sets of all these region pairs have.

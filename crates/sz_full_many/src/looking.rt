@@ -3,7 +3,7 @@
 ghost use Rattle.std.specs.Prelude.{◌≡◌, ◌<◌, length};
 ghost use Rattle.sz_cells.specs.Cells.{has, with_those};
 ghost use Rattle.sz_spec.specs.Sides.{extent_before, extent_after, image_between};
-ghost use Rattle.sz_region.specs.Stands.{full_stands};
+ghost use Rattle.sz_frame.specs.Stands.{full_stands};
 ghost use Rattle.sz_tables.specs.Rows.{pairings};
 ghost use Rattle.sz_tables.specs.Sets.{IsRound};
 ghost use Rattle.sz_full_many.specs.Indexed.{AreRound, tree_for};

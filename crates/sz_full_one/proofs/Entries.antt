@@ -16,7 +16,7 @@ use Rattle.sz_cells.specs.declared.Cell.{Cell}
 use Rattle.sz_cells.specs.Extent.{holds, size_of}
 use Rattle.sz_cells.specs.Cells.{Cells, has, with_those}
 use Rattle.sz_cells.specs.Rising.{AreRising}
-use Rattle.sz_region.proofs.Added.{with-none, with-ext, with-more, own-at}
+use Rattle.sz_frame.proofs.Added.{with-none, with-ext, with-more, own-at}
 use Rattle.sz_tables.specs.Filed.{Filed, IsLastBelow}
 use Rattle.sz_full_one.specs.ByCells.{IsDone}
 

@@ -18,14 +18,14 @@ use Rattle.sz_cells.specs.Cells.{Cells, has, no_cells}
 use Rattle.sz_cells.proofs.Sets.{has-index, any-filter_range_at}
 use Rattle.sz_spec.specs.declared.modes.Dir.TheVariants.{Back, Forward}
 use Rattle.sz_spec.specs.Values.{extent_at, no_extent}
-use Rattle.sz_region.specs.Parts.{Pairing}
-use Rattle.sz_region.specs.Stands.{set_of, full_stands}
-use Rattle.sz_region.specs.Walks.{steps}
+use Rattle.sz_frame.specs.Parts.{Pairing}
+use Rattle.sz_frame.specs.Stands.{set_of, full_stands}
+use Rattle.sz_frame.specs.Walks.{steps}
 use Rattle.sz_full_one.specs.declared.index.SetFiles.{SetFiles}
 use Rattle.sz_tables.specs.Filed.{Filed, Files}
 use Rattle.sz_tables.specs.Rows.{Row, RowTable, IsRowOf, row_at, number_in, set_at, sets_of, pairing_of, pairings}
 use Rattle.sz_full_one.specs.ByCells.{under, by_cells, by_numbers, adds, AreFiledByOuts, AreFiledByIns}
-use Rattle.sz_region.proofs.Added.{any-filter}
+use Rattle.sz_frame.proofs.Added.{any-filter}
 use Rattle.sz_tables.proofs.MetRuns.{any-or, any-ext}
 use Rattle.sz_full_one.proofs.Entries.{found}
 

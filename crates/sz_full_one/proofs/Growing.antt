@@ -15,8 +15,8 @@ use Rattle.std.proofs.lemmas.Option.{unwrap_or-slice_get, same_Some}
 use Rattle.sz_cells.specs.Extent.{Extent, size_of}
 use Rattle.sz_cells.specs.Cells.{Cells, no_cells}
 use Rattle.sz_spec.specs.Values.{extent_at, no_extent}
-use Rattle.sz_region.specs.Parts.{Pairing}
-use Rattle.sz_region.specs.Stands.{set_of}
+use Rattle.sz_frame.specs.Parts.{Pairing}
+use Rattle.sz_frame.specs.Stands.{set_of}
 use Rattle.sz_full_one.specs.declared.index.SetFiles.{SetFiles}
 use Rattle.sz_tables.specs.Filed.{Filed, Files}
 use Rattle.sz_tables.specs.Rows.{Row, RowTable, row_at, number_in, sets_of, pairing_of, pairings, empty_rows}

@@ -8,8 +8,8 @@ use Rattle.sz_spec.specs.declared.modes.Dir.{Dir}
 use Rattle.sz_spec.specs.declared.modes.Dir.TheVariants.{Back, Forward}
 use Rattle.sz_spec.specs.Values.{extent_at}
 use Rattle.sz_spec.specs.Sides.{extent_before, extent_after, image_between}
-use Rattle.sz_region.specs.Walks.{stepped, added}
-use Rattle.sz_region.proofs.Added.{any_cell-added, with-ext}
+use Rattle.sz_frame.specs.Walks.{stepped, added}
+use Rattle.sz_frame.proofs.Added.{any_cell-added, with-ext}
 
 image-all : (dir : Dir) (out : Extent) (ins : List Extent) (i : ℕ) (relation : Cell → Cell → Bool) (from : Cells)
     (x : Cell) → from ≡ cells_where (extent_before dir out ins i) (has from)

@@ -11,8 +11,8 @@ use Rattle.sz_spec.specs.declared.modes.Dir.{Dir}
 use Rattle.sz_spec.specs.declared.modes.Dir.TheVariants.{Back, Forward}
 use Rattle.sz_spec.specs.Shapes.{Site}
 use Rattle.sz_spec.specs.Values.{extent_at}
-use Rattle.sz_region.specs.Parts.{Pairing}
-use Rattle.sz_region.specs.Stands.{set_of}
+use Rattle.sz_frame.specs.Parts.{Pairing}
+use Rattle.sz_frame.specs.Stands.{set_of}
 use Rattle.sz_full_one.specs.declared.index.Index.{Index}
 use Rattle.sz_full_one.specs.declared.index.Index.TheVariants.{Outs, Ins}
 use Rattle.sz_full_one.specs.declared.index.SetFiles.{SetFiles}

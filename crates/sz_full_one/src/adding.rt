@@ -9,7 +9,7 @@ ghost use Rattle.sz_full_one.specs.ByCells.{index_capacities};
 
 use crate::index::Index;
 use std::sync::Arc;
-use sz_region::Region;
+use sz_frame::Region;
 use sz_tables::RegionTable;
 
 /// Adds region pairs, in their order. Takes no memory.

@@ -8,7 +8,7 @@ ghost use Rattle.sz_full_one.specs.ByCells.{pair_cells};
 
 use std::sync::Arc;
 use sz_cells::{CellSet, NoMemory};
-use sz_region::Region;
+use sz_frame::Region;
 
 /// How many runs and cells some sets have together.
 #[derive(Clone, Copy)]

@@ -13,7 +13,7 @@ ghost use Rattle.sz_full_one.specs.ByCells.{index_capacities};
 use crate::filing::file_set;
 use std::alloc::Global;
 use sz_cells::{NoMemory, Shape};
-use sz_region::Region;
+use sz_frame::Region;
 use sz_spec::{Dir, OpAt};
 use sz_tables::{Chains, RegionTable};
 

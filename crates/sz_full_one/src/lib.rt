@@ -28,7 +28,7 @@ ghost use Rattle.std.specs.Arc.{arc_value};
 ghost use Rattle.sz_cells.specs.Cells.{has, with_those};
 ghost use Rattle.sz_spec.specs.Sides.{near_side, far_side, image_in};
 ghost use Rattle.sz_region.specs.FullBytes.{Listed, IsFullWord, BeginsRegions};
-ghost use Rattle.sz_region.specs.Stands.{full_stands};
+ghost use Rattle.sz_frame.specs.Stands.{full_stands};
 ghost use Rattle.sz_region.specs.Stores.{SaysNoRegions};
 ghost use Rattle.sz_tables.specs.Stores.{IsPairOf, IsWithin, room_for_pairs, no_room, most_given};
 ghost use Rattle.sz_tables.specs.Tables.{AreDifferent};
@@ -47,7 +47,8 @@ use std::alloc::Global;
 use std::marker::Model;
 use std::sync::Arc;
 use sz_cells::{CellBits, NoMemory};
-use sz_region::{PieceLineage, Region, Take, take_regions};
+use sz_frame::{PieceLineage, Region};
+use sz_region::{Take, take_regions};
 use sz_spec::{Dir, OpAt};
 use sz_tables::RegionTable;
 
@@ -66,7 +67,7 @@ pub struct FullOne {
 impl Model for FullOne {
     ghost use Rattle.std.specs.Prelude.{◌++◌};
     ghost use Rattle.std.specs.Arc.{arc_value};
-    ghost use Rattle.sz_region.specs.Parts.{Pairing};
+    ghost use Rattle.sz_frame.specs.Parts.{Pairing};
     ghost use Rattle.sz_tables.specs.Rows.{pairings};
     ghost use Rattle.sz_tables.specs.Stores.{Store};
     ghost use Rattle.sz_full_one.specs.ByCells.{IsKeptFor, index_capacities};

@@ -3,12 +3,12 @@
 use Rattle.std.proofs.Common.{◌≡◌, ℕ, ◌+◌, ◌-◌, ◌≤◌, ◌<◌, ◌^◌, min, inl, List, Option, None, Some, [], ◌∷◌, ◌++◌, refl}
 use Rattle.std.proofs.Common.{ap, ◌∙◌, sym, subst, length, take, arith}
 use Rattle.sz_outside.specs.Disk.{Passes, Said, Same, Told, Torn, Writes, HasSize, written}
-use Rattle.sz_log.specs.Log.{Entry, EndsAt, IsEntry, IsLog, group_bytes}
+use Rattle.sz_log.specs.Log.{LogGroup, EndsAt, IsLogGroup, IsLog, group_bytes}
 use Rattle.sz_log.specs.Steps.{KeepsFront, AddsOrKeeps, Added, place_behind}
 use Rattle.sz_log.proofs.Moments.{joined_by, seen_as}
 use Rattle.sz_log.proofs.Tears.{place-inside, kept_log, torn_gate, opened_gate, staged}
 
-pub log_of : (o : Option (List ℕ)) (d : List ℕ) (at : ℕ) → o ≡ Some d → EndsAt o at → (es : List Entry) × IsLog d es at
+pub log_of : (o : Option (List ℕ)) (d : List ℕ) (at : ℕ) → o ≡ Some d → EndsAt o at → (es : List LogGroup) × IsLog d es at
 log_of o d at is ends = subst (λ (p : Option (List ℕ)). EndsAt p at) is ends
 
 pub size_of : (o : Option (List ℕ)) (d : List ℕ) (n : ℕ) → o ≡ Some d → HasSize o n → n ≡ length d
@@ -39,14 +39,14 @@ looks_first {before} {mid} {now} {past} {half} {since} {A} {B} {C} found then k 
     ))
 
 pub as_log : {before now : ℕ} {past since : ℕ → List ℕ → List ℕ → Type 0} {A C : List ℕ → Type 0}
-    {F : List ℕ → Type 0} (at : ℕ) (e : Entry)
+    {F : List ℕ → Type 0} (at : ℕ) (e : LogGroup)
     → Passes before now past since A C (KeepsFront (at + 1)) F
     → Passes before now past since A C (AddsOrKeeps at e) F
 as_log {before} {now} {past} {since} {A} {C} {F} at e one =
     seen_as one (λ image (old, was, keeps). (old, was, λ es held. inl (kept_log old es at held image keeps)))
 
 pub opens : {before mid now : ℕ} {past half since : ℕ → List ℕ → List ℕ → Type 0} {A B C : List ℕ → Type 0}
-    (found then : Option (List ℕ)) (at : ℕ) (e : Entry) (d : List ℕ) → IsEntry e
+    (found then : Option (List ℕ)) (at : ℕ) (e : LogGroup) (d : List ℕ) → IsLogGroup e
     → ((image : List ℕ) → A image → image ≡ d)
     → ((image : List ℕ) → B image → image ≡ staged d at e)
     → Passes before mid past half A B (AddsOrKeeps at e) (Said found)
@@ -74,7 +74,7 @@ writes_told (Some d) new at x here untold = here d refl
 pub untold_by : (o new : Option (List ℕ)) (at : ℕ) (x : List ℕ) → o ≡ None → Writes o new at x → new ≡ None
 untold_by o new at x is wrote = subst (λ (p : Option (List ℕ)). Writes p new at x) is wrote
 
-pub added_told : (o new : Option (List ℕ)) (at : ℕ) (e : Entry) → IsEntry e
+pub added_told : (o new : Option (List ℕ)) (at : ℕ) (e : LogGroup) → IsLogGroup e
     → ((d : List ℕ) → o ≡ Some d → new ≡ Some (written d at (group_bytes e ++ 0 ∷ []))) → (o ≡ None → new ≡ None)
     → Added o new at e
 added_told None new at e is here untold = untold refl
@@ -85,7 +85,7 @@ added_told (Some d) new at e is here untold = (
 )
 
 -- what an append leaves is what the next one wants
-pub ends_behind : (o new : Option (List ℕ)) (at next : ℕ) (e : Entry) → EndsAt o at → Added o new at e
+pub ends_behind : (o new : Option (List ℕ)) (at next : ℕ) (e : LogGroup) → EndsAt o at → Added o new at e
     → Told o (next ≡ place_behind at e) → EndsAt new next
 ends_behind None new at next e ends added told =
     subst (λ (p : Option (List ℕ)). EndsAt p next) (sym added) tt

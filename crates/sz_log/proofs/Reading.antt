@@ -9,7 +9,7 @@ use Rattle.std.proofs.lemmas.List.{take_at, drop_at}
 use Rattle.std.specs.Prelude.{nat_le}
 use Rattle.std.specs.Int.{w64, to_be_bytes}
 use Rattle.std.specs.List.{flat_map, AllByRecursion}
-use Rattle.sz_log.specs.Log.{Entry, IsEntry, group_bytes, header, is_kind}
+use Rattle.sz_log.specs.Log.{LogGroup, IsLogGroup, group_bytes, header, is_kind}
 use Rattle.sz_log.specs.Places.{group_in, opened_with}
 use Rattle.sz_log.specs.Steps.{place_behind}
 use Rattle.sz_log.specs.Laws.{Reads, GroupsAreRead}
@@ -26,7 +26,7 @@ opened_whole : (at kind n left : ℕ) → is_kind kind ≡ true → 10 + n ≤ l
     → opened_with at kind n left ≡ Whole kind (at + 10) n (at + 10 + n)
 opened_whole at kind n left is le = rw (is, has_room n left le) refl
 
-whole_group : (at : ℕ) (e : Entry) (rest : List ℕ) → IsEntry e
+whole_group : (at : ℕ) (e : LogGroup) (rest : List ℕ) → IsLogGroup e
     → group_in at (group_bytes e ++ rest) ≡ Whole e.kind (at + 10) (length e.body) (place_behind at e)
 whole_group at e rest is =
     let spelled : List ℕ = to_be_bytes w64 (length e.body) in
@@ -37,12 +37,12 @@ whole_group at e rest is =
     ∙ opened_whole at e.kind (length e.body) (2 + length (spelled ++ e.body ++ rest)) is.0 (omega (arith, room))
 
 -- the bytes of a group up to its body
-abbrev head : Entry → List ℕ
+abbrev head : LogGroup → List ℕ
 head e = 1 ∷ e.kind ∷ to_be_bytes w64 (length e.body)
 
-walk : (disk front : List ℕ) (es : List Entry) (at end gate : ℕ) (behind : List ℕ)
+walk : (disk front : List ℕ) (es : List LogGroup) (at end gate : ℕ) (behind : List ℕ)
     → disk ≡ front ++ (flat_map group_bytes es ++ gate ∷ behind) → at ≡ length front
-    → end ≡ at + length (flat_map group_bytes es) → AllByRecursion IsEntry es → gate ≢ 1 → Reads disk at es end
+    → end ≡ at + length (flat_map group_bytes es) → AllByRecursion IsLogGroup es → gate ≢ 1 → Reads disk at es end
 walk disk front [] at end gate behind is place last each shut = (
   omega (arith, last),
   ap (group_in at) (ap (λ (l : List ℕ). drop at l) is ∙ drop_at front (gate ∷ behind) at (sym place))

@@ -4,7 +4,7 @@
 -- a row that does not holds two different values equal.
 use Rattle.std.proofs.Common.{◌≡◌, ℕ, true, false, None, Some, List, [], ◌∷◌, ◌++◌, refl, length, take, drop}
 use Rattle.std.proofs.Common.{set, replicate, arith, ap, get_or}
-use Rattle.sz_log.specs.Log.{Entry, IsLog, empty_log, header, begins_as_log, bar_to, log_bytes}
+use Rattle.sz_log.specs.Log.{LogGroup, IsLog, empty_log, header, begins_as_log, bar_to, log_bytes}
 use Rattle.sz_log.specs.Places.{group_on, SpellsLength}
 use Rattle.sz_log.specs.Steps.{IsShort, place_behind}
 use Rattle.sz_log.specs.Laws.{Reads}
@@ -22,7 +22,7 @@ line =
     123 ∷ 34 ∷ 97 ∷ 114 ∷ 114 ∷ 97 ∷ 121 ∷ 34 ∷ 58 ∷ 34 ∷ 97 ∷ 34 ∷ 44 ∷ 34 ∷ 99 ∷ 101 ∷ 108 ∷ 108 ∷ 115 ∷ 34
     ∷ 58 ∷ 91 ∷ 91 ∷ 53 ∷ 93 ∷ 93 ∷ 125 ∷ []
 
-abbrev pub one : Entry
+abbrev pub one : LogGroup
 one = record { kind = 1; body = line }
 
 -- the log of 54 bytes that has it as its one group

@@ -5,7 +5,7 @@
 use Rattle.std.proofs.Common.{◌≡◌, ℕ, ◌^◌, true, false, None, Some, Option, List, [], ◌∷◌, ◌++◌, refl, length}
 use Rattle.std.proofs.Common.{set, replicate, arith, ap, sym, get_or, inl, inr, Ok, Err, true≢false}
 use Rattle.std.proofs.Common.{length-append, subst, unwrap_or}
-use Rattle.sz_log.specs.Log.{Entry, IsEntry, IsLog, EndsAt, empty_log, header, log_bytes}
+use Rattle.sz_log.specs.Log.{LogGroup, IsLogGroup, IsLog, EndsAt, empty_log, header, log_bytes}
 use Rattle.sz_log.specs.Places.{StandsAt, SpellsAt, SaysWhether}
 use Rattle.sz_log.specs.Steps.{Adds, Added, KeepsFront, IsShort, Makes, MakesIfFree, JudgesTold}
 use Rattle.sz_log.specs.Steps.{IsMade, Spares, is_no_failure, AddsOrKeeps}
@@ -21,13 +21,13 @@ long = replicate 18 7
 
 -- ---- a group
 
-pub entry-one : IsEntry one
+pub entry-one : IsLogGroup one
 entry-one = (refl, omega arith)
 
-pub entry-kind_5 : IsEntry (record { kind = 5; body = line }) → ⊥
+pub entry-kind_5 : IsLogGroup (record { kind = 5; body = line }) → ⊥
 entry-kind_5 is = true≢false (sym is.0)
 
-pub entry-too_long : (e : Entry) → length e.body ≡ 2 ^ 64 → IsEntry e → ⊥
+pub entry-too_long : (e : LogGroup) → length e.body ≡ 2 ^ 64 → IsLogGroup e → ⊥
 entry-too_long e long is = omega (arith, long, is.1)
 
 -- ---- a log

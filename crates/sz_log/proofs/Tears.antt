@@ -8,7 +8,7 @@ use Rattle.std.proofs.lemmas.List.{take_at, drop_at, drop_more, drop_all, length
 use Rattle.std.proofs.lemmas.Bool.{cases_eq}
 use Rattle.std.specs.List.{flat_map, AllByRecursion}
 use Rattle.sz_outside.specs.Disk.{Torn, written}
-use Rattle.sz_log.specs.Log.{Entry, IsEntry, IsLog, entry_bytes, group_bytes, log_bytes, header}
+use Rattle.sz_log.specs.Log.{LogGroup, IsLogGroup, IsLog, bytes_behind_gate, group_bytes, log_bytes, header}
 use Rattle.sz_log.specs.Steps.{KeepsFront, place_behind}
 
 -- ---- lists
@@ -79,35 +79,35 @@ written-before d at b x lt =
 
 -- ---- logs
 
-pub flat_map-last : (es : List Entry) (e : Entry)
+pub flat_map-last : (es : List LogGroup) (e : LogGroup)
     → flat_map group_bytes (es ++ e ∷ []) ≡ flat_map group_bytes es ++ group_bytes e
 flat_map-last [] e = append-nil (group_bytes e)
 flat_map-last (x ∷ es) e =
     ap (λ (l : List ℕ). group_bytes x ++ l) (flat_map-last es e)
     ∙ sym (append_assoc (group_bytes x) (flat_map group_bytes es) (group_bytes e))
 
-pub each-last : (es : List Entry) (e : Entry) → AllByRecursion IsEntry es → IsEntry e
-    → AllByRecursion IsEntry (es ++ e ∷ [])
+pub each-last : (es : List LogGroup) (e : LogGroup) → AllByRecursion IsLogGroup es → IsLogGroup e
+    → AllByRecursion IsLogGroup (es ++ e ∷ [])
 each-last [] e all is = (is, tt)
 each-last (x ∷ es) e all is = (all.0, each-last es e all.1 is)
 
-pub log-last : (es : List Entry) (e : Entry) → log_bytes (es ++ e ∷ []) ≡ log_bytes es ++ group_bytes e
+pub log-last : (es : List LogGroup) (e : LogGroup) → log_bytes (es ++ e ∷ []) ≡ log_bytes es ++ group_bytes e
 log-last es e = ap (λ (l : List ℕ). header ++ l) (flat_map-last es e)
     ∙ sym (append_assoc header (flat_map group_bytes es) (group_bytes e))
 
-length-entry : (e : Entry) → length (entry_bytes e) ≡ 9 + length e.body
+length-entry : (e : LogGroup) → length (bytes_behind_gate e) ≡ 9 + length e.body
 length-entry e = omega arith
 
 -- whatever closes the gate and stands behind it
-pub is_log_with : (es : List Entry) (at gate : ℕ) (behind disk : List ℕ) → at ≡ length (log_bytes es)
-    → AllByRecursion IsEntry es
+pub is_log_with : (es : List LogGroup) (at gate : ℕ) (behind disk : List ℕ) → at ≡ length (log_bytes es)
+    → AllByRecursion IsLogGroup es
     → gate ≢ 1 → disk ≡ log_bytes es ++ gate ∷ behind → IsLog disk es at
 is_log_with es at gate behind disk place each closed bytes =
     record { gate = gate; behind = behind; closed = closed; bytes = bytes; place = place; each = each }
 
 -- a group whole behind an open gate, and a closed gate behind it
-pub is_log_more : (es : List Entry) (e : Entry) (at : ℕ) (rest disk : List ℕ) → at ≡ length (log_bytes es)
-    → AllByRecursion IsEntry es → IsEntry e → disk ≡ log_bytes es ++ 1 ∷ (entry_bytes e ++ 0 ∷ rest)
+pub is_log_more : (es : List LogGroup) (e : LogGroup) (at : ℕ) (rest disk : List ℕ) → at ≡ length (log_bytes es)
+    → AllByRecursion IsLogGroup es → IsLogGroup e → disk ≡ log_bytes es ++ 1 ∷ (bytes_behind_gate e ++ 0 ∷ rest)
     → IsLog disk (es ++ e ∷ []) (place_behind at e)
 is_log_more es e at rest disk place each is bytes = record {
   gate = 0;
@@ -126,10 +126,10 @@ is_log_more es e at rest disk place each is bytes = record {
 }
 
 -- a disk with a group written behind the gate at a place, and a closed gate behind it
-abbrev pub staged : List ℕ → ℕ → Entry → List ℕ
-staged d at e = written d (at + 1) (entry_bytes e ++ 0 ∷ [])
+abbrev pub staged : List ℕ → ℕ → LogGroup → List ℕ
+staged d at e = written d (at + 1) (bytes_behind_gate e ++ 0 ∷ [])
 
-module _ (d : List ℕ) (es : List Entry) (at : ℕ) (held : IsLog d es at) where
+module _ (d : List ℕ) (es : List LogGroup) (at : ℕ) (held : IsLog d es at) where
   pub place-inside : at + 1 ≤ length d
   place-inside = omega (arith, held.place, ap length held.bytes, length-append (log_bytes es) (held.gate ∷ held.behind))
 
@@ -154,22 +154,22 @@ module _ (d : List ℕ) (es : List Entry) (at : ℕ) (held : IsLog d es at) wher
       ∙ append_assoc (log_bytes es) (held.gate ∷ []) (drop (at + 1) image) in
       is_log_with es at held.gate (drop (at + 1) image) image held.place held.each held.closed whole
 
-  abbrev pub rest : (e : Entry) → List ℕ
-  rest e = drop (at + 1 + length (entry_bytes e ++ 0 ∷ [])) d
+  abbrev pub rest : (e : LogGroup) → List ℕ
+  rest e = drop (at + 1 + length (bytes_behind_gate e ++ 0 ∷ [])) d
 
-  staged-is : (e : Entry) → written d (at + 1) (entry_bytes e ++ 0 ∷ [])
-      ≡ log_bytes es ++ held.gate ∷ (entry_bytes e ++ 0 ∷ rest e)
+  staged-is : (e : LogGroup) → written d (at + 1) (bytes_behind_gate e ++ 0 ∷ [])
+      ≡ log_bytes es ++ held.gate ∷ (bytes_behind_gate e ++ 0 ∷ rest e)
   staged-is e =
-      append_assoc (take (at + 1) d) (entry_bytes e ++ 0 ∷ []) (rest e)
-      ∙ ap (λ (l : List ℕ). l ++ (entry_bytes e ++ 0 ∷ [] ++ rest e)) front
-      ∙ append_assoc (log_bytes es) (held.gate ∷ []) (entry_bytes e ++ 0 ∷ [] ++ rest e)
-      ∙ ap (λ (l : List ℕ). log_bytes es ++ held.gate ∷ l) (append_assoc (entry_bytes e) (0 ∷ []) (rest e))
+      append_assoc (take (at + 1) d) (bytes_behind_gate e ++ 0 ∷ []) (rest e)
+      ∙ ap (λ (l : List ℕ). l ++ (bytes_behind_gate e ++ 0 ∷ [] ++ rest e)) front
+      ∙ append_assoc (log_bytes es) (held.gate ∷ []) (bytes_behind_gate e ++ 0 ∷ [] ++ rest e)
+      ∙ ap (λ (l : List ℕ). log_bytes es ++ held.gate ∷ l) (append_assoc (bytes_behind_gate e) (0 ∷ []) (rest e))
 
   -- when the gate is torn, the log is without the group or has it whole
-  pub torn_gate : (e : Entry) → IsEntry e → (image : List ℕ) → Torn at 1 (staged d at e) image
+  pub torn_gate : (e : LogGroup) → IsLogGroup e → (image : List ℕ) → Torn at 1 (staged d at e) image
       → IsLog image es at ⊎ IsLog image (es ++ e ∷ []) (place_behind at e)
   torn_gate e is image torn =
-      let tail : List ℕ = entry_bytes e ++ 0 ∷ rest e in
+      let tail : List ℕ = bytes_behind_gate e ++ 0 ∷ rest e in
       let gate : ℕ = get_or image at 0 in
       let long : length (staged d at e) ≡ at + 1 + length tail =
       omega (arith, held.place, ap length (staged-is e), length-append (log_bytes es) (held.gate ∷ tail)) in
@@ -190,7 +190,7 @@ module _ (d : List ℕ) (es : List Entry) (at : ℕ) (held : IsLog d es at) wher
       ]
 
   -- and when it is written it has it
-  pub opened_gate : (e : Entry) → IsEntry e
+  pub opened_gate : (e : LogGroup) → IsLogGroup e
       → IsLog (written d at (group_bytes e ++ 0 ∷ [])) (es ++ e ∷ []) (place_behind at e)
   opened_gate e is =
       let tail : List ℕ = drop (at + length (group_bytes e ++ 0 ∷ [])) d in

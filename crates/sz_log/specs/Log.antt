@@ -28,39 +28,39 @@ abbrev pub empty_log : List ℕ
 empty_log = header ++ 0 ∷ []
 
 -- What a group is, wherever it stands.
-pub record Entry : Type 0 where
+pub record LogGroup : Type 0 where
   pub kind : ℕ
   pub body : List ℕ
 
 -- The bytes behind a group's gate: its kind, eight bytes of its body's length, and its body.
-abbrev pub entry_bytes : Entry → List ℕ
-entry_bytes e = e.kind ∷ (to_be_bytes w64 (length e.body) ++ e.body)
+abbrev pub bytes_behind_gate : LogGroup → List ℕ
+bytes_behind_gate e = e.kind ∷ (to_be_bytes w64 (length e.body) ++ e.body)
 
 -- A group with its gate open.
-abbrev pub group_bytes : Entry → List ℕ
-group_bytes e = 1 ∷ entry_bytes e
+abbrev pub group_bytes : LogGroup → List ℕ
+group_bytes e = 1 ∷ bytes_behind_gate e
 
 -- It is of a kind of group, and its body's length has eight bytes.
-abbrev pub IsEntry : Entry → Type 0
-IsEntry e = (is_kind e.kind ≡ true) × (length e.body < 2 ^ 64)
+abbrev pub IsLogGroup : LogGroup → Type 0
+IsLogGroup e = (is_kind e.kind ≡ true) × (length e.body < 2 ^ 64)
 
 -- The bytes of a log up to its first closed gate.
-abbrev pub log_bytes : List Entry → List ℕ
+abbrev pub log_bytes : List LogGroup → List ℕ
 log_bytes entries = header ++ flat_map group_bytes entries
 
 -- The disk is a log with these groups, whose first closed gate stands at a place.
-pub record IsLog (disk : List ℕ) (entries : List Entry) (at : ℕ) : Type 0 where
+pub record IsLog (disk : List ℕ) (entries : List LogGroup) (at : ℕ) : Type 0 where
   pub gate : ℕ
   pub behind : List ℕ
   pub closed : gate ≢ 1
   pub bytes : disk ≡ log_bytes entries ++ gate ∷ behind
   pub place : at ≡ length (log_bytes entries)
-  pub each : AllByRecursion IsEntry entries
+  pub each : AllByRecursion IsLogGroup entries
 
 -- The disk is a log whose first closed gate stands at a place, whatever its groups.
 abbrev pub EndsAt : Option (List ℕ) → ℕ → Type 0
 EndsAt None at = ⊤
-EndsAt (Some disk) at = (entries : List Entry) × IsLog disk entries at
+EndsAt (Some disk) at = (entries : List LogGroup) × IsLog disk entries at
 
 -- What keeps a disk from being made a log: it begins as one, or has more than 17 bytes.
 abbrev pub bar_to : List ℕ → Option LogFault

@@ -3,27 +3,27 @@
 use Rattle.std.specs.Prelude.{◌≡◌, ◌⊎◌, ℕ, ◌+◌, ◌≤◌, Bool, true, false, ⊤}
 use Rattle.std.specs.Prelude.{Option, None, Some, List, [], ◌∷◌, ◌++◌, length, take, Result, Ok}
 use Rattle.std.specs.Prelude.{Err}
-use Rattle.sz_log.specs.Log.{Entry, IsLog, begins_as_log, empty_log, bar_to}
+use Rattle.sz_log.specs.Log.{LogGroup, IsLog, begins_as_log, empty_log, bar_to}
 use Rattle.sz_log.specs.declared.LogEnd.{LogEnd}
 use Rattle.sz_log.specs.declared.LogFault.{LogFault}
 use Rattle.sz_log.specs.declared.LogFault.TheVariants as fault
 
 -- The place behind a group whose gate stands at a place.
-abbrev pub place_behind : ℕ → Entry → ℕ
+abbrev pub place_behind : ℕ → LogGroup → ℕ
 place_behind at e = at + 10 + length e.body
 
 -- A log whose closed gate stands at a place has this group behind its others.
-abbrev pub Adds : ℕ → Entry → List ℕ → List ℕ → Type 0
-Adds at e old new = (entries : List Entry) → IsLog old entries at
+abbrev pub Adds : ℕ → LogGroup → List ℕ → List ℕ → Type 0
+Adds at e old new = (entries : List LogGroup) → IsLog old entries at
     → IsLog new (entries ++ e ∷ []) (place_behind at e)
 
 -- It is without the group, or has it whole.
-abbrev pub AddsOrKeeps : ℕ → Entry → List ℕ → List ℕ → Type 0
-AddsOrKeeps at e old new = (entries : List Entry) → IsLog old entries at
+abbrev pub AddsOrKeeps : ℕ → LogGroup → List ℕ → List ℕ → Type 0
+AddsOrKeeps at e old new = (entries : List LogGroup) → IsLog old entries at
     → IsLog new entries at ⊎ IsLog new (entries ++ e ∷ []) (place_behind at e)
 
 -- The disk has the group in the end, where it is told; a disk that is not told stays so.
-abbrev pub Added : Option (List ℕ) → Option (List ℕ) → ℕ → Entry → Type 0
+abbrev pub Added : Option (List ℕ) → Option (List ℕ) → ℕ → LogGroup → Type 0
 Added None new at e = new ≡ None
 Added (Some disk) new at e = (image : List ℕ) × (new ≡ Some image) × Adds at e disk image
 

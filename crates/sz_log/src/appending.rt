@@ -4,7 +4,7 @@ ghost use Rattle.std.specs.Prelude.{IfOk, OnOk, is_ok, length, None};
 ghost use Rattle.std.specs.Int.{w64, to_be_bytes};
 ghost use Rattle.sz_outside.specs.Counts.{faults_after};
 ghost use Rattle.sz_outside.specs.Disk.{Told, Passes, Said, Only, HasPlace, Writes, written};
-ghost use Rattle.sz_log.specs.Log.{Entry, EndsAt, is_kind, entry_bytes, group_bytes};
+ghost use Rattle.sz_log.specs.Log.{LogGroup, EndsAt, is_kind, bytes_behind_gate, group_bytes};
 ghost use Rattle.sz_log.specs.Steps.{Added, AddsOrKeeps, KeepsFront, place_behind};
 
 use crate::LogEnd;
@@ -59,7 +59,7 @@ fn stage<T: Station>(station: &mut T, at: u64, kind: u8, body: &[u8]) -> Result<
     requires place { HasPlace (T.disk station.old) at }
     ensures written { OnOk result ((d : List ℕ) → T.disk station.old ≡ Some d → at ≤ length d
         → T.disk station.new ≡ Some (written d at
-        (entry_bytes (record { kind = kind; body = body.now }) ++ 0 ∷ []))) }
+        (bytes_behind_gate (record { kind = kind; body = body.now }) ++ 0 ∷ []))) }
     ensures untold { OnOk result (T.disk station.old ≡ None → T.disk station.new ≡ None) }
     ensures gate { IfOk result (λ gate. (d : List ℕ) → T.disk station.old ≡ Some d
         → at ≤ length d → gate ≡ at + 9 + length body.now) }

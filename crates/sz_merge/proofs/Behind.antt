@@ -16,8 +16,8 @@ use Rattle.sz_spec.specs.declared.modes.Mode.TheVariants as mode
 use Rattle.sz_spec.specs.declared.modes.Strategy.{Strategy}
 use Rattle.sz_spec.specs.Shapes.{Site}
 use Rattle.sz_spec.specs.Modes.{mode_of, is_stored}
-use Rattle.sz_region.specs.Parts.{Pairing, Entry}
-use Rattle.sz_region.specs.Stands.{full_stands}
+use Rattle.sz_frame.specs.Parts.{Pairing, Entry}
+use Rattle.sz_frame.specs.Stands.{full_stands}
 use Rattle.sz_region.specs.Putting.{HasShapes, CanPutRegions}
 use Rattle.sz_region.specs.FullBytes.{Listed, IsFullWord, BeginsRegions}
 use Rattle.sz_region.specs.PayBytes.{BeginsEntries}

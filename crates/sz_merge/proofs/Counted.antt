@@ -28,10 +28,10 @@ use Rattle.sz_spec.specs.Values.{Grid, extents_of, extent_at, input_at, no_exten
 use Rattle.sz_spec.specs.Shapes.{Site, output_extent}
 use Rattle.sz_spec.specs.Lineage.{related}
 use Rattle.sz_spec.specs.Kinds.{lineage_of, is_nothing, same_sets, different, kinds_of}
-use Rattle.sz_region.specs.Parts.{Pairing}
-use Rattle.sz_region.specs.Stands.{set_of, full_stands}
-use Rattle.sz_region.specs.Images.{measure_of}
-use Rattle.sz_region.specs.Laws.{IsTheRelation}
+use Rattle.sz_frame.specs.Parts.{Pairing}
+use Rattle.sz_frame.specs.Stands.{set_of, full_stands}
+use Rattle.sz_frame.specs.Images.{measure_of}
+use Rattle.sz_frame.specs.Laws.{IsTheRelation}
 use Rattle.sz_region.specs.Putting.{HasShapes}
 use Rattle.sz_region.specs.FullBytes.{Listed, IsListed, listed_from, AreNumbersOf, AreNamesOf, BeginsRegions}
 use Rattle.sz_region.proofs.ReadShapes.{read-shapes}

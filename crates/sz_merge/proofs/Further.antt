@@ -20,8 +20,8 @@ use Rattle.sz_cells.specs.SetBytes.{IsSetOf}
 use Rattle.sz_cells.proofs.Runs.{any-covers}
 use Rattle.sz_cells.proofs.Sets.{has-cells_where_any}
 use Rattle.sz_spec.specs.Values.{extent_at, no_extent}
-use Rattle.sz_region.specs.Parts.{Pairing}
-use Rattle.sz_region.specs.Stands.{set_of}
+use Rattle.sz_frame.specs.Parts.{Pairing}
+use Rattle.sz_frame.specs.Stands.{set_of}
 use Rattle.sz_region.specs.FullBytes.{Listed, IsListed, AreNamesOf}
 use Rattle.sz_tables.specs.Tables.{AreDifferent, HasAtMostOneMore}
 use Rattle.sz_merge.specs.Lineages.{is_nothing}

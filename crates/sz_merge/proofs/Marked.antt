@@ -23,8 +23,8 @@ use Rattle.std.proofs.lemmas.Option.{get_or_from_slice_get}
 use Rattle.sz_cells.specs.declared.Cell.{Cell}
 use Rattle.sz_cells.specs.Extent.{Extent, size_of, cell_of}
 use Rattle.sz_cells.specs.Cells.{Cells, has}
-use Rattle.sz_region.specs.Parts.{Pairing}
-use Rattle.sz_region.specs.Stands.{set_of, full_stands}
+use Rattle.sz_frame.specs.Parts.{Pairing}
+use Rattle.sz_frame.specs.Stands.{set_of, full_stands}
 use Rattle.sz_merge.specs.Lineages.{sets_where, nothing, behind, joined, list_at, KeepsNumbers}
 use Rattle.sz_merge.specs.Marks.{IsNext, AreMarked, AreLabels, AreNumbers, has_in, has_index}
 use Rattle.sz_merge.proofs.Sets.{sets_where-ext, joined-where, or-false}

@@ -15,7 +15,7 @@ use Rattle.sz_cells.specs.Cells.{Cells, has}
 use Rattle.sz_spec.specs.declared.op.Op.TheVariants as op
 use Rattle.sz_spec.specs.declared.modes.Strategy.TheVariants as strategy
 use Rattle.sz_spec.specs.Shapes.{Site}
-use Rattle.sz_region.specs.Parts.{Pairing}
+use Rattle.sz_frame.specs.Parts.{Pairing}
 use Rattle.sz_region.specs.Putting.{HasShapes}
 use Rattle.sz_store.specs.Kept.{regions, entries}
 use Rattle.sz_merge.specs.Distinct.{AreKinds, HasBothSides}

@@ -29,9 +29,9 @@ use Rattle.sz_cells.proofs.Sets.{any-filter_range}
 use Rattle.sz_cells.proofs.Rising.{filter-rising}
 use Rattle.sz_cells.proofs.Runs.{any-covers}
 use Rattle.sz_spec.specs.Values.{extent_at}
-use Rattle.sz_region.specs.Parts.{Pairing}
+use Rattle.sz_frame.specs.Parts.{Pairing}
 use Rattle.sz_region.specs.Putting.{HasShapes}
-use Rattle.sz_region.specs.Stands.{set_of, full_stands}
+use Rattle.sz_frame.specs.Stands.{set_of, full_stands}
 use Rattle.sz_tables.specs.Rows.{set_at}
 use Rattle.sz_tables.specs.Tables.{AreDifferent, spelled}
 use Rattle.sz_merge.specs.Lineages.{nothing, behind, list_at, is_nothing}

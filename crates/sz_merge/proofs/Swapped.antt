@@ -8,8 +8,8 @@ use Rattle.std.proofs.lemmas.List.Elements.{All-head, All-tail, All-cons, All-ni
 use Rattle.sz_spec.specs.declared.modes.Strategy.{Strategy}
 use Rattle.sz_spec.specs.Values.{Grid}
 use Rattle.sz_spec.specs.Shapes.{Site}
-use Rattle.sz_region.specs.Images.{measure_of}
-use Rattle.sz_region.specs.Laws.{IsTheRelation}
+use Rattle.sz_frame.specs.Images.{measure_of}
+use Rattle.sz_frame.specs.Laws.{IsTheRelation}
 use Rattle.sz_store.specs.Kept.{Holding, regions, entries, Keep, NodeLineage, holding_stands}
 use Rattle.sz_shelf.specs.Tags.{Tag, StandsFor}
 use Rattle.sz_merge.specs.Merged.{IsMergedTo, IsMergedKeep, AreMerged}

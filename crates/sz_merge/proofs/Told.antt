@@ -19,9 +19,9 @@ use Rattle.sz_spec.specs.Values.{Grid, extents_of, no_extent}
 use Rattle.sz_spec.specs.Shapes.{Site, output_extent}
 use Rattle.sz_spec.specs.Kinds.{kinds_of}
 use Rattle.sz_spec.specs.Modes.{mode_of, is_stored}
-use Rattle.sz_region.specs.Parts.{Pairing}
-use Rattle.sz_region.specs.Images.{measure_of}
-use Rattle.sz_region.specs.Laws.{IsTheRelation}
+use Rattle.sz_frame.specs.Parts.{Pairing}
+use Rattle.sz_frame.specs.Images.{measure_of}
+use Rattle.sz_frame.specs.Laws.{IsTheRelation}
 use Rattle.sz_store.specs.Kept.{Holding, regions, entries, Keep, holding_stands, stored_in}
 use Rattle.sz_store.specs.Words.{Begins, BeginEach}
 use Rattle.sz_merge.specs.Distinct.{AreKinds}

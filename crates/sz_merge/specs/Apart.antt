@@ -3,8 +3,8 @@ use Rattle.std.specs.Prelude.{◌≡◌, ◌≢◌, ℕ, List, [], ◌∷◌, �
 use Rattle.std.specs.List.{list_any, slice_get}
 use Rattle.sz_cells.specs.declared.Cell.{Cell}
 use Rattle.sz_cells.specs.Cells.{Cells, has}
-use Rattle.sz_region.specs.Parts.{Pairing}
-use Rattle.sz_region.specs.Stands.{set_of}
+use Rattle.sz_frame.specs.Parts.{Pairing}
+use Rattle.sz_frame.specs.Stands.{set_of}
 use Rattle.sz_merge.specs.Distinct.{HasBothSides}
 
 -- no output cell is in two of the region pairs

@@ -6,8 +6,8 @@ use Rattle.sz_cells.specs.Extent.{Extent}
 use Rattle.sz_cells.specs.Cells.{Cells, cells_where, union_of}
 use Rattle.sz_cells.specs.SetBytes.{set_bytes}
 use Rattle.sz_spec.specs.Values.{extent_at}
-use Rattle.sz_region.specs.Parts.{Pairing}
-use Rattle.sz_region.specs.Stands.{full_stands}
+use Rattle.sz_frame.specs.Parts.{Pairing}
+use Rattle.sz_frame.specs.Stands.{full_stands}
 use Rattle.sz_tables.specs.Rows.{set_at}
 
 -- of each input the cells that pass the test of that input

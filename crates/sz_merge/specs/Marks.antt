@@ -7,8 +7,8 @@ use Rattle.sz_cells.specs.declared.Run.{Run}
 use Rattle.sz_cells.specs.Extent.{Extent, size_of, cell_of}
 use Rattle.sz_cells.specs.Cells.{Cells, has}
 use Rattle.sz_cells.specs.Runs.{AreRunsFrom, covers}
-use Rattle.sz_region.specs.Parts.{Pairing}
-use Rattle.sz_region.specs.Stands.{set_of}
+use Rattle.sz_frame.specs.Parts.{Pairing}
+use Rattle.sz_frame.specs.Stands.{set_of}
 use Rattle.sz_tables.specs.Tables.{spelled}
 use Rattle.sz_merge.specs.Lineages.{sets_where, nothing, behind, list_at, KeepsNumbers}
 

@@ -5,7 +5,7 @@ use Rattle.std.specs.List.{AllZip}
 use Rattle.sz_cells.specs.declared.Cell.{Cell}
 use Rattle.sz_spec.specs.declared.modes.Strategy.{Strategy}
 use Rattle.sz_spec.specs.Shapes.{Site}
-use Rattle.sz_region.specs.Parts.{Entry}
+use Rattle.sz_frame.specs.Parts.{Entry}
 use Rattle.sz_payload.specs.Begins.{BeginsPayloads}
 use Rattle.sz_region.specs.Putting.{HasShapes}
 use Rattle.sz_store.specs.Kept.{Holding, regions, entries, Keep, NodeLineage, holding_stands}

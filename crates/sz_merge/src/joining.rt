@@ -12,7 +12,7 @@ use std::alloc::Global;
 use std::sync::Arc;
 use sz_cells::laws::a_set_is_its_cells;
 use sz_cells::{CellSet, NoMemory};
-use sz_region::Region;
+use sz_frame::Region;
 
 /// A number of a lineage, and that of the one which has the input sets of a region pair more.
 #[derive(Clone, Copy)]

@@ -7,7 +7,7 @@ ghost use Rattle.sz_cells.specs.declared.Cell.{Cell};
 ghost use Rattle.sz_cells.specs.Extent.{size_of};
 ghost use Rattle.sz_cells.specs.Runs.{AreRunsFrom};
 ghost use Rattle.sz_region.specs.Putting.{HasShapes};
-ghost use Rattle.sz_region.specs.Stands.{full_stands};
+ghost use Rattle.sz_frame.specs.Stands.{full_stands};
 ghost use Rattle.sz_tables.specs.Tables.{spelled};
 ghost use Rattle.sz_merge.specs.Distinct.{AreKinds};
 ghost use Rattle.sz_merge.specs.Lineages.{list_at};
@@ -19,7 +19,7 @@ use crate::marking::label_cells;
 use std::alloc::Global;
 use std::sync::Arc;
 use sz_cells::{CellSet, NoMemory, Run, Shape};
-use sz_region::{Region, SetList};
+use sz_frame::{Region, SetList};
 
 /// Region pairs that stand for the same as these, one for each kind of lineage.
 pub fn kinds_of(

@@ -14,7 +14,8 @@ use std::marker::Model;
 use std::sync::Arc;
 use sz_cells::laws::{a_set_is_its_cells, a_shape_is_within_limits};
 use sz_cells::{CellSet, NoMemory, Shape};
-use sz_region::{SetList, put_set};
+use sz_frame::SetList;
+use sz_region::put_set;
 use sz_tables::PayloadTable;
 
 /// Lineages over inputs of some shapes, each different one once. Number 0 is the one of no cell.

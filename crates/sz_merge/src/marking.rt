@@ -14,7 +14,7 @@ use crate::lineages::LineageTable;
 use std::alloc::Global;
 use std::sync::Arc;
 use sz_cells::{NoMemory, Run, Shape};
-use sz_region::Region;
+use sz_frame::Region;
 
 /// For each output cell the number of what stands behind it by these region pairs.
 ///

@@ -7,7 +7,7 @@ ghost use Rattle.std.specs.Arc.{arc_value};
 ghost use Rattle.sz_spec.specs.Modes.{mode_of, is_stored};
 ghost use Rattle.sz_spec.specs.declared.modes.Mode.TheVariants as mode;
 ghost use Rattle.sz_region.specs.LawsStores.{AreRight};
-ghost use Rattle.sz_region.specs.Parts.{Entry, Pairing};
+ghost use Rattle.sz_frame.specs.Parts.{Entry, Pairing};
 ghost use Rattle.sz_region.specs.FullBytes.{BeginsRegions};
 ghost use Rattle.sz_region.specs.PayBytes.{BeginsEntries};
 ghost use Rattle.sz_payload.specs.Begins.{BeginsPayloads};
@@ -22,7 +22,8 @@ use std::alloc::Global;
 use std::sync::Arc;
 use sz_cells::laws::a_shape_is_within_limits;
 use sz_cells::{NoMemory, Shape};
-use sz_region::{Region, put_regions, take_entries, take_regions};
+use sz_frame::Region;
+use sz_region::{put_regions, take_entries, take_regions};
 use sz_spec::{Mode, OpAt, Strategy};
 
 /// Merges the stores of a list of strategies, whose bytes begin one after another: their words are

@@ -9,10 +9,10 @@ ghost use Rattle.sz_spec.specs.Evaluation.{value_of, output_of};
 ghost use Rattle.sz_spec.specs.Lineage.{related, mapped};
 ghost use Rattle.sz_spec.specs.Modes.{has_mapping, supports};
 ghost use Rattle.sz_spec.specs.Pieces.{pieces_of};
-ghost use Rattle.sz_region.specs.Fits.{Fits};
+ghost use Rattle.sz_frame.specs.Fits.{Fits};
 ghost use Rattle.sz_spec.specs.Sides.{near_side, far_side, image_in};
-ghost use Rattle.sz_region.specs.Images.{measure_of};
-ghost use Rattle.sz_region.specs.Written.{cells_in_piece, parts_by};
+ghost use Rattle.sz_frame.specs.Images.{measure_of};
+ghost use Rattle.sz_frame.specs.Written.{cells_in_piece, parts_by};
 ghost use Rattle.sz_ops.specs.Aids.{aid_of};
 
 use crate::aid::Aid;
@@ -20,7 +20,7 @@ use crate::table::{at_work, choose, mapping};
 use std::alloc::Global;
 use std::sync::Arc;
 use sz_cells::{Cell, CellBits, NoMemory};
-use sz_region::{AtWork, MapOf, PieceLineage, image_by, piece_by, run_by, trace_by};
+use sz_frame::{AtWork, MapOf, PieceLineage, image_by, piece_by, run_by, trace_by};
 use sz_spec::{Array, Dir, Op, OpAt, Strategy, Tally, Value};
 
 /// What is prepared for an operator and these inputs: what its values need. For connected regions
@@ -59,7 +59,7 @@ pub fn value_at(at: &OpAt, inputs: &[Arc<Array>], aid: &Aid, cell: Cell) -> Valu
     requires cell { holds at.now.out cell ≡ true }
     ensures { result ≡ value_of at.now.op (map (λ a. arc_value a) inputs.now) cell }
 {
-    let shape = sz_region::at_work(at, inputs);
+    let shape = sz_frame::at_work(at, inputs);
     let index = shape.index(cell);
     at_work!(
         at, inputs;
@@ -76,7 +76,7 @@ pub fn run(alloc: Global, at: &OpAt, inputs: &[Arc<Array>]) -> Result<Array, NoM
     requires inputs { extents_of (map (λ a. arc_value a) inputs.now) ≡ at.now.ins }
     ensures { IfOk result (λ a. a ≡ output_of at.now.op (map (λ a. arc_value a) inputs.now)) }
 {
-    sz_region::at_work(at, inputs);
+    sz_frame::at_work(at, inputs);
     choose!(
         at, inputs;
         elementwise of => of.run(alloc, inputs);
@@ -98,7 +98,7 @@ pub fn run_prepared<'x>(
     requires aid { aid.now ≡ aid_of at.now.op (map (λ a. arc_value a) inputs.now) }
     ensures { IfOk result (λ a. a ≡ output_of at.now.op (map (λ a. arc_value a) inputs.now)) }
 {
-    sz_region::at_work(at, inputs);
+    sz_frame::at_work(at, inputs);
     match at.op() {
         Op::Regions { .. } => {
             let aid = aid.components(at, inputs);
@@ -133,7 +133,7 @@ pub fn piece(
     ensures ticks { OnOk result (tally.new ≡ tally.old + cells_in_piece at.now.out k) }
     ensures kept { OnErr result (tally.new ≡ tally.old) }
 {
-    sz_region::at_work(at, inputs);
+    sz_frame::at_work(at, inputs);
     at_work!(
         at, inputs;
         work => piece_by(alloc, &work, k, list, tally);
@@ -165,7 +165,7 @@ pub fn trace(
         (related at.now.op (map (λ a. arc_value a) inputs.now) input) from.now))) }
     ensures ticks { OnOk result (tally.new ≡ tally.old + size_of at.now.out) }
 {
-    sz_region::at_work(at, inputs);
+    sz_frame::at_work(at, inputs);
     at_work!(
         at, inputs;
         work => {

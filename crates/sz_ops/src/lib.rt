@@ -14,7 +14,7 @@
 //! image_by_map(&at, Dir::Back, 0, &from, &mut to);
 //! ```
 //!
-//! Each call is the frame's of `sz_region`, over the operator's own type. `table` says which that
+//! Each call is the frame's of `sz_frame`, over the operator's own type. `table` says which that
 //! is, of which crate; it is looked into once a call. A further operator is one arm there, and
 //! nothing else here.
 #![tactic(auto)]

@@ -8,7 +8,7 @@ use crate::table::{choose, mapping};
 use std::marker::Model;
 use std::sync::Arc;
 use sz_cells::{Cell, CellBits};
-use sz_region::Mapping;
+use sz_frame::Mapping;
 use sz_spec::{Mapper, OpAt};
 
 /// The mapping of an operator between its shapes. Contracts see the operator with these.

@@ -89,11 +89,11 @@ macro_rules! at_work {
         choose!(
             $at, $inputs;
             elementwise of => {
-                let $work = sz_region::Mapped { of, inputs: $inputs };
+                let $work = sz_frame::Mapped { of, inputs: $inputs };
                 $body
             };
             mapped of => {
-                let $work = sz_region::Mapped { of, inputs: $inputs };
+                let $work = sz_frame::Mapped { of, inputs: $inputs };
                 $body
             };
             lookup $work => $body;

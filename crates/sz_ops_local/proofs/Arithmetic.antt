@@ -10,9 +10,9 @@ use Rattle.sz_spec.specs.Values.{Grid, input_at, with_number, with_numbers}
 use Rattle.sz_spec.specs.Shapes.{Site, arity}
 use Rattle.sz_spec.specs.Evaluation.{of_one, of_two, value_of}
 use Rattle.sz_spec.specs.Work.{IsAtWork}
-use Rattle.sz_region.specs.Walks.{values_before}
-use Rattle.sz_region.proofs.Added.{values-mapped, values-zipped}
-use Rattle.sz_region.proofs.Inputs.{input-extent}
+use Rattle.sz_frame.specs.Walks.{values_before}
+use Rattle.sz_frame.proofs.Added.{values-mapped, values-zipped}
+use Rattle.sz_frame.proofs.Inputs.{input-extent}
 use Rattle.sz_ops_local.specs.Local.{is_elementwise}
 use Rattle.sz_ops_local.proofs.Places.{same-shapes}
 

@@ -28,8 +28,8 @@ use Rattle.sz_spec.specs.Lineage.{mapped, mapped_between}
 use Rattle.sz_spec.specs.Evaluation.{mapped_numbers, value_of}
 use Rattle.sz_spec.proofs.PayloadLineage.{extent-of_input}
 use Rattle.sz_spec.proofs.CodeSquare.{layer-rows}
-use Rattle.sz_region.proofs.Passing.{eq-flip}
-use Rattle.sz_region.proofs.Places.{is_at, own-place, place-from}
+use Rattle.sz_frame.proofs.Passing.{eq-flip}
+use Rattle.sz_frame.proofs.Places.{is_at, own-place, place-from}
 use Rattle.sz_ops_local.specs.Windows.{is_between, IsBlocked}
 
 -- a number times a side, where the number is one of a block's, is below what the blocks are laid over

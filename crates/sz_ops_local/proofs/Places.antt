@@ -33,7 +33,7 @@ use Rattle.sz_spec.specs.Modes.{has_mapping}
 use Rattle.sz_spec.proofs.OutputShapes.{same-shape_first, same-shape_second}
 use Rattle.sz_spec.specs.Work.{IsAtWork}
 use Rattle.sz_spec.specs.Sides.{near_side, far_side, image_in}
-use Rattle.sz_region.proofs.Inputs as at_work
+use Rattle.sz_frame.proofs.Inputs as at_work
 use Rattle.sz_ops_local.specs.Local.{is_elementwise, is_local}
 
 -- ---- shapes

@@ -17,9 +17,9 @@ use Rattle.sz_cells.proofs.Sets.{has-cells_where, cells_where-ext}
 use Rattle.sz_cells.proofs.Sets.{is_same-refl, is_same-true}
 use Rattle.sz_cells.proofs.Windows.{run-window, window-within, window-more}
 use Rattle.sz_spec.specs.Values.{Grid, numbers_at}
-use Rattle.sz_region.proofs.Added.{with-none, with-more}
-use Rattle.sz_region.proofs.FoldedCells.{numbers-join, numbers-none}
-use Rattle.sz_region.proofs.Passing.{met-none, met-or}
+use Rattle.sz_frame.proofs.Added.{with-none, with-more}
+use Rattle.sz_frame.proofs.FoldedCells.{numbers-join, numbers-none}
+use Rattle.sz_frame.proofs.Passing.{met-none, met-or}
 use Rattle.sz_ops_local.specs.declared.window.Window.{Window}
 use Rattle.sz_ops_local.specs.Windows.{is_between, is_in, IsWindow}
 

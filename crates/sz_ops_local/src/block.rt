@@ -15,7 +15,7 @@ ghost use Rattle.sz_spec.specs.Lineage.{mapped, mapped_between};
 ghost use Rattle.sz_spec.specs.Work.{IsAtWork};
 ghost use Rattle.sz_spec.specs.Evaluation.{output_of, value_of};
 ghost use Rattle.sz_spec.specs.Operators.Folds.{blocks_over};
-ghost use Rattle.sz_region.specs.Single.{IsOnly};
+ghost use Rattle.sz_frame.specs.Single.{IsOnly};
 ghost use Rattle.sz_ops_local.specs.Windows.{is_in, IsWindow, IsBlocked};
 
 use crate::window;
@@ -24,7 +24,7 @@ use std::alloc::Global;
 use std::sync::Arc;
 use sz_cells::laws::a_shape_is_within_limits;
 use sz_cells::{Cell, CellBits, CellSet, NoMemory, Shape};
-use sz_region::{Mapped, Mapping, add_cell, input_of, run_by};
+use sz_frame::{Mapped, Mapping, add_cell, input_of, run_by};
 use sz_spec::{Array, Fold, OpAt, Value};
 
 /// A fold of blocks between its shapes.

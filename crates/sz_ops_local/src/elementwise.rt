@@ -18,7 +18,7 @@ use crate::whole;
 use std::alloc::Global;
 use std::sync::Arc;
 use sz_cells::{Cell, CellBits, CellSet, NoMemory, Shape};
-use sz_region::Mapping;
+use sz_frame::Mapping;
 use sz_spec::{Array, Dir, OpAt, Value};
 
 /// An elementwise operator between its shapes.

@@ -2,7 +2,7 @@
 //!
 //! [`Elementwise`] and [`FoldBlocks`] say what differs from one to the other: the value of a cell,
 //! and the mapping, each over an operator with its shapes. What any operator at work does is the
-//! frame of `sz_region`, and `sz_ops` chooses among the operators.
+//! frame of `sz_frame`, and `sz_ops` chooses among the operators.
 //!
 //! ```
 //! // blocks of 2 by 2 of the rows 1 2 3, 4 5 6 and 7 8 9: the sums are 12 and 9, 15 and 9

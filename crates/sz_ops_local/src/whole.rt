@@ -10,14 +10,14 @@ ghost use Rattle.sz_spec.specs.Values.{with_number, with_numbers};
 ghost use Rattle.sz_spec.specs.Shapes.{arity};
 ghost use Rattle.sz_spec.specs.Evaluation.{of_one, of_two, output_of, value_of};
 ghost use Rattle.sz_spec.specs.Work.{IsAtWork};
-ghost use Rattle.sz_region.specs.Walks.{values_before};
+ghost use Rattle.sz_frame.specs.Walks.{values_before};
 ghost use Rattle.sz_ops_local.specs.Local.{is_elementwise};
 
 use crate::numbers::{OfOne, OfTwo, arithmetic};
 use std::alloc::Global;
 use std::sync::Arc;
 use sz_cells::NoMemory;
-use sz_region::{input_of, output_with};
+use sz_frame::{input_of, output_with};
 use sz_spec::{Array, OpAt, Value};
 
 /// The output of an elementwise operator. One pass over its cells.

@@ -8,14 +8,14 @@ ghost use Rattle.sz_cells.specs.declared.Cell.{Cell};
 ghost use Rattle.sz_cells.specs.Cells.{any_cell, cells_where, is_same, with_those};
 ghost use Rattle.sz_spec.specs.Values.{numbers_at};
 ghost use Rattle.sz_spec.specs.Operators.Folds.{fold_of};
-ghost use Rattle.sz_region.specs.Folding.{summary_of};
+ghost use Rattle.sz_frame.specs.Folding.{summary_of};
 ghost use Rattle.sz_ops_local.specs.Windows.{is_between, is_in, IsWindow};
 
 use std::alloc::Global;
 use std::sync::Arc;
 use sz_cells::laws::a_shape_is_within_limits;
 use sz_cells::{Cell, CellBits, CellSet, NoMemory, Run, Shape};
-use sz_region::Folding;
+use sz_frame::Folding;
 use sz_spec::{Array, Fold, Value};
 
 /// A window of a shape: the rows from `top` to before `bottom`, and of each the columns from `left`

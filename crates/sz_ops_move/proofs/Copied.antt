@@ -21,9 +21,9 @@ use Rattle.sz_spec.specs.Evaluation.{value_in, value_of}
 use Rattle.sz_spec.specs.Operators.Lookup.{column_of, entry_at}
 use Rattle.sz_spec.specs.Work.{IsAtWork}
 use Rattle.sz_spec.proofs.OutputShapes.{looked-up_shape}
-use Rattle.sz_region.specs.Walks.{values_before}
-use Rattle.sz_region.proofs.Added.{out-at_work, values-append, values-mapped}
-use Rattle.sz_region.proofs.Inputs.{input-extent}
+use Rattle.sz_frame.specs.Walks.{values_before}
+use Rattle.sz_frame.proofs.Added.{out-at_work, values-append, values-mapped}
+use Rattle.sz_frame.proofs.Inputs.{input-extent}
 use Rattle.sz_ops_move.specs.Entries.{entry_of}
 use Rattle.sz_ops_move.proofs.Windows.{windowed}
 

@@ -27,10 +27,10 @@ use Rattle.sz_spec.specs.Lineage.{mapped}
 use Rattle.sz_spec.specs.Operators.Folds.{fold_of}
 use Rattle.sz_spec.specs.Evaluation.{value_of}
 use Rattle.sz_spec.proofs.PayloadLineage.{extent-of_input}
-use Rattle.sz_region.specs.Folding.{numbers_in}
-use Rattle.sz_region.proofs.Added.{with-none, with-more, with-ext}
-use Rattle.sz_region.proofs.FoldedCells.{numbers-join, numbers-none}
-use Rattle.sz_region.proofs.Passing.{met-none, met-or}
+use Rattle.sz_frame.specs.Folding.{numbers_in}
+use Rattle.sz_frame.proofs.Added.{with-none, with-more, with-ext}
+use Rattle.sz_frame.proofs.FoldedCells.{numbers-join, numbers-none}
+use Rattle.sz_frame.proofs.Passing.{met-none, met-or}
 use Rattle.sz_ops_move.specs.Moving.{is_in_line}
 
 -- the cell is of one of the first n layers, and at the row and the column

@@ -15,9 +15,9 @@ use Rattle.sz_spec.specs.Values.{Grid, extent_at, input_at}
 use Rattle.sz_spec.specs.Shapes.{Site}
 use Rattle.sz_spec.specs.Evaluation.{value_in, value_of}
 use Rattle.sz_spec.specs.Work.{IsAtWork}
-use Rattle.sz_region.specs.Walks.{values_before}
-use Rattle.sz_region.proofs.Added.{out-at_work, values-append}
-use Rattle.sz_region.proofs.Inputs.{input-extent}
+use Rattle.sz_frame.specs.Walks.{values_before}
+use Rattle.sz_frame.proofs.Added.{out-at_work, values-append}
+use Rattle.sz_frame.proofs.Inputs.{input-extent}
 use Rattle.sz_ops_move.specs.Turning.{IsStrip}
 use Rattle.sz_ops_move.proofs.Windows.{transposed, height-is}
 

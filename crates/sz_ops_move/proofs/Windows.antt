@@ -14,7 +14,7 @@ use Rattle.sz_spec.specs.Values.{extent_at, no_extent}
 use Rattle.sz_spec.specs.Shapes.{Site, shape_of, output_extent}
 use Rattle.sz_spec.specs.Lineage.{mapped, mapped_between}
 use Rattle.sz_spec.proofs.OutputShapes.{sliced-within}
-use Rattle.sz_region.proofs.Places.{is_at, own-place, place-from}
+use Rattle.sz_frame.proofs.Places.{is_at, own-place, place-from}
 
 -- the layers of some height have that height
 pub height-is : (out e : Extent) (height cols : ℕ) → is_extent e ≡ true → layered e.layers height cols ≡ out

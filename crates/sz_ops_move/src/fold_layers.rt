@@ -13,7 +13,7 @@ ghost use Rattle.sz_spec.specs.Operators.Folds.{fold_of};
 ghost use Rattle.sz_spec.specs.Lineage.{mapped};
 ghost use Rattle.sz_spec.specs.Work.{IsAtWork};
 ghost use Rattle.sz_spec.specs.Evaluation.{output_of, value_of};
-ghost use Rattle.sz_region.specs.Single.{IsOnly};
+ghost use Rattle.sz_frame.specs.Single.{IsOnly};
 ghost use Rattle.sz_ops_move.specs.Moving.{is_in_line};
 
 use crate::single::{add_target, sides};
@@ -21,7 +21,7 @@ use std::alloc::Global;
 use std::sync::Arc;
 use sz_cells::laws::a_shape_is_within_limits;
 use sz_cells::{Cell, CellBits, CellSet, NoMemory, Shape};
-use sz_region::{Folding, Mapped, Mapping, input_of, run_by};
+use sz_frame::{Folding, Mapped, Mapping, input_of, run_by};
 use sz_spec::{Array, Fold, OpAt, Value};
 
 /// A fold of layers between its shapes.

@@ -2,7 +2,7 @@
 //!
 //! [`Transposition`], [`Slicing`], [`LayerFold`] and [`Matching`] say what differs from one to the
 //! next: the value of a cell, and the cells to which it leads, each over an operator with its
-//! shapes. What any operator at work does is the frame of `sz_region`, and `sz_ops` chooses among
+//! shapes. What any operator at work does is the frame of `sz_frame`, and `sz_ops` chooses among
 //! the operators.
 //!
 //! ```

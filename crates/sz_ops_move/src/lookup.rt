@@ -12,8 +12,8 @@ ghost use Rattle.sz_spec.specs.Values.{input_at, extent_at};
 ghost use Rattle.sz_spec.specs.Lineage.{related};
 ghost use Rattle.sz_spec.specs.Evaluation.{output_of};
 ghost use Rattle.sz_spec.specs.Work.{IsAtWork};
-ghost use Rattle.sz_region.specs.Groups.{kind_of};
-ghost use Rattle.sz_region.specs.Single.{IsOnly};
+ghost use Rattle.sz_frame.specs.Groups.{kind_of};
+ghost use Rattle.sz_frame.specs.Single.{IsOnly};
 ghost use Rattle.sz_ops_move.specs.Entries.{entry_of};
 ghost use Rattle.sz_spec.specs.Operators.Lookup.{column_of, match_of, entry_at, looked_up};
 
@@ -21,7 +21,7 @@ use std::alloc::Global;
 use std::sync::Arc;
 use sz_cells::laws::a_shape_is_within_limits;
 use sz_cells::{Cell, CellBits, CellSet, NoMemory, Shape};
-use sz_region::{AtWork, Payload, add_cell, has_cell, input_of, output_with, set_of_cell};
+use sz_frame::{AtWork, Payload, add_cell, has_cell, input_of, output_with, set_of_cell};
 use sz_spec::{Array, OpAt, Value};
 
 /// A lookup at work over the array of columns and the table.

@@ -7,14 +7,14 @@ ghost use Rattle.sz_cells.specs.Cells.{any_cell, cells_where, with_those};
 ghost use Rattle.sz_spec.specs.Values.{extent_at};
 ghost use Rattle.sz_spec.specs.Shapes.{IsSite};
 ghost use Rattle.sz_spec.specs.Lineage.{mapped};
-ghost use Rattle.sz_region.specs.Single.{IsOnly};
+ghost use Rattle.sz_frame.specs.Single.{IsOnly};
 ghost use Rattle.sz_ops_move.specs.Moving.{is_mapping, is_single};
 
 use std::alloc::Global;
 use std::sync::Arc;
 use sz_cells::laws::a_shape_is_within_limits;
 use sz_cells::{Cell, CellBits, CellSet, NoMemory, Shape};
-use sz_region::{add_cell, has_cell, right_shapes, set_of_cell};
+use sz_frame::{add_cell, has_cell, right_shapes, set_of_cell};
 use sz_spec::OpAt;
 
 /// Adds the input's cell to which an output cell is mapped.

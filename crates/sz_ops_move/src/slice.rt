@@ -9,14 +9,14 @@ ghost use Rattle.sz_spec.specs.Values.{extent_at};
 ghost use Rattle.sz_spec.specs.Evaluation.{output_of, value_in};
 ghost use Rattle.sz_spec.specs.Lineage.{mapped};
 ghost use Rattle.sz_spec.specs.Work.{IsAtWork};
-ghost use Rattle.sz_region.specs.Single.{IsOnly};
-ghost use Rattle.sz_region.specs.Walks.{values_before};
+ghost use Rattle.sz_frame.specs.Single.{IsOnly};
+ghost use Rattle.sz_frame.specs.Walks.{values_before};
 
 use crate::single::{add_source, add_target, has_source, set_of_source, sides};
 use std::alloc::Global;
 use std::sync::Arc;
 use sz_cells::{Cell, CellBits, CellSet, NoMemory};
-use sz_region::{Mapping, input_of, output_with};
+use sz_frame::{Mapping, input_of, output_with};
 use sz_spec::{Array, OpAt, Value};
 
 /// A slice between its shapes.

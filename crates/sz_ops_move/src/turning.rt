@@ -11,7 +11,7 @@ ghost use Rattle.sz_cells.specs.Extent.{size_of, height_of, is_extent};
 ghost use Rattle.sz_spec.specs.declared.op.Op.TheVariants.{Transpose};
 ghost use Rattle.sz_spec.specs.Values.{extent_at, input_at};
 ghost use Rattle.sz_spec.specs.Work.{IsAtWork};
-ghost use Rattle.sz_region.specs.Walks.{values_before};
+ghost use Rattle.sz_frame.specs.Walks.{values_before};
 ghost use Rattle.sz_ops_move.specs.Turning.{IsStrip};
 
 use crate::single::sides;
@@ -19,7 +19,7 @@ use crate::slice::part;
 use std::alloc::Global;
 use std::sync::Arc;
 use sz_cells::NoMemory;
-use sz_region::input_of;
+use sz_frame::input_of;
 use sz_spec::{Array, OpAt, Value};
 
 /// How many rows of the output a strip has at most.

@@ -26,7 +26,7 @@ use Rattle.sz_spec.specs.Work.{IsAtWork}
 use Rattle.sz_spec.specs.Operators.Regions.{is_connected, component_of, label_of, labelled_at}
 use Rattle.sz_spec.proofs.Components.{component-made, connected-both_high}
 use Rattle.sz_ops_region.specs.Numbers.{AreFirsts, AreLabels, joined_at}
-use Rattle.sz_region.specs.Walks.{values_before}
+use Rattle.sz_frame.specs.Walks.{values_before}
 use Rattle.sz_ops_region.specs.Regions.{components_of, aid_of}
 use Rattle.sz_ops_region.specs.Labelled.{is_one_label, set_labelled, sets_labelled}
 use Rattle.sz_ops_region.proofs.Sets.{map-range_ext}

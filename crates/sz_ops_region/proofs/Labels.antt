@@ -15,8 +15,8 @@ use Rattle.sz_cells.specs.Rising.{AreRising}
 use Rattle.sz_cells.specs.Runs.{before_runs, runs_of}
 use Rattle.sz_cells.proofs.Sets.{cell-index, index-below, cells_where-ext, any_cell-true, any_cell-from}
 use Rattle.sz_cells.proofs.Sets.{any_cell-same_turned, same_truth, is_same-from, is_same-true}
-use Rattle.sz_region.proofs.Added.{with-ext}
-use Rattle.sz_region.specs.Images.{related_cells}
+use Rattle.sz_frame.proofs.Added.{with-ext}
+use Rattle.sz_frame.specs.Images.{related_cells}
 use Rattle.sz_spec.specs.declared.op.Op.{Op}
 use Rattle.sz_spec.specs.declared.op.Op.TheVariants.{Regions}
 use Rattle.sz_spec.specs.Values.{Grid, input_at, extent_at}

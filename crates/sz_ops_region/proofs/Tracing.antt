@@ -24,8 +24,8 @@ use Rattle.sz_spec.proofs.Components.{label-high, connected-back, connected-part
 use Rattle.sz_spec.proofs.Components.{connected-both_high, component-made}
 use Rattle.sz_spec.specs.Work.{IsAtWork}
 use Rattle.sz_spec.specs.Sides.{image_in}
-use Rattle.sz_region.specs.Walks.{traced}
-use Rattle.sz_region.proofs.Added.{with-ext}
+use Rattle.sz_frame.specs.Walks.{traced}
+use Rattle.sz_frame.proofs.Added.{with-ext}
 use Rattle.sz_ops_region.specs.Tracing.{first_index, first_of, AreMarked}
 use Rattle.sz_ops_region.proofs.Labels.{related-high, related-low, one-shape}
 

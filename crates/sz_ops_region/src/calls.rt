@@ -7,9 +7,9 @@ ghost use Rattle.sz_spec.specs.Values.{extents_of};
 ghost use Rattle.sz_spec.specs.Evaluation.{value_of, output_of};
 ghost use Rattle.sz_spec.specs.Modes.{supports};
 ghost use Rattle.sz_spec.specs.Pieces.{pieces_of};
-ghost use Rattle.sz_region.specs.Fits.{Fits};
-ghost use Rattle.sz_region.specs.Images.{measure_of};
-ghost use Rattle.sz_region.specs.Written.{cells_in_piece, parts_by};
+ghost use Rattle.sz_frame.specs.Fits.{Fits};
+ghost use Rattle.sz_frame.specs.Images.{measure_of};
+ghost use Rattle.sz_frame.specs.Written.{cells_in_piece, parts_by};
 ghost use Rattle.sz_ops_region.specs.Regions.{is_regions, aid_of};
 
 use crate::aid::{Aid, Kept};
@@ -20,7 +20,7 @@ use crate::work::{Labelling, components_over, threshold};
 use std::alloc::Global;
 use std::sync::Arc;
 use sz_cells::{Cell, NoMemory};
-use sz_region::{AtWork, PieceLineage, output_with, piece_by, run_by};
+use sz_frame::{AtWork, PieceLineage, output_with, piece_by, run_by};
 use sz_spec::{Array, OpAt, Strategy, Tally, Value};
 
 /// The labels of the cells of the input, of which no set is made: values need no more.

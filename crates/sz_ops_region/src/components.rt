@@ -22,7 +22,8 @@ use std::marker::Model;
 use std::mem;
 use std::sync::Arc;
 use sz_cells::{CellSet, NoMemory, Shape};
-use sz_region::{Payload, put_set};
+use sz_frame::Payload;
+use sz_region::put_set;
 use sz_spec::Array;
 
 /// A component of several cells: their set, and the bytes that are kept for each of them. Contracts

@@ -1,7 +1,7 @@
 //! The operator of connected regions.
 //!
 //! [`Labelling`] is the operator at work over its input: the label of a cell, and the cells to
-//! which it is related. What any operator at work does is the frame of `sz_region`, and `sz_ops`
+//! which it is related. What any operator at work does is the frame of `sz_frame`, and `sz_ops`
 //! chooses among the operators. The array's high cells are labelled once, by [`prepare`], and where
 //! lineage is to be kept their components are found once, by [`prepare_lineage`]: each is kept
 //! once, whatever the number of its cells. [`trace`] adds each of them once.

@@ -16,7 +16,7 @@ use crate::work::threshold;
 use std::alloc::Global;
 use std::sync::Arc;
 use sz_cells::NoMemory;
-use sz_region::output_with;
+use sz_frame::output_with;
 use sz_spec::{Array, OpAt, Value};
 
 /// The operator's output: each high cell has the label of its component, any other 0.

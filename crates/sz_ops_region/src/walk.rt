@@ -9,7 +9,7 @@ ghost use Rattle.sz_spec.specs.Values.{extents_of, input_at};
 ghost use Rattle.sz_spec.specs.Lineage.{related};
 ghost use Rattle.sz_spec.specs.Work.{IsAtWork};
 ghost use Rattle.sz_spec.specs.Sides.{near_side, far_side, image_in};
-ghost use Rattle.sz_region.specs.Walks.{traced};
+ghost use Rattle.sz_frame.specs.Walks.{traced};
 ghost use Rattle.sz_ops_region.specs.Regions.{is_regions};
 ghost use Rattle.sz_ops_region.specs.Tracing.{AreMarked};
 

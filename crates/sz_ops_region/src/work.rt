@@ -12,7 +12,7 @@ ghost use Rattle.sz_spec.specs.Lineage.{related};
 ghost use Rattle.sz_spec.specs.declared.op.Op.TheVariants.{Regions};
 ghost use Rattle.sz_spec.specs.Operators.Regions.{is_high, component_of};
 ghost use Rattle.sz_spec.specs.Work.{IsAtWork};
-ghost use Rattle.sz_region.specs.Groups.{least_of};
+ghost use Rattle.sz_frame.specs.Groups.{least_of};
 ghost use Rattle.sz_ops_region.specs.Regions.{is_regions, components_of, aid_of};
 ghost use Rattle.sz_ops_region.specs.Parts.{IsPartAt};
 
@@ -20,7 +20,7 @@ use crate::components::{Component, Components, Part, payload_of};
 use std::alloc::Global;
 use std::sync::Arc;
 use sz_cells::{Cell, CellBits, CellSet, NoMemory, Shape};
-use sz_region::{AtWork, Payload};
+use sz_frame::{AtWork, Payload};
 use sz_spec::{Array, Op, OpAt, Value};
 
 /// The operator at work over its input, of which the components are prepared. A set or a payload

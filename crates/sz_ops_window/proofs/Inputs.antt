@@ -18,7 +18,7 @@ use Rattle.sz_spec.specs.Operators.Convolve.{is_convolved}
 use Rattle.sz_spec.specs.Operators.Clean.{is_hot, is_in_square}
 use Rattle.sz_spec.specs.Lineage.{mapped, related}
 use Rattle.sz_spec.specs.Work.{IsAtWork}
-use Rattle.sz_region.proofs.Inputs.{input-extent}
+use Rattle.sz_frame.proofs.Inputs.{input-extent}
 use Rattle.sz_ops_window.specs.Windowed.{is_windowed}
 use Rattle.sz_ops_window.specs.Taps.{one, nine}
 use Rattle.sz_ops_window.proofs.Squares.{nine-square, one-same}

@@ -21,7 +21,7 @@ use Rattle.sz_cells.proofs.Windows.{range-append}
 use Rattle.sz_spec.specs.Values.{Grid, value_at, fit, with_numbers}
 use Rattle.sz_spec.specs.Weights.{Weights, Tap, is_zero, tap_at, is_kernel}
 use Rattle.sz_spec.specs.Operators.Convolve.{is_in_range, term_of, sum_of_all, convolved_at, cell_under}
-use Rattle.sz_region.proofs.Places.{AreSmall, are-small, own-place}
+use Rattle.sz_frame.proofs.Places.{AreSmall, are-small, own-place}
 use Rattle.sz_ops_window.specs.declared.window.Window.{Window}
 use Rattle.sz_ops_window.specs.Sums.{times, part_of, sum_from, reach_of}
 

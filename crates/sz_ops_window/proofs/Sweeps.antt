@@ -18,7 +18,7 @@ use Rattle.std.proofs.lemmas.Nat.{div-add-mod', mod_below, div_below, div-mul-ad
 use Rattle.sz_cells.specs.declared.Cell.{Cell}
 use Rattle.sz_cells.specs.Extent.{Extent, holds, is_extent, size_of, cell_of, layer_of, row_in, height_of}
 use Rattle.sz_cells.proofs.Shapes.{cell-has_place, sides}
-use Rattle.sz_region.proofs.Places.{are-small, own-place}
+use Rattle.sz_frame.proofs.Places.{are-small, own-place}
 use Rattle.sz_ops_window.specs.declared.window.Window.{Window}
 use Rattle.sz_spec.specs.declared.op.Op.{Op}
 use Rattle.sz_spec.specs.declared.op.Op.TheVariants.{Convolve}
@@ -27,8 +27,8 @@ use Rattle.sz_spec.specs.Shapes.{Site}
 use Rattle.sz_spec.specs.Evaluation.{value_of}
 use Rattle.sz_spec.specs.Work.{IsAtWork}
 use Rattle.sz_spec.specs.Operators.Convolve.{convolved_at}
-use Rattle.sz_region.specs.Walks.{values_before}
-use Rattle.sz_region.proofs.Added.{values-next}
+use Rattle.sz_frame.specs.Walks.{values_before}
+use Rattle.sz_frame.proofs.Added.{values-next}
 use Rattle.sz_spec.specs.Weights.{Weights, is_zero, tap_at, is_kernel}
 use Rattle.sz_ops_window.specs.Sums.{times, part_of, sum_from, reach_of}
 use Rattle.sz_ops_window.specs.Sweeps.{is_small, number_of, IsPlain, AreNumbers, IsSmooth, AreSums, AreVoids, unless}

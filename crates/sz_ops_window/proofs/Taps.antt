@@ -22,12 +22,12 @@ use Rattle.sz_spec.specs.declared.modes.Dir.{Dir}
 use Rattle.sz_spec.specs.declared.modes.Dir.TheVariants.{Back, Forward}
 use Rattle.sz_spec.specs.Weights.{Weights, Tap, is_zero, tap_at}
 use Rattle.sz_spec.specs.Operators.Convolve.{is_under, is_convolved}
-use Rattle.sz_region.specs.Single.{is_cell, IsOnly}
-use Rattle.sz_region.specs.Walks.{steps}
-use Rattle.sz_region.proofs.Added.{any-filter, with-none, with-ext, with-more}
-use Rattle.sz_region.proofs.OneCell.{any-only}
-use Rattle.sz_region.proofs.Passing.{any-map, eq-flip, met-ext, met-or}
-use Rattle.sz_region.proofs.Places.{is_at, only-by}
+use Rattle.sz_frame.specs.Single.{is_cell, IsOnly}
+use Rattle.sz_frame.specs.Walks.{steps}
+use Rattle.sz_frame.proofs.Added.{any-filter, with-none, with-ext, with-more}
+use Rattle.sz_frame.proofs.OneCell.{any-only}
+use Rattle.sz_frame.proofs.Passing.{any-map, eq-flip, met-ext, met-or}
+use Rattle.sz_frame.proofs.Places.{is_at, only-by}
 use Rattle.sz_ops_window.specs.Taps.{leads, led_before, is_covered, less, moved}
 
 -- ---- one axis

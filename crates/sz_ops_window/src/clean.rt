@@ -19,7 +19,7 @@ use std::alloc::Global;
 use std::sync::Arc;
 use sz_cells::laws::a_shape_is_within_limits;
 use sz_cells::{Cell, CellBits, CellSet, NoMemory, Shape};
-use sz_region::{AtWork, Payload, input_of};
+use sz_frame::{AtWork, Payload, input_of};
 use sz_spec::{Array, Dir, OpAt, Value};
 
 /// Cleaning at work over its input.

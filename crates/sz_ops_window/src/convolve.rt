@@ -20,7 +20,7 @@ use std::alloc::Global;
 use std::sync::Arc;
 use sz_cells::laws::a_shape_is_within_limits;
 use sz_cells::{Cell, CellBits, CellSet, NoMemory, Shape};
-use sz_region::{Mapping, input_of, output_with};
+use sz_frame::{Mapping, input_of, output_with};
 use sz_spec::{Array, Dir, Kernel, OpAt, Value};
 
 /// A convolution between its shapes.

@@ -15,7 +15,7 @@ ghost use Rattle.sz_spec.specs.declared.op.Op.TheVariants.{Convolve};
 ghost use Rattle.sz_spec.specs.Evaluation.{value_of};
 ghost use Rattle.sz_spec.specs.Weights.{tap_at};
 ghost use Rattle.sz_spec.specs.Work.{IsAtWork};
-ghost use Rattle.sz_region.specs.Walks.{values_before};
+ghost use Rattle.sz_frame.specs.Walks.{values_before};
 ghost use Rattle.sz_ops_window.specs.Sums.{reach_of};
 ghost use Rattle.sz_ops_window.specs.Sweeps.{is_small, number_of, ArePlain, IsSmooth};
 ghost use Rattle.sz_ops_window.specs.Sweeps.{AreNumbers, AreSums, AreVoids, AreWhole};
@@ -29,7 +29,7 @@ use std::alloc::Global;
 use std::sync::Arc;
 use sz_cells::laws::a_shape_is_within_limits;
 use sz_cells::{Cell, NoMemory};
-use sz_region::input_of;
+use sz_frame::input_of;
 use sz_spec::{Array, OpAt, Value};
 
 /// How large weights and numbers are, so that 81 products of two of them are an i32.

@@ -9,8 +9,8 @@ ghost use Rattle.sz_cells.specs.Cells.{any_cell, cells_where, with_those};
 ghost use Rattle.sz_spec.specs.Shapes.{IsSite};
 ghost use Rattle.sz_ops_window.specs.Windowed.{is_windowed};
 ghost use Rattle.sz_spec.specs.Operators.Convolve.{is_convolved};
-ghost use Rattle.sz_region.specs.Walks.{steps};
-ghost use Rattle.sz_region.specs.Single.{IsOnly};
+ghost use Rattle.sz_frame.specs.Walks.{steps};
+ghost use Rattle.sz_frame.specs.Single.{IsOnly};
 ghost use Rattle.sz_ops_window.specs.Taps.{leads, moved};
 
 use crate::mask::Mask;
@@ -18,7 +18,7 @@ use std::alloc::Global;
 use std::sync::Arc;
 use sz_cells::laws::a_shape_is_within_limits;
 use sz_cells::{Cell, CellBits, CellSet, NoMemory, Shape};
-use sz_region::{add_cell, has_cell, right_shapes};
+use sz_frame::{add_cell, has_cell, right_shapes};
 use sz_spec::{Dir, OpAt};
 
 /// The shape that a windowed operator's input and its output have.

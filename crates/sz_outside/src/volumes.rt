@@ -10,8 +10,9 @@ use std::os::unix::fs::FileExt;
 
 /// A file of which a clause can say what bytes it has, and that they are synced.
 ///
-/// A call that looks, and one that syncs, leaves the bytes as they were, whether it fails or not. A
-/// write changes just the bytes that it was given a place for, and a cut just those behind its size.
+/// A call that looks, and one that syncs, leaves the bytes as they were, whether it fails or not.
+/// A write changes just the bytes that it was given a place for, and a cut just those behind its
+/// size.
 pub trait Volume {
     ghost bytes: { Self → Option (List ℕ) };
 

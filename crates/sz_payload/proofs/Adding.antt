@@ -19,10 +19,10 @@ use Rattle.sz_spec.specs.Modes.{has_mapping}
 use Rattle.sz_spec.specs.Payloads.{mapped_by_payload}
 use Rattle.sz_spec.specs.Shapes.{Site}
 use Rattle.sz_spec.specs.Sides.{image_in}
-use Rattle.sz_region.specs.Parts.{Entry}
-use Rattle.sz_region.specs.Stands.{has_entry}
-use Rattle.sz_region.proofs.Added.{with-ext, with-more, with-none}
-use Rattle.sz_region.proofs.Passing.{met-none}
+use Rattle.sz_frame.specs.Parts.{Entry}
+use Rattle.sz_frame.specs.Stands.{has_entry}
+use Rattle.sz_frame.proofs.Added.{with-ext, with-more, with-none}
+use Rattle.sz_frame.proofs.Passing.{met-none}
 use Rattle.sz_tables.specs.Entries.{entry_at}
 use Rattle.sz_tables.proofs.MetRuns.{runs-added, set-spelled}
 use Rattle.sz_payload.specs.Kept.{entries_stand}

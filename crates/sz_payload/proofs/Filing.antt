@@ -16,7 +16,7 @@ use Rattle.sz_cells.specs.Extent.{Extent, size_of, cell_of}
 use Rattle.sz_cells.specs.Cells.{Cells, has}
 use Rattle.sz_cells.specs.Runs.{indexes_of}
 use Rattle.sz_cells.proofs.Sets.{has-index}
-use Rattle.sz_region.specs.Parts.{Entry}
+use Rattle.sz_frame.specs.Parts.{Entry}
 use Rattle.sz_tables.specs.Entries.{entry_at}
 use Rattle.sz_tables.specs.Filed.{Filed, Files}
 use Rattle.sz_tables.proofs.Chained.{entry-within}

@@ -17,7 +17,7 @@ use Rattle.sz_spec.specs.Shapes.{Site}
 use Rattle.sz_region.specs.declared.set_bytes.Take.{Take}
 use Rattle.sz_region.specs.declared.set_bytes.Take.TheVariants.{Bad, NoMemory}
 use Rattle.sz_region.specs.Counted.{counted, rows_bytes}
-use Rattle.sz_region.specs.Parts.{Entry}
+use Rattle.sz_frame.specs.Parts.{Entry}
 use Rattle.sz_region.specs.PayBytes.{AreNamesOfEntry, BeginsEntries, IsShort, payload_bytes}
 use Rattle.sz_region.specs.Stores.{SaysNoEntries}
 use Rattle.sz_region.specs.Taking.{number_at}

@@ -7,9 +7,9 @@ use Rattle.std.proofs.lemmas.List.Elements.{All-nil, All-cons, All-head, All-tai
 use Rattle.std.proofs.lemmas.Bool.{false_from_ne_true, or_cases, or_left, or_right}
 use Rattle.sz_cells.specs.declared.Cell.{Cell}
 use Rattle.sz_cells.specs.Cells.{has}
-use Rattle.sz_region.specs.Fits.{AreApart}
-use Rattle.sz_region.specs.Parts.{Entry}
-use Rattle.sz_region.specs.Stands.{has_entry}
+use Rattle.sz_frame.specs.Fits.{AreApart}
+use Rattle.sz_frame.specs.Parts.{Entry}
+use Rattle.sz_frame.specs.Stands.{has_entry}
 use Rattle.sz_tables.specs.Tables.{HasAtMostOneMore}
 use Rattle.sz_tables.proofs.Counted.{rest-more}
 use Rattle.sz_payload.specs.declared.owner.Owner.{Owner}

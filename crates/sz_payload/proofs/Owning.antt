@@ -19,8 +19,8 @@ use Rattle.sz_cells.specs.SetBytes.{IsSetOf}
 use Rattle.sz_cells.specs.Laws.{IsInBounds}
 use Rattle.sz_cells.proofs.Sets.{has-index}
 use Rattle.sz_cells.proofs.Runs.{any-covers, runs_of-longest, spelled-runs_of}
-use Rattle.sz_region.specs.Parts.{Entry}
-use Rattle.sz_region.specs.Stands.{has_entry}
+use Rattle.sz_frame.specs.Parts.{Entry}
+use Rattle.sz_frame.specs.Stands.{has_entry}
 use Rattle.sz_rtree.specs.Rectangles.{Overlaps}
 use Rattle.sz_tables.specs.Entries.{entry_at}
 use Rattle.sz_tables.specs.Filed.{told}

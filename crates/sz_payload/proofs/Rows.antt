@@ -6,7 +6,7 @@ use Rattle.sz_cells.specs.Extent.{flat}
 use Rattle.sz_spec.specs.declared.op.Op.TheVariants.{Lookup, Regions, Clean}
 use Rattle.sz_spec.specs.Payloads.{is_payload}
 use Rattle.sz_spec.specs.Shapes.{Site}
-use Rattle.sz_region.specs.Parts.{Entry}
+use Rattle.sz_frame.specs.Parts.{Entry}
 use Rattle.sz_payload.specs.Kept.{entries_stand}
 
 -- a cell of the first row

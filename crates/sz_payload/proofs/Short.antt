@@ -12,7 +12,7 @@ use Rattle.sz_spec.specs.Payloads.{is_payload, is_none_or, is_column, is_flag}
 use Rattle.sz_spec.specs.Shapes.{Site}
 use Rattle.sz_spec.specs.Values.{extent_at}
 use Rattle.sz_region.specs.PayBytes.{IsShort}
-use Rattle.sz_region.specs.Parts.{Entry}
+use Rattle.sz_frame.specs.Parts.{Entry}
 use Rattle.sz_region.specs.Taking.{runs_bytes}
 use Rattle.sz_region.proofs.Spelling.{runs-long}
 use Rattle.sz_payload.specs.Kept.{IsEntryOf}

@@ -17,10 +17,10 @@ use Rattle.sz_cells.proofs.Sets.{has-cells_where, cells_where-ext}
 use Rattle.sz_spec.specs.Shapes.{Site}
 use Rattle.sz_spec.specs.Lineage.{mapped}
 use Rattle.sz_spec.specs.Payloads.{is_payload, mapped_by_payload}
-use Rattle.sz_region.specs.Fits.{AreApart}
-use Rattle.sz_region.specs.Parts.{Entry}
-use Rattle.sz_region.specs.Stands.{has_entry, pay_stands}
-use Rattle.sz_region.proofs.Passing.{met-ext, met-none}
+use Rattle.sz_frame.specs.Fits.{AreApart}
+use Rattle.sz_frame.specs.Parts.{Entry}
+use Rattle.sz_frame.specs.Stands.{has_entry, pay_stands}
+use Rattle.sz_frame.proofs.Passing.{met-ext, met-none}
 use Rattle.sz_tables.specs.Entries.{entry_at}
 use Rattle.sz_tables.specs.Payloads.{payload_at}
 use Rattle.sz_tables.proofs.Scanned.{any-swap}

@@ -8,7 +8,7 @@ use Rattle.sz_spec.specs.Shapes.{Site}
 use Rattle.sz_region.specs.declared.set_bytes.Take.{Take}
 use Rattle.sz_region.specs.declared.set_bytes.Take.TheVariants.{Bad, NoMemory}
 use Rattle.sz_region.specs.Counted.{counted}
-use Rattle.sz_region.specs.Parts.{Entry}
+use Rattle.sz_frame.specs.Parts.{Entry}
 use Rattle.sz_region.specs.PayBytes.{IsPayWord, IsShort, payload_bytes}
 
 -- each is a payload of the operator

@@ -7,8 +7,8 @@ use Rattle.sz_spec.specs.declared.op.Op.TheVariants.{Regions, Clean}
 use Rattle.sz_spec.specs.Lineage.{mapped}
 use Rattle.sz_spec.specs.Payloads.{is_payload, mapped_by_payload}
 use Rattle.sz_spec.specs.Shapes.{Site}
-use Rattle.sz_region.specs.Parts.{Entry, Parts}
-use Rattle.sz_region.specs.Stands.{pay_stands, comp_stands}
+use Rattle.sz_frame.specs.Parts.{Entry, Parts}
+use Rattle.sz_frame.specs.Stands.{pay_stands, comp_stands}
 use Rattle.sz_tables.specs.Stores.{Store}
 
 -- the operator is that of connected regions, and that of cleaning
@@ -42,6 +42,6 @@ entries_stand comp s given i o x = if comp
     else pay_stands (mapped_by_payload s.op s.ins) given i o x
 
 -- what is seen of a store: whether it is one of composite lineage, and what it was given
-pub record Keeping : Type 0 where
+pub record PayContents : Type 0 where
   pub comp : Bool
   pub store : Store Entry

@@ -7,8 +7,8 @@ use Rattle.sz_cells.specs.Cells.{Cells, any_cell, has}
 use Rattle.sz_spec.specs.Lineage.{mapped}
 use Rattle.sz_spec.specs.Payloads.{mapped_by_payload}
 use Rattle.sz_spec.specs.Shapes.{Site}
-use Rattle.sz_region.specs.Parts.{Entry}
-use Rattle.sz_region.specs.Stands.{has_entry}
+use Rattle.sz_frame.specs.Parts.{Entry}
+use Rattle.sz_frame.specs.Stands.{has_entry}
 use Rattle.sz_tables.specs.Payloads.{payload_at}
 use Rattle.sz_payload.specs.declared.forward.Tested.{Tested}
 

@@ -10,9 +10,9 @@ use Rattle.sz_cells.specs.Cells.{has}
 use Rattle.sz_spec.specs.Modes.{has_mapping}
 use Rattle.sz_spec.specs.Payloads.{is_payload}
 use Rattle.sz_spec.specs.Shapes.{Site}
-use Rattle.sz_region.specs.Fits.{AreApart}
-use Rattle.sz_region.specs.Parts.{Entry}
-use Rattle.sz_region.specs.Stands.{has_entry}
+use Rattle.sz_frame.specs.Fits.{AreApart}
+use Rattle.sz_frame.specs.Parts.{Entry}
+use Rattle.sz_frame.specs.Stands.{has_entry}
 use Rattle.sz_tables.specs.Entries.{EntryRows, entries, entry_at}
 use Rattle.sz_tables.specs.Filed.{Filed, Files, told}
 use Rattle.sz_tables.specs.Sets.{IsRound}

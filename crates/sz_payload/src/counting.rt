@@ -7,7 +7,7 @@ ghost use Rattle.sz_tables.specs.Rows.{runs_in};
 ghost use Rattle.sz_tables.specs.Stores.{cells_in, most_given};
 
 use std::sync::Arc;
-use sz_region::PayEntry;
+use sz_frame::PayEntry;
 use sz_tables::runs_of_set;
 
 /// How many runs the sets of all these entries have.

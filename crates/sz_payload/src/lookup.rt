@@ -6,12 +6,12 @@ ghost use Rattle.sz_cells.specs.Cells.{any_cell, with_those};
 ghost use Rattle.sz_spec.specs.declared.op.Op.TheVariants.{Lookup};
 ghost use Rattle.sz_spec.specs.Values.{extent_at};
 ghost use Rattle.sz_spec.specs.Payloads.{is_payload, mapped_by_payload, is_column, entry_kept};
-ghost use Rattle.sz_region.specs.Single.{is_cell, IsOnly};
+ghost use Rattle.sz_frame.specs.Single.{is_cell, IsOnly};
 ghost use Rattle.sz_payload.specs.Kept.{AreAlike};
 
 use crate::runs::number_at;
 use sz_cells::{Cell, CellBits, Shape};
-use sz_region::{add_cell, has_cell};
+use sz_frame::{add_cell, has_cell};
 use sz_spec::OpAt;
 
 /// Adds the output cell to input 0, and to the table the cell that the payload names.

@@ -7,7 +7,7 @@ ghost use Rattle.std.specs.List.Sorted.{IsNonDecreasingBy, IsPartitionPoint};
 ghost use Rattle.sz_cells.specs.Extent.{size_of, cell_of, Extent};
 ghost use Rattle.sz_cells.specs.Cells.{has};
 ghost use Rattle.sz_cells.specs.Runs.{AreRunsFrom, covers, indexes_of, is_in};
-ghost use Rattle.sz_region.specs.Parts.{Entry};
+ghost use Rattle.sz_frame.specs.Parts.{Entry};
 ghost use Rattle.sz_tables.specs.Entries.{entries, entry_at};
 ghost use Rattle.sz_tables.specs.Filed.{told};
 ghost use Rattle.sz_tables.specs.Stores.{cells_in, most_given};

@@ -6,7 +6,7 @@ ghost use Rattle.std.specs.Arc.{arc_value};
 ghost use Rattle.sz_cells.specs.Cells.{Cells, has, with_those};
 ghost use Rattle.sz_spec.specs.Modes.{has_mapping};
 ghost use Rattle.sz_spec.specs.Sides.{near_side, far_side, image_in};
-ghost use Rattle.sz_region.specs.Fits.{AreApart};
+ghost use Rattle.sz_frame.specs.Fits.{AreApart};
 ghost use Rattle.sz_region.specs.PayBytes.{IsPayWord};
 ghost use Rattle.sz_tables.specs.Rows.{runs_in};
 ghost use Rattle.sz_tables.specs.Stores.{IsWithin, room_for_entries, no_room, most_given};
@@ -23,7 +23,8 @@ use std::alloc::Global;
 use std::marker::Model;
 use std::sync::Arc;
 use sz_cells::{CellBits, NoMemory};
-use sz_region::{PayEntry, PieceLineage, Take};
+use sz_frame::{PayEntry, PieceLineage};
+use sz_region::Take;
 use sz_spec::{Dir, Mapper, OpAt};
 use sz_tables::EntryTable;
 
@@ -42,10 +43,10 @@ impl<M: Mapper> Model for PayStore<M> {
     ghost use Rattle.std.specs.Prelude.{◌≡◌, ◌++◌};
     ghost use Rattle.std.specs.Arc.{arc_value};
     ghost use Rattle.sz_tables.specs.Entries.{entries};
-    ghost use Rattle.sz_payload.specs.Kept.{Keeping};
+    ghost use Rattle.sz_payload.specs.Kept.{PayContents};
     ghost use Rattle.sz_payload.specs.Owned.{cell_room, room_in, owner_capacities, IsHeld};
 
-    ghost Value = { Keeping };
+    ghost Value = { PayContents };
 
     ghost view = { λ s. record {
       comp = s.comp;

@@ -12,7 +12,8 @@ use crate::runs::number_at;
 use crate::table::is_payload;
 use std::alloc::Global;
 use std::sync::Arc;
-use sz_region::{PayEntry, Take, take_entries};
+use sz_frame::PayEntry;
+use sz_region::{Take, take_entries};
 use sz_spec::OpAt;
 
 /// The entries of the operator's store that begins at a place, and the place behind it. `Bad`

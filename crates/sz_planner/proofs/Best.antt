@@ -13,7 +13,7 @@ use Rattle.sz_spec.specs.declared.modes.Strategy.{Strategy}
 use Rattle.sz_spec.specs.declared.modes.Strategy.TheVariants as strategy
 use Rattle.sz_spec.specs.Modes.{supports, number_of}
 use Rattle.sz_spec.specs.Shapes.{Site}
-use Rattle.sz_spec.specs.Choices.{units_at, cost_at, is_choice, units_of, cost_of, comes_before, IsBestChoice}
+use Rattle.sz_planner.specs.Choices.{units_at, cost_at, is_choice, units_of, cost_of, comes_before, IsBestChoice}
 use Rattle.sz_spec.proofs.Ways.{number-apart}
 use Rattle.sz_planner.specs.declared.offers.Offer.{Offer}
 use Rattle.sz_planner.specs.Offers.{offer_of, offers_among, offers_of, black_box_of, others}
@@ -32,8 +32,10 @@ unfolding cost_over offers_of black_box_of offer_of
 over-least back forward s b u c ok fits =
     elim (black_box-or_other c) [
       | inl is ↦
-          let start = cheapest-at_most b u (cost_at back forward s strategy.BlackBox + b u) (offers_of back forward s) in
-          let P : Strategy → Type 0 = λ x. cost_over back forward s b u ≤ cost_at back forward s x + b (u - units_at s x) in
+          let start =
+          cheapest-at_most b u (cost_at back forward s strategy.BlackBox + b u) (offers_of back forward s) in
+          let P : Strategy → Type 0 =
+          λ x. cost_over back forward s b u ≤ cost_at back forward s x + b (u - units_at s x) in
           let all_left : u - units_at s strategy.BlackBox ≡ u = omega arith in
           subst P (sym is) (rw all_left start)
       | inr among ↦ cheapest-least back forward s b u _ others c among ok fits

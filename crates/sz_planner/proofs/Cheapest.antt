@@ -10,7 +10,7 @@ use Rattle.std.proofs.lemmas.Bool.Decides.{nat_tests}
 use Rattle.sz_spec.specs.declared.modes.Strategy.{Strategy}
 use Rattle.sz_spec.specs.Modes.{supports}
 use Rattle.sz_spec.specs.Shapes.{Site}
-use Rattle.sz_spec.specs.Choices.{units_at}
+use Rattle.sz_planner.specs.Choices.{units_at}
 use Rattle.sz_planner.specs.declared.offers.Offer.{Offer}
 use Rattle.sz_planner.specs.Offers.{offer_of, offers_among, offers_of}
 use Rattle.sz_planner.specs.Costs.{cost_with, lesser, cheapest, attains, cost_over, offer_over}

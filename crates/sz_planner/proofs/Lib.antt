@@ -5,3 +5,4 @@ pub mod Cheapest
 pub mod Best
 pub mod Tables
 mod Rows
+mod RowsChoices

@@ -8,7 +8,7 @@ use Rattle.sz_spec.specs.declared.op.Op.TheVariants as op
 use Rattle.sz_spec.specs.declared.modes.Strategy.{Strategy}
 use Rattle.sz_spec.specs.declared.modes.Strategy.TheVariants as strategy
 use Rattle.sz_spec.specs.Shapes.{Site}
-use Rattle.sz_spec.specs.Choices.{IsBestChoice}
+use Rattle.sz_planner.specs.Choices.{IsBestChoice}
 use Rattle.sz_planner.specs.Offers.{offer_of, others, offers_among, offers_of, black_box_of}
 use Rattle.sz_planner.specs.Costs.{cheapest, cost_over, least_cost, offer_over, list_within}
 use Rattle.sz_planner.proofs.Best.{all-best}

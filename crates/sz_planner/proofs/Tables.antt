@@ -10,7 +10,7 @@ use Rattle.std.proofs.lemmas.Grind.{common_steps}
 use Rattle.std.proofs.lemmas.Bool.{cases_lt}
 use Rattle.sz_spec.specs.declared.modes.Strategy.{Strategy}
 use Rattle.sz_spec.specs.Shapes.{Site}
-use Rattle.sz_spec.specs.Choices.{units_of}
+use Rattle.sz_planner.specs.Choices.{units_of}
 use Rattle.sz_planner.specs.declared.offers.Offer.{Offer}
 use Rattle.sz_planner.specs.Offers.{offer_of}
 use Rattle.sz_planner.specs.Costs.{least_cost, offer_over, list_within, AreCostsOver, AreLeastCosts}

@@ -2,7 +2,7 @@
 use Rattle.std.specs.Prelude.{◌≡◌, ℕ, List}
 use Rattle.sz_spec.specs.declared.modes.Strategy.{Strategy}
 use Rattle.sz_spec.specs.Shapes.{Site}
-use Rattle.sz_spec.specs.Choices.{IsBestChoice}
+use Rattle.sz_planner.specs.Choices.{IsBestChoice}
 use Rattle.sz_planner.specs.Costs.{list_within}
 
 -- there is a best choice within any limit: the list that is read off from the least costs

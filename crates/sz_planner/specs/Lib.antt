@@ -1,3 +1,4 @@
+pub mod Choices
 pub mod Offers
 pub mod Costs
 pub mod Laws

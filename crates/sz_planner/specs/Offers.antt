@@ -5,7 +5,7 @@ use Rattle.sz_spec.specs.declared.modes.Strategy.{Strategy}
 use Rattle.sz_spec.specs.declared.modes.Strategy.TheVariants as strategy
 use Rattle.sz_spec.specs.Modes.{supports}
 use Rattle.sz_spec.specs.Shapes.{Site}
-use Rattle.sz_spec.specs.Choices.{units_at, cost_at}
+use Rattle.sz_planner.specs.Choices.{units_at, cost_at}
 use Rattle.sz_planner.specs.declared.offers.Offer.{Offer}
 
 -- a strategy at a node: the units of its store, and what so many asks in each direction cost by it

@@ -3,7 +3,7 @@
 
 ghost use Rattle.std.specs.Prelude.{◌≡◌, ◌≤◌, true, not, length};
 ghost use Rattle.sz_spec.specs.Weights.{is_kernel, is_zero, taps_of};
-ghost use Rattle.sz_spec.specs.Choices.{degree_of, estimate};
+ghost use Rattle.sz_planner.specs.Choices.{degree_of, estimate};
 
 use sz_spec::{Kernel, Op, OpAt, Strategy};
 

@@ -19,8 +19,8 @@
 //! An offer is a strategy that a node's operator supports, with what it takes and costs. A table
 //! tells, for each number of units, the least that the nodes from some node on cost. It is made
 //! from the last node to the first, and the list is then read off from node 0 on. Black box takes
-//! no unit, so there is always a choice. [`laws`] says that there is one best choice, and which list
-//! it is.
+//! no unit, so there is always a choice. [`laws`] says that there is one best choice, and which
+//! list it is.
 #![tactic(auto)]
 
 mod costs;

@@ -2,7 +2,7 @@
 //! and with what the asks cost by it.
 
 ghost use Rattle.std.specs.Prelude.{◌≡◌, ◌≤◌, All, IfOk};
-ghost use Rattle.sz_spec.specs.Choices.{units_over};
+ghost use Rattle.sz_planner.specs.Choices.{units_over};
 ghost use Rattle.sz_planner.specs.Offers.{offer_of, offers_among, offers_of};
 ghost use Rattle.sz_planner.specs.Costs.{most_at_a_node};
 

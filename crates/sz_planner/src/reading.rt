@@ -2,7 +2,7 @@
 
 ghost use Rattle.std.specs.Prelude.{◌≡◌, ◌≤◌, ◌<◌, ◌+◌, ◌*◌, ℕ, All, IfOk, length, slice_index};
 ghost use Rattle.std.specs.List.{find};
-ghost use Rattle.sz_spec.specs.Choices.{units_of};
+ghost use Rattle.sz_planner.specs.Choices.{units_of};
 ghost use Rattle.sz_planner.specs.Costs.{attains, offer_over, list_within, most_at_a_node, IsTable};
 
 use crate::costs::cheapest;

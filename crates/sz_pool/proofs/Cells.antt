@@ -3,7 +3,7 @@ use Rattle.std.proofs.Common.{◌≡◌, ℕ, ◌+◌, ◌*◌, ◌-◌, ◌/◌
 use Rattle.std.proofs.lemmas.List.Sums.{sum_by_push}
 use Rattle.sz_cells.specs.Extent.{Extent, size_of}
 use Rattle.sz_spec.specs.Pieces.{pieces_of}
-use Rattle.sz_region.specs.Written.{cells_in_piece}
+use Rattle.sz_frame.specs.Written.{cells_in_piece}
 use Rattle.sz_pool.specs.Effort.{cells_of}
 
 few-more-of : (size n cells : ℕ) → n < (size + 63) / 64 → cells ≤ min size (n * 64)

@@ -7,11 +7,11 @@ use Rattle.std.proofs.Common.{sym, refl, ap, ◌∙◌, subst, true≢false, inl
 use Rattle.std.proofs.lemmas.Bool.{cases_lt}
 use Rattle.sz_cells.specs.Extent.{Extent, size_of}
 use Rattle.sz_spec.specs.Pieces.{pieces_of}
-use Rattle.sz_region.specs.Written.{cells_in_piece}
+use Rattle.sz_frame.specs.Written.{cells_in_piece}
 use Rattle.sz_shelf.specs.Rule.{Begins}
 use Rattle.sz_shelf.specs.Answers.{seal_answer}
 use Rattle.sz_shelf.specs.Passes.{Onlooker, TookTurn}
-use Rattle.sz_shelf.specs.Places.{Place}
+use Rattle.sz_shelf.specs.Places.{ShelfPlace}
 use Rattle.sz_shelf.specs.Contents.{is_in, missing_in}
 use Rattle.sz_pool.specs.Growing.{Grows}
 use Rattle.sz_shelf.specs.Tags.{tag_pieces, Tag}
@@ -44,7 +44,7 @@ pub record IsFilling (out : Extent) (p q : Onlooker) (reply : SealReply) (t u : 
   pub most : u ≤ t + cells_of out (passing (unseen p.seen) (frontier (pieces_of out) reply))
 
 same-tag : (p q : Onlooker) → Grows p q → q.tag ≡ p.tag
-same-tag p q g = ap (λ (z : Place). z.tag) g.place
+same-tag p q g = ap (λ (z : ShelfPlace). z.tag) g.place
 
 -- what is known while piece k is the least that is missing
 pub record IsNext (out : Extent) (p q : Onlooker) (k : ℕ) : Type 0 where

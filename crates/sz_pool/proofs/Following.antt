@@ -10,7 +10,7 @@ use Rattle.std.proofs.lemmas.List.Sums.{sum_by_push}
 use Rattle.std.proofs.lemmas.List.Elements.{All-push}
 use Rattle.sz_cells.specs.Extent.{Extent, size_of}
 use Rattle.sz_spec.specs.Pieces.{pieces_of}
-use Rattle.sz_region.specs.Written.{cells_in_piece}
+use Rattle.sz_frame.specs.Written.{cells_in_piece}
 use Rattle.sz_claims.specs.Claims.{Claimant}
 use Rattle.sz_claims.proofs.Reach.{reach-next}
 use Rattle.sz_shelf.specs.Rule.{Begins}

@@ -15,7 +15,7 @@ use Rattle.sz_cells.specs.Extent.{Extent, size_of}
 use Rattle.sz_cells.proofs.WordRuns.{find-some}
 use Rattle.sz_cells.proofs.Windows.{range-append}
 use Rattle.sz_spec.specs.Pieces.{pieces_of}
-use Rattle.sz_region.specs.Written.{cells_in_piece}
+use Rattle.sz_frame.specs.Written.{cells_in_piece}
 use Rattle.sz_shelf.specs.Contents.{is_in, missing_in}
 use Rattle.sz_pool.specs.Effort.{cells_of}
 

@@ -5,7 +5,7 @@ use Rattle.std.specs.Prelude.{if◌then◌else◌, Result, Ok, Err}
 use Rattle.sz_cells.specs.declared.NoMemory.{NoMemory}
 use Rattle.std.specs.Option.{option_map_or}
 use Rattle.sz_shelf.specs.Passes.{Onlooker, place_of, TookTurn}
-use Rattle.sz_shelf.specs.Places.{Place}
+use Rattle.sz_shelf.specs.Places.{ShelfPlace}
 use Rattle.sz_shelf.specs.Contents.{is_in, missing_in}
 use Rattle.sz_pool.specs.Growing.{Grows}
 use Rattle.sz_shelf.specs.Tags.{tag_pieces}
@@ -73,5 +73,5 @@ reply-told p q (Missing k) turn answer seen sealed =
     let told : missing_in n q.seen ≡ Some k =
     ap (missing_in n) seen ∙ missing-of k (missing_in n q.found) answer in
     let whole : q.saw ≡ true → missing_in n q.seen ≡ None =
-    λ h. ap (λ (z : Place). missing_in (tag_pieces z.tag) q.seen) turn.place ∙ turn.whole h in
+    λ h. ap (λ (z : ShelfPlace). missing_in (tag_pieces z.tag) q.seen) turn.place ∙ turn.whole h in
     (unsaw q.saw k (missing_in n q.seen) told whole, told)

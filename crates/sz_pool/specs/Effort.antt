@@ -2,7 +2,7 @@
 use Rattle.std.specs.Prelude.{ℕ, List, not, sum_by}
 use Rattle.std.specs.List.{filter, range_with_len}
 use Rattle.sz_cells.specs.Extent.{Extent}
-use Rattle.sz_region.specs.Written.{cells_in_piece}
+use Rattle.sz_frame.specs.Written.{cells_in_piece}
 use Rattle.sz_shelf.specs.Tags.{Tag, tag_pieces}
 use Rattle.sz_shelf.specs.Contents.{is_in}
 

@@ -1,7 +1,7 @@
 -- What becomes of a pass and of a tally where a piece is made and placed, or refused for memory.
 use Rattle.std.specs.Prelude.{◌≡◌, ℕ, ◌+◌, ◌≤◌, true}
 use Rattle.sz_cells.specs.Extent.{Extent}
-use Rattle.sz_region.specs.Written.{cells_in_piece}
+use Rattle.sz_frame.specs.Written.{cells_in_piece}
 use Rattle.sz_shelf.specs.Contents.{is_in}
 use Rattle.sz_shelf.specs.Passes.{Onlooker}
 use Rattle.sz_pool.specs.Growing.{Grows}

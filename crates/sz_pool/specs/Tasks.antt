@@ -4,7 +4,7 @@ use Rattle.std.specs.Arc.{arc_value}
 use Rattle.sz_spec.specs.declared.modes.Strategy.{Strategy}
 use Rattle.sz_flow.specs.declared.node_run.NodeRun.{NodeRun}
 use Rattle.sz_claims.specs.Claims.{Pieces, Claimant}
-use Rattle.sz_shelf.specs.Places.{Place}
+use Rattle.sz_shelf.specs.Places.{ShelfPlace}
 use Rattle.sz_shelf.specs.Passes.{Onlooker}
 use Rattle.sz_pool.specs.declared.task.Task.{Task}
 
@@ -21,7 +21,7 @@ pub record IsSameTask (a b : Task) : Type 0 where
 
 -- A task for a node of a version: it has the run's operator, arrays and what was prepared for them,
 -- this list, this shelf and these claims, and these passes.
-pub record IsTaskFor (version node : ℕ) (run : NodeRun) (list : List Strategy) (shelf : Place)
+pub record IsTaskFor (version node : ℕ) (run : NodeRun) (list : List Strategy) (shelf : ShelfPlace)
     (pass : Onlooker) (claims : Pieces) (claimant : Claimant) (t : Task) : Type 0 where
   pub same_version : t.version ≡ version
   pub same_node : t.node ≡ node

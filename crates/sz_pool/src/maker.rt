@@ -3,7 +3,7 @@
 ghost use Rattle.std.specs.Prelude.{◌≡◌, ◌+◌, ◌<◌, ◌^◌, map, MatchResult};
 ghost use Rattle.std.specs.Arc.{arc_value};
 ghost use Rattle.sz_spec.specs.Pieces.{pieces_of};
-ghost use Rattle.sz_region.specs.Written.{cells_in_piece};
+ghost use Rattle.sz_frame.specs.Written.{cells_in_piece};
 ghost use Rattle.sz_ops.specs.Aids.{aid_of};
 ghost use Rattle.sz_shelf.specs.Passes.{place_of};
 ghost use Rattle.sz_pool.specs.Tagged.{tag_over};

@@ -13,7 +13,7 @@ use Rattle.sz_spec.specs.Shapes.{Site}
 use Rattle.sz_spec.specs.Sides.{image_in}
 use Rattle.sz_spec.specs.Values.{Grid}
 use Rattle.sz_shelf.specs.Tags.{Tag}
-use Rattle.sz_shelf.specs.Places.{Place}
+use Rattle.sz_shelf.specs.Places.{ShelfPlace}
 use Rattle.sz_shelf.specs.Passes.{Onlooker}
 use Rattle.sz_query.specs.Views.{View, by_map, by_store, by_shelf, by_growth, by_trace, traced_by, most_traced_by}
 use Rattle.sz_query.specs.Views.{HasShelf, HasGrowth}
@@ -51,7 +51,7 @@ same-stays v w most same =
 
 -- the tag of a pass that looked once, and what it saw
 looked-tag : (p q : Onlooker) → LookedOnce p q → q.tag ≡ p.tag
-looked-tag p q looked = ap (λ (z : Place). z.tag) looked.turn.place
+looked-tag p q looked = ap (λ (z : ShelfPlace). z.tag) looked.turn.place
 
 pub looked-saw : (p q : Onlooker) → LookedOnce p q → p.saw ≡ true → q.saw ≡ true
 looked-saw p q looked saw = looked.turn.saw (looked.turn.sealed saw)
@@ -61,7 +61,7 @@ listed-still : (p q : Onlooker) (t : Strategy) → LookedOnce p q → is_listed 
 listed-still p q t looked listed = ap (λ (x : Tag). is_listed x.list t) (looked-tag p q looked) ∙ listed
 
 -- a view by a shelf, and one by a shelf that may grow
-shelf-stays : (s : Site) (z : Place) (p q : Onlooker) (t : Strategy) → LookedOnce p q
+shelf-stays : (s : Site) (z : ShelfPlace) (p q : Onlooker) (t : Strategy) → LookedOnce p q
     → StaysAsked (by_shelf s z p t) (by_shelf s z q t)
 shelf-stays s z p q t looked = record {
   site = refl;
@@ -80,7 +80,7 @@ shelf-stays s z p q t looked = record {
   used = λ fixed. refl;
 }
 
-growth-stays : (s : Site) (inputs : List Grid) (z : Place) (p q : Onlooker) (t : Strategy) → LookedOnce p q
+growth-stays : (s : Site) (inputs : List Grid) (z : ShelfPlace) (p q : Onlooker) (t : Strategy) → LookedOnce p q
     → StaysAsked (by_growth s inputs z p t) (by_growth s inputs z q t)
 growth-stays s inputs z p q t looked = record {
   site = refl;

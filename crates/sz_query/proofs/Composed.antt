@@ -23,7 +23,7 @@ use Rattle.sz_spec.specs.Shapes.{Site}
 use Rattle.sz_spec.specs.Sides.{near_side, far_side, image_in}
 use Rattle.sz_spec.proofs.Images.{back-ext, forward-ext}
 use Rattle.sz_spec.proofs.PayloadLineage.{extent-of_input, related-mapped}
-use Rattle.sz_region.proofs.Added.{own-at}
+use Rattle.sz_frame.proofs.Added.{own-at}
 use Rattle.sz_store.specs.Kept.{holding_for, holding_stands}
 use Rattle.sz_query.specs.Views.{View, by_map, by_store, by_shelf, by_growth, by_trace, view_site, relation_of}
 use Rattle.sz_query.specs.Views.{image_by}

@@ -10,7 +10,7 @@ use Rattle.sz_spec.specs.declared.modes.Dir.TheVariants.{Back, Forward}
 use Rattle.sz_spec.specs.Shapes.{Site}
 use Rattle.sz_spec.specs.Values.{extent_at}
 use Rattle.sz_spec.specs.Sides.{far_side, image_in}
-use Rattle.sz_region.proofs.Added.{own-at}
+use Rattle.sz_frame.proofs.Added.{own-at}
 use Rattle.sz_query.specs.Views.{View, view_site, relation_of, image_by}
 
 -- the cells that pass a test, added to none

@@ -12,10 +12,10 @@ use Rattle.sz_spec.specs.declared.modes.Dir.TheVariants.{Back, Forward}
 use Rattle.sz_spec.specs.declared.modes.Strategy.TheVariants as strategy
 use Rattle.sz_spec.specs.Values.{Grid}
 use Rattle.sz_spec.specs.Shapes.{Site}
-use Rattle.sz_region.specs.Parts.{Pairing}
+use Rattle.sz_frame.specs.Parts.{Pairing}
 use Rattle.sz_store.specs.Kept.{NodeLineage, regions}
 use Rattle.atomic_table.specs.Seated.{TableId}
-use Rattle.sz_shelf.specs.Places.{Place}
+use Rattle.sz_shelf.specs.Places.{ShelfPlace}
 use Rattle.sz_shelf.specs.Passes.{Onlooker, newcomer}
 use Rattle.sz_query.specs.declared.used.Used.TheVariants as used
 use Rattle.sz_query.specs.Views.{View, by_map, by_store, by_shelf, by_growth, by_trace, used_of, traced_by, IsUsable}
@@ -215,7 +215,7 @@ kept-not_listed ready = true≢false (sym ready.listed)
 abbrev pair : Grid
 pair = grid two (Some (pos 3) ∷ Some (pos 4) ∷ [])
 
-abbrev shelf_at : TableId → Place
+abbrev shelf_at : TableId → ShelfPlace
 shelf_at z = record {
   table = z;
   tag = record { site = opposite; inputs = pair ∷ []; list = strategy.FullOneB ∷ strategy.Map ∷ [] };

@@ -12,8 +12,8 @@ use Rattle.sz_spec.specs.Sides.{near_side}
 use Rattle.sz_spec.specs.Flows.{Graph}
 use Rattle.sz_spec.specs.Modes.{has_mapping}
 use Rattle.sz_spec.specs.Paths.{Step, are_joined, inputs_of, extent_of, start_extent, compose}
-use Rattle.sz_region.specs.Images.{measure_of}
-use Rattle.sz_region.specs.Laws.{IsTheRelation}
+use Rattle.sz_frame.specs.Images.{measure_of}
+use Rattle.sz_frame.specs.Laws.{IsTheRelation}
 use Rattle.sz_store.specs.Kept.{holding_for, holding_stands}
 use Rattle.sz_query.specs.Views.{View, by_map, by_store, by_shelf, by_growth, by_trace, view_site}
 use Rattle.sz_query.specs.Views.{IsUsable, used_of, traced_by, most_traced_by, image_by}

@@ -14,7 +14,7 @@ use Rattle.sz_spec.specs.Lineage.{mapped, related}
 use Rattle.sz_spec.specs.Sides.{image_in}
 use Rattle.sz_spec.specs.Modes.{has_mapping, is_listed, is_stored}
 use Rattle.sz_store.specs.Kept.{NodeLineage, is_whole, holding_for, holding_stands}
-use Rattle.sz_shelf.specs.Places.{Place}
+use Rattle.sz_shelf.specs.Places.{ShelfPlace}
 use Rattle.sz_shelf.specs.Passes.{Onlooker, place_of}
 use Rattle.sz_query.specs.declared.views.NodeView.{NodeView}
 use Rattle.sz_query.specs.declared.views.NodeView.TheVariants.{Mapped, Stored, Kept, Building}
@@ -28,8 +28,8 @@ use Rattle.sz_query.specs.declared.used.Used.TheVariants as used
 pub data View : Type 0 where
   by_map : Site → View
   by_store : Site → NodeLineage → Strategy → View
-  by_shelf : Site → Place → Onlooker → Strategy → View
-  by_growth : Site → List Grid → Place → Onlooker → Strategy → View
+  by_shelf : Site → ShelfPlace → Onlooker → Strategy → View
+  by_growth : Site → List Grid → ShelfPlace → Onlooker → Strategy → View
   by_trace : Site → List Grid → View
 
 -- what a view of the code stands for
@@ -59,7 +59,7 @@ pub record HasStore (s : Site) (kept : NodeLineage) (t : Strategy) : Type 0 wher
 -- A strategy's store can be looked at on a shelf that is sealed: the pass is one of this shelf,
 -- which is of this operator at these shapes, the pass saw the seal, and the strategy is one of the
 -- shelf's list that keeps a store.
-pub record HasShelf (s : Site) (z : Place) (p : Onlooker) (t : Strategy) : Type 0 where
+pub record HasShelf (s : Site) (z : ShelfPlace) (p : Onlooker) (t : Strategy) : Type 0 where
   pub own : place_of p ≡ z
   pub site : p.tag.site ≡ s
   pub saw : p.saw ≡ true
@@ -68,7 +68,7 @@ pub record HasShelf (s : Site) (z : Place) (p : Onlooker) (t : Strategy) : Type 
 
 -- The same of a shelf that may not be sealed yet, beside the arrays over which the operator is
 -- traced until then: they are the shelf's own, of the operator's shapes.
-pub record HasGrowth (s : Site) (arrays : List Grid) (z : Place) (p : Onlooker) (t : Strategy)
+pub record HasGrowth (s : Site) (arrays : List Grid) (z : ShelfPlace) (p : Onlooker) (t : Strategy)
     : Type 0 where
   pub own : place_of p ≡ z
   pub site : p.tag.site ≡ s

@@ -4,7 +4,7 @@
 use Rattle.std.proofs.Common.{◌≡◌, ℕ, List, [], refl, sym, ap, ◌∙◌, inl, inr, true, false, true≢false}
 use Rattle.std.proofs.Common.{Option, Some, None}
 use Rattle.std.specs.Prelude.{Result, Ok, Err}
-use Rattle.sz_log.specs.Log.{Entry}
+use Rattle.sz_log.specs.Log.{LogGroup}
 use Rattle.sz_script.specs.Reading.{reading}
 use Rattle.sz_script.specs.declared.command.Command.{Command}
 use Rattle.sz_script.specs.declared.command.Command.TheVariants as command
@@ -12,11 +12,11 @@ use Rattle.sz_script.specs.declared.refusal.Refusal.{Refusal}
 use Rattle.sz_catalogue.specs.Holdings.{Holdings}
 use Rattle.sz_catalogue.specs.Rules.{judged}
 use Rattle.sz_catalogue.specs.Changes.{accepted, changes_no_version}
-use Rattle.sz_recover.specs.Fitting.{body_of}
+use Rattle.sz_bodies.specs.Fitting.{body_of}
 use Rattle.sz_recover.specs.Logs.{Acts, IsBad, held_by, held_behind, is_of_kind}
-use Rattle.sz_recover.specs.Taking.{NoneIsLawful}
+use Rattle.sz_bodies.specs.Taking.{NoneIsLawful}
 
-abbrev pub entry_of : ℕ → List ℕ → Entry
+abbrev pub entry_of : ℕ → List ℕ → LogGroup
 entry_of kind body = record { kind = kind; body = body }
 
 -- ---- lines
@@ -28,12 +28,7 @@ kind-changes kind (command.Csv name array) is = refl
 kind-changes kind (command.Layers name array) is = refl
 kind-changes kind (command.Flow name flow) is = refl
 kind-changes kind (command.Strategy name node list) is = refl
-kind-changes kind (command.Start name base) is = absurd (true≢false (sym is))
-kind-changes kind (command.Plan name base units back forward) is = absurd (true≢false (sym is))
-kind-changes kind (command.Await n) is = absurd (true≢false (sym is))
-kind-changes kind (command.Ask n dir path named) is = absurd (true≢false (sym is))
-kind-changes kind (command.Explain n dir path named) is = absurd (true≢false (sym is))
-kind-changes kind (command.Show n node) is = absurd (true≢false (sym is))
+kind-changes kind _ is = absurd (true≢false (sym is))
 
 -- a line that is taken
 pub line-held : (c d : Holdings) (kind : ℕ) (body : List ℕ) (order : Command) → reading body ≡ Ok order
@@ -62,24 +57,15 @@ line-refused c kind body order rule read own refused = ap (held_by c kind) read 
 version-no_line : (c : Holdings) (r : Result Command Refusal) → held_by c 4 r ≡ None
 version-no_line c (Err rule) = refl
 version-no_line c (Ok (command.Array name array)) = refl
-version-no_line c (Ok (command.Csv name array)) = refl
-version-no_line c (Ok (command.Layers name array)) = refl
-version-no_line c (Ok (command.Flow name flow)) = refl
-version-no_line c (Ok (command.Strategy name node list)) = refl
-version-no_line c (Ok (command.Start name base)) = refl
-version-no_line c (Ok (command.Plan name base units back forward)) = refl
-version-no_line c (Ok (command.Await n)) = refl
-version-no_line c (Ok (command.Ask n dir path named)) = refl
-version-no_line c (Ok (command.Explain n dir path named)) = refl
-version-no_line c (Ok (command.Show n node)) = refl
+version-no_line c (Ok _) = refl
 
 none-some : {X : Type 0} (o : Option X) (x : X) → o ≡ None → o ≡ Some x → ⊥
 none-some o x none some = let clash = sym none ∙ some in cc
 
-pub line-acts : (c d : Holdings) (e : Entry) → held_behind c e ≡ Some d → Acts c e d []
+pub line-acts : (c d : Holdings) (e : LogGroup) → held_behind c e ≡ Some d → Acts c e d []
 line-acts c d e is = inl (record { held = is; none = refl })
 
-pub line-bad : (c : Holdings) (e : Entry) → (e.kind ≡ 4 → ⊥) → held_behind c e ≡ None → IsBad c e
+pub line-bad : (c : Holdings) (e : LogGroup) → (e.kind ≡ 4 → ⊥) → held_behind c e ≡ None → IsBad c e
 line-bad c e other none d kept (inl l) = none-some (held_behind c e) d none l.held
 line-bad c e other none d kept (inr v) = other v.kind
 

@@ -10,7 +10,7 @@ use Rattle.std.specs.List.{flat_map, AllByRecursion}
 use Rattle.std.proofs.lemmas.Bool.{and_parts, eqb-true, leb-true}
 use Rattle.std.proofs.lemmas.List.{drop_at}
 use Rattle.sz_outside.specs.Disk.{bytes_at}
-use Rattle.sz_log.specs.Log.{Entry, IsEntry, IsLog, begins_as_log, group_bytes, header, is_kind}
+use Rattle.sz_log.specs.Log.{LogGroup, IsLogGroup, IsLog, begins_as_log, group_bytes, header, is_kind}
 use Rattle.sz_log.specs.Laws.{Reads}
 use Rattle.sz_log.specs.Places.{group_in, opened}
 use Rattle.sz_log.specs.Steps.{place_behind}
@@ -76,7 +76,7 @@ short-length : (n : ℕ) → from_be_bytes w64 (to_be_bytes w64 n) ≡ n → n <
 short-length n same = omega (arith, same)
 
 -- the bytes of the group, and what stands behind them
-group-there : (disk : List ℕ) (at : ℕ) (e : Entry) → IsOpen (drop at disk) e.kind (length e.body)
+group-there : (disk : List ℕ) (at : ℕ) (e : LogGroup) → IsOpen (drop at disk) e.kind (length e.body)
     → bytes_at disk (at + 10) (length e.body) ≡ e.body
     → bytes_at disk (at + 2) 8 ≡ to_be_bytes w64 (length e.body)
     → drop at disk ≡ group_bytes e ++ drop (place_behind at e) disk
@@ -102,13 +102,13 @@ group-there disk at e there body spelled =
 -- ---- groups one after another
 
 -- from a place on a disk has the bytes of groups, a closed gate and a rest
-record HasGroups (disk : List ℕ) (at : ℕ) (es : List Entry) (end : ℕ) : Type 0 where
+record HasGroups (disk : List ℕ) (at : ℕ) (es : List LogGroup) (end : ℕ) : Type 0 where
   gate : ℕ
   behind : List ℕ
   closed : gate ≢ 1
   bytes : drop at disk ≡ flat_map group_bytes es ++ gate ∷ behind
   place : end ≡ at + length (flat_map group_bytes es)
-  each : AllByRecursion IsEntry es
+  each : AllByRecursion IsLogGroup es
 
 -- a closed gate
 closed-at : (at : ℕ) (l : List ℕ) → group_in at l ≡ group.Closed
@@ -127,7 +127,7 @@ closed-at at (gate ∷ bytes) is = (gate, bytes, choose (gate == 1) refl is, ref
   choose true test is one = never bytes is
   choose false test is one = true≢false (sym (test ∙ ap (λ (n : ℕ). n == 1) one))
 
-groups-there : (disk : List ℕ) (at : ℕ) (es : List Entry) (end : ℕ) → Reads disk at es end → AreSpelled disk at es
+groups-there : (disk : List ℕ) (at : ℕ) (es : List LogGroup) (end : ℕ) → Reads disk at es end → AreSpelled disk at es
     → HasGroups disk at es end
 groups-there disk at [] end read spelled =
     let shut = closed-at at (drop at disk) read.1 in
@@ -178,7 +178,7 @@ read-logs disk es at begins read spelled =
 
 -- ---- the other way round
 
-spelled-behind : (disk front : List ℕ) (es : List Entry) (at gate : ℕ) (behind : List ℕ)
+spelled-behind : (disk front : List ℕ) (es : List LogGroup) (at gate : ℕ) (behind : List ℕ)
     → disk ≡ front ++ (flat_map group_bytes es ++ gate ∷ behind) → at ≡ length front → AreSpelled disk at es
 spelled-behind disk front [] at gate behind is place = tt
 spelled-behind disk front (e ∷ es) at gate behind is place =

@@ -18,7 +18,7 @@ use Rattle.std.proofs.lemmas.Bool.{cases_Bool, and_parts, leb-true}
 use Rattle.std.proofs.lemmas.List.Elements.{All-nil, All-cons, All-append, All-weaker, All-contains}
 use Rattle.std.proofs.lemmas.List.Elements.{Contains-append_right}
 use Rattle.std.proofs.lemmas.List.Sums.{sum_by-append}
-use Rattle.sz_log.specs.Log.{Entry}
+use Rattle.sz_log.specs.Log.{LogGroup}
 use Rattle.sz_spec.specs.declared.modes.Strategy.{Strategy}
 use Rattle.sz_spec.specs.Shapes.{Site}
 use Rattle.sz_store.specs.Kept.{Keep, NodeLineage, stored_in}
@@ -30,9 +30,9 @@ use Rattle.sz_script.specs.declared.refusal.Refusal.{Refusal}
 use Rattle.sz_catalogue.specs.Holdings.{Version, Holdings, no_holdings, no_version, version_numbered}
 use Rattle.sz_catalogue.specs.Rules.{has_no_version, version_of, judged}
 use Rattle.sz_catalogue.specs.Changes.{accepted, with_version}
-use Rattle.sz_recover.specs.Bodies.{BeginNodes}
-use Rattle.sz_recover.specs.Fitting.{Fit, FitNodes, sites_of, parts_of, body_of}
-use Rattle.sz_recover.specs.Lawful.{version_said}
+use Rattle.sz_bodies.specs.Bodies.{BeginNodes}
+use Rattle.sz_bodies.specs.Fitting.{Fit, FitNodes, sites_of, parts_of, body_of}
+use Rattle.sz_bodies.specs.Lawful.{version_said}
 use Rattle.sz_recover.specs.Logs.{Kept, Acts, ActEach, held_by, is_of_kind}
 use Rattle.sz_recover.specs.Opened.{HasItsStores, IsEntryOf, entries_under, versions_under, AreOfVersions}
 use Rattle.sz_recover.specs.Opened.{WellMadeLogsKeepTheirVersions, HeldVersionsHaveEntries, HeldVersionsAreAwaited}
@@ -223,12 +223,7 @@ line-versions c d kind (Ok (command.Flow name flow)) is =
 line-versions c d kind (Ok (command.Strategy name node list)) is =
     let order = command.Strategy name node list in
     chosen (is_of_kind kind order && is_none (judged c order)) c (accepted c order).0 d refl is
-line-versions c d kind (Ok (command.Start name base)) is = cc
-line-versions c d kind (Ok (command.Plan name base units back forward)) is = cc
-line-versions c d kind (Ok (command.Await n)) is = cc
-line-versions c d kind (Ok (command.Ask n dir path named)) is = cc
-line-versions c d kind (Ok (command.Explain n dir path named)) is = cc
-line-versions c d kind (Ok (command.Show n node)) is = cc
+line-versions c d kind (Ok _) is = cc
 
 -- a version that is added has one entry
 version-more : (c : Holdings) (v : Version) (kept : List Kept) (one : Kept)
@@ -247,7 +242,7 @@ version-more c v kept one number awaited fit stored are =
     }
 
 -- Behind a group that acts the entries are those of the versions, as they were before it.
-pub acts-keep : (c d : Holdings) (e : Entry) (kept more : List Kept) → AreOfVersions c kept → Acts c e d more
+pub acts-keep : (c d : Holdings) (e : LogGroup) (kept more : List Kept) → AreOfVersions c kept → Acts c e d more
     → AreOfVersions d (kept ++ more)
 acts-keep c d e kept more are (inl l) =
     subst (λ (ks : List Kept). AreOfVersions d (kept ++ ks)) (sym l.none)
@@ -265,7 +260,7 @@ acts-keep c d e kept more are (inr v) =
     (subst (λ (h : Holdings). AreOfVersions h (kept ++ v.one ∷ [])) (sym v.held)
     (version-more c v.version kept v.one v.lawful.number awaited v.fit stored are))
 
-each-keep : (c d : Holdings) (es : List Entry) (kept more : List Kept) → AreOfVersions c kept
+each-keep : (c d : Holdings) (es : List LogGroup) (kept more : List Kept) → AreOfVersions c kept
     → ActEach c es d more → AreOfVersions d (kept ++ more)
 each-keep c d [] kept more are all =
     subst (λ (ks : List Kept). AreOfVersions d (kept ++ ks)) (sym all.1)

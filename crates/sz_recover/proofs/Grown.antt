@@ -2,7 +2,7 @@
 use Rattle.std.proofs.Common.{◌≡◌, inl, inr, ⊎_elim, ℕ, List, [], ◌∷◌, ◌++◌, refl, sym, ap, ◌∙◌, subst, true, Option}
 use Rattle.std.proofs.Common.{None, Some, append_assoc, append-nil}
 use Rattle.sz_outside.specs.Disk.{Told, Only, Passes}
-use Rattle.sz_log.specs.Log.{Entry, IsLog, begins_as_log, log_bytes}
+use Rattle.sz_log.specs.Log.{LogGroup, IsLog, begins_as_log, log_bytes}
 use Rattle.sz_log.specs.Steps.{AddsOrKeeps, place_behind}
 use Rattle.sz_log.proofs.Moments.{seen_as}
 use Rattle.sz_log.proofs.Reading.{groups_read}
@@ -13,7 +13,7 @@ use Rattle.sz_recover.proofs.Ending.{logs-spelled, well-made-log}
 
 -- ---- one more group
 
-act-behind : (c d f : Holdings) (es : List Entry) (e : Entry) (kept more : List Kept) → ActEach c es d kept
+act-behind : (c d f : Holdings) (es : List LogGroup) (e : LogGroup) (kept more : List Kept) → ActEach c es d kept
     → Acts d e f more → ActEach c (es ++ e ∷ []) f (kept ++ more)
 act-behind c d f [] e kept more all acts = (
   f,
@@ -34,10 +34,10 @@ act-behind c d f (x ∷ es) e kept more all acts = (
 
 -- ---- a log is well made where its groups act
 
-begins : (es : List Entry) (rest : List ℕ) → begins_as_log (log_bytes es ++ rest) ≡ true
+begins : (es : List LogGroup) (rest : List ℕ) → begins_as_log (log_bytes es ++ rest) ≡ true
 begins es rest = refl
 
-log-made : (image : List ℕ) (at : ℕ) (es : List Entry) (c : Holdings) (kept : List Kept) → IsLog image es at
+log-made : (image : List ℕ) (at : ℕ) (es : List LogGroup) (c : Holdings) (kept : List Kept) → IsLog image es at
     → ActEach no_holdings es c kept → IsWellMade image at c kept
 log-made image at es c kept held acts = record {
   header = ap begins_as_log held.bytes ∙ begins es (held.gate ∷ held.behind);
@@ -47,7 +47,7 @@ log-made image at es c kept held acts = record {
   acts = acts;
 }
 
-grown-made : (image : List ℕ) (at : ℕ) (es : List Entry) (e : Entry) (g : Growth)
+grown-made : (image : List ℕ) (at : ℕ) (es : List LogGroup) (e : LogGroup) (g : Growth)
     → ActEach no_holdings es g.before g.kept → Acts g.before e g.after g.more → IsLog image (es ++ e ∷ []) at
     → IsWellMade image at g.after (g.kept ++ g.more)
 grown-made image at es e g each acts held =
@@ -77,14 +77,14 @@ made-logs-grow (Some disk) new at next e g made acts (image, is, adds) place =
 
 -- ---- what a stop leaves, for the proofs of whoever adds a group
 
-images-grow : (disk old image : List ℕ) (at : ℕ) (e : Entry) (g : Growth) → IsWellMade disk at g.before g.kept
+images-grow : (disk old image : List ℕ) (at : ℕ) (e : LogGroup) (g : Growth) → IsWellMade disk at g.before g.kept
     → Acts g.before e g.after g.more → old ≡ disk → AddsOrKeeps at e old image → GrowsOrKeeps at e g old image
 images-grow disk old image at e g made acts same adds =
     logs-grow-or-stay disk image at e g made acts (subst (λ (d : List ℕ). AddsOrKeeps at e d image) same adds)
 
 -- where no write is pending, each image that a stop in `append` leaves is a well-made log
 pub passes-grow : (before now : ℕ) (past since : ℕ → List ℕ → List ℕ → Type 0) (A C : List ℕ → Type 0)
-    (F : List ℕ → Type 0) (o : Option (List ℕ)) (at : ℕ) (e : Entry) (g : Growth) → IsMade o at g.before g.kept
+    (F : List ℕ → Type 0) (o : Option (List ℕ)) (at : ℕ) (e : LogGroup) (g : Growth) → IsMade o at g.before g.kept
     → Acts g.before e g.after g.more → Only o A
     → Told o (Passes before now past since A C (AddsOrKeeps at e) F)
     → Told o (Passes before now past since A C (GrowsOrKeeps at e g) F)

@@ -3,7 +3,8 @@
 -- The key idea: without it its number is new, and there are as many versions and cells less as it has; all else that is
 -- held stays, and the version is one of it.
 use Rattle.std.proofs.Common.{◌≡◌, ℕ, ◌+◌, ◌≤◌, ◌<◌, ◌==◌, List, [], ◌∷◌, length, sym, ap, arith}
-use Rattle.std.proofs.Common.{true, false, true≢false, Bool, not, ◌&&◌, nat_lt, nat_le, cond, Option, Some, is_none, filter, eq-eqb, refl}
+use Rattle.std.proofs.Common.{true, false, true≢false, Bool, not, ◌&&◌, nat_lt, nat_le, cond, Option, Some}
+use Rattle.std.proofs.Common.{is_none, filter, eq-eqb, refl}
 use Rattle.std.specs.List.{sum_by}
 use Rattle.std.specs.Map.{lookup, values_of}
 use Rattle.std.specs.BTreeMap.{is_at}
@@ -13,11 +14,11 @@ use Rattle.std.proofs.lemmas.List.Sums.{sum_by-cons}
 use Rattle.std.proofs.lemmas.Map.Entries.{lookup-filter-keys}
 use Rattle.sz_catalogue.specs.Holdings.{Version, Holdings, held_cells, output_cells, version_numbered}
 use Rattle.sz_catalogue.specs.Rules.{version_of, most_cells, most_versions}
-use Rattle.sz_recover.specs.Lawful.{CanBeAdded}
+use Rattle.sz_bodies.specs.Lawful.{CanBeAdded}
 use Rattle.sz_recover.specs.Growing.{IsInOrder, without, HeldBodiesAreLawful}
 use Rattle.sz_recover.proofs.Durable.{version-found}
 use Rattle.sz_recover.proofs.InOrder.{number-same}
-use Rattle.sz_recover.proofs.Written.{written-lawful}
+use Rattle.sz_bodies.proofs.Written.{written-lawful}
 
 abbrev others : ℕ → List (ℕ × Version) → List (ℕ × Version)
 others n es = filter (λ (e : ℕ × Version). not (e.0 == n)) es

@@ -13,10 +13,10 @@ use Rattle.sz_catalogue.specs.Starts.{workflow_of}
 use Rattle.sz_catalogue.specs.Rules as rules
 use Rattle.sz_catalogue.specs.Rules.{judged}
 use Rattle.sz_catalogue.specs.Changes.{accepted, with_version}
-use Rattle.sz_log.specs.Log.{Entry}
-use Rattle.sz_recover.specs.Bodies.{VersionBody}
-use Rattle.sz_recover.specs.Fitting.{body_of}
-use Rattle.sz_recover.specs.Lawful.{IsLawful, version_said}
+use Rattle.sz_log.specs.Log.{LogGroup}
+use Rattle.sz_bodies.specs.Bodies.{VersionBody}
+use Rattle.sz_bodies.specs.Fitting.{body_of}
+use Rattle.sz_bodies.specs.Lawful.{IsLawful, version_said}
 use Rattle.sz_recover.specs.Logs.{Kept, Acts, ActEach, is_of_kind, held_by}
 use Rattle.sz_recover.specs.Growing.{IsInOrder, LogsAreInOrder}
 use Rattle.sz_recover.proofs.InOrder.{nothing-in-order, commands-keep, added-in-order, named-in}
@@ -60,14 +60,14 @@ version-in-order c b bytes order is =
     (off (rules.has_no_flow c b.flow_name) is.flow) (off (rules.has_no_array c b.base) is.bases) count
     (off (rules.has_broken_shapes c b.flow_name b.base) is.shapes) is.lists)
 
-acts-in-order : (c d : Holdings) (e : Entry) (kept : List Kept) → IsInOrder c → Acts c e d kept → IsInOrder d
+acts-in-order : (c d : Holdings) (e : LogGroup) (kept : List Kept) → IsInOrder c → Acts c e d kept → IsInOrder d
 acts-in-order c d e kept order (inl line) = line-in-order c d e.kind e.body (reading e.body) refl order line.held
 acts-in-order c d e kept order (inr v) =
     let b : VersionBody = body_of v.one.number v.version v.one.stores in
     let made = version-in-order c b e.body order v.lawful in
     subst IsInOrder (ap (λ (x : Version). with_version c v.one.number x) (sym v.said) ∙ sym v.held) made
 
-each-in-order : (c d : Holdings) (es : List Entry) (kept : List Kept) → IsInOrder c → ActEach c es d kept
+each-in-order : (c d : Holdings) (es : List LogGroup) (kept : List Kept) → IsInOrder c → ActEach c es d kept
     → IsInOrder d
 each-in-order c d [] kept order all = subst IsInOrder (sym all.0) order
 each-in-order c d (e ∷ es) kept order all =

@@ -13,12 +13,12 @@ use Rattle.sz_catalogue.specs.Rules.{judged, has_no_room_for_array, most_arrays,
 use Rattle.sz_catalogue.specs.Rules.{version_of, first_of}
 use Rattle.sz_catalogue.specs.Changes.{accepted}
 use Rattle.sz_catalogue.proofs.Counts.{first-passed, neither}
-use Rattle.sz_recover.specs.Lawful.{CanBeAdded}
+use Rattle.sz_bodies.specs.Lawful.{CanBeAdded}
 use Rattle.sz_recover.specs.Logs.{Kept, is_of_kind}
 use Rattle.sz_recover.specs.Growing.{durable, IsInOrder, LinesAct, LinesKeepVersions, AwaitsAct}
 use Rattle.sz_recover.proofs.Acting.{entry_of, line-held, line-acts}
 use Rattle.sz_recover.proofs.Durable.{durable-cells, durable-room, version-found, await-settled, settled-new}
-use Rattle.sz_recover.proofs.Written.{written-lawful}
+use Rattle.sz_bodies.proofs.Written.{written-lawful}
 
 -- ---- lines
 
@@ -42,12 +42,7 @@ line-free c kind (command.Csv name array) own free = array-free c array free
 line-free c kind (command.Layers name array) own free = array-free c array free
 line-free c kind (command.Flow name flow) own free = free
 line-free c kind (command.Strategy name node list) own free = free
-line-free c kind (command.Start name base) own free = absurd (true≢false (sym own))
-line-free c kind (command.Plan name base units back forward) own free = absurd (true≢false (sym own))
-line-free c kind (command.Await n) own free = absurd (true≢false (sym own))
-line-free c kind (command.Ask n dir path named) own free = absurd (true≢false (sym own))
-line-free c kind (command.Explain n dir path named) own free = absurd (true≢false (sym own))
-line-free c kind (command.Show n node) own free = absurd (true≢false (sym own))
+line-free c kind _ own free = absurd (true≢false (sym own))
 
 line-durable : (c : Holdings) (kind : ℕ) (order : Command) → is_of_kind kind order ≡ true
     → durable (accepted c order).0 ≡ (accepted (durable c) order).0
@@ -56,12 +51,7 @@ line-durable c kind (command.Csv name array) own = refl
 line-durable c kind (command.Layers name array) own = refl
 line-durable c kind (command.Flow name flow) own = refl
 line-durable c kind (command.Strategy name node list) own = refl
-line-durable c kind (command.Start name base) own = absurd (true≢false (sym own))
-line-durable c kind (command.Plan name base units back forward) own = absurd (true≢false (sym own))
-line-durable c kind (command.Await n) own = absurd (true≢false (sym own))
-line-durable c kind (command.Ask n dir path named) own = absurd (true≢false (sym own))
-line-durable c kind (command.Explain n dir path named) own = absurd (true≢false (sym own))
-line-durable c kind (command.Show n node) own = absurd (true≢false (sym own))
+line-durable c kind _ own = absurd (true≢false (sym own))
 
 pub lines-act : LinesAct
 lines-act c kind line order read own free =
@@ -75,12 +65,7 @@ lines-keep c kind (command.Csv name array) own = refl
 lines-keep c kind (command.Layers name array) own = refl
 lines-keep c kind (command.Flow name flow) own = refl
 lines-keep c kind (command.Strategy name node list) own = refl
-lines-keep c kind (command.Start name base) own = absurd (true≢false (sym own))
-lines-keep c kind (command.Plan name base units back forward) own = absurd (true≢false (sym own))
-lines-keep c kind (command.Await n) own = absurd (true≢false (sym own))
-lines-keep c kind (command.Ask n dir path named) own = absurd (true≢false (sym own))
-lines-keep c kind (command.Explain n dir path named) own = absurd (true≢false (sym own))
-lines-keep c kind (command.Show n node) own = absurd (true≢false (sym own))
+lines-keep c kind _ own = absurd (true≢false (sym own))
 
 -- ---- awaits
 

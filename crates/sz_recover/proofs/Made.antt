@@ -13,9 +13,9 @@ use Rattle.sz_spec.specs.Modes.{is_stored, is_listed, number_of}
 use Rattle.sz_spec.specs.Pieces.{pieces_of}
 use Rattle.sz_spec.specs.Shapes.{Site}
 use Rattle.sz_spec.specs.Values.{Grid}
-use Rattle.sz_region.specs.Parts.{Parts}
-use Rattle.sz_region.specs.Fits.{Fits}
-use Rattle.sz_region.specs.Images.{measure_of}
+use Rattle.sz_frame.specs.Parts.{Parts}
+use Rattle.sz_frame.specs.Fits.{Fits}
+use Rattle.sz_frame.specs.Images.{measure_of}
 use Rattle.sz_flow.specs.Executions.{Execution}
 use Rattle.sz_store.specs.Kept.{Holding, Keep, NodeLineage, no_lineage, with_lineage, with_lineages, is_placed}
 use Rattle.sz_store.specs.Kept.{holding_for, stored_in, keep_with, empty_keep}

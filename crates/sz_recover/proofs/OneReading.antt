@@ -18,19 +18,19 @@ use Rattle.sz_script.specs.declared.refusal.Refusal.{Refusal}
 use Rattle.sz_catalogue.specs.Holdings.{Version, Holdings, no_holdings}
 use Rattle.sz_catalogue.specs.Starts.{workflow_of, bases_of}
 use Rattle.sz_catalogue.specs.Changes.{with_version}
-use Rattle.sz_log.specs.Log.{Entry}
+use Rattle.sz_log.specs.Log.{LogGroup}
 use Rattle.sz_log.specs.Laws.{Reads}
 use Rattle.sz_log.specs.Places.{group_on}
 use Rattle.sz_log.specs.Steps.{place_behind}
 use Rattle.sz_log.specs.declared.groups.Group.TheVariants as group
-use Rattle.sz_recover.specs.Bodies.{NodePart, VersionBody, IsBodyOf}
-use Rattle.sz_recover.specs.Fitting.{FitsNode, FitNodes, Fit, part_of, parts_of, body_of, sites_of}
-use Rattle.sz_recover.specs.Lawful.{version_said}
+use Rattle.sz_bodies.specs.Bodies.{NodePart, VersionBody, IsBodyOf}
+use Rattle.sz_bodies.specs.Fitting.{FitsNode, FitNodes, Fit, part_of, parts_of, body_of, sites_of}
+use Rattle.sz_bodies.specs.Lawful.{version_said}
 use Rattle.sz_recover.specs.Logs.{Kept, Acts, ActsAsLine, ActsAsVersion, ActEach, held_by}
 use Rattle.sz_recover.specs.Logs.{AreSpelled, Stands, StandEach, IsBadAt}
 use Rattle.sz_recover.specs.OneReading.{unplaced, bare_stores, bare, all_bare, WellMadeLogsAreReadInOneWay}
 use Rattle.sz_recover.specs.OneReading.{WellMadeLogsAreNotBad, LogsAreFirstBadAtOnePlace}
-use Rattle.sz_recover.proofs.OneWay.{head-same, bodies-one}
+use Rattle.sz_bodies.proofs.OneWay.{head-same, bodies-one}
 use Rattle.sz_recover.proofs.RightHeld.{IsRightHeld, nothing-right, acts-right, lawful-right}
 
 -- ---- stores, but for which pieces are placed
@@ -76,23 +76,14 @@ record IsOneAct (d other : Holdings) (kept more : List Kept) : Type 0 where
 no-line : (c d : Holdings) (r : Result Command Refusal) → held_by c 4 r ≡ Some d → ⊥
 no-line c d (Err rule) is = cc
 no-line c d (Ok (command.Array name array)) is = cc
-no-line c d (Ok (command.Csv name array)) is = cc
-no-line c d (Ok (command.Layers name array)) is = cc
-no-line c d (Ok (command.Flow name flow)) is = cc
-no-line c d (Ok (command.Strategy name node list)) is = cc
-no-line c d (Ok (command.Start name base)) is = cc
-no-line c d (Ok (command.Plan name base units back forward)) is = cc
-no-line c d (Ok (command.Await n)) is = cc
-no-line c d (Ok (command.Ask n dir path named)) is = cc
-no-line c d (Ok (command.Explain n dir path named)) is = cc
-no-line c d (Ok (command.Show n node)) is = cc
+no-line c d (Ok _) is = cc
 
-not-both : (c d other : Holdings) (e : Entry) (kept more : List Kept) → ActsAsLine c e d kept
+not-both : (c d other : Holdings) (e : LogGroup) (kept more : List Kept) → ActsAsLine c e d kept
     → ActsAsVersion c e other more → ⊥
 not-both c d other e kept more line v =
     no-line c d (reading e.body) (subst (λ (k : ℕ). held_by c k (reading e.body) ≡ Some d) v.kind line.held)
 
-lines-one : (c d other : Holdings) (e : Entry) (kept more : List Kept) → ActsAsLine c e d kept
+lines-one : (c d other : Holdings) (e : LogGroup) (kept more : List Kept) → ActsAsLine c e d kept
     → ActsAsLine c e other more → IsOneAct d other kept more
 lines-one c d other e kept more a b =
     let both : Some other ≡ Some d = sym b.held ∙ a.held in
@@ -108,7 +99,7 @@ sites_at c name names = sites_of (record {
   awaited = true;
 })
 
-versions-one : (c d other : Holdings) (e : Entry) (kept more : List Kept) → IsRightHeld c
+versions-one : (c d other : Holdings) (e : LogGroup) (kept more : List Kept) → IsRightHeld c
     → ActsAsVersion c e d kept → ActsAsVersion c e other more → IsOneAct d other kept more
 versions-one c d other e kept more right a b =
     let x : VersionBody = body_of a.one.number a.version a.one.stores in
@@ -136,7 +127,7 @@ versions-one c d other e kept more right a b =
           ∙ sym (ap all_bare a.kept_is);
     }
 
-acts-one : (c d other : Holdings) (e : Entry) (kept more : List Kept) → IsRightHeld c → Acts c e d kept
+acts-one : (c d other : Holdings) (e : LogGroup) (kept more : List Kept) → IsRightHeld c → Acts c e d kept
     → Acts c e other more → IsOneAct d other kept more
 acts-one c d other e kept more right (inl a) (inl b) = lines-one c d other e kept more a b
 acts-one c d other e kept more right (inl a) (inr b) = absurd (not-both c d other e kept more a b)
@@ -145,19 +136,19 @@ acts-one c d other e kept more right (inr a) (inr b) = versions-one c d other e 
 
 -- ---- one group stands at a place
 
-stands-one : (disk : List ℕ) (at : ℕ) (e f : Entry) → Stands disk at e → Stands disk at f → e ≡ f
+stands-one : (disk : List ℕ) (at : ℕ) (e f : LogGroup) → Stands disk at e → Stands disk at f → e ≡ f
 stands-one disk at e f one other =
     let both = sym one.0 ∙ other.0 in
     let kind : e.kind ≡ f.kind = cc in
     let long : length e.body ≡ length f.body = cc in
     let body : e.body ≡ f.body = sym one.1 ∙ ap (λ (n : ℕ). bytes_at disk (at + 10) n) long ∙ other.1 in
-    ap₂ (λ (k : ℕ) (b : List ℕ). let z : Entry = record { kind = k; body = b } in z) kind body
+    ap₂ (λ (k : ℕ) (b : List ℕ). let z : LogGroup = record { kind = k; body = b } in z) kind body
 
 -- ---- two walks go together
 
 -- a group stands at a place and acts on what is held
 abbrev GoesOn : List ℕ → ℕ → Holdings → Type 0
-GoesOn disk at c = (e : Entry) × (d : Holdings) × (kept : List Kept) × Stands disk at e × Acts c e d kept
+GoesOn disk at c = (e : LogGroup) × (d : Holdings) × (kept : List Kept) × Stands disk at e × Acts c e d kept
 
 -- both end at one place, with one thing held and the same stores
 record GoTogether (end next : ℕ) (d other : Holdings) (kept more : List Kept) : Type 0 where
@@ -170,7 +161,7 @@ abbrev Compared : List ℕ → ℕ → ℕ → Holdings → Holdings → List Ke
 Compared disk end next d other kept more =
     GoTogether end next d other kept more ⊎ (GoesOn disk end d ⊎ GoesOn disk next other)
 
-goes-on : (disk : List ℕ) (at end : ℕ) (c d mid : Holdings) (e : Entry) (first : List Kept) → at ≡ end → d ≡ c
+goes-on : (disk : List ℕ) (at end : ℕ) (c d mid : Holdings) (e : LogGroup) (first : List Kept) → at ≡ end → d ≡ c
     → Stands disk at e → Acts c e mid first → GoesOn disk end d
 goes-on disk at end c d mid e first place held stands acts = (
   e,
@@ -195,7 +186,7 @@ compared-more disk end next d other a b first last kept more same one two (inl b
     })
 compared-more disk end next d other a b first last kept more same one two (inr apart) = inr apart
 
-walk : (disk : List ℕ) (at end next : ℕ) (es fs : List Entry) (c d other : Holdings) (kept more : List Kept)
+walk : (disk : List ℕ) (at end next : ℕ) (es fs : List LogGroup) (c d other : Holdings) (kept more : List Kept)
     → IsRightHeld c → StandEach disk at es end → StandEach disk at fs next → ActEach c es d kept
     → ActEach c fs other more → Compared disk end next d other kept more
 walk disk at end next [] [] c d other kept more right one two first second =
@@ -211,12 +202,12 @@ walk disk at end next (e ∷ es) [] c d other kept more right one two first seco
 walk disk at end next (e ∷ es) (f ∷ fs) c d other kept more right one two first second =
     let same : f ≡ e = stands-one disk at f e two.0 one.0 in
     let acts : Acts c e second.0 second.1 =
-    subst (λ (x : Entry). Acts c x second.0 second.1) same second.3 in
+    subst (λ (x : LogGroup). Acts c x second.0 second.1) same second.3 in
     let once = acts-one c first.0 second.0 e first.1 second.1 right first.3 acts in
     let each : ActEach first.0 fs other second.2 =
     subst (λ (h : Holdings). ActEach h fs other second.2) once.held second.4 in
     let there : StandEach disk (place_behind at e) fs next =
-    subst (λ (x : Entry). StandEach disk (place_behind at x) fs next) same two.1 in
+    subst (λ (x : LogGroup). StandEach disk (place_behind at x) fs next) same two.1 in
     compared-more disk end next d other first.1 second.1 first.2 second.2 kept more once.stores first.5 second.5
     (walk disk (place_behind at e) end next es fs first.0 d other first.2 second.2
     (acts-right c first.0 e first.1 right first.3) one.1 there first.4 each)
@@ -237,10 +228,10 @@ bad-ends : (disk : List ℕ) (at : ℕ) (c : Holdings) → IsBadAt disk at c →
 bad-ends disk at c (inl bad) more = let both = sym bad ∙ more.3.0 in cc
 bad-ends disk at c (inr bad) more =
     let same : more.0 ≡ bad.0 = stands-one disk at more.0 bad.0 more.3 bad.1 in
-    bad.2 more.1 more.2 (subst (λ (x : Entry). Acts c x more.1 more.2) same more.4)
+    bad.2 more.1 more.2 (subst (λ (x : LogGroup). Acts c x more.1 more.2) same more.4)
 
 -- what is read up to a closed gate stands up to there
-reads-stand : (disk : List ℕ) (at end : ℕ) (es : List Entry) → Reads disk at es end → AreSpelled disk at es
+reads-stand : (disk : List ℕ) (at end : ℕ) (es : List LogGroup) → Reads disk at es end → AreSpelled disk at es
     → StandEach disk at es end × (group_on disk end ≡ group.Closed)
 reads-stand disk at end [] read spelled =
     (read.0, subst (λ (n : ℕ). group_on disk n ≡ group.Closed) read.0 read.1)

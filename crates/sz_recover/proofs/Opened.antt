@@ -9,7 +9,7 @@ use Rattle.std.specs.Int.{w64, from_be_bytes, to_be_bytes}
 use Rattle.std.proofs.lemmas.Bool.{and_parts, leb-true}
 use Rattle.std.proofs.lemmas.List.{take_all}
 use Rattle.sz_outside.specs.Disk.{bytes_at, GivesAt}
-use Rattle.sz_log.specs.Log.{Entry, is_kind, begins_as_log}
+use Rattle.sz_log.specs.Log.{LogGroup, is_kind, begins_as_log}
 use Rattle.sz_log.specs.Laws.{Reads}
 use Rattle.sz_log.specs.Places.{group_on, group_in, opened, StandsAt, SpellsAt}
 use Rattle.sz_log.specs.Steps.{place_behind}
@@ -22,13 +22,13 @@ use Rattle.sz_recover.proofs.Acting.{entry_of}
 
 -- ---- one more group
 
-stand-more : (disk : List ℕ) (a b : ℕ) (es : List Entry) (e : Entry) → StandEach disk a es b → Stands disk b e
+stand-more : (disk : List ℕ) (a b : ℕ) (es : List LogGroup) (e : LogGroup) → StandEach disk a es b → Stands disk b e
     → StandEach disk a (es ++ e ∷ []) (place_behind b e)
 stand-more disk a b [] e same stands =
     (subst (λ (k : ℕ). Stands disk k e) (sym same) stands, ap (λ (k : ℕ). place_behind k e) same)
 stand-more disk a b (x ∷ es) e all stands = (all.0, stand-more disk (place_behind a x) b es e all.1 stands)
 
-act-more : (c d f : Holdings) (es : List Entry) (e : Entry) (kept more : List Kept) → ActEach c es d kept
+act-more : (c d f : Holdings) (es : List LogGroup) (e : LogGroup) (kept more : List Kept) → ActEach c es d kept
     → Acts d e f more → ActEach c (es ++ e ∷ []) f (kept ++ more)
 act-more c d f [] e kept more all acts = (
   f,
@@ -47,7 +47,7 @@ act-more c d f (x ∷ es) e kept more all acts = (
   ap (λ (ks : List Kept). ks ++ more) all.5 ∙ append_assoc all.1 all.2 more,
 )
 
-goes-more : (disk : List ℕ) (at next : ℕ) (c d : Holdings) (kept all more : List Kept) (e : Entry)
+goes-more : (disk : List ℕ) (at next : ℕ) (c d : Holdings) (kept all more : List Kept) (e : LogGroup)
     → GoesWell disk at c kept → Stands disk at e → next ≡ place_behind at e → Acts c e d more → all ≡ kept ++ more
     → GoesWell disk next d all
 goes-more disk at next c d kept all more e well stands place acts is = record {
@@ -74,14 +74,14 @@ so_far-more (Some disk) at next c d kept all well takes =
 
 -- ---- the end
 
-reads-closed : (disk : List ℕ) (a b : ℕ) (es : List Entry) → StandEach disk a es b → group_on disk b ≡ group.Closed
+reads-closed : (disk : List ℕ) (a b : ℕ) (es : List LogGroup) → StandEach disk a es b → group_on disk b ≡ group.Closed
     → Reads disk a es b
 reads-closed disk a b [] same closed =
     (same, subst (λ (k : ℕ). group_on disk k ≡ group.Closed) (sym same) closed)
 reads-closed disk a b (e ∷ es) all closed =
     (all.0.0, all.0.1, reads-closed disk (place_behind a e) b es all.1 closed)
 
-spelled-each : (disk : List ℕ) (a b : ℕ) (es : List Entry) → StandEach disk a es b → AreSpelled disk a es
+spelled-each : (disk : List ℕ) (a b : ℕ) (es : List LogGroup) → StandEach disk a es b → AreSpelled disk a es
 spelled-each disk a b [] all = tt
 spelled-each disk a b (e ∷ es) all = (all.0.2, spelled-each disk (place_behind a e) b es all.1)
 

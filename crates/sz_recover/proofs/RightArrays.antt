@@ -80,14 +80,7 @@ abbrev pub HasRightArray : Command → Type 0
 HasRightArray (command.Array name array) = is_extent array.extent ≡ true
 HasRightArray (command.Csv name array) = is_extent array.extent ≡ true
 HasRightArray (command.Layers name array) = is_extent array.extent ≡ true
-HasRightArray (command.Flow name flow) = Unit {0}
-HasRightArray (command.Strategy name node list) = Unit {0}
-HasRightArray (command.Start name base) = Unit {0}
-HasRightArray (command.Plan name base units back forward) = Unit {0}
-HasRightArray (command.Await n) = Unit {0}
-HasRightArray (command.Ask n dir path named) = Unit {0}
-HasRightArray (command.Explain n dir path named) = Unit {0}
-HasRightArray (command.Show n node) = Unit {0}
+HasRightArray _ = Unit {0}
 
 -- so is that of a draft, where the cells are neither bad nor too many
 abbrev IsRightDraft : Draft → Type 0

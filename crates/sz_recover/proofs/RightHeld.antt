@@ -48,14 +48,14 @@ use Rattle.sz_catalogue.specs.Rules as rules
 use Rattle.sz_catalogue.specs.Rules.{judged}
 use Rattle.sz_catalogue.specs.Changes.{accepted, with_array, with_flow, with_strategies, with_list}
 use Rattle.sz_catalogue.proofs.Counts.{first-passed}
-use Rattle.sz_log.specs.Log.{Entry}
-use Rattle.sz_recover.specs.Bodies.{VersionBody}
-use Rattle.sz_recover.specs.Fitting.{sites_of}
+use Rattle.sz_log.specs.Log.{LogGroup}
+use Rattle.sz_bodies.specs.Bodies.{VersionBody}
+use Rattle.sz_bodies.specs.Fitting.{sites_of}
 use Rattle.sz_recover.specs.Growing.{IsVersionIn}
-use Rattle.sz_recover.specs.Lawful.{IsLawful, version_said}
-use Rattle.sz_recover.specs.Laws.{IsRightSite}
+use Rattle.sz_bodies.specs.Lawful.{IsLawful, version_said}
+use Rattle.sz_bodies.specs.Laws.{IsRightSite}
 use Rattle.sz_recover.specs.Logs.{Kept, Acts, is_of_kind, held_by}
-use Rattle.sz_recover.specs.Taking.{IsFitting, site_over}
+use Rattle.sz_bodies.specs.Taking.{IsFitting, site_over}
 use Rattle.sz_recover.proofs.InOrder.{named-in}
 use Rattle.sz_recover.proofs.Keyed.{put-found, set-found}
 use Rattle.sz_recover.proofs.RightArrays.{HasRightArray, arrays-right}
@@ -137,11 +137,8 @@ commands-right c (command.Strategy name node list) right is own free =
     ((rules.has_bad_strategies c name node list, refusal.BadStrategies) ∷ []) free).0
 commands-right c (command.Start name base) right is own free =
     record { arrays = right.arrays; flows = right.flows }
-commands-right c (command.Plan name base units back forward) right is own free = right
 commands-right c (command.Await n) right is own free = record { arrays = right.arrays; flows = right.flows }
-commands-right c (command.Ask n dir path named) right is own free = right
-commands-right c (command.Explain n dir path named) right is own free = right
-commands-right c (command.Show n node) right is own free = right
+commands-right c _ right is own free = right
 
 -- ---- and so does a group
 
@@ -158,7 +155,7 @@ line-right c d kind line (Ok x) read right held =
           let same : (accepted c x).0 ≡ d = cc in
           subst IsRightHeld same (commands-right c x right (are_right line x read) (arrays-right line x read) is)
 
-pub acts-right : (c d : Holdings) (e : Entry) (kept : List Kept) → IsRightHeld c → Acts c e d kept → IsRightHeld d
+pub acts-right : (c d : Holdings) (e : LogGroup) (kept : List Kept) → IsRightHeld c → Acts c e d kept → IsRightHeld d
 acts-right c d e kept right (inl line) = line-right c d e.kind e.body (reading e.body) refl right line.held
 acts-right c d e kept right (inr v) =
     subst IsRightHeld (sym v.held) (record { arrays = right.arrays; flows = right.flows })

@@ -22,12 +22,12 @@ use Rattle.sz_store.specs.Kept.{Holding, Keep, NodeLineage, regions, entries}
 use Rattle.sz_catalogue.specs.Holdings.{Base, Version, Holdings, no_holdings, array_version, held_cells}
 use Rattle.sz_catalogue.specs.Rules as rules
 use Rattle.sz_log.specs.Laws.{Reads}
-use Rattle.sz_log.specs.Log.{Entry, empty_log}
+use Rattle.sz_log.specs.Log.{LogGroup, empty_log}
 use Rattle.sz_log.proofs.Rows.{one}
 use Rattle.sz_recover.specs.Logs.{Kept, is_of_kind}
 use Rattle.sz_recover.specs.Growing.{durable, without, IsVersionIn, IsInOrder, Growth, GrowsOrKeeps}
 use Rattle.sz_recover.specs.OneReading.{unplaced, bare, all_bare}
-use Rattle.sz_recover.proofs.Rows.{whole}
+use Rattle.sz_bodies.proofs.Rows.{whole}
 use Rattle.sz_recover.proofs.RowsLogs.{empty-made, made-kept}
 use Rattle.sz_recover.proofs.RowsSound.{array, version, held, right, wrong}
 
@@ -187,7 +187,7 @@ stays-not_cut (inr is) = true≢false (sym is.header)
 pub stays-not_kept : GrowsOrKeeps 16 one (record growth { kept = right ∷ [] }) empty_log empty_log → ⊥
 stays-not_kept (inl is) = made-kept no_holdings right is
 stays-not_kept (inr is) = none is.entries is.read where
-  none : (es : List Entry) → Reads empty_log 16 es 53 → ⊥
+  none : (es : List LogGroup) → Reads empty_log 16 es 53 → ⊥
   none [] (end, closed) = omega (arith, end)
   none (e ∷ es) (group, body, rest) = cc
 

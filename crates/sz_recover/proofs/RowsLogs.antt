@@ -5,7 +5,7 @@ use Rattle.std.proofs.Common.{◌≡◌, ℕ, List, [], ◌∷◌, Some, Err, re
 use Rattle.std.proofs.Common.{true≢false, arith}
 use Rattle.std.specs.Prelude.{◌++◌, replicate}
 use Rattle.sz_log.specs.Laws.{Reads}
-use Rattle.sz_log.specs.Log.{Entry, empty_log, header}
+use Rattle.sz_log.specs.Log.{LogGroup, empty_log, header}
 use Rattle.sz_log.proofs.Rows.{log, line, one, kind_0, cut_within, cut_behind_gate}
 use Rattle.sz_catalogue.specs.Holdings.{Holdings, no_holdings}
 use Rattle.sz_recover.specs.Logs.{Kept, IsWellMade, IsFirstBad, IsMade, IsNoLog, IsBroken, SaysWhy, has_read}
@@ -51,20 +51,20 @@ made-no_header at c kept is = true≢false (sym is.header)
 -- where its gate is open, and nothing stands behind it
 pub made-open : (c : Holdings) (kept : List Kept) → IsWellMade (header ++ 1 ∷ []) 16 c kept → ⊥
 made-open c kept is = none is.entries is.read where
-  none : (es : List Entry) → Reads (header ++ 1 ∷ []) 16 es 16 → ⊥
+  none : (es : List LogGroup) → Reads (header ++ 1 ∷ []) 16 es 16 → ⊥
   none [] (end, closed) = cc
   none (e ∷ es) (group, body, rest) = cc
 
 -- the empty log ends at byte 16, and holds and keeps nothing
 pub made-elsewhere : (c : Holdings) (kept : List Kept) → IsWellMade empty_log 17 c kept → ⊥
 made-elsewhere c kept is = none is.entries is.read where
-  none : (es : List Entry) → Reads empty_log 16 es 17 → ⊥
+  none : (es : List LogGroup) → Reads empty_log 16 es 17 → ⊥
   none [] (end, closed) = omega (arith, end)
   none (e ∷ es) (group, body, rest) = cc
 
 pub made-kept : (c : Holdings) (k : Kept) → IsWellMade empty_log 16 c (k ∷ []) → ⊥
 made-kept c k is = none is.entries is.read is.acts where
-  none : (es : List Entry) → Reads empty_log 16 es 16 → ActEach no_holdings es c (k ∷ []) → ⊥
+  none : (es : List LogGroup) → Reads empty_log 16 es 16 → ActEach no_holdings es c (k ∷ []) → ⊥
   none [] read (same, kept) = cc
   none (e ∷ es) (group, body, rest) acts = cc
 

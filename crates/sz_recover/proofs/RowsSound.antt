@@ -16,7 +16,7 @@ use Rattle.sz_spec.specs.declared.modes.Strategy.{Strategy}
 use Rattle.sz_spec.specs.declared.modes.Strategy.TheVariants as strategy
 use Rattle.sz_spec.specs.Lineage.{related}
 use Rattle.sz_spec.specs.Values.{Grid, extent_at}
-use Rattle.sz_region.specs.Stands.{full_stands}
+use Rattle.sz_frame.specs.Stands.{full_stands}
 use Rattle.sz_flow.specs.Executions.{Execution, execution}
 use Rattle.sz_store.specs.Kept.{Keep, NodeLineage, regions}
 use Rattle.sz_catalogue.specs.Holdings.{Version, Holdings}
@@ -24,7 +24,7 @@ use Rattle.sz_recover.specs.Logs.{Kept}
 use Rattle.sz_recover.specs.Soundness.{IsExact, IsSoundNode, IsSoundKept, executions_of, TellsOfStrategy, TellsOfNode}
 use Rattle.sz_recover.specs.Soundness.{TellsOfNodes, TellsOfEntry, TellsOfAll, IsFirstWrong, IsFirstWrongStore}
 use Rattle.sz_recover.specs.declared.checking.WrongStore.{WrongStore}
-use Rattle.sz_recover.proofs.Rows.{cell, pair, keep, whole}
+use Rattle.sz_bodies.proofs.Rows.{cell, pair, keep, whole}
 use Rattle.sz_recover.proofs.Telling.{one-told}
 
 -- ---- what is held: the array `a` of the number 5, and version 1 of the flow `f` on it, whose one node is `neg`

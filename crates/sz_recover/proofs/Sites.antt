@@ -24,7 +24,7 @@ use Rattle.sz_flow.specs.Laws.{EachNodeHasAnExecution, ExecutionsAreThoseOfTheir
 use Rattle.sz_catalogue.specs.Holdings.{Base, Version, arrays_of, shapes_of}
 use Rattle.sz_catalogue.specs.Starts.{outputs_of}
 use Rattle.sz_catalogue.specs.Kept.{IsRun}
-use Rattle.sz_recover.specs.Fitting.{site_in, sites_of}
+use Rattle.sz_bodies.specs.Fitting.{site_in, sites_of}
 use Rattle.sz_recover.specs.Soundness.{executions_of}
 
 base-shapes : (base : List Base) → shapes_of base ≡ extents_of (arrays_of base)

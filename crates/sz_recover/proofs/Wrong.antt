@@ -23,7 +23,7 @@ use Rattle.sz_store.specs.Kept.{Holding, Keep, NodeLineage, holding_for, stored_
 use Rattle.sz_catalogue.specs.Rules.{are_distinct, is_list_for}
 use Rattle.sz_recover.specs.Opened.{HasItsStores}
 use Rattle.sz_recover.specs.Soundness.{IsExact, IsSoundNode, IsFirstWrongStore, TellsOfStrategy}
-use Rattle.sz_recover.proofs.Sequence.{list-right}
+use Rattle.sz_bodies.proofs.Sequence.{list-right}
 
 -- ---- no strategy stands twice
 

@@ -18,7 +18,7 @@ use Rattle.sz_flow.specs.Executions.{Execution}
 use Rattle.sz_store.specs.Kept.{Keep, NodeLineage}
 use Rattle.sz_catalogue.specs.Holdings.{Version, Holdings}
 use Rattle.sz_catalogue.specs.Rules.{is_list_for, are_lists_for, version_of}
-use Rattle.sz_recover.specs.Fitting.{FitsNode, FitNodes, site_in}
+use Rattle.sz_bodies.specs.Fitting.{FitsNode, FitNodes, site_in}
 use Rattle.sz_recover.specs.Comparing.{IsListAt}
 use Rattle.sz_recover.specs.Logs.{Kept}
 use Rattle.sz_recover.specs.Soundness.{IsSoundNode, AreSoundNodes, AreSoundKept, TellsOfNode, TellsOfEntry}

@@ -12,7 +12,7 @@ use Rattle.std.specs.Map.{keys_of}
 use Rattle.std.specs.Ordering.{nat_cmp}
 use Rattle.std.specs.Result.{result_err}
 use Rattle.sz_outside.specs.Disk.{Told}
-use Rattle.sz_log.specs.Log.{Entry, EndsAt, IsLog, begins_as_log}
+use Rattle.sz_log.specs.Log.{LogGroup, EndsAt, IsLog, begins_as_log}
 use Rattle.sz_log.specs.Laws.{Reads}
 use Rattle.sz_log.specs.Steps.{Adds, AddsOrKeeps, Added, place_behind}
 use Rattle.sz_spec.specs.FlowShapes.{output_shapes}
@@ -27,9 +27,9 @@ use Rattle.sz_catalogue.specs.Holdings.{version_numbered, shapes_of, held_cells}
 use Rattle.sz_catalogue.specs.Rules as rules
 use Rattle.sz_catalogue.specs.Rules.{version_of, judged}
 use Rattle.sz_catalogue.specs.Changes.{accepted, with_version, with_await}
-use Rattle.sz_recover.specs.Bodies.{IsBodyOf}
-use Rattle.sz_recover.specs.Fitting.{sites_of, Fit, body_of}
-use Rattle.sz_recover.specs.Lawful.{IsLawful, version_said}
+use Rattle.sz_bodies.specs.Bodies.{IsBodyOf}
+use Rattle.sz_bodies.specs.Fitting.{sites_of, Fit, body_of}
+use Rattle.sz_bodies.specs.Lawful.{IsLawful, version_said}
 use Rattle.sz_recover.specs.Logs.{Kept, Acts, AreSpelled, IsWellMade, IsMade}
 use Rattle.sz_recover.specs.Logs.{is_of_kind}
 
@@ -126,12 +126,12 @@ StartsAreNotLogged = (c : Holdings) (n : ℕ) (v : Version) → rules.has_no_ver
 -- What begins as a log, and is read up to a place, is a log of the groups that are read, where
 -- their lengths stand as they are written.
 abbrev pub ReadGroupsAreLogs : Type 0
-ReadGroupsAreLogs = (disk : List ℕ) (entries : List Entry) (at : ℕ) → begins_as_log disk ≡ true
+ReadGroupsAreLogs = (disk : List ℕ) (entries : List LogGroup) (at : ℕ) → begins_as_log disk ≡ true
     → Reads disk 16 entries at → AreSpelled disk 16 entries → IsLog disk entries at
 
 -- And in a log the lengths of its groups stand as they are written.
 abbrev pub LogsAreSpelled : Type 0
-LogsAreSpelled = (disk : List ℕ) (entries : List Entry) (at : ℕ) → IsLog disk entries at
+LogsAreSpelled = (disk : List ℕ) (entries : List LogGroup) (at : ℕ) → IsLog disk entries at
     → AreSpelled disk 16 entries
 
 -- A well-made log up to a place is a log whose first closed gate stands there.
@@ -156,25 +156,25 @@ pub record Growth : Type 0 where
 
 -- A group that acts on what a well-made log holds makes of it a well-made log.
 abbrev pub LogsGrow : Type 0
-LogsGrow = (disk image : List ℕ) (at : ℕ) (e : Entry) (g : Growth)
+LogsGrow = (disk image : List ℕ) (at : ℕ) (e : LogGroup) (g : Growth)
     → IsWellMade disk at g.before g.kept → Acts g.before e g.after g.more
     → Adds at e disk image → IsWellMade image (place_behind at e) g.after (g.kept ++ g.more)
 
 -- The same where it is not said whether the disk is told.
 abbrev pub MadeLogsGrow : Type 0
-MadeLogsGrow = (disk new : Option (List ℕ)) (at next : ℕ) (e : Entry) (g : Growth)
+MadeLogsGrow = (disk new : Option (List ℕ)) (at next : ℕ) (e : LogGroup) (g : Growth)
     → IsMade disk at g.before g.kept → Acts g.before e g.after g.more
     → Added disk new at e → Told disk (next ≡ place_behind at e)
     → IsMade new next g.after (g.kept ++ g.more)
 
 -- The image is a well-made log that holds what was held before the group, or one that has the group
 -- and holds what is held behind it.
-abbrev pub GrowsOrKeeps : ℕ → Entry → Growth → List ℕ → List ℕ → Type 0
+abbrev pub GrowsOrKeeps : ℕ → LogGroup → Growth → List ℕ → List ℕ → Type 0
 GrowsOrKeeps at e g old image = IsWellMade image at g.before g.kept
     ⊎ IsWellMade image (place_behind at e) g.after (g.kept ++ g.more)
 
 -- Where a stop leaves a log without a group or with it whole, it leaves a well-made log.
 abbrev pub LogsGrowOrStay : Type 0
-LogsGrowOrStay = (disk image : List ℕ) (at : ℕ) (e : Entry) (g : Growth)
+LogsGrowOrStay = (disk image : List ℕ) (at : ℕ) (e : LogGroup) (g : Growth)
     → IsWellMade disk at g.before g.kept → Acts g.before e g.after g.more
     → AddsOrKeeps at e disk image → GrowsOrKeeps at e g disk image

@@ -8,7 +8,7 @@ use Rattle.std.specs.Prelude.{◌&&◌, ◌==◌, if◌then◌else◌, Option, S
 use Rattle.std.specs.Prelude.{Result, Ok, Err}
 use Rattle.std.specs.Int.{w64, to_be_bytes}
 use Rattle.sz_outside.specs.Disk.{bytes_at}
-use Rattle.sz_log.specs.Log.{Entry, begins_as_log}
+use Rattle.sz_log.specs.Log.{LogGroup, begins_as_log}
 use Rattle.sz_log.specs.Laws.{Reads}
 use Rattle.sz_log.specs.Places.{group_on, StandsAt}
 use Rattle.sz_log.specs.Steps.{place_behind}
@@ -21,8 +21,8 @@ use Rattle.sz_store.specs.Kept.{NodeLineage}
 use Rattle.sz_catalogue.specs.Holdings.{Version, Holdings, no_holdings}
 use Rattle.sz_catalogue.specs.Rules.{judged}
 use Rattle.sz_catalogue.specs.Changes.{accepted, with_version}
-use Rattle.sz_recover.specs.Fitting.{Fit, body_of}
-use Rattle.sz_recover.specs.Lawful.{IsLawful, version_said}
+use Rattle.sz_bodies.specs.Fitting.{Fit, body_of}
+use Rattle.sz_bodies.specs.Lawful.{IsLawful, version_said}
 use Rattle.sz_recover.specs.declared.opening.RecoverFault.{RecoverFault}
 use Rattle.sz_recover.specs.declared.opening.RecoverFault.TheVariants as fault
 use Rattle.sz_recover.specs.declared.opening.Next.{Next}
@@ -37,12 +37,7 @@ is_of_kind kind (command.Csv name array) = kind == 1
 is_of_kind kind (command.Layers name array) = kind == 1
 is_of_kind kind (command.Flow name flow) = kind == 2
 is_of_kind kind (command.Strategy name node list) = kind == 3
-is_of_kind kind (command.Start name base) = false
-is_of_kind kind (command.Plan name base units back forward) = false
-is_of_kind kind (command.Await n) = false
-is_of_kind kind (command.Ask n dir path named) = false
-is_of_kind kind (command.Explain n dir path named) = false
-is_of_kind kind (command.Show n node) = false
+is_of_kind kind _ = false
 
 -- what is held behind a line of a kind: nothing where it is no command of the kind, or is refused
 abbrev pub held_by : Holdings → ℕ → Result Command Refusal → Option Holdings
@@ -50,7 +45,7 @@ held_by c kind (Err rule) = None
 held_by c kind (Ok order) = if is_of_kind kind order && is_none (judged c order)
     then Some (accepted c order).0 else None
 
-abbrev pub held_behind : Holdings → Entry → Option Holdings
+abbrev pub held_behind : Holdings → LogGroup → Option Holdings
 held_behind c e = held_by c e.kind (reading e.body)
 
 -- a version with its stores, by its number
@@ -59,12 +54,12 @@ pub record Kept : Type 0 where
   pub stores : List (Option NodeLineage)
 
 -- the group is a line, which is taken; no stores are kept of it
-pub record ActsAsLine (c : Holdings) (e : Entry) (d : Holdings) (kept : List Kept) : Type 0 where
+pub record ActsAsLine (c : Holdings) (e : LogGroup) (d : Holdings) (kept : List Kept) : Type 0 where
   pub held : held_behind c e ≡ Some d
   pub none : kept ≡ []
 
 -- the group is the lawful body of a version with these stores, which is added
-pub record ActsAsVersion (c : Holdings) (e : Entry) (d : Holdings) (kept : List Kept) : Type 0 where
+pub record ActsAsVersion (c : Holdings) (e : LogGroup) (d : Holdings) (kept : List Kept) : Type 0 where
   pub kind : e.kind ≡ 4
   pub one : Kept
   pub version : Version
@@ -75,14 +70,14 @@ pub record ActsAsVersion (c : Holdings) (e : Entry) (d : Holdings) (kept : List 
   pub kept_is : kept ≡ one ∷ []
 
 -- what is held before a group and behind it, and the stores that are kept of it
-abbrev pub Acts : Holdings → Entry → Holdings → List Kept → Type 0
+abbrev pub Acts : Holdings → LogGroup → Holdings → List Kept → Type 0
 Acts c e d kept = ActsAsLine c e d kept ⊎ ActsAsVersion c e d kept
 
-abbrev pub IsBad : Holdings → Entry → Type 0
+abbrev pub IsBad : Holdings → LogGroup → Type 0
 IsBad c e = (d : Holdings) (kept : List Kept) → Acts c e d kept → ⊥
 
 -- the same of groups one after another
-abbrev pub ActEach : Holdings → List Entry → Holdings → List Kept → Type 0
+abbrev pub ActEach : Holdings → List LogGroup → Holdings → List Kept → Type 0
 ActEach c [] d kept = (d ≡ c) × (kept ≡ [])
 ActEach c (e ∷ es) d kept = (mid : Holdings) × (first : List Kept) × (rest : List Kept)
     × Acts c e mid first × ActEach mid es d rest × (kept ≡ first ++ rest)
@@ -90,11 +85,11 @@ ActEach c (e ∷ es) d kept = (mid : Holdings) × (first : List Kept) × (rest :
 -- ---- well-made logs
 
 -- the length of the group stands behind its gate and its kind as it is written
-abbrev pub IsSpelled : List ℕ → ℕ → Entry → Type 0
+abbrev pub IsSpelled : List ℕ → ℕ → LogGroup → Type 0
 IsSpelled disk at e = bytes_at disk (at + 2) 8 ≡ to_be_bytes w64 (length e.body)
 
 -- the same of groups one behind another
-abbrev pub AreSpelled : List ℕ → ℕ → List Entry → Type 0
+abbrev pub AreSpelled : List ℕ → ℕ → List LogGroup → Type 0
 AreSpelled disk at [] = ⊤
 AreSpelled disk at (e ∷ es) = IsSpelled disk at e × AreSpelled disk (place_behind at e) es
 
@@ -103,19 +98,19 @@ AreSpelled disk at (e ∷ es) = IsSpelled disk at e × AreSpelled disk (place_be
 -- these stores are kept.
 pub record IsWellMade (disk : List ℕ) (at : ℕ) (c : Holdings) (kept : List Kept) : Type 0 where
   pub header : begins_as_log disk ≡ true
-  pub entries : List Entry
+  pub entries : List LogGroup
   pub read : Reads disk 16 entries at
   pub spelled : AreSpelled disk 16 entries
   pub acts : ActEach no_holdings entries c kept
 
 -- the group stands at a place of the disk
-abbrev pub Stands : List ℕ → ℕ → Entry → Type 0
+abbrev pub Stands : List ℕ → ℕ → LogGroup → Type 0
 Stands disk at e =
     (group_on disk at ≡ group.Whole e.kind (at + 10) (length e.body) (place_behind at e))
     × (bytes_at disk (at + 10) (length e.body) ≡ e.body) × IsSpelled disk at e
 
 -- from a place on these groups stand one behind another, up to a place
-abbrev pub StandEach : List ℕ → ℕ → List Entry → ℕ → Type 0
+abbrev pub StandEach : List ℕ → ℕ → List LogGroup → ℕ → Type 0
 StandEach disk at [] end = at ≡ end
 StandEach disk at (e ∷ es) end = Stands disk at e × StandEach disk (place_behind at e) es end
 
@@ -123,13 +118,13 @@ StandEach disk at (e ∷ es) end = Stands disk at e × StandEach disk (place_beh
 -- that is bad over what is held
 abbrev pub IsBadAt : List ℕ → ℕ → Holdings → Type 0
 IsBadAt disk at c =
-    (group_on disk at ≡ group.Bad) ⊎ ((e : Entry) × Stands disk at e × IsBad c e)
+    (group_on disk at ≡ group.Bad) ⊎ ((e : LogGroup) × Stands disk at e × IsBad c e)
 
 -- how far a log goes well: it begins as a log, and from byte 16 up to a place groups stand that act
 -- one after another
 pub record GoesWell (disk : List ℕ) (at : ℕ) (c : Holdings) (kept : List Kept) : Type 0 where
   pub header : begins_as_log disk ≡ true
-  pub entries : List Entry
+  pub entries : List LogGroup
   pub stand : StandEach disk 16 entries at
   pub acts : ActEach no_holdings entries c kept
 
@@ -182,7 +177,7 @@ IsSoFar (Some disk) at c kept = GoesWell disk at c kept
 abbrev pub IsEntryAt : Option (List ℕ) → ℕ → ℕ → List ℕ → ℕ → Type 0
 IsEntryAt None at kind body next = ⊤
 IsEntryAt (Some disk) at kind body next =
-    let e : Entry = record { kind = kind; body = body } in
+    let e : LogGroup = record { kind = kind; body = body } in
     Stands disk at e × (next ≡ place_behind at e)
 
 -- what stands next
@@ -203,7 +198,7 @@ abbrev pub TakesNext : Option (List ℕ) → ℕ → Option ℕ → Holdings →
 TakesNext None at next c d kept all = ⊤
 TakesNext (Some disk) at None c d kept all =
     (group_on disk at ≡ group.Closed) × (d ≡ c) × (all ≡ kept)
-TakesNext (Some disk) at (Some next) c d kept all = (e : Entry) × Stands disk at e
+TakesNext (Some disk) at (Some next) c d kept all = (e : LogGroup) × Stands disk at e
     × (next ≡ place_behind at e) × (more : List Kept) × Acts c e d more × (all ≡ kept ++ more)
 
 -- a bad group stands at this place

@@ -6,7 +6,7 @@ use Rattle.std.specs.List.{count_by, Contains}
 use Rattle.sz_store.specs.Kept.{NodeLineage, stored_in}
 use Rattle.sz_catalogue.specs.Holdings.{Holdings}
 use Rattle.sz_catalogue.specs.Rules.{has_no_version, version_of}
-use Rattle.sz_recover.specs.Fitting.{Fit}
+use Rattle.sz_bodies.specs.Fitting.{Fit}
 use Rattle.sz_recover.specs.Logs.{Kept, IsWellMade}
 
 -- a node has a store for each stored strategy of its list, in the list's order

@@ -8,7 +8,7 @@ use Rattle.sz_spec.specs.declared.modes.Strategy.{Strategy}
 use Rattle.sz_spec.specs.Shapes.{Site}
 use Rattle.sz_store.specs.Kept.{NodeLineage}
 use Rattle.sz_catalogue.specs.Holdings.{Version, Holdings}
-use Rattle.sz_recover.specs.Fitting.{FitsNode, FitNodes, Fit, sites_of}
+use Rattle.sz_bodies.specs.Fitting.{FitsNode, FitNodes, Fit, sites_of}
 use Rattle.sz_recover.specs.Logs.{Kept}
 use Rattle.sz_recover.specs.Opened.{HasItsStores, AreOfVersions}
 

@@ -5,8 +5,8 @@ use Rattle.std.specs.Prelude.{Bool, true, false}
 use Rattle.std.specs.List.{AllZip, slice_get, Contains}
 use Rattle.sz_spec.specs.declared.modes.Strategy.{Strategy}
 use Rattle.sz_spec.specs.Modes.{is_stored}
-use Rattle.sz_region.specs.Images.{measure_of}
-use Rattle.sz_region.specs.Laws.{IsTheRelation}
+use Rattle.sz_frame.specs.Images.{measure_of}
+use Rattle.sz_frame.specs.Laws.{IsTheRelation}
 use Rattle.sz_flow.specs.Executions.{Execution, executions}
 use Rattle.sz_store.specs.Kept.{Holding, Keep, NodeLineage, holding_stands}
 use Rattle.sz_store.specs.Kept.{holding_for}

@@ -1,15 +1,15 @@
 //! What a group of a log does: the line that it has acts as that line does, and a version is added.
 
 ghost use Rattle.std.specs.Prelude.{◌≡◌, ◌++◌, List, Some, None, true, IfErr, OnOk};
-ghost use Rattle.sz_log.specs.Log.{Entry};
+ghost use Rattle.sz_log.specs.Log.{LogGroup};
 ghost use Rattle.sz_recover.specs.Logs.{Kept, Acts, ActsAsVersion, IsBad, held_behind};
 ghost use Rattle.sz_recover.specs.Logs.{is_of_kind};
-ghost use Rattle.sz_recover.specs.Taking.{IfBad, NoneIsLawful};
+ghost use Rattle.sz_bodies.specs.Taking.{IfBad, NoneIsLawful};
 
-use crate::reading::{TakeFault, take_version_body};
 use std::alloc::Global;
 use std::marker::Model;
 use std::sync::Arc;
+use sz_bodies::{TakeFault, take_version_body};
 use sz_catalogue::{Catalogue, HeldVersion};
 use sz_script::laws::commands_are_right;
 use sz_script::{Command, LineFault, read_line};
@@ -24,7 +24,7 @@ pub struct KeptVersion {
 }
 
 impl Model for KeptVersion {
-    ghost use Rattle.sz_recover.specs.Fitting.{lineages};
+    ghost use Rattle.sz_bodies.specs.Fitting.{lineages};
     ghost use Rattle.sz_recover.specs.Logs.{Kept};
 
     ghost Value = { Kept };
@@ -44,10 +44,10 @@ pub(crate) fn act(
     kind: u8,
     body: &[u8],
 ) -> Result<(), TakeFault>
-    ensures ok { let e : Entry = record { kind = kind; body = body.now } in OnOk result (
+    ensures ok { let e : LogGroup = record { kind = kind; body = body.now } in OnOk result (
         (more : List Kept) × Acts catalogue.old e catalogue.new more
         × (kept.new.items ≡ kept.old.items ++ more)) }
-    ensures err { let e : Entry = record { kind = kind; body = body.now } in
+    ensures err { let e : LogGroup = record { kind = kind; body = body.now } in
         IfErr result (λ f. IfBad f (IsBad catalogue.old e)) }
 {
     if kind == VERSION_KIND {
@@ -63,9 +63,9 @@ fn act_as_line(
     kind: u8,
     body: &[u8],
 ) -> Result<(), TakeFault>
-    ensures ok { let e : Entry = record { kind = kind; body = body.now } in
+    ensures ok { let e : LogGroup = record { kind = kind; body = body.now } in
         OnOk result (held_behind catalogue.old e ≡ Some catalogue.new) }
-    ensures err { let e : Entry = record { kind = kind; body = body.now } in
+    ensures err { let e : LogGroup = record { kind = kind; body = body.now } in
         IfErr result (λ f. IfBad f (held_behind catalogue.old e ≡ None)) }
 {
     commands_are_right();
@@ -96,12 +96,7 @@ fn is_of_kind(kind: u8, command: &Command) -> bool
         Command::Layers { .. } => kind == 1,
         Command::Flow { .. } => kind == 2,
         Command::Strategy { .. } => kind == 3,
-        Command::Start { .. } => false,
-        Command::Plan { .. } => false,
-        Command::Await { .. } => false,
-        Command::Ask { .. } => false,
-        Command::Explain { .. } => false,
-        Command::Show { .. } => false,
+        _ => false,
     }
 }
 
@@ -112,7 +107,7 @@ fn act_as_version(
     kept: &mut Vec<KeptVersion>,
     body: &[u8],
 ) -> Result<(), TakeFault>
-    ensures ok { let e : Entry = record { kind = 4; body = body.now } in OnOk result (
+    ensures ok { let e : LogGroup = record { kind = 4; body = body.now } in OnOk result (
         (more : List Kept) × ActsAsVersion catalogue.old e catalogue.new more
         × (kept.new.items ≡ kept.old.items ++ more)) }
     ensures err { IfErr result (λ f. IfBad f (NoneIsLawful catalogue.old body.now)) }

@@ -1,6 +1,5 @@
-//! What may be taken for granted of the bodies, of opened logs, and of how a log grows beside what
+//! What may be taken for granted of the bodies of what is held, of opened logs, and of how a log grows beside what
 //! a session holds. Each function is a law: its clauses say it, and it does nothing.
-ghost use Rattle.sz_recover.specs.Laws.{OneBodyAtMost, WrittenBodiesAreLawful};
 ghost use Rattle.sz_recover.specs.Growing.{ReadGroupsAreLogs, LogsAreSpelled, WellMadeLogsEnd};
 ghost use Rattle.sz_recover.specs.Growing.{MadeLogsEnd, LogsGrow, MadeLogsGrow, LogsGrowOrStay};
 ghost use Rattle.sz_recover.specs.Growing.{LinesAct};
@@ -14,17 +13,6 @@ ghost use Rattle.sz_recover.specs.Soundness.{WrongStoresAreUnsound, NoneMeansEac
 ghost use Rattle.sz_recover.specs.Soundness.{OneThingIsTold};
 ghost use Rattle.sz_recover.specs.OneReading.{WellMadeLogsAreReadInOneWay, WellMadeLogsAreNotBad};
 ghost use Rattle.sz_recover.specs.OneReading.{LogsAreFirstBadAtOnePlace};
-
-/// Some bytes are the body of at most one version with its stores: what is written is read again,
-/// and in no other way.
-pub fn bodies_are_read_in_one_way()
-    ensures { OneBodyAtMost }
-{}
-
-/// The body of a version is lawful over anything to which the version can be added, and says it.
-pub fn written_bodies_are_lawful()
-    ensures { WrittenBodiesAreLawful }
-{}
 
 /// Whatever [`crate::version_body`] writes of a version of what is in order, awaited or not, is
 /// lawful over what is held but for that version, and says it, awaited.

@@ -44,17 +44,10 @@
 
 mod checking;
 mod groups;
-mod heads;
 pub mod laws;
-mod lists;
-mod nodes;
 mod opening;
-mod parts;
-mod reading;
-mod writing;
 
 pub use checking::{WrongStore, unsound};
 pub use groups::KeptVersion;
 pub use opening::{RecoverFault, Recovered, catalogue_of};
-pub use reading::{TakeFault, TakenVersion, take_version_body};
-pub use writing::version_body;
+pub use sz_bodies::{TakeFault, TakenVersion, take_version_body, version_body};

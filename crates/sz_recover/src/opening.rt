@@ -10,8 +10,8 @@ ghost use Rattle.sz_recover.specs.Opened.{AreOfVersions};
 ghost use Rattle.sz_recover.specs.Props.{entries-prop};
 
 use crate::groups::{KeptVersion, act};
-use crate::reading::TakeFault;
 use std::alloc::{AllocError, AllocFailed, Global};
+use sz_bodies::TakeFault;
 use sz_catalogue::Catalogue;
 use sz_log::{Group, LogEnd, group_at, is_log};
 use sz_outside::{Failed, Station};

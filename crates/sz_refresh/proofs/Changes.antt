@@ -24,7 +24,7 @@ use Rattle.sz_spec.specs.Modes.{has_mapping}
 use Rattle.sz_spec.specs.Flows.{is_source}
 use Rattle.sz_spec.specs.Affected.{set_at, changed_of, changed_in}
 use Rattle.sz_spec.proofs.PayloadLineage.{related-mapped}
-use Rattle.sz_region.proofs.Added.{with-ext, with-more, with-none, own-at}
+use Rattle.sz_frame.proofs.Added.{with-ext, with-more, with-none, own-at}
 use Rattle.sz_refresh.specs.Changes.{changed_from, is_before, is_changed, HaveShapes, reaches}
 use Rattle.sz_refresh.proofs.Affected.{changed-base, any-either, mapped-set}
 

@@ -11,7 +11,7 @@ use Rattle.sz_cells.specs.declared.Cell.{Cell}
 use Rattle.sz_cells.specs.Extent.{Extent, height_of, layered, flat, is_extent, holds, layer_of, row_in, cell_in}
 use Rattle.sz_cells.proofs.Shapes.{sides, height-layered, place-has_cell}
 use Rattle.sz_cells.proofs.Sets.{row-held}
-use Rattle.sz_region.proofs.Places.{own-place, place-from}
+use Rattle.sz_frame.proofs.Places.{own-place, place-from}
 use Rattle.sz_spec.specs.declared.op.Fold.{Fold}
 use Rattle.sz_spec.specs.declared.op.Op.{Op}
 use Rattle.sz_spec.specs.declared.op.Op.TheVariants.{Transpose, Slice, Block, FoldLayers}

@@ -16,9 +16,9 @@ use Rattle.sz_cells.specs.Cells.{Cells, is_same, any_cell, cells_where, has, no_
 use Rattle.sz_cells.proofs.Sets.{cell-index, index-cell}
 use Rattle.sz_cells.proofs.Sets.{same_truth, is_same-refl, is_same-true, has-index, has-cells_where, cell-held}
 use Rattle.sz_cells.proofs.Sets.{any_cell-true, any_cell-from, any_cell-same_turned}
-use Rattle.sz_region.specs.Single.{is_cell}
-use Rattle.sz_region.proofs.Added.{with-more, out-at_work}
-use Rattle.sz_region.proofs.Passing.{met-ext}
+use Rattle.sz_frame.specs.Single.{is_cell}
+use Rattle.sz_frame.proofs.Added.{with-more, out-at_work}
+use Rattle.sz_frame.proofs.Passing.{met-ext}
 use Rattle.sz_spec.specs.declared.op.Op.{Op}
 use Rattle.sz_spec.specs.declared.op.Op.TheVariants.{Regions}
 use Rattle.sz_spec.specs.Values.{Grid, input_at, value_at}

@@ -11,8 +11,8 @@ use Rattle.sz_cells.specs.declared.Cell.{Cell}
 use Rattle.sz_cells.specs.Extent.{Extent, size_of, holds, index_of, cell_of}
 use Rattle.sz_cells.specs.Cells.{Cells, is_same, any_cell, cells_where, has, with_those}
 use Rattle.sz_cells.proofs.Sets.{has-index, cell-index, any_cell-same_turned}
-use Rattle.sz_region.proofs.Added.{with-ext}
-use Rattle.sz_region.proofs.Passing.{met-none}
+use Rattle.sz_frame.proofs.Added.{with-ext}
+use Rattle.sz_frame.proofs.Passing.{met-none}
 use Rattle.sz_spec.specs.declared.op.Op.{Op}
 use Rattle.sz_spec.specs.declared.op.Op.TheVariants.{Lookup}
 use Rattle.sz_spec.specs.Values.{Grid, input_at, value_at, extent_at}

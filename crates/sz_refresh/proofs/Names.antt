@@ -19,7 +19,7 @@ use Rattle.sz_cells.specs.Extent.{Extent, size_of, index_of}
 use Rattle.sz_cells.specs.Cells.{Cells, has, cells_where, with_those}
 use Rattle.sz_cells.specs.Runs.{run_cells}
 use Rattle.sz_cells.proofs.Sets.{same_truth, index-below, any-range}
-use Rattle.sz_region.proofs.Added.{with-none, with-ext, with-more}
+use Rattle.sz_frame.proofs.Added.{with-none, with-ext, with-more}
 use Rattle.sz_refresh.specs.Names.{is_at, has_named, LieWithin}
 
 -- no index is found where there is none to find

@@ -40,7 +40,7 @@ use Rattle.sz_spec.proofs.FlowOutputs.{map-agree, well-formed_parts, evaluations
 use Rattle.sz_spec.proofs.FlowShapes.{inputs-shapes, below, each-at}
 use Rattle.sz_spec.proofs.OutputShapes.{extent-right}
 use Rattle.sz_spec.proofs.PayloadLineage.{extent-of_input}
-use Rattle.sz_region.proofs.Added.{value-index}
+use Rattle.sz_frame.proofs.Added.{value-index}
 use Rattle.sz_flow.specs.Executions.{Execution, execution, executions, FlowFits}
 use Rattle.sz_flow.specs.Nodes.{inputs_among}
 use Rattle.sz_flow.proofs.Executions.{executions-at, outputs-evaluations, executions-count}

@@ -25,8 +25,8 @@ use Rattle.sz_spec.specs.Values.{Grid}
 use Rattle.sz_spec.specs.Shapes.{Site}
 use Rattle.sz_spec.specs.Evaluation.{value_of, output_of}
 use Rattle.sz_spec.specs.Work.{IsAtWork}
-use Rattle.sz_region.specs.Walks.{values_before}
-use Rattle.sz_region.proofs.Added.{values-all}
+use Rattle.sz_frame.specs.Walks.{values_before}
+use Rattle.sz_frame.proofs.Added.{values-all}
 use Rattle.sz_refresh.specs.Outputs.{KeepsOthers, renewed}
 
 -- the value of the cell of an index

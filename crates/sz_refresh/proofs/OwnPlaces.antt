@@ -13,7 +13,7 @@ use Rattle.sz_cells.specs.Cells.{Cells, is_same, has, with_those}
 use Rattle.sz_cells.specs.Rising.{AreRising}
 use Rattle.sz_cells.proofs.Rising.{rising-length}
 use Rattle.sz_cells.proofs.Sets.{index-below, cell-index, cell-held, row-held, cols-some, is_same-refl}
-use Rattle.sz_region.proofs.Added.{with-ext, out-at_work}
+use Rattle.sz_frame.proofs.Added.{with-ext, out-at_work}
 use Rattle.sz_spec.specs.declared.op.Op.{Op}
 use Rattle.sz_spec.specs.declared.op.Op.TheVariants.{Transpose, Slice, Convolve, Block, Lookup, Regions, Clean}
 use Rattle.sz_spec.specs.declared.op.Op.TheVariants.{FoldLayers, Add, Sub, Mul, Min, Max}

@@ -22,8 +22,8 @@ use Rattle.sz_spec.specs.Lineage.{related}
 use Rattle.sz_spec.specs.Operators.Clean.{is_hot, is_in_square, is_near}
 use Rattle.sz_spec.specs.Work.{IsAtWork}
 use Rattle.sz_spec.proofs.PayloadLineage.{extent-of_site}
-use Rattle.sz_region.proofs.Added.{with-ext}
-use Rattle.sz_region.proofs.Passing.{met-wider, met-ext}
+use Rattle.sz_frame.proofs.Added.{with-ext}
+use Rattle.sz_frame.proofs.Passing.{met-wider, met-ext}
 use Rattle.sz_refresh.specs.Changes.{reaches}
 use Rattle.sz_refresh.proofs.Changes.{with_those-none}
 

@@ -10,7 +10,7 @@ ghost use Rattle.std.specs.Prelude.{◌≡◌, map, IfSome, IfOk, OnOk, true};
 ghost use Rattle.std.specs.Arc.{arc_value};
 ghost use Rattle.sz_cells.specs.Extent.{holds};
 ghost use Rattle.sz_cells.specs.Cells.{any_cell, no_cells, with_those};
-ghost use Rattle.sz_region.specs.Single.{is_cell};
+ghost use Rattle.sz_frame.specs.Single.{is_cell};
 ghost use Rattle.sz_spec.specs.Evaluation.{output_of};
 ghost use Rattle.sz_spec.specs.Work.{IsAtWork};
 ghost use Rattle.sz_ops_region.specs.Regions.{is_regions};
@@ -21,7 +21,7 @@ use crate::named::{add_named, least_of, named};
 use std::alloc::Global;
 use std::sync::Arc;
 use sz_cells::{Cell, CellBits, NoMemory};
-use sz_region::add_cell;
+use sz_frame::add_cell;
 use sz_spec::{Array, OpAt};
 
 /// Adds the cells that are related to a cell of a set, by the old input or by the new one, given

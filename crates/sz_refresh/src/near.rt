@@ -12,7 +12,7 @@ ghost use Rattle.sz_refresh.specs.Changes.{reaches};
 
 use std::alloc::Global;
 use sz_cells::{Cell, CellBits, NoMemory};
-use sz_region::AtWork;
+use sz_frame::AtWork;
 use sz_spec::square;
 
 /// Adds the output cells that are related to a cell of a set, by one of two cleanings at work.

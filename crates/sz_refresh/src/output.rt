@@ -7,7 +7,7 @@ ghost use Rattle.sz_cells.specs.Extent.{size_of, cell_of};
 ghost use Rattle.sz_cells.specs.Runs.{is_in};
 ghost use Rattle.sz_spec.specs.Values.{extents_of};
 ghost use Rattle.sz_spec.specs.Evaluation.{value_of, output_of};
-ghost use Rattle.sz_region.specs.Walks.{values_before};
+ghost use Rattle.sz_frame.specs.Walks.{values_before};
 ghost use Rattle.sz_ops.specs.Aids.{aid_of};
 ghost use Rattle.sz_refresh.specs.Outputs.{KeepsOthers, renewed};
 
@@ -17,8 +17,8 @@ use std::alloc::Global;
 use std::sync::Arc;
 use std::thread::Threads;
 use sz_cells::{CellBits, CellSet, NoMemory, Run};
+use sz_frame::{at_work, output_with};
 use sz_ops::{Aid, run_prepared, value_at};
-use sz_region::{at_work, output_with};
 use sz_spec::{Array, Op, OpAt, Tally, Value};
 
 /// From how many cells on values are computed side by side.

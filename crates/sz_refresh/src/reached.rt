@@ -25,9 +25,9 @@ use crate::whole::{is_whole, reaches_all};
 use std::alloc::Global;
 use std::sync::Arc;
 use sz_cells::{CellBits, CellSet, NoMemory};
+use sz_frame::{at_work, input_of};
 use sz_ops::image_by_map;
 use sz_ops_window::Cleaning;
-use sz_region::{at_work, input_of};
 use sz_spec::{Array, Dir, Mode, Op, OpAt, SourceRef, arity, has_mode};
 
 /// The affected cells of an operator over old and new inputs, given what is changed of its sources:

@@ -1,16 +1,5 @@
-pub mod Added
-pub mod Passing
-pub mod OneCell
-pub mod Places
-pub mod Inputs
-pub mod OneKind
-pub mod Grouping
-pub mod Fitting
-pub mod AllPieces
-pub mod Kept
+-- The lemmas of what is written and read: numbers, sets, names, and stores of either kind.
 pub mod Spelling
-pub mod Folded
-pub mod FoldedCells
 pub mod Appending
 pub mod Listing
 pub mod Numbering

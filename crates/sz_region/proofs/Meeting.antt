@@ -14,9 +14,9 @@ use Rattle.sz_cells.specs.Cells.{Cells, has, any_cell, cells_where, union_of, no
 use Rattle.sz_cells.specs.Runs.{indexes_of}
 use Rattle.sz_cells.proofs.Sets.{any_cell-true, any_cell-from}
 use Rattle.sz_cells.proofs.LawsOfSets.{union-has}
-use Rattle.sz_region.specs.Parts.{Entry}
-use Rattle.sz_region.specs.Fits.{AreApart}
-use Rattle.sz_region.specs.Stands.{has_entry}
+use Rattle.sz_frame.specs.Parts.{Entry}
+use Rattle.sz_frame.specs.Fits.{AreApart}
+use Rattle.sz_frame.specs.Stands.{has_entry}
 
 -- ---- ranges and runs
 

@@ -9,7 +9,7 @@ use Rattle.std.proofs.lemmas.List.Elements.{All-nil, All-cons, All-head, All-tai
 use Rattle.std.proofs.lemmas.Option.{slice_get_within, same_Some}
 use Rattle.sz_cells.specs.Cells.{Cells}
 use Rattle.sz_cells.specs.SetBytes.{four_bytes}
-use Rattle.sz_region.specs.Parts.{Pairing}
+use Rattle.sz_frame.specs.Parts.{Pairing}
 use Rattle.sz_region.specs.Counted.{counted, rows_bytes, IsAt}
 use Rattle.sz_region.specs.FullBytes.{Listed, listed_from, listed_of, AreNumbersOf, AreNamesOf}
 use Rattle.sz_region.specs.Stores.{NoneAt, IsNameFor, AreNamesFor, ArePairNames, AreStoreNames}

@@ -15,7 +15,7 @@ use Rattle.sz_cells.specs.Cells.{Cells}
 use Rattle.sz_cells.specs.SetBytes.{IsSetOf}
 use Rattle.sz_cells.proofs.LawsOfSets.{split-same}
 use Rattle.sz_spec.specs.Values.{extent_at}
-use Rattle.sz_region.specs.Parts.{Pairing}
+use Rattle.sz_frame.specs.Parts.{Pairing}
 use Rattle.sz_region.specs.Counted.{counted, rows_bytes}
 use Rattle.sz_region.specs.FullBytes.{Listed, IsListed, listed_bytes, listed_from, listed_of, AreNumbersOf, AreNamesOf}
 use Rattle.sz_region.specs.FullBytes.{IsFullWord}

@@ -8,8 +8,8 @@ use Rattle.std.proofs.lemmas.List.Elements.{All-nil, All-cons, All-head, All-tai
 use Rattle.sz_cells.specs.Extent.{Extent}
 use Rattle.sz_cells.specs.Cells.{Cells}
 use Rattle.sz_cells.specs.SetBytes.{IsSetOf, set_bytes}
-use Rattle.sz_region.specs.Parts.{Entry}
-use Rattle.sz_region.specs.Fits.{AreApart}
+use Rattle.sz_frame.specs.Parts.{Entry}
+use Rattle.sz_frame.specs.Fits.{AreApart}
 use Rattle.sz_region.specs.Counted.{counted, rows_bytes}
 use Rattle.sz_region.specs.FullBytes.{Listed}
 use Rattle.sz_region.specs.PayBytes.{IsShort, payload_bytes, AreNamesOfEntry, IsPayWord}

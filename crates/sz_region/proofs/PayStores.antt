@@ -9,8 +9,8 @@ use Rattle.sz_cells.specs.Extent.{Extent, is_extent}
 use Rattle.sz_cells.specs.Cells.{Cells}
 use Rattle.sz_cells.specs.SetBytes.{four_bytes, set_bytes, IsSetOf}
 use Rattle.sz_cells.proofs.LawsOfSets.{bytes-one, split-same}
-use Rattle.sz_region.specs.Parts.{Entry}
-use Rattle.sz_region.specs.Fits.{AreApart}
+use Rattle.sz_frame.specs.Parts.{Entry}
+use Rattle.sz_frame.specs.Fits.{AreApart}
 use Rattle.sz_region.specs.Counted.{counted, rows_bytes, IsAt}
 use Rattle.sz_region.specs.PayBytes.{IsShort, payload_bytes, AreNamesOfEntry, IsPayWord, BeginsEntries}
 use Rattle.sz_region.specs.Taking.{NoneBegins}

@@ -14,7 +14,7 @@ use Rattle.sz_cells.specs.Extent.{Extent}
 use Rattle.sz_cells.specs.Cells.{Cells}
 use Rattle.sz_spec.specs.Values.{no_extent}
 use Rattle.sz_cells.specs.SetBytes.{IsSetOf}
-use Rattle.sz_region.specs.Parts.{Pairing, Entry}
+use Rattle.sz_frame.specs.Parts.{Pairing, Entry}
 use Rattle.sz_region.specs.FullBytes.{Listed, IsListed, listed_from, AreNumbersOf, AreNamesOf, BeginsRegions}
 use Rattle.sz_region.specs.PayBytes.{IsShort, AreNamesOfEntry, BeginsEntries}
 use Rattle.sz_region.specs.Putting.{HasShapes, CanPutRegions, CanPutEntries}

@@ -20,7 +20,7 @@ use Rattle.sz_cells.proofs.Runs.{runs_of-longest, runs-length, runs_of-spelled, 
 use Rattle.sz_cells.proofs.LawsOfSets.{split-same, begins-one}
 use Rattle.sz_cells.proofs.SetWords.{runs-back}
 use Rattle.sz_region.specs.Taking.{number_at, run_at, runs_bytes, HasBody, HasNoRuns, NoneBegins}
-use Rattle.sz_region.specs.Laws.{WrittenSetsAreRead}
+use Rattle.sz_region.specs.LawsStores.{WrittenSetsAreRead}
 
 -- the least index at which a run may begin behind these
 abbrev pub end_of : ℕ → List Run → ℕ

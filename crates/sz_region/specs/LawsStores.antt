@@ -3,7 +3,7 @@ use Rattle.std.specs.Prelude.{◌≡◌, ℕ, ◌+◌, ◌≤◌, List, ◌∷�
 use Rattle.std.specs.List.{All}
 use Rattle.sz_cells.specs.Extent.{Extent, is_extent}
 use Rattle.sz_cells.specs.Cells.{Cells}
-use Rattle.sz_region.specs.Parts.{Pairing, Entry}
+use Rattle.sz_frame.specs.Parts.{Pairing, Entry}
 use Rattle.sz_region.specs.FullBytes.{Listed, IsFullWord, BeginsRegions}
 use Rattle.sz_region.specs.PayBytes.{IsPayWord, BeginsEntries}
 
@@ -44,3 +44,12 @@ WrittenEntriesAreRead = (out : Extent) (payloads : List (List ℕ)) (sets : List
     BeginsEntries out bytes (length before) (length before + length word) entries
     × ((other : List Entry) (next : ℕ) → BeginsEntries out bytes (length before) next other
     → next ≤ length bytes → (other ≡ entries) × (next ≡ length before + length word))
+
+-- The bytes of a set, whatever stands before and behind them, begin that set and end behind them;
+-- and any reading of that place within the bytes is this one.
+abbrev pub WrittenSetsAreRead : Type 0
+WrittenSetsAreRead = (e : Extent) (before : List ℕ) (set : Cells) (rest : List ℕ)
+    → is_extent e ≡ true → IsSetOf e set → let bytes = before ++ (set_bytes set ++ rest) in
+    BeginsSet e bytes (length before) (length before + length (set_bytes set)) set
+    × ((other : Cells) (next : ℕ) → BeginsSet e bytes (length before) next other
+    → next ≤ length bytes → (other ≡ set) × (next ≡ length before + length (set_bytes set)))

@@ -1,17 +1,8 @@
-pub mod Parts
-pub mod Stands
-pub mod Fits
-pub mod Images
-pub mod Walks
-pub mod Single
-pub mod Groups
-pub mod Written
+-- The bytes of sets and stores: what is written, what is read, and the laws of both.
 pub mod Taking
-pub mod Folding
 pub mod Counted
 pub mod FullBytes
 pub mod PayBytes
 pub mod Putting
 pub mod Stores
-pub mod Laws
 pub mod LawsStores

@@ -10,8 +10,8 @@ use Rattle.std.specs.List.{All, AllZip, slice_get}
 use Rattle.sz_cells.specs.Extent.{Extent}
 use Rattle.sz_cells.specs.Cells.{Cells}
 use Rattle.sz_cells.specs.SetBytes.{IsSetOf, four_bytes, set_bytes}
-use Rattle.sz_region.specs.Parts.{Entry}
-use Rattle.sz_region.specs.Fits.{AreApart}
+use Rattle.sz_frame.specs.Parts.{Entry}
+use Rattle.sz_frame.specs.Fits.{AreApart}
 use Rattle.sz_region.specs.Counted.{counted, rows_bytes}
 
 -- a payload's length is a number of four bytes

@@ -5,8 +5,8 @@ use Rattle.std.specs.List.{All, AllZip, flat_map, slice_get}
 use Rattle.sz_cells.specs.Extent.{Extent}
 use Rattle.sz_cells.specs.SetBytes.{IsSetOf}
 use Rattle.sz_spec.specs.Values.{extent_at}
-use Rattle.sz_region.specs.Parts.{Pairing, Entry}
-use Rattle.sz_region.specs.Fits.{AreApart}
+use Rattle.sz_frame.specs.Parts.{Pairing, Entry}
+use Rattle.sz_frame.specs.Fits.{AreApart}
 use Rattle.sz_region.specs.FullBytes.{Listed, IsListed, listed_of, AreNumbersOf}
 use Rattle.sz_region.specs.PayBytes.{IsShort, AreNamesOfEntry}
 

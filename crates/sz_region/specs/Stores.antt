@@ -6,10 +6,10 @@ use Rattle.sz_cells.specs.Extent.{Extent}
 use Rattle.sz_cells.specs.Cells.{Cells}
 use Rattle.sz_region.specs.declared.set_bytes.Take.{Take}
 use Rattle.sz_region.specs.declared.set_bytes.Take.TheVariants.{Bad, NoMemory}
-use Rattle.sz_region.specs.Parts.{Pairing, Entry}
+use Rattle.sz_frame.specs.Parts.{Pairing, Entry}
 use Rattle.sz_region.specs.FullBytes.{Listed, listed_from, AreNumbersOf, AreNamesOf, BeginsRegions}
 use Rattle.sz_region.specs.PayBytes.{AreNamesOfEntry, BeginsEntries}
-use Rattle.sz_region.specs.Fits.{AreApart}
+use Rattle.sz_frame.specs.Fits.{AreApart}
 
 -- a fact for the fault that says a place
 abbrev pub OnBad : Take → Type 0 → Type 0

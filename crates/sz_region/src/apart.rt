@@ -8,11 +8,11 @@ ghost use Rattle.sz_cells.specs.Cells.{has, any_cell};
 ghost use Rattle.sz_cells.specs.Runs.{indexes_of};
 ghost use Rattle.sz_region.specs.Stores.{SaysWhetherApart};
 
-use crate::payload::PayEntry;
 use std::alloc::Global;
 use std::sync::Arc;
 use sz_cells::laws::a_set_is_its_cells;
 use sz_cells::{CellBits, CellSet, NoMemory, Run, Shape};
+use sz_frame::PayEntry;
 
 /// Whether no cell is in two of these entries, whose sets have this shape.
 ///

@@ -1,58 +1,42 @@
-//! Stored lineage as values, and the frame of all operators.
+//! Stored lineage: its values and its bytes. Region pairs, payload entries and the lineages of
+//! pieces are those of `sz_frame`; here stand the bytes of cell sets, and of stores: region pairs and
+//! payload entries over numbered sets. `docs/FORMATS.md` describes them.
 //!
-//! A [`Region`] is a region pair: output cells, each of which depends on all of some input cells. A
-//! [`PayEntry`] keeps a payload, bytes that stand for cells, for some output cells. A
-//! [`PieceLineage`] holds those of 64 output cells. [`put_set`] and [`take_set`] write and read the
-//! bytes of a cell set; `docs/FORMATS.md` describes them.
-//!
-//! The frame: what a run, a trace, the lineage of a piece and an image under a mapping do is
-//! written here once, over what differs from one operator to the next, [`AtWork`]. Where one cell
-//! or none is related to another, [`add_cell`], [`has_cell`] and [`set_of_cell`] see it as a set.
+//! [`put_set`] and [`take_set`] write and read the bytes of a cell set, [`put_regions`] and
+//! [`take_regions`] those of a store of region pairs, [`put_entries`] and [`take_entries`] those of a
+//! store of payload entries. A store that has its sets by number already writes them by
+//! [`put_numbered`] or [`put_numbered_entries`].
 //!
 //! ```
-//! // of an operator at work, which says the value and the related cells of one output cell
-//! let output = run_by(alloc, &work)?;
-//! let lineage = piece_by(alloc, &work, 0, &[Strategy::FullOneB], &mut tally)?;
-//! // lineage.regions()[0].out has the first output cell, its `ins` the cells that stand behind it
+//! let mut bytes = Vec::new(alloc);
+//! put_set(&set, &mut bytes)?;
+//! // what was written is read again, and what was written behind it follows
+//! let taken: Take = take_set(alloc, &bytes, 0, set.rows(), set.cols())?;
 //! ```
 //!
-//! To whoever changes this crate: a walk's state is a test, the cells so far added, and each step
-//! widens it by one cell (`specs/Walks`, `proofs/walks`). [`laws`] says that the lineages of all
-//! pieces stand for exactly the relation.
+//! To whoever changes this crate: what is read is told over the bytes, by where a store begins and
+//! where it ends (`specs/Stores`), and each part is read in one way only. [`laws`] says that what is
+//! written is read again whatever follows it.
 #![tactic(auto)]
 
 mod apart;
-mod folding;
-mod frame;
-mod groups;
 pub mod laws;
-mod lineage;
-mod mapping;
 mod numbers;
-mod payload;
-mod pieces;
 mod put_full;
 mod put_pay;
-mod region;
 mod set_bytes;
-mod single;
 mod tables;
 mod take_full;
 mod take_pay;
-mod walks;
 
-pub use folding::Folding;
-pub use frame::{AtWork, at_work, input_of, right_shapes};
-pub use lineage::PieceLineage;
-pub use mapping::{MapOf, Mapped, Mapping};
-pub use payload::{PayEntry, Payload};
-pub use pieces::piece_by;
 pub use put_full::put_regions;
 pub use put_pay::put_entries;
-pub use region::{Region, SetList};
 pub use set_bytes::{Take, put_set, take_set};
-pub use single::{add_cell, has_cell, set_of_cell};
+pub use sz_frame::{
+    AtWork, Folding, MapOf, Mapped, Mapping, PayEntry, Payload, PieceLineage, Region, SetList,
+    add_cell, at_work, has_cell, image_by, input_of, output_with, piece_by, right_shapes, run_by,
+    set_of_cell, trace_by,
+};
 pub use tables::{ListedPayload, ListedSet, put_numbered, put_numbered_entries};
 pub use take_full::take_regions;
 pub use take_pay::take_entries;
-pub use walks::{image_by, output_with, run_by, trace_by};

@@ -10,11 +10,11 @@ ghost use Rattle.sz_region.specs.FullBytes.{Listed, listed_of, IsFullWord};
 ghost use Rattle.sz_region.specs.Putting.{CanPutRegions, HasShapes, AreNumbered};
 ghost use Rattle.sz_region.specs.Putting.{AreRegionsNumbered};
 
-use crate::region::Region;
 use crate::tables::{ListedSet, put_numbered};
 use std::sync::Arc;
 use sz_cells::laws::a_set_is_its_cells;
 use sz_cells::{CellSet, NoMemory, Run};
+use sz_frame::Region;
 
 /// Appends a store of these region pairs. A set that is the one of the same array of the region
 /// pair before is written once. After `NoMemory` the bytes are as before.

@@ -11,11 +11,11 @@ ghost use Rattle.sz_region.specs.PayBytes.{IsShort, IsPayWord};
 ghost use Rattle.sz_region.specs.Putting.{CanPutEntries, IsPayloadNumbered, IsEntryNumbered};
 ghost use Rattle.sz_region.specs.Putting.{AreEntriesNumbered};
 
-use crate::payload::PayEntry;
 use crate::tables::{ListedPayload, ListedSet, put_numbered_entries};
 use std::sync::Arc;
 use sz_cells::NoMemory;
 use sz_cells::laws::a_set_is_its_cells;
+use sz_frame::PayEntry;
 
 /// Appends a store of these entries. A payload with the bytes of the one of the entry before is
 /// written once. After `NoMemory` the bytes are as before.

@@ -14,13 +14,13 @@ ghost use Rattle.sz_region.specs.Stores.{OnBad, NoRegionsBegin, SaysNoRegions, N
 ghost use Rattle.sz_region.specs.Stores.{IsNameFor, AreNamesFor, ArePairNames, AreStoreNames};
 
 use crate::numbers::take_number;
-use crate::region::{Region, SetList};
 use crate::set_bytes::{Take, take_set};
 use std::alloc::Global;
 use std::marker::Model;
 use std::sync::Arc;
 use sz_cells::laws::a_shape_is_within_limits;
 use sz_cells::{CellSet, Shape};
+use sz_frame::{Region, SetList};
 
 /// A set of the table of a store.
 #[derive(Drop)]

@@ -14,13 +14,13 @@ ghost use Rattle.sz_region.specs.Stores.{IsNumberIn, AreEntryNames, AreEntriesNa
 
 use crate::apart::are_apart;
 use crate::numbers::take_number;
-use crate::payload::{PayEntry, Payload};
 use crate::set_bytes::{Take, take_set};
 use crate::take_full::MOST;
 use std::alloc::Global;
 use std::sync::Arc;
 use sz_cells::laws::a_shape_is_within_limits;
 use sz_cells::{CellSet, Shape};
+use sz_frame::{PayEntry, Payload};
 
 /// The entries of the store that begins at a place of some bytes, for an output of this shape, and
 /// the place behind it. `Bad` exactly where none begins there. Entries that name one set or one

@@ -15,19 +15,19 @@ use Rattle.sz_script.specs.declared.refusal.Refusal.TheVariants as refusal
 
 -- how a form gives the cells of an array: it has none, or gives layers of them, or a
 -- comma-separated text
-pub data Given : Type 0 where
-  no_cells : Given
-  in_layers : List Data → Given
-  in_text : List ℕ → Given
+pub data CellsGiven : Type 0 where
+  no_cells : CellsGiven
+  in_layers : List Data → CellsGiven
+  in_text : List ℕ → CellsGiven
 
 -- the cells are bad
-abbrev pub are_bad : Given → Bool
+abbrev pub are_bad : CellsGiven → Bool
 are_bad no_cells = false
 are_bad (in_layers ds) = are_bad_cells ds
 are_bad (in_text text) = is_bad_text text
 
 -- there are too many cells
-abbrev pub are_too_many : Given → Bool
+abbrev pub are_too_many : CellsGiven → Bool
 are_too_many no_cells = false
 are_too_many (in_layers ds) = are_too_many_cells ds
 are_too_many (in_text text) = has_too_many_fields text
@@ -36,7 +36,7 @@ are_too_many (in_text text) = has_too_many_fields text
 -- array as it gives them
 pub record Draft : Type 0 where
   pub command : Command
-  pub cells : Given
+  pub cells : CellsGiven
 
 -- a draft of a form without cells of an array
 abbrev pub plain : Command → Draft

@@ -16,24 +16,12 @@ names_in (command.Flow name flow) = name ∷ []
 names_in (command.Strategy name node list) = name ∷ []
 names_in (command.Start name base) = name ∷ map (λ b. b.name) base
 names_in (command.Plan name base units back forward) = name ∷ map (λ b. b.name) base
-names_in (command.Await version) = []
-names_in (command.Ask version dir path cells) = []
-names_in (command.Explain version dir path cells) = []
-names_in (command.Show version node) = []
+names_in _ = []
 
 -- the fault of its flow, where it has one
 abbrev pub fault_in : Command → Option FlowFault
-fault_in (command.Array name array) = None
-fault_in (command.Csv name array) = None
-fault_in (command.Layers name array) = None
 fault_in (command.Flow name flow) = flow_fault flow
-fault_in (command.Strategy name node list) = None
-fault_in (command.Start name base) = None
-fault_in (command.Plan name base units back forward) = None
-fault_in (command.Await version) = None
-fault_in (command.Ask version dir path cells) = None
-fault_in (command.Explain version dir path cells) = None
-fault_in (command.Show version node) = None
+fault_in _ = None
 
 -- a right command: each of its names is one, and its flow is well formed
 abbrev pub is_right : Command → Bool

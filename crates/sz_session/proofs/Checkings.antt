@@ -29,15 +29,12 @@ check-ends_with {X} T s t a b ends is = subst (λ (x : Status). ChecksLog T x a 
 pub check-silent : {X : Type 0} (T : Ghosts X) (s : Status) (a b : X) → ChecksLog T s a b → is_of_disk s ≡ true
     → IsSilent T a b
 check-silent {X} T status.Done a b ends is = absurd (true≢false (sym is))
-check-silent {X} T status.Usage a b ends is = absurd ends
-check-silent {X} T status.ReadFault a b ends is = absurd ends
 check-silent {X} T status.SayFault a b ends is = absurd (true≢false (sym is))
 check-silent {X} T status.DiskFault a b ends is = ends
 check-silent {X} T status.NotALog a b ends is = ends.0
-check-silent {X} T status.AlreadyALog a b ends is = absurd ends
 check-silent {X} T (status.BadLog at) a b ends is = ends.0
 check-silent {X} T status.NoMemory a b ends is = ends
-check-silent {X} T status.InputLimit a b ends is = absurd ends
+check-silent {X} T _ a b ends is = absurd ends
 
 -- ---- a disk that does not begin as a log
 
@@ -67,15 +64,12 @@ no_log-line o line Claim is = no_log-made o is.at is.c is.kept Claim is.made
 pub check-unlike : {X : Type 0} (T : Ghosts X) (s : Status) (a b : X) → ChecksLog T s a b
     → IfNoLog (T.disk a) (StopsUnlike s)
 check-unlike {X} T status.Done a b ends = no_log-line (T.disk a) ends.0 _ ends.1
-check-unlike {X} T status.Usage a b ends = absurd ends
-check-unlike {X} T status.ReadFault a b ends = absurd ends
 check-unlike {X} T status.SayFault a b ends = no_log-line (T.disk a) ends.0 _ ends.1
 check-unlike {X} T status.DiskFault a b ends = no_log-each (T.disk a) _ (inr (inl refl))
 check-unlike {X} T status.NotALog a b ends = no_log-each (T.disk a) _ (inl refl)
-check-unlike {X} T status.AlreadyALog a b ends = absurd ends
 check-unlike {X} T (status.BadLog at) a b ends = no_log-broken (T.disk a) at _ ends.1.0
 check-unlike {X} T status.NoMemory a b ends = no_log-each (T.disk a) _ (inr (inr refl))
-check-unlike {X} T status.InputLimit a b ends = absurd ends
+check-unlike {X} T _ a b ends = absurd ends
 
 -- ---- a disk that begins as a log
 
@@ -91,15 +85,12 @@ pub check-tells : {X : Type 0} (T : Ghosts X) (s : Status) (a b : X) → ChecksL
     → AreCounted T s 0 0 a b → BeginsAsLog (T.disk a) → (Rose (T.disk_faults a) (T.disk_faults b) → ⊥)
     → (Rose (T.say_faults a) (T.say_faults b) → ⊥) → StopsBegun s
 check-tells {X} T status.Done a b ends counted begun no_disk no_say = inl refl
-check-tells {X} T status.Usage a b ends counted begun no_disk no_say = absurd ends
-check-tells {X} T status.ReadFault a b ends counted begun no_disk no_say = absurd ends
 check-tells {X} T status.SayFault a b ends counted begun no_disk no_say = absurd (no_say counted.1)
 check-tells {X} T status.DiskFault a b ends counted begun no_disk no_say = absurd (no_disk counted.2)
 check-tells {X} T status.NotALog a b ends counted begun no_disk no_say = absurd (begun-log (T.disk a) begun ends.1.0)
-check-tells {X} T status.AlreadyALog a b ends counted begun no_disk no_say = absurd ends
 check-tells {X} T (status.BadLog at) a b ends counted begun no_disk no_say = inr (inr (at, refl))
 check-tells {X} T status.NoMemory a b ends counted begun no_disk no_say = inr (inl refl)
-check-tells {X} T status.InputLimit a b ends counted begun no_disk no_say = absurd ends
+check-tells {X} T _ a b ends counted begun no_disk no_say = absurd ends
 
 -- ---- what a stop leaves
 

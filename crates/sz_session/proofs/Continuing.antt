@@ -14,7 +14,7 @@ use Rattle.sz_recover.specs.declared.opening.RecoverFault.{RecoverFault}
 use Rattle.sz_recover.specs.declared.opening.RecoverFault.TheVariants as recover
 use Rattle.sz_commands.specs.Stops.{StopsFinding}
 use Rattle.sz_commands.specs.Logged.{IsLogOf, Grows, GoesOn}
-use Rattle.sz_commands.specs.States.{State}
+use Rattle.sz_commands.specs.States.{SessionState}
 use Rattle.sz_commands.specs.Lines.{lines_of}
 use Rattle.sz_commands.specs.Transcript.{after_lines}
 use Rattle.sz_feed.specs.Running.{FindsAll, StandsBehind, state_of_log}
@@ -71,7 +71,7 @@ unopened-counted {X} T recover.NoMemory r a b says rose stood = (refl, says, sto
 -- ---- a log
 
 -- a log that goes on from a station goes on from one before it too, where the disk reads alike
-behind-before : {X : Type 0} (T : Ghosts X) (s : State) (at : ℕ) (left : Option (List ℕ)) (a b x : X)
+behind-before : {X : Type 0} (T : Ghosts X) (s : SessionState) (at : ℕ) (left : Option (List ℕ)) (a b x : X)
     → T.disk b ≡ T.disk a → StandsBehind T s (Some at) left b x → StandsBehind T s (Some at) left a x
 behind-before {X} T s at None a b x reads behind = tt
 behind-before {X} T s at (Some bytes) a b x reads behind =

@@ -9,7 +9,7 @@ use Rattle.std.specs.Prelude.{Option, Result, Ok, Err, OnOk, ◌⊎◌}
 use Rattle.sz_outside.specs.Outside.{Rose, Gives}
 use Rattle.sz_outside.specs.declared.stations.Station.{Ghosts}
 use Rattle.sz_feed.specs.Moments.{Moment, cut_after, told_at_end}
-use Rattle.sz_commands.specs.States.{State}
+use Rattle.sz_commands.specs.States.{SessionState}
 use Rattle.sz_feed.specs.Serving.{Opening, Answered, AreAll, SaidToLimit}
 use Rattle.sz_feed.specs.Serving.{IsPastLimit, IsWithinLimit}
 use Rattle.sz_feed.specs.Disks.{StaysFinding, FoundInPart}
@@ -28,7 +28,7 @@ use Rattle.sz_feed.proofs.Told.{done, turn-in_part, turn-in_lines, end-in_part, 
 abbrev pub halted : Halt → Result (Unit {0}) Halt
 halted h = Err h
 
-turn-replies : (z : State) (s : Halt) (limit : ℕ) (all left next a b c : Option (List ℕ)) (m : Moment)
+turn-replies : (z : SessionState) (s : Halt) (limit : ℕ) (all left next a b c : Option (List ℕ)) (m : Moment)
     (total count : ℕ) (buffer : List ℕ) → Answered z all left a b m total → Gives left next buffer count
     → SaysReplies (halted s) b c m.held m.number (cut_after m (take count buffer)).whole
     → EndsLines z (halt_status s) limit all next a c
@@ -39,7 +39,7 @@ turn-replies z halt.DiskFault limit all left next a b c m total count buffer so_
 turn-replies z halt.NoMemory limit all left next a b c m total count buffer so_far gives says =
     turn-in_lines z all left next a b c m total count buffer so_far gives says
 
-pub turn-ends : {X : Type 0} {T : Ghosts X} {s : Halt} {m n : Moment} {lines : List (List ℕ)} {x y : X} (z : State)
+pub turn-ends : {X : Type 0} {T : Ghosts X} {s : Halt} {m n : Moment} {lines : List (List ℕ)} {x y : X} (z : SessionState)
     (limit : ℕ) (all left next a : Option (List ℕ)) (total count : ℕ) (buffer : List ℕ)
     → IsAnswered T (halted s) m n [] lines x y → Answered z all left a (T.said x) m total
     → Gives left next buffer count
@@ -49,7 +49,7 @@ turn-ends {X} {T} {s} {m} {n} {lines} {x} {y} z limit all left next a total coun
     turn-replies z s limit all left next a (T.said x) (T.said y) m total count buffer so_far gives says
 
 -- the end of the source
-pub end-ends : (z : State) (r : Result (Unit {0}) Halt) (limit : ℕ) (all left a b c : Option (List ℕ)) (m : Moment)
+pub end-ends : (z : SessionState) (r : Result (Unit {0}) Halt) (limit : ℕ) (all left a b c : Option (List ℕ)) (m : Moment)
     (total : ℕ) → total ≤ limit → Answered z all left a b m total → AreAll all total
     → SaysText r b c (told_at_end m) → EndsLines z (end_status r) limit all left a c
 end-ends z (Ok u) limit all left a b c m total le so_far is_all says =
@@ -85,7 +85,6 @@ none-then {X} T r r' r'' x y z one two = (two.0 ∙ one.0, two.1 ∙ one.1, two.
 -- none rose before
 pub counted-behind : {X : Type 0} (T : Ghosts X) (s : Status) (r r' r'' : ℕ) (x y z : X) → NoneRose T r r' x y
     → AreCounted T s r' r'' y z → AreCounted T s r r'' x z
-counted-behind {X} T status.Done r r' r'' x y z one two = none-then T r r' r'' x y z one two
 counted-behind {X} T status.Usage r r' r'' x y z one two = two
 counted-behind {X} T status.ReadFault r r' r'' x y z one two =
     (subst (λ (n : ℕ). Rose n r'') one.0 two.0, two.1 ∙ one.1, two.2 ∙ one.2)
@@ -93,11 +92,7 @@ counted-behind {X} T status.SayFault r r' r'' x y z one two =
     (two.0 ∙ one.0, subst (λ (n : ℕ). Rose n (T.say_faults z)) one.1 two.1, two.2 ∙ one.2)
 counted-behind {X} T status.DiskFault r r' r'' x y z one two =
     (two.0 ∙ one.0, two.1 ∙ one.1, subst (λ (n : ℕ). Rose n (T.disk_faults z)) one.2 two.2)
-counted-behind {X} T status.NotALog r r' r'' x y z one two = none-then T r r' r'' x y z one two
-counted-behind {X} T status.AlreadyALog r r' r'' x y z one two = none-then T r r' r'' x y z one two
-counted-behind {X} T (status.BadLog at) r r' r'' x y z one two = none-then T r r' r'' x y z one two
-counted-behind {X} T status.NoMemory r r' r'' x y z one two = none-then T r r' r'' x y z one two
-counted-behind {X} T status.InputLimit r r' r'' x y z one two = none-then T r r' r'' x y z one two
+counted-behind {X} T _ r r' r'' x y z one two = none-then T r r' r'' x y z one two
 
 -- of a turn that ended the session
 pub turn-behind : {X : Type 0} {T : Ghosts X} {s : Status} {limit total : ℕ} {o : Opening} {left : Option (List ℕ)}
@@ -114,67 +109,51 @@ counted-with {X} T s t r r' x y counted is = subst (λ (z : Status). AreCounted 
 -- ---- endings
 
 -- what a status tells, where the session ended with it
-pub ends-with : (z : State) (s t : Status) (limit : ℕ) (all left a b : Option (List ℕ)) → Ends z s limit all left a b
+pub ends-with : (z : SessionState) (s t : Status) (limit : ℕ) (all left a b : Option (List ℕ)) → Ends z s limit all left a b
     → s ≡ t → Ends z t limit all left a b
 ends-with z s t limit all left a b h is = let P : Status → Type 0 = λ s. Ends z s limit all left a b in subst P is h
 
 -- past the limit there were more bytes than it has
-pub limit-passed : (z : State) (limit : ℕ) (all left a b : Option (List ℕ)) → SaidToLimit z limit all left a b
+pub limit-passed : (z : SessionState) (limit : ℕ) (all left a b : Option (List ℕ)) → SaidToLimit z limit all left a b
     → IsPastLimit limit all
 limit-passed z limit None left a b h = tt
 limit-passed z limit (Some bytes) left a b h = h.0
 
 -- a session within the limit, with no fault counted, is done unless memory was refused
-pub completes : {X : Type 0} (T : Ghosts X) (z : State) (s : Status) (limit : ℕ) (all left a b : Option (List ℕ))
+pub completes : {X : Type 0} (T : Ghosts X) (z : SessionState) (s : Status) (limit : ℕ) (all left a b : Option (List ℕ))
     (r r' : ℕ) (x y : X) → Ends z s limit all left a b → AreCounted T s r r' x y → IsWithinLimit limit all
     → (Rose r r' → ⊥) → (Rose (T.say_faults x) (T.say_faults y) → ⊥) → (s ≡ status.Done) ⊎ (s ≡ status.NoMemory)
 completes {X} T z status.Done limit all left a b r r' x y ends counted within no_read no_say = inl refl
-completes {X} T z status.Usage limit all left a b r r' x y ends counted within no_read no_say = absurd ends
 completes {X} T z status.ReadFault limit all left a b r r' x y ends counted within no_read no_say =
     absurd (no_read counted.0)
 completes {X} T z status.SayFault limit all left a b r r' x y ends counted within no_read no_say =
     absurd (no_say counted.1)
-completes {X} T z status.DiskFault limit all left a b r r' x y ends counted within no_read no_say = absurd ends
-completes {X} T z status.NotALog limit all left a b r r' x y ends counted within no_read no_say = absurd ends
-completes {X} T z status.AlreadyALog limit all left a b r r' x y ends counted within no_read no_say = absurd ends
-completes {X} T z (status.BadLog at) limit all left a b r r' x y ends counted within no_read no_say = absurd ends
 completes {X} T z status.NoMemory limit all left a b r r' x y ends counted within no_read no_say = inr refl
 completes {X} T z status.InputLimit limit all left a b r r' x y ends counted within no_read no_say =
     absurd (over all within ends) where
       over : (all : Option (List ℕ)) → IsWithinLimit limit all → SaidToLimit z limit all left a b → ⊥
       over None within past = within
       over (Some bytes) within past = omega (arith, within, past.0)
+completes {X} T z _ limit all left a b r r' x y ends counted within no_read no_say = absurd ends
 
 -- ---- where a disk cannot fail
 
 -- a session that ended so, and not since its disk failed
-pub plain-ends : (z : State) (s : Status) (limit : ℕ) (all left a b : Option (List ℕ))
+pub plain-ends : (z : SessionState) (s : Status) (limit : ℕ) (all left a b : Option (List ℕ))
     → EndsLines z s limit all left a b
     → (s ≡ status.DiskFault → ⊥) → Ends z s limit all left a b
-plain-ends z status.Done limit all left a b ends plain = ends
-plain-ends z status.Usage limit all left a b ends plain = ends
-plain-ends z status.ReadFault limit all left a b ends plain = ends
-plain-ends z status.SayFault limit all left a b ends plain = ends
 plain-ends z status.DiskFault limit all left a b ends plain = absurd (plain refl)
-plain-ends z status.NotALog limit all left a b ends plain = ends
-plain-ends z status.AlreadyALog limit all left a b ends plain = ends
-plain-ends z (status.BadLog at) limit all left a b ends plain = ends
-plain-ends z status.NoMemory limit all left a b ends plain = ends
-plain-ends z status.InputLimit limit all left a b ends plain = ends
+plain-ends z _ limit all left a b ends plain = ends
 
 -- which comes of the disk alone in no session of no log
-pub ends-not_disk : (z : State) (s : Status) (limit : ℕ) (all left a b : Option (List ℕ)) → Ends z s limit all left a b
+pub ends-not_disk : (z : SessionState) (s : Status) (limit : ℕ) (all left a b : Option (List ℕ)) → Ends z s limit all left a b
     → is_of_disk s ≡ true → ⊥
-ends-not_disk z status.Done limit all left a b ends is = true≢false (sym is)
 ends-not_disk z status.Usage limit all left a b ends is = ends
-ends-not_disk z status.ReadFault limit all left a b ends is = true≢false (sym is)
-ends-not_disk z status.SayFault limit all left a b ends is = true≢false (sym is)
 ends-not_disk z status.DiskFault limit all left a b ends is = ends
 ends-not_disk z status.NotALog limit all left a b ends is = ends
 ends-not_disk z status.AlreadyALog limit all left a b ends is = ends
 ends-not_disk z (status.BadLog at) limit all left a b ends is = ends
-ends-not_disk z status.NoMemory limit all left a b ends is = true≢false (sym is)
-ends-not_disk z status.InputLimit limit all left a b ends is = true≢false (sym is)
+ends-not_disk z _ limit all left a b ends is = true≢false (sym is)
 
 -- ---- a turn that stopped, and an end
 

@@ -12,7 +12,7 @@ use Rattle.sz_catalogue.specs.Holdings.{Holdings}
 use Rattle.sz_recover.specs.Logs.{Kept, IsMade, IsNoLog, IsBroken}
 use Rattle.sz_recover.specs.OneReading.{WellMadeLogsAreNotBad, LogsAreFirstBadAtOnePlace}
 use Rattle.sz_feed.specs.Serving.{IsPastLimit, IsWithinLimit}
-use Rattle.sz_commands.specs.States.{State}
+use Rattle.sz_commands.specs.States.{SessionState}
 use Rattle.sz_feed.specs.Running.{state_of_log}
 use Rattle.sz_session.specs.Continuing.{IsUnopened, EndsOnLog}
 use Rattle.sz_session.specs.Checking.{IsLineOf, IsUnlike, IfNoLog, IfBadLog, IsWellMadeLog}
@@ -79,16 +79,11 @@ run-no_log {X} T s limit left rest r r' x y (inr one) counted is =
     absurd (lines-with (state_of_log one.c one.kept) s status.NotALog limit left rest (T.said x) (T.said y) one.ends is)
 
 unopened-unlike : (o : Option (List ℕ)) (s : Status) → IsUnopened o s → IfNoLog o (StopsUnlike s)
-unopened-unlike o status.Done why = absurd why
-unopened-unlike o status.Usage why = absurd why
-unopened-unlike o status.ReadFault why = absurd why
-unopened-unlike o status.SayFault why = absurd why
 unopened-unlike o status.DiskFault why = no_log-each o _ (inr (inl refl))
 unopened-unlike o status.NotALog why = no_log-each o _ (inl refl)
-unopened-unlike o status.AlreadyALog why = absurd why
 unopened-unlike o (status.BadLog at) why = no_log-broken o at _ why
 unopened-unlike o status.NoMemory why = no_log-each o _ (inr (inr refl))
-unopened-unlike o status.InputLimit why = absurd why
+unopened-unlike o _ why = absurd why
 
 pub run-unlike : {X : Type 0} (T : Ghosts X) (s : Status) (limit : ℕ) (left rest : Option (List ℕ)) (x y : X)
     → EndsOnLog T s limit left rest x y → IfNoLog (T.disk x) (StopsUnlike s)
@@ -99,16 +94,11 @@ run-unlike {X} T s limit left rest x y (inr one) = no_log-made (T.disk x) one.at
 
 unopened-broken : LogsAreFirstBadAtOnePlace → (o : Option (List ℕ)) (s : Status) → IsUnopened o s
     → IfBadLog o (λ at. StopsBroken s at)
-unopened-broken one o status.Done why = absurd why
-unopened-broken one o status.Usage why = absurd why
-unopened-broken one o status.ReadFault why = absurd why
-unopened-broken one o status.SayFault why = absurd why
 unopened-broken one o status.DiskFault why = broken-each o _ (λ at. inr (inl refl))
 unopened-broken one o status.NotALog why = broken-no_log o _ why
-unopened-broken one o status.AlreadyALog why = absurd why
 unopened-broken one o (status.BadLog at) why = broken-there one o at why
 unopened-broken one o status.NoMemory why = broken-each o _ (λ at. inr (inr refl))
-unopened-broken one o status.InputLimit why = absurd why
+unopened-broken one o _ why = absurd why
 
 pub run-broken : WellMadeLogsAreNotBad → LogsAreFirstBadAtOnePlace → {X : Type 0} (T : Ghosts X) (s : Status)
     (limit : ℕ)
@@ -122,15 +112,12 @@ pub check-broken : WellMadeLogsAreNotBad → LogsAreFirstBadAtOnePlace → {X : 
     (x y : X)
     → ChecksLog T s x y → IfBadLog (T.disk x) (λ at. StopsBroken s at)
 check-broken whole place {X} T status.Done x y ends = broken-line whole (T.disk x) ends.0 _ ends.1
-check-broken whole place {X} T status.Usage x y ends = absurd ends
-check-broken whole place {X} T status.ReadFault x y ends = absurd ends
 check-broken whole place {X} T status.SayFault x y ends = broken-line whole (T.disk x) ends.0 _ ends.1
 check-broken whole place {X} T status.DiskFault x y ends = broken-each (T.disk x) _ (λ at. inr (inl refl))
 check-broken whole place {X} T status.NotALog x y ends = broken-no_log (T.disk x) _ ends.1.0
-check-broken whole place {X} T status.AlreadyALog x y ends = absurd ends
 check-broken whole place {X} T (status.BadLog at) x y ends = broken-there place (T.disk x) at ends.1.0
 check-broken whole place {X} T status.NoMemory x y ends = broken-each (T.disk x) _ (λ at. inr (inr refl))
-check-broken whole place {X} T status.InputLimit x y ends = absurd ends
+check-broken whole place {X} T _ x y ends = absurd ends
 
 -- ---- a well-made log, where no count rose
 
@@ -139,34 +126,26 @@ pub check-completes : WellMadeLogsAreNotBad → {X : Type 0} (T : Ghosts X) (s :
     → AreCounted T s 0 0 x y → IsWellMadeLog (T.disk x) → (Rose (T.disk_faults x) (T.disk_faults y) → ⊥)
     → (Rose (T.say_faults x) (T.say_faults y) → ⊥) → (s ≡ status.Done) ⊎ (s ≡ status.NoMemory)
 check-completes whole {X} T status.Done x y ends counted made no_disk no_say = inl refl
-check-completes whole {X} T status.Usage x y ends counted made no_disk no_say = absurd ends
-check-completes whole {X} T status.ReadFault x y ends counted made no_disk no_say = absurd ends
 check-completes whole {X} T status.SayFault x y ends counted made no_disk no_say = absurd (no_say counted.1)
 check-completes whole {X} T status.DiskFault x y ends counted made no_disk no_say = absurd (no_disk counted.2)
 check-completes whole {X} T status.NotALog x y ends counted made no_disk no_say =
     absurd (made-begins (T.disk x) made ends.1.0)
-check-completes whole {X} T status.AlreadyALog x y ends counted made no_disk no_say = absurd ends
 check-completes whole {X} T (status.BadLog at) x y ends counted made no_disk no_say =
     absurd (made-whole whole (T.disk x) at made ends.1.0)
 check-completes whole {X} T status.NoMemory x y ends counted made no_disk no_say = inr refl
-check-completes whole {X} T status.InputLimit x y ends counted made no_disk no_say = absurd ends
+check-completes whole {X} T _ x y ends counted made no_disk no_say = absurd ends
 
 -- it is opened, unless there was no memory
 unopened-completes : WellMadeLogsAreNotBad → {X : Type 0} (T : Ghosts X) (s : Status) (r r' : ℕ) (x y : X)
     → IsUnopened (T.disk x) s → AreCounted T s r r' x y → IsWellMadeLog (T.disk x)
     → (Rose (T.disk_faults x) (T.disk_faults y) → ⊥) → (s ≡ status.Done) ⊎ (s ≡ status.NoMemory)
-unopened-completes whole {X} T status.Done r r' x y why counted made no_disk = absurd why
-unopened-completes whole {X} T status.Usage r r' x y why counted made no_disk = absurd why
-unopened-completes whole {X} T status.ReadFault r r' x y why counted made no_disk = absurd why
-unopened-completes whole {X} T status.SayFault r r' x y why counted made no_disk = absurd why
 unopened-completes whole {X} T status.DiskFault r r' x y why counted made no_disk = absurd (no_disk counted.2)
 unopened-completes whole {X} T status.NotALog r r' x y why counted made no_disk =
     absurd (made-begins (T.disk x) made why)
-unopened-completes whole {X} T status.AlreadyALog r r' x y why counted made no_disk = absurd why
 unopened-completes whole {X} T (status.BadLog at) r r' x y why counted made no_disk =
     absurd (made-whole whole (T.disk x) at made why)
 unopened-completes whole {X} T status.NoMemory r r' x y why counted made no_disk = inr refl
-unopened-completes whole {X} T status.InputLimit r r' x y why counted made no_disk = absurd why
+unopened-completes whole {X} T _ r r' x y why counted made no_disk = absurd why
 
 -- a source within the limit is not past it
 within-past : (limit : ℕ) (o : Option (List ℕ)) → IsWithinLimit limit o → IsPastLimit limit o → ⊥
@@ -174,29 +153,23 @@ within-past limit None within past = within
 within-past limit (Some bytes) within past = omega (arith, within, past)
 
 -- and a session on it is done, unless there was none
-opened-completes : {X : Type 0} (T : Ghosts X) (z : State) (s : Status) (limit : ℕ) (left rest : Option (List ℕ))
+opened-completes : {X : Type 0} (T : Ghosts X) (z : SessionState) (s : Status) (limit : ℕ) (left rest : Option (List ℕ))
     (r r' : ℕ) (x y : X) → EndsLines z s limit left rest (T.said x) (T.said y) → AreCounted T s r r' x y
     → IsWithinLimit limit left → (Rose r r' → ⊥) → (Rose (T.say_faults x) (T.say_faults y) → ⊥)
     → (Rose (T.disk_faults x) (T.disk_faults y) → ⊥) → (s ≡ status.Done) ⊎ (s ≡ status.NoMemory)
 opened-completes {X} T z status.Done limit left rest r r' x y ends counted within no_read no_say no_disk = inl refl
-opened-completes {X} T z status.Usage limit left rest r r' x y ends counted within no_read no_say no_disk =
-    absurd ends
 opened-completes {X} T z status.ReadFault limit left rest r r' x y ends counted within no_read no_say no_disk =
     absurd (no_read counted.0)
 opened-completes {X} T z status.SayFault limit left rest r r' x y ends counted within no_read no_say no_disk =
     absurd (no_say counted.1)
 opened-completes {X} T z status.DiskFault limit left rest r r' x y ends counted within no_read no_say no_disk =
     absurd (no_disk counted.2)
-opened-completes {X} T z status.NotALog limit left rest r r' x y ends counted within no_read no_say no_disk =
-    absurd ends
-opened-completes {X} T z status.AlreadyALog limit left rest r r' x y ends counted within no_read no_say no_disk =
-    absurd ends
-opened-completes {X} T z (status.BadLog at) limit left rest r r' x y ends counted within no_read no_say no_disk =
-    absurd ends
 opened-completes {X} T z status.NoMemory limit left rest r r' x y ends counted within no_read no_say no_disk =
     inr refl
 opened-completes {X} T z status.InputLimit limit left rest r r' x y ends counted within no_read no_say no_disk =
     absurd (within-past limit left within (limit-passed z limit left rest (T.said x) (T.said y) ends))
+opened-completes {X} T z _ limit left rest r r' x y ends counted within no_read no_say no_disk =
+    absurd ends
 
 pub run-completes : WellMadeLogsAreNotBad → {X : Type 0} (T : Ghosts X) (s : Status) (limit : ℕ)
     (left rest : Option (List ℕ)) (r r' : ℕ) (x y : X) → EndsOnLog T s limit left rest x y

@@ -47,27 +47,15 @@ load-ends_with s t line a b h is = subst (λ (x : Status). SaysSummary x line a 
 pub load-not_disk : (s : Status) (line : List ℕ) (a b : Option (List ℕ)) → SaysSummary s line a b
     → is_of_disk s ≡ true → ⊥
 load-not_disk status.Done line a b ends is = true≢false (sym is)
-load-not_disk status.Usage line a b ends is = ends
-load-not_disk status.ReadFault line a b ends is = ends
 load-not_disk status.SayFault line a b ends is = true≢false (sym is)
-load-not_disk status.DiskFault line a b ends is = ends
-load-not_disk status.NotALog line a b ends is = ends
-load-not_disk status.AlreadyALog line a b ends is = ends
-load-not_disk (status.BadLog at) line a b ends is = ends
 load-not_disk status.NoMemory line a b ends is = true≢false (sym is)
-load-not_disk status.InputLimit line a b ends is = ends
+load-not_disk _ line a b ends is = ends
 
 -- with no fault counted it is done unless memory was refused
 pub load-completes : {X : Type 0} (T : Ghosts X) (s : Status) (line : List ℕ) (a b : Option (List ℕ)) (x y : X)
     → SaysSummary s line a b → AreCounted T s 0 0 x y → (Rose (T.say_faults x) (T.say_faults y) → ⊥)
     → (s ≡ status.Done) ⊎ (s ≡ status.NoMemory)
 load-completes {X} T status.Done line a b x y ends counted no_say = inl refl
-load-completes {X} T status.Usage line a b x y ends counted no_say = absurd ends
-load-completes {X} T status.ReadFault line a b x y ends counted no_say = absurd ends
 load-completes {X} T status.SayFault line a b x y ends counted no_say = absurd (no_say counted.1)
-load-completes {X} T status.DiskFault line a b x y ends counted no_say = absurd ends
-load-completes {X} T status.NotALog line a b x y ends counted no_say = absurd ends
-load-completes {X} T status.AlreadyALog line a b x y ends counted no_say = absurd ends
-load-completes {X} T (status.BadLog at) line a b x y ends counted no_say = absurd ends
 load-completes {X} T status.NoMemory line a b x y ends counted no_say = inr refl
-load-completes {X} T status.InputLimit line a b x y ends counted no_say = absurd ends
+load-completes {X} T _ line a b x y ends counted no_say = absurd ends

@@ -31,15 +31,12 @@ init-made {X} T s a b ends (inr is) = (init-ends_with T s status.SayFault a b en
 pub init-silent : {X : Type 0} (T : Ghosts X) (s : Status) (a b : X) → MakesLog T s a b → is_of_disk s ≡ true
     → IsSilent T a b
 init-silent {X} T status.Done a b ends is = absurd (true≢false (sym is))
-init-silent {X} T status.Usage a b ends is = absurd ends
-init-silent {X} T status.ReadFault a b ends is = absurd ends
 init-silent {X} T status.SayFault a b ends is = absurd (true≢false (sym is))
 init-silent {X} T status.DiskFault a b ends is = ends
 init-silent {X} T status.NotALog a b ends is = ends.0
 init-silent {X} T status.AlreadyALog a b ends is = ends.0
-init-silent {X} T (status.BadLog at) a b ends is = absurd ends
 init-silent {X} T status.NoMemory a b ends is = absurd (true≢false (sym is))
-init-silent {X} T status.InputLimit a b ends is = absurd ends
+init-silent {X} T _ a b ends is = absurd ends
 
 -- ---- a disk that is barred, and one that is free
 
@@ -69,17 +66,14 @@ StopsAt s bar = (s ≡ log_status bar) ⊎ ((s ≡ status.DiskFault) ⊎ (s ≡ 
 pub init-barred : {X : Type 0} (T : Ghosts X) (s : Status) (a b : X) → MakesLog T s a b
     → IfBarred (T.disk a) (λ bar. StopsAt s bar)
 init-barred {X} T status.Done a b ends = free-none (T.disk a) _ ends.0.free
-init-barred {X} T status.Usage a b ends = absurd ends
-init-barred {X} T status.ReadFault a b ends = absurd ends
 init-barred {X} T status.SayFault a b ends = free-none (T.disk a) _ ends.0.free
 init-barred {X} T status.DiskFault a b ends = bar-each (T.disk a) _ (λ bar. inr (inl refl))
 init-barred {X} T status.NotALog a b ends =
     bar-this (T.disk a) log.NotALog (λ bar. StopsAt status.NotALog bar) ends.1.bar (inl refl)
 init-barred {X} T status.AlreadyALog a b ends =
     bar-this (T.disk a) log.AlreadyALog (λ bar. StopsAt status.AlreadyALog bar) ends.1.bar (inl refl)
-init-barred {X} T (status.BadLog at) a b ends = absurd ends
 init-barred {X} T status.NoMemory a b ends = bar-each (T.disk a) _ (λ bar. inr (inr refl))
-init-barred {X} T status.InputLimit a b ends = absurd ends
+init-barred {X} T _ a b ends = absurd ends
 
 -- a disk that is free is made a log, where no count rose
 pub init-completes : {X : Type 0} (T : Ghosts X) (s : Status) (a b : X) → MakesLog T s a b
@@ -87,14 +81,11 @@ pub init-completes : {X : Type 0} (T : Ghosts X) (s : Status) (a b : X) → Make
     → (Rose (T.say_faults a) (T.say_faults b) → ⊥)
     → (s ≡ status.Done) ⊎ (s ≡ status.NoMemory)
 init-completes {X} T status.Done a b ends counted free no_disk no_say = inl refl
-init-completes {X} T status.Usage a b ends counted free no_disk no_say = absurd ends
-init-completes {X} T status.ReadFault a b ends counted free no_disk no_say = absurd ends
 init-completes {X} T status.SayFault a b ends counted free no_disk no_say = absurd (no_say counted.1)
 init-completes {X} T status.DiskFault a b ends counted free no_disk no_say = absurd (no_disk counted.2)
 init-completes {X} T status.NotALog a b ends counted free no_disk no_say =
     absurd (free-no_bar (T.disk a) log.NotALog free ends.1.bar)
 init-completes {X} T status.AlreadyALog a b ends counted free no_disk no_say =
     absurd (free-no_bar (T.disk a) log.AlreadyALog free ends.1.bar)
-init-completes {X} T (status.BadLog at) a b ends counted free no_disk no_say = absurd ends
 init-completes {X} T status.NoMemory a b ends counted free no_disk no_say = inr refl
-init-completes {X} T status.InputLimit a b ends counted free no_disk no_say = absurd ends
+init-completes {X} T _ a b ends counted free no_disk no_say = absurd ends

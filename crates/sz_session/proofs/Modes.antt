@@ -10,7 +10,7 @@ use Rattle.std.proofs.lemmas.Option.{same_Some}
 use Rattle.sz_outside.specs.Disk.{Told, Said}
 use Rattle.sz_outside.specs.declared.sources.Source as source
 use Rattle.sz_outside.specs.declared.stations.Station.{Ghosts}
-use Rattle.sz_commands.specs.States.{State, nothing_held}
+use Rattle.sz_commands.specs.States.{SessionState, nothing_held}
 use Rattle.sz_feed.specs.Serving.{load_line}
 use Rattle.sz_session.specs.Statuses.{words_status, Ends, EndsLines, AreCounted, SaysSummary, MakesLog, ChecksLog}
 use Rattle.sz_session.specs.Modes.{mode_in, AsksFor, IfLoad, is_for}
@@ -18,8 +18,8 @@ use Rattle.sz_session.specs.Modes.{EndsPlay, EndsLoad, EndsInit, EndsCheck, Ends
 use Rattle.sz_session.specs.declared.serving.Status.{Status}
 use Rattle.sz_session.specs.declared.serving.Status.TheVariants as status
 use Rattle.sz_words.specs.declared.Job.{Job}
-use Rattle.sz_words.specs.declared.JobMode.{JobMode}
-use Rattle.sz_words.specs.declared.JobMode.TheVariants as mode
+use Rattle.sz_words.specs.declared.arguments.JobMode.{JobMode}
+use Rattle.sz_words.specs.declared.arguments.JobMode.TheVariants as mode
 use Rattle.sz_words.specs.declared.WordsFault.{WordsFault}
 use Rattle.sz_words.specs.declared.WordsFault.TheVariants as fault
 use Rattle.sz_feed.proofs.Told.{none-in_lines}
@@ -119,7 +119,7 @@ by-mode {Y} {X} S T (Some job) s before after old new Claim serves none play loa
 -- ---- statuses
 
 -- what is told of the status of a session on a log
-pub lines-with : (c : State) (s t : Status) (limit : ℕ) (all left a b : Option (List ℕ))
+pub lines-with : (c : SessionState) (s t : Status) (limit : ℕ) (all left a b : Option (List ℕ))
     → EndsLines c s limit all left a b
     → s ≡ t → EndsLines c t limit all left a b
 lines-with c s t limit all left a b ends is = subst (λ (z : Status). EndsLines c z limit all left a b) is ends

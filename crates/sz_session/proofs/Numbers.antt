@@ -22,15 +22,7 @@ status_at at n = if n == 0 then status.Done else if n == 1 then status.Usage els
 
 at-number : (s : Status) → status_at (place_in s) (status_number s) ≡ s
 at-number status.Done = refl
-at-number status.Usage = refl
-at-number status.ReadFault = refl
-at-number status.SayFault = refl
-at-number status.DiskFault = refl
-at-number status.NotALog = refl
-at-number status.AlreadyALog = refl
-at-number (status.BadLog at) = refl
-at-number status.NoMemory = refl
-at-number status.InputLimit = refl
+at-number _ = refl
 
 -- what ended with this number ended with the status of it
 pub status-of : (s : Status) (e n : ℕ) → e ≡ status_number s → e ≡ n → s ≡ status_at (place_in s) n

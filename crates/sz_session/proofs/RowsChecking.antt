@@ -7,7 +7,7 @@ use Rattle.std.specs.Fmt.{digits}
 use Rattle.std.proofs.lemmas.List.Elements.{All-nil}
 use Rattle.sz_outside.specs.Outside.{Says}
 use Rattle.sz_outside.specs.declared.stations.Station.{Ghosts}
-use Rattle.sz_log.specs.Log.{Entry, empty_log}
+use Rattle.sz_log.specs.Log.{LogGroup, empty_log}
 use Rattle.sz_log.specs.Laws.{Reads}
 use Rattle.sz_log.proofs.Rows.{log}
 use Rattle.sz_spec.specs.declared.modes.Strategy.TheVariants as strategy
@@ -90,7 +90,7 @@ tells-nothing is =
 -- the empty log keeps nothing
 empty-keeps : (at : ℕ) (c : Holdings) (kept : List Kept) → IsWellMade empty_log at c kept → kept ≡ []
 empty-keeps at c kept is = none is.entries is.read is.acts where
-  none : (es : List Entry) → Reads empty_log 16 es at → ActEach no_holdings es c kept → kept ≡ []
+  none : (es : List LogGroup) → Reads empty_log 16 es at → ActEach no_holdings es c kept → kept ≡ []
   none [] read (same, kept_is) = kept_is
   none (e ∷ es) (group, body, rest) acts = cc
 

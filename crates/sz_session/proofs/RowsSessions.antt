@@ -8,7 +8,7 @@ use Rattle.sz_outside.specs.Outside.{Rose}
 use Rattle.sz_outside.specs.declared.stations.Station.{Ghosts}
 use Rattle.sz_commands.specs.Lines.{lines_of}
 use Rattle.sz_commands.specs.Logged.{makes_durable}
-use Rattle.sz_commands.specs.States.{State}
+use Rattle.sz_commands.specs.States.{SessionState}
 use Rattle.sz_feed.specs.Calls.{WritesOne}
 use Rattle.sz_feed.specs.Moments.{Moment}
 use Rattle.sz_feed.specs.Serving.{Opening, Answered}
@@ -133,10 +133,10 @@ module _ {X : Type 0} (T : Ghosts X) (old new : X) where
       subst (λ (l : Option (List ℕ)). WritesLine o.held l) told (session.written refl)
 
 -- a blank line is written to no log, and one that makes something durable is
-pub writes-blank : (s : State) → WritesLine s (Some (32 ∷ 10 ∷ [])) → ⊥
+pub writes-blank : (s : SessionState) → WritesLine s (Some (32 ∷ 10 ∷ [])) → ⊥
 writes-blank s (inl is) = true≢false (sym is)
 writes-blank s (inr none) = none
 
-pub writes-one : (s : State) (bytes line : List ℕ) → lines_of bytes ≡ line ∷ [] → makes_durable s.held line ≡ true
+pub writes-one : (s : SessionState) (bytes line : List ℕ) → lines_of bytes ≡ line ∷ [] → makes_durable s.held line ≡ true
     → WritesLine s (Some bytes)
 writes-one s bytes line is durable = subst (λ (ls : List (List ℕ)). WritesOne s ls) (sym is) (inl durable)

@@ -23,8 +23,8 @@ use Rattle.sz_session.specs.declared.serving.Status.{Status}
 use Rattle.sz_session.specs.declared.serving.Status.TheVariants as status
 use Rattle.sz_words.specs.Job.{is_on_log}
 use Rattle.sz_words.specs.declared.Job.{Job}
-use Rattle.sz_words.specs.declared.JobMode.{JobMode}
-use Rattle.sz_words.specs.declared.JobMode.TheVariants as mode
+use Rattle.sz_words.specs.declared.arguments.JobMode.{JobMode}
+use Rattle.sz_words.specs.declared.arguments.JobMode.TheVariants as mode
 use Rattle.sz_feed.proofs.Disks.{stays-still, disk-stays}
 use Rattle.sz_session.proofs.Ends.{ends-with, ends-not_disk, counted-with, limit-passed}
 use Rattle.sz_session.proofs.Loads.{load-ends_with, load-not_disk}
@@ -39,16 +39,9 @@ use Rattle.sz_session.proofs.Exactly.{StopsBroken, run-no_log, run-unlike, run-b
 -- a mode that reads no lines counts no read, since it leaves the source as it was
 unread-counted : {X : Type 0} (T : Ghosts X) (s : Status) (r r' : ℕ) (x y : X) → r' ≡ r → AreCounted T s 0 0 x y
     → AreCounted T s r r' x y
-unread-counted {X} T status.Done r r' x y same counted = (same, counted.1, counted.2)
 unread-counted {X} T status.Usage r r' x y same counted = counted
 unread-counted {X} T status.ReadFault r r' x y same counted = absurd (omega (arith, counted.0))
-unread-counted {X} T status.SayFault r r' x y same counted = (same, counted.1, counted.2)
-unread-counted {X} T status.DiskFault r r' x y same counted = (same, counted.1, counted.2)
-unread-counted {X} T status.NotALog r r' x y same counted = (same, counted.1, counted.2)
-unread-counted {X} T status.AlreadyALog r r' x y same counted = (same, counted.1, counted.2)
-unread-counted {X} T (status.BadLog at) r r' x y same counted = (same, counted.1, counted.2)
-unread-counted {X} T status.NoMemory r r' x y same counted = (same, counted.1, counted.2)
-unread-counted {X} T status.InputLimit r r' x y same counted = (same, counted.1, counted.2)
+unread-counted {X} T _ r r' x y same counted = (same, counted.1, counted.2)
 
 -- of each call that asks for a mode the counts tell the status
 call-counted : {Y X : Type 0} (S : source.Ghosts Y) (T : Ghosts X) (o : Option Job) (s : Status)

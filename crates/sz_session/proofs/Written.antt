@@ -7,7 +7,7 @@ use Rattle.std.specs.Prelude.{Option, Result, Ok, Err}
 use Rattle.std.proofs.lemmas.List.{take-append-drop, take_all}
 use Rattle.sz_outside.specs.Outside.{Gives}
 use Rattle.sz_commands.specs.Lines.{Cut, cut, lines_of, last_line}
-use Rattle.sz_commands.specs.States.{State}
+use Rattle.sz_commands.specs.States.{SessionState}
 use Rattle.sz_feed.specs.Calls.{WritesOne}
 use Rattle.sz_feed.specs.Moments.{Moment, moment_before, cut_after, moment_after, AreAlike}
 use Rattle.sz_feed.specs.Serving.{Answered, AreAll}
@@ -37,7 +37,7 @@ end-failed (Err halt.NoMemory) is = cc
 -- ---- lines of a source
 
 -- one of those that end in what a read gave
-pub rest-written : (z : State) (all left next a b : Option (List ℕ)) (m : Moment) (total count : ℕ) (buffer : List ℕ)
+pub rest-written : (z : SessionState) (all left next a b : Option (List ℕ)) (m : Moment) (total count : ℕ) (buffer : List ℕ)
     → Answered z all left a b m total → Gives left next buffer count
     → WritesOne m.held (cut_after m (take count buffer)).whole → WritesRest m all total
 rest-written z None left next a b m total count buffer so_far gives writes = tt
@@ -47,7 +47,7 @@ rest-written z (Some bytes) left next a b m total count buffer so_far gives writ
     (subst P (given-next bytes left next total count buffer so_far.is_left gives).bytes writes)
 
 -- a whole line is one of all lines
-whole-written : (z : State) (bytes : List ℕ) → WritesOne z (cut_after (moment_before z) bytes).whole
+whole-written : (z : SessionState) (bytes : List ℕ) → WritesOne z (cut_after (moment_before z) bytes).whole
     → WritesOne z (lines_of bytes)
 whole-written z bytes writes =
     subst (WritesOne z) (sym (lines_of-cut bytes))
@@ -55,7 +55,7 @@ whole-written z bytes writes =
     (subst (λ (c : Cut). WritesOne z c.whole) (before_cut-nothing (cut bytes)) writes))
 
 -- one of those behind a place
-pub line-written : (z : State) (all left a b : Option (List ℕ)) (m : Moment) (total : ℕ)
+pub line-written : (z : SessionState) (all left a b : Option (List ℕ)) (m : Moment) (total : ℕ)
     → Answered z all left a b m total → WritesRest m all total → WritesLine z all
 line-written z None left a b m total so_far writes = tt
 line-written z (Some bytes) left a b m total so_far writes =
@@ -65,7 +65,7 @@ line-written z (Some bytes) left a b m total so_far writes =
     (subst P (take-append-drop total bytes) (writes-rest l m (take total bytes) (drop total bytes) so_far.alike writes))
 
 -- the line that has not ended, at the end of the source
-pub last-written : (z : State) (all left a b : Option (List ℕ)) (m : Moment) (total : ℕ)
+pub last-written : (z : SessionState) (all left a b : Option (List ℕ)) (m : Moment) (total : ℕ)
     → Answered z all left a b m total → AreAll all total → WritesOne m.held (last_line m.pending) → WritesLine z all
 last-written z None left a b m total so_far is_all writes = tt
 last-written z (Some bytes) left a b m total so_far is_all writes =

@@ -19,16 +19,11 @@ use Rattle.sz_session.specs.declared.serving.Status.TheVariants as status
 -- why no log was opened: the disk does not begin as one; its first bad group stands at a place; or
 -- a call of the disk failed, or there was no memory
 abbrev pub IsUnopened : Option (List ℕ) → Status → Type 0
-IsUnopened disk status.Done = ⊥
-IsUnopened disk status.Usage = ⊥
-IsUnopened disk status.ReadFault = ⊥
-IsUnopened disk status.SayFault = ⊥
 IsUnopened disk status.DiskFault = ⊤
 IsUnopened disk status.NotALog = IsNoLog disk
-IsUnopened disk status.AlreadyALog = ⊥
 IsUnopened disk (status.BadLog at) = IsBroken disk at
 IsUnopened disk status.NoMemory = ⊤
-IsUnopened disk status.InputLimit = ⊥
+IsUnopened disk _ = ⊥
 
 -- No log was opened: nothing was said, the disk reads as before, and a stop leaves of it what it
 -- might have left before.

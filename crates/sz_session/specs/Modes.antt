@@ -18,8 +18,8 @@ use Rattle.sz_session.specs.Continuing.{EndsOnLog}
 use Rattle.sz_session.specs.declared.serving.Status.{Status}
 use Rattle.sz_session.specs.declared.serving.Status.TheVariants as status
 use Rattle.sz_words.specs.declared.Job.{Job}
-use Rattle.sz_words.specs.declared.JobMode.{JobMode}
-use Rattle.sz_words.specs.declared.JobMode.TheVariants.{Play, Init, Run, Check, Load}
+use Rattle.sz_words.specs.declared.arguments.JobMode.{JobMode}
+use Rattle.sz_words.specs.declared.arguments.JobMode.TheVariants.{Play, Init, Run, Check, Load}
 
 -- ---- what is asked for
 

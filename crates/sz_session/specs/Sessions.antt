@@ -5,7 +5,7 @@
 -- disk is as before.
 use Rattle.std.specs.Prelude.{◌≡◌, ℕ, ◌+◌, Option, Some, None, List, drop}
 use Rattle.sz_outside.specs.declared.stations.Station.{Ghosts}
-use Rattle.sz_commands.specs.States.{State}
+use Rattle.sz_commands.specs.States.{SessionState}
 use Rattle.sz_commands.specs.Lines.{lines_of}
 use Rattle.sz_feed.specs.Moments.{Moment, cut_after}
 use Rattle.sz_feed.specs.Serving.{Opening, Answered}
@@ -18,7 +18,7 @@ use Rattle.sz_session.specs.declared.serving.Status.{Status}
 use Rattle.sz_session.specs.declared.serving.Status.TheVariants as status
 
 -- a session that opens with this
-abbrev pub opening_of : State → Option (List ℕ) → Option (List ℕ) → Opening
+abbrev pub opening_of : SessionState → Option (List ℕ) → Option (List ℕ) → Opening
 opening_of held left said = record { held = held; left = left; said = said }
 
 -- What a stop finds: of a session of no log a first part of the transcript said, over the disk as
@@ -34,7 +34,7 @@ WritesRest m left total =
     IfSome left (λ bytes. WritesOne m.held (cut_after m (drop total bytes)).whole)
 
 -- one of all lines of its bytes, from what was held as the session began
-abbrev pub WritesLine : State → Option (List ℕ) → Type 0
+abbrev pub WritesLine : SessionState → Option (List ℕ) → Type 0
 WritesLine s left = IfSome left (λ bytes. WritesOne s (lines_of bytes))
 
 -- A turn took in the next so many bytes behind those that were read before, and the lines that end

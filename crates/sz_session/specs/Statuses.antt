@@ -4,7 +4,7 @@ use Rattle.sz_outside.specs.Outside.{Rose, Stood, Says, SaysPart}
 use Rattle.sz_outside.specs.declared.stations.Station.{Ghosts}
 use Rattle.sz_log.specs.declared.LogFault.{LogFault}
 use Rattle.sz_log.specs.declared.LogFault.TheVariants as log
-use Rattle.sz_commands.specs.States.{State}
+use Rattle.sz_commands.specs.States.{SessionState}
 use Rattle.sz_feed.specs.Serving.{Done, SaidOfRead, SaidInPart, SaidInLines, SaidToLimit}
 use Rattle.sz_feed.specs.Making.{ready_line, HasMade, IsSpared, IsSilent}
 use Rattle.sz_session.specs.Checking.{SaysLine, SaysPartOfLine, IsUnlike, IsBadLog}
@@ -67,21 +67,17 @@ is_of_disk _ = false
 
 -- What was read and said by then, for each status that a session of lines ends with.
 abbrev pub Ends :
-    State → Status → ℕ → Option (List ℕ) → Option (List ℕ) → Option (List ℕ) → Option (List ℕ)
+    SessionState → Status → ℕ → Option (List ℕ) → Option (List ℕ) → Option (List ℕ) → Option (List ℕ)
     → Type 0
 Ends c status.Done limit before left said_before said = Done c limit before left said_before said
-Ends c status.Usage limit before left said_before said = ⊥
 Ends c status.ReadFault limit before left said_before said =
     SaidOfRead c before left said_before said
 Ends c status.SayFault limit before left said_before said = SaidInPart c before said_before said
-Ends c status.DiskFault limit before left said_before said = ⊥
-Ends c status.NotALog limit before left said_before said = ⊥
-Ends c status.AlreadyALog limit before left said_before said = ⊥
-Ends c (status.BadLog at) limit before left said_before said = ⊥
 Ends c status.NoMemory limit before left said_before said =
     SaidInLines c before said_before said
 Ends c status.InputLimit limit before left said_before said =
     SaidToLimit c limit before left said_before said
+Ends c _ limit before left said_before said = ⊥
 
 -- No count of faults rose: of reads, of says and of the disk.
 abbrev pub NoneRose : {X : Type 0} → Ghosts X → ℕ → ℕ → X → X → Type 0
@@ -92,7 +88,6 @@ NoneRose T reads_before reads old new = Stood reads_before reads
 -- status that is a fault's comes only where its count rose, and then no other did; and by any other
 -- none rose, want of memory among them.
 abbrev pub AreCounted : {X : Type 0} → Ghosts X → Status → ℕ → ℕ → X → X → Type 0
-AreCounted T status.Done reads_before reads old new = NoneRose T reads_before reads old new
 AreCounted T status.Usage reads_before reads old new = ⊥
 AreCounted T status.ReadFault reads_before reads old new = Rose reads_before reads
     × Stood (T.say_faults old) (T.say_faults new) × Stood (T.disk_faults old) (T.disk_faults new)
@@ -100,14 +95,10 @@ AreCounted T status.SayFault reads_before reads old new = Stood reads_before rea
     × Rose (T.say_faults old) (T.say_faults new) × Stood (T.disk_faults old) (T.disk_faults new)
 AreCounted T status.DiskFault reads_before reads old new = Stood reads_before reads
     × Stood (T.say_faults old) (T.say_faults new) × Rose (T.disk_faults old) (T.disk_faults new)
-AreCounted T status.NotALog reads_before reads old new = NoneRose T reads_before reads old new
-AreCounted T status.AlreadyALog reads_before reads old new = NoneRose T reads_before reads old new
-AreCounted T (status.BadLog at) reads_before reads old new = NoneRose T reads_before reads old new
-AreCounted T status.NoMemory reads_before reads old new = NoneRose T reads_before reads old new
-AreCounted T status.InputLimit reads_before reads old new = NoneRose T reads_before reads old new
+AreCounted T _ reads_before reads old new = NoneRose T reads_before reads old new
 
 -- The same of a session of a log: where its disk failed, what was said is whole replies.
-abbrev pub EndsLines : State → Status → ℕ → Option (List ℕ) → Option (List ℕ)
+abbrev pub EndsLines : SessionState → Status → ℕ → Option (List ℕ) → Option (List ℕ)
     → Option (List ℕ) → Option (List ℕ) → Type 0
 EndsLines c status.DiskFault limit before left said_before said =
     SaidInLines c before said_before said
@@ -116,41 +107,29 @@ EndsLines c s limit before left said_before said = Ends c s limit before left sa
 -- What was said by then of its line, for each status that the generated session ends with.
 abbrev pub SaysSummary : Status → List ℕ → Option (List ℕ) → Option (List ℕ) → Type 0
 SaysSummary status.Done line said_before said = Says said_before said line
-SaysSummary status.Usage line said_before said = ⊥
-SaysSummary status.ReadFault line said_before said = ⊥
 SaysSummary status.SayFault line said_before said = SaysPart said_before said line
-SaysSummary status.DiskFault line said_before said = ⊥
-SaysSummary status.NotALog line said_before said = ⊥
-SaysSummary status.AlreadyALog line said_before said = ⊥
-SaysSummary (status.BadLog at) line said_before said = ⊥
 SaysSummary status.NoMemory line said_before said = Says said_before said []
-SaysSummary status.InputLimit line said_before said = ⊥
+SaysSummary _ line said_before said = ⊥
 
 -- What was said by then, and what the disk was made, for each status that the making of a log ends
 -- with. It takes no memory but for its words, which are read before anything is done.
 abbrev pub MakesLog : {X : Type 0} → Ghosts X → Status → X → X → Type 0
 MakesLog T status.Done old new = HasMade T old new × Says (T.said old) (T.said new) ready_line
-MakesLog T status.Usage old new = ⊥
-MakesLog T status.ReadFault old new = ⊥
 MakesLog T status.SayFault old new = HasMade T old new
     × SaysPart (T.said old) (T.said new) ready_line
 MakesLog T status.DiskFault old new = IsSilent T old new
 MakesLog T status.NotALog old new = IsSilent T old new × IsSpared T log.NotALog old new
 MakesLog T status.AlreadyALog old new = IsSilent T old new × IsSpared T log.AlreadyALog old new
-MakesLog T (status.BadLog at) old new = ⊥
 MakesLog T status.NoMemory old new = new ≡ old
-MakesLog T status.InputLimit old new = ⊥
+MakesLog T _ old new = ⊥
 
 -- What was said by then, and what is known of the log, for each status that the check of one ends
 -- with.
 abbrev pub ChecksLog : {X : Type 0} → Ghosts X → Status → X → X → Type 0
 ChecksLog T status.Done old new = SaysLine T old new
-ChecksLog T status.Usage old new = ⊥
-ChecksLog T status.ReadFault old new = ⊥
 ChecksLog T status.SayFault old new = SaysPartOfLine T old new
 ChecksLog T status.DiskFault old new = IsSilent T old new
 ChecksLog T status.NotALog old new = IsSilent T old new × IsUnlike T old new
-ChecksLog T status.AlreadyALog old new = ⊥
 ChecksLog T (status.BadLog at) old new = IsSilent T old new × IsBadLog T at old new
 ChecksLog T status.NoMemory old new = IsSilent T old new
-ChecksLog T status.InputLimit old new = ⊥
+ChecksLog T _ old new = ⊥

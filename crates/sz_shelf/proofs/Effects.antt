@@ -25,7 +25,7 @@ use Rattle.sz_shelf.specs.Rules.{flag_in}
 use Rattle.sz_shelf.specs.Steps.{IsTry, IsTaking, IsCounting, IsGiving, IsReleasing, IsLoad, after_count, after_split}
 use Rattle.sz_shelf.specs.Steps.{parted_view, after_join}
 use Rattle.sz_shelf.specs.Changes.{IsWon, IsLost, IsTaken, IsCounted, IsGiven, IsReleased, IsLoaded}
-use Rattle.sz_shelf.specs.Changes.{OneView, WinsOrLoses, Takes, Counts, Gives, Releases, Loads, Splits, Joins}
+use Rattle.sz_shelf.specs.Changes.{OneView, WinsOrLoses, Takes, Counts, GivesBack, Releases, Loads, Splits, Joins}
 use Rattle.sz_shelf.proofs.Lists.{set_there, two-of}
 use Rattle.sz_shelf.proofs.Slots.{first-out}
 
@@ -201,7 +201,7 @@ counts-change t slots id count found m n s u st is =
           }) is.grows;
     }
 
-pub gives-change : Gives (λ st m _ n. IsGiving st m n)
+pub gives-change : GivesBack (λ st m _ n. IsGiving st m n)
 unfolding Whole
 gives-change t slots id found m n s u st is =
     let c : Contents = contents m.0.tag m.0.seen m.0.saw in

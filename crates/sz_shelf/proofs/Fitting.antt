@@ -9,9 +9,9 @@ use Rattle.sz_spec.specs.declared.modes.Mode.TheVariants as mode
 use Rattle.sz_spec.specs.declared.modes.Strategy.{Strategy}
 use Rattle.sz_spec.specs.Values.{Grid}
 use Rattle.sz_spec.specs.Shapes.{Site}
-use Rattle.sz_region.specs.Parts.{Pairing, Entry, Parts}
-use Rattle.sz_region.specs.Fits.{IsRegion, IsEntry, needs}
-use Rattle.sz_region.specs.Images.{measure_of}
+use Rattle.sz_frame.specs.Parts.{Pairing, Entry, Parts}
+use Rattle.sz_frame.specs.Fits.{IsRegion, IsEntry, needs}
+use Rattle.sz_frame.specs.Images.{measure_of}
 use Rattle.sz_store.specs.Kept.{shapes_of, IsPartFor}
 use Rattle.sz_shelf.specs.Fitting.{FitsAsNeeded, FittingLineagesFitAsNeeded, NeededPartsCanBePlaced}
 

@@ -24,10 +24,10 @@ use Rattle.sz_spec.specs.Values.{Grid}
 use Rattle.sz_spec.specs.Shapes.{Site}
 use Rattle.sz_spec.specs.Modes.{mode_of, is_stored}
 use Rattle.sz_spec.specs.Pieces.{pieces_of, is_in_piece}
-use Rattle.sz_region.specs.Parts.{Pairing, Entry, Parts}
-use Rattle.sz_region.specs.Fits.{StandsOn, IsRegion, IsEntry, needs, is_mode}
-use Rattle.sz_region.specs.Images.{measure_of}
-use Rattle.sz_region.specs.Laws.{IsTheRelation}
+use Rattle.sz_frame.specs.Parts.{Pairing, Entry, Parts}
+use Rattle.sz_frame.specs.Fits.{StandsOn, IsRegion, IsEntry, needs, is_mode}
+use Rattle.sz_frame.specs.Images.{measure_of}
+use Rattle.sz_frame.specs.Laws.{IsTheRelation}
 use Rattle.sz_store.specs.Kept.{Holding, regions, entries, NodeLineage, with_part, keep_with, with_lineage}
 use Rattle.sz_store.specs.Kept.{with_lineages, empty_keep, no_lineage, stored_in, nothing_for, is_placed}
 use Rattle.sz_store.specs.Kept.{holding_stands, is_whole}

@@ -17,8 +17,8 @@ use Rattle.sz_spec.specs.declared.modes.Strategy.{Strategy}
 use Rattle.sz_spec.specs.Values.{extent_at}
 use Rattle.sz_spec.specs.Pieces.{is_in_piece}
 use Rattle.sz_spec.specs.Sides.{near_side}
-use Rattle.sz_region.proofs.Added.{any-filter}
-use Rattle.sz_region.proofs.Passing.{any-map, any-ext}
+use Rattle.sz_frame.proofs.Added.{any-filter}
+use Rattle.sz_frame.proofs.Passing.{any-map, any-ext}
 use Rattle.sz_core.specs.declared.pairs.Pair.{Pair}
 use Rattle.sz_core.specs.Events.{after_look}
 use Rattle.sz_core.specs.Images.{say}
@@ -230,7 +230,8 @@ done-sealed s n found true is = refl
 done-sealed s n found false is = absurd (true≢false (ap is-done is))
 
 -- holds what the machine's ask holds
-pub looked-cells : (t : Tag) (u : Strategy) (found : List ℕ) (sealed : Bool) (dir : Dir) (i : ℕ) (from to new : Cells) (r : Look)
+pub looked-cells : (t : Tag) (u : Strategy) (found : List ℕ) (sealed : Bool) (dir : Dir) (i : ℕ)
+    → (from to new : Cells) (r : Look)
     → (sealed ≡ true → missing_in (tag_pieces t) found ≡ None) → i < length t.site.ins
     → from ≡ cells_where from.extent (has from) → from.extent ≡ near_side dir t.site i
     → r ≡ look_answer u (tag_pieces t) found sealed

@@ -3,7 +3,7 @@ use Rattle.std.proofs.Common.{◌≡◌, ℕ, List, [], ◌∷◌, sym, ap, ◌�
 use Rattle.atomic_table.specs.Table.{rest}
 use Rattle.atomic_table.specs.Seated.{TableId}
 use Rattle.sz_shelf.specs.Contents.{Contents}
-use Rattle.sz_shelf.specs.Places.{Place}
+use Rattle.sz_shelf.specs.Places.{ShelfPlace}
 
 -- the store that is out first, or another where none is
 abbrev pub first-out : Contents → List (ℕ × Contents) → Contents
@@ -21,5 +21,5 @@ pub out-now : (l : List (ℕ × Contents)) (c d : Contents) → l ≡ (0, c) ∷
 out-now l c d is = ap (λ (k : List (ℕ × Contents)). (0, d) ∷ rest k) is
 
 -- a seat of a shelf's table is one of the table inside it
-pub table-is : {z : TableId} {p q : Place} → z ≡ q.table → p ≡ q → z ≡ p.table
-table-is own is = own ∙ sym (ap (λ (x : Place). x.table) is)
+pub table-is : {z : TableId} {p q : ShelfPlace} → z ≡ q.table → p ≡ q → z ≡ p.table
+table-is own is = own ∙ sym (ap (λ (x : ShelfPlace). x.table) is)

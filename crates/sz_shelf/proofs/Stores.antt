@@ -22,11 +22,11 @@ use Rattle.sz_spec.specs.Shapes.{Site}
 use Rattle.sz_spec.specs.Modes.{number_of, is_stored, is_listed}
 use Rattle.sz_spec.specs.Pieces.{pieces_of}
 use Rattle.sz_spec.specs.Sides.{near_side, image_in}
-use Rattle.sz_region.specs.Parts.{Parts}
+use Rattle.sz_frame.specs.Parts.{Parts}
 use Rattle.sz_shelf.specs.Fitting.{FitsAsNeeded}
-use Rattle.sz_region.specs.Images.{measure_of}
-use Rattle.sz_region.specs.Laws.{IsTheRelation}
-use Rattle.sz_region.proofs.Passing.{any-map}
+use Rattle.sz_frame.specs.Images.{measure_of}
+use Rattle.sz_frame.specs.Laws.{IsTheRelation}
+use Rattle.sz_frame.proofs.Passing.{any-map}
 use Rattle.sz_store.specs.Kept.{Holding, regions, entries, Keep, NodeLineage, keep_with, with_lineage, with_lineages}
 use Rattle.sz_store.specs.Kept.{empty_keep, no_lineage, stored_in, is_placed, holding_for, holding_stands}
 use Rattle.sz_store.proofs.Parting.{holding_has, or-cases, stands-old}

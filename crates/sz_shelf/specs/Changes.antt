@@ -183,8 +183,8 @@ Counts kind = (t : Tag) (slots id count found : ℕ) (m n : Own) (s u : Table)
     → IsStep t 1 count id m n s u → kind (step slots 1 count 0 none) m found n
     → IsCounted id m.0 n.0 s u
 
-abbrev pub Gives : Kind → Type 0
-Gives kind = (t : Tag) (slots id found : ℕ) (m n : Own) (s u : Table)
+abbrev pub GivesBack : Kind → Type 0
+GivesBack kind = (t : Tag) (slots id found : ℕ) (m n : Own) (s u : Table)
     → IsStep t 1 (count_in s) id m n s u → kind (step slots 1 0 0 none) m found n
     → IsGiven id m.0 n.0 s u
 

@@ -5,9 +5,9 @@ use Rattle.sz_spec.specs.declared.modes.Strategy.{Strategy}
 use Rattle.sz_spec.specs.Values.{Grid}
 use Rattle.sz_spec.specs.Shapes.{Site}
 use Rattle.sz_spec.specs.Pieces.{pieces_of}
-use Rattle.sz_region.specs.Parts.{Parts}
-use Rattle.sz_region.specs.Fits.{Measure, Fits, FitsFull, FitsPay, FitsComp, needs}
-use Rattle.sz_region.specs.Images.{measure_of}
+use Rattle.sz_frame.specs.Parts.{Parts}
+use Rattle.sz_frame.specs.Fits.{Measure, Fits, FitsFull, FitsPay, FitsComp, needs}
+use Rattle.sz_frame.specs.Images.{measure_of}
 use Rattle.sz_store.specs.Kept.{AreParts}
 
 -- Each part that a list needs fits piece k. What a lineage has beside them is not asked.

@@ -7,7 +7,7 @@ use Rattle.std.specs.Prelude.{Option, Some, None}
 use Rattle.std.specs.List.{filter, slice_index_or}
 use Rattle.std.specs.Arc.{arc_value}
 use Rattle.sz_spec.specs.Pieces.{pieces_of}
-use Rattle.sz_region.specs.Parts.{Parts}
+use Rattle.sz_frame.specs.Parts.{Parts}
 use Rattle.sz_store.specs.Kept.{NodeLineage, AreParts, no_lineage, with_lineage, with_lineages}
 use Rattle.sz_shelf.specs.Fitting.{AllFitAsNeeded}
 use Rattle.sz_shelf.specs.Tags.{Tag, IsTag, StandsFor, tag_pieces}

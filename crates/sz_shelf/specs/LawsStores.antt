@@ -5,9 +5,9 @@ use Rattle.sz_spec.specs.declared.modes.Dir.{Dir}
 use Rattle.sz_spec.specs.declared.modes.Strategy.{Strategy}
 use Rattle.sz_spec.specs.Modes.{is_listed, is_stored}
 use Rattle.sz_spec.specs.Sides.{near_side, image_in}
-use Rattle.sz_region.specs.Parts.{Parts}
-use Rattle.sz_region.specs.Images.{measure_of}
-use Rattle.sz_region.specs.Laws.{IsTheRelation}
+use Rattle.sz_frame.specs.Parts.{Parts}
+use Rattle.sz_frame.specs.Images.{measure_of}
+use Rattle.sz_frame.specs.Laws.{IsTheRelation}
 use Rattle.sz_store.specs.Kept.{NodeLineage, no_lineage, with_lineages, holding_for, holding_stands}
 use Rattle.sz_shelf.specs.Fitting.{AllFitAsNeeded}
 use Rattle.sz_shelf.specs.Tags.{Tag, StandsFor, tag_pieces, tag_image}

@@ -4,7 +4,7 @@ use Rattle.atomic_table.specs.Seated.{TableId}
 use Rattle.sz_store.specs.Kept.{NodeLineage}
 use Rattle.sz_shelf.specs.Tags.{Tag, tag_pieces}
 use Rattle.sz_shelf.specs.Contents.{missing_in}
-use Rattle.sz_shelf.specs.Places.{Place}
+use Rattle.sz_shelf.specs.Places.{ShelfPlace}
 use Rattle.sz_shelf.specs.Rule.{Begins, ArePieces, first_view}
 use Rattle.sz_shelf.specs.declared.rule.View.{View}
 
@@ -40,11 +40,11 @@ onlooker z v kept = record {
 }
 
 -- the shelf that a pass is of
-abbrev pub place_of : Onlooker → Place
+abbrev pub place_of : Onlooker → ShelfPlace
 place_of p = record { table = p.table; tag = p.tag }
 
 -- who has seen nothing
-abbrev pub newcomer : Place → Onlooker
+abbrev pub newcomer : ShelfPlace → Onlooker
 newcomer z = onlooker z.table (first_view z.tag) None
 
 -- a pass once one more was split off it, and the one that was: it has seen and keeps the same, and

@@ -4,8 +4,8 @@ use Rattle.sz_cells.specs.declared.Cell.{Cell}
 use Rattle.sz_cells.specs.Extent.{holds, index_of}
 use Rattle.sz_spec.specs.Shapes.{Site}
 use Rattle.sz_spec.specs.Lineage.{mapped}
-use Rattle.sz_region.specs.Fits.{StandsOn}
-use Rattle.sz_region.specs.Images.{measure_of}
+use Rattle.sz_frame.specs.Fits.{StandsOn}
+use Rattle.sz_frame.specs.Images.{measure_of}
 use Rattle.sz_store.specs.Kept.{Holding, regions, entries, NodeLineage, holding_stands, stored_in}
 use Rattle.sz_shelf.specs.Tags.{Tag}
 use Rattle.sz_shelf.specs.Contents.{is_in}

@@ -2,6 +2,6 @@
 use Rattle.atomic_table.specs.Seated.{TableId}
 use Rattle.sz_shelf.specs.Tags.{Tag}
 
-pub record Place : Type 0 where
+pub record ShelfPlace : Type 0 where
   pub table : TableId
   pub tag : Tag

@@ -11,8 +11,8 @@ use Rattle.sz_spec.specs.Modes.{supports, is_stored}
 use Rattle.sz_spec.specs.Lineage.{related}
 use Rattle.sz_spec.specs.Sides.{image_in}
 use Rattle.sz_spec.specs.Pieces.{pieces_of}
-use Rattle.sz_region.specs.Images.{measure_of}
-use Rattle.sz_region.specs.Laws.{IsTheRelation}
+use Rattle.sz_frame.specs.Images.{measure_of}
+use Rattle.sz_frame.specs.Laws.{IsTheRelation}
 use Rattle.sz_store.specs.Kept.{NodeLineage, holding_stands, is_whole, stored_in}
 
 -- the operator at its shapes, the arrays that it takes, and the list of its strategies

@@ -8,13 +8,13 @@ ghost use Rattle.std.specs.Prelude.{◌≡◌, ℕ};
 ghost use Rattle.sz_shelf.specs.Rule.{Table, first_view};
 ghost use Rattle.sz_shelf.specs.Rules.{Rules};
 ghost use Rattle.sz_shelf.specs.Changes.{WinsOrLoses, Takes as TakesStore, Counts as CountsOne};
-ghost use Rattle.sz_shelf.specs.Changes.{Gives as GivesStore, Releases as EndsTurn};
+ghost use Rattle.sz_shelf.specs.Changes.{GivesBack as GivesStoreBack, Releases as EndsTurn};
 ghost use Rattle.sz_shelf.specs.Changes.{Loads as LoadsCount, Splits, Joins};
 ghost use Rattle.std.specs.declared.snapshot.Snapshot.{Snapshot};
 ghost use Rattle.sz_shelf.specs.declared.tag.TagParts.{TagParts};
 
 use crate::rule::{
-    Copies, Counts, Gives, Loads, OneAtATime, Releases, Takes, TakesBoth, Tries, View,
+    Copies, Counts, GivesBack, Loads, OneAtATime, Releases, Takes, TakesBoth, Tries, View,
 };
 use crate::shelved::Shelved;
 use crate::tag::TagParts;
@@ -49,7 +49,7 @@ pub fn counts_grow()
 
 /// A give is a load of the count, with which the store goes back as the seat has seen it.
 pub fn gives_bring_the_store_back()
-    ensures { GivesStore ⟦<Gives as Play<Shelved, View>>⟧.then }
+    ensures { GivesStoreBack ⟦<GivesBack as Play<Shelved, View>>⟧.then }
 {}
 
 /// A release is a store of 0 to the flag, with which the turn ends.

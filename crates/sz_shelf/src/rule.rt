@@ -65,9 +65,9 @@ impl Play<Shelved, View> for Counts {
 }
 
 /// A load of the count, with which the store goes back to its slot.
-pub struct Gives;
+pub struct GivesBack;
 
-impl Play<Shelved, View> for Gives {
+impl Play<Shelved, View> for GivesBack {
     ghost then = { λ st m _ n. IsGiving st m n };
 }
 

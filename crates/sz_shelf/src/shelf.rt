@@ -8,7 +8,7 @@ ghost use Rattle.sz_cells.specs.Cells.{has, with_those};
 ghost use Rattle.sz_spec.specs.Modes.{is_listed, is_stored};
 ghost use Rattle.sz_spec.specs.Sides.{near_side, far_side};
 ghost use Rattle.sz_shelf.specs.Fitting.{FitsAsNeeded};
-ghost use Rattle.sz_region.specs.Images.{measure_of};
+ghost use Rattle.sz_frame.specs.Images.{measure_of};
 ghost use Rattle.sz_core.specs.Events.{place_reply, after_place, seal_reply, after_seal};
 ghost use Rattle.sz_core.specs.Events.{look_reply, after_look};
 ghost use Rattle.sz_shelf.specs.Machine.{found_shelf, left_shelf, first_step};
@@ -31,7 +31,7 @@ use std::snapshot::Snapshot;
 use std::sync::{Arc, Wait};
 use sz_cells::laws::a_bitmap_is_its_cells;
 use sz_cells::{CellBits, NoMemory};
-use sz_region::PieceLineage;
+use sz_frame::PieceLineage;
 use sz_spec::{Array, Dir, OpAt, Strategy};
 use sz_store::NodeStore;
 
@@ -43,9 +43,9 @@ pub struct Shelf {
 }
 
 impl Model for Shelf {
-    ghost use Rattle.sz_shelf.specs.Places.{Place};
+    ghost use Rattle.sz_shelf.specs.Places.{ShelfPlace};
 
-    ghost Value = { Place };
+    ghost Value = { ShelfPlace };
 
     ghost view = { λ s. s.words };
 }

@@ -12,7 +12,7 @@ ghost use Rattle.sz_cells.specs.Cells.{has, with_those};
 ghost use Rattle.sz_spec.specs.Modes.{is_listed, is_stored};
 ghost use Rattle.sz_spec.specs.Sides.{near_side, far_side};
 ghost use Rattle.sz_shelf.specs.Fitting.{FitsAsNeeded};
-ghost use Rattle.sz_region.specs.Images.{measure_of};
+ghost use Rattle.sz_frame.specs.Images.{measure_of};
 ghost use Rattle.sz_shelf.specs.Tags.{IsTag, StandsFor, tag_pieces, tag_image};
 ghost use Rattle.sz_shelf.specs.Placed.{StandsOnPlaced};
 ghost use Rattle.sz_shelf.specs.Contents.{is_in, missing_in, least_missing};
@@ -27,7 +27,7 @@ use std::snapshot::Snapshot;
 use std::sync::Arc;
 use sz_cells::laws::a_bitmap_is_its_cells;
 use sz_cells::{CellBits, NoMemory};
-use sz_region::PieceLineage;
+use sz_frame::PieceLineage;
 use sz_spec::{Dir, Strategy, pieces_of};
 use sz_store::NodeStore;
 

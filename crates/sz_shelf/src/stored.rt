@@ -7,7 +7,7 @@ ghost use Rattle.sz_shelf.specs.Keeping.{store_in, IsThere, CanTake, with_more, 
 use std::alloc::{AllocFailed, Global};
 use std::sync::Arc;
 use sz_cells::NoMemory;
-use sz_region::PieceLineage;
+use sz_frame::PieceLineage;
 use sz_store::NodeStore;
 
 /// The stores of a node, in one of two forms.

@@ -8,7 +8,7 @@ ghost use Rattle.sz_cells.specs.Cells.{has, with_those};
 ghost use Rattle.sz_spec.specs.Modes.{is_listed, is_stored};
 ghost use Rattle.sz_spec.specs.Sides.{near_side, far_side};
 ghost use Rattle.sz_shelf.specs.Fitting.{FitsAsNeeded};
-ghost use Rattle.sz_region.specs.Images.{measure_of};
+ghost use Rattle.sz_frame.specs.Images.{measure_of};
 ghost use Rattle.sz_shelf.specs.Tags.{StandsFor, tag_pieces, tag_image};
 ghost use Rattle.sz_shelf.specs.Contents.{missing_in};
 ghost use Rattle.sz_shelf.specs.Rule.{first_view, last_of, count_of, contents};
@@ -22,7 +22,7 @@ ghost use Rattle.sz_shelf.specs.declared.rule.Stage.TheVariants.{StoreOut};
 
 use crate::answers::{Look, Placed, SealReply};
 use crate::rule::{
-    Copies, Counts, Gives, Loads, OneAtATime, Releases, Takes, TakesBoth, Tries, View,
+    Copies, Counts, GivesBack, Loads, OneAtATime, Releases, Takes, TakesBoth, Tries, View,
 };
 use crate::shelved::Shelved;
 use crate::tag::TagParts;
@@ -33,7 +33,7 @@ use std::snapshot::Snapshot;
 use std::sync::{Arc, Wait};
 use std::thread;
 use sz_cells::{CellBits, NoMemory};
-use sz_region::PieceLineage;
+use sz_frame::PieceLineage;
 use sz_spec::{Dir, Strategy};
 use sz_store::NodeStore;
 
@@ -54,9 +54,9 @@ pub struct Words {
 
 impl Model for Words {
     ghost use Rattle.sz_shelf.specs.Rule.{last_of};
-    ghost use Rattle.sz_shelf.specs.Places.{Place};
+    ghost use Rattle.sz_shelf.specs.Places.{ShelfPlace};
 
-    ghost Value = { Place };
+    ghost Value = { ShelfPlace };
 
     ghost view = { λ w. record {
       table = w.table.shared.table_id;
@@ -131,7 +131,7 @@ impl Words {
         ensures own { seat.new.table_id ≡ seat.old.table_id }
         ensures gave { seat.new.me ≡ (after_win seat.old.me.0, []) }
     {
-        self.table.shared.load::<Gives>(seat, COUNT);
+        self.table.shared.load::<GivesBack>(seat, COUNT);
     }
 
     /// One store to the flag. The turn has ended.

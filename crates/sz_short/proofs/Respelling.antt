@@ -17,7 +17,7 @@ use Rattle.sz_cells.proofs.LawsOfSets.{split-same, bytes-one}
 use Rattle.sz_spec.specs.Values.{extent_at, no_extent}
 use Rattle.sz_region.specs.declared.set_bytes.Take.{Take}
 use Rattle.sz_region.specs.declared.set_bytes.Take.TheVariants.{Bad, NoMemory}
-use Rattle.sz_region.specs.Parts.{Pairing}
+use Rattle.sz_frame.specs.Parts.{Pairing}
 use Rattle.sz_region.specs.Counted.{counted, rows_bytes, IsAt}
 use Rattle.sz_region.specs.FullBytes.{Listed, IsListed, listed_of, AreNamesOf, BeginsRegions}
 use Rattle.sz_region.specs.Taking.{NoneBegins, SaysNoneBegins}

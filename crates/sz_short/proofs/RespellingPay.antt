@@ -11,7 +11,7 @@ use Rattle.std.proofs.lemmas.List.Elements.{All-nil, All-cons}
 use Rattle.sz_cells.specs.Extent.{Extent, is_extent}
 use Rattle.sz_cells.specs.Cells.{Cells}
 use Rattle.sz_cells.specs.SetBytes.{IsSetOf, set_bytes, four_bytes}
-use Rattle.sz_region.specs.Parts.{Entry}
+use Rattle.sz_frame.specs.Parts.{Entry}
 use Rattle.sz_region.specs.Counted.{counted, rows_bytes, IsAt}
 use Rattle.sz_region.specs.PayBytes.{IsShort, payload_bytes, AreNamesOfEntry, BeginsEntries}
 use Rattle.sz_region.specs.Stores.{NoneAt, AreFew, NoEntriesBegin}

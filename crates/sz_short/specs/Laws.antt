@@ -4,7 +4,7 @@ use Rattle.std.specs.Prelude.{◌≡◌, ◌↔◌, ℕ, ◌+◌, ◌^◌, ◌<�
 use Rattle.sz_cells.specs.Extent.{Extent, is_extent}
 use Rattle.sz_cells.specs.Cells.{Cells}
 use Rattle.sz_cells.specs.SetBytes.{IsSetOf, set_bytes}
-use Rattle.sz_region.specs.Parts.{Pairing, Entry}
+use Rattle.sz_frame.specs.Parts.{Pairing, Entry}
 use Rattle.sz_region.specs.FullBytes.{BeginsRegions}
 use Rattle.sz_region.specs.PayBytes.{BeginsEntries}
 use Rattle.sz_short.specs.ShortNumber.{short_number, number_spelled, IsShortSpelling}

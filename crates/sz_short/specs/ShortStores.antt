@@ -7,8 +7,8 @@ use Rattle.sz_cells.specs.Cells.{Cells}
 use Rattle.sz_cells.specs.SetBytes.{IsSetOf, four_bytes}
 use Rattle.sz_region.specs.declared.set_bytes.Take.{Take}
 use Rattle.sz_region.specs.declared.set_bytes.Take.TheVariants.{Bad, NoMemory}
-use Rattle.sz_region.specs.Parts.{Pairing, Entry}
-use Rattle.sz_region.specs.Fits.{AreApart}
+use Rattle.sz_frame.specs.Parts.{Pairing, Entry}
+use Rattle.sz_frame.specs.Fits.{AreApart}
 use Rattle.sz_region.specs.Counted.{counted, rows_bytes, IsAt}
 use Rattle.sz_region.specs.FullBytes.{Listed, IsListed, AreNamesOf}
 use Rattle.sz_region.specs.PayBytes.{IsShort, payload_bytes, AreNamesOfEntry}

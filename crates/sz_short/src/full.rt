@@ -8,7 +8,7 @@ ghost use Rattle.sz_cells.specs.SetBytes.{set_bytes};
 ghost use Rattle.sz_spec.specs.Values.{extent_at};
 ghost use Rattle.sz_region.specs.Counted.{IsAt, counted};
 ghost use Rattle.sz_region.specs.FullBytes.{Listed, IsListed, BeginsRegions};
-ghost use Rattle.sz_region.specs.Parts.{Pairing};
+ghost use Rattle.sz_frame.specs.Parts.{Pairing};
 ghost use Rattle.sz_region.specs.Stores.{OnBad, NoneAt, AreFew, NoRegionsBegin, SaysNoRegions};
 ghost use Rattle.sz_short.specs.ShortSets.{short_set_bytes};
 ghost use Rattle.sz_short.specs.ShortStores.{listed_by, RespellsFull, SaysNoShortFull};

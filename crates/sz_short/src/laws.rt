@@ -28,7 +28,7 @@ pub fn written_short_sets_are_read()
     ensures { WrittenShortSetsAreRead }
 {}
 
-/// Where its sets have eight bytes a run, a store by its parts is a store as `sz_region` defines
+/// Where its sets have eight bytes a run, a store by its parts is a store as `sz_frame` defines
 /// it.
 pub fn long_stores_are_stores()
     ensures full { LongFullIsFull }

@@ -18,7 +18,7 @@
 //! To whoever changes this crate: a short number is its lowest seven bits and, where there are
 //! more, the short number of the rest, so `specs/ShortNumber` and the code go down by one byte at a
 //! time. A store is spelled again part by part, and the one of both forms that has no short sets is
-//! judged by the readers of `sz_region`, so which stores there are is said there alone.
+//! judged by the readers of `sz_frame`, so which stores there are is said there alone.
 #![tactic(auto)]
 
 mod full;

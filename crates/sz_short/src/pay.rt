@@ -7,7 +7,7 @@ ghost use Rattle.sz_cells.specs.Cells.{Cells};
 ghost use Rattle.sz_cells.specs.Extent.{is_extent};
 ghost use Rattle.sz_cells.specs.SetBytes.{set_bytes, IsSetOf};
 ghost use Rattle.sz_region.specs.Counted.{IsAt, counted};
-ghost use Rattle.sz_region.specs.Parts.{Entry};
+ghost use Rattle.sz_frame.specs.Parts.{Entry};
 ghost use Rattle.sz_region.specs.PayBytes.{BeginsEntries};
 ghost use Rattle.sz_region.specs.Stores.{OnBad, NoneAt, AreFew, NoEntriesBegin, SaysNoEntries};
 ghost use Rattle.sz_short.specs.ShortSets.{short_set_bytes};

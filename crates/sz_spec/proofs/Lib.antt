@@ -22,7 +22,6 @@ pub mod PayloadLineage
 pub mod Dependence
 pub mod Chains
 pub mod FlowDependence
-mod RowsChoices
 mod RowsKinds
 mod RowsAffected
 mod RowsSupports

@@ -24,4 +24,3 @@ pub mod LawsDependence
 pub mod Supports
 pub mod Affected
 pub mod Kinds
-pub mod Choices

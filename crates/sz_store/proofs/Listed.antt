@@ -11,9 +11,9 @@ use Rattle.sz_spec.specs.declared.modes.Strategy.{Strategy}
 use Rattle.sz_spec.specs.declared.modes.Strategy.TheVariants as strategy
 use Rattle.sz_spec.specs.Modes.{number_of, is_stored, is_listed}
 use Rattle.sz_spec.specs.Shapes.{Site}
-use Rattle.sz_region.specs.Parts.{Parts}
+use Rattle.sz_frame.specs.Parts.{Parts}
 use Rattle.sz_region.specs.LawsStores.{AreRight}
-use Rattle.sz_region.proofs.Passing.{any-map}
+use Rattle.sz_frame.proofs.Passing.{any-map}
 use Rattle.sz_store.specs.Kept.{Keep, keep_with, holding_for, stored_in}
 use Rattle.sz_store.specs.Stocks.{stock_of, keep_of}
 use Rattle.sz_store.specs.Words.{IsWordOf, AreWordsOf, BeginEach, NoneBegin}

@@ -16,9 +16,9 @@ use Rattle.sz_spec.specs.Shapes.{Site}
 use Rattle.sz_spec.specs.Lineage.{mapped}
 use Rattle.sz_spec.specs.Payloads.{mapped_by_payload}
 use Rattle.sz_spec.specs.Pieces.{is_in_piece}
-use Rattle.sz_region.specs.Parts.{Pairing, Entry, Parts}
-use Rattle.sz_region.specs.Stands.{set_of, has_entry, pay_stands}
-use Rattle.sz_region.specs.Fits.{AreApart}
+use Rattle.sz_frame.specs.Parts.{Pairing, Entry, Parts}
+use Rattle.sz_frame.specs.Stands.{set_of, has_entry, pay_stands}
+use Rattle.sz_frame.specs.Fits.{AreApart}
 use Rattle.sz_payload.specs.Kept.{entries_stand, part_of}
 use Rattle.sz_store.specs.Kept.{Holding, regions, entries, with_part, holding_stands}
 

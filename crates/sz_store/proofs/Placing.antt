@@ -25,17 +25,17 @@ use Rattle.sz_spec.specs.declared.modes.Strategy.TheVariants as strategy
 use Rattle.sz_spec.specs.Shapes.{Site}
 use Rattle.sz_spec.specs.Modes.{mode_of, is_stored, supports}
 use Rattle.sz_spec.specs.Pieces.{pieces_of, is_in_piece}
-use Rattle.sz_region.specs.Parts.{Pairing, Entry, Parts}
-use Rattle.sz_region.specs.Stands.{has_entry}
-use Rattle.sz_region.specs.Fits.{IsRegion, IsEntry, AreApart, needs, is_mode}
+use Rattle.sz_frame.specs.Parts.{Pairing, Entry, Parts}
+use Rattle.sz_frame.specs.Stands.{has_entry}
+use Rattle.sz_frame.specs.Fits.{IsRegion, IsEntry, AreApart, needs, is_mode}
 use Rattle.sz_region.specs.PayBytes.{IsPayWord, AreNamesOfEntry}
 use Rattle.sz_tables.specs.Stores.{IsPairOf, most_given}
 use Rattle.sz_store.specs.Kept.{Holding, regions, entries, Keep, with_part, keep_with, is_placed}
 use Rattle.sz_store.specs.Kept.{empty_keep, stored_in, nothing_for, shapes_of, AreEntriesOf, AreParts, IsPartFor}
 use Rattle.sz_store.specs.Stocks.{stock_of, keep_of, site_of, mode_in, count_in, more_in, CanGrow, IsPartOf}
 use Rattle.sz_payload.specs.Kept.{IsEntryOf, part_of}
-use Rattle.sz_region.specs.Fits.{Fits}
-use Rattle.sz_region.specs.Images.{measure_of}
+use Rattle.sz_frame.specs.Fits.{Fits}
+use Rattle.sz_frame.specs.Images.{measure_of}
 use Rattle.sz_spec.specs.Values.{Grid}
 use Rattle.sz_store.specs.Laws.{FittingLineagesCanBePlaced}
 use Rattle.sz_store.specs.Stocked.{AreOfPlaced, IsStocked, AreStocked}

@@ -19,7 +19,7 @@ use Rattle.sz_spec.specs.Modes.{mode_of}
 use Rattle.sz_region.specs.LawsStores.{AreRight}
 use Rattle.sz_region.proofs.FullStores.{regions-one, regions-read}
 use Rattle.sz_region.proofs.PayStores.{entries-one}
-use Rattle.sz_region.specs.Parts.{Entry}
+use Rattle.sz_frame.specs.Parts.{Entry}
 use Rattle.sz_region.specs.PayBytes.{BeginsEntries, IsPayWord}
 use Rattle.sz_region.specs.declared.set_bytes.Take.{Take}
 use Rattle.sz_region.specs.declared.set_bytes.Take.TheVariants.{Bad, NoMemory}

@@ -11,10 +11,10 @@ use Rattle.sz_spec.specs.declared.modes.Strategy.{Strategy}
 use Rattle.sz_spec.specs.Shapes.{Site}
 use Rattle.sz_spec.specs.Modes.{mode_of, is_stored, number_of}
 use Rattle.sz_spec.specs.Pieces.{pieces_of}
-use Rattle.sz_region.specs.Parts.{Pairing, Entry, Parts}
-use Rattle.sz_region.specs.Stands.{full_stands}
-use Rattle.sz_region.specs.Fits.{Measure, IsRegion, IsEntry, AreApart, needs}
-use Rattle.sz_region.specs.Images.{measure_of}
+use Rattle.sz_frame.specs.Parts.{Pairing, Entry, Parts}
+use Rattle.sz_frame.specs.Stands.{full_stands}
+use Rattle.sz_frame.specs.Fits.{Measure, IsRegion, IsEntry, AreApart, needs}
+use Rattle.sz_frame.specs.Images.{measure_of}
 use Rattle.sz_payload.specs.Kept.{entries_stand, part_of}
 
 -- what a store keeps: region pairs; or entries, for payload lineage, or where the flag is true for

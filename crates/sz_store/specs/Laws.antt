@@ -5,10 +5,10 @@ use Rattle.sz_spec.specs.declared.modes.Strategy.{Strategy}
 use Rattle.sz_spec.specs.Values.{Grid}
 use Rattle.sz_spec.specs.Shapes.{Site}
 use Rattle.sz_spec.specs.Pieces.{pieces_of}
-use Rattle.sz_region.specs.Parts.{Parts}
-use Rattle.sz_region.specs.Fits.{Fits}
-use Rattle.sz_region.specs.Images.{measure_of}
-use Rattle.sz_region.specs.Laws.{IsTheRelation}
+use Rattle.sz_frame.specs.Parts.{Parts}
+use Rattle.sz_frame.specs.Fits.{Fits}
+use Rattle.sz_frame.specs.Images.{measure_of}
+use Rattle.sz_frame.specs.Laws.{IsTheRelation}
 use Rattle.sz_region.specs.LawsStores.{AreRight}
 use Rattle.sz_store.specs.Kept.{Keep, no_lineage, with_lineages, is_whole}
 use Rattle.sz_store.specs.Kept.{holding_stands, AreParts}

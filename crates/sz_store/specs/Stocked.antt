@@ -6,8 +6,8 @@ use Rattle.sz_spec.specs.declared.modes.Strategy.{Strategy}
 use Rattle.sz_spec.specs.Shapes.{Site}
 use Rattle.sz_spec.specs.Modes.{supports}
 use Rattle.sz_spec.specs.Pieces.{pieces_of}
-use Rattle.sz_region.specs.Fits.{AreApart}
-use Rattle.sz_region.specs.Stands.{has_entry}
+use Rattle.sz_frame.specs.Fits.{AreApart}
+use Rattle.sz_frame.specs.Stands.{has_entry}
 use Rattle.sz_tables.specs.Stores.{most_given}
 use Rattle.sz_store.specs.Kept.{Holding, regions, entries, Keep, stored_in, is_placed}
 use Rattle.sz_store.specs.Stocks.{IsOfItsMode, count_in}

@@ -4,8 +4,8 @@ use Rattle.sz_spec.specs.declared.modes.Mode.{Mode}
 use Rattle.sz_spec.specs.declared.modes.Mode.TheVariants as mode
 use Rattle.sz_spec.specs.Shapes.{Site}
 use Rattle.sz_spec.specs.Modes.{mode_of}
-use Rattle.sz_region.specs.Parts.{Parts}
-use Rattle.sz_region.specs.Fits.{AreApart}
+use Rattle.sz_frame.specs.Parts.{Parts}
+use Rattle.sz_frame.specs.Fits.{AreApart}
 use Rattle.sz_tables.specs.Stores.{Room, IsWithin, IsPairOf, no_room, most_given}
 use Rattle.sz_tables.specs.Stores.{room_for_pairs, room_for_entries}
 use Rattle.sz_store.specs.Kept.{Holding, regions, entries, Keep, nothing_for}

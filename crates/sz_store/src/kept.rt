@@ -19,10 +19,11 @@ ghost use Rattle.sz_store.specs.Words.{IsWordOf, Begins, NoneBegins, SaysNone};
 use std::alloc::Global;
 use std::sync::Arc;
 use sz_cells::{CellBits, NoMemory};
+use sz_frame::PieceLineage;
 use sz_full_many::FullMany;
 use sz_full_one::FullOne;
 use sz_payload::{PayMap, PayStore};
-use sz_region::{PieceLineage, Take};
+use sz_region::Take;
 use sz_spec::{Dir, OpAt, Strategy};
 
 /// A store of one sort.

@@ -51,7 +51,8 @@ use std::alloc::Global;
 use std::marker::Model;
 use std::sync::Arc;
 use sz_cells::{CellBits, NoMemory};
-use sz_region::{PieceLineage, Take};
+use sz_frame::PieceLineage;
+use sz_region::Take;
 use sz_spec::{Dir, OpAt, Strategy, pieces_of};
 
 /// The most region pairs or entries of a store.

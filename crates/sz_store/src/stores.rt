@@ -17,7 +17,8 @@ use std::alloc::Global;
 use std::sync::Arc;
 use sz_cells::laws::a_shape_is_within_limits;
 use sz_cells::{NoMemory, Shape};
-use sz_region::{PieceLineage, Take};
+use sz_frame::PieceLineage;
+use sz_region::Take;
 use sz_spec::{OpAt, Strategy};
 
 /// A store, and the strategy of the list that it is for.

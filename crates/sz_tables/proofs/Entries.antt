@@ -13,8 +13,8 @@ use Rattle.sz_spec.specs.Values.{no_extent}
 use Rattle.sz_cells.specs.Extent.{Extent}
 use Rattle.sz_cells.specs.Cells.{Cells, no_cells}
 use Rattle.sz_cells.specs.SetBytes.{IsSetOf, set_bytes}
-use Rattle.sz_region.specs.Parts.{Entry}
-use Rattle.sz_region.specs.Fits.{AreApart}
+use Rattle.sz_frame.specs.Parts.{Entry}
+use Rattle.sz_frame.specs.Fits.{AreApart}
 use Rattle.sz_region.specs.Counted.{counted, rows_bytes}
 use Rattle.sz_region.specs.PayBytes.{IsShort, IsPayWord, AreNamesOfEntry, payload_bytes}
 use Rattle.sz_region.specs.Putting.{AreRows}

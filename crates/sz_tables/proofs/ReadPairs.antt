@@ -2,7 +2,7 @@
 use Rattle.std.proofs.Common.{◌≡◌, ℕ, List, All, subst, sym}
 use Rattle.sz_cells.specs.Extent.{Extent}
 use Rattle.sz_spec.specs.Shapes.{Site}
-use Rattle.sz_region.specs.Parts.{Pairing}
+use Rattle.sz_frame.specs.Parts.{Pairing}
 use Rattle.sz_region.specs.FullBytes.{BeginsRegions}
 use Rattle.sz_region.specs.Putting.{HasShapes}
 use Rattle.sz_region.proofs.ReadShapes.{read-shapes}

@@ -15,7 +15,7 @@ use Rattle.sz_spec.proofs.FlowOutputs.{slice_get-left, map-agree}
 use Rattle.sz_spec.specs.Values.{no_extent}
 use Rattle.sz_cells.specs.Extent.{Extent}
 use Rattle.sz_cells.specs.Cells.{Cells, no_cells}
-use Rattle.sz_region.specs.Parts.{Pairing}
+use Rattle.sz_frame.specs.Parts.{Pairing}
 use Rattle.sz_tables.specs.Tables.{SetsByNumber}
 use Rattle.sz_tables.specs.Rows.{Row, RowTable, row_from, row_at, empty_sets, empty_rows, rows_of, set_at, sets_of}
 use Rattle.sz_tables.specs.Rows.{number_in, pairing_of, pairings}

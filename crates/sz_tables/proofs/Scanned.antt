@@ -21,9 +21,9 @@ use Rattle.sz_spec.specs.declared.modes.Dir.{Dir}
 use Rattle.sz_spec.specs.declared.modes.Dir.TheVariants.{Back, Forward}
 use Rattle.sz_spec.specs.Values.{no_extent, extent_at}
 use Rattle.sz_spec.specs.Sides.{extent_after, image_between}
-use Rattle.sz_region.specs.Parts.{Pairing}
-use Rattle.sz_region.specs.Stands.{set_of, full_stands}
-use Rattle.sz_region.proofs.Added.{with-none, with-ext, with-more}
+use Rattle.sz_frame.specs.Parts.{Pairing}
+use Rattle.sz_frame.specs.Stands.{set_of, full_stands}
+use Rattle.sz_frame.proofs.Added.{with-none, with-ext, with-more}
 use Rattle.sz_tables.specs.Rows.{Row, RowTable, IsRowOf, number_in, set_at, sets_of}
 use Rattle.sz_tables.specs.Rows.{row_at, pairing_of, pairings}
 use Rattle.sz_tables.specs.Scans.{near_set, far_set, pair_adds, pairs_add, near_sets, far_sets}

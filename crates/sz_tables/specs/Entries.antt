@@ -5,7 +5,7 @@ use Rattle.std.specs.List.{slice_get}
 use Rattle.sz_cells.specs.Extent.{Extent}
 use Rattle.sz_cells.specs.Cells.{Cells, no_cells}
 use Rattle.sz_spec.specs.Values.{no_extent}
-use Rattle.sz_region.specs.Parts.{Entry}
+use Rattle.sz_frame.specs.Parts.{Entry}
 use Rattle.sz_tables.specs.Tables.{SetsByNumber, first_capacities}
 use Rattle.sz_tables.specs.Payloads.{PayloadsByNumber, payload_at}
 use Rattle.sz_tables.specs.Rows.{set_at, HasRoomFor}

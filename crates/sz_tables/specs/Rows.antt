@@ -6,7 +6,7 @@ use Rattle.sz_cells.specs.Extent.{Extent}
 use Rattle.sz_cells.specs.Cells.{Cells, no_cells}
 use Rattle.sz_cells.specs.Runs.{runs_of}
 use Rattle.sz_spec.specs.Values.{no_extent}
-use Rattle.sz_region.specs.Parts.{Pairing}
+use Rattle.sz_frame.specs.Parts.{Pairing}
 use Rattle.sz_tables.specs.Tables.{SetsByNumber, HasAtMostOneMore, first_capacities}
 
 -- a row: the number of a region pair's output set, and for each input the number of its set

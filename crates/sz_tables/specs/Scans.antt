@@ -7,8 +7,8 @@ use Rattle.sz_cells.specs.Extent.{holds}
 use Rattle.sz_cells.specs.Cells.{Cells, any_cell, has}
 use Rattle.sz_spec.specs.declared.modes.Dir.{Dir}
 use Rattle.sz_spec.specs.declared.modes.Dir.TheVariants.{Back, Forward}
-use Rattle.sz_region.specs.Parts.{Pairing}
-use Rattle.sz_region.specs.Stands.{set_of}
+use Rattle.sz_frame.specs.Parts.{Pairing}
+use Rattle.sz_frame.specs.Stands.{set_of}
 use Rattle.sz_tables.specs.Rows.{Row, RowTable, number_in, set_at, sets_of}
 use Rattle.sz_tables.specs.Rows.{row_at, pairing_of}
 use Rattle.sz_tables.specs.declared.scans.Seen.{Seen}

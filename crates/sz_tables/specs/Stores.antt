@@ -2,7 +2,7 @@
 use Rattle.std.specs.Prelude.{◌≡◌, ℕ, ◌+◌, ◌≤◌, List, map, length, sum_by}
 use Rattle.sz_cells.specs.Cells.{Cells}
 use Rattle.sz_spec.specs.Shapes.{Site}
-use Rattle.sz_region.specs.Parts.{Pairing, Entry}
+use Rattle.sz_frame.specs.Parts.{Pairing, Entry}
 use Rattle.sz_tables.specs.Rows.{runs_in}
 
 -- room that is taken beforehand: for so many region pairs or entries, runs and cells of their sets,

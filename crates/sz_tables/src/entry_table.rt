@@ -5,7 +5,7 @@ ghost use Rattle.std.specs.Prelude.{IfOk, All, ℕ, List, flat_map};
 ghost use Rattle.sz_cells.specs.Cells.{Cells};
 ghost use Rattle.sz_cells.specs.Runs.{runs_of};
 ghost use Rattle.sz_cells.specs.SetBytes.{IsSetOf};
-ghost use Rattle.sz_region.specs.Fits.{AreApart};
+ghost use Rattle.sz_frame.specs.Fits.{AreApart};
 ghost use Rattle.sz_region.specs.PayBytes.{IsShort, IsPayWord};
 ghost use Rattle.sz_tables.specs.Tables.{AreDifferent, HasAtMostOneMore};
 ghost use Rattle.sz_tables.specs.Rows.{set_at, runs_in};
@@ -20,7 +20,8 @@ use crate::set_table::SetTable;
 use std::alloc::Global;
 use std::marker::Model;
 use sz_cells::{NoMemory, Run, Shape};
-use sz_region::{ListedPayload, PayEntry, put_numbered_entries};
+use sz_frame::PayEntry;
+use sz_region::{ListedPayload, put_numbered_entries};
 
 /// Payload entries of an output of a given shape, each different set and each different payload
 /// once.

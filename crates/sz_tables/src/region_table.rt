@@ -15,7 +15,7 @@ ghost use Rattle.sz_tables.specs.Stores.{most_given};
 ghost use Rattle.sz_tables.specs.Rows.{set_at, sets_of, empty_sets, runs_in, HasRoomFor};
 ghost use Rattle.sz_tables.specs.Rows.{Takes, TakeEach};
 ghost use Rattle.sz_tables.specs.Tables.{AreDifferent, HasAtMostOneMore};
-ghost use Rattle.sz_region.specs.Stands.{set_of};
+ghost use Rattle.sz_frame.specs.Stands.{set_of};
 ghost use Rattle.sz_tables.specs.Listing.{listed_as, numbers_at, shifted, AreSetsOf, AreListed};
 ghost use Rattle.sz_region.specs.FullBytes.{Listed, IsFullWord};
 
@@ -24,7 +24,8 @@ use std::alloc::Global;
 use std::marker::Model;
 use std::sync::Arc;
 use sz_cells::{CellSet, NoMemory, Run, Shape};
-use sz_region::{ListedSet, Region, put_numbered};
+use sz_frame::Region;
+use sz_region::{ListedSet, put_numbered};
 
 /// Region pairs between an output and inputs of given shapes, each different set of an array once.
 #[derive(Drop)]

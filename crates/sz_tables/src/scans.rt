@@ -9,7 +9,7 @@ ghost use Rattle.sz_cells.specs.Extent.{holds};
 ghost use Rattle.sz_cells.specs.declared.Cell.{Cell};
 ghost use Rattle.sz_cells.specs.Cells.{any_cell, has, with_those};
 ghost use Rattle.sz_spec.specs.Sides.{extent_before, extent_after, image_between};
-ghost use Rattle.sz_region.specs.Stands.{full_stands};
+ghost use Rattle.sz_frame.specs.Stands.{full_stands};
 ghost use Rattle.sz_tables.specs.Rows.{pairings, row_at, set_at};
 ghost use Rattle.sz_tables.specs.Scans.{near_sets, far_sets, near_number, far_number};
 ghost use Rattle.sz_tables.specs.Scans.{pair_adds, pairing_at, HasSeen};

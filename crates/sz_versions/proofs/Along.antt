@@ -25,7 +25,7 @@ use Rattle.sz_query.specs.Answers.{AreSteps}
 use Rattle.sz_catalogue.specs.Holdings.{Version}
 use Rattle.sz_catalogue.specs.Starts.{path_start}
 use Rattle.sz_catalogue.specs.Changes.{way_of}
-use Rattle.sz_recover.specs.Fitting.{FitNodes, site_in, sites_of}
+use Rattle.sz_bodies.specs.Fitting.{FitNodes, site_in, sites_of}
 use Rattle.sz_versions.specs.Runs.{executions_of, IsSoundVersion}
 use Rattle.sz_versions.specs.Stores.{Keeping, nothing, keeping_from, IsKeptOf, IsOwn}
 use Rattle.sz_versions.specs.Stores.{Trail, IsTrailOf}

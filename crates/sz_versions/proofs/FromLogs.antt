@@ -38,8 +38,8 @@ use Rattle.sz_query.specs.Answers.{answered, traced_of, IsStep, AreSteps}
 use Rattle.sz_catalogue.specs.Holdings.{Version, arrays_of}
 use Rattle.sz_catalogue.specs.Starts as starts
 use Rattle.sz_catalogue.specs.Changes.{outputs, way_of, is_black_box, traced}
-use Rattle.sz_recover.specs.Bodies.{BeginNodes, IsBodyOf}
-use Rattle.sz_recover.specs.Fitting.{FitsNode, FitNodes, Fit, site_in, sites_of, part_of, parts_of, body_of}
+use Rattle.sz_bodies.specs.Bodies.{BeginNodes, IsBodyOf}
+use Rattle.sz_bodies.specs.Fitting.{FitsNode, FitNodes, Fit, site_in, sites_of, part_of, parts_of, body_of}
 use Rattle.sz_versions.specs.Runs.{executions_of, IsSoundVersion}
 use Rattle.sz_versions.specs.Stores.{Keeping, nothing, whole, read, IsKeptOf, keeping_from}
 use Rattle.sz_versions.specs.Efforts.{most_traced}

@@ -170,12 +170,8 @@ keeps-accepted c (order.Flow name flow) k right none kind =
     keeps-flow c name flow k (right-flow name flow right)
 keeps-accepted c (order.Strategy name node list) k right none kind =
     keeps-strategies c name node list k none
-keeps-accepted c (order.Start name base) k right none kind = cc
 keeps-accepted c (order.Plan name base units back forward) k right none kind = k
-keeps-accepted c (order.Await n) k right none kind = cc
-keeps-accepted c (order.Ask n dir path named) k right none kind = cc
-keeps-accepted c (order.Explain n dir path named) k right none kind = cc
-keeps-accepted c (order.Show n node) k right none kind = cc
+keeps-accepted c _ k right none kind = cc
 
 -- ---- a start
 

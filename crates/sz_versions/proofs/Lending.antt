@@ -16,7 +16,7 @@ use Rattle.sz_versions.specs.Runs.{executions_of}
 use Rattle.sz_versions.specs.Stores.{Keeping, nothing, growing, whole, read, IsKeptOf, AreKeptOf, Trail, IsTrailOf}
 use Rattle.sz_versions.specs.Stores.{keeping_of}
 use Rattle.sz_versions.specs.Lending.{lent, once_viewed, changed_at, once_asked, once_along, IsLent, AreLent}
-use Rattle.sz_versions.specs.declared.runs.NodeStores.{NodeStores}
+use Rattle.sz_versions.specs.declared.runs.NodeKeeping.{NodeKeeping}
 
 -- ---- what is lent is kept of the same execution
 
@@ -64,7 +64,7 @@ along-more v dir [] s t = refl
 along-more v dir (r ∷ path) s t = along-more v dir path s (once_asked v dir r t)
 
 -- what stands at a place is changed as the code's is
-pub changed-set : (f : Keeping → Keeping) (xs : List NodeStores) (n : ℕ) (y d : NodeStores) → n < length xs
+pub changed-set : (f : Keeping → Keeping) (xs : List NodeKeeping) (n : ℕ) (y d : NodeKeeping) → n < length xs
     → keeping_of y ≡ f (keeping_of (get_or xs n d))
     → map keeping_of (set xs n y) ≡ changed_at f n (map keeping_of xs)
 changed-set f [] n y d below is = absurd (omega (arith, below))
@@ -95,7 +95,7 @@ pub lent-same : (keeps : List Keeping) → AreLent keeps keeps
 lent-same [] = tt
 lent-same (k ∷ keeps) = ((0, lent-none k), lent-same keeps)
 
-pub lent-set : (keeps : List Keeping) (xs : List NodeStores) (n : ℕ) (y d : NodeStores)
+pub lent-set : (keeps : List Keeping) (xs : List NodeKeeping) (n : ℕ) (y d : NodeKeeping)
     → AreLent keeps (map keeping_of xs) → IsLent (keeping_of (get_or xs n d)) (keeping_of y)
     → AreLent keeps (map keeping_of (set xs n y))
 lent-set [] [] n y d zip more = zip

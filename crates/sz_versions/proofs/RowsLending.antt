@@ -3,7 +3,7 @@
 -- The key idea: a pass that was lent has another number of splits, and nothing else that is kept has a number at all.
 use Rattle.std.proofs.Common.{◌≡◌, ℕ, ◌+◌, [], ◌∷◌, Bool, true, false, refl, sym, ap, arith, true≢false}
 use Rattle.sz_store.specs.Kept.{NodeLineage}
-use Rattle.sz_shelf.specs.Places.{Place}
+use Rattle.sz_shelf.specs.Places.{ShelfPlace}
 use Rattle.sz_shelf.specs.Passes.{Onlooker, place_of}
 use Rattle.sz_versions.specs.Stores.{Keeping, nothing, growing, whole, read}
 use Rattle.sz_versions.specs.Lending.{lent, changed_at, IsKeptStill}
@@ -23,16 +23,16 @@ is_growing (read k) = false
 
 -- ---- a pass that is lent counts
 
-pub lent-counts : (z : Place) (p : Onlooker)
+pub lent-counts : (z : ShelfPlace) (p : Onlooker)
     → lent 2 (growing z record p { splits = 3 }) ≡ growing z record p { splits = 5 }
 lent-counts z p = refl
 
 -- it is not as it was
-pub lent-other : (z : Place) (p : Onlooker) → lent 1 (growing z p) ≡ growing z p → ⊥
+pub lent-other : (z : ShelfPlace) (p : Onlooker) → lent 1 (growing z p) ≡ growing z p → ⊥
 lent-other z p h = let same : p.splits + 1 ≡ p.splits = ap splits_of h in omega (arith, same)
 
 -- nor is it lent once more than it counts
-pub lent-twice : (z : Place) (p : Onlooker) → lent 2 (growing z p) ≡ lent 1 (growing z p) → ⊥
+pub lent-twice : (z : ShelfPlace) (p : Onlooker) → lent 2 (growing z p) ≡ lent 1 (growing z p) → ⊥
 lent-twice z p h = let same : p.splits + 2 ≡ p.splits + 1 = ap splits_of h in omega (arith, same)
 
 -- ---- the rest stays
@@ -48,30 +48,30 @@ lent-read k = refl
 
 -- ---- a place
 
-pub changed-place : (z : Place) (p : Onlooker) (k : NodeLineage)
+pub changed-place : (z : ShelfPlace) (p : Onlooker) (k : NodeLineage)
     → changed_at (lent 1) 1 (growing z record p { splits = 0 } ∷ growing z record p { splits = 6 } ∷ whole k ∷ [])
     ≡ growing z record p { splits = 0 } ∷ growing z record p { splits = 7 } ∷ whole k ∷ []
 changed-place z p k = refl
 
 -- beside the list nothing is changed
-pub changed-beside : (z : Place) (p : Onlooker) → changed_at (lent 1) 1 (growing z p ∷ []) ≡ growing z p ∷ []
+pub changed-beside : (z : ShelfPlace) (p : Onlooker) → changed_at (lent 1) 1 (growing z p ∷ []) ≡ growing z p ∷ []
 changed-beside z p = refl
 
 -- ---- what stays but for its passes
 
-pub still-pass : (z : Place) (p q : Onlooker) → place_of q ≡ place_of p → IsKeptStill (growing z p) (growing z q)
+pub still-pass : (z : ShelfPlace) (p q : Onlooker) → place_of q ≡ place_of p → IsKeptStill (growing z p) (growing z q)
 still-pass z p q same = (q, refl, same)
 
 -- a shelf that is gone
-pub still-gone : (z : Place) (p : Onlooker) → IsKeptStill (growing z p) nothing → ⊥
+pub still-gone : (z : ShelfPlace) (p : Onlooker) → IsKeptStill (growing z p) nothing → ⊥
 still-gone z p h = true≢false (sym (ap is_growing h.1))
 
 -- stores that are made where there was a shelf
-pub still-made : (z : Place) (p : Onlooker) (k : NodeLineage) → IsKeptStill (growing z p) (whole k) → ⊥
+pub still-made : (z : ShelfPlace) (p : Onlooker) (k : NodeLineage) → IsKeptStill (growing z p) (whole k) → ⊥
 still-made z p k h = true≢false (sym (ap is_growing h.1))
 
 -- a shelf where there was none
-pub still-new : (z : Place) (p : Onlooker) → IsKeptStill nothing (growing z p) → ⊥
+pub still-new : (z : ShelfPlace) (p : Onlooker) → IsKeptStill nothing (growing z p) → ⊥
 still-new z p h = true≢false (ap is_growing h)
 
 -- stores that were read in place of some that were made

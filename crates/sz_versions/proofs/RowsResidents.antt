@@ -6,7 +6,7 @@ use Rattle.std.proofs.Common.{◌≡◌, ℕ, List, [], ◌∷◌, Bool, true, f
 use Rattle.std.proofs.Common.{◌∙◌}
 use Rattle.std.proofs.lemmas.List.Elements.{All-nil}
 use Rattle.sz_store.specs.Kept.{NodeLineage}
-use Rattle.sz_shelf.specs.Places.{Place}
+use Rattle.sz_shelf.specs.Places.{ShelfPlace}
 use Rattle.sz_shelf.specs.Passes.{Onlooker}
 use Rattle.sz_catalogue.specs.Holdings.{Version, Holdings, no_holdings}
 use Rattle.sz_catalogue.specs.Rules.{has_no_version}
@@ -54,7 +54,7 @@ is_read (read k ∷ ks) = true
 is_read ks = false
 
 -- a shelf that grows is no store that was read
-pub read-growing : (v : Version) (z : Place) (p : Onlooker) → IsReadTrail v (trail_of (growing z p)) → ⊥
+pub read-growing : (v : Version) (z : ShelfPlace) (p : Onlooker) → IsReadTrail v (trail_of (growing z p)) → ⊥
 read-growing v z p h = true≢false (sym (ap is_read h.kept))
 
 -- nor is one that was made
@@ -67,31 +67,31 @@ read-first v t first h = true≢false (sym h.awaited ∙ first)
 
 -- ---- what is seen
 
-abbrev both : NodeLineage → Place → Onlooker → List Resident
+abbrev both : NodeLineage → ShelfPlace → Onlooker → List Resident
 both k z p = resident_of 1 true (read k) ∷ resident_of 2 false (growing z p) ∷ []
 
-pub logged-both : (k : NodeLineage) (z : Place) (p : Onlooker)
+pub logged-both : (k : NodeLineage) (z : ShelfPlace) (p : Onlooker)
     → logged_in (both k z p) ≡ record { number = 1; stores = Some k ∷ [] } ∷ []
 logged-both k z p = refl
 
-pub logged-one : (k : NodeLineage) (z : Place) (p : Onlooker)
+pub logged-one : (k : NodeLineage) (z : ShelfPlace) (p : Onlooker)
     → logged_under 1 (logged_in (both k z p)) ≡ Some (Some k ∷ [])
 logged-one k z p = refl
 
-pub logged-two : (k : NodeLineage) (z : Place) (p : Onlooker) → logged_under 2 (logged_in (both k z p)) ≡ None
+pub logged-two : (k : NodeLineage) (z : ShelfPlace) (p : Onlooker) → logged_under 2 (logged_in (both k z p)) ≡ None
 logged-two k z p = refl
 
-pub stored-both : (k : NodeLineage) (z : Place) (p : Onlooker)
+pub stored-both : (k : NodeLineage) (z : ShelfPlace) (p : Onlooker)
     → stored_in (both k z p) ≡ (1, given k ∷ []) ∷ (2, on_shelf z ∷ []) ∷ []
 stored-both k z p = refl
 
 -- another run of the second one
-pub replaced-both : (k l : NodeLineage) (z : Place) (p : Onlooker)
+pub replaced-both : (k l : NodeLineage) (z : ShelfPlace) (p : Onlooker)
     → stored_in (replaced_in 2 (trail_of (whole l)) (both k z p)) ≡ (1, given k ∷ []) ∷ (2, built l ∷ []) ∷ []
 replaced-both k l z p = refl
 
 -- of a number that none has
-pub replaced-none : (k l : NodeLineage) (z : Place) (p : Onlooker)
+pub replaced-none : (k l : NodeLineage) (z : ShelfPlace) (p : Onlooker)
     → replaced_in 3 (trail_of (whole l)) (both k z p) ≡ both k z p
 replaced-none k l z p = refl
 

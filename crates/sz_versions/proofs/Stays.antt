@@ -17,7 +17,7 @@ use Rattle.sz_script.specs.declared.command.Command.TheVariants as order
 use Rattle.sz_catalogue.specs.Holdings.{Version, Holdings, version_numbered, next_number}
 use Rattle.sz_catalogue.specs.Rules.{version_of, has_no_version}
 use Rattle.sz_catalogue.specs.Changes as changes
-use Rattle.sz_catalogue.specs.Changes.{with_version, with_await, changes_no_version}
+use Rattle.sz_catalogue.specs.Changes.{with_await, changes_no_version}
 use Rattle.sz_catalogue.proofs.Numbers.{next-is_new}
 use Rattle.sz_catalogue.specs.Order.{IsInOrder, IsVersionIn}
 use Rattle.sz_versions.specs.Runs.{AreSound, IsSoundVersion}
@@ -107,12 +107,8 @@ accepted-stay c (order.Csv name array) kind n = refl
 accepted-stay c (order.Layers name array) kind n = refl
 accepted-stay c (order.Flow name flow) kind n = refl
 accepted-stay c (order.Strategy name node list) kind n = refl
-accepted-stay c (order.Start name base) kind n = cc
 accepted-stay c (order.Plan name base units back forward) kind n = refl
-accepted-stay c (order.Await m) kind n = cc
-accepted-stay c (order.Ask m dir path named) kind n = cc
-accepted-stay c (order.Explain m dir path named) kind n = cc
-accepted-stay c (order.Show m node) kind n = cc
+accepted-stay c _ kind n = cc
 
 -- ---- one version more
 

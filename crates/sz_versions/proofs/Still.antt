@@ -12,14 +12,14 @@ use Rattle.sz_spec.specs.Modes.{is_stored}
 use Rattle.sz_spec.specs.Paths.{Step}
 use Rattle.sz_store.specs.Kept.{NodeLineage}
 use Rattle.sz_flow.specs.Executions.{Execution}
-use Rattle.sz_shelf.specs.Places.{Place}
+use Rattle.sz_shelf.specs.Places.{ShelfPlace}
 use Rattle.sz_catalogue.specs.Holdings.{Version}
 use Rattle.sz_catalogue.specs.Changes.{way_of}
-use Rattle.sz_recover.specs.Fitting.{Fit}
+use Rattle.sz_bodies.specs.Fitting.{Fit}
 use Rattle.sz_versions.specs.Runs.{executions_of}
 use Rattle.sz_versions.specs.Stores.{Keeping, nothing, growing, whole, read, keeping_from, IsKeptOf, AreKeptOf, IsOwn}
 use Rattle.sz_versions.specs.Stores.{Trail, IsTrailOf, keeping_of}
-use Rattle.sz_versions.specs.declared.runs.NodeStores.{NodeStores}
+use Rattle.sz_versions.specs.declared.runs.NodeKeeping.{NodeKeeping}
 use Rattle.sz_versions.specs.Lending.{lent, once_viewed, changed_at, once_asked, once_along}
 use Rattle.sz_versions.specs.Lending.{IsKeptStill, AreKeptStill, IsTrailStill}
 use Rattle.sz_versions.specs.Along.{IsTrailFor}
@@ -119,7 +119,7 @@ kept-still b e list (growing z p) l h own =
     subst (IsKeptOf b e list) (sym h.1) (
       own.0,
       own.1,
-      record { own = h.2 ∙ own.2.own; tag = ap (λ (x : Place). x.tag) h.2 ∙ own.2.tag },
+      record { own = h.2 ∙ own.2.own; tag = ap (λ (x : ShelfPlace). x.tag) h.2 ∙ own.2.tag },
     )
 kept-still b e list (whole kept) l h own = subst (IsKeptOf b e list) (sym h) own
 kept-still b e list (read kept) l h own = absurd own
@@ -205,7 +205,7 @@ stored-still (k ∷ ks) (l ∷ ls) zip =
 -- ---- what the code keeps
 
 -- at a place it changed by passes alone
-pub stills-set : (ks : List Keeping) (xs : List NodeStores) (n : ℕ) (y d : NodeStores)
+pub stills-set : (ks : List Keeping) (xs : List NodeKeeping) (n : ℕ) (y d : NodeKeeping)
     → AreKeptStill ks (map keeping_of xs) → IsKeptStill (keeping_of (get_or xs n d)) (keeping_of y)
     → AreKeptStill ks (map keeping_of (set xs n y))
 stills-set [] [] n y d zip more = zip

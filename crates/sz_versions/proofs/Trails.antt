@@ -13,14 +13,14 @@ use Rattle.sz_store.specs.Kept.{NodeLineage}
 use Rattle.sz_flow.specs.Executions.{Execution}
 use Rattle.sz_flow.proofs.Executions.{executions-count, executions-at}
 use Rattle.sz_catalogue.specs.Holdings.{Version}
-use Rattle.sz_recover.specs.Fitting.{FitsNode, FitNodes, Fit, lineages}
+use Rattle.sz_bodies.specs.Fitting.{FitsNode, FitNodes, Fit, lineages}
 use Rattle.sz_recover.specs.Soundness.{IsSoundNode, AreSoundNodes}
 use Rattle.sz_recover.proofs.Sites.{sites-same}
 use Rattle.sz_versions.specs.Bodies.{store_in}
 use Rattle.sz_versions.specs.Runs.{executions_of, IsSoundVersion}
 use Rattle.sz_versions.specs.Stores.{Keeping, nothing, growing, whole, read, IsKeptOf, AreKeptOf, Trail, IsTrailOf}
 use Rattle.sz_versions.specs.Stores.{keeping_of}
-use Rattle.sz_versions.specs.declared.runs.NodeStores.{NodeStores}
+use Rattle.sz_versions.specs.declared.runs.NodeKeeping.{NodeKeeping}
 
 -- ---- one node
 
@@ -77,7 +77,7 @@ trail-sound v t own = stores-sound (executions_of v) v.lists t.kept own.1
 -- ---- the stores that the code has
 
 -- one node more
-pub stores-more : {X : Type 0} (xs : List NodeStores) (x : NodeStores) (ss : List (Option (Arc NodeLineage X)))
+pub stores-more : {X : Type 0} (xs : List NodeKeeping) (x : NodeKeeping) (ss : List (Option (Arc NodeLineage X)))
     (s : Option (Arc NodeLineage X)) → lineages ss ≡ map store_in (map keeping_of xs)
     → option_map (λ a. arc_value a) s ≡ store_in (keeping_of x)
     → lineages (ss ++ s ∷ []) ≡ map store_in (map keeping_of (xs ++ x ∷ []))

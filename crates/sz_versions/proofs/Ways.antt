@@ -18,8 +18,8 @@ use Rattle.sz_spec.specs.Modes.{supports, is_stored, number_of, is_listed, way}
 use Rattle.sz_spec.specs.Values.{Grid, extents_of}
 use Rattle.sz_spec.proofs.Ways.{number-apart, listed-is_in, way-listed}
 use Rattle.sz_flow.specs.Executions.{Execution}
-use Rattle.sz_region.specs.Images.{measure_of}
-use Rattle.sz_region.specs.Laws.{IsTheRelation}
+use Rattle.sz_frame.specs.Images.{measure_of}
+use Rattle.sz_frame.specs.Laws.{IsTheRelation}
 use Rattle.sz_store.specs.Kept.{Holding, Keep, stored_in, holding_for, holding_stands}
 use Rattle.sz_query.specs.Views.{View, view_site, IsUsable, traced_by, most_traced_by, used_of}
 use Rattle.sz_query.specs.Turns.{IsAsked}

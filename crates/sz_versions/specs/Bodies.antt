@@ -2,8 +2,8 @@
 use Rattle.std.specs.Prelude.{ℕ, List, Option, Some, None}
 use Rattle.sz_store.specs.Kept.{NodeLineage}
 use Rattle.sz_catalogue.specs.Holdings.{Version}
-use Rattle.sz_recover.specs.Bodies.{IsBodyOf}
-use Rattle.sz_recover.specs.Fitting.{Fit, sites_of, body_of}
+use Rattle.sz_bodies.specs.Bodies.{IsBodyOf}
+use Rattle.sz_bodies.specs.Fitting.{Fit, sites_of, body_of}
 use Rattle.sz_recover.specs.Soundness.{AreSoundNodes}
 use Rattle.sz_versions.specs.Runs.{executions_of}
 use Rattle.sz_versions.specs.Stores.{Keeping, nothing, growing, whole, read}

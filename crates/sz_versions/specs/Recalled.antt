@@ -18,7 +18,7 @@ use Rattle.sz_query.specs.Answers.{answered}
 use Rattle.sz_catalogue.specs.Holdings.{Version}
 use Rattle.sz_catalogue.specs.Starts.{path_start, cell_named}
 use Rattle.sz_catalogue.specs.Changes.{way_of, cells_answered}
-use Rattle.sz_recover.specs.Fitting.{Fit}
+use Rattle.sz_bodies.specs.Fitting.{Fit}
 use Rattle.sz_recover.specs.Soundness.{AreSoundNodes}
 use Rattle.sz_versions.specs.Runs.{executions_of, IsSoundVersion}
 use Rattle.sz_versions.specs.Stores.{keeping_from}

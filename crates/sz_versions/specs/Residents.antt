@@ -3,10 +3,10 @@ use Rattle.std.specs.Prelude.{◌≡◌, ◌==◌, ℕ, List, map, filter, find,
 use Rattle.std.specs.Prelude.{Bool, true, false, Option, Some, None, option_map}
 use Rattle.std.specs.List.{count_by, AllZip}
 use Rattle.sz_store.specs.Kept.{NodeLineage}
-use Rattle.sz_shelf.specs.Places.{Place}
+use Rattle.sz_shelf.specs.Places.{ShelfPlace}
 use Rattle.sz_catalogue.specs.Holdings.{Version, Holdings}
 use Rattle.sz_catalogue.specs.Rules.{has_no_version, version_of}
-use Rattle.sz_recover.specs.Fitting.{Fit}
+use Rattle.sz_bodies.specs.Fitting.{Fit}
 use Rattle.sz_recover.specs.Logs.{Kept}
 use Rattle.sz_recover.specs.Opened.{versions_under}
 use Rattle.sz_versions.specs.Runs.{executions_of, AreSound}
@@ -89,7 +89,7 @@ logged_of r = if r.logged then Some (stores_read r.trail) else None
 -- what stands of what is kept of a node: all but the pass of a shelf
 pub data Stored : Type 0 where
   none : Stored
-  on_shelf : Place → Stored
+  on_shelf : ShelfPlace → Stored
   built : NodeLineage → Stored
   given : NodeLineage → Stored
 

@@ -9,12 +9,12 @@ use Rattle.sz_spec.specs.Modes.{is_stored, supports}
 use Rattle.sz_store.specs.Kept.{NodeLineage}
 use Rattle.sz_flow.specs.Executions.{Execution}
 use Rattle.sz_shelf.specs.Tags.{Tag, StandsFor}
-use Rattle.sz_shelf.specs.Places.{Place}
+use Rattle.sz_shelf.specs.Places.{ShelfPlace}
 use Rattle.sz_shelf.specs.Passes.{Onlooker, place_of}
 use Rattle.sz_catalogue.specs.Holdings.{Version}
 use Rattle.sz_versions.specs.Runs.{executions_of}
-use Rattle.sz_versions.specs.declared.runs.NodeStores.{NodeStores}
-use Rattle.sz_versions.specs.declared.runs.NodeStores.TheVariants as code
+use Rattle.sz_versions.specs.declared.runs.NodeKeeping.{NodeKeeping}
+use Rattle.sz_versions.specs.declared.runs.NodeKeeping.TheVariants as code
 
 -- the list has a strategy that keeps a store
 abbrev pub has_stored : List Strategy → Bool
@@ -34,7 +34,7 @@ AreStoresFor e list kept = StandsFor (tag_for e list) kept
 -- which are whole; or stores that were read of a log, whatever they stand for
 pub data Keeping : Type 0 where
   nothing : Keeping
-  growing : Place → Onlooker → Keeping
+  growing : ShelfPlace → Onlooker → Keeping
   whole : NodeLineage → Keeping
   read : NodeLineage → Keeping
 
@@ -45,7 +45,7 @@ keeping_from (Some kept) = read kept
 
 -- A shelf, and a pass, are those of an execution for a list: the pass is of the shelf, whose tag is
 -- the execution's operator and arrays, with the list.
-pub record IsShelfFor (e : Execution) (list : List Strategy) (z : Place) (p : Onlooker)
+pub record IsShelfFor (e : Execution) (list : List Strategy) (z : ShelfPlace) (p : Onlooker)
     : Type 0 where
   pub own : place_of p ≡ z
   pub tag : p.tag ≡ tag_for e list
@@ -79,7 +79,7 @@ IsOwn (whole kept) = Unit {0}
 IsOwn (read kept) = Unit {0}
 
 -- what the code keeps of a node, as it is seen here
-abbrev pub keeping_of : NodeStores → Keeping
+abbrev pub keeping_of : NodeKeeping → Keeping
 keeping_of code.Nothing = nothing
 keeping_of (code.Growing shelf pass) = growing (arc_value shelf) pass
 keeping_of (code.Whole store) = whole (arc_value store)

@@ -3,16 +3,16 @@
 ghost use Rattle.std.specs.Prelude.{◌≡◌, map, true, false, IfOk, option_map};
 ghost use Rattle.std.specs.Arc.{arc_value};
 ghost use Rattle.sz_catalogue.specs.Rules.{has_no_version, version_of};
-ghost use Rattle.sz_recover.specs.Fitting.{lineages};
+ghost use Rattle.sz_bodies.specs.Fitting.{lineages};
 ghost use Rattle.sz_versions.specs.Bodies.{IsSoundBody, store_in};
 ghost use Rattle.sz_versions.specs.Stores.{IsTrailOf, keeping_of};
 
-use crate::runs::{NodeStores, VersionRun};
+use crate::runs::{NodeKeeping, VersionRun};
 use std::alloc::Global;
 use std::sync::Arc;
+use sz_bodies::version_body;
 use sz_catalogue::Catalogue;
 use sz_cells::NoMemory;
-use sz_recover::version_body;
 use sz_store::NodeStore;
 
 /// The body of a version that is held, with the stores that its run has once it is awaited.
@@ -47,14 +47,14 @@ fn stores_of(alloc: Global, run: &VersionRun) -> Result<Vec<Option<Arc<NodeStore
 }
 
 /// The stores that were made of a node, where they are whole.
-fn store_of(kept: &NodeStores) -> Result<Option<Arc<NodeStore>>, NoMemory>
+fn store_of(kept: &NodeKeeping) -> Result<Option<Arc<NodeStore>>, NoMemory>
     ensures { IfOk result
         (λ s. option_map (λ a. arc_value a) s ≡ store_in (keeping_of kept.now)) }
 {
     match kept {
-        NodeStores::Nothing => Ok(None),
-        NodeStores::Growing { .. } => Ok(None),
-        NodeStores::Whole { store } => Ok(Some(Arc::try_clone(store)?)),
-        NodeStores::Read { .. } => Ok(None),
+        NodeKeeping::Nothing => Ok(None),
+        NodeKeeping::Growing { .. } => Ok(None),
+        NodeKeeping::Whole { store } => Ok(Some(Arc::try_clone(store)?)),
+        NodeKeeping::Read { .. } => Ok(None),
     }
 }

@@ -6,14 +6,14 @@ ghost use Rattle.std.specs.Prelude.{◌≡◌, true, false, map, IfOk};
 ghost use Rattle.std.specs.List.{list_all};
 ghost use Rattle.sz_spec.specs.Modes.{supports};
 ghost use Rattle.sz_flow.specs.Executions.{execution_of};
-ghost use Rattle.sz_shelf.specs.Places.{Place};
+ghost use Rattle.sz_shelf.specs.Places.{ShelfPlace};
 ghost use Rattle.sz_shelf.specs.Passes.{place_of};
 ghost use Rattle.std.specs.Arc.{arc_value};
 ghost use Rattle.sz_versions.specs.Stores.{IsKeptOf, AreKeptOf, AreListed, AreStoresFor};
 ghost use Rattle.sz_versions.specs.Stores.{has_stored, keeping_of, IsShelfFor, whole};
 ghost use Rattle.sz_versions.specs.Lending.{IsKeptStill, AreKeptStill, IsTrailStill};
 
-use crate::runs::{NodeStores, VersionRun};
+use crate::runs::{NodeKeeping, VersionRun};
 use std::alloc::Global;
 use std::sync::{Arc, Wait};
 use sz_cells::NoMemory;
@@ -66,7 +66,7 @@ pub(crate) fn begun(
     alloc: Global,
     runs: &[NodeRun],
     lists: &[StrategyList],
-) -> Result<Vec<NodeStores>, NoMemory>
+) -> Result<Vec<NodeKeeping>, NoMemory>
     requires { AreListed (map execution_of runs.now) lists.now }
     ensures { IfOk result (λ v.
         AreKeptOf false (map execution_of runs.now) lists.now (map keeping_of v.items)) }
@@ -79,15 +79,15 @@ pub(crate) fn begun(
 }
 
 /// A shelf of a run for a list, where a strategy of the list keeps a store.
-fn begin(alloc: Global, run: &NodeRun, list: &[Strategy]) -> Result<NodeStores, NoMemory>
+fn begin(alloc: Global, run: &NodeRun, list: &[Strategy]) -> Result<NodeKeeping, NoMemory>
     requires { list_all (supports (execution_of run.now).site.op) list.now ≡ true }
     ensures { IfOk result (λ s. IsKeptOf false (execution_of run.now) list.now (keeping_of s)) }
 {
     if !has_stored(list) {
-        return Ok(NodeStores::Nothing);
+        return Ok(NodeKeeping::Nothing);
     }
     let (shelf, pass) = shelf_for(alloc, run, list)?;
-    Ok(NodeStores::Growing { shelf, pass })
+    Ok(NodeKeeping::Growing { shelf, pass })
 }
 
 /// Whether a list has a strategy that keeps a store.
@@ -137,8 +137,8 @@ fn whole_stores<R: Wait>(
     rt: &R,
     runs: &[NodeRun],
     lists: &[StrategyList],
-    begun: &mut [NodeStores],
-) -> Result<Vec<NodeStores>, NoMemory>
+    begun: &mut [NodeKeeping],
+) -> Result<Vec<NodeKeeping>, NoMemory>
     requires listed { AreListed (map execution_of runs.now) lists.now }
     requires kept { AreKeptOf false (map execution_of runs.now) lists.now
         (map keeping_of begun.old) }
@@ -165,8 +165,8 @@ fn end<R: Wait>(
     rt: &R,
     run: &NodeRun,
     list: &[Strategy],
-    begun: &mut NodeStores,
-) -> Result<NodeStores, NoMemory>
+    begun: &mut NodeKeeping,
+) -> Result<NodeKeeping, NoMemory>
     requires supported { list_all (supports (execution_of run.now).site.op) list.now ≡ true }
     requires kept { IsKeptOf false (execution_of run.now) list.now (keeping_of begun.old) }
     ensures whole { IfOk result
@@ -174,20 +174,20 @@ fn end<R: Wait>(
     ensures still { IsKeptStill (keeping_of begun.old) (keeping_of begun.new) }
 {
     match begun {
-        NodeStores::Nothing => made(alloc, rt, run, list),
-        NodeStores::Growing { shelf, pass } => Ok(NodeStores::Whole {
+        NodeKeeping::Nothing => made(alloc, rt, run, list),
+        NodeKeeping::Growing { shelf, pass } => Ok(NodeKeeping::Whole {
             store: taken(alloc, rt, run, list, shelf, pass)?,
         }),
-        NodeStores::Whole { store } => shared(store),
-        NodeStores::Read { .. } => unreachable!(),
+        NodeKeeping::Whole { store } => shared(store),
+        NodeKeeping::Read { .. } => unreachable!(),
     }
 }
 
 /// The same stores, shared once more.
-fn shared(store: &Arc<NodeStore>) -> Result<NodeStores, NoMemory>
+fn shared(store: &Arc<NodeStore>) -> Result<NodeKeeping, NoMemory>
     ensures { IfOk result (λ s. keeping_of s ≡ whole (arc_value store.now)) }
 {
-    Ok(NodeStores::Whole {
+    Ok(NodeKeeping::Whole {
         store: Arc::try_clone(store)?,
     })
 }
@@ -199,15 +199,15 @@ fn made<R: Wait>(
     rt: &R,
     run: &NodeRun,
     list: &[Strategy],
-) -> Result<NodeStores, NoMemory>
+) -> Result<NodeKeeping, NoMemory>
     requires { list_all (supports (execution_of run.now).site.op) list.now ≡ true }
     ensures { IfOk result (λ s. IsKeptOf true (execution_of run.now) list.now (keeping_of s)) }
 {
     if !has_stored(list) {
-        return Ok(NodeStores::Nothing);
+        return Ok(NodeKeeping::Nothing);
     }
     let (shelf, mut pass) = shelf_for(alloc, run, list)?;
-    Ok(NodeStores::Whole {
+    Ok(NodeKeeping::Whole {
         store: taken(alloc, rt, run, list, &shelf, &mut pass)?,
     })
 }

@@ -20,7 +20,7 @@ ghost use Rattle.sz_versions.specs.Lending.{lent, once_viewed, once_asked, IsTra
 ghost use Rattle.sz_versions.specs.Along.{view_in, views_along, search_along, IsTrailFor};
 
 use crate::inquiry::Inquiry;
-use crate::runs::{NodeStores, VersionRun};
+use crate::runs::{NodeKeeping, VersionRun};
 use std::alloc::Global;
 use std::sync::Arc;
 use sz_catalogue::HeldVersion;
@@ -170,7 +170,7 @@ fn view_by(
     alloc: Global,
     way: Strategy,
     run: &NodeRun,
-    stores: &mut NodeStores,
+    stores: &mut NodeKeeping,
 ) -> Result<NodeView, NoMemory>
     requires { IsOwn (keeping_of stores.old) }
     ensures view { IfOk result
@@ -199,7 +199,7 @@ fn kept_view(
     alloc: Global,
     way: Strategy,
     run: &NodeRun,
-    stores: &mut NodeStores,
+    stores: &mut NodeKeeping,
 ) -> Result<NodeView, NoMemory>
     requires { IsOwn (keeping_of stores.old) }
     ensures view { IfOk result
@@ -208,10 +208,10 @@ fn kept_view(
     ensures err { OnErr result (keeping_of stores.new ≡ keeping_of stores.old) }
 {
     match stores {
-        NodeStores::Nothing => trace_view(alloc, run),
-        NodeStores::Growing { shelf, pass } => growing_view(alloc, way, run, shelf, pass),
-        NodeStores::Whole { store } => store_view(way, run, store),
-        NodeStores::Read { store } => store_view(way, run, store),
+        NodeKeeping::Nothing => trace_view(alloc, run),
+        NodeKeeping::Growing { shelf, pass } => growing_view(alloc, way, run, shelf, pass),
+        NodeKeeping::Whole { store } => store_view(way, run, store),
+        NodeKeeping::Read { store } => store_view(way, run, store),
     }
 }
 

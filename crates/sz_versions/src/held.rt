@@ -22,7 +22,7 @@ ghost use Rattle.sz_versions.specs.Residents.{stored_in, replaced_in, IsStill};
 use crate::building::ended;
 use crate::finding::inquiry_along;
 use crate::inquiry::Inquiry;
-use crate::recalls::recall_each;
+use crate::recalled::recall_each;
 use crate::runs::VersionRun;
 use std::alloc::Global;
 use std::marker::Model;

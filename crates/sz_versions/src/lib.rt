@@ -31,7 +31,7 @@
 //! answered by the composed relation where its stores stand for it is a law
 //! ([`sound_stores_answer_the_relation`]).
 //!
-//! To whoever changes this crate: what is kept of a node is `NodeStores` (`runs`), and each kind of
+//! To whoever changes this crate: what is kept of a node is `NodeKeeping` (`runs`), and each kind of
 //! it has a line in `building` (how it begins and ends), in `finding` (the view of it), in `bodies`
 //! (what a log keeps of it), and in `specs/Stores`, `specs/Views`, `specs/Lending` and
 //! `specs/Residents`.
@@ -43,7 +43,7 @@ mod finding;
 mod held;
 mod inquiry;
 mod laws;
-mod recalls;
+mod recalled;
 mod runs;
 mod starting;
 mod tasks;
@@ -52,6 +52,6 @@ pub use bodies::body_for;
 pub use held::{HeldRun, HeldRuns};
 pub use inquiry::Inquiry;
 pub use laws::sound_stores_answer_the_relation;
-pub use runs::{NodeStores, VersionRun};
+pub use runs::{NodeKeeping, VersionRun};
 pub use starting::run_version;
 pub use tasks::Hands;

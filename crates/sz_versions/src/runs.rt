@@ -14,7 +14,7 @@ use sz_store::NodeStore;
 
 /// What is kept of a node. A further kind is a further line here and in `specs/Stores`.
 #[derive(Drop)]
-pub enum NodeStores {
+pub enum NodeKeeping {
     /// Nothing.
     Nothing,
     /// The shelf on which its stores grow, with a pass of it.
@@ -30,7 +30,7 @@ pub enum NodeStores {
 #[derive(Drop)]
 pub struct VersionRun {
     pub(crate) runs: Arc<Vec<NodeRun>>,
-    pub(crate) stores: Vec<NodeStores>,
+    pub(crate) stores: Vec<NodeKeeping>,
 }
 
 impl Model for VersionRun {
@@ -52,7 +52,7 @@ impl VersionRun {
     pub fn of(
         alloc: Global,
         runs: Vec<NodeRun>,
-        stores: Vec<NodeStores>,
+        stores: Vec<NodeKeeping>,
     ) -> Result<VersionRun, NoMemory>
         ensures { IfOk result (λ v. v ≡ record {
           executions = map execution_of runs.items;

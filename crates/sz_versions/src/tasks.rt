@@ -9,7 +9,7 @@ ghost use Rattle.sz_flow.specs.Executions.{execution_of};
 ghost use Rattle.sz_versions.specs.Stores.{IsKeptOf, AreKeptOf, IsShelfFor, keeping_of};
 ghost use Rattle.sz_versions.specs.Lending.{IsLentTo, AreLent};
 
-use crate::runs::{NodeStores, VersionRun};
+use crate::runs::{NodeKeeping, VersionRun};
 use std::alloc::Global;
 use std::sync::{Arc, Wait};
 use sz_cells::NoMemory;
@@ -71,12 +71,12 @@ impl Hands {
         node: u32,
         run: &NodeRun,
         list: &[Strategy],
-        stores: &mut NodeStores,
+        stores: &mut NodeKeeping,
     )
         requires { IsKeptOf false (execution_of run.now) list.now (keeping_of stores.old) }
         ensures { IsLentTo self.now.workers (keeping_of stores.old) (keeping_of stores.new) }
     {
-        let NodeStores::Growing { shelf, pass } = stores else {
+        let NodeKeeping::Growing { shelf, pass } = stores else {
             return;
         };
         let Ok((claims, mut claimant)) = Claims::new(alloc, pieces_of(run.at.out())) else {

@@ -7,7 +7,7 @@ use Rattle.clap.specs.Words.{Kinds, Row, Text, first_of}
 use Rattle.sz_words.specs.Command.{faults_of, matches_in}
 use Rattle.sz_words.specs.Job.{fitting_mode, job_in, job_of, mode_of, mode_if_taken}
 use Rattle.sz_words.specs.Place.{makes_log, place_of}
-use Rattle.sz_words.specs.declared.JobMode.{JobMode}
+use Rattle.sz_words.specs.declared.arguments.JobMode.{JobMode}
 
 refused_here : (kinds : Kinds) (mode : Option JobMode) → kinds ≢ [] → mode_if_taken kinds mode ≡ None
 refused_here [] mode some = absurd (some refl)

@@ -10,8 +10,8 @@ use Rattle.sz_words.specs.Job.{IsInRange, job_of, mode_of}
 use Rattle.sz_words.specs.Numbers.{IsNumberIn, number_of}
 use Rattle.sz_words.specs.Place.{place_of}
 use Rattle.sz_words.specs.declared.Job.{Job}
-use Rattle.sz_words.specs.declared.JobMode.{JobMode}
-use Rattle.sz_words.specs.declared.JobMode.TheVariants.{Play, Init, Run, Check, Load}
+use Rattle.sz_words.specs.declared.arguments.JobMode.{JobMode}
+use Rattle.sz_words.specs.declared.arguments.JobMode.TheVariants.{Play, Init, Run, Check, Load}
 
 -- the job of this mode and these numbers
 abbrev job : JobMode → ℕ → ℕ → ℕ → ℕ → Option Job

@@ -6,8 +6,8 @@ use Rattle.clap.specs.Words.{Kinds, Row, Text, first_of, one_of}
 use Rattle.sz_words.specs.Command.{faults_of, matches_in}
 use Rattle.sz_words.specs.Numbers.{number_of}
 use Rattle.sz_words.specs.declared.Job.{Job}
-use Rattle.sz_words.specs.declared.JobMode.{JobMode}
-use Rattle.sz_words.specs.declared.JobMode.TheVariants.{Play, Init, Run, Check, Load}
+use Rattle.sz_words.specs.declared.arguments.JobMode.{JobMode}
+use Rattle.sz_words.specs.declared.arguments.JobMode.TheVariants.{Play, Init, Run, Check, Load}
 
 -- the mode of this name
 abbrev pub mode_named : Text → Option JobMode

@@ -4,17 +4,14 @@ use Rattle.std.specs.Prelude.{string_bytes}
 use Rattle.clap.specs.Words.{Text, first_of}
 use Rattle.sz_words.specs.Command.{matches_in}
 use Rattle.sz_words.specs.Job.{mode_of}
-use Rattle.sz_words.specs.declared.JobMode.{JobMode}
-use Rattle.sz_words.specs.declared.JobMode.TheVariants.{Play, Init, Run, Check, Load}
+use Rattle.sz_words.specs.declared.arguments.JobMode.{JobMode}
+use Rattle.sz_words.specs.declared.arguments.JobMode.TheVariants.{Init}
 use Rattle.sz_words.specs.declared.LogPlace.{LogPlace}
 
 -- the file is made where it is not there
 abbrev pub makes_log : JobMode → Bool
-makes_log Play = false
 makes_log Init = true
-makes_log Run = false
-makes_log Check = false
-makes_log Load = false
+makes_log _ = false
 
 -- PLACE of accepted words, and whether its file is made; none where the words are refused or have
 -- no PLACE

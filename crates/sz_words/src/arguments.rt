@@ -1,4 +1,5 @@
-//! The command as `clap` has it, and what is read of its matches.
+//! The modes, the command as `clap` has it, and what is read of its matches. A further mode is a
+//! further line in each table here.
 //!
 //! The command is built once for each reading of words. What stands in its matches is read by the
 //! names of its arguments, so a name that is written here stands in `command` too.
@@ -11,10 +12,25 @@ ghost use Rattle.sz_words.specs.Job.{fitting_mode, is_on_log, mode_named};
 ghost use Rattle.sz_words.specs.Numbers.{HasNumbers, IsNumberIn, number_of};
 ghost use Rattle.sz_words.specs.Place.{makes_log};
 
-use crate::{JobMode, WordsFault};
+use crate::WordsFault;
 use clap::error::ErrorKind;
 use clap::{Arg, ArgAction, ArgMatches, Command, value_parser};
 use std::alloc::{AllocError, Global};
+
+/// What the program is asked to do.
+#[derive(Clone, Copy, Debug, PartialEq, Eq)]
+pub enum JobMode {
+    /// A session without a log.
+    Play,
+    /// Makes the empty log.
+    Init,
+    /// A session on a log.
+    Run,
+    /// Says whether a log is sound.
+    Check,
+    /// The generated session, on memory.
+    Load,
+}
 
 /// What clap finds in the words, refused exactly where clap refuses them for another cause than
 /// memory.
@@ -136,6 +152,6 @@ pub(crate) fn makes_log(mode: JobMode) -> bool
 {
     match mode {
         JobMode::Init => true,
-        JobMode::Play | JobMode::Run | JobMode::Check | JobMode::Load => false,
+        _ => false,
     }
 }

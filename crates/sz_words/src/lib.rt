@@ -37,6 +37,7 @@ ghost use Rattle.sz_words.specs.Place.{place_of, path_and_make};
 
 mod arguments;
 
+pub use arguments::JobMode;
 use arguments::{fitting_mode, makes_log, matches_of, number, text};
 use std::alloc::{AllocError, Global};
 
@@ -97,21 +98,6 @@ pub struct Job {
     pub seed: u32,
     /// The side of the generated session's arrays, in cells: 1 to 512.
     pub side: u32,
-}
-
-/// What the program is asked to do.
-#[derive(Clone, Copy, Debug, PartialEq, Eq)]
-pub enum JobMode {
-    /// A session without a log.
-    Play,
-    /// Makes the empty log.
-    Init,
-    /// A session on a log.
-    Run,
-    /// Says whether a log is sound.
-    Check,
-    /// The generated session, on memory.
-    Load,
 }
 
 /// The file of the log that the words name.

@@ -7,7 +7,7 @@ use std::alloc::Global;
 use std::sync::Arc;
 use std::test::Fail;
 use sz_cells::{Cell, CellSet, Run, Shape};
-use sz_region::{PayEntry, Payload};
+use sz_frame::{PayEntry, Payload};
 use sz_tables::EntryTable;
 
 /// A shape of one row of 20 columns.

@@ -21,8 +21,9 @@ use std::alloc::Global;
 use std::sync::Arc;
 use std::test::Fail;
 use sz_cells::{CellBits, CellSet, NoMemory, Run, Shape};
+use sz_frame::{PieceLineage, Region, SetList};
 use sz_full_many::FullMany;
-use sz_region::{PieceLineage, Region, SetList, Take};
+use sz_region::Take;
 use sz_spec::{Dir, Op, OpAt};
 
 /// The output's shape, which is that of input 0.

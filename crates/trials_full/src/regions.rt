@@ -8,7 +8,7 @@ use std::alloc::Global;
 use std::sync::Arc;
 use std::test::Fail;
 use sz_cells::{Cell, CellSet, NoMemory, Run, Shape};
-use sz_region::{Region, SetList};
+use sz_frame::{Region, SetList};
 use sz_tables::RegionTable;
 
 /// A shape of one row of 20 columns.

@@ -33,10 +33,10 @@ pub struct Bench {
 
 impl Model for Bench {
     ghost use Rattle.std.specs.Arc.{arc_value};
-    ghost use Rattle.sz_shelf.specs.Places.{Place};
+    ghost use Rattle.sz_shelf.specs.Places.{ShelfPlace};
     ghost use Rattle.trials_merge.specs.Bench.{IsBench};
 
-    ghost Value = { Place };
+    ghost Value = { ShelfPlace };
 
     ghost view = { λ b. arc_value b.shelf };
 

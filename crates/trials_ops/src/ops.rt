@@ -16,10 +16,10 @@ use std::alloc::Global;
 use std::sync::Arc;
 use std::test::Fail;
 use sz_cells::{Cell, CellBits, CellSet, Run, Shape};
+use sz_frame::{PayEntry, PieceLineage, Region};
 use sz_ops::{
     Aid, OpMap, image_by_map, piece, prepare, prepare_lineage, run, run_prepared, trace, value_at,
 };
-use sz_region::{PayEntry, PieceLineage, Region};
 use sz_spec::{
     Array, ArrayList, Dir, Mapper, Mode, Op, OpAt, Strategy, Tally, Value, arity, has_mode,
     has_right_parameters, pieces_of, supports,

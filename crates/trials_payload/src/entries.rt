@@ -13,8 +13,9 @@ use std::alloc::Global;
 use std::sync::Arc;
 use std::test::Fail;
 use sz_cells::{Cell, CellBits, CellSet, Run, Shape};
+use sz_frame::{PayEntry, Payload, PieceLineage};
 use sz_payload::{PayMap, PayStore};
-use sz_region::{PayEntry, Payload, PieceLineage, Take};
+use sz_region::Take;
 use sz_spec::{Dir, Op, OpAt};
 
 /// Two payloads, none and that of column 1; two sets, {0, 1} and {3}; and the two entries.

@@ -15,7 +15,8 @@ use std::alloc::Global;
 use std::sync::Arc;
 use std::test::Fail;
 use sz_cells::{CellBits, NoMemory, Run, Shape};
-use sz_region::{PieceLineage, Take};
+use sz_frame::PieceLineage;
+use sz_region::Take;
 use sz_spec::{Dir, Op, OpAt, Strategy};
 use sz_store::NodeStore;
 

@@ -3,15 +3,15 @@
 ghost use Rattle.std.specs.Prelude.{◌≡◌, ◌<◌, true, false, None, IfOk, OnOk};
 ghost use Rattle.sz_script.specs.Right.{is_right};
 ghost use Rattle.sz_catalogue.specs.Rules.{judged, has_no_version, version_of};
-ghost use Rattle.sz_recover.specs.Fitting.{Fit, lineages};
-ghost use Rattle.sz_recover.specs.Lawful.{CanBeAdded};
+ghost use Rattle.sz_bodies.specs.Fitting.{Fit, lineages};
+ghost use Rattle.sz_bodies.specs.Lawful.{CanBeAdded};
 
 use std::alloc::Global;
 use std::sync::Arc;
 use std::test::Fail;
+use sz_bodies::{TakeFault, TakenVersion, take_version_body, version_body};
 use sz_catalogue::{Catalogue, HeldVersion};
 use sz_cells::NoMemory;
-use sz_recover::{TakeFault, TakenVersion, take_version_body, version_body};
 use sz_script::{Command, read_line};
 use sz_spec::Strategy;
 use sz_store::NodeStore;

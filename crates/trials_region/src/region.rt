@@ -7,7 +7,8 @@ ghost use Rattle.sz_cells.specs.Extent.{flat};
 use std::alloc::Global;
 use std::test::Fail;
 use sz_cells::{Cell, CellBits, CellSet, Run, Shape};
-use sz_region::{Take, add_cell, has_cell, put_set, set_of_cell, take_set};
+use sz_frame::{add_cell, has_cell, set_of_cell};
+use sz_region::{Take, put_set, take_set};
 
 /// The shape of four rows and five columns.
 fn four_by_five() -> Result<Shape, Fail>

@@ -58,11 +58,7 @@ impl Catalogue {
                 back,
                 forward,
             } => self.plan(name.as_str(), base.as_slice(), units, back, forward),
-            Command::Start { .. } => unreachable!(),
-            Command::Await { .. } => unreachable!(),
-            Command::Ask { .. } => unreachable!(),
-            Command::Explain { .. } => unreachable!(),
-            Command::Show { .. } => unreachable!(),
+            _ => unreachable!(),
         }
     }
 

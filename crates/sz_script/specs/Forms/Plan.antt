@@ -1,5 +1,5 @@
--- {"plan":NAME,"base":[[NAME,U],..],"units":U,"back":U,"forward":U}: plan the strategies of a flow's
--- nodes on base arrays, for so many units and so many asks in each direction.
+-- {"plan":NAME,"base":[[NAME,U],..],"units":U,"back":U,"forward":U}: plan the strategies of a
+-- flow's nodes on base arrays, for so many units and so many asks in each direction.
 use Rattle.std.specs.Prelude.{ℕ, List, [], ◌∷◌, codes, option_map, option_and_then}
 use Rattle.serde_json.specs.Find.{as_str}
 use Rattle.sz_script.specs.Fields.{number_in, list_at, at}

@@ -1,5 +1,5 @@
-//! {"plan":NAME,"base":[[NAME,U],..],"units":U,"back":U,"forward":U}: plan the strategies of a flow's
-//! nodes on base arrays, for so many units and so many asks in each direction.
+//! {"plan":NAME,"base":[[NAME,U],..],"units":U,"back":U,"forward":U}: plan the strategies of a
+//! flow's nodes on base arrays, for so many units and so many asks in each direction.
 
 ghost use Rattle.std.specs.Prelude.{◌≡◌};
 ghost use Rattle.serde_json.specs.View.{view};

@@ -6,8 +6,8 @@ use std::cell::Cell as Count;
 use std::sync::Arc;
 use std::test::Fail;
 use sz_cells::{Cell, CellBits, CellSet, NoMemory, Run, Shape};
+use sz_frame::{AtWork, Mapped, Payload, at_work, trace_by};
 use sz_ops_move::Transposition;
-use sz_region::{AtWork, Mapped, Payload, at_work, trace_by};
 use sz_spec::{Dir, Op, Tally, Value};
 
 /// An operator at work that counts how often it is asked.

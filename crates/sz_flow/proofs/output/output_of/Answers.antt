@@ -3,7 +3,7 @@ use Rattle.std.proofs.Common.{map, length, List, Option, sym, ap, ◌∙◌}
 use Rattle.std.specs.Prelude.{ℤ}
 use Rattle.std.specs.Arc.{arc_value}
 use Rattle.sz_cells.specs.Extent.{size_of}
-use Rattle.sz_region.proofs.Added.{values-length}
+use Rattle.sz_frame.proofs.Added.{values-length}
 use Rattle.sz_flow.proofs.output.output_of.Goals as goal
 
 pub array_of-requires : goal.array_of-requires

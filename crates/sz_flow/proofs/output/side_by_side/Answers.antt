@@ -7,7 +7,7 @@ use Rattle.std.proofs.lemmas.List.{ext_get_or}
 use Rattle.std.proofs.lemmas.List.FromFn.{get_or-map-range_with_len, length-map-range_with_len}
 use Rattle.sz_cells.specs.Extent.{size_of, cell_of}
 use Rattle.sz_spec.specs.Evaluation.{value_of}
-use Rattle.sz_region.specs.Walks.{values_before}
+use Rattle.sz_frame.specs.Walks.{values_before}
 use Rattle.sz_flow.proofs.output.side_by_side.Goals as goal
 
 pub returns : goal.returns

@@ -1,7 +1,7 @@
 -- The tree of the look is round the sets from which it starts.
 use Rattle.std.proofs.Common.{rules, ◌≡◌, ◌<◌, length, ap, subst, sym}
 use Rattle.std.specs.Arc.{arc_value}
-use Rattle.sz_region.specs.Parts.{Pairing}
+use Rattle.sz_frame.specs.Parts.{Pairing}
 use Rattle.sz_spec.specs.Shapes.{Site}
 use Rattle.sz_tables.specs.Stores.{Store}
 use Rattle.sz_full_many.proofs.Indexing.{tree-found}

@@ -4,7 +4,7 @@ use Rattle.std.proofs.Common.{refl, ap, sym, subst, arith}
 use Rattle.std.specs.Arc.{arc_value}
 use Rattle.std.proofs.lemmas.List.{take_at, length-map}
 use Rattle.std.proofs.lemmas.Result.{on_ok_weaker}
-use Rattle.sz_region.specs.Parts.{Pairing}
+use Rattle.sz_frame.specs.Parts.{Pairing}
 use Rattle.sz_spec.specs.Shapes.{Site}
 use Rattle.sz_rtree.specs.Rectangles.{Rectangles}
 use Rattle.sz_tables.specs.Rows.{RowTable, pairings}

@@ -1,7 +1,7 @@
 -- The cells of the set are met in rising order.
 use Rattle.std.proofs.Common.{◌≡◌, ◌<◌, refl, sym, ap, subst, ◌∙◌, arith}
 use Rattle.sz_cells.specs.Extent.{Extent, size_of, cell_of}
-use Rattle.sz_region.proofs.Added.{next-is, next-none}
+use Rattle.sz_frame.proofs.Added.{next-is, next-none}
 use Rattle.sz_full_many.proofs.Rounded.{round-more, round-rest, round-all}
 use Rattle.sz_full_many.proofs.bounds.bounds_of_bits.Goals as goal
 

@@ -1,7 +1,7 @@
 -- One set more.
 use Rattle.std.proofs.Common.{◌≡◌, ◌∙◌, ap, arith, map}
 use Rattle.std.specs.Arc.{arc_value}
-use Rattle.sz_region.specs.Parts.{Pairing}
+use Rattle.sz_frame.specs.Parts.{Pairing}
 use Rattle.sz_tables.specs.Rows.{runs_in}
 use Rattle.sz_tables.specs.Stores.{cells_in}
 use Rattle.sz_tables.proofs.Counted.{item-made, sum-more}

@@ -2,7 +2,7 @@
 use Rattle.std.proofs.Common.{◌≡◌, ◌+◌, ◌≤◌, ℕ, length, refl, arith, map}
 use Rattle.std.specs.Prelude.{sum_by}
 use Rattle.std.specs.Arc.{arc_value}
-use Rattle.sz_region.specs.Parts.{Pairing}
+use Rattle.sz_frame.specs.Parts.{Pairing}
 use Rattle.sz_tables.specs.Rows.{weight_of}
 use Rattle.sz_tables.specs.Stores.{cells_in}
 use Rattle.sz_tables.proofs.Counted.{item-made, sum-more}

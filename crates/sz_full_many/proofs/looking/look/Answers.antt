@@ -1,6 +1,6 @@
 -- Where no cell is asked, nothing is added.
 use Rattle.std.proofs.Common.{refl}
-use Rattle.sz_region.proofs.Added.{own-at}
+use Rattle.sz_frame.proofs.Added.{own-at}
 use Rattle.sz_full_many.proofs.Looked.{nothing-asked}
 use Rattle.sz_full_many.proofs.looking.look.Goals as goal
 

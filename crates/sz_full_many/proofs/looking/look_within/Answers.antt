@@ -1,7 +1,7 @@
 -- Each row whose rectangle overlaps adds what it adds, and those between add nothing.
 use Rattle.std.proofs.Common.{◌≡◌, length, refl, ap, ◌∙◌, arith}
 use Rattle.std.proofs.lemmas.List.{length-map}
-use Rattle.sz_region.proofs.Added.{own-at}
+use Rattle.sz_frame.proofs.Added.{own-at}
 use Rattle.sz_tables.specs.Rows.{pairings, pairing_of}
 use Rattle.sz_tables.proofs.Scanned.{none-added, row-added, rows-added, nothing-seen}
 use Rattle.sz_full_many.proofs.Looked.{passed-over, round-long}

@@ -2,7 +2,7 @@
 use Rattle.std.proofs.Common.{◌≡◌, List, map, ap, refl, ◌∙◌}
 use Rattle.std.specs.Arc.{arc_value}
 use Rattle.sz_spec.specs.Shapes.{Site}
-use Rattle.sz_region.specs.Parts.{Pairing}
+use Rattle.sz_frame.specs.Parts.{Pairing}
 use Rattle.sz_tables.proofs.ReadPairs.{word-pairs}
 use Rattle.sz_full_one.proofs.FullOne.take_bytes.Goals as goal
 

@@ -4,7 +4,7 @@ use Rattle.std.proofs.Common.{List, arith, length-drop}
 use Rattle.std.specs.Prelude.{sum_by}
 use Rattle.std.specs.Arc.{arc_value}
 use Rattle.sz_cells.specs.Extent.{Extent}
-use Rattle.sz_region.specs.Parts.{Pairing}
+use Rattle.sz_frame.specs.Parts.{Pairing}
 use Rattle.sz_tables.specs.Rows.{pairings, weight_of}
 use Rattle.sz_full_one.specs.ByCells.{IsIndexOf, IsPairIn, HasRoom, pair_cells}
 use Rattle.sz_full_one.proofs.Counted.{sum-left, pushed-next}

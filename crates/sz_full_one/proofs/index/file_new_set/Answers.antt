@@ -2,7 +2,7 @@
 use Rattle.std.proofs.Common.{◌≡◌, ◌<◌, ◌≤◌, ◌+◌, ℕ, List, length, refl, sym, ap, subst, ◌∙◌, arith}
 use Rattle.std.specs.Arc.{arc_value}
 use Rattle.sz_cells.specs.Cells.{Cells}
-use Rattle.sz_region.specs.Stands.{set_of}
+use Rattle.sz_frame.specs.Stands.{set_of}
 use Rattle.sz_tables.specs.Filed.{Files}
 use Rattle.sz_tables.specs.Rows.{RowTable}
 use Rattle.sz_full_one.specs.ByCells.{with_filed}

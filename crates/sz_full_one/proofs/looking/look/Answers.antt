@@ -3,9 +3,9 @@ use Rattle.std.proofs.Common.{◌≡◌, ℕ, ◌<◌, ◌+◌, refl, sym, ap, s
 use Rattle.sz_cells.specs.Extent.{Extent, size_of, cell_of}
 use Rattle.sz_cells.specs.Cells.{with_those}
 use Rattle.sz_spec.specs.Sides.{extent_before}
-use Rattle.sz_region.specs.Stands.{full_stands}
-use Rattle.sz_region.specs.Walks.{stepped, added}
-use Rattle.sz_region.proofs.Added.{with-none, own-at, next-is, next-none, stepped-next, stepped-skip}
+use Rattle.sz_frame.specs.Stands.{full_stands}
+use Rattle.sz_frame.specs.Walks.{stepped, added}
+use Rattle.sz_frame.proofs.Added.{with-none, own-at, next-is, next-none, stepped-next, stepped-skip}
 use Rattle.sz_tables.specs.Rows.{pairings}
 use Rattle.sz_full_one.specs.ByCells.{side_of}
 use Rattle.sz_full_one.proofs.ImagesBetween.{stepped-between}

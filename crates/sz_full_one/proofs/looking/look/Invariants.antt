@@ -3,8 +3,8 @@ use Rattle.std.proofs.Common.{◌≡◌, ◌-◌, ◌≤◌}
 use Rattle.sz_cells.specs.Extent.{size_of}
 use Rattle.sz_cells.specs.Cells.{with_those}
 use Rattle.sz_spec.specs.Sides.{extent_before}
-use Rattle.sz_region.specs.Stands.{full_stands}
-use Rattle.sz_region.specs.Walks.{stepped, added}
+use Rattle.sz_frame.specs.Stands.{full_stands}
+use Rattle.sz_frame.specs.Walks.{stepped, added}
 use Rattle.sz_tables.specs.Rows.{pairings}
 use Rattle.sz_full_one.specs.ByCells.{adds, side_of, IsDone}
 use Rattle.sz_full_one.proofs.looking.look.Given as goal

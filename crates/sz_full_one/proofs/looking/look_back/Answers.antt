@@ -4,7 +4,7 @@ use Rattle.sz_cells.specs.declared.Cell.{Cell}
 use Rattle.sz_cells.specs.Extent.{cell_of}
 use Rattle.sz_cells.specs.Cells.{Cells, with_those}
 use Rattle.sz_spec.specs.declared.modes.Dir.TheVariants.{Back}
-use Rattle.sz_region.specs.Stands.{full_stands}
+use Rattle.sz_frame.specs.Stands.{full_stands}
 use Rattle.sz_tables.specs.Rows.{RowTable, row_at, number_in, pairings}
 use Rattle.sz_full_one.specs.ByCells.{adds}
 use Rattle.sz_full_one.proofs.Entries.{walk-start, walk-next, walk-here, walk-end, is-inside, done-now}

@@ -4,8 +4,8 @@ use Rattle.sz_cells.specs.Extent.{cell_of}
 use Rattle.sz_cells.specs.Cells.{with_those}
 use Rattle.sz_spec.specs.declared.modes.Dir.TheVariants.{Forward}
 use Rattle.sz_spec.specs.Values.{extent_at}
-use Rattle.sz_region.specs.Stands.{full_stands}
-use Rattle.sz_region.specs.Walks.{steps}
+use Rattle.sz_frame.specs.Stands.{full_stands}
+use Rattle.sz_frame.specs.Walks.{steps}
 use Rattle.sz_tables.specs.Rows.{pairings}
 use Rattle.sz_full_one.specs.ByCells.{adds}
 use Rattle.sz_full_one.proofs.Entries.{walk-start, walk-next, walk-here, walk-end, is-inside, done-now}

@@ -1,7 +1,7 @@
 -- Up to the gate all stays while the group is written behind it, and then the gate alone is torn.
 use Rattle.std.proofs.Common.{◌≡◌, ◌≤◌, ◌+◌, ◌++◌, ◌∷◌, [], List, ℕ, Some, length, ap, ◌∙◌, subst, arith}
 use Rattle.sz_outside.specs.Disk.{Passes, Said, written}
-use Rattle.sz_log.specs.Log.{Entry, IsEntry, entry_bytes}
+use Rattle.sz_log.specs.Log.{LogGroup, IsLogGroup, bytes_behind_gate}
 use Rattle.sz_log.specs.Steps.{KeepsFront}
 use Rattle.sz_log.proofs.Moments.{told, all_told, only_of}
 use Rattle.sz_log.proofs.Tears.{staged, length-written, written-before}
@@ -46,12 +46,12 @@ returns-in_err-put-clause-stops g c = all_told _ _ (λ d is.
     (KeepsFront n) (Said (g.T.Station.said c.size.new.self))) next (c.stage.ensures.stops d is_1 place))
     c.size.ensures.output.0 in
     let log = as_log at (record { kind = c.args.kind; body = c.args.body.now }) front in
-    let e : Entry = record { kind = c.args.kind; body = c.args.body.now } in
+    let e : LogGroup = record { kind = c.args.kind; body = c.args.body.now } in
     let disk_2 : g.T.Station.disk c.stage.new.station ≡ Some (staged d at e) =
-    c.in_ok-next.ensures.written d is_1 place ∙ ap (λ (n : ℕ). Some (written d n (entry_bytes e ++ 0 ∷ []))) next in
+    c.in_ok-next.ensures.written d is_1 place ∙ ap (λ (n : ℕ). Some (written d n (bytes_behind_gate e ++ 0 ∷ []))) next in
     let place_2 : at ≤ length (staged d at e) =
-    omega (arith, length-written d (at + 1) (entry_bytes e ++ 0 ∷ []) inner) in
-    let is_entry : IsEntry e = (c.requires.kind, omega (arith, c.in_ok-next.ensures.limit)) in
+    omega (arith, length-written d (at + 1) (bytes_behind_gate e ++ 0 ∷ []) inner) in
+    let is_entry : IsLogGroup e = (c.requires.kind, omega (arith, c.in_ok-next.ensures.limit)) in
     let all = opens found (g.T.Station.said c.stage.new.station) at e d is_entry
     (only_of o d (g.T.Station.may_leave c.args.station.now) is c.requires.synced)
     (only_of (g.T.Station.disk c.stage.new.station) (staged d at e) (g.T.Station.may_leave c.stage.new.station) disk_2
@@ -77,12 +77,12 @@ returns-clause-stops g c = all_told _ _ (λ d is.
     (KeepsFront n) (Said (g.T.Station.said c.size.new.self))) next (c.stage.ensures.stops d is_1 place))
     c.size.ensures.output.0 in
     let log = as_log at (record { kind = c.args.kind; body = c.args.body.now }) front in
-    let e : Entry = record { kind = c.args.kind; body = c.args.body.now } in
+    let e : LogGroup = record { kind = c.args.kind; body = c.args.body.now } in
     let disk_2 : g.T.Station.disk c.stage.new.station ≡ Some (staged d at e) =
-    c.in_ok-next.ensures.written d is_1 place ∙ ap (λ (n : ℕ). Some (written d n (entry_bytes e ++ 0 ∷ []))) next in
+    c.in_ok-next.ensures.written d is_1 place ∙ ap (λ (n : ℕ). Some (written d n (bytes_behind_gate e ++ 0 ∷ []))) next in
     let place_2 : at ≤ length (staged d at e) =
-    omega (arith, length-written d (at + 1) (entry_bytes e ++ 0 ∷ []) inner) in
-    let is_entry : IsEntry e = (c.requires.kind, omega (arith, c.in_ok-next.ensures.limit)) in
+    omega (arith, length-written d (at + 1) (bytes_behind_gate e ++ 0 ∷ []) inner) in
+    let is_entry : IsLogGroup e = (c.requires.kind, omega (arith, c.in_ok-next.ensures.limit)) in
     let all = opens found (g.T.Station.said c.stage.new.station) at e d is_entry
     (only_of o d (g.T.Station.may_leave c.args.station.now) is c.requires.synced)
     (only_of (g.T.Station.disk c.stage.new.station) (staged d at e) (g.T.Station.may_leave c.stage.new.station) disk_2
@@ -114,13 +114,13 @@ returns-clause-written g c = writes_told _ _ _ _ (λ d is.
     place_is o d at c.in_ok-size.field-0 c.saturating_add.result is c.requires.log c.in_ok-size.ensures.size
     (omega arith) c.saturating_add.ensures in
     let place : c.saturating_add.result ≤ length d = omega (arith, next, inner) in
-    let e : Entry = record { kind = c.args.kind; body = c.args.body.now } in
+    let e : LogGroup = record { kind = c.args.kind; body = c.args.body.now } in
     let disk_2 : g.T.Station.disk c.stage.new.station ≡ Some (staged d at e) =
-    c.in_ok-next.ensures.written d is_1 place ∙ ap (λ (n : ℕ). Some (written d n (entry_bytes e ++ 0 ∷ []))) next in
+    c.in_ok-next.ensures.written d is_1 place ∙ ap (λ (n : ℕ). Some (written d n (bytes_behind_gate e ++ 0 ∷ []))) next in
     let place_2 : at ≤ length (staged d at e) =
-    omega (arith, length-written d (at + 1) (entry_bytes e ++ 0 ∷ []) inner) in
+    omega (arith, length-written d (at + 1) (bytes_behind_gate e ++ 0 ∷ []) inner) in
     c.in_ok-put.ensures.written (staged d at e) disk_2 place_2
-    ∙ ap (λ (l : List ℕ). Some l) (written-before d at 1 (entry_bytes e ++ 0 ∷ []) (omega (arith, inner))))
+    ∙ ap (λ (l : List ℕ). Some l) (written-before d at 1 (bytes_behind_gate e ++ 0 ∷ []) (omega (arith, inner))))
     (λ is. c.in_ok-put.ensures.untold (c.in_ok-next.ensures.untold (c.size.ensures.disk ∙ is)))
 
 pub returns-clause-added : goal.returns-clause-added
@@ -134,11 +134,11 @@ returns-clause-added g c = added_told _ _ _ _ (c.requires.kind, omega (arith, c.
     place_is o d at c.in_ok-size.field-0 c.saturating_add.result is c.requires.log c.in_ok-size.ensures.size
     (omega arith) c.saturating_add.ensures in
     let place : c.saturating_add.result ≤ length d = omega (arith, next, inner) in
-    let e : Entry = record { kind = c.args.kind; body = c.args.body.now } in
+    let e : LogGroup = record { kind = c.args.kind; body = c.args.body.now } in
     let disk_2 : g.T.Station.disk c.stage.new.station ≡ Some (staged d at e) =
-    c.in_ok-next.ensures.written d is_1 place ∙ ap (λ (n : ℕ). Some (written d n (entry_bytes e ++ 0 ∷ []))) next in
+    c.in_ok-next.ensures.written d is_1 place ∙ ap (λ (n : ℕ). Some (written d n (bytes_behind_gate e ++ 0 ∷ []))) next in
     let place_2 : at ≤ length (staged d at e) =
-    omega (arith, length-written d (at + 1) (entry_bytes e ++ 0 ∷ []) inner) in
+    omega (arith, length-written d (at + 1) (bytes_behind_gate e ++ 0 ∷ []) inner) in
     c.in_ok-put.ensures.written (staged d at e) disk_2 place_2
-    ∙ ap (λ (l : List ℕ). Some l) (written-before d at 1 (entry_bytes e ++ 0 ∷ []) (omega (arith, inner))))
+    ∙ ap (λ (l : List ℕ). Some l) (written-before d at 1 (bytes_behind_gate e ++ 0 ∷ []) (omega (arith, inner))))
     (λ is. c.in_ok-put.ensures.untold (c.in_ok-next.ensures.untold (c.size.ensures.disk ∙ is)))

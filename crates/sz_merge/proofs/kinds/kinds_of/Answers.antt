@@ -2,9 +2,9 @@
 use Rattle.std.proofs.Common.{◌∙◌, List, map, sym, ap, subst, All}
 use Rattle.std.specs.Arc.{arc_value}
 use Rattle.sz_cells.specs.Extent.{Extent}
-use Rattle.sz_region.specs.Parts.{Pairing}
+use Rattle.sz_frame.specs.Parts.{Pairing}
 use Rattle.sz_region.specs.Putting.{HasShapes}
-use Rattle.sz_region.specs.Stands.{full_stands}
+use Rattle.sz_frame.specs.Stands.{full_stands}
 use Rattle.sz_merge.specs.Distinct.{AreKinds}
 use Rattle.sz_merge.specs.Marks.{AreLabels}
 use Rattle.sz_merge.proofs.Sorting.{sorted-from, sorted-longest, kinds-are, kinds-shapes, kinds-same}

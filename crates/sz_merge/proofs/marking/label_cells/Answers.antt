@@ -4,7 +4,7 @@ use Rattle.std.proofs.Common.{subst, arith}
 use Rattle.std.specs.Arc.{arc_value}
 use Rattle.std.proofs.lemmas.List.{length-map, take_more}
 use Rattle.sz_cells.specs.Extent.{Extent, size_of}
-use Rattle.sz_region.specs.Parts.{Pairing}
+use Rattle.sz_frame.specs.Parts.{Pairing}
 use Rattle.sz_region.specs.Putting.{HasShapes}
 use Rattle.sz_tables.proofs.Taking.{read-map}
 use Rattle.sz_merge.specs.Marks.{AreMarked, AreLabels, has_index}

@@ -6,7 +6,7 @@ use Rattle.sz_cells.specs.Extent.{Extent, size_of}
 use Rattle.sz_cells.specs.Cells.{Cells}
 use Rattle.sz_cells.specs.Runs.{runs_of, covers, Spells, is_in}
 use Rattle.sz_cells.proofs.Runs.{runs-at}
-use Rattle.sz_region.specs.Parts.{Pairing}
+use Rattle.sz_frame.specs.Parts.{Pairing}
 use Rattle.sz_merge.specs.Marks.{IsNext, AreMarked}
 use Rattle.sz_merge.proofs.Marked.{marked-none, marked-ext, runs-more, runs-all, numbers-kept}
 use Rattle.sz_merge.proofs.marking.mark.Goals as goal

@@ -4,9 +4,9 @@ use Rattle.std.specs.Arc.{arc_value}
 use Rattle.std.proofs.lemmas.List.{length-map}
 use Rattle.sz_cells.specs.declared.Cell.{Cell}
 use Rattle.sz_cells.specs.Extent.{Extent}
-use Rattle.sz_region.specs.Parts.{Pairing}
+use Rattle.sz_frame.specs.Parts.{Pairing}
 use Rattle.sz_region.specs.Putting.{HasShapes}
-use Rattle.sz_region.specs.Stands.{full_stands}
+use Rattle.sz_frame.specs.Stands.{full_stands}
 use Rattle.sz_region.proofs.ReadShapes.{read-shapes}
 use Rattle.sz_merge.specs.Distinct.{AreKinds}
 use Rattle.sz_merge.proofs.Behind.{full-merged, can-put}

@@ -3,7 +3,7 @@ use Rattle.std.proofs.Common.{◌≡◌, ℕ, ◌+◌, List, length}
 use Rattle.std.specs.List.{AllZip, flat_map}
 use Rattle.sz_cells.specs.SetBytes.{four_bytes}
 use Rattle.sz_spec.specs.Values.{extent_at}
-use Rattle.sz_region.specs.Parts.{Pairing}
+use Rattle.sz_frame.specs.Parts.{Pairing}
 use Rattle.sz_region.specs.Counted.{IsAt}
 use Rattle.sz_region.specs.FullBytes.{AreNamesOf}
 use Rattle.sz_merge.specs.Apart.{AreSeen}

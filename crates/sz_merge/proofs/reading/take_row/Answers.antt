@@ -2,9 +2,9 @@
 use Rattle.std.proofs.Common.{◌≡◌, ℕ, ◌+◌, [], ◌∷◌, sym, ap, subst, ◌∙◌, refl, arith}
 use Rattle.std.specs.List.{flat_map}
 use Rattle.sz_cells.specs.SetBytes.{four_bytes}
-use Rattle.sz_region.specs.Parts.{Pairing}
+use Rattle.sz_frame.specs.Parts.{Pairing}
 use Rattle.sz_region.specs.Counted.{IsAt}
-use Rattle.sz_region.specs.Stands.{set_of}
+use Rattle.sz_frame.specs.Stands.{set_of}
 use Rattle.sz_region.proofs.Spans.{at-nothing, at-more}
 use Rattle.sz_merge.proofs.reading.take_row.Goals as goal
 use Rattle.sz_merge.proofs.reading.take_row.Goals.{then-input-eq0, else-input-eq0}

@@ -4,7 +4,7 @@ use Rattle.std.specs.Arc.{arc_value}
 use Rattle.std.specs.Option.{IfSome}
 use Rattle.sz_spec.specs.declared.modes.Strategy.{Strategy}
 use Rattle.sz_spec.specs.Shapes.{Site}
-use Rattle.sz_shelf.specs.Places.{Place}
+use Rattle.sz_shelf.specs.Places.{ShelfPlace}
 use Rattle.sz_shelf.specs.Tags.{Tag, StandsFor}
 use Rattle.sz_merge.proofs.Swapped.{stands-merged}
 use Rattle.sz_merge.proofs.task.merge_on.Goals as goal
@@ -15,7 +15,7 @@ swap-requires-clause-stands c d =
     let s : Site = arc_value d.args.at.now in
     let list : List Strategy = d.args.list.now in
     let m = d.in_ok-merged.ensures in
-    let same : t ≡ d.args.pass.now.tag = ap (λ (z : Place). z.tag) d.in_ok-store.ensures.turn.place in
+    let same : t ≡ d.args.pass.now.tag = ap (λ (z : ShelfPlace). z.tag) d.in_ok-store.ensures.turn.place in
     let stands : StandsFor t (arc_value d.in-Some.store) =
     subst (λ (o : Option _). IfSome o (λ a. StandsFor t (arc_value a))) d.in-Some.is d.in_ok-store.ensures.stands in
     stands-merged t s list (arc_value d.in-Some.store) (arc_value d.in_ok-merged.merged) m.0 m.1 stands

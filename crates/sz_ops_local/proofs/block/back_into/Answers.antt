@@ -4,9 +4,9 @@ use Rattle.sz_cells.specs.Extent.{Extent, holds}
 use Rattle.sz_spec.specs.declared.op.Op.TheVariants.{Block}
 use Rattle.sz_spec.specs.Values.{extent_at}
 use Rattle.sz_spec.specs.Lineage.{mapped}
-use Rattle.sz_region.proofs.Added.{with-ext}
+use Rattle.sz_frame.proofs.Added.{with-ext}
 use Rattle.sz_ops_local.specs.Windows.{is_in, IsWindow}
-use Rattle.sz_region.proofs.Inputs.{shape-is}
+use Rattle.sz_frame.proofs.Inputs.{shape-is}
 use Rattle.sz_ops_local.proofs.Blocks.{block-input}
 use Rattle.sz_ops_local.proofs.block.back_into.Goals as goal
 

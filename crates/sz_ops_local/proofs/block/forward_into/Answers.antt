@@ -4,7 +4,7 @@ use Rattle.sz_cells.specs.Extent.{holds}
 use Rattle.sz_spec.specs.declared.op.Op.TheVariants.{Block}
 use Rattle.sz_spec.specs.Values.{extent_at}
 use Rattle.sz_spec.specs.Lineage.{mapped}
-use Rattle.sz_region.proofs.OneCell.{adds-only}
+use Rattle.sz_frame.proofs.OneCell.{adds-only}
 use Rattle.sz_ops_local.proofs.Blocks.{block-input}
 use Rattle.sz_ops_local.proofs.block.forward_into.Goals as goal
 

@@ -7,7 +7,7 @@ use Rattle.sz_cells.proofs.Sets.{any_cell-ext}
 use Rattle.sz_spec.specs.declared.op.Op.TheVariants.{Block}
 use Rattle.sz_spec.specs.Values.{extent_at}
 use Rattle.sz_spec.specs.Lineage.{mapped}
-use Rattle.sz_region.proofs.Added.{own-at}
+use Rattle.sz_frame.proofs.Added.{own-at}
 use Rattle.sz_ops_local.specs.Windows.{is_in, IsWindow}
 use Rattle.sz_ops_local.proofs.Blocks.{block-input}
 use Rattle.sz_ops_local.proofs.block.meets.Goals as goal

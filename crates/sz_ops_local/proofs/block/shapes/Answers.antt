@@ -4,7 +4,7 @@ use Rattle.std.proofs.lemmas.Bool.{and_parts}
 use Rattle.sz_cells.specs.Extent.{Extent, layered, height_of}
 use Rattle.sz_spec.specs.Values.{extent_at}
 use Rattle.sz_spec.specs.Operators.Folds.{blocks_over}
-use Rattle.sz_region.proofs.Inputs.{shape-is}
+use Rattle.sz_frame.proofs.Inputs.{shape-is}
 use Rattle.sz_ops_local.proofs.Blocks.{blocked, block-sides}
 use Rattle.sz_ops_local.proofs.block.shapes.Goals as goal
 

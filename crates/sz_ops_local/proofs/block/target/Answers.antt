@@ -5,8 +5,8 @@ use Rattle.sz_cells.specs.declared.Cell.{Cell}
 use Rattle.sz_cells.specs.Extent.{Extent, holds, layer_of, row_in}
 use Rattle.sz_spec.specs.declared.op.Op.TheVariants.{Block}
 use Rattle.sz_spec.specs.Lineage.{mapped}
-use Rattle.sz_region.specs.Single.{IsOnly}
-use Rattle.sz_region.proofs.Places.{is_at, found, found-held, not-found, only-by}
+use Rattle.sz_frame.specs.Single.{IsOnly}
+use Rattle.sz_frame.proofs.Places.{is_at, found, found-held, not-found, only-by}
 use Rattle.sz_ops_local.proofs.Blocks.{block-at, block-place}
 use Rattle.sz_ops_local.proofs.block.target.Goals as goal
 

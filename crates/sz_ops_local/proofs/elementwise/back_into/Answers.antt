@@ -2,7 +2,7 @@
 use Rattle.std.proofs.Common.{sym, ◌∙◌, arith}
 use Rattle.sz_cells.specs.Cells.{is_same}
 use Rattle.sz_spec.specs.Lineage.{mapped}
-use Rattle.sz_region.proofs.Added.{with-ext}
+use Rattle.sz_frame.proofs.Added.{with-ext}
 use Rattle.sz_ops_local.proofs.Places.{mapped-same, same-shapes}
 use Rattle.sz_ops_local.proofs.elementwise.back_into.Goals as goal
 

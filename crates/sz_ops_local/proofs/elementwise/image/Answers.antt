@@ -3,7 +3,7 @@ use Rattle.std.proofs.Common.{◌∙◌, sym}
 use Rattle.sz_cells.specs.Cells.{has}
 use Rattle.sz_spec.specs.Lineage.{mapped}
 use Rattle.sz_spec.specs.Sides.{near_side, image_in}
-use Rattle.sz_region.proofs.Added.{own-at, with-ext}
+use Rattle.sz_frame.proofs.Added.{own-at, with-ext}
 use Rattle.sz_ops_local.proofs.Places.{same-sides, image-same}
 use Rattle.sz_ops_local.proofs.elementwise.image.Goals as goal
 

@@ -2,7 +2,7 @@
 use Rattle.std.proofs.Common.{◌<◌, sym, ◌∙◌, arith}
 use Rattle.sz_spec.specs.Shapes.{arity}
 use Rattle.sz_spec.specs.Lineage.{mapped}
-use Rattle.sz_region.proofs.Added.{own-at}
+use Rattle.sz_frame.proofs.Added.{own-at}
 use Rattle.sz_ops_local.proofs.Places.{any-at_place, mapped-same}
 use Rattle.sz_ops_local.proofs.elementwise.meets.Goals as goal
 

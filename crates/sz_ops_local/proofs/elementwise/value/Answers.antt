@@ -8,7 +8,7 @@ use Rattle.sz_spec.specs.Values.{Grid, input_at}
 use Rattle.sz_spec.specs.Shapes.{Site, arity}
 use Rattle.sz_spec.specs.Work.{IsAtWork}
 use Rattle.std.specs.Prelude.{List}
-use Rattle.sz_region.proofs.Inputs.{input-extent}
+use Rattle.sz_frame.proofs.Inputs.{input-extent}
 use Rattle.sz_ops_local.specs.Local.{is_elementwise}
 use Rattle.sz_ops_local.proofs.Places.{inputs-count, same-shapes}
 use Rattle.sz_ops_local.proofs.elementwise.value.Goals.{then-inputs-gt1+in_ok-b, else-inputs-gt1}

@@ -1,7 +1,7 @@
 -- Each row widens the window.
 use Rattle.std.proofs.Common.{◌≡◌, refl, ap, ◌∙◌, arith}
 use Rattle.sz_cells.specs.Cells.{with_those}
-use Rattle.sz_region.proofs.Added.{own-at}
+use Rattle.sz_frame.proofs.Added.{own-at}
 use Rattle.sz_ops_local.specs.Windows.{is_between}
 use Rattle.sz_ops_local.proofs.WindowCells.{added-first, added-next}
 use Rattle.sz_ops_local.proofs.window.add.Goals as goal

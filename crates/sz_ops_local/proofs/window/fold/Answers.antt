@@ -5,8 +5,8 @@ use Rattle.sz_cells.specs.Cells.{cells_where}
 use Rattle.sz_cells.proofs.Shapes.{sides}
 use Rattle.sz_spec.specs.Values.{numbers_at}
 use Rattle.sz_spec.specs.Operators.Folds.{fold_of}
-use Rattle.sz_region.specs.Folding.{Summary, summary_of}
-use Rattle.sz_region.proofs.FoldedCells.{numbers-few}
+use Rattle.sz_frame.specs.Folding.{Summary, summary_of}
+use Rattle.sz_frame.proofs.FoldedCells.{numbers-few}
 use Rattle.sz_ops_local.specs.Windows.{is_between}
 use Rattle.sz_ops_local.proofs.WindowCells.{numbers-first, numbers-next}
 use Rattle.sz_ops_local.proofs.window.fold.Goals as goal

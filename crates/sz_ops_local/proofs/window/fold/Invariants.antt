@@ -2,7 +2,7 @@
 use Rattle.std.proofs.Common.{◌≡◌}
 use Rattle.sz_cells.specs.Cells.{cells_where}
 use Rattle.sz_spec.specs.Values.{numbers_at}
-use Rattle.sz_region.specs.Folding.{summary_of}
+use Rattle.sz_frame.specs.Folding.{summary_of}
 use Rattle.sz_ops_local.specs.Windows.{is_between}
 use Rattle.sz_ops_local.proofs.window.fold.Given as goal
 

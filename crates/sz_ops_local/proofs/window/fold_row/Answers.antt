@@ -2,8 +2,8 @@
 use Rattle.std.proofs.Common.{◌≡◌, ℕ, ◌+◌, ◌-◌, ◌*◌, ◌++◌, List, length, take, drop, ap, ap₂, sym, ◌∙◌, arith}
 use Rattle.std.specs.Prelude.{ℤ, Option}
 use Rattle.sz_cells.specs.Extent.{Extent, size_of}
-use Rattle.sz_region.specs.Folding.{summary_of, numbers_in}
-use Rattle.sz_region.proofs.FoldedCells.{numbers-row}
+use Rattle.sz_frame.specs.Folding.{summary_of, numbers_in}
+use Rattle.sz_frame.proofs.FoldedCells.{numbers-row}
 use Rattle.sz_ops_local.proofs.window.fold_row.Goals as goal
 
 pub returns : goal.returns

@@ -2,7 +2,7 @@
 use Rattle.std.proofs.Common.{◌≡◌, ◌+◌, false, ap, sym, ◌∙◌, arith}
 use Rattle.sz_cells.specs.Cells.{any_cell}
 use Rattle.sz_ops_local.specs.Windows.{is_between, is_in}
-use Rattle.sz_region.proofs.Passing.{met-wider}
+use Rattle.sz_frame.proofs.Passing.{met-wider}
 use Rattle.sz_ops_local.proofs.WindowCells.{met-first, met-next, row-in_window}
 use Rattle.sz_ops_local.proofs.window.meets.Goals as goal
 

@@ -2,10 +2,10 @@
 use Rattle.std.proofs.Common.{◌≡◌, ◌+◌, false, refl, ap, sym, ◌∙◌, arith}
 use Rattle.sz_cells.specs.declared.Cell.{Cell}
 use Rattle.sz_cells.specs.Cells.{any_cell, is_same}
-use Rattle.sz_region.proofs.Added.{own-at}
+use Rattle.sz_frame.proofs.Added.{own-at}
 use Rattle.sz_ops_local.specs.Windows.{is_between}
-use Rattle.sz_region.proofs.OneCell.{has-one}
-use Rattle.sz_region.proofs.Passing.{met-wider}
+use Rattle.sz_frame.proofs.OneCell.{has-one}
+use Rattle.sz_frame.proofs.Passing.{met-wider}
 use Rattle.sz_ops_local.proofs.WindowCells.{met-no_cols, met-col, cell-in_row}
 use Rattle.sz_ops_local.proofs.window.meets_row.Goals as goal
 

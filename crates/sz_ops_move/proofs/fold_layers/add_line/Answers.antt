@@ -2,7 +2,7 @@
 use Rattle.std.proofs.Common.{◌≡◌, true, refl, sym, ap, subst, ◌∙◌, arith}
 use Rattle.sz_cells.specs.Extent.{Extent, holds}
 use Rattle.sz_cells.specs.Cells.{Cells}
-use Rattle.sz_region.proofs.Added.{own-at}
+use Rattle.sz_frame.proofs.Added.{own-at}
 use Rattle.sz_ops_move.proofs.Layers.{added-first, added-next, added-all}
 use Rattle.sz_ops_move.proofs.fold_layers.add_line.Goals as goal
 

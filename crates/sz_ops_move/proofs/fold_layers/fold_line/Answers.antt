@@ -7,8 +7,8 @@ use Rattle.sz_cells.specs.Cells.{Cells, cells_where}
 use Rattle.sz_cells.proofs.Shapes.{sides}
 use Rattle.sz_spec.specs.Values.{numbers_at, value_at}
 use Rattle.sz_spec.specs.Operators.Folds.{fold_of}
-use Rattle.sz_region.specs.Folding.{Summary, summary_of, numbers_in}
-use Rattle.sz_region.proofs.FoldedCells.{numbers-few}
+use Rattle.sz_frame.specs.Folding.{Summary, summary_of, numbers_in}
+use Rattle.sz_frame.proofs.FoldedCells.{numbers-few}
 use Rattle.sz_ops_move.proofs.Layers.{is_before, above, line-first, line-next, line-all}
 use Rattle.sz_ops_move.proofs.fold_layers.fold_line.Goals as goal
 

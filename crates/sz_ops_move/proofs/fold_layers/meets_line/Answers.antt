@@ -3,10 +3,10 @@ use Rattle.std.proofs.Common.{◌≡◌, true, false, refl, sym, ap, subst, ◌�
 use Rattle.sz_cells.specs.declared.Cell.{Cell}
 use Rattle.sz_cells.specs.Extent.{Extent}
 use Rattle.sz_cells.specs.Cells.{is_same, any_cell}
-use Rattle.sz_region.proofs.Added.{own-at}
+use Rattle.sz_frame.proofs.Added.{own-at}
 use Rattle.sz_ops_move.specs.Moving.{is_in_line}
-use Rattle.sz_region.proofs.OneCell.{has-one}
-use Rattle.sz_region.proofs.Passing.{met-wider}
+use Rattle.sz_frame.proofs.OneCell.{has-one}
+use Rattle.sz_frame.proofs.Passing.{met-wider}
 use Rattle.sz_ops_move.proofs.Layers.{above, met-first, met-next, met-line, met-all}
 use Rattle.sz_ops_move.proofs.fold_layers.meets_line.Goals as goal
 

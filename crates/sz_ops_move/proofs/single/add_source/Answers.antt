@@ -3,7 +3,7 @@ use Rattle.std.proofs.Common.{◌≡◌, true, Some, sym, ap, subst, ◌∙◌}
 use Rattle.sz_cells.specs.Extent.{Extent, holds}
 use Rattle.sz_spec.specs.Values.{extent_at}
 use Rattle.sz_spec.specs.Lineage.{mapped}
-use Rattle.sz_region.proofs.OneCell.{adds-only}
+use Rattle.sz_frame.proofs.OneCell.{adds-only}
 use Rattle.sz_ops_move.proofs.Inputs.{first-input}
 use Rattle.sz_ops_move.proofs.single.add_source.Goals as goal
 

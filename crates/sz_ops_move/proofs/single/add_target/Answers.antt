@@ -1,7 +1,7 @@
 -- There is one input, and exactly the cell that is there is mapped.
 use Rattle.std.proofs.Common.{◌∙◌}
 use Rattle.sz_spec.specs.Lineage.{mapped}
-use Rattle.sz_region.proofs.OneCell.{adds-only}
+use Rattle.sz_frame.proofs.OneCell.{adds-only}
 use Rattle.sz_ops_move.proofs.Inputs.{first-input}
 use Rattle.sz_ops_move.proofs.single.add_target.Goals as goal
 

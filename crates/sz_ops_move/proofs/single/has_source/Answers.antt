@@ -2,8 +2,8 @@
 use Rattle.std.proofs.Common.{Some, ◌∙◌}
 use Rattle.sz_spec.specs.Values.{extent_at}
 use Rattle.sz_spec.specs.Lineage.{mapped}
-use Rattle.sz_region.proofs.Added.{own-at}
-use Rattle.sz_region.proofs.OneCell.{any-only}
+use Rattle.sz_frame.proofs.Added.{own-at}
+use Rattle.sz_frame.proofs.OneCell.{any-only}
 use Rattle.sz_ops_move.proofs.Inputs.{first-input}
 use Rattle.sz_ops_move.proofs.single.has_source.Goals as goal
 

@@ -6,8 +6,8 @@ use Rattle.sz_cells.specs.Extent.{Extent}
 use Rattle.sz_cells.specs.Cells.{Cells, cells_where}
 use Rattle.sz_spec.specs.Values.{extent_at}
 use Rattle.sz_spec.specs.Lineage.{mapped}
-use Rattle.sz_region.specs.Single.{is_cell}
-use Rattle.sz_region.proofs.OneCell.{set-only}
+use Rattle.sz_frame.specs.Single.{is_cell}
+use Rattle.sz_frame.proofs.OneCell.{set-only}
 use Rattle.sz_ops_move.proofs.Inputs.{first-input}
 use Rattle.sz_ops_move.proofs.single.set_of_source.Goals as goal
 

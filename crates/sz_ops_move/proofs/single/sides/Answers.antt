@@ -1,7 +1,7 @@
 -- The operator has one input, and shapes are right.
 use Rattle.std.proofs.Common.{◌≡◌, ◌<◌, true, length, subst, arith}
 use Rattle.sz_cells.specs.Extent.{Extent, is_extent}
-use Rattle.sz_region.proofs.Inputs.{shape-is}
+use Rattle.sz_frame.proofs.Inputs.{shape-is}
 use Rattle.sz_ops_move.proofs.Inputs.{one-input}
 use Rattle.sz_ops_move.proofs.single.sides.Goals as goal
 

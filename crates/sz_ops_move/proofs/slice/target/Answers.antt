@@ -4,7 +4,7 @@ use Rattle.sz_cells.specs.Extent.{layer_of, row_in}
 use Rattle.sz_spec.specs.declared.op.Op.TheVariants.{Slice}
 use Rattle.sz_spec.specs.Values.{extent_at}
 use Rattle.sz_spec.specs.Lineage.{mapped}
-use Rattle.sz_region.proofs.Places.{is_at, found, only-by}
+use Rattle.sz_frame.proofs.Places.{is_at, found, only-by}
 use Rattle.sz_ops_move.proofs.Windows.{slice-mapped_on}
 use Rattle.sz_ops_move.proofs.slice.target.Goals as goal
 

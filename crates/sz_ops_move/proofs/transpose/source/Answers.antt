@@ -4,8 +4,8 @@ use Rattle.sz_cells.specs.Extent.{layer_of, row_in}
 use Rattle.sz_spec.specs.declared.op.Op.TheVariants.{Transpose}
 use Rattle.sz_spec.specs.Values.{extent_at}
 use Rattle.sz_spec.specs.Lineage.{mapped}
-use Rattle.sz_region.specs.Single.{IsOnly}
-use Rattle.sz_region.proofs.Places.{is_at, found, not-found, only-by}
+use Rattle.sz_frame.specs.Single.{IsOnly}
+use Rattle.sz_frame.proofs.Places.{is_at, found, not-found, only-by}
 use Rattle.sz_ops_move.proofs.Windows.{transpose-back, transpose-mapped}
 use Rattle.sz_ops_move.proofs.transpose.source.Goals as goal
 

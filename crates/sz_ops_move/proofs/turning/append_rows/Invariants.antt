@@ -3,7 +3,7 @@ use Rattle.std.proofs.Common.{◌≡◌, ◌+◌, ◌*◌, map}
 use Rattle.std.specs.Arc.{arc_value}
 use Rattle.sz_cells.specs.Extent.{height_of}
 use Rattle.sz_spec.specs.Values.{extent_at}
-use Rattle.sz_region.specs.Walks.{values_before}
+use Rattle.sz_frame.specs.Walks.{values_before}
 use Rattle.sz_ops_move.proofs.turning.append_rows.Given as goal
 
 abbrev pub invariant-loop-j : goal.invariant-loop-j

@@ -5,7 +5,7 @@ use Rattle.std.specs.Prelude.{ℤ}
 use Rattle.std.specs.Arc.{arc_value}
 use Rattle.sz_cells.specs.Extent.{size_of, height_of}
 use Rattle.sz_spec.specs.Values.{Grid, extent_at, input_at}
-use Rattle.sz_region.specs.Walks.{values_before}
+use Rattle.sz_frame.specs.Walks.{values_before}
 use Rattle.sz_ops_move.specs.Turning.{IsStrip}
 use Rattle.sz_ops_move.proofs.Turned.{within, row-within, strip-sides}
 use Rattle.sz_ops_move.proofs.turning.turned.Goals as goal

@@ -1,7 +1,7 @@
 -- The strips so far are the values of the rows before this one.
 use Rattle.std.proofs.Common.{◌≡◌, ◌*◌, ◌-◌, ◌≤◌, map, length}
 use Rattle.std.specs.Arc.{arc_value}
-use Rattle.sz_region.specs.Walks.{values_before}
+use Rattle.sz_frame.specs.Walks.{values_before}
 use Rattle.sz_ops_move.proofs.turning.turned.Given as goal
 
 abbrev pub invariant-loop-row : goal.invariant-loop-row

@@ -7,8 +7,8 @@ use Rattle.sz_spec.specs.declared.modes.Dir.TheVariants.{Back}
 use Rattle.sz_spec.specs.Values.{input_at}
 use Rattle.sz_spec.specs.Lineage.{related}
 use Rattle.sz_spec.specs.Operators.Regions.{is_connected}
-use Rattle.sz_region.specs.Walks.{traced}
-use Rattle.sz_region.proofs.Added.{with-none, own-at, traced-not_in}
+use Rattle.sz_frame.specs.Walks.{traced}
+use Rattle.sz_frame.proofs.Added.{with-none, own-at, traced-not_in}
 use Rattle.sz_ops_region.specs.Tracing.{first_index, first_of, AreMarked}
 use Rattle.sz_ops_region.proofs.Labels.{grid-shape}
 use Rattle.sz_ops_region.proofs.Tracing.{component-extent, marked-grows, marked-more, traced-high, traced-marked}

@@ -5,8 +5,8 @@ use Rattle.sz_cells.specs.Extent.{size_of, cell_of}
 use Rattle.sz_cells.specs.Cells.{Cells, with_those}
 use Rattle.sz_spec.specs.declared.modes.Dir.TheVariants.{Back}
 use Rattle.sz_spec.specs.Lineage.{related}
-use Rattle.sz_region.specs.Walks.{traced, added}
-use Rattle.sz_region.proofs.Added.{with-none, own-at, traced-next, traced-all}
+use Rattle.sz_frame.specs.Walks.{traced, added}
+use Rattle.sz_frame.proofs.Added.{with-none, own-at, traced-next, traced-all}
 use Rattle.sz_ops_region.proofs.Labels.{one-shape}
 use Rattle.sz_ops_region.proofs.walk.trace_cells.Goals as goal
 

@@ -6,7 +6,7 @@ use Rattle.sz_cells.specs.Cells.{with_those}
 use Rattle.sz_spec.specs.declared.modes.Dir.TheVariants.{Back}
 use Rattle.sz_spec.specs.Values.{input_at}
 use Rattle.sz_spec.specs.Lineage.{related}
-use Rattle.sz_region.specs.Walks.{traced, added}
+use Rattle.sz_frame.specs.Walks.{traced, added}
 use Rattle.sz_ops_region.specs.Tracing.{AreMarked}
 use Rattle.sz_ops_region.proofs.walk.trace_cells.Given as goal
 

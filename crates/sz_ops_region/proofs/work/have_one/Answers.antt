@@ -1,7 +1,7 @@
 -- The cell that is found is in both, or no cell of the shape is.
 use Rattle.std.proofs.Common.{◌≡◌, true, sym, ◌∙◌, arith}
 use Rattle.sz_cells.specs.Extent.{holds}
-use Rattle.sz_region.proofs.Added.{own-at}
+use Rattle.sz_frame.proofs.Added.{own-at}
 use Rattle.sz_ops_region.proofs.Labels.{both-one, both-none}
 use Rattle.sz_ops_region.proofs.work.have_one.Goals as goal
 

@@ -2,7 +2,7 @@
 use Rattle.std.proofs.Common.{◌≡◌, true, ap, subst, arith}
 use Rattle.sz_cells.specs.Extent.{Extent}
 use Rattle.sz_spec.specs.Weights.{Weights, is_kernel}
-use Rattle.sz_region.proofs.Places.{are-small}
+use Rattle.sz_frame.proofs.Places.{are-small}
 use Rattle.sz_ops_window.proofs.Sums.{kernel-sides}
 use Rattle.sz_ops_window.proofs.convolve.reach_of.Goals as goal
 

@@ -6,7 +6,7 @@ use Rattle.std.proofs.lemmas.Int.{to_z-of_z}
 use Rattle.std.specs.Prelude.{ℤ, pos, min, ◌+ℤ◌, ◌*ℤ◌, List, Option}
 use Rattle.std.specs.Int.RustNames.{unsigned_abs}
 use Rattle.sz_cells.specs.Extent.{Extent, is_extent, size_of}
-use Rattle.sz_region.proofs.Places.{are-small}
+use Rattle.sz_frame.proofs.Places.{are-small}
 use Rattle.sz_spec.specs.Weights.{Weights, is_kernel, tap_at, is_zero}
 use Rattle.sz_ops_window.specs.declared.window.Window.{Window}
 use Rattle.sz_ops_window.specs.Sums.{reach_of}

@@ -6,8 +6,8 @@ use Rattle.std.specs.Arc.{arc_value}
 use Rattle.std.proofs.lemmas.Int.{to_z-of_z}
 use Rattle.sz_cells.specs.Extent.{cell_of}
 use Rattle.sz_spec.specs.Evaluation.{value_of}
-use Rattle.sz_region.specs.Walks.{values_before}
-use Rattle.sz_region.proofs.Added.{values-next}
+use Rattle.sz_frame.specs.Walks.{values_before}
+use Rattle.sz_frame.proofs.Added.{values-next}
 use Rattle.sz_ops_window.specs.Sweeps.{unless}
 use Rattle.sz_ops_window.proofs.sweep.append_sums.Goals as goal
 

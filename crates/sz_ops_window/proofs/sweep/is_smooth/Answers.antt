@@ -3,7 +3,7 @@ use Rattle.std.proofs.Common.{◌≡◌, ◌+◌, ◌-◌, ◌/◌, ◌<◌, ◌
 use Rattle.std.proofs.Common.{rules}
 use Rattle.std.proofs.lemmas.Bool.Decides.{eqb_tells}
 use Rattle.sz_cells.specs.Extent.{is_extent}
-use Rattle.sz_region.proofs.Places.{are-small}
+use Rattle.sz_frame.proofs.Places.{are-small}
 use Rattle.sz_spec.specs.Weights.{Weights, is_kernel}
 use Rattle.sz_ops_window.specs.declared.window.Window.{Window}
 use Rattle.sz_ops_window.proofs.Sums.{kernel-sides}

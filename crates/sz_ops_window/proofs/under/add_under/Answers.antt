@@ -3,7 +3,7 @@ use Rattle.std.proofs.Common.{◌≡◌, true, refl, sym, ap, subst, ◌∙◌, 
 use Rattle.std.specs.Prelude.{IfSome}
 use Rattle.sz_cells.specs.Extent.{Extent, holds}
 use Rattle.sz_cells.specs.Cells.{Cells}
-use Rattle.sz_region.proofs.Added.{own-at}
+use Rattle.sz_frame.proofs.Added.{own-at}
 use Rattle.sz_ops_window.proofs.Taps.{led-start, led-step, led-end, tap-count}
 use Rattle.sz_ops_window.proofs.under.add_under.Goals as goal
 

@@ -1,7 +1,7 @@
 -- A cell that is met settles the answer, and one that is not leaves it open.
 use Rattle.std.proofs.Common.{refl, sym, ◌∙◌, arith}
-use Rattle.sz_region.proofs.Added.{own-at}
-use Rattle.sz_region.proofs.Passing.{met-none}
+use Rattle.sz_frame.proofs.Added.{own-at}
+use Rattle.sz_frame.proofs.Passing.{met-none}
 use Rattle.sz_spec.specs.declared.modes.Dir.TheVariants.{Back}
 use Rattle.sz_ops_window.specs.Taps.{led_before}
 use Rattle.sz_ops_window.proofs.Taps.{meets-some, meets-step, meets-none, tap-count}

@@ -2,9 +2,9 @@
 use Rattle.std.proofs.Common.{refl, sym, ◌∙◌}
 use Rattle.sz_cells.specs.Cells.{is_same}
 use Rattle.sz_spec.specs.Payloads.{mapped_by_payload}
-use Rattle.sz_region.proofs.Added.{own-at}
-use Rattle.sz_region.proofs.OneCell.{has-one}
-use Rattle.sz_region.proofs.Passing.{met-ext}
+use Rattle.sz_frame.proofs.Added.{own-at}
+use Rattle.sz_frame.proofs.OneCell.{has-one}
+use Rattle.sz_frame.proofs.Passing.{met-ext}
 use Rattle.sz_payload.proofs.Operators.{clean-alone, clean-first}
 use Rattle.sz_payload.proofs.clean.meets.Goals as goal
 

@@ -2,7 +2,7 @@
 use Rattle.std.proofs.Common.{sym, ap₂, ◌∙◌, arith, Bool, ◌+◌, ◌||◌}
 use Rattle.sz_spec.specs.Rectangles.{is_in_rectangle, is_in_row}
 use Rattle.sz_spec.proofs.CodeSquare.{is_in_rows, rows-more}
-use Rattle.sz_region.proofs.Passing.{met-none, met-ext, met-or, met-wider}
+use Rattle.sz_frame.proofs.Passing.{met-none, met-ext, met-or, met-wider}
 use Rattle.sz_payload.proofs.Meeting.{no-rows, row-inside, all-rows}
 use Rattle.sz_payload.proofs.clean.rectangle_meets.Goals as goal
 

@@ -2,7 +2,7 @@
 use Rattle.std.proofs.Common.{◌∙◌}
 use Rattle.sz_spec.specs.Rectangles.{is_in_rectangle}
 use Rattle.sz_spec.specs.Operators.Clean.{is_in_square}
-use Rattle.sz_region.proofs.Added.{own-at}
+use Rattle.sz_frame.proofs.Added.{own-at}
 use Rattle.sz_payload.proofs.Meeting.{met-held}
 use Rattle.sz_payload.proofs.clean.square_meets.Goals as goal
 

@@ -2,7 +2,7 @@
 use Rattle.std.proofs.Common.{◌≡◌, ℕ, ◌<◌, ◌≤◌, ◌*◌, length, take, map, get_or}
 use Rattle.std.specs.Prelude.{sum_by}
 use Rattle.std.specs.Arc.{arc_value}
-use Rattle.sz_region.specs.Parts.{Entry}
+use Rattle.sz_frame.specs.Parts.{Entry}
 use Rattle.sz_tables.specs.Rows.{runs_in}
 use Rattle.sz_tables.specs.Stores.{cells_in}
 use Rattle.sz_payload.proofs.counting.runs_of_all.Given as goal

@@ -2,7 +2,7 @@
 use Rattle.std.proofs.Common.{◌∙◌}
 use Rattle.sz_spec.specs.Values.{extent_at}
 use Rattle.sz_spec.specs.Payloads.{mapped_by_payload}
-use Rattle.sz_region.proofs.OneCell.{adds-only}
+use Rattle.sz_frame.proofs.OneCell.{adds-only}
 use Rattle.sz_payload.proofs.lookup.map_p.Goals as goal
 
 pub returns-clause-added : goal.returns-clause-added

@@ -2,8 +2,8 @@
 use Rattle.std.proofs.Common.{◌∙◌}
 use Rattle.sz_spec.specs.Values.{extent_at}
 use Rattle.sz_spec.specs.Payloads.{mapped_by_payload}
-use Rattle.sz_region.proofs.Added.{own-at}
-use Rattle.sz_region.proofs.OneCell.{any-only}
+use Rattle.sz_frame.proofs.Added.{own-at}
+use Rattle.sz_frame.proofs.OneCell.{any-only}
 use Rattle.sz_payload.proofs.lookup.meets.Goals as goal
 
 pub returns : goal.returns

@@ -5,7 +5,7 @@ use Rattle.std.proofs.lemmas.List.{take_at, take_more, length-take-le}
 use Rattle.sz_cells.specs.declared.Run.{Run}
 use Rattle.sz_cells.specs.Extent.{size_of}
 use Rattle.sz_cells.specs.Runs.{AreRunsFrom, Spells, covers}
-use Rattle.sz_region.specs.Parts.{Entry}
+use Rattle.sz_frame.specs.Parts.{Entry}
 use Rattle.sz_tables.specs.Entries.{entries, entry_at}
 use Rattle.sz_tables.specs.Rows.{set_at}
 use Rattle.sz_tables.proofs.MetRuns.{set-spelled}

@@ -3,7 +3,7 @@ use Rattle.std.proofs.Common.{sym, ◌∙◌}
 use Rattle.sz_cells.specs.Cells.{has}
 use Rattle.sz_cells.specs.SetWords.{set_spelled}
 use Rattle.sz_spec.specs.Payloads.{mapped_by_payload}
-use Rattle.sz_region.proofs.Added.{with-ext}
+use Rattle.sz_frame.proofs.Added.{with-ext}
 use Rattle.sz_payload.proofs.Operators.{regions-first, regions-set, regions-word, near-first, some-bytes}
 use Rattle.sz_payload.proofs.regions.map_p.Goals as goal
 

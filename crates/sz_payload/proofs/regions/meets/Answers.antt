@@ -3,9 +3,9 @@ use Rattle.std.proofs.Common.{refl, sym, ◌∙◌}
 use Rattle.sz_cells.specs.Cells.{has, is_same}
 use Rattle.sz_cells.specs.SetWords.{set_spelled}
 use Rattle.sz_spec.specs.Payloads.{mapped_by_payload}
-use Rattle.sz_region.proofs.Added.{own-at}
-use Rattle.sz_region.proofs.OneCell.{has-one}
-use Rattle.sz_region.proofs.Passing.{met-ext}
+use Rattle.sz_frame.proofs.Added.{own-at}
+use Rattle.sz_frame.proofs.OneCell.{has-one}
+use Rattle.sz_frame.proofs.Passing.{met-ext}
 use Rattle.sz_payload.proofs.Operators.{regions-first, regions-set, regions-word, regions-alone, near-first}
 use Rattle.sz_payload.proofs.Operators.{some-bytes, no-bytes}
 use Rattle.sz_payload.proofs.regions.meets.Goals as goal

@@ -7,7 +7,7 @@ use Rattle.sz_cells.specs.Runs.{covers}
 use Rattle.sz_cells.specs.SetWords.{runs_spelled}
 use Rattle.sz_cells.specs.Words.{cells_at}
 use Rattle.sz_cells.proofs.Bitmaps.{runs-start, runs-step}
-use Rattle.sz_region.proofs.Added.{own-at}
+use Rattle.sz_frame.proofs.Added.{own-at}
 use Rattle.sz_region.proofs.Spelling.{spelled-count, run-kept}
 use Rattle.sz_payload.proofs.SetWords.{run-here}
 use Rattle.sz_payload.proofs.runs.add_runs.Goals as goal

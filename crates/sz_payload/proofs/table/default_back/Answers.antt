@@ -1,7 +1,7 @@
 -- Over another input than the first there is no default.
 use Rattle.std.proofs.Common.{refl}
 use Rattle.sz_spec.specs.Lineage.{mapped}
-use Rattle.sz_region.proofs.Added.{own-at, with-none}
+use Rattle.sz_frame.proofs.Added.{own-at, with-none}
 use Rattle.sz_payload.proofs.Operators.{no-default}
 use Rattle.sz_payload.proofs.table.default_back.Goals as goal
 

@@ -2,7 +2,7 @@
 use Rattle.std.proofs.Common.{refl, sym, ◌∙◌}
 use Rattle.sz_cells.specs.Cells.{is_same}
 use Rattle.sz_spec.specs.Lineage.{mapped}
-use Rattle.sz_region.proofs.Added.{own-at, with-none, with-ext}
+use Rattle.sz_frame.proofs.Added.{own-at, with-none, with-ext}
 use Rattle.sz_payload.proofs.Operators.{no-default, own-default}
 use Rattle.sz_payload.proofs.table.default_forward.Goals as goal
 

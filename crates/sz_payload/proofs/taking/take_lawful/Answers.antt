@@ -4,7 +4,7 @@ use Rattle.std.specs.Arc.{arc_value}
 use Rattle.sz_cells.specs.Extent.{Extent}
 use Rattle.sz_cells.specs.SetBytes.{set_bytes}
 use Rattle.sz_region.specs.Counted.{counted, rows_bytes}
-use Rattle.sz_region.specs.Parts.{Entry}
+use Rattle.sz_frame.specs.Parts.{Entry}
 use Rattle.sz_region.specs.PayBytes.{BeginsEntries}
 use Rattle.sz_region.specs.Stores.{SaysNoEntries}
 use Rattle.sz_payload.proofs.Judged.{table-of, forget, judge, says-none}

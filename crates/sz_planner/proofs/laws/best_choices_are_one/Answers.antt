@@ -6,7 +6,7 @@ use Rattle.std.proofs.lemmas.Bool.Decides.{nat_tests}
 use Rattle.sz_spec.specs.declared.modes.Strategy.{Strategy}
 use Rattle.sz_spec.specs.Modes.{supports, number_of}
 use Rattle.sz_spec.specs.Shapes.{Site}
-use Rattle.sz_spec.specs.Choices.{is_choice, comes_before, cost_of}
+use Rattle.sz_planner.specs.Choices.{is_choice, comes_before, cost_of}
 use Rattle.sz_spec.proofs.Ways.{number-apart}
 use Rattle.sz_planner.specs.Laws.{BestChoicesAreOne}
 use Rattle.sz_planner.proofs.Offered.{and-both}

@@ -41,7 +41,8 @@ loop-done-preserved c =
           c.in_ok-offer.offer c.loop-done.list.items _ next (rw cut at c.loop-done.invariant.list));
       left = omega arith;
       units = units-more back forward c.index-nodes-done.result (drop (c.loop-done.done + 1) nodes) c.args.limit
-          c.loop-done.left c.in_ok-offer.offer _ next c.loop-done.invariant.left (rw cut at c.loop-done.invariant.units);
+          c.loop-done.left c.in_ok-offer.offer _ next c.loop-done.invariant.left
+          (rw cut at c.loop-done.invariant.units);
     }
 
 -- at the end no node is left

@@ -1,6 +1,6 @@
 -- The key idea: the list so far with that of the nodes left, within the units left, is the whole list.
 use Rattle.std.proofs.Common.{◌≡◌, ◌≤◌, ◌+◌, ◌-◌, ◌++◌, drop}
-use Rattle.sz_spec.specs.Choices.{units_of}
+use Rattle.sz_planner.specs.Choices.{units_of}
 use Rattle.sz_planner.specs.Costs.{list_within}
 use Rattle.sz_planner.proofs.reading.list_within.Given as goal
 

@@ -5,9 +5,9 @@ use Rattle.std.proofs.lemmas.List.{length-map}
 use Rattle.sz_catalogue.specs.Kept.{IsRun}
 use Rattle.sz_catalogue.specs.Rules.{version_of}
 use Rattle.sz_catalogue.proofs.Runs.{outputs-count}
-use Rattle.sz_recover.specs.Fitting.{sites_of, site_in, lineages}
+use Rattle.sz_bodies.specs.Fitting.{sites_of, site_in, lineages}
 use Rattle.sz_recover.specs.Logs.{Kept}
-use Rattle.sz_recover.proofs.NodesPut.{fit-length}
+use Rattle.sz_bodies.proofs.NodesPut.{fit-length}
 use Rattle.sz_recover.proofs.checking.wrong_of_entry.Goals as goal
 
 pub wrong_of_version-requires-clause-few : goal.wrong_of_version-requires-clause-few

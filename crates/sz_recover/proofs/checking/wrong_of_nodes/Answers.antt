@@ -8,10 +8,10 @@ use Rattle.sz_spec.specs.declared.modes.Strategy.{Strategy}
 use Rattle.sz_flow.specs.Executions.{Execution, execution_of}
 use Rattle.sz_store.specs.Kept.{NodeLineage}
 use Rattle.sz_recover.specs.Comparing.{IsListAt}
-use Rattle.sz_recover.specs.Fitting.{lineages}
+use Rattle.sz_bodies.specs.Fitting.{lineages}
 use Rattle.sz_recover.specs.Opened.{HasItsStores}
 use Rattle.sz_recover.specs.Soundness.{AreSoundNodes, TellsOfNode}
-use Rattle.sz_recover.proofs.NodesPut.{fit-length}
+use Rattle.sz_bodies.proofs.NodesPut.{fit-length}
 use Rattle.sz_recover.proofs.WrongNodes.{fits-at, zip-at, all-of, nodes-more, node-wrong}
 use Rattle.sz_recover.proofs.checking.wrong_of_nodes.Goals as goal
 

@@ -1,7 +1,7 @@
 -- So far each node is sound.
 use Rattle.std.proofs.Common.{take, map}
 use Rattle.sz_flow.specs.Executions.{execution_of}
-use Rattle.sz_recover.specs.Fitting.{lineages}
+use Rattle.sz_bodies.specs.Fitting.{lineages}
 use Rattle.sz_recover.specs.Soundness.{AreSoundNodes}
 use Rattle.sz_recover.proofs.checking.wrong_of_nodes.Given as goal
 

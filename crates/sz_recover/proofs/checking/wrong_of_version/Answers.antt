@@ -6,7 +6,7 @@ use Rattle.sz_spec.specs.Shapes.{Site}
 use Rattle.sz_flow.specs.Executions.{Execution, execution_of}
 use Rattle.sz_catalogue.specs.Holdings.{Version}
 use Rattle.sz_recover.specs.Comparing.{IsListAt}
-use Rattle.sz_recover.specs.Fitting.{FitNodes, lineages, sites_of}
+use Rattle.sz_bodies.specs.Fitting.{FitNodes, lineages, sites_of}
 use Rattle.sz_recover.specs.Soundness.{executions_of}
 use Rattle.sz_recover.proofs.Sites.{sites-same}
 use Rattle.sz_recover.proofs.WrongNodes.{lists-executed}

@@ -2,9 +2,9 @@
 use Rattle.std.proofs.Common.{◌≡◌, ℕ, [], sym, subst, append-nil, Some}
 use Rattle.std.proofs.lemmas.Result.{IfErr-weaker, on_ok_weaker}
 use Rattle.sz_recover.specs.Logs.{IsBad, held_behind}
-use Rattle.sz_recover.specs.Taking.{IfBad, NoneIsLawful}
+use Rattle.sz_bodies.specs.Taking.{IfBad, NoneIsLawful}
 use Rattle.sz_recover.proofs.Acting.{entry_of, line-acts, version-bad}
-use Rattle.sz_recover.proofs.HeadParts.{if_bad-weaker}
+use Rattle.sz_bodies.proofs.HeadParts.{if_bad-weaker}
 use Rattle.sz_recover.proofs.groups.act.Goals as goal
 
 pub returns-then-kind-eq-VERSION_KIND-clause-err : goal.returns-then-kind-eq-VERSION_KIND-clause-err

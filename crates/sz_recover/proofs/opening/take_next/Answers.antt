@@ -1,10 +1,10 @@
 -- The group that stands there is bad over what is held; or it acts, and the entries are those of the versions.
 use Rattle.std.proofs.Common.{ℕ, List, sym, subst}
-use Rattle.sz_recover.specs.declared.reading.TakeFault.{TakeFault}
+use Rattle.sz_bodies.specs.declared.reading.TakeFault.{TakeFault}
 use Rattle.sz_recover.specs.declared.opening.Next.{Next}
 use Rattle.sz_recover.specs.Logs.{Kept, IsNext, IsEntryAt, IsBad}
 use Rattle.sz_recover.specs.Opened.{AreOfVersions}
-use Rattle.sz_recover.specs.Taking.{IfBad}
+use Rattle.sz_bodies.specs.Taking.{IfBad}
 use Rattle.sz_recover.proofs.Acting.{entry_of}
 use Rattle.sz_recover.proofs.Entries.{acts-keep}
 use Rattle.sz_recover.proofs.Opened.{bad-on}

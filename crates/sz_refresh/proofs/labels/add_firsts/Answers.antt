@@ -4,10 +4,10 @@ use Rattle.sz_cells.specs.declared.Cell.{Cell}
 use Rattle.sz_cells.specs.Extent.{Extent, size_of, cell_of, holds}
 use Rattle.sz_cells.specs.Cells.{any_cell, with_those}
 use Rattle.sz_spec.specs.declared.modes.Dir.TheVariants.{Forward}
-use Rattle.sz_region.specs.Single.{is_cell}
-use Rattle.sz_region.specs.Walks.{stepped, added}
-use Rattle.sz_region.proofs.Added.{with-none, with-ext, own-at, next-is, next-none, stepped-next}
-use Rattle.sz_region.proofs.Added.{stepped-skip, any_cell-added}
+use Rattle.sz_frame.specs.Single.{is_cell}
+use Rattle.sz_frame.specs.Walks.{stepped, added}
+use Rattle.sz_frame.proofs.Added.{with-none, with-ext, own-at, next-is, next-none, stepped-next}
+use Rattle.sz_frame.proofs.Added.{stepped-skip, any_cell-added}
 use Rattle.sz_refresh.specs.Names.{first_of}
 use Rattle.sz_refresh.proofs.labels.add_firsts.Goals as goal
 

@@ -3,8 +3,8 @@ use Rattle.std.proofs.Common.{◌≡◌, ◌-◌, ◌≤◌}
 use Rattle.sz_cells.specs.Extent.{size_of}
 use Rattle.sz_cells.specs.Cells.{with_those}
 use Rattle.sz_spec.specs.declared.modes.Dir.TheVariants.{Forward}
-use Rattle.sz_region.specs.Single.{is_cell}
-use Rattle.sz_region.specs.Walks.{stepped, added}
+use Rattle.sz_frame.specs.Single.{is_cell}
+use Rattle.sz_frame.specs.Walks.{stepped, added}
 use Rattle.sz_refresh.specs.Names.{first_of}
 use Rattle.sz_refresh.proofs.labels.add_firsts.Given as goal
 

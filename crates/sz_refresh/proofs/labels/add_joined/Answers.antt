@@ -5,7 +5,7 @@ use Rattle.std.proofs.lemmas.Bool.Decides.{nat_tests}
 use Rattle.sz_cells.specs.Extent.{Extent, size_of, index_of}
 use Rattle.sz_cells.specs.Cells.{Cells, with_those}
 use Rattle.sz_spec.specs.Values.{Grid}
-use Rattle.sz_region.proofs.Added.{own-at, out-at_work}
+use Rattle.sz_frame.proofs.Added.{own-at, out-at_work}
 use Rattle.sz_refresh.specs.Names.{is_named, EndAfter}
 use Rattle.sz_refresh.proofs.Gaps.{joined-ends}
 use Rattle.sz_refresh.proofs.Joined.{joined-before, joined-reaches, threshold-of}

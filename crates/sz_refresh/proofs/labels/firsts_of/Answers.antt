@@ -1,7 +1,7 @@
 -- They are added to no cell.
 use Rattle.std.proofs.Common.{ap, ◌∙◌}
 use Rattle.sz_cells.specs.Cells.{Cells, any_cell, no_cells, with_those}
-use Rattle.sz_region.specs.Single.{is_cell}
+use Rattle.sz_frame.specs.Single.{is_cell}
 use Rattle.sz_refresh.specs.Names.{first_of}
 use Rattle.sz_refresh.proofs.labels.firsts_of.Goals as goal
 

@@ -1,6 +1,6 @@
 -- The run has just the indexes between the two.
 use Rattle.std.proofs.Common.{refl, ◌∙◌}
-use Rattle.sz_region.proofs.Added.{own-at}
+use Rattle.sz_frame.proofs.Added.{own-at}
 use Rattle.sz_refresh.proofs.Names.{between-run, between-empty}
 use Rattle.sz_refresh.proofs.named.add_between.Goals as goal
 

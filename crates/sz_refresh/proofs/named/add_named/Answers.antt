@@ -5,7 +5,7 @@ use Rattle.std.proofs.lemmas.Bool.{or_left}
 use Rattle.std.proofs.lemmas.Bool.Decides.{nat_tests}
 use Rattle.sz_cells.specs.Extent.{size_of}
 use Rattle.sz_cells.specs.Cells.{with_those}
-use Rattle.sz_region.proofs.Added.{own-at}
+use Rattle.sz_frame.proofs.Added.{own-at}
 use Rattle.sz_refresh.specs.Names.{has_named, is_named}
 use Rattle.sz_refresh.proofs.Names.{is_below, below-none, below-more, below-skip, below-all, below-rest}
 use Rattle.sz_refresh.proofs.Names.{one-more, one-idle}

@@ -4,7 +4,7 @@ use Rattle.std.proofs.lemmas.Bool.{or_left, or_right}
 use Rattle.sz_cells.specs.Cells.{any_cell, is_same}
 use Rattle.sz_spec.specs.Shapes.{Site}
 use Rattle.sz_spec.specs.Lineage.{related}
-use Rattle.sz_region.proofs.Added.{with-none, with-ext, own-at}
+use Rattle.sz_frame.proofs.Added.{with-none, with-ext, own-at}
 use Rattle.sz_refresh.specs.Changes.{reaches}
 use Rattle.sz_refresh.proofs.Changes.{reaches-either}
 use Rattle.sz_refresh.proofs.near.add_if_related.Goals as goal

@@ -3,9 +3,9 @@ use Rattle.std.proofs.Common.{◌≡◌, ℕ, ◌<◌, Bool, true, false, ◌&&�
 use Rattle.sz_cells.specs.Extent.{Extent, size_of, cell_of, holds}
 use Rattle.sz_cells.specs.Cells.{has, is_same, with_those}
 use Rattle.sz_spec.specs.declared.modes.Dir.TheVariants.{Back}
-use Rattle.sz_region.specs.Walks.{stepped, added}
-use Rattle.sz_region.proofs.Added.{with-none, with-ext, own-at, next-is, next-none, stepped-next}
-use Rattle.sz_region.proofs.Added.{stepped-skip, same-added, any-range_ext}
+use Rattle.sz_frame.specs.Walks.{stepped, added}
+use Rattle.sz_frame.proofs.Added.{with-none, with-ext, own-at, next-is, next-none, stepped-next}
+use Rattle.sz_frame.proofs.Added.{stepped-skip, same-added, any-range_ext}
 use Rattle.sz_refresh.specs.Changes.{reaches}
 use Rattle.sz_refresh.proofs.near.add_related.Goals as goal
 

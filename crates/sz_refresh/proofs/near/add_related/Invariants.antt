@@ -3,7 +3,7 @@ use Rattle.std.proofs.Common.{◌≡◌, ◌-◌, ◌≤◌, ◌&&◌}
 use Rattle.sz_cells.specs.Extent.{size_of}
 use Rattle.sz_cells.specs.Cells.{is_same, with_those}
 use Rattle.sz_spec.specs.declared.modes.Dir.TheVariants.{Back}
-use Rattle.sz_region.specs.Walks.{stepped, added}
+use Rattle.sz_frame.specs.Walks.{stepped, added}
 use Rattle.sz_refresh.specs.Changes.{reaches}
 use Rattle.sz_refresh.proofs.near.add_related.Given as goal
 

@@ -4,9 +4,9 @@ use Rattle.sz_cells.specs.Extent.{Extent, size_of, cell_of}
 use Rattle.sz_cells.specs.Cells.{any_cell, with_those}
 use Rattle.sz_spec.specs.declared.modes.Dir.TheVariants.{Forward}
 use Rattle.sz_spec.specs.Operators.Clean.{is_in_square}
-use Rattle.sz_region.specs.Walks.{stepped, added}
-use Rattle.sz_region.proofs.Added.{with-none, with-ext, own-at, next-is, next-none, stepped-next}
-use Rattle.sz_region.proofs.Added.{stepped-skip, any_cell-added}
+use Rattle.sz_frame.specs.Walks.{stepped, added}
+use Rattle.sz_frame.proofs.Added.{with-none, with-ext, own-at, next-is, next-none, stepped-next}
+use Rattle.sz_frame.proofs.Added.{stepped-skip, any_cell-added}
 use Rattle.sz_refresh.proofs.near.add_squares.Goals as goal
 
 pub loop-start-init : goal.loop-start-init

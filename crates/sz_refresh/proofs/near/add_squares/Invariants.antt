@@ -4,7 +4,7 @@ use Rattle.sz_cells.specs.Extent.{size_of}
 use Rattle.sz_cells.specs.Cells.{with_those}
 use Rattle.sz_spec.specs.declared.modes.Dir.TheVariants.{Forward}
 use Rattle.sz_spec.specs.Operators.Clean.{is_in_square}
-use Rattle.sz_region.specs.Walks.{stepped, added}
+use Rattle.sz_frame.specs.Walks.{stepped, added}
 use Rattle.sz_refresh.proofs.near.add_squares.Given as goal
 
 abbrev pub invariant-loop-start : goal.invariant-loop-start

@@ -7,7 +7,7 @@ use Rattle.sz_spec.specs.declared.op.Op.TheVariants.{Lookup}
 use Rattle.sz_spec.specs.Values.{Grid}
 use Rattle.sz_spec.specs.Shapes.{shape_of}
 use Rattle.sz_spec.proofs.OutputShapes.{looked-up_shape}
-use Rattle.sz_region.proofs.Added.{own-at}
+use Rattle.sz_frame.proofs.Added.{own-at}
 use Rattle.sz_refresh.specs.Changes.{reaches}
 use Rattle.sz_refresh.proofs.Squares.{keys-reach}
 use Rattle.sz_refresh.proofs.reached.add_keys.Goals as goal

@@ -2,7 +2,7 @@
 use Rattle.std.proofs.Common.{List, map, refl, ap, ◌∙◌}
 use Rattle.std.specs.Arc.{arc_value}
 use Rattle.sz_spec.specs.Values.{Grid}
-use Rattle.sz_region.proofs.Added.{own-at}
+use Rattle.sz_frame.proofs.Added.{own-at}
 use Rattle.sz_refresh.proofs.Matched.{matched-reaches}
 use Rattle.sz_refresh.proofs.reached.add_matched.Goals as goal
 

@@ -5,7 +5,7 @@ use Rattle.sz_cells.specs.Cells.{Cells, has, no_cells, with_those}
 use Rattle.sz_spec.specs.Values.{Grid}
 use Rattle.sz_spec.specs.Lineage.{mapped, forward}
 use Rattle.sz_spec.specs.Modes.{has_mapping}
-use Rattle.sz_region.proofs.Added.{own-at}
+use Rattle.sz_frame.proofs.Added.{own-at}
 use Rattle.sz_refresh.specs.Changes.{reaches}
 use Rattle.sz_refresh.proofs.Changes.{none-reaches, mapped-reaches, with-set, runs-none}
 use Rattle.sz_refresh.proofs.reached.add_reached.Goals as goal

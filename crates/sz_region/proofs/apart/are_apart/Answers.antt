@@ -9,9 +9,9 @@ use Rattle.sz_cells.specs.declared.Cell.{Cell}
 use Rattle.sz_cells.specs.Extent.{Extent}
 use Rattle.sz_cells.specs.Cells.{Cells, has}
 use Rattle.sz_cells.proofs.LawsOfSets.{union-has}
-use Rattle.sz_region.specs.Parts.{Entry}
-use Rattle.sz_region.specs.Fits.{AreApart}
-use Rattle.sz_region.specs.Stands.{has_entry}
+use Rattle.sz_frame.specs.Parts.{Entry}
+use Rattle.sz_frame.specs.Fits.{AreApart}
+use Rattle.sz_frame.specs.Stands.{has_entry}
 use Rattle.sz_region.proofs.Meeting.{not-apart, meets-some, meets-none, apart-more, has-entry_more}
 use Rattle.sz_region.proofs.apart.are_apart.Goals as goal
 

@@ -3,8 +3,8 @@ use Rattle.std.proofs.Common.{◌≡◌, map, take}
 use Rattle.std.specs.Arc.{arc_value}
 use Rattle.sz_cells.specs.declared.Cell.{Cell}
 use Rattle.sz_cells.specs.Cells.{has}
-use Rattle.sz_region.specs.Fits.{AreApart}
-use Rattle.sz_region.specs.Stands.{has_entry}
+use Rattle.sz_frame.specs.Fits.{AreApart}
+use Rattle.sz_frame.specs.Stands.{has_entry}
 use Rattle.sz_region.proofs.apart.are_apart.Given as goal
 
 abbrev pub invariant-loop-entry : goal.invariant-loop-entry

@@ -7,7 +7,7 @@ use Rattle.std.specs.List.{All, slice_get}
 use Rattle.std.proofs.Math.Nat.{mul-le-mul_right}
 use Rattle.std.proofs.lemmas.List.{map_more, length-map, take_all, get_or-map}
 use Rattle.std.proofs.lemmas.List.Elements.{All-get_or}
-use Rattle.sz_region.specs.Parts.{Pairing}
+use Rattle.sz_frame.specs.Parts.{Pairing}
 use Rattle.sz_region.specs.FullBytes.{Listed, listed_of}
 use Rattle.sz_region.specs.Putting.{AreRegionsNumbered}
 use Rattle.sz_region.proofs.Numbering.{regions-more, zip-length, listed-length}

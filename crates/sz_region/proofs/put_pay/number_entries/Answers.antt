@@ -5,7 +5,7 @@ use Rattle.std.specs.Arc.{arc_value}
 use Rattle.std.specs.List.{All}
 use Rattle.std.proofs.lemmas.List.{get_or-map, length-map, length_push, map_more}
 use Rattle.std.proofs.lemmas.List.Elements.{All-get_or}
-use Rattle.sz_region.specs.Parts.{Entry}
+use Rattle.sz_frame.specs.Parts.{Entry}
 use Rattle.sz_region.specs.FullBytes.{Listed}
 use Rattle.sz_region.specs.PayBytes.{IsShort}
 use Rattle.sz_region.specs.Putting.{AreEntriesNumbered}

@@ -4,7 +4,7 @@ use Rattle.std.specs.Arc.{arc_value}
 use Rattle.std.specs.List.{AllZip, flat_map}
 use Rattle.std.proofs.lemmas.List.{length-map, length_push, map_push}
 use Rattle.sz_cells.specs.SetBytes.{four_bytes}
-use Rattle.sz_region.specs.Parts.{Pairing}
+use Rattle.sz_frame.specs.Parts.{Pairing}
 use Rattle.sz_region.specs.Counted.{IsAt}
 use Rattle.sz_region.specs.FullBytes.{AreNamesOf}
 use Rattle.sz_region.proofs.Numbering.{zip-append, zip-length}

@@ -5,8 +5,8 @@ use Rattle.std.specs.List.{All}
 use Rattle.std.proofs.lemmas.Result.{err_from_is_err_and}
 use Rattle.sz_cells.specs.Cells.{Cells}
 use Rattle.sz_cells.specs.SetBytes.{IsSetOf, set_bytes}
-use Rattle.sz_region.specs.Parts.{Entry}
-use Rattle.sz_region.specs.Fits.{AreApart}
+use Rattle.sz_frame.specs.Parts.{Entry}
+use Rattle.sz_frame.specs.Fits.{AreApart}
 use Rattle.sz_region.specs.Counted.{counted, IsAt}
 use Rattle.sz_region.specs.PayBytes.{IsShort, payload_bytes, BeginsEntries}
 use Rattle.sz_region.specs.Stores.{AreFew, SaysWhetherApart}

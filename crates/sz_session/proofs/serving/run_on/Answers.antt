@@ -1,7 +1,7 @@
 -- The session opens with nothing read, beside the log.
 use Rattle.std.proofs.Common.{◌≡◌, Some, refl, subst, sym, ap, ◌∙◌}
 use Rattle.sz_feed.specs.Moments.{Moment}
-use Rattle.sz_commands.specs.States.{State, apart}
+use Rattle.sz_commands.specs.States.{SessionState, apart}
 use Rattle.sz_feed.specs.Serving.{Answered}
 use Rattle.sz_session.specs.Sessions.{opening_of, EndsSession}
 use Rattle.sz_feed.specs.Running.{IsBeside, state_of_log}
@@ -17,7 +17,7 @@ answer_all-status-requires g c =
     let P : Moment → Type 0 = λ m. Answered m.held left left said said m 0 in
     let L : Moment → Type 0 = λ m. IsBeside g.T.Station m c.args.station.now in
     let is : c.over-feed.result ≡ opened z (Some c.args.recovered.end.at) =
-    c.over-feed.ensures ∙ ap (λ (s : State). opened (apart s) s.end) c.in-Ok-of_log.ensures.state in
+    c.over-feed.ensures ∙ ap (λ (s : SessionState). opened (apart s) s.end) c.in-Ok-of_log.ensures.state in
     λ κs lives. (
       lives.0,
       (
@@ -92,7 +92,7 @@ returns g c =
     let left = g.S.Source.left c.args.source.now in
     let a = c.args.station.now in
     let is : c.over-feed.result ≡ opened z (Some c.args.recovered.end.at) =
-    c.over-feed.ensures ∙ ap (λ (s : State). opened (apart s) s.end) c.in-Ok-of_log.ensures.state in
+    c.over-feed.ensures ∙ ap (λ (s : SessionState). opened (apart s) s.end) c.in-Ok-of_log.ensures.state in
     let P : Moment → Type 0 = λ m. EndsSession g.T.Station c.answer_all-status.result c.args.limit
     (opening_of m.held left (g.T.Station.said a)) m.end (g.S.Source.left c.answer_all-status.new.source)
     (g.S.Source.faults c.args.source.now) (g.S.Source.faults c.answer_all-status.new.source) a

@@ -8,7 +8,7 @@ use Rattle.sz_cells.specs.Runs.{covers}
 use Rattle.sz_cells.specs.Words.{cells_at}
 use Rattle.sz_cells.proofs.Runs.{runs-at}
 use Rattle.sz_cells.proofs.Bitmaps.{runs-start, runs-step}
-use Rattle.sz_region.proofs.Added.{own-at}
+use Rattle.sz_frame.proofs.Added.{own-at}
 use Rattle.sz_tables.proofs.looks.add_runs.Goals as goal
 
 pub loop-run-init : goal.loop-run-init

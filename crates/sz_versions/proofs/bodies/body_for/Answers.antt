@@ -4,8 +4,8 @@ use Rattle.std.proofs.lemmas.Result.{IfOk-weaker}
 use Rattle.sz_store.specs.Kept.{NodeLineage}
 use Rattle.sz_catalogue.specs.Rules.{version_of}
 use Rattle.sz_catalogue.proofs.Order as in_order
-use Rattle.sz_recover.specs.Bodies.{IsBodyOf}
-use Rattle.sz_recover.specs.Fitting.{Fit, lineages, sites_of, body_of}
+use Rattle.sz_bodies.specs.Bodies.{IsBodyOf}
+use Rattle.sz_bodies.specs.Fitting.{Fit, lineages, sites_of, body_of}
 use Rattle.sz_recover.specs.Soundness.{AreSoundNodes}
 use Rattle.sz_versions.specs.Bodies.{IsSoundBody}
 use Rattle.sz_versions.specs.Runs.{executions_of}

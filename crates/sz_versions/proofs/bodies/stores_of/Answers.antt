@@ -1,8 +1,8 @@
 -- One node more; at the end all.
 use Rattle.std.proofs.Common.{◌≡◌, ◌+◌, ◌++◌, ◌∷◌, [], map, take, length, ◌≤◌, sym, ap, ◌∙◌, arith}
 use Rattle.std.proofs.lemmas.List.{take_more, take_all}
-use Rattle.sz_recover.specs.Fitting.{lineages}
-use Rattle.sz_versions.specs.declared.runs.NodeStores.{NodeStores}
+use Rattle.sz_bodies.specs.Fitting.{lineages}
+use Rattle.sz_versions.specs.declared.runs.NodeKeeping.{NodeKeeping}
 use Rattle.sz_versions.specs.Bodies.{store_in}
 use Rattle.sz_versions.specs.Stores.{Trail, keeping_of}
 use Rattle.sz_versions.proofs.Trails.{stores-more}
@@ -17,7 +17,7 @@ loop-one-preserved c =
     let i = c.loop-one.one-index in
     let more : take (i + 1) items ≡ take i items ++ c.one-item.result ∷ [] =
     take_more items i c.one-item.result c.loop-one-test.true
-    ∙ ap (λ (s : NodeStores). take i items ++ s ∷ []) (sym c.one-item.is) in
+    ∙ ap (λ (s : NodeKeeping). take i items ++ s ∷ []) (sym c.one-item.is) in
     ap (λ xs. lineages xs) c.in_ok-push.ensures.items
     ∙ stores-more (take i items) c.one-item.result c.loop-one.stores.items c.in_ok-store_of.field-0
     c.loop-one.invariant c.in_ok-store_of.ensures

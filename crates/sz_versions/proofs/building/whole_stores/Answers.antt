@@ -7,7 +7,7 @@ use Rattle.std.proofs.lemmas.List.{length-map, map-append, take_all}
 use Rattle.std.proofs.lemmas.Option.{slice_get-map, slice_get_read}
 use Rattle.sz_flow.specs.Executions.{execution_of}
 use Rattle.sz_versions.specs.Stores.{Keeping, IsKeptOf, keeping_of}
-use Rattle.sz_versions.specs.declared.runs.NodeStores.{NodeStores}
+use Rattle.sz_versions.specs.declared.runs.NodeKeeping.{NodeKeeping}
 use Rattle.sz_versions.proofs.Keeping.{one-taken, listed-at, listed-length, kept-more, kept-at, kept-length}
 use Rattle.sz_versions.proofs.Keeps.{some-same}
 use Rattle.sz_versions.proofs.Still.{stills-same, keeps-still, stills-set}
@@ -98,7 +98,7 @@ end-requires-clause-kept g c =
     let same = some-same kept.0 (keeping_of store) (sym kept.1 ∙ stored) in
     let kept_here = subst (λ (k : Keeping). IsKeptOf false (execution_of run) list k) same kept.2 in
     rw c.as_slice.ensures
-    (subst (λ (x : NodeStores). IsKeptOf false (execution_of run) list (keeping_of x)) c.index-begun-node.is kept_here)
+    (subst (λ (x : NodeKeeping). IsKeptOf false (execution_of run) list (keeping_of x)) c.index-begun-node.is kept_here)
 
 pub loop-node-preserved : goal.loop-node-preserved
 loop-node-preserved g c =

@@ -1,7 +1,7 @@
 -- The log that was opened stands beside the session of what it held.
 use Rattle.std.proofs.Common.{List, ℕ, Option, sym, ◌∙◌, subst}
 use Rattle.sz_outside.specs.Disk.{Only}
-use Rattle.sz_commands.specs.States.{State}
+use Rattle.sz_commands.specs.States.{SessionState}
 use Rattle.sz_commands.specs.Logged.{HasLog}
 use Rattle.sz_commands.proofs.Logged.{opened-log}
 use Rattle.sz_session.proofs.Continuing.{not-failed}
@@ -17,4 +17,4 @@ returns g c =
     opened-log g.T.Station _ c.in-Ok.recovered.end.at c.in-Ok.recovered.catalogue c.in-Ok.recovered.stores.items
     a b c.in-Ok.ensures.made c.catalogue_of.ensures.disk c.catalogue_of.ensures.stops
     (subst L (sym c.sync.ensures.disk) only) in
-    subst (λ (s : State). HasLog g.T.Station s.held s.end b) (sym c.in_ok-of_log.ensures.state) log
+    subst (λ (s : SessionState). HasLog g.T.Station s.held s.end b) (sym c.in_ok-of_log.ensures.state) log

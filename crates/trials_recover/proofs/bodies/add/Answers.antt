@@ -10,8 +10,8 @@ use Rattle.sz_store.specs.Kept.{NodeLineage}
 use Rattle.sz_catalogue.specs.Holdings.{Version, Holdings, no_version}
 use Rattle.sz_catalogue.specs.Rules.{has_no_version, version_of}
 use Rattle.sz_catalogue.specs.Changes.{with_version}
-use Rattle.sz_recover.specs.Fitting.{Fit, lineages}
-use Rattle.sz_recover.specs.Taking.{Taken}
+use Rattle.sz_bodies.specs.Fitting.{Fit, lineages}
+use Rattle.sz_bodies.specs.Taking.{Taken}
 use Rattle.trials_recover.proofs.bodies.add.Goals as goal
 
 same : (n : ℕ) → nat_cmp n n ≡ Equal

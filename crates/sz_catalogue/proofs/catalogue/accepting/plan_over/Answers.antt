@@ -1,7 +1,7 @@
 -- The best choice is one, and the list that is read off is it.
 use Rattle.std.proofs.Common.{◌≡◌, ℕ, List, ap, ap₂, ◌∙◌}
 use Rattle.sz_spec.specs.declared.modes.Strategy.{Strategy}
-use Rattle.sz_spec.specs.Choices.{cost_of, units_of}
+use Rattle.sz_planner.specs.Choices.{cost_of, units_of}
 use Rattle.sz_planner.specs.Costs.{list_within}
 use Rattle.sz_catalogue.specs.Responses.{planned}
 use Rattle.sz_catalogue.proofs.catalogue.accepting.plan_over.Goals as goal

@@ -4,7 +4,7 @@ use Rattle.std.specs.Prelude.{None}
 use Rattle.sz_catalogue.specs.Holdings.{Holdings}
 use Rattle.sz_catalogue.specs.Responses.{Response}
 use Rattle.sz_catalogue.specs.Rules.{judged}
-use Rattle.sz_commands.specs.States.{State}
+use Rattle.sz_commands.specs.States.{SessionState}
 use Rattle.sz_versions.specs.Residents.{IsInService}
 use Rattle.sz_versions.proofs.Keeps.{keeps-accepted}
 use Rattle.sz_versions.proofs.Residents.{service-stays}
@@ -13,12 +13,12 @@ use Rattle.sz_commands.proofs.session.Session.accept.Goals as goal
 
 pub accept-requires-clause-judged : goal.accept-requires-clause-judged
 accept-requires-clause-judged c =
-    subst (λ (s : State). judged s.held c.args.command ≡ None) (sym c.self.view_is) c.requires.judged
+    subst (λ (s : SessionState). judged s.held c.args.command ≡ None) (sym c.self.view_is) c.requires.judged
 
 pub invariant_of-self-2 : goal.invariant_of-self-2
 invariant_of-self-2 c =
     let cat = c.self.inside.catalogue in
-    let none = subst (λ (s : State). judged s.held c.args.command ≡ None) (sym c.self.view_is) c.requires.judged in
+    let none = subst (λ (s : SessionState). judged s.held c.args.command ≡ None) (sym c.self.view_is) c.requires.judged in
     let after = sym (ap (λ (p : Holdings × Response). p.0) c.in_ok-reply.ensures.ok) in
     subst (λ (h : Holdings). IsInService h c.self.inside.runs) after
     (service-stays cat c.args.command c.self.inside.runs c.requires.kind

@@ -52,24 +52,24 @@ returns-in-Version-clause-appends g c =
     (added (await-makes held c.args.command n is made)))
     c.add_version.ensures.appends
 
-pub returns-in_err-take-in-Nothing-clause-stops : goal.returns-in_err-take-in-Nothing-clause-stops
-returns-in_err-take-in-Nothing-clause-stops g c =
+pub returns-in_err-obey-in-Nothing-clause-stops : goal.returns-in_err-obey-in-Nothing-clause-stops
+returns-in_err-obey-in-Nothing-clause-stops g c =
     still-stops g.T.Station c.args.self.now.held (accepted c.args.self.now c.args.command).0.held
     c.args.self.now.end c.args.station.now (g.met.T.Station.only_now c.args.station.now)
     (g.met.T.Station.counts_now c.args.station.now)
 
-pub returns-in_ok-take-in-Nothing-clause-log : goal.returns-in_ok-take-in-Nothing-clause-log
-returns-in_ok-take-in-Nothing-clause-log g c =
-    nothing-keeps g.T.Station c.args.self.now c.take-in-Nothing.new.self c.args.command _ c.args.station.now
-    c.requires.log c.in_ok-take-in-Nothing.ensures.reply c.in_ok-take-in-Nothing.ensures.end c.in-Nothing.ensures
+pub returns-in_ok-obey-in-Nothing-clause-log : goal.returns-in_ok-obey-in-Nothing-clause-log
+returns-in_ok-obey-in-Nothing-clause-log g c =
+    nothing-keeps g.T.Station c.args.self.now c.obey-in-Nothing.new.self c.args.command _ c.args.station.now
+    c.requires.log c.in_ok-obey-in-Nothing.ensures.reply c.in_ok-obey-in-Nothing.ensures.end c.in-Nothing.ensures
 
-pub returns-in_ok-take-in-Nothing-clause-stops : goal.returns-in_ok-take-in-Nothing-clause-stops
-returns-in_ok-take-in-Nothing-clause-stops g c =
+pub returns-in_ok-obey-in-Nothing-clause-stops : goal.returns-in_ok-obey-in-Nothing-clause-stops
+returns-in_ok-obey-in-Nothing-clause-stops g c =
     still-stops g.T.Station c.args.self.now.held (accepted c.args.self.now c.args.command).0.held
     c.args.self.now.end c.args.station.now (g.met.T.Station.only_now c.args.station.now)
     (g.met.T.Station.counts_now c.args.station.now)
 
-pub returns-in_ok-take-in-Nothing-clause-appends : goal.returns-in_ok-take-in-Nothing-clause-appends
-returns-in_ok-take-in-Nothing-clause-appends g c =
+pub returns-in_ok-obey-in-Nothing-clause-appends : goal.returns-in_ok-obey-in-Nothing-clause-appends
+returns-in_ok-obey-in-Nothing-clause-appends g c =
     λ made. absurd (true≢false
     (sym made ∙ nothing-makes c.args.self.now.held c.args.command c.in-Nothing.ensures))

@@ -3,7 +3,7 @@ use Rattle.std.proofs.Common.{Some, refl, sym, ap, ◌∙◌, subst}
 use Rattle.sz_catalogue.specs.Changes as changes
 use Rattle.sz_catalogue.specs.Holdings.{Holdings}
 use Rattle.sz_catalogue.specs.Seen.{response_of}
-use Rattle.sz_commands.specs.States.{State, apart}
+use Rattle.sz_commands.specs.States.{SessionState, apart}
 use Rattle.sz_commands.specs.Carrying.{StoredBy}
 use Rattle.sz_commands.specs.Logged.{KeepsLog, IsLineGroup}
 use Rattle.sz_commands.proofs.Appending.{group-added}
@@ -34,7 +34,7 @@ returns-in_err-next-clause-stops g c =
 pub returns-clause-log : goal.returns-clause-log
 returns-clause-log g c =
     let held = c.args.self.now.held in
-    let left = ap (λ (s : State). s.held) c.self.view_is
+    let left = ap (λ (s : SessionState). s.held) c.self.view_is
     ∙ left-held c.args.self.now c.accept.new.self c.args.command _ c.in_ok-reply.ensures.reply in
     let L : Holdings → Type 0 = λ h.
     KeepsLog g.T.Station held c.args.self.now.end h (Some c.in_ok-next.next.at) c.args.station.now
@@ -62,12 +62,12 @@ returns-clause-appends g c =
 pub returns-clause-reply : goal.returns-clause-reply
 returns-clause-reply g c =
     accepted-seen c.args.self.now c.accept.new.self c.args.command _ c.in_ok-reply.ensures.reply
-    ∙ ap (λ (s : State). (apart s, response_of c.in_ok-reply.reply)) (sym c.self.view_is)
+    ∙ ap (λ (s : SessionState). (apart s, response_of c.in_ok-reply.reply)) (sym c.self.view_is)
 
 pub returns-clause-stored : goal.returns-clause-stored
 returns-clause-stored g c =
-    let s : State = c.args.self.now in
+    let s : SessionState = c.args.self.now in
     let command = c.args.command in
-    subst (λ (t : State). StoredBy s command t) (sym c.self.view_is)
+    subst (λ (t : SessionState). StoredBy s command t) (sym c.self.view_is)
     (stored-left s c.accept.new.self command _ (line-leaves c.args.kind command c.requires.kind)
     c.in_ok-reply.ensures.reply)

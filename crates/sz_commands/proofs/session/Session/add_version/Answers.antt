@@ -2,7 +2,7 @@
 -- changes nothing that is durable.
 use Rattle.std.proofs.Common.{◌≡◌, ℕ, List, Bool, Option, Some, [], refl, sym, ap, ◌∙◌, subst}
 use Rattle.std.specs.List.{AllZip}
-use Rattle.sz_log.specs.Log.{Entry}
+use Rattle.sz_log.specs.Log.{LogGroup}
 use Rattle.sz_script.specs.declared.command.Command.TheVariants as order
 use Rattle.sz_script.specs.declared.refusal.Refusal.TheVariants as refusal
 use Rattle.sz_catalogue.specs.Holdings.{Holdings}
@@ -13,7 +13,7 @@ use Rattle.sz_catalogue.specs.Changes.{with_await}
 use Rattle.sz_recover.specs.Growing.{durable}
 use Rattle.sz_versions.specs.Bodies.{IsSoundBody}
 use Rattle.sz_versions.specs.Residents.{Stored, stored_in}
-use Rattle.sz_commands.specs.States.{State}
+use Rattle.sz_commands.specs.States.{SessionState}
 use Rattle.sz_commands.specs.Carrying.{IsFinishedIn, FinishesEntry}
 use Rattle.sz_commands.specs.Logged.{KeepsLog, HasLog, IsVersionGroup, Appends}
 use Rattle.sz_commands.proofs.Appending.{group-added}
@@ -24,13 +24,13 @@ use Rattle.sz_commands.proofs.session.Session.add_version.Goals as goal
 
 pub returns-then-is_awaited-clause-log : goal.returns-then-is_awaited-clause-log
 returns-then-is_awaited-clause-log g c =
-    let s : State = c.args.self.now in
-    let t : State = c.await_again.new.self in
+    let s : SessionState = c.args.self.now in
+    let t : SessionState = c.await_again.new.self in
     let n = c.args.version in
     let held = (rule-fails (has_no_version s.held n) refusal.NoSuchVersion [] c.requires.judged).0 in
     let on = sym c.is_awaited.ensures ∙ c.if-is_awaited.true in
     let left = left-held s t (order.Await n) _ c.await_again.ensures in
-    let place = ap (λ (p : State × Response). p.0.end) (sym c.await_again.ensures) in
+    let place = ap (λ (p : SessionState × Response). p.0.end) (sym c.await_again.ensures) in
     let log =
     subst (λ (o : Option ℕ). HasLog g.T.Station s.held o c.args.station.now) (sym c.requires.end) c.requires.log in
     rests-keep g.T.Station s t c.args.station.now log place
@@ -60,16 +60,16 @@ append-requires-clause-log g c =
 
 pub returns-in_err-next-clause-stops : goal.returns-in_err-next-clause-stops
 returns-in_err-next-clause-stops g c =
-    let s : State = c.args.self.now in
+    let s : SessionState = c.args.self.now in
     let n = c.args.version in
     let is : c.self.inside.catalogue ≡ s.held =
-    ap (λ (x : State). x.held) (c.self.view_is ∙ c.in_ok-run.ensures.same) in
+    ap (λ (x : SessionState). x.held) (c.self.view_is ∙ c.in_ok-run.ensures.same) in
     let held = (rule-fails (has_no_version s.held n) refusal.NoSuchVersion [] c.requires.judged).0 in
     let off = sym c.is_awaited.ensures ∙ c.if-is_awaited.false in
     let in-order = subst IsInOrder is c.is_in_order.ensures in
     let sound =
     subst (λ (h : Holdings). IsSoundBody n (version_of h n) c.in_ok-body.body.items) is c.in_ok-body.ensures in
-    let E : List ℕ → Entry = λ body. record { kind = 4; body = body } in
+    let E : List ℕ → LogGroup = λ body. record { kind = 4; body = body } in
     let one : IsStep s.held (with_await s.held n) (E c.deref.result.now) =
     subst (λ (body : List ℕ). IsStep s.held (with_await s.held n) (E body)) (sym c.deref.ensures.value)
     (version-step s.held n c.in_ok-body.body.items in-order held off sound) in
@@ -78,22 +78,22 @@ returns-in_err-next-clause-stops g c =
 
 pub returns-clause-log : goal.returns-clause-log
 returns-clause-log g c =
-    let s : State = c.args.self.now in
-    let t : State = c.note_await.new.self in
+    let s : SessionState = c.args.self.now in
+    let t : SessionState = c.note_await.new.self in
     let n = c.args.version in
     let is : c.self.inside.catalogue ≡ s.held =
-    ap (λ (x : State). x.held) (c.self.view_is ∙ c.in_ok-run.ensures.same) in
+    ap (λ (x : SessionState). x.held) (c.self.view_is ∙ c.in_ok-run.ensures.same) in
     let held = (rule-fails (has_no_version s.held n) refusal.NoSuchVersion [] c.requires.judged).0 in
     let off = sym c.is_awaited.ensures ∙ c.if-is_awaited.false in
     let in-order = subst IsInOrder is c.is_in_order.ensures in
     let sound =
     subst (λ (h : Holdings). IsSoundBody n (version_of h n) c.in_ok-body.body.items) is c.in_ok-body.ensures in
-    let E : List ℕ → Entry = λ body. record { kind = 4; body = body } in
+    let E : List ℕ → LogGroup = λ body. record { kind = 4; body = body } in
     let one : IsStep s.held (with_await s.held n) (E c.deref.result.now) =
     subst (λ (body : List ℕ). IsStep s.held (with_await s.held n) (E body)) (sym c.deref.ensures.value)
     (version-step s.held n c.in_ok-body.body.items in-order held off sound) in
     let left : t.held ≡ with_await s.held n =
-    ap (λ (p : State × Response). p.0.held) (sym c.note_await.ensures.reply)
+    ap (λ (p : SessionState × Response). p.0.held) (sym c.note_await.ensures.reply)
     ∙ ap (λ (h : Holdings). with_await h n) is in
     let place : t.end ≡ Some c.in_ok-next.next.at = c.note_await.ensures.end in
     subst (λ (h : Holdings). KeepsLog g.T.Station s.held s.end h t.end c.args.station.now c.append.new.station)
@@ -106,16 +106,16 @@ returns-clause-log g c =
 
 pub returns-clause-stops : goal.returns-clause-stops
 returns-clause-stops g c =
-    let s : State = c.args.self.now in
+    let s : SessionState = c.args.self.now in
     let n = c.args.version in
     let is : c.self.inside.catalogue ≡ s.held =
-    ap (λ (x : State). x.held) (c.self.view_is ∙ c.in_ok-run.ensures.same) in
+    ap (λ (x : SessionState). x.held) (c.self.view_is ∙ c.in_ok-run.ensures.same) in
     let held = (rule-fails (has_no_version s.held n) refusal.NoSuchVersion [] c.requires.judged).0 in
     let off = sym c.is_awaited.ensures ∙ c.if-is_awaited.false in
     let in-order = subst IsInOrder is c.is_in_order.ensures in
     let sound =
     subst (λ (h : Holdings). IsSoundBody n (version_of h n) c.in_ok-body.body.items) is c.in_ok-body.ensures in
-    let E : List ℕ → Entry = λ body. record { kind = 4; body = body } in
+    let E : List ℕ → LogGroup = λ body. record { kind = 4; body = body } in
     let one : IsStep s.held (with_await s.held n) (E c.deref.result.now) =
     subst (λ (body : List ℕ). IsStep s.held (with_await s.held n) (E body)) (sym c.deref.ensures.value)
     (version-step s.held n c.in_ok-body.body.items in-order held off sound) in
@@ -124,15 +124,15 @@ returns-clause-stops g c =
 
 pub returns-clause-appends : goal.returns-clause-appends
 returns-clause-appends g c =
-    let s : State = c.args.self.now in
-    let t : State = c.note_await.new.self in
+    let s : SessionState = c.args.self.now in
+    let t : SessionState = c.note_await.new.self in
     let n = c.args.version in
     let is : c.self.inside.catalogue ≡ s.held =
-    ap (λ (x : State). x.held) (c.self.view_is ∙ c.in_ok-run.ensures.same) in
+    ap (λ (x : SessionState). x.held) (c.self.view_is ∙ c.in_ok-run.ensures.same) in
     let sound =
     subst (λ (h : Holdings). IsSoundBody n (version_of h n) c.in_ok-body.body.items) is c.in_ok-body.ensures in
     let place : t.end ≡ Some c.in_ok-next.next.at = c.note_await.ensures.end in
-    let P : Entry → Type 0 = IsVersionGroup s.held n in
+    let P : LogGroup → Type 0 = IsVersionGroup s.held n in
     λ off. subst (λ (o : Option ℕ). Appends g.T.Station P s.end o c.args.station.now c.append.new.station) (sym place)
     (group-added g.T.Station P s.end c.args.end.at c.in_ok-next.next.at
     (record { kind = 4; body = c.deref.result.now }) c.args.station.now c.append.new.station c.requires.end
@@ -143,20 +143,20 @@ returns-clause-appends g c =
 
 pub returns-then-is_awaited-clause-stored : goal.returns-then-is_awaited-clause-stored
 returns-then-is_awaited-clause-stored g c =
-    let s : State = c.args.self.now in
-    let t : State = c.await_again.new.self in
+    let s : SessionState = c.args.self.now in
+    let t : SessionState = c.await_again.new.self in
     let on = sym c.is_awaited.ensures ∙ c.if-is_awaited.true in
-    let same : t.stored ≡ s.stored = ap (λ (p : State × Response). p.0.stored) (sym c.await_again.ensures) in
+    let same : t.stored ≡ s.stored = ap (λ (p : SessionState × Response). p.0.stored) (sym c.await_again.ensures) in
     subst (λ (b : Bool). FinishesEntry b c.args.version s.stored t.stored) (sym on) same
 
 pub returns-clause-stored : goal.returns-clause-stored
 returns-clause-stored g c =
-    let s : State = c.args.self.now in
-    let t : State = c.note_await.new.self in
+    let s : SessionState = c.args.self.now in
+    let t : SessionState = c.note_await.new.self in
     let n = c.args.version in
     let off = sym c.is_awaited.ensures ∙ c.if-is_awaited.false in
     let before : stored_in c.self.inside.runs ≡ s.stored =
-    ap (λ (x : State). x.stored) (c.self.view_is ∙ c.in_ok-run.ensures.same) in
+    ap (λ (x : SessionState). x.stored) (c.self.view_is ∙ c.in_ok-run.ensures.same) in
     let by = subst (λ (es : List (ℕ × List Stored)). AllZip (IsFinishedIn n) es t.stored) before
     c.note_await.ensures.stored in
     subst (λ (b : Bool). FinishesEntry b n s.stored t.stored) (sym off) by

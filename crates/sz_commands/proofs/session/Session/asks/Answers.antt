@@ -2,7 +2,7 @@
 use Rattle.std.proofs.Common.{◌≡◌, ℕ, List, ◌++◌, take, drop, length, sym, ◌∙◌, subst}
 use Rattle.std.specs.List.{AllZip}
 use Rattle.std.proofs.Math.Seq.{take-append_seam}
-use Rattle.sz_commands.specs.States.{State}
+use Rattle.sz_commands.specs.States.{SessionState}
 use Rattle.sz_commands.specs.Asks.{IsEnded, IsWorked}
 use Rattle.sz_commands.specs.declared.asking.Asked.{Asked}
 use Rattle.sz_commands.proofs.Asks.{all-worked}
@@ -20,5 +20,5 @@ replies_to-requires-clause-ended g c =
     let long : length new ≡ c.in_ok-all.all.len = c.work_out.auto.all ∙ c.deref_mut.ensures.len in
     let whole = subst (λ (xs : List Asked). AllZip (IsEnded held) lines xs) (sym (take-append_seam new rest)) ended in
     let cut = subst (λ (k : ℕ). AllZip (IsEnded held) lines (take k (new ++ rest))) long whole in
-    subst (λ (h : State). AllZip (IsEnded h) lines (take c.in_ok-all.all.len (new ++ rest)))
+    subst (λ (h : SessionState). AllZip (IsEnded h) lines (take c.in_ok-all.all.len (new ++ rest)))
     (sym c.begin_each.ensures.same) cut

@@ -2,7 +2,7 @@
 use Rattle.std.proofs.Common.{◌≡◌, ◌+◌, ◌++◌, ◌∷◌, [], take, sym, ap, ◌∙◌, subst}
 use Rattle.std.proofs.lemmas.List.{take_more}
 use Rattle.std.proofs.lemmas.Slice.Zip.{all_zipped_more}
-use Rattle.sz_commands.specs.States.{State}
+use Rattle.sz_commands.specs.States.{SessionState}
 use Rattle.sz_commands.specs.Asks.{IsBegun}
 use Rattle.sz_commands.specs.declared.asking.AskLine.{AskLine}
 use Rattle.sz_commands.proofs.session.Session.begin_each.Goals as goal
@@ -16,7 +16,7 @@ loop-line-preserved c =
     let a = c.in_ok-begin.field-0 in
     let more : take (i + 1) lines ≡ take i lines ++ l ∷ [] =
     take_more lines i l c.loop-line-test.true ∙ ap (λ (x : AskLine). take i lines ++ x ∷ []) (sym c.line-item.is) in
-    let one = subst (λ (h : State). IsBegun h l a) c.loop-line.invariant.same c.in_ok-begin.ensures.begun in
+    let one = subst (λ (h : SessionState). IsBegun h l a) c.loop-line.invariant.same c.in_ok-begin.ensures.begun in
     record {
       begun =
           rw (more, c.in_ok-push.ensures.items)

@@ -10,7 +10,7 @@ use Rattle.sz_catalogue.specs.Rules.{judged, version_of}
 use Rattle.sz_versions.specs.Stores.{IsTrailOf}
 use Rattle.sz_versions.specs.Residents.{Resident, IsInService, stored_in}
 use Rattle.sz_versions.proofs.Residents.{residents-few, service-awaited}
-use Rattle.sz_commands.specs.States.{State}
+use Rattle.sz_commands.specs.States.{SessionState}
 use Rattle.sz_commands.specs.Carrying.{IsFinishedIn}
 use Rattle.sz_commands.proofs.Carrying.{all-finished, stored-finished}
 use Rattle.sz_commands.proofs.Seen.{seen-awaited, is-held}
@@ -22,7 +22,7 @@ replace-requires c =
 
 pub await_version-requires : goal.await_version-requires
 await_version-requires c =
-    let J : State → Type 0 = λ s. judged s.held (order.Await c.args.version) ≡ None in
+    let J : SessionState → Type 0 = λ s. judged s.held (order.Await c.args.version) ≡ None in
     record { judged = subst J (sym c.self.view_is) c.requires.judged }
 
 pub invariant_of-self : goal.invariant_of-self
@@ -30,9 +30,9 @@ invariant_of-self c =
     let cat = c.self.inside.catalogue in
     let rs = c.self.inside.runs in
     let n = c.args.version in
-    let none = subst (λ (s : State). judged s.held (order.Await n) ≡ None) (sym c.self.view_is) c.requires.judged in
+    let none = subst (λ (s : SessionState). judged s.held (order.Await n) ≡ None) (sym c.self.view_is) c.requires.judged in
     let own =
-    subst (λ (s : State). IsTrailOf (record (version_of s.held n) { awaited = true }) c.args.run) (sym c.self.view_is)
+    subst (λ (s : SessionState). IsTrailOf (record (version_of s.held n) { awaited = true }) c.args.run) (sym c.self.view_is)
     c.requires.own in
     subst (λ (h : Holdings). IsInService h c.replace.new.self)
     (sym (ap (λ (p : Holdings × Response). p.0) c.await_version.ensures))
@@ -44,7 +44,7 @@ returns-clause-reply c =
     let cat = c.self.inside.catalogue in
     let n = c.args.version in
     let first =
-    subst (λ (s : State). (version_of s.held n).awaited ≡ false) (sym c.self.view_is) c.requires.first in
+    subst (λ (s : SessionState). (version_of s.held n).awaited ≡ false) (sym c.self.view_is) c.requires.first in
     rw (← c.self.view_is)
     (seen-awaited cat _ c.self.inside.runs c.replace.new.self n c.args.run _ None c.self.invariant first
     c.replace.ensures c.await_version.ensures)
@@ -54,6 +54,6 @@ returns-clause-stored c =
     let n = c.args.version in
     let rs = c.self.inside.runs in
     let all = all-finished _ _ c.args.run.kept c.requires.own.1 in
-    subst (λ (s : State). AllZip (IsFinishedIn n) s.stored (stored_in c.replace.new.self)) c.self.view_is
+    subst (λ (s : SessionState). AllZip (IsFinishedIn n) s.stored (stored_in c.replace.new.self)) c.self.view_is
     (subst (λ (xs : List Resident). AllZip (IsFinishedIn n) (stored_in rs) (stored_in xs)) (sym c.replace.ensures)
     (stored-finished n c.args.run rs all))

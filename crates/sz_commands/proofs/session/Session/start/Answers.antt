@@ -11,7 +11,7 @@ use Rattle.sz_catalogue.specs.Starts.{version_started}
 use Rattle.sz_versions.specs.Residents.{Resident, IsInService, stored_of, stored_in}
 use Rattle.sz_versions.proofs.Keeps.{can-start}
 use Rattle.sz_versions.proofs.Residents.{service-started}
-use Rattle.sz_commands.specs.States.{State}
+use Rattle.sz_commands.specs.States.{SessionState}
 use Rattle.sz_commands.specs.Carrying.{AddsEntry}
 use Rattle.sz_commands.proofs.Carrying.{stored-more}
 use Rattle.sz_commands.proofs.Seen.{seen-started}
@@ -22,24 +22,24 @@ run_version-requires-clause-sound g c = λ κs lives. c.self.invariant.sound.flo
 
 pub run_version-requires-clause-judged : goal.run_version-requires-clause-judged
 run_version-requires-clause-judged g c =
-    let J : State → Type 0 = λ s. judged s.held (order.Start c.args.name c.args.base) ≡ None in
+    let J : SessionState → Type 0 = λ s. judged s.held (order.Start c.args.name c.args.base) ≡ None in
     λ κs lives. rw (c.as_str.ensures, c.as_slice.ensures) (subst J (sym c.self.view_is) c.requires.judged)
 
 pub overflow_cast-number : goal.overflow_cast-number
 overflow_cast-number g c =
-    let J : State → Type 0 = λ s. judged s.held (order.Start c.args.name c.args.base) ≡ None in
+    let J : SessionState → Type 0 = λ s. judged s.held (order.Start c.args.name c.args.base) ≡ None in
     let free = subst J (sym c.self.view_is) c.requires.judged in
     let can = can-start c.self.inside.catalogue c.args.name c.args.base free in
     omega (arith, can.number, c.next_number-number.ensures)
 
 pub start-requires : goal.start-requires
 start-requires g c =
-    let J : State → Type 0 = λ s. judged s.held (order.Start c.args.name c.args.base) ≡ None in
+    let J : SessionState → Type 0 = λ s. judged s.held (order.Start c.args.name c.args.base) ≡ None in
     record { judged = rw c.as_slice-2.ensures (subst J (sym c.self.view_is) c.requires.judged) }
 
 pub invariant_of-self-in-Ok : goal.invariant_of-self-in-Ok
 invariant_of-self-in-Ok g c =
-    let J : State → Type 0 = λ s. judged s.held (order.Start c.args.name c.args.base) ≡ None in
+    let J : SessionState → Type 0 = λ s. judged s.held (order.Start c.args.name c.args.base) ≡ None in
     let cat = c.self.inside.catalogue in
     let rs = c.self.inside.runs in
     let t = c.in_ok-run.run' in
@@ -71,5 +71,5 @@ returns-in-Ok-clause-stored g c =
     let added : c.add.new.self ≡ behind (next_number cat) =
     c.in_ok-add.ensures.ok ∙ ap behind c.next_number-number.ensures in
     let one : Resident = record { number = next_number cat; logged = false; trail = t } in
-    subst (λ (s : State). AddsEntry s.held s.stored (stored_in c.add.new.self)) c.self.view_is
+    subst (λ (s : SessionState). AddsEntry s.held s.stored (stored_in c.add.new.self)) c.self.view_is
     (map stored_of t.kept, ap stored_in added ∙ stored-more rs one)

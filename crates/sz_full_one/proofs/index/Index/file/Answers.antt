@@ -3,7 +3,7 @@ use Rattle.std.proofs.Common.{◌≡◌, ◌+◌, ◌-◌, ℕ, List, ◌∷◌,
 use Rattle.std.specs.List.{All, concat}
 use Rattle.std.specs.Vec.{vec_capacity}
 use Rattle.sz_cells.specs.Cells.{Cells}
-use Rattle.sz_region.specs.Parts.{Pairing}
+use Rattle.sz_frame.specs.Parts.{Pairing}
 use Rattle.sz_full_one.specs.declared.index.SetFiles.{SetFiles}
 use Rattle.sz_full_one.specs.declared.index.Index.{Index}
 use Rattle.sz_full_one.specs.ByCells.{AreFilesOf, IsIndexOf, HasFileRoom, HasRoom, with_filed, pair_cells}

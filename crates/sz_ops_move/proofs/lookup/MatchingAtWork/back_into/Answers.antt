@@ -3,7 +3,7 @@ use Rattle.std.proofs.Common.{map, ◌∙◌}
 use Rattle.std.specs.Arc.{arc_value}
 use Rattle.sz_spec.specs.Values.{extent_at}
 use Rattle.sz_spec.specs.Lineage.{related}
-use Rattle.sz_region.proofs.OneCell.{adds-only}
+use Rattle.sz_frame.proofs.OneCell.{adds-only}
 use Rattle.sz_ops_move.proofs.lookup.MatchingAtWork.back_into.Goals as goal
 
 pub returns : goal.returns

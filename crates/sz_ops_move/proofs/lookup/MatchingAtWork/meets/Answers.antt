@@ -3,8 +3,8 @@ use Rattle.std.proofs.Common.{map, ◌∙◌}
 use Rattle.std.specs.Arc.{arc_value}
 use Rattle.sz_spec.specs.Values.{extent_at}
 use Rattle.sz_spec.specs.Lineage.{related}
-use Rattle.sz_region.proofs.Added.{own-at}
-use Rattle.sz_region.proofs.OneCell.{any-only}
+use Rattle.sz_frame.proofs.Added.{own-at}
+use Rattle.sz_frame.proofs.OneCell.{any-only}
 use Rattle.sz_ops_move.proofs.lookup.MatchingAtWork.meets.Goals as goal
 
 pub returns : goal.returns

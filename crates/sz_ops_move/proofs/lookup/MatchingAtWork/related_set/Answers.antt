@@ -6,9 +6,9 @@ use Rattle.sz_cells.specs.Extent.{Extent}
 use Rattle.sz_cells.specs.Cells.{Cells, cells_where}
 use Rattle.sz_spec.specs.Values.{extent_at}
 use Rattle.sz_spec.specs.Lineage.{related}
-use Rattle.sz_region.specs.Single.{is_cell}
-use Rattle.sz_region.proofs.OneCell.{set-only}
-use Rattle.sz_region.proofs.Inputs.{shape-is}
+use Rattle.sz_frame.specs.Single.{is_cell}
+use Rattle.sz_frame.proofs.OneCell.{set-only}
+use Rattle.sz_frame.proofs.Inputs.{shape-is}
 use Rattle.sz_ops_move.proofs.lookup.MatchingAtWork.related_set.Goals as goal
 
 pub returns : goal.returns

@@ -5,7 +5,7 @@ use Rattle.sz_cells.specs.Extent.{size_of}
 use Rattle.sz_cells.specs.Cells.{Cells}
 use Rattle.sz_spec.specs.Values.{input_at}
 use Rattle.sz_spec.proofs.Components.{component-made}
-use Rattle.sz_region.specs.Groups.{least_of}
+use Rattle.sz_frame.specs.Groups.{least_of}
 use Rattle.sz_ops_region.proofs.Labels.{grid-shape}
 use Rattle.sz_ops_region.proofs.Sets.{low-component}
 use Rattle.sz_ops_region.proofs.work.Labelling.least.Goals as goal

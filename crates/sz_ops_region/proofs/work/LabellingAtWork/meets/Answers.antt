@@ -3,7 +3,7 @@ use Rattle.std.proofs.Common.{map, sym, ap, subst, ◌∙◌, ◌≡◌, true}
 use Rattle.std.specs.Arc.{arc_value}
 use Rattle.sz_cells.specs.Extent.{Extent, holds}
 use Rattle.sz_spec.specs.Values.{extent_at}
-use Rattle.sz_region.proofs.Added.{own-at}
+use Rattle.sz_frame.proofs.Added.{own-at}
 use Rattle.sz_ops_region.proofs.Labels.{meets-itself, one-input, one-shape}
 use Rattle.sz_ops_region.proofs.work.LabellingAtWork.meets.Goals as goal
 

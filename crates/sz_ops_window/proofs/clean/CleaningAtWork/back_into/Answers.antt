@@ -4,8 +4,8 @@ use Rattle.std.specs.Arc.{arc_value}
 use Rattle.sz_spec.specs.declared.modes.Dir.TheVariants.{Back}
 use Rattle.sz_spec.specs.Lineage.{related}
 use Rattle.sz_spec.specs.Operators.Convolve.{is_convolved}
-use Rattle.sz_region.specs.Walks.{steps}
-use Rattle.sz_region.proofs.Added.{with-ext}
+use Rattle.sz_frame.specs.Walks.{steps}
+use Rattle.sz_frame.proofs.Added.{with-ext}
 use Rattle.sz_ops_window.proofs.Inputs.{clean-windowed, one-input, no-other_input, input-side}
 use Rattle.sz_ops_window.proofs.clean.CleaningAtWork.back_into.Goals as goal
 

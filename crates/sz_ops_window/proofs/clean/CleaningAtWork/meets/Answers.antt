@@ -5,7 +5,7 @@ use Rattle.sz_cells.specs.Cells.{any_cell, has}
 use Rattle.sz_cells.proofs.Sets.{any_cell-ext}
 use Rattle.sz_spec.specs.Lineage.{related}
 use Rattle.sz_spec.specs.Operators.Convolve.{is_convolved}
-use Rattle.sz_region.proofs.Added.{own-at}
+use Rattle.sz_frame.proofs.Added.{own-at}
 use Rattle.sz_ops_window.proofs.Inputs.{clean-windowed, one-input, no-other_input, input-side}
 use Rattle.sz_ops_window.proofs.clean.CleaningAtWork.meets.Goals as goal
 

@@ -4,8 +4,8 @@ use Rattle.sz_cells.specs.Extent.{Extent, holds}
 use Rattle.sz_spec.specs.declared.modes.Dir.TheVariants.{Forward}
 use Rattle.sz_spec.specs.Lineage.{mapped}
 use Rattle.sz_spec.specs.Operators.Convolve.{is_convolved}
-use Rattle.sz_region.specs.Walks.{steps}
-use Rattle.sz_region.proofs.Added.{with-ext}
+use Rattle.sz_frame.specs.Walks.{steps}
+use Rattle.sz_frame.proofs.Added.{with-ext}
 use Rattle.sz_ops_window.proofs.Inputs.{convolve-mapped, input-side}
 use Rattle.sz_ops_window.proofs.convolve.ConvolutionMapping.forward_into.Goals as goal
 

@@ -4,7 +4,7 @@ use Rattle.sz_cells.specs.Cells.{any_cell, has}
 use Rattle.sz_cells.proofs.Sets.{any_cell-ext}
 use Rattle.sz_spec.specs.Lineage.{mapped}
 use Rattle.sz_spec.specs.Operators.Convolve.{is_convolved}
-use Rattle.sz_region.proofs.Added.{own-at}
+use Rattle.sz_frame.proofs.Added.{own-at}
 use Rattle.sz_ops_window.proofs.Inputs.{convolve-mapped, input-side}
 use Rattle.sz_ops_window.proofs.convolve.ConvolutionMapping.meets.Goals as goal
 

@@ -1,7 +1,7 @@
 -- A tap leads to the cell of a place, or to none.
 use Rattle.std.proofs.Common.{◌≡◌, rules, sym, ap, ◌∙◌, arith}
 use Rattle.sz_spec.specs.Weights.{Weights}
-use Rattle.sz_region.proofs.Places.{found, found-held, are-small, own-place}
+use Rattle.sz_frame.proofs.Places.{found, found-held, are-small, own-place}
 use Rattle.sz_ops_window.proofs.Taps.{leads-at, used-some}
 use Rattle.sz_ops_window.proofs.under.Middle.led_to.Goals as goal
 

@@ -7,7 +7,7 @@ use Rattle.sz_cells.specs.Cells.{Cells, any_cell, with_those}
 use Rattle.sz_cells.specs.Runs.{covers, is_in}
 use Rattle.sz_cells.proofs.Runs.{runs-at}
 use Rattle.sz_spec.specs.Payloads.{mapped_by_payload}
-use Rattle.sz_region.proofs.Added.{own-at}
+use Rattle.sz_frame.proofs.Added.{own-at}
 use Rattle.sz_payload.proofs.Adding.{tests-none, tests-next, runs-next}
 use Rattle.sz_payload.proofs.look.Look.add_met.Goals as goal
 

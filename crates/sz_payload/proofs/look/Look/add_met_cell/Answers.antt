@@ -3,7 +3,7 @@ use Rattle.std.proofs.Common.{refl, sym, ap, ◌∙◌}
 use Rattle.sz_cells.specs.Extent.{Extent, cell_of}
 use Rattle.sz_cells.specs.Cells.{any_cell}
 use Rattle.sz_spec.specs.Payloads.{mapped_by_payload}
-use Rattle.sz_region.proofs.Added.{own-at}
+use Rattle.sz_frame.proofs.Added.{own-at}
 use Rattle.sz_payload.proofs.Adding.{cell-met, cell-unmet}
 use Rattle.sz_payload.proofs.look.Look.add_met_cell.Goals as goal
 

@@ -4,7 +4,7 @@ use Rattle.sz_cells.specs.Extent.{index_of}
 use Rattle.sz_cells.specs.Cells.{Cells, any_cell}
 use Rattle.sz_cells.specs.Runs.{is_in}
 use Rattle.sz_spec.specs.Payloads.{mapped_by_payload}
-use Rattle.sz_region.proofs.Added.{own-at}
+use Rattle.sz_frame.proofs.Added.{own-at}
 use Rattle.sz_payload.proofs.Adding.{tests-none, tests-next, tests-same, run-none, run-next, run-all}
 use Rattle.sz_payload.proofs.look.Look.add_met_run.Goals as goal
 

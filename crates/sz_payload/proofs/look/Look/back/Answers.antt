@@ -3,8 +3,8 @@ use Rattle.std.proofs.Common.{◌≡◌, ℕ, refl, sym, ap, ◌∙◌, arith}
 use Rattle.sz_cells.specs.Extent.{size_of, cell_of}
 use Rattle.sz_cells.specs.Cells.{with_those}
 use Rattle.sz_spec.specs.declared.modes.Dir.TheVariants.{Back}
-use Rattle.sz_region.specs.Walks.{stepped, added}
-use Rattle.sz_region.proofs.Added.{with-none, own-at, next-is, next-none, stepped-next, stepped-skip, stepped-all}
+use Rattle.sz_frame.specs.Walks.{stepped, added}
+use Rattle.sz_frame.proofs.Added.{with-none, own-at, next-is, next-none, stepped-next, stepped-skip, stepped-all}
 use Rattle.sz_tables.specs.Entries.{entries}
 use Rattle.sz_payload.specs.Kept.{entries_stand}
 use Rattle.sz_payload.proofs.look.Look.back.Goals as goal

@@ -3,7 +3,7 @@ use Rattle.std.proofs.Common.{◌≡◌, ◌-◌, ◌≤◌}
 use Rattle.sz_cells.specs.Extent.{size_of}
 use Rattle.sz_cells.specs.Cells.{with_those}
 use Rattle.sz_spec.specs.declared.modes.Dir.TheVariants.{Back}
-use Rattle.sz_region.specs.Walks.{stepped, added}
+use Rattle.sz_frame.specs.Walks.{stepped, added}
 use Rattle.sz_tables.specs.Entries.{entries}
 use Rattle.sz_payload.specs.Kept.{entries_stand}
 use Rattle.sz_payload.specs.Looks.{IsDone}

@@ -6,8 +6,8 @@ use Rattle.sz_cells.specs.Cells.{has, with_those}
 use Rattle.sz_spec.specs.Lineage.{mapped}
 use Rattle.sz_spec.specs.Payloads.{mapped_by_payload}
 use Rattle.sz_spec.specs.Shapes.{Site}
-use Rattle.sz_region.specs.Stands.{has_entry}
-use Rattle.sz_region.proofs.Added.{own-at, with-ext, with-none}
+use Rattle.sz_frame.specs.Stands.{has_entry}
+use Rattle.sz_frame.proofs.Added.{own-at, with-ext, with-none}
 use Rattle.sz_tables.specs.Entries.{entries, entry_at}
 use Rattle.sz_payload.specs.Kept.{entries_stand}
 use Rattle.sz_payload.proofs.Standing.{stands-one, stands-none, done-kept}

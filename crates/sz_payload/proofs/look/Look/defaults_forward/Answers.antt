@@ -3,7 +3,7 @@ use Rattle.std.proofs.Common.{ℕ, refl, sym, ap, ◌∙◌}
 use Rattle.sz_cells.specs.Cells.{has, with_those}
 use Rattle.sz_spec.specs.declared.modes.Dir.TheVariants.{Forward}
 use Rattle.sz_spec.specs.Sides.{image_in}
-use Rattle.sz_region.proofs.Added.{own-at}
+use Rattle.sz_frame.proofs.Added.{own-at}
 use Rattle.sz_tables.specs.Entries.{entries}
 use Rattle.sz_payload.specs.Looks.{lone}
 use Rattle.sz_payload.proofs.Adding.{lone-other}

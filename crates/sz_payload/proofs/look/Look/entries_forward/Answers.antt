@@ -2,8 +2,8 @@
 use Rattle.std.proofs.Common.{List, refl, ap, ◌∙◌, arith}
 use Rattle.std.proofs.lemmas.List.{take_all}
 use Rattle.sz_cells.specs.Cells.{Cells, with_those}
-use Rattle.sz_region.specs.Parts.{Entry}
-use Rattle.sz_region.proofs.Added.{own-at}
+use Rattle.sz_frame.specs.Parts.{Entry}
+use Rattle.sz_frame.proofs.Added.{own-at}
 use Rattle.sz_tables.specs.Entries.{entries}
 use Rattle.sz_payload.specs.Looks.{entries_add}
 use Rattle.sz_payload.proofs.Adding.{entries-none, entries-next}

@@ -2,8 +2,8 @@
 use Rattle.std.proofs.Common.{◌≡◌, true, false, refl, ap, subst, ◌∙◌}
 use Rattle.sz_cells.specs.Extent.{Extent, cell_of}
 use Rattle.sz_cells.specs.Cells.{has}
-use Rattle.sz_region.specs.Stands.{has_entry}
-use Rattle.sz_region.proofs.Added.{own-at}
+use Rattle.sz_frame.specs.Stands.{has_entry}
+use Rattle.sz_frame.proofs.Added.{own-at}
 use Rattle.sz_tables.specs.Entries.{entries, entry_at}
 use Rattle.sz_payload.proofs.Adding.{lone-set, lone-kept}
 use Rattle.sz_payload.proofs.look.Look.first_forward.Goals as goal

@@ -4,8 +4,8 @@ use Rattle.sz_cells.specs.Extent.{Extent, size_of, cell_of}
 use Rattle.sz_cells.specs.Cells.{Cells, with_those}
 use Rattle.sz_spec.specs.declared.modes.Dir.TheVariants.{Forward}
 use Rattle.sz_spec.specs.Values.{extent_at}
-use Rattle.sz_region.specs.Walks.{stepped, added}
-use Rattle.sz_region.proofs.Added.{with-none, own-at, next-is, next-none, stepped-next, stepped-skip, stepped-all}
+use Rattle.sz_frame.specs.Walks.{stepped, added}
+use Rattle.sz_frame.proofs.Added.{with-none, own-at, next-is, next-none, stepped-next, stepped-skip, stepped-all}
 use Rattle.sz_tables.specs.Entries.{entries}
 use Rattle.sz_payload.specs.Looks.{lone}
 use Rattle.sz_payload.proofs.Operators.{own-shape}

@@ -4,7 +4,7 @@ use Rattle.sz_cells.specs.Extent.{size_of}
 use Rattle.sz_cells.specs.Cells.{with_those}
 use Rattle.sz_spec.specs.declared.modes.Dir.TheVariants.{Forward}
 use Rattle.sz_spec.specs.Values.{extent_at}
-use Rattle.sz_region.specs.Walks.{stepped, added}
+use Rattle.sz_frame.specs.Walks.{stepped, added}
 use Rattle.sz_tables.specs.Entries.{entries}
 use Rattle.sz_payload.specs.Looks.{lone}
 use Rattle.sz_payload.proofs.look.Look.firsts_forward.Given as goal

@@ -3,7 +3,7 @@ use Rattle.std.proofs.Common.{◌≡◌, ℕ, true, List, refl, sym, ap, subst, 
 use Rattle.sz_cells.specs.Cells.{with_those}
 use Rattle.sz_spec.specs.Payloads.{is_payload, mapped_by_payload}
 use Rattle.sz_spec.specs.Shapes.{Site}
-use Rattle.sz_region.proofs.Added.{own-at}
+use Rattle.sz_frame.proofs.Added.{own-at}
 use Rattle.sz_payload.specs.Kept.{AreAlike}
 use Rattle.sz_payload.proofs.Standing.{done-there, done-now, done-kept, lawful-at}
 use Rattle.sz_payload.proofs.look.Look.payload_back.Goals as goal

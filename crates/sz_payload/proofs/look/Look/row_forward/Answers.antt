@@ -5,7 +5,7 @@ use Rattle.sz_cells.specs.Cells.{any_cell}
 use Rattle.sz_cells.specs.Runs.{AreRunsFrom}
 use Rattle.sz_cells.specs.SetBytes.{IsSetOf}
 use Rattle.sz_spec.specs.Payloads.{mapped_by_payload}
-use Rattle.sz_region.proofs.Added.{own-at}
+use Rattle.sz_frame.proofs.Added.{own-at}
 use Rattle.sz_tables.specs.Entries.{entries, entry_at}
 use Rattle.sz_tables.specs.Payloads.{payload_at}
 use Rattle.sz_tables.specs.Rows.{set_at}

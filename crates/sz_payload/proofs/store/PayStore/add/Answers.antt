@@ -4,10 +4,10 @@ use Rattle.std.specs.Arc.{arc_value}
 use Rattle.sz_cells.specs.Extent.{Extent}
 use Rattle.sz_spec.specs.Payloads.{is_payload}
 use Rattle.sz_spec.specs.Shapes.{Site}
-use Rattle.sz_region.specs.Fits.{AreApart}
-use Rattle.sz_region.specs.Parts.{Entry}
+use Rattle.sz_frame.specs.Fits.{AreApart}
+use Rattle.sz_frame.specs.Parts.{Entry}
 use Rattle.sz_tables.specs.Entries.{entries}
-use Rattle.sz_payload.specs.Kept.{Keeping}
+use Rattle.sz_payload.specs.Kept.{PayContents}
 use Rattle.sz_payload.specs.Owned.{IsIndexOf}
 use Rattle.sz_tables.specs.Stores.{cells_in}
 use Rattle.sz_payload.proofs.Keeping.{all-more, cells-left, room-cells}
@@ -22,14 +22,14 @@ add-requires-clause-index g c =
 pub add-requires-clause-cells : goal.add-requires-clause-cells
 add-requires-clause-cells g c =
     let set = c.deref-2.ensures ∙ ap (λ (x : Entry). x.out) c.entry.view_is in
-    let room = ap (λ (k : Keeping). k.store.room.cells) c.self.view_is in
+    let room = ap (λ (k : PayContents). k.store.room.cells) c.self.view_is in
     room-cells c.self.inside.table.spare_runs (cells_in c.deref-2.result.now) c.self.inside.owner
     (omega (arith, c.requires.cells, room, ap cells_in set))
 
 pub returns-clause-cells : goal.returns-clause-cells
 returns-clause-cells g c = λ n few room.
     let set = c.deref-2.ensures ∙ ap (λ (x : Entry). x.out) c.entry.view_is in
-    let seen = ap (λ (k : Keeping). k.store.room.cells) c.self.view_is in
+    let seen = ap (λ (k : PayContents). k.store.room.cells) c.self.view_is in
     let before = room-cells c.self.inside.table.spare_runs (cells_in c.deref-2.result.now + n) c.self.inside.owner
     (omega (arith, room, seen, ap cells_in set)) in
     cells-left c.add-2.new.self.spare_runs n c.add.new.self few (c.add.ensures.cells n before)
@@ -43,8 +43,8 @@ invariant_of-self g c =
     let e = c.args.entry.now in
     let more = c.add-2.ensures in
     let shape = c.out-shape.ensures.value ∙ ap (λ (s : Site). s.out) c.deref.ensures in
-    let seen : es ≡ c.args.self.now.store.given = ap (λ (k : Keeping). k.store.given) c.self.view_is in
-    let own : site ≡ c.args.self.now.store.site = ap (λ (k : Keeping). k.store.site) c.self.view_is in
+    let seen : es ≡ c.args.self.now.store.given = ap (λ (k : PayContents). k.store.given) c.self.view_is in
+    let own : site ≡ c.args.self.now.store.site = ap (λ (k : PayContents). k.store.site) c.self.view_is in
     let set = sym (c.deref-2.ensures ∙ ap (λ (x : Entry). x.out) c.entry.view_is) in
     let before = subst (λ (d : Extent). IsIndexOf d es c.self.inside.owner) (sym shape) held.index in
     let filed = c.add.ensures.index es e set (sym c.len-row.ensures.entries) before in (

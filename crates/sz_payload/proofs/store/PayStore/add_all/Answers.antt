@@ -5,8 +5,8 @@ use Rattle.std.specs.Prelude.{sum_by}
 use Rattle.std.specs.Arc.{arc_value}
 use Rattle.std.proofs.lemmas.List.{take_more, length-map}
 use Rattle.std.proofs.lemmas.List.{take-append-drop}
-use Rattle.sz_region.specs.Fits.{AreApart}
-use Rattle.sz_region.specs.Parts.{Entry}
+use Rattle.sz_frame.specs.Fits.{AreApart}
+use Rattle.sz_frame.specs.Parts.{Entry}
 use Rattle.sz_spec.specs.Shapes.{Site}
 use Rattle.sz_tables.specs.Rows.{runs_in}
 use Rattle.sz_payload.specs.Kept.{IsEntryOf}

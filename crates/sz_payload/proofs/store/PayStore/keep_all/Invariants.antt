@@ -1,7 +1,7 @@
 -- The entries so far are added.
 use Rattle.std.proofs.Common.{◌≡◌, ◌++◌, List, take, map}
 use Rattle.std.specs.Arc.{arc_value}
-use Rattle.sz_region.specs.Parts.{Entry}
+use Rattle.sz_frame.specs.Parts.{Entry}
 use Rattle.sz_payload.proofs.store.PayStore.keep_all.Given as goal
 
 abbrev pub invariant-loop-entry : goal.invariant-loop-entry

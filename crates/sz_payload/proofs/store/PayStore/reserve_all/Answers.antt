@@ -7,10 +7,10 @@ use Rattle.sz_spec.specs.Modes.{has_mapping}
 use Rattle.sz_spec.specs.Payloads.{is_payload}
 use Rattle.sz_spec.specs.Shapes.{Site}
 use Rattle.sz_spec.specs.Values.{extent_at}
-use Rattle.sz_region.specs.Fits.{AreApart}
-use Rattle.sz_region.specs.Parts.{Entry}
+use Rattle.sz_frame.specs.Fits.{AreApart}
+use Rattle.sz_frame.specs.Parts.{Entry}
 use Rattle.sz_tables.specs.Entries.{EntryRows, entries}
-use Rattle.sz_payload.specs.Kept.{Keeping, IsEntryOf}
+use Rattle.sz_payload.specs.Kept.{PayContents, IsEntryOf}
 use Rattle.sz_payload.specs.declared.owner.Owner.{Owner}
 use Rattle.sz_payload.specs.Owned.{IsIndexOf}
 use Rattle.sz_payload.proofs.Operators.{own-shape}
@@ -39,7 +39,7 @@ bytes_of_all-bytes-requires-clause-short g c =
     ) in
     let es : List Entry = map (λ a. arc_value a) c.args.entries.now in
     let own : c.args.self.now.store.site ≡ s =
-    sym (ap (λ (k : Keeping). k.store.site) c.self.view_is) ∙ sym c.deref.ensures in
+    sym (ap (λ (k : PayContents). k.store.site) c.self.view_is) ∙ sym c.deref.ensures in
     entries-short s es few (subst (λ (t : Site). All (IsEntryOf t) es) own c.requires.entries)
 
 pub invariant_of-self : goal.invariant_of-self

@@ -6,11 +6,11 @@ use Rattle.std.specs.Arc.{arc_value}
 use Rattle.std.specs.declared.sync.Arc.{Arc}
 use Rattle.sz_spec.specs.Values.{Grid}
 use Rattle.sz_spec.specs.Pieces.{pieces_of}
-use Rattle.sz_region.specs.Images.{measure_of}
+use Rattle.sz_frame.specs.Images.{measure_of}
 use Rattle.sz_shelf.specs.Tags.{Tag, tag_pieces}
 use Rattle.sz_shelf.specs.Fitting.{FitsAsNeeded}
 use Rattle.sz_shelf.proofs.Fitting.{fits-needed}
-use Rattle.sz_shelf.specs.Places.{Place}
+use Rattle.sz_shelf.specs.Places.{ShelfPlace}
 use Rattle.sz_shelf.specs.Contents.{is_in}
 use Rattle.sz_pool.proofs.Turns.{grows-turn, seen-placed, told-by}
 use Rattle.sz_pool.proofs.maker.Maker.place.Goals as goal
@@ -19,7 +19,7 @@ pub place-requires-clause-fits : goal.place-requires-clause-fits
 place-requires-clause-fits g c =
     let lineage = c.in_ok-lineage.lineage in
     let piece : lineage.piece ≡ c.args.k = c.in_ok-lineage.ensures.piece in
-    let tag = ap (λ (z : Place). z.tag) c.requires.own ∙ c.args.self.now.tag in
+    let tag = ap (λ (z : ShelfPlace). z.tag) c.requires.own ∙ c.args.self.now.tag in
     let made = c.args.self.now in
     let at = made.at.now in
     let inputs = map (λ (a : Arc Grid Global). arc_value a) made.inputs.now in
@@ -35,7 +35,7 @@ returns g c =
     let done = c.in_ok-place.ensures in
     let piece : lineage.piece ≡ c.args.k = c.in_ok-lineage.ensures.piece in
     let n : tag_pieces p.tag ≡ pieces_of c.args.self.now.at.now.out =
-    ap (λ (z : Place). tag_pieces z.tag) c.requires.own ∙ ap tag_pieces c.args.self.now.tag in
+    ap (λ (z : ShelfPlace). tag_pieces z.tag) c.requires.own ∙ ap tag_pieces c.args.self.now.tag in
     let inside : lineage.piece < tag_pieces p.tag = omega (arith, piece, n, c.requires.piece) in record {
       grows = grows-turn p q done.turn done.kept;
       turns = done.turn.turns;

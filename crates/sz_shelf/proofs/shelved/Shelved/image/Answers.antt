@@ -10,7 +10,8 @@ use Rattle.sz_shelf.proofs.shelved.Shelved.image.Goals as goal
 pub returns-clause-image : goal.returns-clause-image
 returns-clause-image c =
     c.image.ensures.read
-    ∙ ap (λ (u : Strategy). with_those c.args.to.now (has (image_in c.args.dir c.store-store.result.now.site c.args.input
+    ∙ ap (λ (u : Strategy). with_those c.args.to.now
+    (has (image_in c.args.dir c.store-store.result.now.site c.args.input
     (holding_stands c.store-store.result.now.site (holding_for u c.store-store.result.now.stores) c.args.input)
     c.args.from.now))) c.image.ensures.by
     ∙ image-told c.args.self.now.tag c.store-store.result.now c.args.strategy c.args.dir c.args.input c.args.from.now

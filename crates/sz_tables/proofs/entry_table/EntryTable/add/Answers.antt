@@ -3,7 +3,7 @@
 use Rattle.std.proofs.Common.{◌≡◌, ◌∙◌, ap}
 use Rattle.std.specs.Arc.{arc_value}
 use Rattle.std.specs.Vec.{vec_capacity}
-use Rattle.sz_region.specs.Parts.{Entry}
+use Rattle.sz_frame.specs.Parts.{Entry}
 use Rattle.sz_tables.specs.declared.entry_table.EntryRow.{EntryRow}
 use Rattle.sz_tables.proofs.Entries.{AddsEntry, entries-added, sets-kept, payloads-kept, rows-kept}
 use Rattle.sz_tables.proofs.entry_table.EntryTable.add.Goals as goal

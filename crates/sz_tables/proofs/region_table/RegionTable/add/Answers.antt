@@ -7,7 +7,7 @@ use Rattle.std.specs.List.{sum_by}
 use Rattle.std.specs.Vec.{vec_capacity}
 use Rattle.std.proofs.lemmas.List.{with_items_is, append_assoc, take-append-drop, length-map}
 use Rattle.std.proofs.lemmas.List.{get_or_default}
-use Rattle.sz_region.specs.Parts.{Pairing}
+use Rattle.sz_frame.specs.Parts.{Pairing}
 use Rattle.sz_cells.specs.Cells.{Cells}
 use Rattle.sz_spec.specs.Values.{no_extent}
 use Rattle.sz_tables.specs.Tables.{SetsByNumber, HasAtMostOneMore}

@@ -1,6 +1,6 @@
 -- What was added last is there.
 use Rattle.std.proofs.Common.{refl}
-use Rattle.sz_region.proofs.Added.{own-at}
+use Rattle.sz_frame.proofs.Added.{own-at}
 use Rattle.sz_tables.specs.Scans.{far_sets}
 use Rattle.sz_tables.proofs.Scanned.{known-there}
 use Rattle.sz_tables.proofs.region_table.RegionTable.add_once.Goals as goal

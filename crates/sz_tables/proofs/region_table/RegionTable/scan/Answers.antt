@@ -1,6 +1,6 @@
 -- Each row in turn adds what it adds, and all rows add the image.
 use Rattle.std.proofs.Common.{refl, arith}
-use Rattle.sz_region.proofs.Added.{own-at}
+use Rattle.sz_frame.proofs.Added.{own-at}
 use Rattle.sz_tables.proofs.Scanned.{none-added, row-added, rows-added, nothing-seen}
 use Rattle.sz_tables.proofs.region_table.RegionTable.scan.Goals as goal
 

@@ -1,6 +1,6 @@
 -- Whether the near set has an asked cell decides.
 use Rattle.std.proofs.Common.{refl, sym, ◌∙◌}
-use Rattle.sz_region.proofs.Added.{own-at}
+use Rattle.sz_frame.proofs.Added.{own-at}
 use Rattle.sz_tables.proofs.Scanned.{row-met, row-unmet, added-there}
 use Rattle.sz_cells.specs.Cells.{has}
 use Rattle.sz_tables.specs.Rows.{set_at}

@@ -1,0 +1,134 @@
+-- What was read is a lawful body, and where a part is not there, no lawful body is.
+use Rattle.std.proofs.Common.{◌≡◌, ℕ, List, map, true, sym, ap, ap₂, subst, ◌∙◌}
+use Rattle.std.specs.Arc.{arc_value}
+use Rattle.std.proofs.lemmas.Result.{err_from_is_err_and}
+use Rattle.sz_cells.specs.Extent.{Extent}
+use Rattle.sz_spec.specs.declared.flow.Node.{Node}
+use Rattle.sz_spec.specs.declared.modes.Strategy.{Strategy}
+use Rattle.sz_spec.specs.Flows.{Graph}
+use Rattle.sz_catalogue.specs.Holdings.{Base, Version}
+use Rattle.sz_bodies.specs.Fitting.{FitNodes, lineages, parts_of}
+use Rattle.sz_bodies.specs.Taking.{Begun, site_over, AreNodesAt, NoNodesAt, AreOnlyNodes}
+use Rattle.sz_bodies.proofs.HeadParts.{if_bad-weaker}
+use Rattle.sz_bodies.proofs.Whole.{HeadIs, IsRead, version_read, carried, body-read}
+use Rattle.sz_bodies.proofs.Whole.{no-body-head, no-body-shapes, no-body-nodes, no-body-end}
+use Rattle.sz_bodies.proofs.reading.take_version_body.Goals as goal
+
+pub returns-in_err-head-clause-bad : goal.returns-in_err-head-clause-bad
+returns-in_err-head-clause-bad c =
+    let none = if_bad-weaker c.in_err-head.field-0.0 (no-body-head c.args.catalogue.now c.args.body.now)
+    c.in_err-head.ensures.err in
+    let p = err_from_is_err_and c.from_residual.result c.from_residual.ensures.1 in
+    rw (p.1, p.2) none
+
+pub returns-in_err-base-clause-bad : goal.returns-in_err-base-clause-bad
+returns-in_err-base-clause-bad c =
+    let held = c.args.catalogue.now in
+    let h : Begun = c.in_ok-head.head in
+    let read : HeadIs held c.args.body.now h c.in_ok-head.place =
+    record { begun = c.in_ok-head.ensures.held; here = c.in_ok-head.ensures.bytes } in
+    let none = if_bad-weaker c.in_err-base.field-0.0
+    (no-body-shapes held c.args.body.now h c.in_ok-head.place read) c.in_err-base.ensures.err in
+    let p = err_from_is_err_and c.from_residual-in_err-base.result c.from_residual-in_err-base.ensures.1 in
+    rw (p.1, p.2) none
+
+pub returns-in_err-lists-clause-bad : goal.returns-in_err-lists-clause-bad
+returns-in_err-lists-clause-bad c =
+    let held = c.args.catalogue.now in
+    let body = c.args.body.now in
+    let h : Begun = c.in_ok-head.head in
+    let place = c.in_ok-head.place in
+    let base : List Extent = c.in_ok-base.base.items in
+    let outs : List Extent = c.in_ok-base.outputs.items in
+    let read : HeadIs held body h place =
+    record { begun = c.in_ok-head.ensures.held; here = c.in_ok-head.ensures.bytes } in
+    let nodes : c.nodes-nodes.result.now ≡ h.flow.nodes =
+    c.nodes-nodes.ensures
+    ∙ ap (λ (x : Graph). x.nodes) (c.deref.ensures ∙ ap (λ (b : Begun). b.flow) c.head.view_is) in
+    let none = if_bad-weaker c.in_err-lists.field-0.0
+    (λ missing. no-body-nodes held body h place base outs read c.in_ok-base.ensures.base c.in_ok-base.ensures.fit
+    (carried (λ (b o : List Extent) (n : List Node). NoNodesAt b o n body place) c.deref-2.result.now base
+    c.deref-3.result.now outs c.nodes-nodes.result.now h.flow.nodes c.deref-2.ensures.value c.deref-3.ensures.value
+    nodes missing)) c.in_err-lists.ensures.err in
+    let p = err_from_is_err_and c.from_residual-in_err-lists.result c.from_residual-in_err-lists.ensures.1 in
+    rw (p.1, p.2) none
+
+pub returns-then-end-body-clause-bad : goal.returns-then-end-body-clause-bad
+returns-then-end-body-clause-bad c =
+    let held = c.args.catalogue.now in
+    let body = c.args.body.now in
+    let h : Begun = c.in_ok-head.head in
+    let place = c.in_ok-head.place in
+    let end = c.in_ok-lists.end in
+    let base : List Extent = c.in_ok-base.base.items in
+    let outs : List Extent = c.in_ok-base.outputs.items in
+    let parts = parts_of c.in_ok-lists.lists.items (lineages c.in_ok-lists.stores.items) in
+    let read : HeadIs held body h place =
+    record { begun = c.in_ok-head.ensures.held; here = c.in_ok-head.ensures.bytes } in
+    let nodes : c.nodes-nodes.result.now ≡ h.flow.nodes =
+    c.nodes-nodes.ensures
+    ∙ ap (λ (x : Graph). x.nodes) (c.deref.ensures ∙ ap (λ (b : Begun). b.flow) c.head.view_is) in
+    no-body-end held body h place end base outs parts read c.in_ok-base.ensures.base c.in_ok-base.ensures.fit
+    (carried (λ (b o : List Extent) (n : List Node). AreOnlyNodes b o n body place end parts) c.deref-2.result.now base
+    c.deref-3.result.now outs c.nodes-nodes.result.now h.flow.nodes c.deref-2.ensures.value c.deref-3.ensures.value
+    nodes c.in_ok-lists.ensures.only) c.if-end-body.true
+
+whole : (c : goal.After-drop-base-2) → IsRead c.args.catalogue.now c.args.body.now c.head.inside.number
+    (record {
+      flow_name = c.head.inside.flow_name;
+      flow = arc_value c.head.inside.flow;
+      base = c.of.result;
+      lists = c.of-2.result;
+      awaited = true;
+    }) (lineages c.in_ok-lists.stores.items)
+whole c =
+    let held = c.args.catalogue.now in
+    let body = c.args.body.now in
+    let h : Begun = c.in_ok-head.head in
+    let place = c.in_ok-head.place in
+    let end = c.in_ok-lists.end in
+    let base : List Extent = c.in_ok-base.base.items in
+    let outs : List Extent = c.in_ok-base.outputs.items in
+    let lists : List (List Strategy) = c.in_ok-lists.lists.items in
+    let stores = lineages c.in_ok-lists.stores.items in
+    let parts = parts_of lists stores in
+    let read : HeadIs held body h place =
+    record { begun = c.in_ok-head.ensures.held; here = c.in_ok-head.ensures.bytes } in
+    let nodes : c.nodes-nodes.result.now ≡ h.flow.nodes =
+    c.nodes-nodes.ensures
+    ∙ ap (λ (x : Graph). x.nodes) (c.deref.ensures ∙ ap (λ (b : Begun). b.flow) c.head.view_is) in
+    let there : AreNodesAt base outs h.flow.nodes body place end parts =
+    carried (λ (b o : List Extent) (n : List Node). AreNodesAt b o n body place end parts) c.deref-2.result.now base
+    c.deref-3.result.now outs c.nodes-nodes.result.now h.flow.nodes c.deref-2.ensures.value c.deref-3.ensures.value
+    nodes c.in_ok-lists.ensures.nodes in
+    let fits : FitNodes (map (site_over base outs) h.flow.nodes) lists stores =
+    carried (λ (b o : List Extent) (n : List Node). FitNodes (map (site_over b o) n) lists stores) c.deref-2.result.now
+    base c.deref-3.result.now outs c.nodes-nodes.result.now h.flow.nodes c.deref-2.ensures.value c.deref-3.ensures.value
+    nodes c.in_ok-lists.ensures.fit in
+    let own : IsRead held body h.number (version_read h lists) stores =
+    body-read held body h place end base outs lists stores read c.in_ok-base.ensures.base c.in_ok-base.ensures.fit there
+    fits c.if-end-body.false in
+    let make : List Base → List (List Strategy) → Version = λ bs ls. record {
+      flow_name = c.head.inside.flow_name;
+      flow = arc_value c.head.inside.flow;
+      base = bs;
+      lists = ls;
+      awaited = true;
+    } in
+    let version : make c.of.result c.of-2.result ≡ version_read h lists =
+    ap₂ make c.of.ensures c.of-2.ensures ∙ ap (λ (b : Begun). version_read b lists) c.head.view_is in
+    subst (λ (v : Version). IsRead held body c.head.inside.number v stores) (sym version)
+    (subst (λ (n : ℕ). IsRead held body n (version_read h lists) stores)
+    (sym (ap (λ (b : Begun). b.number) c.head.view_is)) own)
+
+pub returns-clause-lawful : goal.returns-clause-lawful
+returns-clause-lawful c = (whole c).lawful
+
+pub returns-clause-said : goal.returns-clause-said
+returns-clause-said c = (whole c).said
+
+pub returns-clause-fit : goal.returns-clause-fit
+returns-clause-fit c = (whole c).fit
+
+pub returns-clause-added : goal.returns-clause-added
+returns-clause-added c = (whole c).added

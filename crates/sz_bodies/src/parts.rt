@@ -1,0 +1,109 @@
+//! The parts of a body that stand for themselves: numbers and names.
+
+ghost use Rattle.std.specs.Prelude.{◌≡◌, ◌<◌, ◌≤◌, ◌+◌, true, length, IfOk, IfErr, IfSome, IfNone};
+ghost use Rattle.std.specs.List.{list_all};
+ghost use Rattle.sz_cells.specs.SetBytes.{four_bytes};
+ghost use Rattle.sz_region.specs.Counted.{IsAt};
+ghost use Rattle.sz_region.specs.Stores.{NoneAt};
+ghost use Rattle.sz_script.specs.Names.{is_name, is_name_byte};
+ghost use Rattle.sz_bodies.specs.Bodies.{name_bytes};
+ghost use Rattle.sz_bodies.specs.Taking.{IfBad, IsName, IsAnyText};
+
+use crate::reading::TakeFault;
+use std::alloc::Global;
+use sz_script::Name;
+
+/// The number whose four bytes stand at a place. `None` exactly where there are not four bytes.
+pub(crate) fn take_number(bytes: &[u8], at: u64) -> Option<u32>
+    ensures some { IfSome result (λ n. IsAt bytes.now at (at + 4) (four_bytes n)) }
+    ensures none { IfNone result (length bytes.now < at + 4) }
+{
+    let length = bytes.len() as u64;
+    if length < 4 || length - 4 < at {
+        return None;
+    }
+    let from = at as usize;
+    let number = [
+        bytes[from],
+        bytes[from + 1],
+        bytes[from + 2],
+        bytes[from + 3],
+    ];
+    Some(u32::from_be_bytes(number))
+}
+
+/// The name that stands at a place, and the place behind it.
+pub(crate) fn take_name(alloc: Global, bytes: &[u8], at: u64) -> Result<(Name, u64), TakeFault>
+    ensures name { IfOk result (λ r. IsName r.0) }
+    ensures bytes { IfOk result (λ r. IsAt bytes.now at r.1 (name_bytes r.0)) }
+    ensures err { IfErr result (λ e. IfBad e (NoneAt IsName name_bytes bytes.now at)) }
+{
+    let Some(text) = text_at(bytes, at) else {
+        return Err(TakeFault::Bad);
+    };
+    let next = at + 1 + text.len() as u64;
+    let text = String::from_str(alloc, text)?;
+    Ok((Name::of(text), next))
+}
+
+/// The text of the name that stands at a place.
+fn text_at(bytes: &[u8], at: u64) -> Option<&str>
+    ensures name { IfSome result (λ t. IsName t.now) }
+    ensures bytes { IfSome result
+        (λ t. IsAt bytes.now at (at + 1 + length t.now) (name_bytes t.now)) }
+    ensures none { IfNone result (NoneAt IsName name_bytes bytes.now at) }
+{
+    let name = counted_at(bytes, at)?;
+    if !is_name(name) {
+        return None;
+    }
+    match str::from_utf8(name) {
+        Ok(text) => Some(text),
+        Err(_) => unreachable!(),
+    }
+}
+
+/// The bytes behind the byte at a place that says how many they are. `None` exactly where there
+/// are not so many.
+pub(crate) fn counted_at(bytes: &[u8], at: u64) -> Option<&[u8]>
+    ensures some { IfSome result
+        (λ b. IsAt bytes.now at (at + 1 + length b.now) (name_bytes b.now)) }
+    ensures few { IfSome result (λ b. length b.now < 256) }
+    ensures none { IfNone result (NoneAt IsAnyText name_bytes bytes.now at) }
+{
+    if bytes.len() as u64 <= at {
+        return None;
+    }
+    let place = at as usize;
+    let count = bytes[place] as usize;
+    let (_, behind) = bytes.split_at(place + 1);
+    if behind.len() < count {
+        return None;
+    }
+    let (text, _) = behind.split_at(count);
+    Some(text)
+}
+
+/// The most bytes that a name has.
+const NAME_LIMIT: usize = 32;
+
+/// Whether some bytes are a name: 1 to 32 of a to z, 0 to 9 and _.
+fn is_name(bytes: &[u8]) -> bool
+    ensures { result ≡ is_name bytes.now }
+{
+    if bytes.is_empty() || bytes.len() > NAME_LIMIT {
+        return false;
+    }
+    for byte in bytes {
+        if !is_name_byte(*byte) {
+            return false;
+        }
+    }
+    true
+}
+
+fn is_name_byte(byte: u8) -> bool
+    ensures { result ≡ is_name_byte byte }
+{
+    matches!(byte, b'a'..=b'z' | b'0'..=b'9' | b'_')
+}

@@ -1,0 +1,184 @@
+//! Reading the body of a version.
+
+ghost use Rattle.std.specs.Prelude.{◌≡◌, ◌<◌, ◌≤◌, ◌*◌, ℕ, length, map, All, IfOk, IfErr};
+ghost use Rattle.std.specs.Arc.{arc_value};
+ghost use Rattle.sz_cells.specs.Extent.{Extent};
+ghost use Rattle.sz_catalogue.specs.Holdings.{shapes_of, cells_of};
+ghost use Rattle.sz_bodies.specs.Fitting.{Fit, body_of};
+ghost use Rattle.sz_bodies.specs.Lawful.{version_said, IsLawful, CanBeAdded};
+ghost use Rattle.sz_bodies.specs.Taking.{IfBad, NoneIsLawful, IsFitting, FitShapes, NoShapesFit};
+
+use crate::heads::{Head, take_head};
+use crate::nodes::take_nodes;
+use std::alloc::{AllocError, AllocFailed, Global};
+use std::marker::Model;
+use std::sync::Arc;
+use sz_catalogue::{BaseArray, BaseArrays, Catalogue, StrategyLists};
+use sz_cells::{NoMemory, Shape};
+use sz_script::Name;
+use sz_spec::{Flow, output_shapes};
+use sz_store::NodeStore;
+
+/// A version that a body says, with its stores: its number, the flow that is held under its name,
+/// the base arrays that are held under theirs, the strategies of each node, and the stores of each
+/// node whose strategies keep one. Contracts see a version that was awaited.
+#[derive(Drop)]
+pub struct TakenVersion {
+    pub number: u32,
+    pub flow_name: Name,
+    pub flow: Arc<Flow>,
+    pub base: BaseArrays,
+    pub lists: StrategyLists,
+    pub stores: Vec<Option<Arc<NodeStore>>>,
+}
+
+impl Model for TakenVersion {
+    ghost use Rattle.std.specs.Prelude.{true};
+    ghost use Rattle.std.specs.Arc.{arc_value};
+    ghost use Rattle.sz_bodies.specs.Fitting.{lineages};
+    ghost use Rattle.sz_bodies.specs.Taking.{Taken};
+
+    ghost Value = { Taken };
+
+    ghost view = { λ t. record {
+      number = t.number;
+      version = record {
+        flow_name = t.flow_name;
+        flow = arc_value t.flow;
+        base = t.base;
+        lists = t.lists;
+        awaited = true;
+      };
+      stores = lineages t.stores.items;
+    } };
+}
+
+/// Why no version was read.
+#[derive(Clone, Copy, Debug, Drop, PartialEq, Eq)]
+pub enum TakeFault {
+    /// The bytes are no lawful body.
+    Bad,
+    /// There was no memory.
+    NoMemory,
+}
+
+impl<T: Drop> From<AllocFailed<T>> for TakeFault {
+    ghost use Rattle.std.specs.Prelude.{◌≡◌};
+    ghost use Rattle.sz_bodies.specs.declared.reading.TakeFault.TheVariants.{NoMemory};
+
+    ghost from_gives = { λ _ e. e ≡ NoMemory };
+
+    fn from(_error: AllocFailed<T>) -> TakeFault {
+        TakeFault::NoMemory
+    }
+}
+
+impl From<AllocError> for TakeFault {
+    ghost use Rattle.std.specs.Prelude.{◌≡◌};
+    ghost use Rattle.sz_bodies.specs.declared.reading.TakeFault.TheVariants.{NoMemory};
+
+    ghost from_gives = { λ _ e. e ≡ NoMemory };
+
+    fn from(_error: AllocError) -> TakeFault {
+        TakeFault::NoMemory
+    }
+}
+
+impl From<NoMemory> for TakeFault {
+    ghost use Rattle.std.specs.Prelude.{◌≡◌};
+    ghost use Rattle.sz_bodies.specs.declared.reading.TakeFault.TheVariants as fault;
+
+    ghost from_gives = { λ _ e. e ≡ fault.NoMemory };
+
+    fn from(_error: NoMemory) -> TakeFault {
+        TakeFault::NoMemory
+    }
+}
+
+/// The version that a body says over what is held, with its stores. `Bad` exactly where the bytes
+/// are no lawful body. What is read can be added to the catalogue.
+///
+/// Takes time and memory in the number of bytes, of which each is read once, and in the flow, and
+/// for each name time in the logarithm of what is held.
+pub fn take_version_body(
+    alloc: Global,
+    catalogue: &Catalogue,
+    body: &[u8],
+) -> Result<TakenVersion, TakeFault>
+    ensures lawful { IfOk result (λ t.
+        IsLawful catalogue.now (body_of t.number t.version t.stores) body.now) }
+    ensures said { IfOk result (λ t.
+        t.version ≡ version_said catalogue.now (body_of t.number t.version t.stores)) }
+    ensures fit { IfOk result (λ t. Fit t.version t.stores) }
+    ensures added { IfOk result (λ t. CanBeAdded catalogue.now t.number t.version) }
+    ensures bad { IfErr result (λ e. IfBad e (NoneIsLawful catalogue.now body.now)) }
+{
+    let (head, place) = take_head(alloc, catalogue, body)?;
+    let (base, outputs) = fit_shapes(alloc, catalogue, &head)?;
+    let nodes = head.flow.nodes();
+    let (lists, stores, end) = take_nodes(alloc, nodes, &base, &outputs, body, place)?;
+    if end != body.len() as u64 {
+        return Err(TakeFault::Bad);
+    }
+    Ok(TakenVersion {
+        number: head.number,
+        flow_name: head.flow_name,
+        flow: head.flow,
+        base: BaseArrays::of(head.base),
+        lists: StrategyLists::of(lists),
+        stores,
+    })
+}
+
+/// The shapes of the base arrays, and of the outputs that the flow makes of them. `Bad` where they
+/// do not fit, or there is no room for the outputs.
+fn fit_shapes(
+    alloc: Global,
+    catalogue: &Catalogue,
+    head: &Head,
+) -> Result<(Vec<Shape>, Vec<Shape>), TakeFault>
+    ensures base { IfOk result (λ r. r.0.items ≡ shapes_of head.now.base) }
+    ensures fit { IfOk result (λ r. FitShapes catalogue.now head.now r.1.items) }
+    ensures nodes { IfOk result (λ r. All (IsFitting r.0.items r.1.items) head.now.flow.nodes) }
+    ensures err { IfErr result (λ e. IfBad e (NoShapesFit catalogue.now head.now)) }
+{
+    let flow: &Flow = &head.flow;
+    if flow.check().is_err() {
+        return Err(TakeFault::NoMemory); // every flow that is held is well formed
+    }
+    if head.base.len() != flow.inputs() as usize || head.count as usize != flow.nodes().len() {
+        return Err(TakeFault::Bad);
+    }
+    let base = base_shapes(alloc, &head.base)?;
+    let Ok(outputs) = output_shapes(alloc, flow, &base)? else {
+        return Err(TakeFault::Bad);
+    };
+    if !catalogue.has_room(cells_of(&outputs)) {
+        return Err(TakeFault::Bad);
+    }
+    Ok((base, outputs))
+}
+
+/// The shapes of base arrays.
+fn base_shapes(alloc: Global, base: &[BaseArray]) -> Result<Vec<Shape>, NoMemory>
+    ensures { IfOk result (λ v. v.items ≡ shapes_of base.now) }
+{
+    let mut shapes = Vec::with_capacity(alloc, base.len())?;
+    for only in base {
+        shapes.push(only.array.shape())?;
+    }
+    Ok(shapes)
+}
+
+/// How many cells some shapes have together.
+fn cells_of(shapes: &[Shape]) -> u64
+    requires { length shapes.now ≤ 1024 }
+    ensures value { result ≡ cells_of shapes.now }
+    ensures few { result ≤ 1048576 * length shapes.now }
+{
+    let mut cells = 0;
+    for shape in shapes {
+        cells += u64::from(shape.size());
+    }
+    cells
+}

@@ -1,0 +1,12 @@
+pub mod Added
+pub mod Passing
+pub mod OneCell
+pub mod Places
+pub mod Inputs
+pub mod OneKind
+pub mod Grouping
+pub mod Fitting
+pub mod AllPieces
+pub mod Kept
+pub mod Folded
+pub mod FoldedCells

@@ -1,0 +1,83 @@
+-- The cells of the set are met in rising order, and the numbers between them add nothing.
+use Rattle.std.proofs.Common.{◌≡◌, ℕ, ◌<◌, refl, sym, ap, subst, ◌∙◌, arith}
+use Rattle.sz_cells.specs.Extent.{Extent, size_of, cell_of}
+use Rattle.sz_cells.specs.Cells.{with_those}
+use Rattle.sz_spec.specs.Lineage.{mapped}
+use Rattle.sz_spec.specs.Sides.{near_side}
+use Rattle.sz_frame.specs.Walks.{stepped, added}
+use Rattle.sz_frame.proofs.Added.{with-none, own-at, next-is, next-none, stepped-next}
+use Rattle.sz_frame.proofs.Added.{stepped-skip, stepped-all}
+use Rattle.sz_frame.proofs.walks.image_by.Goals as goal
+
+pub loop-start-init : goal.loop-start-init
+loop-start-init g c =
+    let s = g.M.Mapper.site c.args.map.now in
+    let e = near_side c.args.dir s c.args.input in
+    let to = c.args.to.now in
+    let shape : c.shape-shape-2.result ≡ e = c.shape-shape-2.ensures.value ∙ c.requires.from in (
+      shape,
+      c.size-end.ensures.value ∙ ap size_of shape,
+      omega arith,
+      with-none to (added e (stepped c.args.dir (mapped s.op s.ins c.args.input) c.args.from.now) 0) (own-at to
+          to.extent refl c.shape-shape.ensures.rising)
+          (λ x held. refl),
+    )
+
+pub cell_at-requires : goal.cell_at-requires
+cell_at-requires g c =
+    let s = g.M.Mapper.site c.args.map.now in
+    let e = near_side c.args.dir s c.args.input in
+    let next = next-is c.args.from.now e c.loop-start.start c.in-Some.index c.requires.from
+    c.shape-shape-2.ensures.rising (sym c.next_after.ensures ∙ c.in-Some.is) in
+    subst (λ (f : Extent). c.in-Some.index < size_of f) (sym c.loop-start.invariant.0) next.high
+
+pub loop-start-smaller-in-Some : goal.loop-start-smaller-in-Some
+loop-start-smaller-in-Some g c =
+    let s = g.M.Mapper.site c.args.map.now in
+    let e = near_side c.args.dir s c.args.input in
+    let next = next-is c.args.from.now e c.loop-start.start c.in-Some.index c.requires.from
+    c.shape-shape-2.ensures.rising (sym c.next_after.ensures ∙ c.in-Some.is) in
+    omega (arith, next.low, next.high, c.loop-start.invariant.1)
+
+pub loop-start-preserved-in-Some : goal.loop-start-preserved-in-Some
+loop-start-preserved-in-Some g c =
+    let s = g.M.Mapper.site c.args.map.now in
+    let e = near_side c.args.dir s c.args.input in
+    let inv = c.loop-start.invariant in
+    let next = next-is c.args.from.now e c.loop-start.start c.in-Some.index c.requires.from
+    c.shape-shape-2.ensures.rising (sym c.next_after.ensures ∙ c.in-Some.is) in
+    let at = c.cell_at.ensures.value ∙ ap (λ (f : Extent). cell_of f c.in-Some.index) inv.0 in (
+      inv.0,
+      inv.1,
+      omega (arith, next.high),
+      stepped-next c.args.dir e (mapped s.op s.ins c.args.input) c.args.from.now c.args.to.now c.loop-start.to
+          c.map_cell.new.to c.loop-start.start c.in-Some.index
+          c.cell_at.result next inv.3 at c.map_cell.ensures,
+    )
+
+pub loop-start-preserved : goal.loop-start-preserved
+loop-start-preserved g c =
+    let s = g.M.Mapper.site c.args.map.now in
+    let e = near_side c.args.dir s c.args.input in
+    let inv = c.loop-start.invariant in
+    let none = next-none c.args.from.now e c.loop-start.start c.requires.from (sym c.next_after.ensures ∙
+    c.in-None.is) in (
+      inv.0,
+      inv.1,
+      omega (arith, inv.1),
+      stepped-skip c.args.dir e (mapped s.op s.ins c.args.input) c.args.from.now c.args.to.now c.loop-start.to
+          c.loop-start.start c.size-end.result
+          (omega (arith, inv.1, inv.2)) (λ k low high. none k low (omega (arith, inv.1))) inv.3,
+    )
+
+pub returns : goal.returns
+returns g c =
+    let s = g.M.Mapper.site c.args.map.now in
+    let e = near_side c.args.dir s c.args.input in
+    let relation = mapped s.op s.ins c.args.input in
+    let inv = c.loop-start.invariant in
+    let all : c.loop-start.start ≡ size_of e = omega (arith, inv.1, inv.2) in
+    inv.3
+    ∙ ap (λ (n : ℕ). with_those c.args.to.now (added e (stepped c.args.dir relation c.args.from.now) n)) all
+    ∙ stepped-all c.args.dir s c.args.input relation c.args.from.now c.args.to.now
+    (own-at c.args.from.now e c.requires.from c.shape-shape-2.ensures.rising) c.requires.to
