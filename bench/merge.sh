@@ -20,13 +20,13 @@ trap 'rm -rf "$work"' EXIT
 here=$work/crates/merges
 mkdir -p "$here/src" "$here/specs" "$here/proofs/stores/build"
 cp "$root/HANDLES" "$work/"
-for name in sz_cells sz_spec sz_region sz_core sz_rtree sz_ops_local sz_ops_move sz_ops_window sz_ops_region sz_ops sz_tables sz_full_one sz_full_many \
+for name in sz_cells sz_spec sz_frame sz_region sz_core sz_rtree sz_ops_local sz_ops_move sz_ops_window sz_ops_region sz_ops sz_tables sz_full_one sz_full_many \
     sz_payload sz_store sz_shelf sz_merge; do
     mkdir -p "$work/crates/$name"
     (cd "$root/crates" && tar cf - --exclude=must-fail --exclude=rested --exclude=incremental "$name") | tar xf - -C "$work/crates"
     grep -E "^$name:" "$root/crates.txt" >>"$work/crates.txt"
 done
-echo 'merges: sz_cells sz_spec sz_region sz_ops sz_store sz_merge anyhow' >>"$work/crates.txt"
+echo 'merges: sz_cells sz_spec sz_frame sz_region sz_ops sz_store sz_merge anyhow' >>"$work/crates.txt"
 cat >"$here/specs/Lib.antt" <<'ANTT'
 -- Nothing of its own.
 ANTT
@@ -137,8 +137,8 @@ ghost use Rattle.sz_spec.specs.Pieces.{pieces_of};
 ghost use Rattle.sz_spec.specs.Values.{extents_of};
 ghost use Rattle.sz_spec.specs.declared.modes.Strategy.TheVariants as strategy;
 ghost use Rattle.sz_ops.specs.Aids.{aid_of};
-ghost use Rattle.sz_region.specs.Fits.{Fits};
-ghost use Rattle.sz_region.specs.Images.{measure_of};
+ghost use Rattle.sz_frame.specs.Fits.{Fits};
+ghost use Rattle.sz_frame.specs.Images.{measure_of};
 
 use std::alloc::Global;
 use std::sync::Arc;

@@ -12,7 +12,7 @@ work=$(mktemp -d)
 trap 'rm -rf "$work"' EXIT
 mkdir -p "$work/crates/times/src" "$work/crates/times/specs" "$work/crates/times/proofs"
 cp "$root/HANDLES" "$work/"
-for name in sz_cells sz_spec sz_region sz_ops_local sz_ops_move sz_ops_window sz_ops_region sz_ops; do
+for name in sz_cells sz_spec sz_frame sz_region sz_ops_local sz_ops_move sz_ops_window sz_ops_region sz_ops; do
     (cd "$root/crates" && tar cf - --exclude=out --exclude=must-fail "$name") | tar xf - -C "$work/crates"
     grep -E "^$name:" "$root/crates.txt" >>"$work/crates.txt"
 done

@@ -13,7 +13,7 @@ trap 'rm -rf "$work"' EXIT
 here="$work/crates/refreshes"
 mkdir -p "$here/src" "$here/specs"
 cp "$root/HANDLES" "$work/"
-for name in sz_cells sz_spec sz_region sz_ops_local sz_ops_move sz_ops_window sz_ops_region sz_ops sz_flow sz_refresh; do
+for name in sz_cells sz_spec sz_frame sz_region sz_ops_local sz_ops_move sz_ops_window sz_ops_region sz_ops sz_flow sz_refresh; do
     (cd "$root/crates" && tar cf - --exclude=out --exclude=must-fail "$name") | tar xf - -C "$work/crates"
     grep -E "^$name:" "$root/crates.txt" >>"$work/crates.txt"
 done

@@ -26,11 +26,11 @@ trap 'rm -rf "$work"' EXIT
 here=$work/crates/turns
 mkdir -p "$here/src" "$here/specs" "$here/proofs"
 cp "$root/HANDLES" "$work/"
-for name in sz_cells sz_spec sz_region sz_core sz_rtree sz_ops_local sz_ops_move sz_ops_window sz_ops_region sz_ops sz_tables sz_full_one sz_full_many sz_payload sz_store sz_shelf; do
+for name in sz_cells sz_spec sz_frame sz_region sz_core sz_rtree sz_ops_local sz_ops_move sz_ops_window sz_ops_region sz_ops sz_tables sz_full_one sz_full_many sz_payload sz_store sz_shelf; do
     (cd "$root/crates" && tar cf - --exclude=must-fail --exclude=rested --exclude=incremental "$name") | tar xf - -C "$work/crates"
     grep -E "^$name:" "$root/crates.txt" >>"$work/crates.txt"
 done
-echo 'turns: sz_cells sz_spec sz_region sz_ops sz_store sz_shelf anyhow' >>"$work/crates.txt"
+echo 'turns: sz_cells sz_spec sz_frame sz_region sz_ops sz_store sz_shelf anyhow' >>"$work/crates.txt"
 cat >"$here/specs/Lib.antt" <<'ANTT'
 pub mod Bench
 ANTT
@@ -111,8 +111,8 @@ cat >"$here/src/bench.rt" <<'RT'
 ghost use Rattle.std.specs.Prelude.{◌≡◌, ◌<◌, [], ◌∷◌, IfOk};
 ghost use Rattle.std.specs.Arc.{arc_value};
 ghost use Rattle.sz_spec.specs.Values.{extent_at};
-ghost use Rattle.sz_region.specs.Fits.{Fits};
-ghost use Rattle.sz_region.specs.Images.{measure_of};
+ghost use Rattle.sz_frame.specs.Fits.{Fits};
+ghost use Rattle.sz_frame.specs.Images.{measure_of};
 ghost use Rattle.sz_shelf.specs.Passes.{place_of};
 ghost use Rattle.sz_shelf.specs.Tags.{tag_pieces};
 

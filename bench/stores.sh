@@ -31,19 +31,19 @@ trap 'rm -rf "$work"' EXIT
 here=$work/crates/stores
 mkdir -p "$here/src" "$here/specs" "$here/proofs"
 cp "$root/HANDLES" "$work/"
-for name in sz_cells sz_spec sz_region sz_rtree sz_ops_local sz_ops_move sz_ops_window sz_ops_region sz_ops sz_tables sz_full_one sz_full_many \
+for name in sz_cells sz_spec sz_frame sz_region sz_rtree sz_ops_local sz_ops_move sz_ops_window sz_ops_region sz_ops sz_tables sz_full_one sz_full_many \
     sz_payload sz_store; do
     mkdir -p "$work/crates/$name"
     (cd "$root/crates" && tar cf - --exclude=must-fail "$name") | tar xf - -C "$work/crates"
     grep -E "^$name:" "$root/crates.txt" >>"$work/crates.txt"
 done
-echo 'stores: sz_cells sz_spec sz_region sz_ops sz_tables sz_full_one sz_full_many sz_payload sz_store anyhow' >>"$work/crates.txt"
+echo 'stores: sz_cells sz_spec sz_frame sz_region sz_ops sz_tables sz_full_one sz_full_many sz_payload sz_store anyhow' >>"$work/crates.txt"
 cat >"$here/specs/Lib.antt" <<'ANTT'
 pub mod Keeping
 ANTT
 cat >"$here/specs/Keeping.antt" <<'ANTT'
 -- What a store of one of two kinds is seen as.
-use Rattle.sz_region.specs.Parts.{Pairing}
+use Rattle.sz_frame.specs.Parts.{Pairing}
 use Rattle.sz_tables.specs.Stores.{Store}
 use Rattle.stores.specs.declared.kept.Kept.{Kept}
 use Rattle.stores.specs.declared.kept.Kept.TheVariants.{One, Many}
@@ -84,9 +84,9 @@ use Rattle.sz_spec.specs.declared.modes.Mode.TheVariants as mode
 use Rattle.sz_spec.specs.declared.modes.Strategy.{Strategy}
 use Rattle.sz_spec.specs.Values.{Grid}
 use Rattle.sz_spec.specs.Shapes.{Site}
-use Rattle.sz_region.specs.Parts.{Pairing, Parts}
-use Rattle.sz_region.specs.Fits.{Fits, IsRegion, needs}
-use Rattle.sz_region.specs.Images.{measure_of}
+use Rattle.sz_frame.specs.Parts.{Pairing, Parts}
+use Rattle.sz_frame.specs.Fits.{Fits, IsRegion, needs}
+use Rattle.sz_frame.specs.Images.{measure_of}
 use Rattle.sz_tables.specs.Stores.{IsPairOf}
 
 pair : (s : Site) (inputs : List Grid) (k : ℕ) (r : Pairing) → IsRegion (measure_of s inputs) k r → IsPairOf s r
@@ -737,8 +737,8 @@ ghost use Rattle.sz_spec.specs.Modes.{is_stored, supports};
 ghost use Rattle.sz_spec.specs.Pieces.{pieces_of};
 ghost use Rattle.sz_spec.specs.Values.{extents_of};
 ghost use Rattle.sz_ops.specs.Aids.{aid_of};
-ghost use Rattle.sz_region.specs.Fits.{Fits};
-ghost use Rattle.sz_region.specs.Images.{measure_of};
+ghost use Rattle.sz_frame.specs.Fits.{Fits};
+ghost use Rattle.sz_frame.specs.Images.{measure_of};
 
 use crate::measures::{LONG, LOOKS, Look, TURNS, asked, count_in, far, near, say, say_look, since};
 use std::sync::Arc;

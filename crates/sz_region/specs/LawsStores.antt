@@ -3,6 +3,7 @@ use Rattle.std.specs.Prelude.{◌≡◌, ℕ, ◌+◌, ◌≤◌, List, ◌∷�
 use Rattle.std.specs.List.{All}
 use Rattle.sz_cells.specs.Extent.{Extent, is_extent}
 use Rattle.sz_cells.specs.Cells.{Cells}
+use Rattle.sz_cells.specs.SetBytes.{IsSetOf, BeginsSet, set_bytes}
 use Rattle.sz_frame.specs.Parts.{Pairing, Entry}
 use Rattle.sz_region.specs.FullBytes.{Listed, IsFullWord, BeginsRegions}
 use Rattle.sz_region.specs.PayBytes.{IsPayWord, BeginsEntries}

@@ -43,31 +43,12 @@ fn accept(held: &mut Catalogue, command: Command) -> Result<Reply, NoMemory>
     requires judged { judged held.old command ≡ None }
 {
     match command {
-        Command::Array { name, array } => held.accept(Command::Array { name, array }),
-        Command::Csv { name, array } => held.accept(Command::Csv { name, array }),
-        Command::Layers { name, array } => held.accept(Command::Layers { name, array }),
-        Command::Flow { name, flow } => held.accept(Command::Flow { name, flow }),
-        Command::Strategy { name, node, list } => {
-            held.accept(Command::Strategy { name, node, list })
-        }
-        Command::Plan {
-            name,
-            base,
-            units,
-            back,
-            forward,
-        } => held.accept(Command::Plan {
-            name,
-            base,
-            units,
-            back,
-            forward,
-        }),
         Command::Start { name, base } => held.start(name, base.as_slice()),
         Command::Await { version } => Ok(held.await_version(version)),
         Command::Ask { .. } => Ok(Reply::Done { version: 0 }),
         Command::Explain { .. } => Ok(Reply::Done { version: 0 }),
         Command::Show { .. } => Ok(Reply::Done { version: 0 }),
+        other => held.accept(other),
     }
 }
 

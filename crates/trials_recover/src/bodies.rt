@@ -52,15 +52,7 @@ fn accept(held: &mut Catalogue, command: Command) -> Result<(), Fail>
             let _reply = held.accept(Command::Flow { name, flow })?;
             Ok(())
         }
-        Command::Csv { .. } => Err(Fail::from("another command")),
-        Command::Layers { .. } => Err(Fail::from("another command")),
-        Command::Strategy { .. } => Err(Fail::from("another command")),
-        Command::Start { .. } => Err(Fail::from("another command")),
-        Command::Plan { .. } => Err(Fail::from("another command")),
-        Command::Await { .. } => Err(Fail::from("another command")),
-        Command::Ask { .. } => Err(Fail::from("another command")),
-        Command::Explain { .. } => Err(Fail::from("another command")),
-        Command::Show { .. } => Err(Fail::from("another command")),
+        _ => Err(Fail::from("another command")),
     }
 }
 
