@@ -18,6 +18,7 @@ use Rattle.sz_script.specs.declared.refusal.Refusal.{Refusal}
 use Rattle.sz_catalogue.specs.Holdings.{Holdings}
 use Rattle.sz_catalogue.specs.Responses.{Response}
 use Rattle.sz_catalogue.specs.Rules.{judged, version_of}
+use Rattle.sz_catalogue.specs.Changes.{changes_no_version}
 use Rattle.sz_recover.specs.Logs.{is_of_kind}
 use Rattle.sz_versions.specs.Stores.{Keeping, nothing, growing, whole, read, keeping_from, AreKeptOf, Trail}
 use Rattle.sz_versions.specs.Residents.{Resident, IsResident, IsTrailBy, stores_read, replaced_in}
@@ -108,6 +109,12 @@ pub stored-left : (s t : SessionState) (command : Command) (r : Response) → le
 stored-left s t (order.Start name base) r kind is = absurd (true≢false (sym kind))
 stored-left s t (order.Await n) r kind is = absurd (true≢false (sym kind))
 stored-left s t _ r kind is = ap (λ (p : SessionState × Response). p.0.stored) (sym is)
+
+-- nor is one that changes no version
+pub no-version-leaves : (command : Command) → changes_no_version command ≡ true → leaves_stored command ≡ true
+no-version-leaves (order.Start name base) kind = kind
+no-version-leaves (order.Await n) kind = kind
+no-version-leaves _ kind = refl
 
 -- a line of a group is of such a one
 pub line-leaves : (kind : ℕ) (command : Command) → is_of_kind kind command ≡ true → leaves_stored command ≡ true

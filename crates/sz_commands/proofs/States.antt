@@ -1,5 +1,5 @@
 -- What commands do to a state.
-use Rattle.std.proofs.Common.{◌≡◌, true, refl, sym, ap, ◌∙◌, Option, Some, None}
+use Rattle.std.proofs.Common.{◌≡◌, true, true≢false, refl, sym, ap, ◌∙◌, Option, Some, None}
 use Rattle.sz_script.specs.declared.command.Command.{Command}
 use Rattle.sz_script.specs.declared.command.Command.TheVariants as order
 use Rattle.sz_script.specs.declared.refusal.Refusal.{Refusal}
@@ -9,6 +9,7 @@ use Rattle.sz_catalogue.specs.Responses.{Response}
 use Rattle.sz_catalogue.specs.Rules.{judged}
 use Rattle.sz_catalogue.specs.Changes as changes
 use Rattle.sz_catalogue.specs.Changes.{changes_no_version}
+use Rattle.sz_commands.specs.Commands.{traced_along, most_along}
 use Rattle.sz_commands.specs.States.{SessionState, apart, changed, accepted, after_judging, after_command, after_reading}
 
 -- a command that changes no version changes the catalogue alone
@@ -22,6 +23,13 @@ accepted-changed s d (order.Flow name flow) r kind is = ap (changed s) (sym is)
 accepted-changed s d (order.Strategy name node list) r kind is = ap (changed s) (sym is)
 accepted-changed s d (order.Plan name base units back forward) r kind is = ap (changed s) (sym is)
 accepted-changed s d _ r kind is = cc
+
+-- and nothing is traced for it
+pub no-version-untraced : (s : SessionState) (command : Command) → changes_no_version command ≡ true
+    → (traced_along s command ≡ 0) × (most_along s command ≡ 0)
+no-version-untraced s (order.Ask n dir path named) kind = absurd (true≢false (sym kind))
+no-version-untraced s (order.Explain n dir path named) kind = absurd (true≢false (sym kind))
+no-version-untraced s _ kind = (refl, refl)
 
 -- ---- what is seen apart
 

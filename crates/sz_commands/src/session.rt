@@ -422,6 +422,12 @@ impl Session {
         requires judged { judged self.old.held command ≡ None }
         requires kind { changes_no_version command ≡ true }
         ensures reply { IfOk result (λ r. accepted self.old command ≡ (self.new, response_of r)) }
+        ensures seen { IfOk result
+            (λ r. accepted (apart self.old) command ≡ (apart self.new, response_of r)) }
+        ensures stored { OnOk result (StoredBy self.old command self.new) }
+        ensures end { OnOk result (self.new.end ≡ self.old.end) }
+        ensures untraced { OnOk result ((traced_along self.old command ≡ 0)
+            × (most_along self.old command ≡ 0)) }
         ensures kept { OnErr result (self.new ≡ self.old) }
     {
         let reply = self.catalogue.accept(command)?;
