@@ -11,9 +11,9 @@
 //! ```
 //!
 //! `IsBodyOf` of `specs/Bodies` is what a body is; `Fit` of `specs/Fitting` is which stores fit a
-//! version, and `body_of` what its body says. That bytes are a body in one way only, and that a body
-//! that is written is lawful, are laws ([`laws`]); `IsLawful` of `specs/Lawful` has each condition as
-//! a test with its name.
+//! version, and `body_of` what its body says. That bytes are a body in one way only, and that a
+//! body that is written is lawful, are laws ([`laws`]); `IsLawful` of `specs/Lawful` has each
+//! condition as a test with its name.
 //!
 //! To whoever changes this crate: a body says no shape. Its cell sets are read between the shapes
 //! that its version has, so what a body says is told over the operators at their shapes

@@ -76,11 +76,14 @@ room-cells c cells h =
 
 -- room for an array
 pub array-room : (c : Holdings) (name : List ℕ) (array : Grid) → judged c (command.Array name array) ≡ None
+    → has_no_room_for_array c array ≡ false
+array-room c name array h = (first-passed (has_no_room_for_array c array) rule.NoRoomForArray [] h).0
+
+pub room-there : (c : Holdings) (array : Grid) → has_no_room_for_array c array ≡ false
     → (length c.arrays < most_arrays) × (held_cells c + size_of array.extent ≤ most_cells)
-array-room c name array h =
+room-there c array h =
     let rules = neither (nat_le most_arrays (length c.arrays))
-    (nat_lt most_cells (held_cells c + size_of array.extent))
-    (first-passed (has_no_room_for_array c array) rule.NoRoomForArray [] h).0 in
+    (nat_lt most_cells (held_cells c + size_of array.extent)) h in
     (le-from (length c.arrays) rules.0, most-from (held_cells c + size_of array.extent) rules.1) where
       le-from : (n : ℕ) → nat_le most_arrays n ≡ false → n < most_arrays
       le-from n f = grind (arith, nat_tests)

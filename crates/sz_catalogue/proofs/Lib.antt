@@ -9,6 +9,7 @@ pub mod Bases
 pub mod Counts
 pub mod Entries
 pub mod Order
+pub mod Refreshed
 pub mod Judging
 pub mod FlowSites
 pub mod Refusals

@@ -4,7 +4,7 @@
 -- at the end of what its own name finds, and nothing at the other names.
 use Rattle.std.proofs.Common.{◌≡◌, ℕ, ◌≤◌, Bool, true, false, cond, if◌then◌else◌, List}
 use Rattle.std.proofs.Common.{[], ◌∷◌, ◌++◌, map, length, Option, Some, None, String, Vec}
-use Rattle.std.proofs.Common.{refl, sym, ap, inl, inr, unwrap_or, ◌∙◌, arith}
+use Rattle.std.proofs.Common.{refl, sym, ap, ap₂, inl, inr, unwrap_or, ◌∙◌, ◌-◌, take, arith}
 use Rattle.std.specs.List.{filter}
 use Rattle.std.specs.Str.{bytes_eq}
 use Rattle.std.specs.declared.sync.Arc.{Arc}
@@ -13,7 +13,8 @@ use Rattle.std.specs.Option.{option_map_or}
 use Rattle.std.specs.Arc.{arc_value}
 use Rattle.std.proofs.lemmas.Bool.{cases_Bool}
 use Rattle.std.proofs.lemmas.Bool.Decides.{same_from_decides}
-use Rattle.std.proofs.lemmas.List.{append-nil, map-append, length-map}
+use Rattle.std.proofs.lemmas.List.{append-nil, map-append, length-map, length-append, take-map}
+use Rattle.std.proofs.Math.Seq.{take-append_seam}
 use Rattle.std.proofs.lemmas.List.Elements.{filter-append}
 use Rattle.std.proofs.lemmas.List.Sums.{length-filter, count_by-le-length}
 use Rattle.std.proofs.lemmas.Slice.Eq.{bytes_eq-Decides}
@@ -112,3 +113,59 @@ versions_in-kept {X} old new name was now none after is empty same q =
       nothing : (b : Bool) (xs : List X) → xs ++ (if b then [] else []) ≡ xs
       nothing true xs = append-nil xs
       nothing false xs = append-nil xs
+
+-- ---- the last one taken away
+
+-- what is in front of a list's last element
+pub before-last : {X : Type 0} (xs rest : List X) (n : ℕ) (x : X) → n ≡ length xs → xs ≡ rest ++ x ∷ []
+    → take (n - 1) xs ≡ rest
+before-last {X} xs rest n x count is =
+    let less : n - 1 ≡ length rest = omega (arith, count, ap length is, length-append rest (x ∷ [])) in
+    ap₂ (λ (k : ℕ) (ys : List X). take k ys) less is ∙ take-append_seam rest (x ∷ [])
+
+-- the last of what is held is the last of its name
+pub named-last : {X : Type 0} (name : List ℕ) (rest : List (Named X)) (g : X)
+    → things_named name (rest ++ record { name = name; thing = g } ∷ []) ≡ things_named name rest ++ g ∷ []
+named-last name rest g =
+    things_named-push name rest (record { name = name; thing = g })
+    ∙ ap (λ (b : Bool). things_named name rest ++ (if b then g ∷ [] else [])) ((bytes_eq-Decides name name).1 refl)
+
+-- one name's list lost its last
+pub versions_in-cut : {X Y Z W : Type 0} (old new : BTreeMap (String Y) (Vec (Arc X Z) W)) (name : List ℕ)
+    (was now : Vec (Arc X Z) W) (rest : List X) (g : X)
+    → ((q : List ℕ) → get_by_text new q ≡ cond (bytes_eq name q) (Some now) (get_by_text old q))
+    → get_by_text old name ≡ Some was → now.items ≡ take (was.len - 1) was.items
+    → versions_in old name ≡ rest ++ g ∷ [] → (q : List ℕ)
+    → versions_in new q ≡ (if bytes_eq q name then rest else versions_in old q)
+versions_in-cut {X} {Y} {Z} {W} old new name was now rest g after found cut is q =
+    let seen : Option (Vec (Arc X Z) W)
+    → List X = λ o. map (λ a. arc_value a) (option_map_or (λ v. v.items) o []) in
+    let held : map (λ a. arc_value a) was.items ≡ rest ++ g ∷ [] = sym (ap seen found) ∙ is in
+    let count : was.len ≡ length (map (λ a. arc_value a) was.items) =
+    was.ok.0 ∙ sym (length-map was.items (λ a. arc_value a)) in
+    let left : map (λ a. arc_value a) now.items ≡ rest =
+    ap (map (λ a. arc_value a)) cut ∙ sym (take-map (λ a. arc_value a) (was.len - 1) was.items)
+    ∙ before-last (map (λ a. arc_value a) was.items) rest was.len g count held in
+    ap seen (after q ∙ ap (λ (b : Bool). cond b (Some now) (get_by_text old q)) (bytes_eq-flip name q))
+    ∙ at (bytes_eq q name) left where
+      at : (b : Bool) → map (λ a. arc_value a) now.items ≡ rest
+          → map (λ a. arc_value a) (option_map_or (λ v. v.items) (cond b (Some now) (get_by_text old q)) [])
+          ≡ (if b then rest else versions_in old q)
+      at true left = left
+      at false left = refl
+
+-- and so did the list of all
+pub IsVersionIndex-cut : {X Y Z W : Type 0} (m n : BTreeMap (String Y) (Vec (Arc X Z) W)) (name : List ℕ)
+    (rest : List (Named X)) (g : X) → IsVersionIndex m (rest ++ record { name = name; thing = g } ∷ [])
+    → ((q : List ℕ) → versions_in n q ≡ (if bytes_eq q name then things_named name rest else versions_in m q))
+    → IsVersionIndex n rest
+IsVersionIndex-cut {X} {Y} {Z} {W} m n name rest g was cut = record {
+  each = λ q. cut q ∙ at q (bytes_eq q name) refl
+      (was.each q ∙ things_named-push q rest (record { name = name; thing = g }));
+} where
+  at : (q : List ℕ) (b : Bool) → bytes_eq q name ≡ b
+      → versions_in m q ≡ things_named q rest ++ (if bytes_eq q name then g ∷ [] else [])
+      → (if b then things_named name rest else versions_in m q) ≡ things_named q rest
+  at q true is old = ap (λ (p : List ℕ). things_named p rest) (sym ((bytes_eq-Decides q name).0 is))
+  at q false is old =
+      old ∙ ap (λ (b : Bool). things_named q rest ++ (if b then g ∷ [] else [])) is ∙ append-nil (things_named q rest)

@@ -51,11 +51,11 @@ use Rattle.sz_catalogue.proofs.NodeLists.{firsts-right, set-right}
 abbrev graph_named : Holdings → List ℕ → Option Graph
 graph_named c name = option_map (λ (w : Workflow). w.graph) (flow_named c name)
 
-there-is : {X : Type 0} (o : Option X) → is_none o ≡ false → (x : X) × (o ≡ Some x)
+pub there-is : {X : Type 0} (o : Option X) → is_none o ≡ false → (x : X) × (o ≡ Some x)
 there-is None h = cc
 there-is (Some x) h = (x, refl)
 
-none-is : {X : Type 0} (o : Option X) → is_some o ≡ false → o ≡ None
+pub none-is : {X : Type 0} (o : Option X) → is_some o ≡ false → o ≡ None
 none-is None h = refl
 none-is (Some x) h = cc
 
@@ -89,15 +89,29 @@ numbered-stays {X} n xs ys x h = at (nat_lt 0 n) h where
 
 -- ---- an array, a flow, other lists
 
+array-behind : (c : Holdings) (name : List ℕ) (array : Grid) → Keeps c (with_array c name array)
+array-behind c name array =
+    let new : Named Grid = record { name = name; thing = array } in
+    record {
+      flows = λ q g h. h;
+      arrays = λ q n a h. ap (thing_numbered n) (things_named-push q c.arrays new)
+          ∙ numbered-stays n (things_named q c.arrays) (if bytes_eq q name then array ∷ [] else []) a h;
+    }
+
+-- base arrays that are held stay so where an array comes behind
+pub bases-behind : (c : Holdings) (name : List ℕ) (array : Grid) (base : List Base)
+    → All (λ (b : Base). array_version c b.name b.version ≡ Some b.array) base
+    → All (λ (b : Base). array_version (with_array c name array) b.name b.version ≡ Some b.array) base
+bases-behind c name array base held =
+    All-weaker (λ (b : Base). array_version c b.name b.version ≡ Some b.array)
+    (λ (b : Base). array_version (with_array c name array) b.name b.version ≡ Some b.array)
+    (λ b at. (array-behind c name array).arrays b.name b.version b.array at) base held
+
 pub array-in_order : (c : Holdings) (name : List ℕ) (array : Grid) → IsInOrder c → is_name name ≡ true
     → held_cells (with_array c name array) ≤ most_cells → IsInOrder (with_array c name array)
 array-in_order c name array k is few =
     let new : Named Grid = record { name = name; thing = array } in
-    let kept : Keeps c (with_array c name array) = record {
-      flows = λ q g h. h;
-      arrays = λ q n a h. ap (thing_numbered n) (things_named-push q c.arrays new)
-          ∙ numbered-stays n (things_named q c.arrays) (if bytes_eq q name then array ∷ [] else []) a h;
-    } in
+    let kept : Keeps c (with_array c name array) = array-behind c name array in
     record {
       few_cells = few;
       few_versions = k.few_versions;
@@ -105,6 +119,23 @@ array-in_order c name array k is few =
       flow_names = k.flow_names;
       workflows = k.workflows;
       versions = versions-kept c (with_array c name array) kept (values_of c.versions) k.versions;
+      numbers = k.numbers;
+      small = k.small;
+      rising = k.rising;
+    }
+
+-- which merges were asked is nothing that the order speaks of
+pub merges-in_order : (c : Holdings) (merges : List ℕ) → IsInOrder c → IsInOrder (record c { merges = merges })
+merges-in_order c merges k =
+    let d : Holdings = record c { merges = merges } in
+    record {
+      few_cells = k.few_cells;
+      few_versions = k.few_versions;
+      array_names = k.array_names;
+      flow_names = k.flow_names;
+      workflows = k.workflows;
+      versions = versions-kept c d (record { flows = λ q g h. h; arrays = λ q n a h. h }) (values_of c.versions)
+          k.versions;
       numbers = k.numbers;
       small = k.small;
       rising = k.rising;

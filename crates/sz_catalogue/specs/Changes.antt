@@ -28,7 +28,10 @@ use Rattle.sz_catalogue.specs.Starts.{path_start, cell_named}
 use Rattle.sz_catalogue.specs.Rules.{version_of, judged}
 use Rattle.sz_catalogue.specs.Responses.{Response, array_held, flow_held, strategy_set, started}
 use Rattle.sz_catalogue.specs.Responses.{done, cells, explained, values, refused}
+use Rattle.sz_catalogue.specs.Responses.{refreshed, merging, merged}
 use Rattle.sz_catalogue.specs.Plans.{plan_for}
+use Rattle.sz_catalogue.specs.Refreshes.{base_at, version_on, array_refreshed, cells_affected}
+use Rattle.sz_catalogue.specs.Merges.{with_merge, kinds_told}
 
 -- ---- what is held after
 
@@ -65,6 +68,12 @@ abbrev pub with_await : Holdings → ℕ → Holdings
 with_await c n = record c {
   versions = set_value (is_at (nat_cmp n)) c.versions (record (version_of c n) { awaited = true });
 }
+
+-- an array as the next version of the name that an input of a version has, and under the next
+-- number that version on it
+abbrev pub with_refreshed : Holdings → ℕ → ℕ → Grid → Holdings
+with_refreshed c n i array = let v = version_of c n in
+    with_version (with_array c (base_at v i).name array) (next_number c) (version_on c v i array)
 
 -- ---- what is answered
 
@@ -111,6 +120,7 @@ changes_no_version (command.Layers name array) = true
 changes_no_version (command.Flow name flow) = true
 changes_no_version (command.Strategy name node list) = true
 changes_no_version (command.Plan name base units back forward) = true
+changes_no_version (command.Merge n) = true
 changes_no_version _ = false
 
 -- what a command that no rule refuses changes, and its reply
@@ -128,6 +138,12 @@ accepted c (command.Start name base) =
     (with_version c (next_number c) (version_started c name base), started (next_number c))
 accepted c (command.Plan name base units back forward) =
     (c, plan_for (version_started c name base) units back forward)
+accepted c (command.Refresh n i set) = (
+  with_refreshed c n i (array_refreshed (version_of c n) i set),
+  refreshed (next_number c) (cells_affected c (version_of c n) i set),
+)
+accepted c (command.Merge n) = (with_merge c n, merging n)
+accepted c (command.Merged n) = (c, merged n (kinds_told (version_of c n)))
 accepted c (command.Await n) = (with_await c n, done n)
 accepted c (command.Ask n dir path named) =
     (c, cells (cells_answered (version_of c n) dir path named))

@@ -42,15 +42,17 @@ pub record Version : Type 0 where
   pub awaited : Bool
 
 -- arrays in the order in which they came, flows in the order of their names, each with its name
--- before it, and versions in the order of their numbers, each with its number before it
+-- before it, versions in the order of their numbers, each with its number before it, and the
+-- numbers of the versions whose merge was asked
 pub record Holdings : Type 0 where
   pub arrays : List (Named Grid)
   pub flows : List (List ℕ × Workflow)
   pub versions : List (ℕ × Version)
+  pub merges : List ℕ
 
 -- the catalogue that holds nothing
 abbrev pub no_holdings : Holdings
-no_holdings = record { arrays = []; flows = []; versions = [] }
+no_holdings = record { arrays = []; flows = []; versions = []; merges = [] }
 
 -- ---- what is held under a name or a number
 

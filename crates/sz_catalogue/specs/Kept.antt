@@ -1,12 +1,15 @@
 -- What is kept true of what a session holds.
 use Rattle.std.specs.Prelude.{◌≡◌, ℕ, ◌≤◌, List, [], map, length, String, Vec, Bool, true, false}
-use Rattle.std.specs.Prelude.{Option, Some, None, Result, Ok, Err, if◌then◌else◌, string_bytes}
+use Rattle.std.specs.Prelude.{not, ◌&&◌, Option, Some, None, Result, Ok, Err, if◌then◌else◌}
+use Rattle.std.specs.Prelude.{string_bytes}
+use Rattle.std.specs.List.{list_all}
 use Rattle.std.specs.Option.{option_map_or}
 use Rattle.std.specs.Arc.{arc_value}
 use Rattle.std.specs.declared.sync.Arc.{Arc}
 use Rattle.std.specs.BTreeMap.{BTreeMap, get_by_text}
 use Rattle.sz_cells.specs.Extent.{Extent}
 use Rattle.sz_spec.specs.Flows.{is_well_formed}
+use Rattle.sz_script.specs.declared.command.NewCell.{NewCell}
 use Rattle.sz_script.specs.declared.refusal.Refusal.{Refusal}
 use Rattle.sz_script.specs.declared.refusal.Refusal.TheVariants as refusal
 use Rattle.sz_spec.specs.FlowShapes.{output_shapes}
@@ -14,6 +17,7 @@ use Rattle.sz_catalogue.specs.Holdings.{Named, Workflow, Version, Holdings, thin
 use Rattle.sz_catalogue.specs.Holdings.{held_cells, cells_of}
 use Rattle.sz_catalogue.specs.Rules.{most_arrays, most_cells, are_lists_for}
 use Rattle.sz_catalogue.specs.Rules.{has_no_room_for_outputs}
+use Rattle.sz_catalogue.specs.Refreshes.{has_input, base_at, has_new_cell}
 
 -- what an index has under a name
 abbrev pub versions_in : {X Y Z W : Type 0} → BTreeMap (String Y) (Vec (Arc X Z) W) → List ℕ
@@ -53,6 +57,14 @@ abbrev pub refusal_by : Holdings → Result (List Extent) ℕ → Option Refusal
 refusal_by c (Err n) = Some (refusal.ShapesDoNotFit n)
 refusal_by c (Ok outputs) =
     if has_no_room_for_outputs c (cells_of outputs) then Some refusal.NoRoomForVersion else None
+
+-- what refuses to set cells of an input of a version that is held, once there is room for it
+abbrev pub refusal_on_version : Version → ℕ → List NewCell → Option Refusal
+refusal_on_version v i set =
+    if has_input v i && not (list_all (has_new_cell (base_at v i).array.extent) set)
+    then Some refusal.OutOfRange
+    else if not v.awaited then Some refusal.StillBuilt
+    else if not (has_input v i) then Some refusal.NoSuchInput else None
 
 -- the rule of room for a version, which is one of a start and none of a plan
 abbrev pub is_of_room : Refusal → Bool

@@ -1,6 +1,8 @@
 -- The files of definitions, the lower ones first.
 pub mod Holdings
 pub mod Starts
+pub mod Refreshes
+pub mod Merges
 pub mod Sites
 pub mod Rules
 pub mod Responses

@@ -13,7 +13,9 @@ use Rattle.sz_script.specs.Words.{name_of_strategy}
 -- an array is held as this version of a name; a flow is held under a name; the strategies of a node
 -- of a flow are set; a version is started; it is awaited; these cells; the ways of a path's steps,
 -- and how many cells are traced for them; this array; what a list of strategies that is planned
--- costs, the units that it takes, and the list; the line is refused
+-- costs, the units that it takes, and the list; a version is started on an array with cells set,
+-- and how many node cells were computed again; the merge of a version is asked; the kinds of
+-- lineage of its merged stores; the line is refused
 pub data Response : Type 0 where
   array_held : List ℕ → ℕ → Response
   flow_held : List ℕ → Response
@@ -24,6 +26,9 @@ pub data Response : Type 0 where
   explained : List Strategy → ℕ → Response
   values : Grid → Response
   planned : ℕ → ℕ → List Strategy → Response
+  refreshed : ℕ → ℕ → Response
+  merging : ℕ → Response
+  merged : ℕ → List ℕ → Response
   refused : Refusal → Response
 
 -- a blank and a number, and a blank and a text
@@ -67,6 +72,11 @@ reply_text (values array) = shape_text array.extent ++ flat_map value_text array
 reply_text (planned cost units list) =
     codes "plan" ++ number_text cost ++ number_text units
     ++ flat_map (λ s. word_text (name_of_strategy s)) list
+reply_text (refreshed version count) =
+    codes "refreshed" ++ number_text version ++ codes " cells" ++ number_text count
+reply_text (merging version) = codes "merging" ++ number_text version
+reply_text (merged version kinds) =
+    codes "merged" ++ number_text version ++ flat_map number_text kinds
 reply_text (refused rule) = codes "refused" ++ flat_map number_text (numbers_of rule)
 
 -- the reply line of a line: its number, a blank, the reply's text, a newline

@@ -17,6 +17,7 @@ use Rattle.sz_spec.specs.FlowShapes.{output_shapes}
 use Rattle.sz_spec.specs.Paths.{Step, is_joined}
 use Rattle.sz_script.specs.declared.command.BaseName.{BaseName}
 use Rattle.sz_script.specs.declared.command.NamedCell.{NamedCell}
+use Rattle.sz_script.specs.declared.command.NewCell.{NewCell}
 use Rattle.sz_script.specs.declared.command.Command.{Command}
 use Rattle.sz_script.specs.declared.command.Command.TheVariants as command
 use Rattle.sz_script.specs.declared.refusal.Refusal.{Refusal}
@@ -25,6 +26,8 @@ use Rattle.sz_catalogue.specs.Holdings.{Version, Holdings, array_version, flow_n
 use Rattle.sz_catalogue.specs.Holdings.{version_numbered, no_version, next_number, held_cells}
 use Rattle.sz_catalogue.specs.Holdings.{output_cells}
 use Rattle.sz_catalogue.specs.Starts.{workflow_of, bases_of, version_started, path_start}
+use Rattle.sz_catalogue.specs.Refreshes.{has_input, base_at, has_new_cell}
+use Rattle.sz_catalogue.specs.Merges.{is_merge_asked}
 
 -- the most arrays, flows and versions that are held, the most cells, and the greatest number of a
 -- version
@@ -166,6 +169,44 @@ is_not_awaited c n = not (version_of c n).awaited
 abbrev pub has_no_node : Holdings → ℕ → ℕ → Bool
 has_no_node c n node = nat_le (length (version_of c n).flow.nodes) node
 
+-- ---- refreshes and merges
+
+-- a version is held, and has this input
+abbrev pub names_an_input : Holdings → ℕ → ℕ → Bool
+names_an_input c n i = has_input (version_of c n) i
+
+-- how many cells the base array of this input has
+abbrev pub input_cells : Holdings → ℕ → ℕ → ℕ
+input_cells c n i = size_of (base_at (version_of c n) i).array.extent
+
+-- as many arrays are held as may be, or with a further one in this input's place there would be too
+-- many cells
+abbrev pub has_no_room_to_set : Holdings → ℕ → ℕ → Bool
+has_no_room_to_set c n i =
+    nat_le most_arrays (length c.arrays)
+    || (names_an_input c n i && nat_lt most_cells (held_cells c + input_cells c n i))
+
+-- as many versions are held as may be, or the next number would be too great, or with that array
+-- and the outputs of a version on it there would be too many cells
+abbrev pub has_no_room_to_refresh : Holdings → ℕ → ℕ → Bool
+has_no_room_to_refresh c n i =
+    nat_le most_versions (length c.versions) || nat_lt greatest_number (next_number c)
+    || (names_an_input c n i
+    && nat_lt most_cells (held_cells c + input_cells c n i + output_cells (version_of c n)))
+
+-- a cell that is set is out of range of the base array of an input
+abbrev pub sets_out_of_range : Holdings → ℕ → ℕ → List NewCell → Bool
+sets_out_of_range c n i set = names_an_input c n i
+    && not (list_all (has_new_cell (base_at (version_of c n) i).array.extent) set)
+
+-- the version has no such input
+abbrev pub has_no_input : Holdings → ℕ → ℕ → Bool
+has_no_input c n i = not (names_an_input c n i)
+
+-- no merge of the version was asked
+abbrev pub is_not_merged : Holdings → ℕ → Bool
+is_not_merged c n = not (is_merge_asked c n)
+
 -- ---- the ordered table
 
 -- the rules by which a command is judged, in their order: whether each holds, and the refusal
@@ -193,6 +234,19 @@ rules_of c (command.Plan name base units back forward) =
     ∷ (has_wrong_base c name base, refusal.WrongBase)
     ∷ (has_broken_shapes c name base, refusal.ShapesDoNotFit (first_broken c name base))
     ∷ (has_too_many_units units, refusal.TooManyUnits) ∷ []
+rules_of c (command.Refresh n i set) =
+    (has_no_room_to_set c n i, refusal.NoRoomForArray)
+    ∷ (has_no_room_to_refresh c n i, refusal.NoRoomForVersion)
+    ∷ (has_no_version c n, refusal.NoSuchVersion)
+    ∷ (sets_out_of_range c n i set, refusal.OutOfRange)
+    ∷ (is_not_awaited c n, refusal.StillBuilt)
+    ∷ (has_no_input c n i, refusal.NoSuchInput) ∷ []
+rules_of c (command.Merge n) =
+    (has_no_version c n, refusal.NoSuchVersion)
+    ∷ (is_not_awaited c n, refusal.StillBuilt) ∷ []
+rules_of c (command.Merged n) =
+    (has_no_version c n, refusal.NoSuchVersion)
+    ∷ (is_not_merged c n, refusal.NotMerged) ∷ []
 rules_of c (command.Await n) =
     (has_no_version c n, refusal.NoSuchVersion) ∷ []
 rules_of c (command.Ask n dir path named) =

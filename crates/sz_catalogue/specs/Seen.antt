@@ -18,6 +18,9 @@ response_of (reply.Cells cells) = responses.cells cells
 response_of (reply.Explain used traced) = responses.explained used traced
 response_of (reply.Values array) = responses.values (arc_value array)
 response_of (reply.Plan cost units list) = responses.planned cost units list
+response_of (reply.Refreshed version cells) = responses.refreshed version cells
+response_of (reply.Merging version) = responses.merging version
+response_of (reply.Merged version kinds) = responses.merged version kinds.items
 response_of (reply.Refused rule) = responses.refused rule
 
 -- what judging a command gave: nothing where no rule refuses it, or the refusal, unless memory ran

@@ -3,10 +3,12 @@ ghost use Rattle.std.specs.Prelude.{◌≡◌, ℕ, ◌+◌, List, [], ◌∷◌
 ghost use Rattle.std.specs.Prelude.{if◌then◌else◌, IfOk, OnErr};
 ghost use Rattle.std.specs.Str.{bytes_eq};
 ghost use Rattle.std.specs.Arc.{arc_value};
-ghost use Rattle.sz_catalogue.specs.Holdings.{things_named, thing_numbered};
+ghost use Rattle.sz_cells.specs.Extent.{size_of};
+ghost use Rattle.sz_spec.specs.Values.{Grid};
+ghost use Rattle.sz_catalogue.specs.Holdings.{Named, things_named, thing_numbered};
 ghost use Rattle.sz_catalogue.specs.Kept.{versions_in};
 
-use crate::memory::{another_owner, own_text, share};
+use crate::memory::{another_owner, own_text};
 use std::alloc::Global;
 use std::collections::BTreeMap;
 use std::marker::Model;
@@ -65,23 +67,48 @@ impl HeldArrays {
         }
     }
 
+    /// The number of the version that the next array of a name is. Logarithmic in the names.
+    pub fn next_version(&self, name: &str) -> usize
+        ensures { result ≡ length (things_named name.now self.now) + 1 }
+    {
+        match self.by_name.get(name) {
+            Some(versions) => versions.len() + 1,
+            None => 1,
+        }
+    }
+
     /// Holds an array as the next version of a name, and gives that version's number. Logarithmic
     /// in the names.
-    pub fn push(&mut self, alloc: Global, name: &str, array: Array) -> Result<usize, NoMemory>
+    pub fn push(&mut self, alloc: Global, name: &str, owner: Arc<Array>) -> Result<usize, NoMemory>
         ensures held { IfOk result (λ _. self.new ≡ self.old ++ record {
           name = name.now;
           thing =
-              array;
+              arc_value owner;
         } ∷ []) }
         ensures version { IfOk result (λ n. n ≡ length (things_named name.now self.old) + 1) }
         ensures err { OnErr result (self.new ≡ self.old) }
     {
-        let owner = share(alloc, array)?;
         let held = HeldArray::make(alloc, name, &owner)?;
         self.list.reserve(1)?;
         let version = enlist(alloc, &mut self.by_name, name, owner)?;
         self.list.push_reserved(held);
         Ok(version)
+    }
+
+    /// Lets go of the array that came last, which is one of this name, and says how many cells it
+    /// has. Logarithmic in the names, and takes no memory.
+    pub fn take_back(&mut self, name: &str) -> u32
+        requires last { (rest : List (Named Grid)) × (g : Grid)
+            × (self.old ≡ rest ++ record { name = name.now; thing = g } ∷ []) }
+        ensures { (rest : List (Named Grid)) (g : Grid)
+            → self.old ≡ rest ++ record { name = name.now; thing = g } ∷ []
+            → (self.new ≡ rest) × (result ≡ size_of g.extent) }
+    {
+        delist(&mut self.by_name, name);
+        match self.list.pop() {
+            Some(held) => held.array.shape().size(),
+            None => unreachable!(),
+        }
     }
 }
 
@@ -129,6 +156,20 @@ fn enlist(
     let key = own_text(alloc, name)?;
     let entry = index.entry(key)?;
     add(entry.or_insert(Vec::new(alloc)), array)
+}
+
+/// Takes the last array of a name away.
+fn delist(index: &mut BTreeMap<String, Vec<Arc<Array>>>, name: &str)
+    requires { (rest : List Grid) × (g : Grid)
+        × (versions_in index.old name.now ≡ rest ++ g ∷ []) }
+    ensures { (rest : List Grid) (g : Grid) → versions_in index.old name.now ≡ rest ++ g ∷ []
+        → (q : List ℕ)
+        → versions_in index.new q
+        ≡ (if bytes_eq q name.now then rest else versions_in index.old q) }
+{
+    if let Some(versions) = index.get_mut(name) {
+        versions.pop();
+    }
 }
 
 /// Adds an owner at the end, and says how many there are then.

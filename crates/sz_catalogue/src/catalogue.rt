@@ -1,6 +1,7 @@
 //! What a session holds. Contracts see a catalogue as its `Holdings`.
 mod accepting;
 mod judging;
+mod refreshing;
 
 ghost use Rattle.std.specs.Prelude.{◌≡◌, ◌≤◌, ℕ, true, length, map, option_map, Some, None, All};
 ghost use Rattle.std.specs.Prelude.{IfOk, IfSome, OnOk, OnErr, if◌then◌else◌, false};
@@ -19,6 +20,7 @@ ghost use Rattle.sz_catalogue.specs.Rules as rules;
 ghost use Rattle.sz_catalogue.specs.Order.{IsInOrder};
 ghost use Rattle.sz_catalogue.specs.Changes.{accepted, with_version};
 ghost use Rattle.sz_catalogue.specs.Kept.{IsRun};
+ghost use Rattle.sz_catalogue.specs.Merges.{is_merge_asked};
 ghost use Rattle.sz_catalogue.specs.Seen.{response_of, Judges};
 
 use crate::arrays::HeldArrays;
@@ -44,6 +46,7 @@ pub struct Catalogue {
     arrays: HeldArrays,
     flows: HeldFlows,
     versions: HeldVersions,
+    merges: Vec<u32>,
     cells: u64,
     alloc: Global,
 }
@@ -54,12 +57,18 @@ impl Model for Catalogue {
 
     ghost Value = { Holdings };
 
-    ghost view = { λ c. record { arrays = c.arrays; flows = c.flows; versions = c.versions } };
+    ghost view = { λ c. record {
+      arrays = c.arrays;
+      flows = c.flows;
+      versions = c.versions;
+      merges = c.merges.items;
+    } };
 
     ghost invariant = { λ c. IsKept c.cells (record {
       arrays = c.arrays;
       flows = c.flows;
       versions = c.versions;
+      merges = c.merges.items;
     }) };
 }
 
@@ -90,6 +99,7 @@ impl Catalogue {
             arrays: HeldArrays::new(alloc),
             flows: HeldFlows::new(alloc),
             versions: HeldVersions::new(alloc),
+            merges: Vec::new(alloc),
             cells: 0,
             alloc,
         }
@@ -134,6 +144,14 @@ impl Catalogue {
             Some(run) => Some(run.version()),
             None => None,
         }
+    }
+
+    /// Whether the merge of a version was asked. A look at each version whose merge was, and takes
+    /// no memory.
+    pub fn merge_asked(&self, version: u32) -> bool
+        ensures { result ≡ is_merge_asked self.now version }
+    {
+        self.merges.iter().any(|number| *number == version)
     }
 
     /// The shapes of the outputs of a version that is held. Its flow is well formed, it has as many

@@ -1,7 +1,7 @@
 //! The lists that a held version shows. Contracts see each as the list of what it holds.
 ghost use Rattle.std.specs.Prelude.{◌≡◌, ◌<◌, length, slice_set, IfOk};
 
-use crate::memory::own_list;
+use crate::memory::{another_owner, own_list, own_name};
 use crate::version::BaseArray;
 use std::alloc::Global;
 use std::marker::Model;
@@ -87,4 +87,34 @@ impl BaseArrays {
     {
         &self.items
     }
+
+    /// Sets the base array of an input.
+    pub(crate) fn set(&mut self, input: u32, base: BaseArray)
+        requires { input < length self.old }
+        ensures { self.new ≡ slice_set self.old input base }
+    {
+        self.items[input as usize] = base;
+    }
+
+    /// The same base arrays once more: their names, and one more owner of each array.
+    pub(crate) fn copy(&self, alloc: Global) -> Result<BaseArrays, NoMemory>
+        ensures { IfOk result (λ l. l ≡ self.now) }
+    {
+        let mut items = Vec::with_capacity(alloc, self.items.len())?;
+        for base in &self.items {
+            items.push(own_base(alloc, base)?)?;
+        }
+        Ok(BaseArrays { items })
+    }
+}
+
+/// A base array once more.
+fn own_base(alloc: Global, base: &BaseArray) -> Result<BaseArray, NoMemory>
+    ensures { IfOk result (λ b. b ≡ base.now) }
+{
+    Ok(BaseArray {
+        name: own_name(alloc, base.name.as_str())?,
+        version: base.version,
+        array: another_owner(&base.array)?,
+    })
 }

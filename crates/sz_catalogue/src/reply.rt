@@ -61,6 +61,21 @@ pub enum Reply {
         units: u32,
         list: ChoiceList,
     },
+    /// A version is started on an array with cells set, and so many node cells were computed again.
+    Refreshed {
+        version: u32,
+        cells: u64,
+    },
+    /// The merge of a version is asked.
+    Merging {
+        version: u32,
+    },
+    /// How many kinds of lineage the nodes of a version have, one number for each store of full
+    /// lineage.
+    Merged {
+        version: u32,
+        kinds: Vec<u32>,
+    },
     /// The line is refused.
     Refused(Refusal),
 }
@@ -113,6 +128,12 @@ fn push_reply(text: &mut String, reply: &Reply) -> Result<(), AllocError>
         Reply::Plan { cost, units, list } => {
             write!(text, "plan {cost} {units}")?;
             push_ways(text, list.as_slice())
+        }
+        Reply::Refreshed { version, cells } => write!(text, "refreshed {version} cells {cells}"),
+        Reply::Merging { version } => write!(text, "merging {version}"),
+        Reply::Merged { version, kinds } => {
+            write!(text, "merged {version}")?;
+            push_numbers(text, kinds)
         }
         Reply::Refused(rule) => push_refusal(text, *rule),
     }
@@ -202,6 +223,17 @@ fn push_value(text: &mut String, value: Value) -> Result<(), AllocError>
         Some(number) => write!(text, " {number}"),
         None => text.push_str(" -"),
     }
+}
+
+/// Writes numbers, each behind a blank.
+fn push_numbers(text: &mut String, numbers: &[u32]) -> Result<(), AllocError>
+    ensures { OnOk result (string_bytes text.new
+        ≡ string_bytes text.old ++ flat_map number_text numbers.now) }
+{
+    for number in numbers {
+        write!(text, " {number}")?;
+    }
+    Ok(())
 }
 
 /// Writes a refusal: its number, and the numbers behind it.

@@ -2,7 +2,7 @@
 --
 -- The key idea: whether a line makes something durable is known from what it gives, and of what it gives from the
 -- command and the rules. So each step of the code is where one of these tests is known.
-use Rattle.std.proofs.Common.{◌≡◌, ℕ, List, Bool, true, false, refl, sym, ap, ◌∙◌, subst, true≢false}
+use Rattle.std.proofs.Common.{◌≡◌, ℕ, List, [], Bool, true, false, refl, sym, ap, ◌∙◌, subst, true≢false}
 use Rattle.std.proofs.Common.{Option, None, Some, not}
 use Rattle.std.specs.Prelude.{if◌then◌else◌, Result, Ok}
 use Rattle.sz_outside.specs.Disk.{Told}
@@ -18,7 +18,7 @@ use Rattle.sz_catalogue.specs.Rules.{judged, version_of}
 use Rattle.sz_recover.specs.Logs.{is_of_kind}
 use Rattle.sz_commands.specs.Lines.{is_blank}
 use Rattle.sz_commands.specs.Given.{LineGives}
-use Rattle.sz_commands.specs.Logged.{lasts, makes, makes_judged, makes_read, makes_durable}
+use Rattle.sz_commands.specs.Logged.{lasts, is_refresh, makes, makes_judged, makes_read, makes_durable}
 use Rattle.sz_commands.specs.Logged.{IsLineGroup, IsVersionGroup, IsGroupFor, IsGroupOf, Appends}
 use Rattle.sz_commands.specs.declared.session.Given.{Given}
 use Rattle.sz_commands.specs.declared.session.Given.TheVariants as given
@@ -51,9 +51,21 @@ appends-nowhere {X} T P end next a b none =
 pub line-group : (c : Holdings) (line : List ℕ) (command : Command) (e : LogGroup) → IsLineGroup command line e
     → IsGroupFor c line command e
 line-group c line (order.Await n) e such = absurd (true≢false (sym such.0))
+line-group c line (order.Refresh n i set) e such = absurd (true≢false (sym such.0))
 line-group c line _ e such = such
 
+-- the group of a refresh is the same whatever its line
+pub array-group : (c : Holdings) (line : List ℕ) (command : Command) (e : LogGroup) → is_refresh command ≡ true
+    → IsGroupFor c [] command e → IsGroupFor c line command e
+array-group c line (order.Refresh n i set) e kind such = such
+array-group c line _ e kind such = absurd (true≢false (sym kind))
+
 -- ---- commands
+
+-- a refresh makes something durable
+pub refresh-makes : (c : Holdings) (command : Command) → is_refresh command ≡ true → makes c command ≡ true
+refresh-makes c (order.Refresh n i set) kind = refl
+refresh-makes c _ kind = absurd (true≢false (sym kind))
 
 -- the command of a group of lines makes something durable
 pub line-makes : (c : Holdings) (kind : ℕ) (command : Command) → is_of_kind kind command ≡ true

@@ -98,28 +98,36 @@ stored-finished n t (r ∷ rs) all = (finished-in n t r all (r.number == n) refl
 
 -- ---- commands that leave all
 
--- neither a start nor an await
+-- none that starts, refreshes or awaits, or tells what a merge gave
 abbrev pub leaves_stored : Command → Bool
 leaves_stored (order.Start name base) = false
+leaves_stored (order.Refresh n i set) = false
 leaves_stored (order.Await n) = false
+leaves_stored (order.Merged n) = false
 leaves_stored _ = true
 
 pub stored-left : (s t : SessionState) (command : Command) (r : Response) → leaves_stored command ≡ true
     → accepted s command ≡ (t, r) → StoredBy s command t
 stored-left s t (order.Start name base) r kind is = absurd (true≢false (sym kind))
+stored-left s t (order.Refresh n i set) r kind is = absurd (true≢false (sym kind))
 stored-left s t (order.Await n) r kind is = absurd (true≢false (sym kind))
+stored-left s t (order.Merged n) r kind is = absurd (true≢false (sym kind))
 stored-left s t _ r kind is = ap (λ (p : SessionState × Response). p.0.stored) (sym is)
 
 -- nor is one that changes no version
 pub no-version-leaves : (command : Command) → changes_no_version command ≡ true → leaves_stored command ≡ true
 no-version-leaves (order.Start name base) kind = kind
+no-version-leaves (order.Refresh n i set) kind = kind
 no-version-leaves (order.Await n) kind = kind
+no-version-leaves (order.Merged n) kind = kind
 no-version-leaves _ kind = refl
 
 -- a line of a group is of such a one
 pub line-leaves : (kind : ℕ) (command : Command) → is_of_kind kind command ≡ true → leaves_stored command ≡ true
 line-leaves kind (order.Start name base) own = own
+line-leaves kind (order.Refresh n i set) own = own
 line-leaves kind (order.Await n) own = own
+line-leaves kind (order.Merged n) own = own
 line-leaves kind _ own = refl
 
 -- ---- lines
@@ -136,7 +144,8 @@ stored-refused s t command rule is same =
     subst (λ (o : Option Refusal). EntriesIf s.held command o s.stored t.stored) (sym is) same
 
 -- a blank line, and one that is read as something
-pub stored-blank : (s t : SessionState) (line : List ℕ) → is_blank line ≡ true → t.stored ≡ s.stored → StoredBehind s line t
+pub stored-blank : (s t : SessionState) (line : List ℕ) → is_blank line ≡ true → t.stored ≡ s.stored
+    → StoredBehind s line t
 stored-blank s t line blank same =
     subst (λ (b : Bool). EntriesOf b s.held (reading line) s.stored t.stored) (sym blank) same
 

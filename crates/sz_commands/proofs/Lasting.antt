@@ -1,17 +1,25 @@
 -- What commands make durable.
-use Rattle.std.proofs.Common.{◌≡◌, ℕ, List, true, false, refl, sym, ap, ◌∙◌, subst, arith, eqb-true}
-use Rattle.std.proofs.Common.{Option, None, is_none, true≢false}
+use Rattle.std.proofs.Common.{◌≡◌, ℕ, List, [], ◌∷◌, ◌++◌, Bool, true, false, refl, sym, ap, ◌∙◌, subst, arith}
+use Rattle.std.proofs.Common.{eqb-true, Option, None, is_none, true≢false, if◌then◌else◌}
 use Rattle.sz_outside.specs.declared.stations.Station.{Ghosts}
-use Rattle.sz_log.specs.Log.{is_kind}
+use Rattle.std.specs.Prelude.{Ok, ◌==◌}
+use Rattle.sz_log.specs.Log.{is_kind, LogGroup}
+use Rattle.sz_spec.specs.Values.{Grid}
+use Rattle.sz_script.specs.Reading.{reading}
+use Rattle.sz_script.specs.declared.command.NewCell.{NewCell}
+use Rattle.sz_writing.specs.Orders.{array_order}
 use Rattle.sz_script.specs.declared.command.Command.{Command}
 use Rattle.sz_script.specs.declared.command.Command.TheVariants as order
 use Rattle.sz_catalogue.specs.Holdings.{Version, Holdings, next_number}
-use Rattle.sz_catalogue.specs.Rules.{version_of, has_no_version, judged}
+use Rattle.sz_catalogue.specs.Rules.{version_of, has_no_version, has_no_room_for_array, judged}
+use Rattle.sz_catalogue.specs.Refreshes.{base_at, version_on, array_refreshed}
 use Rattle.sz_catalogue.specs.Starts.{version_started}
+use Rattle.sz_catalogue.specs.Merges.{is_merge_asked}
 use Rattle.sz_catalogue.specs.Responses.{Response}
 use Rattle.sz_catalogue.specs.Changes as changes
 use Rattle.sz_catalogue.specs.Changes.{changes_no_version}
 use Rattle.sz_catalogue.proofs.Numbers.{next-is_new}
+use Rattle.sz_catalogue.proofs.Refreshed.{set-room, set-extent}
 use Rattle.sz_recover.specs.Growing.{durable}
 use Rattle.sz_recover.specs.Logs.{is_of_kind}
 use Rattle.sz_catalogue.specs.Order.{IsInOrder}
@@ -19,8 +27,9 @@ use Rattle.sz_recover.proofs.Durable.{starts-not-logged, awaits-once}
 use Rattle.sz_commands.specs.States.{SessionState, apart, accepted, after_command}
 use Rattle.sz_commands.specs.Logged.{lasts, HasLog, KeepsLog}
 use Rattle.sz_versions.specs.Bodies.{IsSoundBody}
-use Rattle.sz_commands.proofs.Logged.{rest-keeps, IsStep, await-step}
+use Rattle.sz_commands.proofs.Logged.{rest-keeps, IsStep, await-step, line-step, step-alike}
 use Rattle.sz_versions.proofs.Ordered.{catalogue-in-order}
+use Rattle.sz_versions.proofs.Refreshes.{can-refresh}
 
 -- a line stands in groups of a kind
 pub line-kind : (kind : ℕ) (command : Command) → is_of_kind kind command ≡ true → is_kind kind ≡ true
@@ -54,12 +63,19 @@ rests-durable c (order.Start name base) none =
     let new = next-is_new c.versions (next_number c) (omega arith) in
     starts-not-logged c (next_number c) (version_started c name base)
     (ap (λ (o : Option Version). is_none o) new) refl
+rests-durable c (order.Refresh n i set) none = absurd (true≢false none)
 rests-durable c (order.Await n) none = absurd (true≢false none)
+rests-durable c (order.Merge n) none = by (is_merge_asked c n) where
+  by : (b : Bool) → durable (if b then c else record c { merges = c.merges ++ n ∷ [] }) ≡ durable c
+  by true = refl
+  by false = refl
 rests-durable c _ none = refl
 
 -- what a session holds after a command is what its catalogue holds
-pub accepted-held : (s : SessionState) (command : Command) → (accepted s command).0.held ≡ (changes.accepted s.held command).0
+pub accepted-held : (s : SessionState) (command : Command) → (accepted s command).0.held
+    ≡ (changes.accepted s.held command).0
 accepted-held s (order.Ask n dir path named) = refl
+accepted-held s (order.Merged n) = refl
 accepted-held s _ = refl
 
 -- a command that no rule refuses is accepted
@@ -105,6 +121,58 @@ pub version-step : (c : Holdings) (n : ℕ) (body : List ℕ) → IsInOrder c �
     → IsStep c (changes.with_await c n) (record { kind = 4; body = body })
 version-step c n body in-order held off sound =
     await-step c n sound.stores body (catalogue-in-order c in-order) held off sound.fit sound.sound sound.is
+
+-- ---- a refresh
+
+-- the line of an array holds it, in groups of kind 1
+array-kind : (name : List ℕ) (g : Grid) → is_of_kind 1 (array_order name g) ≡ true
+array-kind name g = by (g.extent.layers == 1) where
+  by : (b : Bool) → is_of_kind 1 (if b then order.Array name g else order.Layers name g) ≡ true
+  by true = refl
+  by false = refl
+
+array-held : (c : Holdings) (name : List ℕ) (g : Grid)
+    → (changes.accepted c (array_order name g)).0 ≡ changes.with_array c name g
+array-held c name g = by (g.extent.layers == 1) where
+  by : (b : Bool) → (changes.accepted c (if b then order.Array name g else order.Layers name g)).0
+      ≡ changes.with_array c name g
+  by true = refl
+  by false = refl
+
+array-free : (c : Holdings) (name : List ℕ) (g : Grid) → has_no_room_for_array c g ≡ false
+    → judged c (array_order name g) ≡ None
+array-free c name g room = by (g.extent.layers == 1) where
+  by : (b : Bool) → judged c (if b then order.Array name g else order.Layers name g) ≡ None
+  by true = rw room refl
+  by false = rw room refl
+
+-- the version is not durable: it was not awaited
+refresh-durable : (c : Holdings) (n i : ℕ) (g : Grid)
+    → durable (changes.with_refreshed c n i g) ≡ durable (changes.with_array c (base_at (version_of c n) i).name g)
+refresh-durable c n i g =
+    let v = version_of c n in
+    let new = next-is_new c.versions (next_number c) (omega arith) in
+    starts-not-logged (changes.with_array c (base_at v i).name g) (next_number c) (version_on c v i g)
+    (ap (λ (o : Option Version). is_none o) new) refl
+
+-- the line of the array that a refresh makes
+pub array-step : (c : Holdings) (n i : ℕ) (set : List NewCell) (line : List ℕ)
+    → judged c (order.Refresh n i set) ≡ None
+    → reading line ≡ Ok (array_order (base_at (version_of c n) i).name (array_refreshed (version_of c n) i set))
+    → IsStep c (changes.with_refreshed c n i (array_refreshed (version_of c n) i set))
+    (record { kind = 1; body = line })
+array-step c n i set line free read =
+    let v = version_of c n in
+    let name = (base_at v i).name in
+    let g = array_refreshed v i set in
+    let e : LogGroup = record { kind = 1; body = line } in
+    let can = can-refresh c n i set free in
+    let room = set-room c n i g can.input (set-extent (base_at v i).array set) can.arrays in
+    step-alike c (changes.with_array c name g) (changes.with_refreshed c n i g) e (refresh-durable c n i g)
+    (subst (λ (h : Holdings). IsStep c h e) (array-held c name g)
+    (line-step c 1 line (array_order name g) read (array-kind name g) (array-free c name g room)))
+
+-- ---- awaits
 
 -- to await it again changes nothing that is durable
 pub again-durable : (c : Holdings) (n : ℕ) → has_no_version c n ≡ false → (version_of c n).awaited ≡ true

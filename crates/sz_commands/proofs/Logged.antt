@@ -152,6 +152,15 @@ step-stops {X} T c d e at a b one stops =
     told-more (T.disk a) _ _
     (λ passes. seen_as passes (λ image (old, was, adds). (old, was, step-left c d e old image at one adds))) stops
 
+-- what it leaves is all that is durable of what is left
+pub step-alike : (c d h : Holdings) (e : LogGroup) → durable h ≡ durable d → IsStep c d e → IsStep c h e
+step-alike c d h e same one = record {
+  more = one.more;
+  acts = subst (λ (x : Holdings). Acts (durable c) e x one.more) (sym same) one.acts;
+  sound = λ kept all sound.
+      subst (λ (x : Holdings). AreSoundKept x (kept ++ one.more)) (sym same) (one.sound kept all sound);
+}
+
 -- a log ends where a group is appended
 pub log-ends : {X : Type 0} (T : Ghosts X) (c : Holdings) (at : ℕ) (a : X) → IsLogOf T c at a → EndsAt (T.disk a) at
 log-ends {X} T c at a log = made-logs-end (T.disk a) at (durable c) log.kept log.made
@@ -284,11 +293,12 @@ all-settled (e ∷ es) all =
     ap (λ (b : Bool). cond b (e ∷ settled es) (settled es)) (All-head P e.1 (values_of es) all)
     ∙ ap (λ (xs : List (ℕ × Version)). e ∷ xs) (all-settled es (All-tail P e.1 (values_of es) all))
 
--- where each version was awaited, all that is held is durable
-all-durable : (c : Holdings) → IsStrictlySortedBy nat_cmp (keys_of c.versions)
+-- where each version was awaited, and no merge was asked, all that is held is durable
+all-durable : (c : Holdings) → IsStrictlySortedBy nat_cmp (keys_of c.versions) → c.merges ≡ []
     → ((n : ℕ) → has_no_version c n ≡ false → (version_of c n).awaited ≡ true) → durable c ≡ c
-all-durable c rising all =
-    ap (λ (es : List (ℕ × Version)). record c { versions = es })
+all-durable c rising none all =
+    ap (λ (ms : List ℕ). record (durable c) { merges = ms }) (sym none)
+    ∙ ap (λ (es : List (ℕ × Version)). record c { versions = es })
     (all-settled c.versions
     (All-values_from_lookup (eq_by_cmp_equiv nat_cmp_total) (λ (v : Version). v.awaited ≡ true) c.versions
     (IsDistinct-from_sorted nat_cmp (keys_of c.versions) rising) each)) where
@@ -307,7 +317,7 @@ opened-stands (Some disk) at c kept made =
     let all = well-made disk at c kept made in
     let rising = (logs-in-order disk at c kept made).rising in
     subst (λ (h : Holdings). IsWellMade disk at h kept)
-    (sym (all-durable c rising (λ n held. versions-awaited c kept n all held))) made
+    (sym (all-durable c rising all.unasked (λ n held. versions-awaited c kept n all held))) made
 
 -- ---- a group more, by where the log ends
 

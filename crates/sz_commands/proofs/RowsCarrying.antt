@@ -1,7 +1,7 @@
 -- What a line does to what is kept of nodes, worked by hand on both sides.
 --
 -- The key idea: an entry that was not to change has other nodes or another number, and each of these is seen at once.
-use Rattle.std.proofs.Common.{◌≡◌, ℕ, List, [], ◌∷◌, true, false, refl, sym, ap, arith, true≢false}
+use Rattle.std.proofs.Common.{◌≡◌, ℕ, List, [], ◌∷◌, length, true, false, refl, sym, ap, arith, true≢false}
 use Rattle.std.proofs.Common.{Some, None, Ok, Err}
 use Rattle.std.proofs.lemmas.List.Elements.{All-cons, All-nil, All-head}
 use Rattle.std.specs.List.{list_all}
@@ -9,6 +9,7 @@ use Rattle.sz_spec.specs.Values.{Grid}
 use Rattle.sz_store.specs.Kept.{NodeLineage}
 use Rattle.sz_shelf.specs.Places.{ShelfPlace}
 use Rattle.sz_script.specs.declared.command.BaseName.{BaseName}
+use Rattle.sz_script.specs.declared.command.NewCell.{NewCell}
 use Rattle.sz_script.specs.declared.command.Command.TheVariants as command
 use Rattle.sz_script.specs.declared.refusal.Refusal.TheVariants as refusal
 use Rattle.sz_catalogue.specs.Holdings.{Holdings, no_holdings}
@@ -131,6 +132,28 @@ lost z is = let one : none ∷ [] ≡ on_shelf z ∷ [] = ap nodes_first is in c
 
 array-stays : (c : Holdings) (name : List ℕ) (grid : Grid) (es : Entries) → EntriesBy c (command.Array name grid) es es
 array-stays c name grid es = refl
+
+refresh-adds : (n i : ℕ) (set : List NewCell) → EntriesBy no_holdings (command.Refresh n i set) [] without
+refresh-adds n i set = (none ∷ [], refl)
+
+refresh-stays : (c : Holdings) (n i : ℕ) (set : List NewCell) → EntriesBy c (command.Refresh n i set) [] [] → ⊥
+refresh-stays c n i set (nodes, is) = let size : 0 ≡ 1 = ap (λ (es : Entries). length es) is in omega (arith, size)
+
+merge-loses : (c : Holdings) (z : ShelfPlace) (n : ℕ) → EntriesBy c (command.Merge n) (with_shelf z) without → ⊥
+merge-loses c z n is = lost z is
+
+merged-stays : (c : Holdings) → EntriesBy c (command.Merged 1) without without
+merged-stays c = (record { number = refl; other = λ no. refl; own = λ yes. (refl, tt) }, tt)
+
+-- stores that were built are not let go, nor is another version's entry changed, or one added
+merged-loses : (c : Holdings) (k : NodeLineage) → EntriesBy c (command.Merged 1) ((1, built k ∷ []) ∷ []) without → ⊥
+merged-loses c k (is, rest) = let one = (is.own refl).0 in cc (one.1)
+
+merged-other : (c : Holdings) (k : NodeLineage) → EntriesBy c (command.Merged 2) ((1, built k ∷ []) ∷ []) without → ⊥
+merged-other c k (is, rest) = let same : none ∷ [] ≡ built k ∷ [] = is.other refl in cc
+
+merged-more : (c : Holdings) (n : ℕ) → EntriesBy c (command.Merged n) [] without → ⊥
+merged-more c n is = is
 
 show-loses : (c : Holdings) (z : ShelfPlace) (n node : ℕ) → EntriesBy c (command.Show n node) (with_shelf z) without → ⊥
 show-loses c z n node is = lost z is

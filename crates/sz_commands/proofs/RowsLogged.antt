@@ -4,6 +4,9 @@
 -- these is a number.
 use Rattle.std.proofs.Common.{◌≡◌, ℕ, ◌+◌, List, [], ◌∷◌, ◌++◌, Option, Some, None, Ok, Err, refl, sym, ap, subst}
 use Rattle.std.proofs.Common.{arith, true, false, true≢false, length, get_or, unwrap_or, inl, inr, length-append}
+use Rattle.std.specs.Prelude.{codes, pos, Result}
+use Rattle.std.specs.Str.{is_utf8, chars}
+use Rattle.serde_json.proofs.OnLiterals.{serde_json_on_literals}
 use Rattle.sz_outside.specs.Disk.{Only}
 use Rattle.sz_outside.specs.declared.stations.Station.{Ghosts}
 use Rattle.sz_spec.specs.declared.modes.Dir.{Dir}
@@ -15,7 +18,10 @@ use Rattle.sz_log.specs.Log.{LogGroup, IsLog, empty_log, log_bytes}
 use Rattle.sz_log.specs.Steps.{Added}
 use Rattle.sz_script.specs.declared.command.BaseName.{BaseName}
 use Rattle.sz_script.specs.declared.command.NamedCell.{NamedCell}
+use Rattle.sz_script.specs.declared.command.NewCell.{NewCell}
+use Rattle.sz_script.specs.declared.command.Command.{Command}
 use Rattle.sz_script.specs.declared.command.Command.TheVariants as command
+use Rattle.sz_script.specs.declared.refusal.Refusal.{Refusal}
 use Rattle.sz_script.specs.declared.refusal.Refusal.TheVariants as refusal
 use Rattle.sz_catalogue.specs.Holdings.{Holdings, no_holdings}
 use Rattle.sz_recover.specs.Logs.{Kept, IsMade}
@@ -26,7 +32,7 @@ use Rattle.sz_recover.proofs.RowsLogs.{empty-made}
 use Rattle.sz_recover.proofs.RowsSound.{version, held, right-sound}
 use Rattle.sz_commands.specs.Logged.{IsLogOf, HasLog, Grown, Grows, IsLeft, LeavesLog, GoesOn, KeepsLog}
 use Rattle.sz_commands.specs.Logged.{StopsInLog, lasts, IsLasting, makes, makes_judged, makes_read, makes_durable}
-use Rattle.sz_commands.specs.Logged.{IsLineGroup, IsVersionGroup, IsGroupFor, IsGroupOf, Appends}
+use Rattle.sz_commands.specs.Logged.{IsLineGroup, IsVersionGroup, IsArrayGroup, IsGroupFor, IsGroupOf, Appends}
 use Rattle.sz_commands.specs.declared.logging.Lasting.TheVariants as lasting
 
 -- ---- the group of a line: the line, in a group of its kind
@@ -87,7 +93,43 @@ pub version-other : IsVersionGroup held 2 (group_of 4 body.bytes) → ⊥
 version-other is =
     let number : 1 ≡ 2 = ap (λ (l : List ℕ). get_or l 3 0) is.1.is.head.spelled in omega (arith, number)
 
--- ---- which of the two
+-- ---- the group of a refresh: a line that is read as its array, in one of kind 1
+
+-- the one cell of the array `a` becomes 7
+abbrev set : List NewCell
+set = record { layer = 0; row = 0; col = 0; value = Some (pos 7) } ∷ []
+
+pub array-line : IsArrayGroup held 1 0 set (group_of 1 (codes "{\"array\":\"a\",\"cells\":[[7]]}"))
+unfolding serde_json_on_literals is_utf8 chars
+array-line = record { kind = refl; reads = refl }
+
+-- another kind
+pub array-kind : (c : Holdings) (n i : ℕ) (some : List NewCell) (bytes : List ℕ)
+    → IsArrayGroup c n i some (group_of 3 bytes) → ⊥
+array-kind c n i some bytes is = omega (arith, is.kind)
+
+-- no line at all, the array as it was, and the array under another name
+pub array-empty : IsArrayGroup held 1 0 set (group_of 1 []) → ⊥
+unfolding serde_json_on_literals is_utf8 chars
+array-empty is = cc (is.reads)
+
+pub array-before : IsArrayGroup held 1 0 set (group_of 1 (codes "{\"array\":\"a\",\"cells\":[[5]]}")) → ⊥
+unfolding serde_json_on_literals is_utf8 chars
+array-before is = let value = is.reads in cc
+
+abbrev first_of_name : Result Command Refusal → ℕ
+first_of_name (Ok (command.Array name grid)) = get_or name 0 0
+first_of_name _ = 0
+
+pub array-named : IsArrayGroup held 1 0 set (group_of 1 (codes "{\"array\":\"b\",\"cells\":[[7]]}")) → ⊥
+unfolding serde_json_on_literals is_utf8 chars
+array-named is = let name : 98 ≡ 97 = ap first_of_name is.reads in omega (arith, name)
+
+-- ---- which of the three
+
+pub for-refresh : IsGroupFor held line (command.Refresh 1 0 set) (group_of 1 line) → ⊥
+unfolding serde_json_on_literals is_utf8 chars
+for-refresh is = let no_form = is.reads in cc
 
 pub for-await : (c : Holdings) (n : ℕ) → IsGroupFor c line (command.Await n) (group_of 1 line) → ⊥
 for-await c n is = omega (arith, is.0)
@@ -124,6 +166,15 @@ lasts-strategy name node list = refl
 pub lasts-await : (n : ℕ) → lasts (command.Await n) ≡ true
 lasts-await n = refl
 
+pub lasts-refresh : (n i : ℕ) (some : List NewCell) → lasts (command.Refresh n i some) ≡ true
+lasts-refresh n i some = refl
+
+pub lasts-merge : (n : ℕ) → lasts (command.Merge n) ≡ false
+lasts-merge n = refl
+
+pub lasts-merged : (n : ℕ) → lasts (command.Merged n) ≡ false
+lasts-merged n = refl
+
 pub lasts-start : (name : List ℕ) (base : List BaseName) → lasts (command.Start name base) ≡ false
 lasts-start name base = refl
 
@@ -147,6 +198,16 @@ lasting-line name grid = refl
 
 pub lasting-other_line : (name : List ℕ) (grid : Grid) → IsLasting (command.Array name grid) (lasting.Line 3) → ⊥
 lasting-other_line name grid is = true≢false (sym is)
+
+pub lasting-array : (n i : ℕ) (some : List NewCell) → IsLasting (command.Refresh n i some) lasting.Array
+lasting-array n i some = refl
+
+pub lasting-no_array : (name : List ℕ) (grid : Grid) → IsLasting (command.Array name grid) lasting.Array → ⊥
+lasting-no_array name grid is = true≢false (sym is)
+
+pub lasting-refresh_line : (n i kind : ℕ) (some : List NewCell)
+    → IsLasting (command.Refresh n i some) (lasting.Line kind) → ⊥
+lasting-refresh_line n i kind some is = true≢false (sym is)
 
 pub lasting-version : (n : ℕ) → IsLasting (command.Await n) (lasting.Version n)
 lasting-version n = refl
@@ -172,6 +233,9 @@ makes-await_again = refl
 
 pub makes-array : (c : Holdings) (name : List ℕ) (grid : Grid) → makes c (command.Array name grid) ≡ true
 makes-array c name grid = refl
+
+pub makes-refresh : (c : Holdings) (n i : ℕ) (some : List NewCell) → makes c (command.Refresh n i some) ≡ true
+makes-refresh c n i some = refl
 
 pub makes-start : (c : Holdings) (name : List ℕ) (base : List BaseName) → makes c (command.Start name base) ≡ false
 makes-start c name base = refl

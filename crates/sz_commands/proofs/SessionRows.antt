@@ -57,3 +57,21 @@ whole-session : transcript nothing_held (codes "{\"array\":\"a\",\"cells\":[[5]]
     ++ 10 ∷ codes "6 cells 1 0,0" ++ 10 ∷ codes "7 values 1 1 -5" ++ 10 ∷ []
 unfolding serde_json_on_literals is_utf8 chars digits
 whole-session = refl
+
+-- ---- a refresh, and a merge
+
+further-session : transcript nothing_held (codes "{\"array\":\"a\",\"cells\":[[1,2]]}"
+    ++ 10 ∷ codes "{\"flow\":\"f\",\"inputs\":1,\"nodes\":[{\"op\":\"neg\",\"from\":[{\"i\":0}]}]}"
+    ++ 10 ∷ codes "{\"strategy\":\"f\",\"node\":0,\"list\":[\"full_one_b\"]}"
+    ++ 10 ∷ codes "{\"start\":\"f\",\"base\":[[\"a\",1]]}"
+    ++ 10 ∷ codes "{\"refresh\":1,\"input\":0,\"set\":[]}"
+    ++ 10 ∷ codes "{\"merge\":1}" ++ 10 ∷ codes "{\"await\":1}" ++ 10 ∷ codes "{\"merged\":1}"
+    ++ 10 ∷ codes "{\"refresh\":1,\"input\":1,\"set\":[]}"
+    ++ 10 ∷ codes "{\"refresh\":1,\"input\":0,\"set\":[[0,0,7]]}"
+    ++ 10 ∷ codes "{\"show\":2,\"node\":0}" ++ 10 ∷ codes "{\"merge\":1}" ++ 10 ∷ codes "{\"merged\":1}")
+    ≡ codes "1 array a 1" ++ 10 ∷ codes "2 flow f" ++ 10 ∷ codes "3 strategy f 0" ++ 10 ∷ codes "4 started 1"
+    ++ 10 ∷ codes "5 refused 22" ++ 10 ∷ codes "6 refused 22" ++ 10 ∷ codes "7 done 1" ++ 10 ∷ codes "8 refused 25"
+    ++ 10 ∷ codes "9 refused 23" ++ 10 ∷ codes "10 refreshed 2 cells 1" ++ 10 ∷ codes "11 values 1 2 -7 -2"
+    ++ 10 ∷ codes "12 merging 1" ++ 10 ∷ codes "13 merged 1 2" ++ 10 ∷ []
+unfolding serde_json_on_literals is_utf8 chars digits
+further-session = refl

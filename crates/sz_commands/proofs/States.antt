@@ -10,7 +10,8 @@ use Rattle.sz_catalogue.specs.Rules.{judged}
 use Rattle.sz_catalogue.specs.Changes as changes
 use Rattle.sz_catalogue.specs.Changes.{changes_no_version}
 use Rattle.sz_commands.specs.Commands.{traced_along, most_along}
-use Rattle.sz_commands.specs.States.{SessionState, apart, changed, accepted, after_judging, after_command, after_reading}
+use Rattle.sz_commands.specs.States.{SessionState, apart, changed, accepted, after_judging, after_command}
+use Rattle.sz_commands.specs.States.{after_reading}
 
 -- a command that changes no version changes the catalogue alone
 pub accepted-changed : (s : SessionState) (d : Holdings) (command : Command) (r : Response)
@@ -29,6 +30,7 @@ pub no-version-untraced : (s : SessionState) (command : Command) → changes_no_
     → (traced_along s command ≡ 0) × (most_along s command ≡ 0)
 no-version-untraced s (order.Ask n dir path named) kind = absurd (true≢false (sym kind))
 no-version-untraced s (order.Explain n dir path named) kind = absurd (true≢false (sym kind))
+no-version-untraced s (order.Refresh n i set) kind = absurd (true≢false (sym kind))
 no-version-untraced s _ kind = (refl, refl)
 
 -- ---- what is seen apart
@@ -37,6 +39,7 @@ no-version-untraced s _ kind = (refl, refl)
 pub accepted-apart : (s : SessionState) (command : Command)
     → accepted (apart s) command ≡ (apart (accepted s command).0, (accepted s command).1)
 accepted-apart s (order.Ask n dir path named) = refl
+accepted-apart s (order.Merged n) = refl
 accepted-apart s _ = refl
 
 command-apart : (s : SessionState) (command : Command)
@@ -58,5 +61,6 @@ pub accepted-seen : (s t : SessionState) (command : Command) (r : Response) → 
 accepted-seen s t command r is = accepted-apart s command ∙ ap (λ (p : SessionState × Response). (apart p.0, p.1)) is
 
 -- so is the reply to a command
-pub reply-apart : (s : SessionState) (command : Command) → (after_command (apart s) command).1 ≡ (after_command s command).1
+pub reply-apart : (s : SessionState) (command : Command) → (after_command (apart s) command).1
+    ≡ (after_command s command).1
 reply-apart s command = ap (λ (p : SessionState × Response). p.1) (command-apart s command)

@@ -7,7 +7,8 @@ use Rattle.sz_commands.specs.Given.{LineGives, Takes, traced_for_given, most_for
 use Rattle.sz_commands.specs.declared.session.Given.{Given}
 use Rattle.sz_commands.specs.declared.session.Given.TheVariants as given
 
-pub takes-responds : (c new : SessionState) (line : List ℕ) (g : Given) (r : Option Reply) → LineGives line g → Takes c g new r
+pub takes-responds : (c new : SessionState) (line : List ℕ) (g : Given) (r : Option Reply) → LineGives line g
+    → Takes c g new r
     → Responds c line new r
 takes-responds c new line given.Nothing None h t = (h, t)
 takes-responds c new line given.Nothing (Some r) h t = absurd t

@@ -12,6 +12,7 @@ use Rattle.sz_script.specs.declared.refusal.Refusal.{Refusal}
 use Rattle.sz_catalogue.specs.Holdings.{Holdings, next_number}
 use Rattle.sz_catalogue.specs.Rules.{judged, version_of}
 use Rattle.sz_versions.specs.Residents.{Stored, none, on_shelf, built, given}
+use Rattle.sz_versions.specs.Merging.{IsMergedIn}
 use Rattle.sz_commands.specs.Lines.{is_blank}
 use Rattle.sz_commands.specs.States.{SessionState}
 
@@ -59,11 +60,13 @@ FinishesEntry false n old new = AllZip (IsFinishedIn n) old new
 
 -- ---- commands
 
--- a command that no rule refuses: a start adds an entry, an await finishes one, and any other
--- leaves all
+-- a command that no rule refuses: a start and a refresh add an entry, an await finishes one, one
+-- that tells what a merge gave merges the stores of one, and any other leaves all
 abbrev pub EntriesBy : Holdings → Command → Entries → Entries → Type 0
 EntriesBy c (command.Start name base) old new = AddsEntry c old new
+EntriesBy c (command.Refresh n i set) old new = AddsEntry c old new
 EntriesBy c (command.Await n) old new = FinishesEntry (version_of c n).awaited n old new
+EntriesBy c (command.Merged n) old new = AllZip (IsMergedIn n) old new
 EntriesBy c _ old new = new ≡ old
 
 -- one that a rule refuses leaves all

@@ -8,6 +8,7 @@ use Rattle.sz_script.specs.Reading.{reading}
 use Rattle.sz_catalogue.specs.declared.reply.Reply.{Reply}
 use Rattle.sz_catalogue.specs.Rules.{version_of, judged}
 use Rattle.sz_catalogue.specs.Changes.{traced}
+use Rattle.sz_catalogue.specs.Refreshes.{cells_affected}
 use Rattle.sz_catalogue.specs.Seen.{response_of}
 use Rattle.sz_commands.specs.Lines.{is_blank}
 use Rattle.sz_commands.specs.States.{SessionState, after_line}
@@ -24,12 +25,14 @@ Responds old line new (Some r) =
 abbrev pub traced_along : SessionState → Command → ℕ
 traced_along c (command.Ask n dir path named) = traced (version_of c.held n) dir path
 traced_along c (command.Explain n dir path named) = traced (version_of c.held n) dir path
+traced_along c (command.Refresh n i set) = cells_affected c.held (version_of c.held n) i set
 traced_along c _ = 0
 
 -- and at most
 abbrev pub most_along : SessionState → Command → ℕ
 most_along c (command.Ask n dir path named) = most_traced (version_of c.held n) dir path
 most_along c (command.Explain n dir path named) = most_traced (version_of c.held n) dir path
+most_along c (command.Refresh n i set) = cells_affected c.held (version_of c.held n) i set
 most_along c _ = 0
 
 -- none for a command that a rule refuses

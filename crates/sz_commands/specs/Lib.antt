@@ -9,4 +9,5 @@ pub mod Given
 pub mod States
 pub mod Carrying
 pub mod Inquiries
+pub mod Refreshing
 pub mod Logged

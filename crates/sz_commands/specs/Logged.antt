@@ -14,8 +14,11 @@ use Rattle.sz_script.specs.Reading.{reading}
 use Rattle.sz_script.specs.declared.refusal.Refusal.{Refusal}
 use Rattle.sz_script.specs.declared.command.Command.{Command}
 use Rattle.sz_script.specs.declared.command.Command.TheVariants as command
+use Rattle.sz_script.specs.declared.command.NewCell.{NewCell}
+use Rattle.sz_writing.specs.Orders.{array_order}
 use Rattle.sz_catalogue.specs.Holdings.{Holdings}
 use Rattle.sz_catalogue.specs.Rules.{judged, version_of}
+use Rattle.sz_catalogue.specs.Refreshes.{base_at, array_refreshed}
 use Rattle.sz_recover.specs.Logs.{Kept, IsWellMade, IsMade, is_of_kind}
 use Rattle.sz_recover.specs.Growing.{durable}
 use Rattle.sz_recover.specs.Soundness.{AreSoundKept}
@@ -118,12 +121,19 @@ lasts (command.Csv name array) = true
 lasts (command.Layers name array) = true
 lasts (command.Flow name flow) = true
 lasts (command.Strategy name node list) = true
+lasts (command.Refresh n i set) = true
 lasts (command.Await n) = true
 lasts _ = false
 
--- what is written: the line, in a group of a kind; the body of a version; or nothing
+abbrev pub is_refresh : Command → Bool
+is_refresh (command.Refresh n i set) = true
+is_refresh _ = false
+
+-- what is written: the line, in a group of a kind; the array that a refresh makes; the body of a
+-- version; or nothing
 abbrev pub IsLasting : Command → Lasting → Type 0
 IsLasting order (lasting.Line kind) = is_of_kind kind order ≡ true
+IsLasting order lasting.Array = is_refresh order ≡ true
 IsLasting order (lasting.Version n) = order ≡ command.Await n
 IsLasting order lasting.Nothing = lasts order ≡ false
 
@@ -156,10 +166,18 @@ IsLineGroup order line e = (is_of_kind e.kind order ≡ true) × (e.body ≡ lin
 abbrev pub IsVersionGroup : Holdings → ℕ → LogGroup → Type 0
 IsVersionGroup c n e = (e.kind ≡ 4) × IsSoundBody n (version_of c n) e.body
 
--- The group is what the command of a line makes durable: of an await the body of its version, and
--- of any other the line.
+-- The group is a line that holds the array which a refresh makes, under the name of the input in
+-- whose place it comes: it is read as the command to hold it, and was no line of the session.
+pub record IsArrayGroup (c : Holdings) (n i : ℕ) (set : List NewCell) (e : LogGroup) : Type 0 where
+  pub kind : e.kind ≡ 1
+  pub reads : reading e.body ≡ Ok (array_order (base_at (version_of c n) i).name
+      (array_refreshed (version_of c n) i set))
+
+-- The group is what the command of a line makes durable: of an await the body of its version, of a
+-- refresh the line of its array, and of any other the line.
 abbrev pub IsGroupFor : Holdings → List ℕ → Command → LogGroup → Type 0
 IsGroupFor c line (command.Await n) e = IsVersionGroup c n e
+IsGroupFor c line (command.Refresh n i set) e = IsArrayGroup c n i set e
 IsGroupFor c line order e = IsLineGroup order line e
 
 abbrev pub IsGroupOf : Holdings → List ℕ → Result Command Refusal → LogGroup → Type 0

@@ -2,9 +2,9 @@
 --
 -- Beside its catalogue a session of a log has, of each version that the log gave, the stores that
 -- were read of it. Such a version is answered by what these stand for, and any other by the
--- composed relation. Of a log that is sound both are the same. What stands of what is kept of the
--- nodes of each version is seen too, so that what says that a session stays says it of that as well
--- (`Carrying` says what a line does to it).
+-- composed relation; and so are the kinds of its lineage told. Of a log that is sound both are the
+-- same. What stands of what is kept of the nodes of each version is seen too, so that what says
+-- that a session stays says it of that as well (`Carrying` says what a line does to it).
 use Rattle.std.specs.Prelude.{ℕ, List, [], Option, Some, None, Result, Ok, Err}
 use Rattle.sz_cells.specs.Cells.{Cells}
 use Rattle.sz_spec.specs.declared.modes.Dir.{Dir}
@@ -18,9 +18,10 @@ use Rattle.sz_script.specs.declared.refusal.Refusal.{Refusal}
 use Rattle.sz_catalogue.specs.Holdings.{Version, Holdings, no_holdings}
 use Rattle.sz_catalogue.specs.Rules.{version_of, judged}
 use Rattle.sz_catalogue.specs.Changes as changes
-use Rattle.sz_catalogue.specs.Responses.{Response, cells, refused}
+use Rattle.sz_catalogue.specs.Responses.{Response, cells, merged, refused}
 use Rattle.sz_recover.specs.Logs.{Kept}
 use Rattle.sz_versions.specs.Recalled.{cells_recalled}
+use Rattle.sz_versions.specs.Merging.{kinds_by}
 use Rattle.sz_versions.specs.Residents.{Stored, logged_under}
 
 -- the catalogue; the stores of the versions that the log gave; of each version, by its number, what
@@ -69,6 +70,8 @@ changed s r = (record s { held = r.0 }, r.1)
 -- what a command that no rule refuses changes, and its reply
 abbrev pub accepted : SessionState → Command → SessionState × Response
 accepted s (command.Ask n dir path named) = (s, cells (cells_told s n dir path named))
+accepted s (command.Merged n) =
+    (s, merged n (kinds_by (logged_of s n) (version_of s.held n)))
 accepted s order = changed s (changes.accepted s.held order)
 
 -- a command that a rule refuses changes nothing

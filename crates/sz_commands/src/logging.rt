@@ -2,43 +2,53 @@
 //! given.
 //!
 //! An accepted line that holds an array or a flow, or sets strategies, is appended as it stands,
-//! once the session has taken it; a version is appended at its first await, with its stores, before
-//! the session notes the await. Nothing else is written. So where there is no memory nothing was,
-//! and where the disk fails the log holds what it held, or what it would.
+//! once the session has taken it; of a refresh the line of the array that it makes is appended,
+//! once the session holds that; and a version is appended at its first await, with its stores,
+//! before the session notes the await. Nothing else is written. So where there is no memory nothing
+//! was, and where the disk fails the log holds what it held, or what it would.
 
 ghost use Rattle.std.specs.Prelude.{◌≡◌, ◌+◌, ◌*◌, ◌^◌, ◌<◌, ◌≤◌, true, false, None, Some, Ok, Err};
-ghost use Rattle.std.specs.Prelude.{IfOk, OnOk};
+ghost use Rattle.std.specs.Prelude.{IfOk, OnOk, [], List, ℕ};
 ghost use Rattle.sz_script.specs.Reading.{reading};
 ghost use Rattle.sz_script.specs.Right.{is_right};
 ghost use Rattle.sz_script.specs.declared.command.Command.TheVariants as order;
-ghost use Rattle.sz_catalogue.specs.Rules.{judged, version_of};
+ghost use Rattle.sz_writing.specs.Orders.{array_order};
+ghost use Rattle.sz_catalogue.specs.Rules.{judged, version_of, has_no_version};
+ghost use Rattle.sz_catalogue.specs.Refreshes.{has_input, base_at, cells_affected};
 ghost use Rattle.sz_catalogue.specs.Changes as changes;
 ghost use Rattle.sz_catalogue.specs.Seen.{response_of};
 ghost use Rattle.sz_recover.specs.Logs.{is_of_kind};
 ghost use Rattle.sz_commands.specs.States.{apart, accepted, after_command};
 ghost use Rattle.sz_commands.specs.Commands.{traced_for, most_for, traced_along, most_along};
-ghost use Rattle.sz_commands.specs.Given.{LineGives, IsRight, Takes, traced_for_given, most_for_given};
-ghost use Rattle.sz_commands.specs.Carrying.{FinishesEntry, StoredBy, StoredAfter, StoredBehind};
+ghost use Rattle.sz_commands.specs.Given.{LineGives, IsRight, Takes, traced_for_given};
+ghost use Rattle.sz_commands.specs.Given.{most_for_given};
+ghost use Rattle.sz_commands.specs.Carrying.{AddsEntry, FinishesEntry};
+ghost use Rattle.sz_commands.specs.Carrying.{StoredBy, StoredAfter, StoredBehind};
 ghost use Rattle.sz_commands.specs.Faults.{CountsTell};
 ghost use Rattle.sz_commands.specs.Logged.{IsLogOf, HasLog, KeepsLog, StopsInLog, held_after};
 ghost use Rattle.sz_commands.specs.Logged.{IsLasting, Appends, IsGroupOf, IsGroupFor, IsLineGroup};
-ghost use Rattle.sz_commands.specs.Logged.{IsVersionGroup, makes, makes_judged, makes_durable};
+ghost use Rattle.sz_commands.specs.Logged.{IsVersionGroup, IsArrayGroup, is_refresh};
+ghost use Rattle.sz_commands.specs.Logged.{makes, makes_judged, makes_durable};
 
 use crate::session::{Given, Session, Stop};
 use std::sync::Wait;
 use std::thread::Threads;
 use sz_catalogue::Reply;
+use sz_cells::NoMemory;
 use sz_log::{LogEnd, append};
 use sz_outside::{Gate, Station};
-use sz_script::Command;
-use sz_spec::Tally;
+use sz_script::{Command, NewCells};
+use sz_spec::{Array, Tally};
 use sz_versions::body_for;
+use sz_writing::line_of_array;
 
 /// What a command makes durable.
 #[derive(Clone, Copy, Drop)]
 pub enum Lasting {
     /// Its line, in a group of this kind.
     Line(u8),
+    /// The line of the array that a refresh makes.
+    Array,
     /// A version that is awaited.
     Version(u32),
     /// Nothing.
@@ -180,6 +190,7 @@ impl Session {
         };
         match what_lasts(&command) {
             Lasting::Line(kind) => self.add_line(command, kind, line, end, station),
+            Lasting::Array => self.add_array(rt, command, end, station, tally),
             Lasting::Version(version) => self.add_version(rt, version, end, station),
             Lasting::Nothing => Ok(self.obey(rt, command, number, gate, tally)?),
         }
@@ -218,6 +229,107 @@ impl Session {
         let next = append(station, end, kind, line)?;
         self.end = Some(next);
         Ok(reply)
+    }
+
+    /// Takes a refresh, and appends the line of the array that it makes.
+    fn add_array<T: Station, R: Threads + Wait + Sync>(
+        &mut self,
+        rt: &R,
+        command: Command,
+        end: LogEnd,
+        station: &mut T,
+        tally: &mut Tally,
+    ) -> Result<Reply, Stop>
+        requires kind { is_refresh command ≡ true }
+        requires judged { judged self.old.held command ≡ None }
+        requires room { tally.old + 32 * 1048576 < 2 ^ 63 }
+        requires end { self.old.end ≡ Some end.at }
+        requires log { IsLogOf T.Station self.old.held end.at station.old }
+        ensures reply { IfOk result
+            (λ r. accepted (apart self.old) command ≡ (apart self.new, response_of r)) }
+        ensures stored { OnOk result (StoredBy self.old command self.new) }
+        ensures least { OnOk result (tally.old + traced_along self.old command ≤ tally.new) }
+        ensures most { OnOk result (tally.new ≤ tally.old + most_along self.old command) }
+        ensures log { OnOk result (KeepsLog T.Station self.old.held self.old.end
+            self.new.held self.new.end station.old station.new) }
+        ensures stops { StopsInLog T.Station self.old.held self.old.end
+            (changes.accepted self.old.held command).0 station.old station.new }
+        ensures output { T.said station.new ≡ T.said station.old }
+        ensures counted { CountsTell T.Station result station.old station.new }
+        ensures kept { result ≡ Err Stop.NoMemory
+            → (self.new ≡ self.old) × (station.new ≡ station.old) }
+        ensures appends { OnOk result (Appends T.Station
+            (IsGroupFor self.old.held [] command) self.old.end self.new.end
+            station.old station.new) }
+    {
+        let Command::Refresh {
+            version,
+            input,
+            set,
+        } = command
+        else {
+            unreachable!()
+        };
+        self.add_refreshed(rt, version, input, &set, end, station, tally)
+    }
+
+    /// Takes a refresh of a version's input, and appends the line of the array that it makes: that
+    /// is made before anything is held.
+    fn add_refreshed<T: Station, R: Threads + Wait + Sync>(
+        &mut self,
+        rt: &R,
+        version: u32,
+        input: u32,
+        set: &NewCells,
+        end: LogEnd,
+        station: &mut T,
+        tally: &mut Tally,
+    ) -> Result<Reply, Stop>
+        requires judged { judged self.old.held (order.Refresh version input set.now) ≡ None }
+        requires room { tally.old + 32 * 1048576 < 2 ^ 63 }
+        requires end { self.old.end ≡ Some end.at }
+        requires log { IsLogOf T.Station self.old.held end.at station.old }
+        ensures reply { IfOk result (λ r. accepted (apart self.old)
+            (order.Refresh version input set.now) ≡ (apart self.new, response_of r)) }
+        ensures stored { OnOk result
+            (AddsEntry self.old.held self.old.stored self.new.stored) }
+        ensures ticks { OnOk result (tally.new ≡ tally.old + cells_affected self.old.held
+            (version_of self.old.held version) input set.now) }
+        ensures log { OnOk result (KeepsLog T.Station self.old.held self.old.end
+            self.new.held self.new.end station.old station.new) }
+        ensures stops { StopsInLog T.Station self.old.held self.old.end
+            (changes.accepted self.old.held (order.Refresh version input set.now)).0
+            station.old station.new }
+        ensures output { T.said station.new ≡ T.said station.old }
+        ensures counted { CountsTell T.Station result station.old station.new }
+        ensures kept { result ≡ Err Stop.NoMemory
+            → (self.new ≡ self.old) × (station.new ≡ station.old) }
+        ensures appends { OnOk result (Appends T.Station
+            (IsArrayGroup self.old.held version input set.now) self.old.end self.new.end
+            station.old station.new) }
+    {
+        let made = self.refreshed(rt, version, input, set, tally)?;
+        let line = self.line_for(version, input, &made.array)?;
+        let reply = self.hold_refreshed(version, input, set, made)?;
+        let next = append(station, end, 1, &line)?;
+        self.end = Some(next);
+        Ok(reply)
+    }
+
+    /// The line that holds an array under the name of an input of a version.
+    fn line_for(&self, version: u32, input: u32, array: &Array) -> Result<Vec<u8>, NoMemory>
+        requires there { has_no_version self.now.held version ≡ false }
+        requires input { has_input (version_of self.now.held version) input ≡ true }
+        ensures { IfOk result (λ line. reading line.items ≡ Ok (array_order
+            (base_at (version_of self.now.held version) input).name array.now)) }
+    {
+        let Some(held) = self.catalogue.version(version) else {
+            unreachable!()
+        };
+        self.catalogue.is_in_order();
+        let base = held.base.as_slice();
+        let only = &base[input as usize];
+        line_of_array(self.alloc, only.name.as_str(), array)
     }
 
     /// Awaits a version, and appends it where it was not awaited before.
@@ -271,6 +383,7 @@ fn what_lasts(command: &Command) -> Lasting
         Command::Array { .. } | Command::Csv { .. } | Command::Layers { .. } => Lasting::Line(1),
         Command::Flow { .. } => Lasting::Line(2),
         Command::Strategy { .. } => Lasting::Line(3),
+        Command::Refresh { .. } => Lasting::Array,
         Command::Await { version } => Lasting::Version(*version),
         _ => Lasting::Nothing,
     }

@@ -1,7 +1,7 @@
 //! A session: what is held, and what a line does to it.
 //!
-//! Contracts see a session as a `SessionState`. Beside the catalogue it has of each version the runs of
-//! its nodes and what is kept of them (`HeldRuns`), so that no value is computed twice.
+//! Contracts see a session as a `SessionState`. Beside the catalogue it has of each version the
+//! runs of its nodes and what is kept of them (`HeldRuns`), so that no value is computed twice.
 
 ghost use Rattle.std.specs.Prelude.{◌≡◌, ◌+◌, ◌*◌, ◌^◌, ◌<◌, ◌≤◌, true, false, None, Err, map};
 ghost use Rattle.std.specs.Prelude.{IfOk, OnOk, OnErr, length, if◌then◌else◌, Some, is_some};
@@ -11,13 +11,17 @@ ghost use Rattle.sz_script.specs.Right.{is_right};
 ghost use Rattle.sz_script.specs.declared.command.Command.TheVariants as order;
 ghost use Rattle.sz_catalogue.specs.Rules.{judged, version_of, has_no_version, is_not_joined};
 ghost use Rattle.sz_catalogue.specs.Rules.{is_out_of_range};
+ghost use Rattle.std.specs.Arc.{arc_value};
 ghost use Rattle.sz_catalogue.specs.Changes.{way_of, traced, changes_no_version};
+ghost use Rattle.sz_catalogue.specs.Refreshes.{cells_affected};
+ghost use Rattle.sz_commands.specs.Refreshing.{IsMadeBy};
 ghost use Rattle.sz_commands.specs.States.{apart, accepted, cells_told};
 ghost use Rattle.sz_catalogue.specs.Seen.{response_of};
 ghost use Rattle.sz_commands.specs.Commands.{Responds, traced_for_line, traced_for, traced_along};
 ghost use Rattle.sz_commands.specs.Commands.{most_for_line, most_for, most_along};
 ghost use Rattle.sz_versions.specs.Efforts.{most_traced};
 ghost use Rattle.sz_versions.specs.Stores.{IsTrailOf};
+ghost use Rattle.sz_versions.specs.Merging.{IsMergedIn};
 ghost use Rattle.sz_versions.specs.Views.{strategy_told};
 ghost use Rattle.sz_commands.specs.States.{nothing_held};
 ghost use Rattle.sz_commands.specs.Carrying.{AreGiven, AddsEntry, IsFinishedIn, FinishesEntry};
@@ -43,19 +47,23 @@ use sz_catalogue::{Catalogue, Reply};
 use sz_cells::NoMemory;
 use sz_flow::NodeRun;
 use sz_log::LogEnd;
+use sz_merge::{MergeTask, merge_tasks, one_more_merger};
 use sz_outside::{Failed, Gate, Station};
-use sz_pool::{Receiver, Task, one_more, tasks};
+use sz_pool::{Receiver, Sender, Task, one_more, tasks};
 use sz_query::{Found, Spare, Used};
 use sz_recover::Recovered;
 use sz_script::{
-    BaseList, Command, LineFault, Name, NamedCells, Path, Refusal, StrategyList, laws, read_line,
+    BaseList, Command, LineFault, Name, NamedCells, NewCells, Path, Refusal, StrategyList, laws,
+    read_line,
 };
 use sz_spec::{Dir, Strategy, Tally};
-use sz_versions::{Hands, HeldRuns, Inquiry, VersionRun, run_version};
+use sz_versions::{
+    Hands, HeldRuns, Inquiry, RefreshedRun, VersionRun, refresh_version, run_version,
+};
 
 /// A session: what is held; the runs of the nodes of each version, with what is kept of them; where
-/// the log ends, where it has one; the channel through which tasks go to workers; and bitmaps for
-/// the asks to come.
+/// the log ends, where it has one; the channels through which tasks go to workers, and stores to be
+/// merged to whoever attends to them; and bitmaps for the asks to come.
 #[derive(Drop)]
 pub struct Session {
     pub(crate) catalogue: Catalogue,
@@ -64,6 +72,8 @@ pub struct Session {
     pub(crate) alloc: Global,
     hands: Hands,
     tasks: Receiver<Task>,
+    to_merge: Sender<MergeTask>,
+    merges: Receiver<MergeTask>,
     askers: Askers,
     spare: Spare,
 }
@@ -138,6 +148,7 @@ impl Session {
         ensures { IfOk result (λ s. s ≡ nothing_held) }
     {
         let (to, tasks) = tasks(alloc)?;
+        let (to_merge, merges) = merge_tasks(alloc)?;
         Ok(Session {
             catalogue: Catalogue::new(alloc),
             runs: HeldRuns::new(alloc),
@@ -145,6 +156,8 @@ impl Session {
             alloc,
             hands: Hands::of(to, workers),
             tasks,
+            to_merge,
+            merges,
             askers: Askers::of(askers),
             spare: Spare::new(alloc),
         })
@@ -178,6 +191,7 @@ impl Session {
         catalogue.is_in_order();
         let runs = HeldRuns::recalled(rt, alloc, &catalogue, stores)?;
         let (to, tasks) = tasks(alloc)?;
+        let (to_merge, merges) = merge_tasks(alloc)?;
         Ok(Session {
             catalogue,
             runs,
@@ -185,6 +199,8 @@ impl Session {
             alloc,
             hands: Hands::of(to, workers),
             tasks,
+            to_merge,
+            merges,
             askers: Askers::of(askers),
             spare: Spare::new(alloc),
         })
@@ -196,14 +212,23 @@ impl Session {
         one_more(&self.tasks)
     }
 
+    /// One receiving end more of the channel to which a merge sends stores. It closes once the
+    /// session is let go.
+    pub fn merges(&self) -> Result<Receiver<MergeTask>, NoMemory> {
+        one_more_merger(&self.merges)
+    }
+
     /// Does what a line orders, and gives its reply; a blank line has none. The gate is called once
     /// for an ask or explain that is accepted, when its answer is found. The tally rises by the
     /// output sizes of the steps that are told as traced, which says nothing of how a step was
     /// worked out.
     ///
     /// A start costs the values of its nodes, each computed once, and a shelf with tasks for each
-    /// node with a stored strategy. An await costs the pieces of lineage that workers left undone.
-    /// Any other line costs what it reads, looks up and answers.
+    /// node with a stored strategy; a refresh the same, but that of the values those alone are
+    /// computed that a set cell reaches. An await costs the pieces of lineage that workers left
+    /// undone; to tell what a merge gave costs a look at each region pair of the version's stores,
+    /// and the merging of those that are not merged yet. Any other line costs what it reads, looks
+    /// up and answers.
     ///
     /// For a session of a log the station's disk is that log (`HasLog`): what the line makes
     /// durable is appended to it as one group, at the cost of its bytes (`appends`); any other line
@@ -371,8 +396,8 @@ impl Session {
         })
     }
 
-    /// Does what a command orders that no rule refuses. One that neither starts, awaits, asks nor
-    /// looks is the catalogue's alone.
+    /// Does what a command orders that no rule refuses. One that neither starts, refreshes, awaits,
+    /// merges, asks nor looks is the catalogue's alone.
     pub(crate) fn obey<G: Gate, R: Threads + Wait + Sync>(
         &mut self,
         rt: &R,
@@ -394,7 +419,14 @@ impl Session {
     {
         match command {
             Command::Start { name, base } => self.start(rt, name, base),
+            Command::Refresh {
+                version,
+                input,
+                set,
+            } => self.refresh(rt, version, input, &set, tally),
             Command::Await { version } => self.await_version(rt, version),
+            Command::Merge { version } => self.merge(rt, version),
+            Command::Merged { version } => self.merged(rt, version),
             Command::Ask {
                 version,
                 dir,
@@ -468,6 +500,133 @@ impl Session {
                 Err(fault)
             }
         }
+    }
+
+    /// Starts the version that a refresh orders: computes again what the set cells reach, and holds
+    /// the array and the version with its runs and its shelves.
+    fn refresh<R: Threads + Wait + Sync>(
+        &mut self,
+        rt: &R,
+        version: u32,
+        input: u32,
+        set: &NewCells,
+        tally: &mut Tally,
+    ) -> Result<Reply, NoMemory>
+        requires judged { judged self.old.held (order.Refresh version input set.now) ≡ None }
+        requires room { tally.old + 32 * 1048576 < 2 ^ 63 }
+        ensures reply { IfOk result (λ r. accepted (apart self.old)
+            (order.Refresh version input set.now) ≡ (apart self.new, response_of r)) }
+        ensures stored { OnOk result
+            (AddsEntry self.old.held self.old.stored self.new.stored) }
+        ensures end { OnOk result (self.new.end ≡ self.old.end) }
+        ensures ticks { OnOk result (tally.new ≡ tally.old + cells_affected self.old.held
+            (version_of self.old.held version) input set.now) }
+        ensures kept { OnErr result (self.new ≡ self.old) }
+    {
+        let made = self.refreshed(rt, version, input, set, tally)?;
+        self.hold_refreshed(version, input, set, made)
+    }
+
+    /// What a refresh makes, of which nothing is held yet.
+    pub(crate) fn refreshed<R: Threads + Wait + Sync>(
+        &self,
+        rt: &R,
+        version: u32,
+        input: u32,
+        set: &NewCells,
+        tally: &mut Tally,
+    ) -> Result<RefreshedRun, NoMemory>
+        requires judged { judged self.now.held (order.Refresh version input set.now) ≡ None }
+        requires room { tally.old + 32 * 1048576 < 2 ^ 63 }
+        ensures made { IfOk result (λ m. IsMadeBy self.now.held version input set.now
+            (arc_value m.array) m.run m.cells) }
+        ensures ticks { OnOk result (tally.new ≡ tally.old + cells_affected self.now.held
+            (version_of self.now.held version) input set.now) }
+    {
+        let made = refresh_version(
+            rt,
+            self.alloc,
+            &self.catalogue,
+            &self.runs,
+            &self.hands,
+            version,
+            input,
+            set.as_slice(),
+            tally,
+        )?;
+        Ok(made)
+    }
+
+    /// Holds the array that a refresh made, and the version on it, with what is carried of that.
+    /// The set cells are lent for the contract alone.
+    pub(crate) fn hold_refreshed(
+        &mut self,
+        version: u32,
+        input: u32,
+        _set: &NewCells,
+        made: RefreshedRun,
+    ) -> Result<Reply, NoMemory>
+        requires judged { judged self.old.held (order.Refresh version input _set.now) ≡ None }
+        requires made { IsMadeBy self.old.held version input _set.now (arc_value made.array)
+            made.run made.cells }
+        ensures reply { IfOk result (λ r. accepted (apart self.old)
+            (order.Refresh version input _set.now) ≡ (apart self.new, response_of r)) }
+        ensures stored { OnOk result
+            (AddsEntry self.old.held self.old.stored self.new.stored) }
+        ensures end { OnOk result (self.new.end ≡ self.old.end) }
+        ensures kept { OnErr result (self.new ≡ self.old) }
+    {
+        let RefreshedRun { array, run, cells } = made;
+        let number = self.catalogue.next_number() as u32;
+        self.runs.add(number, run)?;
+        match self.catalogue.share_refreshed(version, input, array) {
+            Ok(version) => Ok(Reply::Refreshed { version, cells }),
+            Err(fault) => {
+                self.runs.take_back();
+                Err(fault)
+            }
+        }
+    }
+
+    /// Notes that the merge of a version was asked, and hands its stores to whoever merges them,
+    /// where it was not asked before.
+    fn merge<R: Wait>(&mut self, rt: &R, version: u32) -> Result<Reply, NoMemory>
+        requires judged { judged self.old.held (order.Merge version) ≡ None }
+        ensures reply { IfOk result (λ r. accepted (apart self.old) (order.Merge version)
+            ≡ (apart self.new, response_of r)) }
+        ensures stored { OnOk result (self.new.stored ≡ self.old.stored) }
+        ensures end { OnOk result (self.new.end ≡ self.old.end) }
+        ensures kept { OnErr result (self.new ≡ self.old) }
+    {
+        let again = self.catalogue.merge_asked(version);
+        let reply = self.accept(Command::Merge { version })?;
+        if !again {
+            self.hand_merges(rt, version);
+        }
+        Ok(reply)
+    }
+
+    /// Hands the stores of a version to whoever merges them. Nothing that is seen changes.
+    fn hand_merges<R: Wait>(&mut self, rt: &R, version: u32)
+        ensures { self.new ≡ self.old }
+    {
+        self.runs
+            .hand_merges(self.alloc, rt, &self.catalogue, &self.to_merge, version);
+    }
+
+    /// Merges what is left to be merged of a version's stores, and tells how many kinds of lineage
+    /// each store of full lineage has.
+    fn merged<R: Wait>(&mut self, rt: &R, version: u32) -> Result<Reply, NoMemory>
+        requires judged { judged self.old.held (order.Merged version) ≡ None }
+        ensures reply { IfOk result (λ r. accepted (apart self.old) (order.Merged version)
+            ≡ (apart self.new, response_of r)) }
+        ensures stored { OnOk result
+            (AllZip (IsMergedIn version) self.old.stored self.new.stored) }
+        ensures end { OnOk result (self.new.end ≡ self.old.end) }
+        ensures kept { OnErr result (self.new ≡ self.old) }
+    {
+        let kinds = self.runs.merged(self.alloc, rt, &self.catalogue, version)?;
+        Ok(Reply::Merged { version, kinds })
     }
 
     /// Awaits a version: makes what is missing of its stores, takes them off their shelves, and

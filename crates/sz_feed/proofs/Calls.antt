@@ -180,7 +180,8 @@ behind-next {X} T l n xs start at waiting a b c le lt is one waits idle goes lin
     waits idle goes (behind-lines T n.end asks n.held n.number (cut_after n (10 ∷ [])).whole b c line)))
 
 -- the reply of a line that was taken, of a session of no log
-pub only-reply : {X : Type 0} (T : Ghosts X) (m : Moment) (z : SessionState) (r : Option Reply) (bytes : List ℕ) (a b x : X)
+pub only-reply : {X : Type 0} (T : Ghosts X) (m : Moment) (z : SessionState) (r : Option Reply) (bytes : List ℕ)
+    (a b x : X)
     → Responds m.held m.pending z r → bytes ≡ line_to_say m.number r → b ≡ a → OnlySays T bytes b x
     → OnlySays T (told_in m (10 ∷ [])) a x
 only-reply {X} T m z r bytes a b x replies told same says =

@@ -226,7 +226,8 @@ only-line {X} T a b c l m n xs start at le lt is so_far took pending line =
 -- ---- sessions
 
 -- a turn
-pub turn-stays : {X : Type 0} (T : Ghosts X) (z : SessionState) (all left next said : Option (List ℕ)) (a b : X) (m : Moment)
+pub turn-stays : {X : Type 0} (T : Ghosts X) (z : SessionState) (all left next said : Option (List ℕ)) (a b : X)
+    (m : Moment)
     (total count : ℕ) (buffer : List ℕ) → Answered z all left said (T.said a) m total → Gives left next buffer count
     → OnlySays T (told_in m (take count buffer)) a b → StaysFinding T (FoundInPart z all said) a b
 turn-stays {X} T z all left next said a b m total count buffer so_far gives one =

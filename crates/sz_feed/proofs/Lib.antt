@@ -9,6 +9,7 @@ pub mod LawsSessions
 pub mod Blanks
 pub mod Moments
 pub mod Plain
+mod LogStores
 pub mod SoundLogs
 pub mod RowsServing
 pub mod Running

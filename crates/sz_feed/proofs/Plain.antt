@@ -47,7 +47,8 @@ replies-plain c n [] = refl
 replies-plain c n (line ∷ lines) = elim (cases_Bool (is_blank line)) [
   | inl blank ↦ rw blank (replies-plain c (n + 1) lines)
   | inr other ↦
-      rw other (ap (λ (q : SessionState × Response). reply_line n q.1 ++ replies_to q.0 (n + 1) lines) (line-plain c line)
+      rw other (ap (λ (q : SessionState × Response). reply_line n q.1 ++ replies_to q.0 (n + 1) lines)
+      (line-plain c line)
       ∙ ap (λ (ys : List ℕ). reply_line n (changes.after_line c line).1 ++ ys)
       (replies-plain (changes.after_line c line).0 (n + 1) lines))
 ]

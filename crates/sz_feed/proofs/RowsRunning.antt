@@ -67,7 +67,8 @@ between-cut kept s n some more said found is =
 
 -- ---- at some line
 
-pub at-cut : (kept : List Kept) (s : SessionState) (n : ℕ) (lines : List (List ℕ)) (said : Option (List ℕ)) (found : List ℕ)
+pub at-cut : (kept : List Kept) (s : SessionState) (n : ℕ) (lines : List (List ℕ)) (said : Option (List ℕ))
+    (found : List ℕ)
     → FoundAt kept s n lines said [] found → ⊥
 at-cut kept s n lines said found is =
     between-cut kept s n (take is.many lines) (take (is.many + 1) lines) said found is.between
@@ -88,7 +89,8 @@ passes-within before now past since Among image said passes left = passes.within
 
 module _ {X : Type 0} (T : Ghosts X) (old new : X) where
   -- what a stop leaves since the call began is found at some line
-  pub finds-lines : (at : ℕ) (s : SessionState) (n : ℕ) (lines : List (List ℕ)) (disk image said : List ℕ) (kept : List Kept)
+  pub finds-lines : (at : ℕ) (s : SessionState) (n : ℕ) (lines : List (List ℕ)) (disk image said : List ℕ)
+      (kept : List Kept)
       → T.disk old ≡ Some disk → IsWellMade disk at (durable s.held) kept → FindsLines T at s n lines old new
       → T.left_since new (T.moment old) image said → FoundAt kept s n lines (T.said old) image said
   finds-lines at s n lines disk image said kept told made finds left =

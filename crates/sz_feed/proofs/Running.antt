@@ -142,7 +142,8 @@ between-behind kept s n first some more a b mid image found next one says f =
     }
 
 -- between lines that tell and leave the same
-between-alike : (kept : List Kept) (s z : SessionState) (n k : ℕ) (some more some' more' : List (List ℕ)) (a : Option (List ℕ))
+between-alike : (kept : List Kept) (s z : SessionState) (n k : ℕ) (some more some' more' : List (List ℕ))
+    (a : Option (List ℕ))
     (image found : List ℕ) → s ≡ z → replies_to s n some ≡ replies_to z k some' → replies_to s n more
     ≡ replies_to z k more'
     → after_lines s some ≡ after_lines z some' → after_lines s more ≡ after_lines z more'
@@ -240,7 +241,8 @@ found-last kept s n x y a image found h f =
     }
 
 -- no line was answered
-found-none : (kept : List Kept) (s : SessionState) (n : ℕ) (lines : List (List ℕ)) (a : Option (List ℕ)) (image found : List ℕ)
+found-none : (kept : List Kept) (s : SessionState) (n : ℕ) (lines : List (List ℕ)) (a : Option (List ℕ))
+    (image found : List ℕ)
     (at : ℕ) → Said a found → IsWellMade image at (durable s.held) kept → FoundAt kept s n lines a image found
 found-none kept s n lines a image found at said made = record {
   many = 0;
@@ -360,11 +362,13 @@ among-apart {n} {m} {past} {since} {A} {B} {step} {F} C both p = record {
 }
 
 -- what is found of a disk, while lines are answered
-abbrev FindsOn : Option (List ℕ) → ℕ → SessionState → ℕ → List (List ℕ) → Option (List ℕ) → ℕ → ℕ → Since → Since → Type 0
+abbrev FindsOn : Option (List ℕ) → ℕ → SessionState → ℕ → List (List ℕ) → Option (List ℕ) → ℕ → ℕ → Since → Since
+    → Type 0
 FindsOn o at s n lines a before now past since = IfSome o (λ disk. (kept : List Kept)
     → IsWellMade disk at (durable s.held) kept → PassesAmong before now past since (FoundAt kept s n lines a))
 
-finds-two : (o p : Option (List ℕ)) (before mid now : ℕ) (past half since : Since) (at next : ℕ) (s : SessionState) (n : ℕ)
+finds-two : (o p : Option (List ℕ)) (before mid now : ℕ) (past half since : Since) (at next : ℕ) (s : SessionState)
+    (n : ℕ)
     (first lines : List (List ℕ)) (a b : Option (List ℕ)) → Grows o at s.held p next (after_lines s first).held
     → Says a b (replies_to s n first) → FindsOn o at s n first a before mid past half
     → FindsOn p next (after_lines s first) (n + length first) lines b mid now half since
@@ -384,7 +388,8 @@ finds-two (Some disk) p before mid now past half since at next s n first lines a
     (one kept made) (more (kept ++ grown.more) grown.made)
 
 -- lines, and others behind them
-pub finds-then : {X : Type 0} (T : Ghosts X) (at next : ℕ) (s : SessionState) (n : ℕ) (first lines : List (List ℕ)) (a b c : X)
+pub finds-then : {X : Type 0} (T : Ghosts X) (at next : ℕ) (s : SessionState) (n : ℕ) (first lines : List (List ℕ))
+    (a b c : X)
     → GoesOn T s.held at (after_lines s first).held next a b → Says (T.said a) (T.said b) (replies_to s n first)
     → FindsLines T at s n first a b → FindsLines T next (after_lines s first) (n + length first) lines b c
     → FindsLines T at s n (first ++ lines) a c
@@ -392,7 +397,8 @@ finds-then {X} T at next s n first lines a b c goes says one two =
     finds-two (T.disk a) (T.disk b) _ _ _ _ _ _ at next s n first lines (T.said a) (T.said b) goes.grows says one two
 
 -- further lines, which were not answered
-pub finds-longer : {X : Type 0} (T : Ghosts X) (at : ℕ) (s : SessionState) (n : ℕ) (lines more : List (List ℕ)) (a b : X)
+pub finds-longer : {X : Type 0} (T : Ghosts X) (at : ℕ) (s : SessionState) (n : ℕ) (lines more : List (List ℕ))
+    (a b : X)
     → FindsLines T at s n lines a b → FindsLines T at s n (lines ++ more) a b
 finds-longer {X} T at s n lines more a b one =
     some-more (T.disk a) _ _
@@ -464,7 +470,8 @@ taken-on (Some disk) a at s d n line before now past since A B held synced passe
     (leaves kept (subst (λ (i : List ℕ). IsWellMade i at (durable s.held) kept) (sym (synced old was)) made)))) passes
 
 -- a line is taken
-pub finds-taken : {X : Type 0} (T : Ghosts X) (at : ℕ) (s : SessionState) (d : Holdings) (n : ℕ) (line : List ℕ) (a b : X)
+pub finds-taken : {X : Type 0} (T : Ghosts X) (at : ℕ) (s : SessionState) (d : Holdings) (n : ℕ) (line : List ℕ)
+    (a b : X)
     → d ≡ (after_lines s (line ∷ [])).held → IsLogOf T s.held at a → StopsInLog T s.held (Some at) d a b
     → FindsLines T at s n (line ∷ []) a b
 finds-taken {X} T at s d n line a b held log stops =
@@ -496,7 +503,8 @@ said-on (Some disk) p a b at next s d n line bytes before mid now past half sinc
     passes)
 
 -- and then its reply is said
-pub finds-said : {X : Type 0} (T : Ghosts X) (at next : ℕ) (s : SessionState) (d : Holdings) (n : ℕ) (line bytes : List ℕ)
+pub finds-said : {X : Type 0} (T : Ghosts X) (at next : ℕ) (s : SessionState) (d : Holdings) (n : ℕ)
+    (line bytes : List ℕ)
     (a b c : X) → d ≡ (after_lines s (line ∷ [])).held → bytes ≡ replies_to s n (line ∷ []) → T.said b ≡ T.said a
     → GoesOn T s.held at d next a b → OnlySays T bytes b c → FindsLines T at s n (line ∷ []) a b
     → FindsLines T at s n (line ∷ []) a c

@@ -33,7 +33,9 @@ use Rattle.sz_catalogue.specs.Rules as rules
 use Rattle.sz_catalogue.specs.Rules.{judged, version_of, has_no_version}
 use Rattle.sz_catalogue.specs.Changes as changes
 use Rattle.sz_catalogue.specs.Changes.{changes_no_version, with_version, with_await}
-use Rattle.sz_catalogue.specs.Responses.{Response, cells, reply_line}
+use Rattle.sz_catalogue.specs.Responses.{Response, cells, merged, reply_line}
+use Rattle.sz_catalogue.specs.Refreshes.{version_refreshed}
+use Rattle.sz_catalogue.specs.Merges.{is_merge_asked, kinds_told}
 use Rattle.sz_catalogue.proofs.Bases.{bases-length}
 use Rattle.sz_bodies.specs.Bodies.{VersionBody}
 use Rattle.sz_bodies.specs.Fitting.{Fit, body_of}
@@ -43,15 +45,18 @@ use Rattle.sz_recover.specs.Opened.{IsEntryOf}
 use Rattle.sz_recover.specs.Soundness.{AreSoundNodes, IsSoundKept, AreSoundKept}
 use Rattle.sz_recover.proofs.Entries.{well-made}
 use Rattle.sz_commands.specs.Lines.{lines_of, is_blank}
-use Rattle.sz_commands.specs.States.{SessionState, logged_of, cells_by, accepted, after_judging, after_reading, after_line}
+use Rattle.sz_commands.specs.States.{SessionState, logged_of, cells_by, accepted, after_judging, after_reading}
+use Rattle.sz_commands.specs.States.{after_line}
 use Rattle.sz_commands.specs.Transcript.{replies_to}
 use Rattle.sz_feed.specs.Plain.{plain_replies}
 use Rattle.sz_versions.specs.Recalled.{HasEachStore}
+use Rattle.sz_versions.specs.Merging.{kinds_by, HasEachHolding, SoundStoresTellTheKinds}
 use Rattle.sz_feed.specs.Running.{state_of_log}
 use Rattle.sz_versions.specs.Runs.{executions_of, IsSoundVersion, AreSound}
 use Rattle.sz_feed.specs.Laws.{SoundLogsArePlain}
 use Rattle.sz_versions.proofs.Keeps.{rule-fails, not_false, flow-sound, version-sound, keeps-accepted}
 use Rattle.sz_versions.proofs.FromLogs.{recalled-sound}
+use Rattle.sz_feed.proofs.LogStores.{HasHoldings, logs-hold}
 use Rattle.sz_versions.proofs.Stays.{awaited-stay, await-other, insert-other, started-new}
 
 -- ---- tests and lists
@@ -152,6 +157,7 @@ record IsAnswered (v : Version) (stores : List (Option NodeLineage)) : Type 0 wh
   sound : IsSoundVersion v
   fit : Fit v stores
   each : All HasEachStore stores
+  holding : All HasEachHolding stores
   exact : AreSoundNodes (executions_of v) stores
 
 -- The version that is held under the number of an entry is awaited, and answered by the stores of the entry.
@@ -164,15 +170,21 @@ record IsAnswering (c : Holdings) (k : Kept) : Type 0 where
 log-answers : (disk : List ℕ) (at : ℕ) (c : Holdings) (kept : List Kept) → IsWellMade disk at c kept
     → AreSoundKept c kept → All (IsAnswering c) kept
 log-answers disk at c kept made sound =
-    all-both (IsEntryOf c) (IsSoundKept c) (IsAnswering c) kept one (well-made disk at c kept made).each sound where
-      one : (k : Kept) → IsEntryOf c k → IsSoundKept c k → IsAnswering c k
-      one k is exact = record {
+    let both = all-both (IsSoundKept c) HasHoldings IsKeptSo kept (λ k exact holds. (exact, holds)) sound
+    (logs-hold no_holdings c made.entries kept made.acts) in
+    all-both (IsEntryOf c) IsKeptSo (IsAnswering c) kept one (well-made disk at c kept made).each both where
+      IsKeptSo : Kept → Type 0
+      IsKeptSo k = IsSoundKept c k × HasHoldings k
+
+      one : (k : Kept) → IsEntryOf c k → IsKeptSo k → IsAnswering c k
+      one k is (exact, holds) = record {
         held = is.held;
         awaited = is.awaited;
         own = record {
           sound = version-sound c k.number (log-sound disk at c kept made).versions is.held;
           fit = is.fit;
           each = is.stored;
+          holding = holds;
           exact = exact;
         };
       }
@@ -211,7 +223,13 @@ await-stays c m n held awaited = by (n == m) refl where
 -- and each command leaves them
 command-stays : (c : Holdings) (command : Command) → AwaitedStay c (changes.accepted c command).0
 command-stays c (order.Start name base) = start-stays c (version_started c name base)
+command-stays c (order.Refresh n i set) = start-stays c (version_refreshed c (version_of c n) i set)
 command-stays c (order.Await n) = await-stays c n
+command-stays c (order.Merge n) = λ m held awaited. by m (is_merge_asked c n) where
+  by : (m : ℕ) (b : Bool) → version_numbered (if b then c else record c { merges = c.merges ++ n ∷ [] }) m
+      ≡ version_numbered c m
+  by m true = refl
+  by m false = refl
 command-stays c _ = λ m held awaited. refl
 
 -- ---- an ask
@@ -243,6 +261,12 @@ cells-plain v None dir path named h joined = refl
 cells-plain v (Some stores) dir path named h joined =
     recalled-sound v stores dir path named h.sound h.fit h.each h.exact joined
 
+-- and the kinds of lineage are those of the relation
+kinds-plain : SoundStoresTellTheKinds → (v : Version) (o : Option (List (Option NodeLineage))) → IsAnsweredBy v o
+    → kinds_by o v ≡ kinds_told v
+kinds-plain tell v None h = refl
+kinds-plain tell v (Some stores) h = tell v stores h.sound h.fit h.each h.holding h.exact
+
 -- the path of an ask that no rule refuses is joined
 ask-joined : (c : Holdings) (n : ℕ) (dir : Dir) (path : List Step) (named : List NamedCell)
     → judged c (order.Ask n dir path named) ≡ None → is_joined dir (version_of c n).flow path ≡ true
@@ -258,14 +282,17 @@ ask-joined c n dir path named free =
 abbrev beside : List Kept → Holdings × Response → SessionState × Response
 beside kept p = (state_of_log p.0 kept, p.1)
 
-accepted-plain : (c : Holdings) (kept : List Kept) (command : Command) → All (IsAnswering c) kept
-    → judged c command ≡ None
+accepted-plain : SoundStoresTellTheKinds → (c : Holdings) (kept : List Kept) (command : Command)
+    → All (IsAnswering c) kept → judged c command ≡ None
     → accepted (state_of_log c kept) command ≡ beside kept (changes.accepted c command)
-accepted-plain c kept (order.Ask n dir path named) all free =
+accepted-plain tell c kept (order.Ask n dir path named) all free =
     ap (λ (found : Cells). (state_of_log c kept, cells found))
     (cells-plain (version_of c n) (logged_of (state_of_log c kept) n) dir path named (found-answers c n kept all)
     (ask-joined c n dir path named free))
-accepted-plain c kept _ all free = refl
+accepted-plain tell c kept (order.Merged n) all free =
+    ap (λ (kinds : List ℕ). (state_of_log c kept, merged n kinds))
+    (kinds-plain tell (version_of c n) (logged_of (state_of_log c kept) n) (found-answers c n kept all))
+accepted-plain tell c kept _ all free = refl
 
 -- What is so of what a line did, by the session and by the catalogue: it is the same, and each entry of the log is
 -- still of a version that is answered by its stores.
@@ -273,38 +300,40 @@ record IsPlainly (kept : List Kept) (told : SessionState × Response) (plain : H
   same : told ≡ beside kept plain
   all : All (IsAnswering plain.0) kept
 
-judging-plain : (c : Holdings) (kept : List Kept) (command : Command) (rule : Option Refusal)
+judging-plain : SoundStoresTellTheKinds → (c : Holdings) (kept : List Kept) (command : Command) (rule : Option Refusal)
     → All (IsAnswering c) kept → judged c command ≡ rule
     → IsPlainly kept (after_judging (state_of_log c kept) command rule) (changes.after_judging c command rule)
-judging-plain c kept command None all is =
+judging-plain tell c kept command None all is =
     let d : Holdings = (changes.accepted c command).0 in
     record {
-      same = accepted-plain c kept command all is;
+      same = accepted-plain tell c kept command all is;
       all = all-turn (IsAnswering c) (IsAnswering d) kept (answering-stays c d (command-stays c command)) all;
     }
-judging-plain c kept command (Some rule) all is = record { same = refl; all = all }
+judging-plain tell c kept command (Some rule) all is = record { same = refl; all = all }
 
-reading-plain : (c : Holdings) (kept : List Kept) (r : Result Command Refusal) → All (IsAnswering c) kept
+reading-plain : SoundStoresTellTheKinds → (c : Holdings) (kept : List Kept) (r : Result Command Refusal)
+    → All (IsAnswering c) kept
     → IsPlainly kept (after_reading (state_of_log c kept) r) (changes.after_reading c r)
-reading-plain c kept (Ok command) all = judging-plain c kept command (judged c command) all refl
-reading-plain c kept (Err rule) all = record { same = refl; all = all }
+reading-plain tell c kept (Ok command) all = judging-plain tell c kept command (judged c command) all refl
+reading-plain tell c kept (Err rule) all = record { same = refl; all = all }
 
-line-plain : (c : Holdings) (kept : List Kept) (line : List ℕ) → All (IsAnswering c) kept
+line-plain : SoundStoresTellTheKinds → (c : Holdings) (kept : List Kept) (line : List ℕ) → All (IsAnswering c) kept
     → IsPlainly kept (after_line (state_of_log c kept) line) (changes.after_line c line)
-line-plain c kept line all = reading-plain c kept (reading line) all
+line-plain tell c kept line all = reading-plain tell c kept (reading line) all
 
-replies-plain : (c : Holdings) (kept : List Kept) (n : ℕ) (lines : List (List ℕ)) → All (IsAnswering c) kept
+replies-plain : SoundStoresTellTheKinds → (c : Holdings) (kept : List Kept) (n : ℕ) (lines : List (List ℕ))
+    → All (IsAnswering c) kept
     → replies_to (state_of_log c kept) n lines ≡ plain_replies c n lines
-replies-plain c kept n [] all = refl
-replies-plain c kept n (line ∷ lines) all = elim (cases_Bool (is_blank line)) [
-  | inl blank ↦ rw blank (replies-plain c kept (n + 1) lines all)
+replies-plain tell c kept n [] all = refl
+replies-plain tell c kept n (line ∷ lines) all = elim (cases_Bool (is_blank line)) [
+  | inl blank ↦ rw blank (replies-plain tell c kept (n + 1) lines all)
   | inr other ↦
-      let one = line-plain c kept line all in
+      let one = line-plain tell c kept line all in
       rw other (ap (λ (q : SessionState × Response). reply_line n q.1 ++ replies_to q.0 (n + 1) lines) one.same
       ∙ ap (λ (ys : List ℕ). reply_line n (changes.after_line c line).1 ++ ys)
-      (replies-plain (changes.after_line c line).0 kept (n + 1) lines one.all))
+      (replies-plain tell (changes.after_line c line).0 kept (n + 1) lines one.all))
 ]
 
-pub sound-logs-plain : SoundLogsArePlain
-sound-logs-plain disk at c kept bytes made sound =
-    replies-plain c kept 1 (lines_of bytes) (log-answers disk at c kept made sound)
+pub sound-logs-plain : SoundStoresTellTheKinds → SoundLogsArePlain
+sound-logs-plain tell disk at c kept bytes made sound =
+    replies-plain tell c kept 1 (lines_of bytes) (log-answers disk at c kept made sound)

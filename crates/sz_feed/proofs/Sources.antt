@@ -42,7 +42,8 @@ rest-still {X} T m all total a log only counts =
     some-all all _ (λ bytes. in-still T m (drop total bytes) a log only counts)
 
 -- where no read was made
-pub all-still : {X : Type 0} (T : Ghosts X) (z : SessionState) (at : ℕ) (all : Option (List ℕ)) (a : X) → IsLogOf T z.held at a
+pub all-still : {X : Type 0} (T : Ghosts X) (z : SessionState) (at : ℕ) (all : Option (List ℕ)) (a : X)
+    → IsLogOf T z.held at a
     → ((image found : List ℕ) → Told (T.disk a)
     (T.left_since a (T.moment a) image found → T.may_leave a image × Said (T.said a) found))
     → ((t : ℕ) (image found : List ℕ) → Told (T.disk a)
@@ -84,7 +85,8 @@ opened z e = record { held = z; pending = []; number = 1; end = e }
 abbrev pub FindsRead : {X : Type 0} → Ghosts X → SessionState → Option ℕ → Option (List ℕ) → ℕ → X → X → Type 0
 FindsRead T z e all total a b = IfSome all (λ bytes. FindsIn T (opened z e) (take total bytes) a b)
 
-opened-advances : (z : SessionState) (e : Option ℕ) (bytes : List ℕ) (left a b : Option (List ℕ)) (m : Moment) (count : ℕ)
+opened-advances : (z : SessionState) (e : Option ℕ) (bytes : List ℕ) (left a b : Option (List ℕ)) (m : Moment)
+    (count : ℕ)
     → HasAnswered z bytes left a b m count → Advances a b (opened z e) m (take count bytes)
 opened-advances z e bytes left a b m count h =
     let one = so_far-advances z bytes left a b m count h in
@@ -117,7 +119,8 @@ read-start {X} T z (Some bytes) left said m a so_far log only counts =
     in-still T (opened z m.end) [] a (is-moved T m (opened z m.end) a (sym so_far.alike.held) refl log) only counts
 
 -- the log went on from the opening
-from-opened : {X : Type 0} (T : Ghosts X) (z : SessionState) (bytes : List ℕ) (left said b : Option (List ℕ)) (l m : Moment)
+from-opened : {X : Type 0} (T : Ghosts X) (z : SessionState) (bytes : List ℕ) (left said b : Option (List ℕ))
+    (l m : Moment)
     (a x : X) → HasAnswered z bytes left said b l 0 → StaysBeside T l m a x → StaysBeside T (opened z l.end) m a x
 from-opened {X} T z bytes left said b l m a x so_far goes =
     stays-from T (opened z l.end) l m a x so_far.alike.held refl goes
@@ -229,7 +232,8 @@ behind-from {X} T c d h (Some at) (Some next) a x goes same =
 
 -- All bytes were read, and what is held at last is what is held behind the line that had not ended. So the log went on
 -- to what is durable behind all lines.
-pub all-behind : {X : Type 0} (T : Ghosts X) (z : SessionState) (all first left said b q : Option (List ℕ)) (l m n : Moment)
+pub all-behind : {X : Type 0} (T : Ghosts X) (z : SessionState) (all first left said b q : Option (List ℕ))
+    (l m n : Moment)
     (total : ℕ) (a x : X) → Answered z all first said b l 0 → Answered z all left said q m total → AreAll all total
     → StaysBeside T l n a x → n.held.held ≡ (after_lines m.held (last_line m.pending)).held
     → StandsBehind T z l.end all a x

@@ -174,7 +174,8 @@ past-limit z limit (Some bytes) left next a b m total count buffer at one so_far
     )
 
 -- a say failed in a turn
-pub turn-in_part : (z : SessionState) (all left next a b c : Option (List ℕ)) (m : Moment) (total count : ℕ) (buffer : List ℕ)
+pub turn-in_part : (z : SessionState) (all left next a b c : Option (List ℕ)) (m : Moment) (total count : ℕ)
+    (buffer : List ℕ)
     → Answered z all left a b m total → Gives left next buffer count → SaysPart b c (told_in m (take count buffer))
     → SaidInPart z all a c
 turn-in_part z None left next a b c m total count buffer so_far gives part = tt
@@ -189,7 +190,8 @@ turn-in_part z (Some bytes) left next a b c m total count buffer so_far gives pa
     subst Q front.1 (part-longer a c (told_in (start z) (take (total + count) bytes)) front.0 both)
 
 -- memory was refused in a turn
-pub turn-in_lines : (z : SessionState) (all left next a b c : Option (List ℕ)) (m : Moment) (total count : ℕ) (buffer : List ℕ)
+pub turn-in_lines : (z : SessionState) (all left next a b c : Option (List ℕ)) (m : Moment) (total count : ℕ)
+    (buffer : List ℕ)
     → Answered z all left a b m total → Gives left next buffer count
     → SaysFirst b c m.held m.number (cut_after m (take count buffer)).whole → SaidInLines z all a c
 turn-in_lines z None left next a b c m total count buffer so_far gives first = tt

@@ -79,7 +79,8 @@ first-alike s a b [] last alike writes = writes
 first-alike s a b (x ∷ xs) last alike (inl is) =
     inl (written-alike s.held (a ++ x) (b ++ x) (alike-append a b x alike) is)
 first-alike s a b (x ∷ xs) last alike (inr writes) =
-    inr (subst (λ (z : SessionState). WritesOne z xs) (after_lines-alike s (a ++ x) (b ++ x) [] (alike-append a b x alike))
+    inr (subst (λ (z : SessionState). WritesOne z xs)
+    (after_lines-alike s (a ++ x) (b ++ x) [] (alike-append a b x alike))
     writes)
 
 writes-alike : (m k : Moment) (bytes : List ℕ) → AreAlike m k → WritesOne m.held (cut_after m bytes).whole

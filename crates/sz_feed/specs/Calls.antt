@@ -48,7 +48,8 @@ SaysText (Err halt.NoMemory) said_before said text = Says said_before said []
 
 -- The replies of all of these lines were said, a first part of them where a say failed, and else
 -- those of the first so many, whole.
-abbrev pub SaysReplies : {U : Type 0} → Result U Halt → Option (List ℕ) → Option (List ℕ) → SessionState
+abbrev pub SaysReplies : {U : Type 0} → Result U Halt → Option (List ℕ) → Option (List ℕ)
+    → SessionState
     → ℕ → List (List ℕ) → Type 0
 SaysReplies (Ok u) said_before said s n lines = Says said_before said (replies_to s n lines)
 SaysReplies (Err halt.SayFault) said_before said s n lines =

@@ -59,7 +59,8 @@ pub record PassesAmong (before now : ℕ) (past since : ℕ → List ℕ → Lis
 
 -- So time passed from an old station to a new one, while these lines were answered by the session
 -- of a log that ended at a place; whatever stores the log had kept.
-abbrev pub FindsLines : {X : Type 0} → Ghosts X → ℕ → SessionState → ℕ → List (List ℕ) → X → X → Type 0
+abbrev pub FindsLines : {X : Type 0} → Ghosts X → ℕ → SessionState → ℕ → List (List ℕ) → X → X
+    → Type 0
 FindsLines T at s n lines old new = IfSome (T.disk old) (λ disk. (kept : List Kept)
     → IsWellMade disk at (durable s.held) kept
     → PassesAmong (T.moment old) (T.moment new) (T.left_since old) (T.left_since new)
@@ -104,13 +105,15 @@ FindsNext T m left total count old new =
     IfSome left (λ bytes. FindsIn T m (take count (drop total bytes)) old new)
 
 -- all lines of its bytes, from what was held as the session of a log began
-abbrev pub FindsAll : {X : Type 0} → Ghosts X → SessionState → Option ℕ → Option (List ℕ) → X → X → Type 0
+abbrev pub FindsAll : {X : Type 0} → Ghosts X → SessionState → Option ℕ → Option (List ℕ) → X → X
+    → Type 0
 FindsAll T s end left old new = IfSome left (λ bytes. IfSome end
     (λ at. FindsLines T at s 1 (lines_of bytes) old new))
 
 -- Where the source tells its bytes, the log went on from what it held to what is durable behind all
 -- of their lines, and no write is pending.
-abbrev pub StandsBehind : {X : Type 0} → Ghosts X → SessionState → Option ℕ → Option (List ℕ) → X → X
+abbrev pub StandsBehind : {X : Type 0} → Ghosts X → SessionState → Option ℕ → Option (List ℕ) → X
+    → X
     → Type 0
 StandsBehind T s end left old new = IfSome left (λ bytes. IfSome end (λ at.
     (next : ℕ) × GoesOn T s.held at (after_lines s (lines_of bytes)).held next old new))

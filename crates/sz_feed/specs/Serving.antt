@@ -51,7 +51,8 @@ SaidOfRead c (Some bytes) left said_before said = (n : ℕ) × (n ≤ length byt
 -- The source had more bytes than a session may have: those and one more were read, and what was
 -- said is the replies of the whole lines among those.
 abbrev pub SaidToLimit :
-    SessionState → ℕ → Option (List ℕ) → Option (List ℕ) → Option (List ℕ) → Option (List ℕ) → Type 0
+    SessionState → ℕ → Option (List ℕ) → Option (List ℕ) → Option (List ℕ) → Option (List ℕ)
+    → Type 0
 SaidToLimit c limit None left said_before said = ⊤
 SaidToLimit c limit (Some bytes) left said_before said = (limit < length bytes)
     × (left ≡ Some (drop (limit + 1) bytes))

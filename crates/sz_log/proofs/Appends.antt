@@ -8,7 +8,8 @@ use Rattle.sz_log.specs.Steps.{KeepsFront, AddsOrKeeps, Added, place_behind}
 use Rattle.sz_log.proofs.Moments.{joined_by, seen_as}
 use Rattle.sz_log.proofs.Tears.{place-inside, kept_log, torn_gate, opened_gate, staged}
 
-pub log_of : (o : Option (List ℕ)) (d : List ℕ) (at : ℕ) → o ≡ Some d → EndsAt o at → (es : List LogGroup) × IsLog d es at
+pub log_of : (o : Option (List ℕ)) (d : List ℕ) (at : ℕ) → o ≡ Some d → EndsAt o at
+    → (es : List LogGroup) × IsLog d es at
 log_of o d at is ends = subst (λ (p : Option (List ℕ)). EndsAt p at) is ends
 
 pub size_of : (o : Option (List ℕ)) (d : List ℕ) (n : ℕ) → o ≡ Some d → HasSize o n → n ≡ length d

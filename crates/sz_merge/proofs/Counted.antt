@@ -1,9 +1,7 @@
 -- How many kinds of lineage region pairs have that are the kinds.
 --
--- The key idea: where the pairs stand for an operator's relation, and no output cell is in two, the lineage of each
--- cell
--- of a pair's output set is the pair's input sets. So the pairs have exactly the lineages of the cells, but that of no
--- cell, and each of them once.
+-- The key idea: where no output cell is in two pairs, what they stand for at a cell of a pair's output set are the
+-- pair's input sets. So the pairs have exactly the lineages of the cells, but that of no cell, and each of them once.
 use Rattle.std.proofs.Common.{◌≡◌, ◌≢◌, ◌∙◌, ℕ, zero, suc, ◌+◌, ◌<◌, ◌≤◌, Bool, true, false, ◌&&◌, ◌==◌, not}
 use Rattle.std.proofs.Common.{List, [], ◌∷◌, map, length, get_or, refl, sym, ap, ap₂, subst, arith, inl, inr, All, Some}
 use Rattle.std.proofs.Common.{eqb-true, eq-eqb, true≢false}
@@ -17,21 +15,17 @@ use Rattle.std.proofs.lemmas.List.FromFn.{get_or-map-range_with_len, length-map-
 use Rattle.std.proofs.lemmas.Option.{slice_get_within, get_or_from_slice_get}
 use Rattle.std.proofs.lemmas.Option.{unwrap_or-slice_get, slice_get-map, same_Some}
 use Rattle.sz_cells.specs.declared.Cell.{Cell}
-use Rattle.sz_cells.specs.Extent.{Extent, holds, size_of, cell_of}
+use Rattle.sz_cells.specs.Extent.{Extent, size_of, cell_of}
 use Rattle.sz_cells.specs.Cells.{Cells, cells_where, has, no_cells}
 use Rattle.sz_cells.specs.Rising.{AreRising}
 use Rattle.sz_cells.specs.SetBytes.{IsSetOf}
-use Rattle.sz_cells.proofs.Sets.{same_truth, cells_where-ext, filter-range_ext, has-index, cell-held}
+use Rattle.sz_cells.proofs.Sets.{same_truth, cells_where-ext, filter-range_ext, has-index}
 use Rattle.sz_cells.proofs.Rising.{rising-filter, filter-false}
-use Rattle.sz_spec.specs.declared.op.Op.{Op}
-use Rattle.sz_spec.specs.Values.{Grid, extents_of, extent_at, input_at, no_extent, no_grid}
-use Rattle.sz_spec.specs.Shapes.{Site, output_extent}
-use Rattle.sz_spec.specs.Lineage.{related}
-use Rattle.sz_spec.specs.Kinds.{lineage_of, is_nothing, same_sets, different, kinds_of}
+use Rattle.sz_spec.specs.Values.{extent_at, no_extent}
+use Rattle.sz_spec.specs.Shapes.{Site}
+use Rattle.sz_spec.specs.Kinds.{is_nothing, same_sets, different}
 use Rattle.sz_frame.specs.Parts.{Pairing}
 use Rattle.sz_frame.specs.Stands.{set_of, full_stands}
-use Rattle.sz_frame.specs.Images.{measure_of}
-use Rattle.sz_frame.specs.Laws.{IsTheRelation}
 use Rattle.sz_region.specs.Putting.{HasShapes}
 use Rattle.sz_region.specs.FullBytes.{Listed, IsListed, listed_from, AreNumbersOf, AreNamesOf, BeginsRegions}
 use Rattle.sz_region.proofs.ReadShapes.{read-shapes}
@@ -206,13 +200,21 @@ first-index bound (x ∷ xs) rises some =
 
 -- ---- lineages
 
--- what the lemmas below take: region pairs that are the kinds, and stand for an operator's relation over some arrays
-pub record AreKindsOf (s : Site) (inputs : List Grid) (rs : List Pairing) : Type 0 where
-  pub shape : output_extent s.op s.ins ≡ s.out
-  pub inputs_shapes : extents_of inputs ≡ s.ins
+-- the lineage of output cell o by a test of cells: of each input the cells that pass
+abbrev pub lineage_by : Site → (ℕ → Cell → Cell → Bool) → Cell → List (List ℕ)
+lineage_by s stands o =
+    map (λ i. (cells_where (extent_at s.ins i) (stands i o)).indexes) (range_with_len 0 (length s.ins))
+
+-- the lineages of all output cells, but those of no cell
+abbrev pub lineages_by : Site → (ℕ → Cell → Cell → Bool) → List (List (List ℕ))
+lineages_by s stands =
+    filter (λ sets. not (is_nothing sets))
+    (map (λ k. lineage_by s stands (cell_of s.out k)) (range_with_len 0 (size_of s.out)))
+
+-- what the lemmas below take: region pairs that are the kinds, of sets of the operator's shapes
+pub record AreKindsOver (s : Site) (rs : List Pairing) : Type 0 where
   pub over : All (IsPairOver s.out s.ins) rs
   pub kinds : AreKinds rs
-  pub exact : IsTheRelation (measure_of s inputs) (full_stands rs)
 
 -- what stands for a cell of a pair's output set are the pair's input sets
 stands-own : (rs : List Pairing) (m : ℕ) (r : Pairing) (i : ℕ) (o x : Cell) → AreKinds rs → slice_get rs m ≡ Some r
@@ -228,66 +230,41 @@ stands-own rs m r i o x kinds at here =
     subst (λ (b : Pairing). has (set_of b i) x ≡ true) own both.1)
     (λ there. any-at p rs m r at (and_from (has r.out o) (has (set_of r i) x) here there))
 
-input-shape : (inputs : List Grid) (ins : List Extent) (i : ℕ) → extents_of inputs ≡ ins → i < length ins
-    → (input_at inputs i).extent ≡ extent_at ins i
-input-shape inputs ins i same inside =
-    let long : length inputs ≡ length ins = sym (length-map inputs (λ (g : Grid). g.extent)) ∙ ap length same in
-    ap (λ (g : Grid). g.extent) (unwrap_or-slice_get inputs i no_grid)
-    ∙ sym (get_or-map (λ (g : Grid). g.extent) inputs i no_grid no_extent (omega (arith, long, inside)))
-    ∙ ap (λ (es : List Extent). get_or es i no_extent) same
-    ∙ sym (unwrap_or-slice_get ins i no_extent)
-
-inputs-long : (inputs : List Grid) (ins : List Extent) → extents_of inputs ≡ ins → length inputs ≡ length ins
-inputs-long inputs ins same = sym (length-map inputs (λ (g : Grid). g.extent)) ∙ ap length same
-
 -- so the lineage of such a cell is the pair's
-lineage-own : (s : Site) (inputs : List Grid) (rs : List Pairing) (m : ℕ) (r : Pairing) (o : Cell)
-    → AreKindsOf s inputs rs → slice_get rs m ≡ Some r → has r.out o ≡ true
-    → lineage_of s.op inputs o ≡ indexes_in r.ins
-lineage-own s inputs rs m r o are at here =
+lineage-own : (s : Site) (rs : List Pairing) (m : ℕ) (r : Pairing) (o : Cell) → AreKindsOver s rs
+    → slice_get rs m ≡ Some r → has r.out o ≡ true → lineage_by s (full_stands rs) o ≡ indexes_in r.ins
+lineage-own s rs m r o are at here =
     let over = all-at (IsPairOver s.out s.ins) rs m r are.over at in
-    let long = inputs-long inputs s.ins are.inputs_shapes in
     let wide : length r.ins ≡ length s.ins =
     sym (length-map r.ins (λ (x : Cells). x.extent)) ∙ ap length over.shapes.ins in
-    let held : holds s.out o ≡ true =
-    subst (λ (e : Extent). holds e o ≡ true) over.shapes.out (and_parts (holds r.out.extent o) _ here).0 in
-    let f : ℕ → List ℕ = λ i. (cells_where (input_at inputs i).extent (related s.op inputs i o)).indexes in
+    let f : ℕ → List ℕ = λ i. (cells_where (extent_at s.ins i) (full_stands rs i o)).indexes in
     let set : (i : ℕ) → i < length s.ins → f i ≡ (set_of r i).indexes =
     λ i inside.
     let e = extent_at s.ins i in
-    ap (λ (d : Extent). (cells_where d (related s.op inputs i o)).indexes)
-    (input-shape inputs s.ins i are.inputs_shapes inside)
-    ∙ ap (λ (c : Cells). c.indexes) (cells_where-ext e (related s.op inputs i o) (has (set_of r i))
-    (λ x cell. sym (are.exact i o x inside held cell) ∙ stands-own rs m r i o x are.kinds at here))
+    ap (λ (c : Cells). c.indexes) (cells_where-ext e (full_stands rs i o) (has (set_of r i))
+    (λ x cell. stands-own rs m r i o x are.kinds at here))
     ∙ set-own e (set_of r i) (over.each i inside) in
-    same_lists (map f (range_with_len 0 (length inputs))) (indexes_in r.ins)
-    (length-map-range_with_len f 0 (length inputs) ∙
-    (long ∙ (sym wide ∙ sym (length-map r.ins (λ (x : Cells). x.indexes)))))
+    same_lists (map f (range_with_len 0 (length s.ins))) (indexes_in r.ins)
+    (length-map-range_with_len f 0 (length s.ins) ∙ (sym wide ∙ sym (length-map r.ins (λ (x : Cells). x.indexes))))
     (λ i d within.
-    let inside : i < length inputs = omega (arith, length-map-range_with_len f 0 (length inputs), within) in
-    let there : i < length r.ins = omega (arith, inside, long, wide) in
-    get_or-map-range_with_len f 0 (length inputs) i i d inside (omega arith)
-    ∙ set i (omega (arith, inside, long))
+    let inside : i < length s.ins = omega (arith, length-map-range_with_len f 0 (length s.ins), within) in
+    let there : i < length r.ins = omega (arith, inside, wide) in
+    get_or-map-range_with_len f 0 (length s.ins) i i d inside (omega arith)
+    ∙ set i inside
     ∙ ap (λ (c : Cells). c.indexes) (unwrap_or-slice_get r.ins i (no_cells no_extent))
     ∙ sym (get_or-map (λ (x : Cells). x.indexes) r.ins i (no_cells no_extent) d there))
 
 -- the lineage of a cell that is in no pair's output set is nothing
-lineage-none : (s : Site) (inputs : List Grid) (rs : List Pairing) (o : Cell) → AreKindsOf s inputs rs
-    → holds s.out o ≡ true → list_any (λ (r : Pairing). has r.out o) rs ≡ false
-    → is_nothing (lineage_of s.op inputs o) ≡ true
-lineage-none s inputs rs o are held none =
-    let long = inputs-long inputs s.ins are.inputs_shapes in
-    let f : ℕ → List ℕ = λ i. (cells_where (input_at inputs i).extent (related s.op inputs i o)).indexes in
-    all-empty f (length inputs) 0
+lineage-none : (s : Site) (rs : List Pairing) (o : Cell) → list_any (λ (r : Pairing). has r.out o) rs ≡ false
+    → is_nothing (lineage_by s (full_stands rs) o) ≡ true
+lineage-none s rs o none =
+    let f : ℕ → List ℕ = λ i. (cells_where (extent_at s.ins i) (full_stands rs i o)).indexes in
+    all-empty f (length s.ins) 0
     (λ i low high.
-    let inside : i < length s.ins = omega (arith, long, high) in
     let e = extent_at s.ins i in
-    ap (λ (d : Extent). (cells_where d (related s.op inputs i o)).indexes)
-    (input-shape inputs s.ins i are.inputs_shapes inside)
-    ∙ ap (λ (c : Cells). c.indexes) (cells_where-ext e (related s.op inputs i o) (λ x. false)
+    ap (λ (c : Cells). c.indexes) (cells_where-ext e (full_stands rs i o) (λ x. false)
     (λ x cell.
-    sym (are.exact i o x inside held cell)
-    ∙ false_from_ne_true (full_stands rs i o x)
+    false_from_ne_true (full_stands rs i o x)
     (λ stands.
     let one = any-found (λ (r : Pairing). has r.out o && has (set_of r i) x) rs stands in
     let both = and_parts (has one.1.out o) (has (set_of one.1 i) x) one.3 in
@@ -296,9 +273,9 @@ lineage-none s inputs rs o are held none =
 
 -- ---- how many
 
-codes-different : (s : Site) (inputs : List Grid) (rs : List Pairing) → AreKindsOf s inputs rs
+codes-different : (s : Site) (rs : List Pairing) → AreKindsOver s rs
     → AreDifferent (map (λ (r : Pairing). indexes_in r.ins) rs)
-codes-different s inputs rs are m n x at too =
+codes-different s rs are m n x at too =
     let code : Pairing → List (List ℕ) = λ r. indexes_in r.ins in
     let sets : Pairing → List Cells = λ r. r.ins in
     let a = mapped-at code rs m x at in
@@ -310,41 +287,36 @@ codes-different s inputs rs are m n x at too =
     are.kinds.different m n a.0.ins (slice_get-map sets rs m ∙ ap (option_map sets) a.1)
     (slice_get-map sets rs n ∙ (ap (option_map sets) b.1 ∙ ap Some (sym one)))
 
--- the lineages of the cells of a shape, but those of no cell
-abbrev lineages_over : Op → List Grid → Extent → List (List (List ℕ))
-lineages_over op inputs e =
-    filter (λ sets. not (is_nothing sets))
-    (map (λ k. lineage_of op inputs (cell_of e k)) (range_with_len 0 (size_of e)))
-
 not-from : (b : Bool) → b ≡ false → not b ≡ true
 not-from b fails = rw fails refl
 
 -- a lineage of a cell is a pair's
-cell-pair : (s : Site) (inputs : List Grid) (rs : List Pairing) (b : List (List ℕ)) → AreKindsOf s inputs rs
-    → list_any (same_sets b) (lineages_over s.op inputs s.out) ≡ true
+cell-pair : (s : Site) (rs : List Pairing) (b : List (List ℕ)) → AreKindsOver s rs
+    → list_any (same_sets b) (lineages_by s (full_stands rs)) ≡ true
     → list_any (same_sets b) (map (λ (r : Pairing). indexes_in r.ins) rs) ≡ true
-cell-pair s inputs rs b are found =
+cell-pair s rs b are found =
     let code : Pairing → List (List ℕ) = λ r. indexes_in r.ins in
-    let one = kept-found (λ sets. not (is_nothing sets)) (same_sets b) (λ k. lineage_of s.op inputs (cell_of s.out k))
+    let lineage : Cell → List (List ℕ) = lineage_by s (full_stands rs) in
+    let one = kept-found (λ sets. not (is_nothing sets)) (same_sets b) (λ k. lineage (cell_of s.out k))
     (size_of s.out) 0 found in
     let o = cell_of s.out one.0 in
-    let held : holds s.out o ≡ true = cell-held s.out one.0 (omega (arith, one.1)) in
     elim (cases_Bool (list_any (λ (r : Pairing). has r.out o) rs)) [
       | inl some ↦
           let pair = any-found (λ (r : Pairing). has r.out o) rs some in
           any-at (same_sets b) (map code rs) pair.0 (code pair.1)
           (slice_get-map code rs pair.0 ∙ ap (option_map code) pair.2)
-          (sets-same b (code pair.1) (sets-one b (lineage_of s.op inputs o) one.3
-          ∙ lineage-own s inputs rs pair.0 pair.1 o are pair.2 pair.3))
-      | inr none ↦ absurd (true≢false (sym one.2 ∙ (ap not (lineage-none s inputs rs o are held none))))
+          (sets-same b (code pair.1) (sets-one b (lineage o) one.3
+          ∙ lineage-own s rs pair.0 pair.1 o are pair.2 pair.3))
+      | inr none ↦ absurd (true≢false (sym one.2 ∙ (ap not (lineage-none s rs o none))))
     ]
 
 -- a pair's lineage is that of a cell
-pair-cell : (s : Site) (inputs : List Grid) (rs : List Pairing) (b : List (List ℕ)) → AreKindsOf s inputs rs
+pair-cell : (s : Site) (rs : List Pairing) (b : List (List ℕ)) → AreKindsOver s rs
     → list_any (same_sets b) (map (λ (r : Pairing). indexes_in r.ins) rs) ≡ true
-    → list_any (same_sets b) (lineages_over s.op inputs s.out) ≡ true
-pair-cell s inputs rs b are found =
+    → list_any (same_sets b) (lineages_by s (full_stands rs)) ≡ true
+pair-cell s rs b are found =
     let code : Pairing → List (List ℕ) = λ r. indexes_in r.ins in
+    let lineage : Cell → List (List ℕ) = lineage_by s (full_stands rs) in
     let one = any-found (same_sets b) (map code rs) found in
     let pair = mapped-at code rs one.0 one.1 one.2 in
     let r = pair.0 in
@@ -353,25 +325,21 @@ pair-cell s inputs rs b are found =
     let first = first-index (size_of s.out) r.out.indexes over.own.rising sides.out in
     let here : has r.out (cell_of s.out first.0) ≡ true =
     has-index r.out s.out first.0 over.own.extent first.1 ∙ first.2 in
-    let own = lineage-own s inputs rs one.0 r (cell_of s.out first.0) are pair.1 here in
+    let own = lineage-own s rs one.0 r (cell_of s.out first.0) are pair.1 here in
     let some : is_nothing (indexes_in r.ins) ≡ false =
     list_all-map (λ (set : List ℕ). length set == 0) (λ (x : Cells). x.indexes) r.ins ∙ sides.ins in
-    kept-from (λ sets. not (is_nothing sets)) (same_sets b) (λ k. lineage_of s.op inputs (cell_of s.out k))
-    (size_of s.out)
+    kept-from (λ sets. not (is_nothing sets)) (same_sets b) (λ k. lineage (cell_of s.out k)) (size_of s.out)
     0 first.0 (omega arith) (omega (arith, first.1))
-    (not-from (is_nothing (lineage_of s.op inputs (cell_of s.out first.0))) (ap is_nothing own ∙ some))
-    (sets-same b (lineage_of s.op inputs (cell_of s.out first.0)) (sets-one b one.1 one.3 ∙ (pair.2 ∙ sym own)))
+    (not-from (is_nothing (lineage (cell_of s.out first.0))) (ap is_nothing own ∙ some))
+    (sets-same b (lineage (cell_of s.out first.0)) (sets-one b one.1 one.3 ∙ (pair.2 ∙ sym own)))
 
--- there are as many pairs as kinds
-pub kinds-counted : (s : Site) (inputs : List Grid) (rs : List Pairing) → AreKindsOf s inputs rs
-    → length rs ≡ kinds_of s.op inputs
-kinds-counted s inputs rs are =
+-- there are as many pairs as kinds of lineage
+pub kinds-counted : (s : Site) (rs : List Pairing) → AreKindsOver s rs
+    → length rs ≡ different (lineages_by s (full_stands rs))
+kinds-counted s rs are =
     let code : Pairing → List (List ℕ) = λ r. indexes_in r.ins in
-    let out : output_extent s.op (extents_of inputs) ≡ s.out =
-    ap (output_extent s.op) are.inputs_shapes ∙ are.shape in
     sym (length-map rs code)
-    ∙ sym (different-length (map code rs) (codes-different s inputs rs are))
-    ∙ different-same (map code rs) (lineages_over s.op inputs s.out)
-    (λ b. same_truth (list_any (same_sets b) (map code rs)) (list_any (same_sets b) (lineages_over s.op inputs s.out))
-    (pair-cell s inputs rs b are) (cell-pair s inputs rs b are))
-    ∙ ap (λ (e : Extent). different (lineages_over s.op inputs e)) (sym out)
+    ∙ sym (different-length (map code rs) (codes-different s rs are))
+    ∙ different-same (map code rs) (lineages_by s (full_stands rs))
+    (λ b. same_truth (list_any (same_sets b) (map code rs)) (list_any (same_sets b) (lineages_by s (full_stands rs)))
+    (pair-cell s rs b are) (cell-pair s rs b are))

@@ -1,6 +1,6 @@
 -- The lemmas: of lineages made by tests, of marks, of groups, of kinds, of pairs that are kinds as they are, of stores
--- one after another, of stores on a shelf, of how many different lineages there are, and of the numbers that are told;
--- and rows of what the definitions compute.
+-- one after another, of stores on a shelf, of how many different lineages there are, of how many kinds what stands has,
+-- and of the numbers that are told, and that a task moves between threads; and rows of what the definitions compute.
 pub mod Sets
 pub mod Marked
 pub mod Grouped
@@ -10,5 +10,7 @@ pub mod Behind
 pub mod Swapped
 pub mod Different
 pub mod Counted
+pub mod Stood
 pub mod Told
+pub mod Crossing
 mod Rows

@@ -1,5 +1,5 @@
 -- Rows of region pairs that are the kinds of lineage and of ones that are not, of what is a merged store and of what is
--- none, of labels, and of the numbers that are told.
+-- none, of labels, of the numbers that are told, and of how many kinds a store has by what it stands for.
 --
 -- The key idea: on written-out sets the definitions compute. Expected values by hand.
 use Rattle.std.proofs.Common.{◌≡◌, ◌∙◌, ℕ, zero, suc, ◌<◌, true, false, ◌||◌, ◌==◌, List, [], ◌∷◌, Option, Some, None}
@@ -23,6 +23,7 @@ use Rattle.sz_merge.specs.Laws.{paired_in}
 use Rattle.sz_merge.specs.Lineages.{nothing, behind, joined, is_nothing}
 use Rattle.sz_merge.specs.Marks.{AreLabels, kinds_below}
 use Rattle.sz_merge.specs.Merged.{IsMergedTo, kinds_in}
+use Rattle.sz_merge.specs.Stood.{lineage_stood, kinds_stood, kinds_kept}
 
 -- some cells of a row of two, a region pair of one input, and two of which each has one cell on either side
 abbrev set : List ℕ → Cells
@@ -184,3 +185,69 @@ numbers-in = refl
 paired : paired_in (strategy.FullOneB ∷ strategy.PayOne ∷ strategy.Map ∷ strategy.FullManyF ∷ strategy.CompMany ∷ [])
     ≡ strategy.FullOneB ∷ strategy.FullManyF ∷ []
 paired = refl
+
+-- ---- kinds by what stands
+
+-- some cells of a row of three, a region pair of one input and one of two inputs, and the operators' shapes
+abbrev long : List ℕ → Cells
+long xs = record { extent = flat 1 3; indexes = xs }
+
+abbrev reach : List ℕ → List ℕ → Pairing
+reach out xs = record { out = long out; ins = long xs ∷ [] }
+
+abbrev reach-two : List ℕ → List ℕ → List ℕ → Pairing
+reach-two out xs ys = record { out = long out; ins = long xs ∷ long ys ∷ [] }
+
+abbrev over-three : Site
+over-three = record { op = op.Neg; ins = flat 1 3 ∷ []; out = flat 1 3 }
+
+abbrev over-both : Site
+over-both = record { op = op.Neg; ins = flat 1 3 ∷ flat 1 3 ∷ []; out = flat 1 3 }
+
+-- two pairs that share an output cell: behind that stand the cells of both, which is a third kind
+abbrev overlapping : List Pairing
+overlapping = reach (0 ∷ 1 ∷ []) (0 ∷ []) ∷ reach (1 ∷ 2 ∷ []) (1 ∷ []) ∷ []
+
+behind-shared : lineage_stood over-three (regions overlapping) (cell 1) ≡ (0 ∷ 1 ∷ []) ∷ []
+behind-shared = refl
+
+stood-shared : kinds_stood over-three (regions overlapping) ≡ 3
+stood-shared = refl
+
+-- cells of one lineage in two pairs are of one kind, and the cell between them is of none
+abbrev repeated : List Pairing
+repeated = reach (0 ∷ []) (2 ∷ []) ∷ reach (2 ∷ []) (2 ∷ []) ∷ []
+
+stood-once : kinds_stood over-three (regions repeated) ≡ 1
+stood-once = refl
+
+-- also where one has it of a pair, and the other of two
+stood-joined : kinds_stood over-three
+    (regions (reach (0 ∷ []) (0 ∷ 1 ∷ []) ∷ reach (2 ∷ []) (0 ∷ []) ∷ reach (2 ∷ []) (1 ∷ []) ∷ [])) ≡ 1
+stood-joined = refl
+
+-- an empty lineage is not counted
+behind-nothing : lineage_stood over-three (regions (reach (0 ∷ 1 ∷ []) [] ∷ [])) (cell 0) ≡ [] ∷ []
+behind-nothing = refl
+
+stood-nothing : kinds_stood over-three (regions (reach (0 ∷ 1 ∷ []) [] ∷ [])) ≡ 0
+stood-nothing = refl
+
+stood-nowhere : kinds_stood over-three (regions []) ≡ 0
+stood-nowhere = refl
+
+-- a lineage is of all inputs together: cells that differ in the second input alone are of two kinds, and so are those
+-- whose inputs are turned
+stood-second : kinds_stood over-both
+    (regions (reach-two (0 ∷ []) (1 ∷ []) [] ∷ reach-two (2 ∷ []) (1 ∷ []) (0 ∷ []) ∷ [])) ≡ 2
+stood-second = refl
+
+stood-turned : kinds_stood over-both
+    (regions (reach-two (0 ∷ []) (1 ∷ []) [] ∷ reach-two (2 ∷ []) [] (1 ∷ []) ∷ [])) ≡ 2
+stood-turned = refl
+
+-- a number for each store with region pairs, in the order of the stores
+kept-in : kinds_kept over-three (record { strategy = strategy.FullOneB; holding = regions overlapping }
+    ∷ record { strategy = strategy.CompMany; holding = entries true [] }
+    ∷ record { strategy = strategy.FullManyF; holding = regions repeated } ∷ []) ≡ 3 ∷ 1 ∷ []
+kept-in = refl

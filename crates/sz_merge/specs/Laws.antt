@@ -1,15 +1,24 @@
 -- What a reader may take for granted of merged stores: the numbers that are told are those of the
--- kinds of lineage. The law is proved of the definitions.
+-- kinds of lineage, of the stores that were merged and of an operator. The laws are proved of the
+-- definitions.
 use Rattle.std.specs.Prelude.{◌≡◌, ℕ, List, filter, map, Bool, true, false, Ok}
 use Rattle.sz_spec.specs.declared.modes.Mode.{Mode}
 use Rattle.sz_spec.specs.declared.modes.Mode.TheVariants as mode
 use Rattle.sz_spec.specs.declared.modes.Strategy.{Strategy}
 use Rattle.sz_spec.specs.Kinds.{kinds_of}
 use Rattle.sz_spec.specs.Modes.{mode_of}
-use Rattle.sz_spec.specs.Shapes.{shape_of}
-use Rattle.sz_store.specs.Kept.{NodeLineage}
+use Rattle.sz_spec.specs.Shapes.{Site, shape_of}
+use Rattle.sz_store.specs.Kept.{Keep, NodeLineage}
 use Rattle.sz_shelf.specs.Tags.{Tag, IsTag, StandsFor}
 use Rattle.sz_merge.specs.Merged.{AreMerged}
+use Rattle.sz_merge.specs.Stood.{kinds_kept}
+
+-- Whatever the stores of a node stand for, the number that is told once they are merged is, for
+-- each one that had region pairs, how many kinds of lineage it had.
+abbrev pub NumbersToldAreThoseKept : Type 0
+NumbersToldAreThoseKept = (s : Site) (list : List Strategy) (before : List Keep)
+    (after : NodeLineage) (bytes kinds : List ℕ) → AreMerged s list before after bytes kinds
+    → kinds ≡ kinds_kept s before
 
 -- stores of this mode keep region pairs
 abbrev pub keeps_pairs : Mode → Bool

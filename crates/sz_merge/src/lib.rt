@@ -10,6 +10,19 @@
 //! // merged.kinds[0] is how many kinds of lineage the store has, and merged.store stands for the
 //! // same as the store
 //! ```
+//!
+//! Beside asks, stores are merged on their shelf: [`merge_tasks`] makes a channel of tasks,
+//! [`hand_merge`] sends one, and [`employ_merger`] starts a thread that attends to them. A task
+//! that is not sent and a thread that is not started are no error, since a shelf that is not merged
+//! answers the same. That a task arrives and that a thread runs is only tested.
+//!
+//! ```text
+//! let (to, from) = merge_tasks(alloc)?;
+//! let worker = employ_merger(alloc, rt, &gate, &from)?;
+//! hand_merge(rt, &to, task);
+//! drop(to);
+//! worker.join(rt);   // each task that was sent was attended to
+//! ```
 #![tactic(auto)]
 
 ghost use Rattle.std.specs.Prelude.{◌≡◌, ℕ, List, [], true, length, All, IfOk, OnOk};
@@ -22,6 +35,7 @@ ghost use Rattle.sz_merge.specs.Merged.{AreMerged, AreRead};
 mod apart;
 mod gate;
 mod grouping;
+mod hiring;
 mod joining;
 mod kinds;
 pub mod laws;
@@ -32,6 +46,9 @@ mod reading;
 mod task;
 
 pub use crate::gate::{MergeGate, NoMergeGate};
+pub use crate::hiring::{
+    Receiver, Sender, employ_merger, hand_merge, merge_tasks, one_more_merger,
+};
 use crate::parts::{merge_parts, within_limits};
 pub use crate::task::{MergeTask, attend_merges};
 use std::alloc::Global;

@@ -42,8 +42,30 @@ pub fn attend_merges<G: MergeGate, R: Wait>(
     tasks: Receiver<MergeTask>,
     gate: &G,
 ) {
-    for task in tasks.iter(rt) {
-        let _ = merge_task(alloc, rt, task, gate);
+    attend_to_each(alloc, rt, tasks, gate);
+}
+
+/// What comes through a channel of tasks.
+pub(crate) trait Message: Drop {
+    /// The task that it is.
+    fn task(self) -> MergeTask;
+}
+
+impl Message for MergeTask {
+    fn task(self) -> MergeTask {
+        self
+    }
+}
+
+/// Merges the stores of each message's task, until the channel is closed.
+pub(crate) fn attend_to_each<M: Message, G: MergeGate, R: Wait>(
+    alloc: Global,
+    rt: &R,
+    messages: Receiver<M>,
+    gate: &G,
+) {
+    for message in messages.iter(rt) {
+        let _ = merge_task(alloc, rt, message.task(), gate);
     }
 }
 

@@ -5,6 +5,7 @@
 -- by hand. Sets are given by the row-major indexes of their cells.
 use Rattle.std.proofs.Common.{◌≡◌, ℕ, ℤ, pos, negsuc, List, [], ◌∷◌, map, length, Option, Some, refl, sym, ap, arith}
 use Rattle.std.proofs.Common.{true, false, true≢false}
+use Rattle.std.specs.Prelude.{is_some}
 use Rattle.sz_cells.specs.Extent.{Extent, flat}
 use Rattle.sz_cells.specs.Cells.{Cells}
 use Rattle.sz_spec.specs.declared.op.Op.TheVariants.{Neg, Add, Transpose, Lookup}
@@ -299,18 +300,25 @@ asked-mapping = refl
 pub asked-no_turn : (z : TableId) → IsAsked (growing z) (growing z) → ⊥
 asked-no_turn z asked = absurd (omega (arith, asked.1.turn.turns, ap turns_of asked.2))
 
--- a pass that took one turn in which it placed the piece, and one that sealed in it: neither looked
+-- a pass that took one turn in which it placed the piece, one that sealed in it, and one that keeps another store
+-- than before: none of them looked
 abbrev placing : TableId → Onlooker
 placing z = record (fresh z) { seen = 0 ∷ []; turns = 1 }
 
 abbrev sealing : TableId → Onlooker
 sealing z = record (fresh z) { seen = 0 ∷ []; saw = true; turns = 1; found = 0 ∷ [] }
 
+abbrev keeping : TableId → Onlooker
+keeping z = record (fresh z) { turns = 1; kept = Some kept }
+
 pub looked-placing : (z : TableId) → LookedOnce (fresh z) (placing z) → ⊥
 looked-placing z looked = absurd (omega (arith, ap (λ (ks : List ℕ). length ks) looked.seen))
 
 pub looked-sealing : (z : TableId) → LookedOnce (fresh z) (sealing z) → ⊥
 looked-sealing z looked = true≢false looked.saw
+
+pub looked-keeping : (z : TableId) → LookedOnce (fresh z) (keeping z) → ⊥
+looked-keeping z looked = true≢false (ap is_some looked.kept)
 
 -- the arrays of a view that is built are lent where its pass took a turn that found no seal, and nowhere else
 pub open-looked : (z : TableId) → FoundOpen (record (fresh z) { turns = 1 })

@@ -209,5 +209,5 @@ none-from (Some x) is = absurd (true≢false (sym is))
 
 pub starts-not-logged : StartsAreNotLogged
 starts-not-logged c n v new off =
-    ap (λ (es : List (ℕ × Version)). record c { versions = es })
+    ap (λ (es : List (ℕ × Version)). record (durable c) { versions = es })
     (start-settled c.versions n v off (none-from (version_numbered c n) new))

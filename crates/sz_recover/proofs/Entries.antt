@@ -189,41 +189,54 @@ once-more c v kept one new once m =
 -- ---- groups
 
 -- where the same versions are held, the entries are those of the versions as before
-versions-same : (c d : Holdings) (kept : List Kept) → d.versions ≡ c.versions → AreOfVersions c kept
+-- what is held changes no version, and of none a merge is asked
+record HasItsVersions (c d : Holdings) : Type 0 where
+  versions : d.versions ≡ c.versions
+  merges : d.merges ≡ c.merges
+
+versions-same : (c d : Holdings) (kept : List Kept) → HasItsVersions c d → AreOfVersions c kept
     → AreOfVersions d kept
 versions-same c d kept same are =
     let found : (m : ℕ) → version_numbered d m ≡ version_numbered c m =
-    λ m. ap (λ (es : List (ℕ × Version)). lookup (is_at (nat_cmp m)) es) same in
+    λ m. ap (λ (es : List (ℕ × Version)). lookup (is_at (nat_cmp m)) es) same.versions in
     record {
       each = All-weaker (IsEntryOf c) (IsEntryOf d) (λ k is. entry-same c d k (found k.number) is) kept are.each;
       once = λ m. are.once m ∙ sym (under-same c d m (found m));
+      unasked = same.merges ∙ are.unasked;
     }
 
-chosen : (t : Bool) (c x d : Holdings) → x.versions ≡ c.versions → (if t then Some x else None) ≡ Some d
-    → d.versions ≡ c.versions
+chosen : (t : Bool) (c x d : Holdings) → HasItsVersions c x → (if t then Some x else None) ≡ Some d
+    → HasItsVersions c d
 chosen false c x d same is = cc
-chosen true c x d same is = let one : x ≡ d = cc in sym (ap (λ (h : Holdings). h.versions) one) ∙ same
+chosen true c x d same is = let one : x ≡ d = cc in subst (HasItsVersions c) one same
 
 -- a line changes no version
 line-versions : (c d : Holdings) (kind : ℕ) (r : Result Command Refusal) → held_by c kind r ≡ Some d
-    → d.versions ≡ c.versions
+    → HasItsVersions c d
 line-versions c d kind (Err rule) is = cc
-line-versions c d kind (Ok (command.Array name array)) is =
-    let order = command.Array name array in
-    chosen (is_of_kind kind order && is_none (judged c order)) c (accepted c order).0 d refl is
-line-versions c d kind (Ok (command.Csv name array)) is =
-    let order = command.Csv name array in
-    chosen (is_of_kind kind order && is_none (judged c order)) c (accepted c order).0 d refl is
-line-versions c d kind (Ok (command.Layers name array)) is =
-    let order = command.Layers name array in
-    chosen (is_of_kind kind order && is_none (judged c order)) c (accepted c order).0 d refl is
-line-versions c d kind (Ok (command.Flow name flow)) is =
-    let order = command.Flow name flow in
-    chosen (is_of_kind kind order && is_none (judged c order)) c (accepted c order).0 d refl is
-line-versions c d kind (Ok (command.Strategy name node list)) is =
-    let order = command.Strategy name node list in
-    chosen (is_of_kind kind order && is_none (judged c order)) c (accepted c order).0 d refl is
-line-versions c d kind (Ok _) is = cc
+line-versions c d kind (Ok x) is = by x is where
+  by : (x : Command) → held_by c kind (Ok x) ≡ Some d → HasItsVersions c d
+  by (command.Array name array) is =
+      let order = command.Array name array in
+      chosen (is_of_kind kind order && is_none (judged c order)) c (accepted c order).0 d
+      (record { versions = refl; merges = refl }) is
+  by (command.Csv name array) is =
+      let order = command.Csv name array in
+      chosen (is_of_kind kind order && is_none (judged c order)) c (accepted c order).0 d
+      (record { versions = refl; merges = refl }) is
+  by (command.Layers name array) is =
+      let order = command.Layers name array in
+      chosen (is_of_kind kind order && is_none (judged c order)) c (accepted c order).0 d
+      (record { versions = refl; merges = refl }) is
+  by (command.Flow name flow) is =
+      let order = command.Flow name flow in
+      chosen (is_of_kind kind order && is_none (judged c order)) c (accepted c order).0 d
+      (record { versions = refl; merges = refl }) is
+  by (command.Strategy name node list) is =
+      let order = command.Strategy name node list in
+      chosen (is_of_kind kind order && is_none (judged c order)) c (accepted c order).0 d
+      (record { versions = refl; merges = refl }) is
+  by _ is = cc
 
 -- a version that is added has one entry
 version-more : (c : Holdings) (v : Version) (kept : List Kept) (one : Kept)
@@ -239,6 +252,7 @@ version-more c v kept one number awaited fit stored are =
           (All-weaker (IsEntryOf c) (IsEntryOf d) (entry-stays c one.number v both.1) kept are.each)
           (All-cons (IsEntryOf d) one [] new (All-nil (IsEntryOf d)));
       once = once-more c v kept one both.1 are.once;
+      unasked = are.unasked;
     }
 
 -- Behind a group that acts the entries are those of the versions, as they were before it.
@@ -274,7 +288,7 @@ each-keep c d (e ∷ es) kept more are all =
 
 -- Of nothing that is held there is no entry.
 none-kept : AreOfVersions no_holdings []
-none-kept = record { each = All-nil (IsEntryOf no_holdings); once = λ m. refl }
+none-kept = record { each = All-nil (IsEntryOf no_holdings); once = λ m. refl; unasked = refl }
 
 pub nothing_kept : (c : Holdings) (kept : List Kept) → c ≡ no_holdings → kept ≡ [] → AreOfVersions c kept
 nothing_kept c kept nothing none =

@@ -7,6 +7,7 @@ use Rattle.std.proofs.lemmas.Bool.{and_parts, eqb-true}
 use Rattle.sz_script.specs.Reading.{reading}
 use Rattle.sz_script.proofs.LawsLines.{are_right}
 use Rattle.sz_script.specs.declared.command.Command.{Command}
+use Rattle.sz_script.specs.declared.command.Command.TheVariants as command
 use Rattle.sz_script.specs.declared.refusal.Refusal.{Refusal}
 use Rattle.sz_catalogue.specs.Holdings.{Version, Holdings, no_holdings, version_numbered}
 use Rattle.sz_catalogue.specs.Starts.{workflow_of}
@@ -17,7 +18,7 @@ use Rattle.sz_log.specs.Log.{LogGroup}
 use Rattle.sz_bodies.specs.Bodies.{VersionBody}
 use Rattle.sz_bodies.specs.Fitting.{body_of}
 use Rattle.sz_bodies.specs.Lawful.{IsLawful, version_said}
-use Rattle.sz_recover.specs.Logs.{Kept, Acts, ActEach, is_of_kind, held_by}
+use Rattle.sz_recover.specs.Logs.{Kept, Acts, ActEach, IsWellMade, is_of_kind, held_by}
 use Rattle.sz_recover.specs.Growing.{IsInOrder, LogsAreInOrder}
 use Rattle.sz_recover.proofs.InOrder.{nothing-in-order, commands-keep, added-in-order, named-in}
 

@@ -5,6 +5,7 @@ use Rattle.std.proofs.Common.{map, refl, sym, ap, subst, ◌∙◌, arith, true,
 use Rattle.std.proofs.Common.{nat_lt, nat_le, Option, Some, None, is_none, is_some, option_map, unwrap_or}
 use Rattle.std.proofs.Common.{All, filter}
 use Rattle.std.specs.Prelude.{if◌then◌else◌}
+use Rattle.std.specs.Result.{result_err}
 use Rattle.std.specs.Cmp.{unsigned_tied}
 use Rattle.std.specs.Cmp.Lexicographic.{slice_cmp, same_text}
 use Rattle.std.specs.List.{list_all, slice_get, cons_option}
@@ -21,10 +22,11 @@ use Rattle.std.proofs.lemmas.List.Elements.{All-cons, All-nil, All-weaker, filte
 use Rattle.std.proofs.lemmas.List.Sums.{sum_by_push}
 use Rattle.std.proofs.lemmas.Map.{keys-set_value, length-set_value}
 use Rattle.std.proofs.lemmas.Map.Text.{is_eq-slice_cmp}
-use Rattle.sz_cells.specs.Extent.{size_of}
+use Rattle.sz_cells.specs.Extent.{Extent, size_of}
 use Rattle.sz_spec.specs.declared.modes.Strategy.{Strategy}
 use Rattle.sz_spec.specs.Flows.{Graph}
 use Rattle.sz_spec.specs.Values.{Grid}
+use Rattle.sz_spec.specs.FlowShapes.{output_shapes}
 use Rattle.sz_script.specs.Names.{is_name}
 use Rattle.sz_script.specs.Right.{IsRight}
 use Rattle.sz_script.specs.declared.command.BaseName.{BaseName}
@@ -35,11 +37,16 @@ use Rattle.sz_catalogue.specs.Holdings.{things_named, thing_numbered, array_vers
 use Rattle.sz_catalogue.specs.Holdings.{held_cells, output_cells, next_number, greatest}
 use Rattle.sz_catalogue.specs.Starts.{workflow_of, bases_of, version_started, first_lists}
 use Rattle.sz_catalogue.specs.Rules as rules
-use Rattle.sz_catalogue.specs.Rules.{judged, version_of, most_cells, most_versions}
+use Rattle.sz_catalogue.specs.Rules.{judged, first_of, version_of, most_cells, most_versions}
 use Rattle.sz_catalogue.specs.Changes.{with_array, with_flow, with_strategies, with_list, with_version}
-use Rattle.sz_catalogue.specs.Changes.{with_await}
+use Rattle.sz_catalogue.specs.Changes.{with_await, with_refreshed}
+use Rattle.sz_catalogue.specs.Refreshes.{base_at, version_on, array_refreshed}
+use Rattle.sz_catalogue.specs.Merges.{with_merge, is_merge_asked}
+use Rattle.sz_catalogue.proofs.Refreshed.{IsRefresh, refresh-known, set-extent, set-room, refresh-room}
+use Rattle.sz_catalogue.proofs.Refreshed.{shapes-stay, count-stays, names-stay, bases-held}
 use Rattle.sz_catalogue.proofs.Bases.{bases-length}
 use Rattle.sz_catalogue.proofs.Counts.{first-passed, neither, both, await-cells, added-cells, room-cells, array-room}
+use Rattle.sz_catalogue.proofs.Counts.{room-there}
 use Rattle.sz_catalogue.proofs.Counts.{start-known, start-count, start-room}
 use Rattle.sz_catalogue.proofs.NodeLists.{firsts-right, set-right}
 use Rattle.sz_catalogue.proofs.Numbers.{next-is_new}
@@ -136,7 +143,7 @@ array-in-order c name array order free =
       few = order.few;
       few_cells = omega (
         arith,
-        (array-room c name array free).1,
+        (room-there c array (array-room c name array free)).1,
         sum_by_push (λ (x : Named Grid). size_of x.thing.extent) c.arrays one,
       );
     }
@@ -356,6 +363,51 @@ await-in-order c n order free =
       few_cells = omega (arith, order.few_cells, await-cells c n free);
     }
 
+-- ---- a refresh: an array more, and a version on it
+
+refresh-in-order : (c : Holdings) (n i : ℕ) (g : Grid) → IsInOrder c → IsRefresh c n i
+    → g.extent ≡ (base_at (version_of c n) i).array.extent → IsInOrder (with_refreshed c n i g)
+refresh-in-order c n i g order known same =
+    let v = version_of c n in
+    let name = (base_at v i).name in
+    let d : Holdings = with_array c name g in
+    let own = order.each n v (version-found c n known.there) in
+    let free : judged c (command.Array name g) ≡ None =
+    ap (λ (b : Bool). first_of ((b, refusal.NoRoomForArray) ∷ [])) (set-room c n i g known.input same known.arrays) in
+    let further : IsVersionIn d (next_number c) (version_on c v i g) = record {
+      some = one-more (greatest (keys_of c.versions));
+      names = subst (λ (ns : List (List ℕ)). list_all is_name (v.flow_name ∷ ns) ≡ true) (sym (names-stay c v i g))
+          own.names;
+      flow = own.flow;
+      base = bases-held c v i g own.base;
+      count = count-stays c v i g ∙ own.count;
+      fits = ap (λ (shapes : List Extent). result_err (output_shapes v.flow shapes)) (shapes-stay c v i g same)
+          ∙ own.fits;
+      lists = own.lists;
+    } in
+    added-in-order d (next_number c) (version_on c v i g) (array-in-order c name g order free)
+    (next-is_new c.versions (next_number c) (omega arith)) (refresh-room c n i g known.input same known.versions)
+    further where
+      one-more : (k : ℕ) → nat_le 1 (k + 1) ≡ true
+      one-more k = grind (arith, nat_tests)
+
+-- ---- a merge that is asked is nothing that the order speaks of
+
+merge-in-order : (c : Holdings) (n : ℕ) → IsInOrder c → IsInOrder (with_merge c n)
+merge-in-order c n order = at (is_merge_asked c n) where
+  at : (b : Bool) → IsInOrder (if b then c else record c { merges = c.merges ++ n ∷ [] })
+  at true = order
+  at false =
+      let d : Holdings = record c { merges = c.merges ++ n ∷ [] } in
+      let keeps : KeepsHeld c d = record { flows = λ name g is. is; arrays = λ name k g is. is } in
+      record {
+        flows = order.flows;
+        rising = order.rising;
+        each = λ m v is. version-kept c d m v keeps (order.each m v is);
+        few = order.few;
+        few_cells = order.few_cells;
+      }
+
 -- ---- commands
 
 pub commands-keep : CommandsKeepOrder
@@ -366,4 +418,8 @@ commands-keep c (command.Flow name flow) order right free = flow-in-order c name
 commands-keep c (command.Strategy name node list) order right free = strategies-in-order c name node list order free
 commands-keep c (command.Start name base) order right free = start-in-order c name base order right free
 commands-keep c (command.Await n) order right free = await-in-order c n order free
+commands-keep c (command.Refresh n i set) order right free =
+    refresh-in-order c n i (array_refreshed (version_of c n) i set) order (refresh-known c n i set free)
+    (set-extent (base_at (version_of c n) i).array set)
+commands-keep c (command.Merge n) order right free = merge-in-order c n order
 commands-keep c _ order right free = order

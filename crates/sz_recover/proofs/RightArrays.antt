@@ -10,6 +10,7 @@ use Rattle.sz_cells.specs.Extent.{is_extent}
 use Rattle.sz_cells.proofs.Shapes.{within-sides, layered-is_extent}
 use Rattle.sz_spec.specs.declared.modes.Strategy.{Strategy}
 use Rattle.sz_script.specs.declared.command.BaseName.{BaseName}
+use Rattle.sz_script.specs.declared.command.NewCell.{NewCell}
 use Rattle.sz_script.specs.declared.command.Command.{Command}
 use Rattle.sz_script.specs.declared.command.Command.TheVariants as command
 use Rattle.sz_script.specs.Fields.{has_fields, at, list_at, number_in, list_in}
@@ -23,6 +24,9 @@ use Rattle.sz_script.specs.Forms.Flow.{flow_form, with_flow}
 use Rattle.sz_script.specs.Forms.Strategy.{strategy_form}
 use Rattle.sz_script.specs.Forms.Start.{start_form, base_in, with_base}
 use Rattle.sz_script.specs.Forms.Plan.{plan_form, within_units}
+use Rattle.sz_script.specs.Forms.Refresh.{refresh_form, new_cell_in, with_set}
+use Rattle.sz_script.specs.Forms.Merge.{merge_form}
+use Rattle.sz_script.specs.Forms.Merged.{merged_form}
 use Rattle.sz_script.specs.Forms.Await.{await_form}
 use Rattle.sz_script.specs.Forms.Ask.{ask_form, as_ask}
 use Rattle.sz_script.specs.Forms.Explain.{explain_form, as_explain}
@@ -161,6 +165,24 @@ await-draft : (d : _) (x : Draft) → await_form.draft d ≡ Some x → IsRightD
 await-draft d x is =
     mapped IsRightDraft (λ (n : ℕ). plain (command.Await n)) (at number_in (codes "await") d) x (λ n bad many. tt) is
 
+merge-draft : (d : _) (x : Draft) → merge_form.draft d ≡ Some x → IsRightDraft x
+merge-draft d x is =
+    mapped IsRightDraft (λ (n : ℕ). plain (command.Merge n)) (at number_in (codes "merge") d) x (λ n bad many. tt) is
+
+merged-draft : (d : _) (x : Draft) → merged_form.draft d ≡ Some x → IsRightDraft x
+merged-draft d x is =
+    mapped IsRightDraft (λ (n : ℕ). plain (command.Merged n)) (at number_in (codes "merged") d) x (λ n bad many. tt) is
+
+refresh-draft : (d : _) (x : Draft) → refresh_form.draft d ≡ Some x → IsRightDraft x
+refresh-draft d x is =
+    let set : Option (List NewCell) = list_at new_cell_in (codes "set") d in
+    let input : Option ℕ = at number_in (codes "input") d in
+    let from_version : ℕ → Option Draft =
+    λ n. option_and_then (λ i. option_map (with_set n i) set) input in
+    found IsRightDraft from_version (at number_in (codes "refresh") d) x
+    (λ n one. found IsRightDraft (λ (i : ℕ). option_map (with_set n i) set) input x
+    (λ i two. mapped IsRightDraft (with_set n i) set x (λ s bad many. tt) two) one) is
+
 ask-draft : (d : _) (x : Draft) → ask_form.draft d ≡ Some x → IsRightDraft x
 ask-draft d x is = mapped IsRightDraft as_ask (question_in (codes "ask") d) x (λ q bad many. tt) is
 
@@ -188,6 +210,9 @@ by-form (f ∷ fs) d x all is = choose (has_fields f.fields d) (all.0 d x) (by-f
   choose true here later one = here one
   choose false here later one = later one
 
+looks-right : AreRightForms (await_form ∷ ask_form ∷ explain_form ∷ show_form ∷ [])
+looks-right = (await-draft, (ask-draft, (explain-draft, (show-draft, tt))))
+
 forms-right : AreRightForms forms
 forms-right = (
   array-draft,
@@ -199,7 +224,7 @@ forms-right = (
         flow-draft,
         (
           strategy-draft,
-          (start-draft, (plan-draft, (await-draft, (ask-draft, (explain-draft, (show-draft, tt)))))),
+          (start-draft, (plan-draft, (refresh-draft, (merge-draft, (merged-draft, looks-right))))),
         ),
       ),
     ),

@@ -124,21 +124,18 @@ strategies-right c name node list right held =
           (there-is (flow_named c name) held) found);
     }
 
-commands-right : (c : Holdings) (order : Command) → IsRightHeld c → IsRight order → HasRightArray order
-    → judged c order ≡ None → IsRightHeld (accepted c order).0
-commands-right c (command.Array name array) right is own free = array-right c name array right own
-commands-right c (command.Csv name array) right is own free = array-right c name array right own
-commands-right c (command.Layers name array) right is own free = array-right c name array right own
-commands-right c (command.Flow name flow) right is own free =
+lines-right : (c : Holdings) (kind : ℕ) (order : Command) → is_of_kind kind order ≡ true → IsRightHeld c
+    → IsRight order → HasRightArray order → judged c order ≡ None → IsRightHeld (accepted c order).0
+lines-right c kind (command.Array name array) of right is own free = array-right c name array right own
+lines-right c kind (command.Csv name array) of right is own free = array-right c name array right own
+lines-right c kind (command.Layers name array) of right is own free = array-right c name array right own
+lines-right c kind (command.Flow name flow) of right is own free =
     flow-right c name flow right (and_parts (list_all is_name (name ∷ [])) (is_none (flow_fault flow)) is).1
-commands-right c (command.Strategy name node list) right is own free =
+lines-right c kind (command.Strategy name node list) of right is own free =
     strategies-right c name node list right
     (first-passed (rules.has_no_flow c name) refusal.NoSuchFlow
     ((rules.has_bad_strategies c name node list, refusal.BadStrategies) ∷ []) free).0
-commands-right c (command.Start name base) right is own free =
-    record { arrays = right.arrays; flows = right.flows }
-commands-right c (command.Await n) right is own free = record { arrays = right.arrays; flows = right.flows }
-commands-right c _ right is own free = right
+lines-right c kind _ of right is own free = absurd (true≢false (sym of))
 
 -- ---- and so does a group
 
@@ -146,14 +143,14 @@ line-right : (c d : Holdings) (kind : ℕ) (line : List ℕ) (r : Result Command
     → IsRightHeld c → held_by c kind r ≡ Some d → IsRightHeld d
 line-right c d kind line (Err rule) read right held = cc
 line-right c d kind line (Ok x) read right held =
-    by (is_of_kind kind x) (judged c x) refl held where
-      by : (b : Bool) (o : Option Refusal) → judged c x ≡ o
+    by (is_of_kind kind x) refl (judged c x) refl held where
+      by : (b : Bool) → is_of_kind kind x ≡ b → (o : Option Refusal) → judged c x ≡ o
           → (if b && is_none o then Some (accepted c x).0 else None) ≡ Some d → IsRightHeld d
-      by false o is here = cc
-      by true (Some rule) is here = cc
-      by true None is here =
+      by false of o is here = cc
+      by true of (Some rule) is here = cc
+      by true of None is here =
           let same : (accepted c x).0 ≡ d = cc in
-          subst IsRightHeld same (commands-right c x right (are_right line x read) (arrays-right line x read) is)
+          subst IsRightHeld same (lines-right c kind x of right (are_right line x read) (arrays-right line x read) is)
 
 pub acts-right : (c d : Holdings) (e : LogGroup) (kept : List Kept) → IsRightHeld c → Acts c e d kept → IsRightHeld d
 acts-right c d e kept right (inl line) = line-right c d e.kind e.body (reading e.body) refl right line.held

@@ -49,6 +49,7 @@ held = record {
   arrays = record { name = 97 ∷ []; thing = array } ∷ [];
   flows = (102 ∷ [], record { graph = version.flow; lists = version.lists }) ∷ [];
   versions = (1, version) ∷ [];
+  merges = [];
 }
 
 abbrev run : Execution

@@ -33,9 +33,12 @@ use Rattle.sz_bodies.specs.Lawful.{IsLawful, version_said}
 use Rattle.sz_recover.specs.Logs.{Kept, Acts, AreSpelled, IsWellMade, IsMade}
 use Rattle.sz_recover.specs.Logs.{is_of_kind}
 
--- what is held, but for the versions that were not awaited
+-- what is held, but for the versions that were not awaited, and for which merges were asked
 abbrev pub durable : Holdings → Holdings
-durable c = record c { versions = filter (λ (e : ℕ × Version). e.1.awaited) c.versions }
+durable c = record c {
+  versions = filter (λ (e : ℕ × Version). e.1.awaited) c.versions;
+  merges = [];
+}
 
 -- ---- what a session holds
 

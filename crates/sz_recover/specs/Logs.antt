@@ -59,7 +59,8 @@ pub record ActsAsLine (c : Holdings) (e : LogGroup) (d : Holdings) (kept : List 
   pub none : kept ≡ []
 
 -- the group is the lawful body of a version with these stores, which is added
-pub record ActsAsVersion (c : Holdings) (e : LogGroup) (d : Holdings) (kept : List Kept) : Type 0 where
+pub record ActsAsVersion (c : Holdings) (e : LogGroup) (d : Holdings) (kept : List Kept)
+    : Type 0 where
   pub kind : e.kind ≡ 4
   pub one : Kept
   pub version : Version

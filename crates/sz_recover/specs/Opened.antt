@@ -1,6 +1,6 @@
 -- What is kept of the versions of a log, whether or not its disk is told: an entry for each version
 -- that is held, and no other.
-use Rattle.std.specs.Prelude.{◌≡◌, ℕ, ◌≤◌, ◌==◌, List, map, true, false, if◌then◌else◌, All}
+use Rattle.std.specs.Prelude.{◌≡◌, ℕ, ◌≤◌, ◌==◌, List, [], map, true, false, if◌then◌else◌, All}
 use Rattle.std.specs.Prelude.{Option, Some, None, ⊤}
 use Rattle.std.specs.List.{count_by, Contains}
 use Rattle.sz_store.specs.Kept.{NodeLineage, stored_in}
@@ -30,10 +30,12 @@ entries_under n kept = count_by (λ k. k.number == n) kept
 abbrev pub versions_under : Holdings → ℕ → ℕ
 versions_under c n = if has_no_version c n then 0 else 1
 
--- The entries are those of the versions that are held: each is of one, and each version has one.
+-- The entries are those of the versions that are held: each is of one, and each version has one;
+-- and of no version a merge was asked.
 pub record AreOfVersions (c : Holdings) (kept : List Kept) : Type 0 where
   pub each : All (IsEntryOf c) kept
   pub once : (n : ℕ) → entries_under n kept ≡ versions_under c n
+  pub unasked : c.merges ≡ []
 
 -- ---- laws
 

@@ -34,5 +34,5 @@ stored-prop : (kept : Option NodeLineage) → IsProp (HasItsStores kept)
 stored-prop None = hlevel
 stored-prop (Some kept) = hlevel props
 
-pub entries-prop : (c : Holdings) (kept : List Kept) → IsProp (AreOfVersions c kept)
-entries-prop c kept = hlevel (props, fit-prop, stored-prop)
+pub own-prop : (c : Holdings) (kept : List Kept) → IsProp (AreOfVersions c kept)
+own-prop c kept = hlevel (props, fit-prop, stored-prop)

@@ -1,5 +1,6 @@
-//! What may be taken for granted of the bodies of what is held, of opened logs, and of how a log grows beside what
-//! a session holds. Each function is a law: its clauses say it, and it does nothing.
+//! What may be taken for granted of the bodies of what is held, of opened logs, and of how a log
+//! grows beside what a session holds. Each function is a law: its clauses say it, and it does
+//! nothing.
 ghost use Rattle.sz_recover.specs.Growing.{ReadGroupsAreLogs, LogsAreSpelled, WellMadeLogsEnd};
 ghost use Rattle.sz_recover.specs.Growing.{MadeLogsEnd, LogsGrow, MadeLogsGrow, LogsGrowOrStay};
 ghost use Rattle.sz_recover.specs.Growing.{LinesAct};

@@ -7,7 +7,7 @@ ghost use Rattle.sz_catalogue.specs.Holdings.{no_holdings};
 ghost use Rattle.sz_recover.specs.Logs.{IsMade, SaysWhy, TakesNext, SaysBad, IsNext, IsFurther};
 ghost use Rattle.sz_recover.specs.Logs.{IsPlain, has_read};
 ghost use Rattle.sz_recover.specs.Opened.{AreOfVersions};
-ghost use Rattle.sz_recover.specs.Props.{entries-prop};
+ghost use Rattle.sz_recover.specs.Props.{own-prop};
 
 use crate::groups::{KeptVersion, act};
 use std::alloc::{AllocError, AllocFailed, Global};
@@ -24,7 +24,7 @@ pub struct Recovered {
     pub catalogue: Catalogue,
     pub end: LogEnd,
     pub stores: Vec<KeptVersion>,
-    ghost entries: { AreOfVersions catalogue stores.items } by { entries-prop catalogue stores.items },
+    ghost entries: { AreOfVersions catalogue stores.items } by { own-prop catalogue stores.items },
 }
 
 /// Why a log was not opened.

@@ -1,10 +1,10 @@
 //! Stored lineage: its values and its bytes. Region pairs, payload entries and the lineages of
-//! pieces are those of `sz_frame`; here stand the bytes of cell sets, and of stores: region pairs and
-//! payload entries over numbered sets. `docs/FORMATS.md` describes them.
+//! pieces are those of `sz_frame`; here stand the bytes of cell sets, and of stores: region pairs
+//! and payload entries over numbered sets. `docs/FORMATS.md` describes them.
 //!
 //! [`put_set`] and [`take_set`] write and read the bytes of a cell set, [`put_regions`] and
-//! [`take_regions`] those of a store of region pairs, [`put_entries`] and [`take_entries`] those of a
-//! store of payload entries. A store that has its sets by number already writes them by
+//! [`take_regions`] those of a store of region pairs, [`put_entries`] and [`take_entries`] those of
+//! a store of payload entries. A store that has its sets by number already writes them by
 //! [`put_numbered`] or [`put_numbered_entries`].
 //!
 //! ```
@@ -15,8 +15,8 @@
 //! ```
 //!
 //! To whoever changes this crate: what is read is told over the bytes, by where a store begins and
-//! where it ends (`specs/Stores`), and each part is read in one way only. [`laws`] says that what is
-//! written is read again whatever follows it.
+//! where it ends (`specs/Stores`), and each part is read in one way only. [`laws`] says that what
+//! is written is read again whatever follows it.
 #![tactic(auto)]
 
 mod apart;

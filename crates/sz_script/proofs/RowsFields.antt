@@ -111,6 +111,61 @@ of_plan : AreTold read_as (
 unfolding serde_json_on_literals is_utf8 chars
 of_plan = refl
 
+of_refresh : AreTold read_as (
+    row (codes "{\"refresh\":1,\"input\":0,\"set\":[]}") []
+    ∷ row (codes "{\"refresh\":1,\"input\":0,\"set\":[[0,0,7]]}") []
+    ∷ row (codes "{\"refresh\":1,\"input\":0,\"set\":[[0,0,null]]}") []
+    ∷ row (codes "{\"refresh\":1,\"input\":0,\"set\":[[0,0,-9223372036854775808],[1,0,0,7]]}") []
+    ∷ row (codes "{\"refresh\":1,\"input\":0,\"set\":[[0,0,9223372036854775808]]}") (3 ∷ [])
+    ∷ row (codes "{\"refresh\":1,\"input\":0,\"set\":[[0,0,1.0]]}") (3 ∷ [])
+    ∷ row (codes "{\"refresh\":1,\"input\":0,\"set\":[[0,0,\"7\"]]}") (3 ∷ [])
+    ∷ row (codes "{\"refresh\":1,\"input\":0,\"set\":[[0,0,true]]}") (3 ∷ [])
+    ∷ row (codes "{\"refresh\":1,\"input\":0,\"set\":[[0,0]]}") (3 ∷ [])
+    ∷ row (codes "{\"refresh\":1,\"input\":0,\"set\":[[0,0,0,0,7]]}") (3 ∷ [])
+    ∷ row (codes "{\"refresh\":1,\"input\":0,\"set\":[[-1,0,7]]}") (3 ∷ [])
+    ∷ row (codes "{\"refresh\":1,\"input\":0,\"set\":[[0,4294967296,7]]}") (3 ∷ [])
+    ∷ row (codes "{\"refresh\":1,\"input\":0,\"set\":[[0,-1,0,7]]}") (3 ∷ [])
+    ∷ row (codes "{\"refresh\":1,\"input\":0,\"set\":[7]}") (3 ∷ [])
+    ∷ row (codes "{\"refresh\":1,\"input\":0,\"set\":7}") (3 ∷ [])
+    ∷ row (codes "{\"refresh\":1,\"input\":0}") (3 ∷ [])
+    ∷ row (codes "{\"refresh\":1,\"set\":[]}") (3 ∷ [])
+    ∷ row (codes "{\"input\":0,\"set\":[]}") (3 ∷ [])
+    ∷ row (codes "{\"refresh\":\"1\",\"input\":0,\"set\":[]}") (3 ∷ [])
+    ∷ row (codes "{\"refresh\":1,\"input\":-1,\"set\":[]}") (3 ∷ [])
+    ∷ row (codes "{\"refresh\":1,\"input\":0,\"set\":[],\"more\":1}") (3 ∷ [])
+    ∷ row (codes "{\"refresh\":1,\"input\":0,\"set\":7,\"set\":[]}") []
+    ∷ [])
+unfolding serde_json_on_literals is_utf8 chars
+of_refresh = refl
+
+of_merge : AreTold read_as (
+    row (codes "{\"merge\":1}") []
+    ∷ row (codes "{\"merge\":4294967295}") []
+    ∷ row (codes "{\"merge\":4294967296}") (3 ∷ [])
+    ∷ row (codes "{\"merge\":\"1\"}") (3 ∷ [])
+    ∷ row (codes "{\"merge\":1,\"more\":1}") (3 ∷ [])
+    ∷ row (codes "{\"merge\":0,\"merge\":1}") []
+    ∷ [])
+unfolding serde_json_on_literals is_utf8 chars
+of_merge = refl
+
+of_merged : AreTold read_as (
+    row (codes "{\"merged\":1}") []
+    ∷ row (codes "{\"merged\":4294967295}") []
+    ∷ row (codes "{\"merged\":4294967296}") (3 ∷ [])
+    ∷ row (codes "{\"merged\":\"1\"}") (3 ∷ [])
+    ∷ row (codes "{\"merged\":1,\"more\":1}") (3 ∷ [])
+    ∷ row (codes "{\"merged\":0,\"merged\":1}") []
+    ∷ [])
+unfolding serde_json_on_literals is_utf8 chars
+of_merged = refl
+
+of_both : AreTold read_as (
+    row (codes "{\"merge\":1,\"merged\":1}") (3 ∷ [])
+    ∷ [])
+unfolding serde_json_on_literals is_utf8 chars
+of_both = refl
+
 of_await : AreTold read_as (
     row (codes "{\"await\":1}") []
     ∷ row (codes "{\"await\":1,\"more\":1}") (3 ∷ [])

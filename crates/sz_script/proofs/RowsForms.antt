@@ -61,6 +61,26 @@ line-plan_turned : reading (codes "{\"forward\":3,\"back\":2,\"units\":65537,\"b
 unfolding serde_json_on_literals is_utf8 chars
 line-plan_turned = refl
 
+line-refresh : reading (codes "{\"refresh\":1,\"input\":2,\"set\":[[3,4,-5],[6,7,8,null],[3,4,9]]}")
+    ≡ Ok (command.Refresh 1 2 (
+    record { layer = 0; row = 3; col = 4; value = Some (negsuc 4) }
+    ∷ record { layer = 6; row = 7; col = 8; value = None }
+    ∷ record { layer = 0; row = 3; col = 4; value = Some (pos 9) } ∷ []))
+unfolding serde_json_on_literals is_utf8 chars
+line-refresh = refl
+
+line-refresh_none : reading (codes "{\"set\":[],\"input\":0,\"refresh\":1}") ≡ Ok (command.Refresh 1 0 [])
+unfolding serde_json_on_literals is_utf8 chars
+line-refresh_none = refl
+
+line-merge : reading (codes "{\"merge\":1}") ≡ Ok (command.Merge 1)
+unfolding serde_json_on_literals is_utf8 chars
+line-merge = refl
+
+line-merged : reading (codes "{\"merged\":1}") ≡ Ok (command.Merged 1)
+unfolding serde_json_on_literals is_utf8 chars
+line-merged = refl
+
 line-await : reading (codes "{\"await\":1}") ≡ Ok (command.Await 1)
 unfolding serde_json_on_literals is_utf8 chars
 line-await = refl

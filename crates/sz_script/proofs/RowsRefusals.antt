@@ -29,5 +29,14 @@ held-strategies = refl
 held-not_awaited : is_of_lines refusal.NotAwaited ≡ false
 held-not_awaited = refl
 
+held-building : is_of_lines refusal.StillBuilt ≡ false
+held-building = refl
+
+held-input : is_of_lines refusal.NoSuchInput ≡ false
+held-input = refl
+
+held-merged : is_of_lines refusal.NotMerged ≡ false
+held-merged = refl
+
 held-units : is_of_lines refusal.TooManyUnits ≡ false
 held-units = refl

@@ -6,6 +6,9 @@ pub mod Flow
 pub mod Strategy
 pub mod Start
 pub mod Plan
+pub mod Refresh
+pub mod Merge
+pub mod Merged
 pub mod Await
 pub mod Ask
 pub mod Explain
@@ -22,6 +25,9 @@ use Rattle.sz_script.specs.Forms.Flow.{flow_form}
 use Rattle.sz_script.specs.Forms.Strategy.{strategy_form}
 use Rattle.sz_script.specs.Forms.Start.{start_form}
 use Rattle.sz_script.specs.Forms.Plan.{plan_form}
+use Rattle.sz_script.specs.Forms.Refresh.{refresh_form}
+use Rattle.sz_script.specs.Forms.Merge.{merge_form}
+use Rattle.sz_script.specs.Forms.Merged.{merged_form}
 use Rattle.sz_script.specs.Forms.Await.{await_form}
 use Rattle.sz_script.specs.Forms.Ask.{ask_form}
 use Rattle.sz_script.specs.Forms.Explain.{explain_form}
@@ -29,7 +35,8 @@ use Rattle.sz_script.specs.Forms.Show.{show_form}
 
 abbrev pub forms : List Form
 forms = array_form ∷ csv_form ∷ layers_form ∷ flow_form ∷ strategy_form ∷ start_form
-    ∷ plan_form ∷ await_form ∷ ask_form ∷ explain_form ∷ show_form ∷ []
+    ∷ plan_form ∷ refresh_form ∷ merge_form ∷ merged_form
+    ∷ await_form ∷ ask_form ∷ explain_form ∷ show_form ∷ []
 
 -- what a value says by the first of these forms whose fields it has
 abbrev pub draft_by : List Form → Data → Option Draft

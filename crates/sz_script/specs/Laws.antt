@@ -90,7 +90,10 @@ is_of_lines refusal.OutOfRange = false
 is_of_lines refusal.BadStrategies = false
 is_of_lines refusal.NotAwaited = false
 is_of_lines refusal.NoSuchNode = false
+is_of_lines refusal.StillBuilt = false
+is_of_lines refusal.NoSuchInput = false
 is_of_lines refusal.TooManyUnits = false
+is_of_lines refusal.NotMerged = false
 
 abbrev pub NoOtherRefusal : Type 0
 NoOtherRefusal = (line : List ℕ) (r : Refusal) → reading line ≡ Err r → is_of_lines r ≡ true

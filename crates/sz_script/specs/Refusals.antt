@@ -36,7 +36,10 @@ numbers_of refusal.OutOfRange = 17 ∷ []
 numbers_of refusal.BadStrategies = 18 ∷ []
 numbers_of refusal.NotAwaited = 19 ∷ []
 numbers_of refusal.NoSuchNode = 20 ∷ []
+numbers_of refusal.StillBuilt = 22 ∷ []
+numbers_of refusal.NoSuchInput = 23 ∷ []
 numbers_of refusal.TooManyUnits = 24 ∷ []
+numbers_of refusal.NotMerged = 25 ∷ []
 
 -- a number that is there, before others
 abbrev pub before : Option ℕ → List ℕ → List ℕ

@@ -2,7 +2,7 @@
 
 ghost use Rattle.std.specs.Prelude.{◌≡◌};
 
-use crate::lists::{BaseList, NamedCells, Path, StrategyList};
+use crate::lists::{BaseList, NamedCells, NewCells, Path, StrategyList};
 use crate::name::Name;
 use crate::refusal::Refusal;
 use std::alloc::{AllocError, AllocFailed};
@@ -51,6 +51,21 @@ pub enum Command {
         units: u32,
         back: u32,
         forward: u32,
+    },
+    /// Set cells of a base array of a version, and start its flow again on the array that they
+    /// give.
+    Refresh {
+        version: u32,
+        input: u32,
+        set: NewCells,
+    },
+    /// Merge the stores of a version.
+    Merge {
+        version: u32,
+    },
+    /// Tell the kinds of lineage of a version's merged stores.
+    Merged {
+        version: u32,
     },
     /// Await a version.
     Await {
@@ -108,6 +123,16 @@ pub struct NamedCell {
     pub layer: u32,
     pub row: u32,
     pub col: u32,
+}
+
+/// A cell as a line sets it: its layer, its row in the layer, and its column, all from 0, and what
+/// it is to hold.
+#[derive(Clone, Copy, Debug, Drop, PartialEq, Eq)]
+pub struct NewCell {
+    pub layer: u32,
+    pub row: u32,
+    pub col: u32,
+    pub value: Option<i64>,
 }
 
 /// Why a line is not taken.

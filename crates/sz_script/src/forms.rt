@@ -7,8 +7,11 @@ mod csv_text;
 mod explain;
 mod flow;
 mod layers;
+mod merge;
+mod merged;
 mod plan;
 mod question;
+mod refresh;
 mod show;
 mod start;
 mod strategy;
@@ -49,6 +52,15 @@ pub fn command_of(alloc: Global, value: &Value) -> Result<Command, LineFault>
     }
     if has_fields(value, &["plan", "base", "units", "back", "forward"]) {
         return plan::read(alloc, value);
+    }
+    if has_fields(value, &["refresh", "input", "set"]) {
+        return refresh::read(alloc, value);
+    }
+    if has_fields(value, &["merge"]) {
+        return merge::read(value);
+    }
+    if has_fields(value, &["merged"]) {
+        return merged::read(value);
     }
     if has_fields(value, &["await"]) {
         return awaiting::read(value);

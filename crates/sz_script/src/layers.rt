@@ -219,7 +219,7 @@ fn are_values(items: &[Value]) -> bool
 }
 
 /// What a cell holds: a whole number that is an i64, or null for nothing.
-fn value_of(value: &Value) -> Option<Option<i64>>
+pub fn value_of(value: &Value) -> Option<Option<i64>>
     ensures { result ≡ value_in (view value.now) }
 {
     match value {

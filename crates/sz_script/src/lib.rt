@@ -30,8 +30,8 @@ mod records;
 mod refusal;
 mod words;
 
-pub use command::{BaseName, Command, LineFault, NamedCell, PathStep};
-pub use lists::{BaseList, NamedCells, Path, StrategyList};
+pub use command::{BaseName, Command, LineFault, NamedCell, NewCell, PathStep};
+pub use lists::{BaseList, NamedCells, NewCells, Path, StrategyList};
 pub use name::Name;
 pub use reading::{LINE_LIMIT, read_line};
 pub use refusal::{Printed, Refusal};

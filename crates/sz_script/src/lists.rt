@@ -2,7 +2,7 @@
 
 ghost use Rattle.std.specs.Prelude.{◌≡◌};
 
-use crate::command::{BaseName, NamedCell, PathStep};
+use crate::command::{BaseName, NamedCell, NewCell, PathStep};
 use std::marker::Model;
 use sz_spec::Strategy;
 
@@ -17,6 +17,9 @@ pub type Path = Items<PathStep>;
 
 /// The cells that an ask names, in the order in which it names them.
 pub type NamedCells = Items<NamedCell>;
+
+/// The cells that a refresh sets, in the order in which it sets them.
+pub type NewCells = Items<NewCell>;
 
 /// Things in an order.
 #[derive(Debug, Drop)]

@@ -50,8 +50,14 @@ pub enum Refusal {
     NotAwaited,
     /// The version has no such node.
     NoSuchNode,
+    /// The version to refresh or to merge is not awaited.
+    StillBuilt,
+    /// The version has no such input.
+    NoSuchInput,
     /// A plan is to fit into too many units.
     TooManyUnits,
+    /// No merge of the version was asked.
+    NotMerged,
 }
 
 /// What is printed of a refusal: its number, and the numbers behind it. Contracts see the list of
@@ -99,7 +105,10 @@ impl Refusal {
             Refusal::BadStrategies => number(18),
             Refusal::NotAwaited => number(19),
             Refusal::NoSuchNode => number(20),
+            Refusal::StillBuilt => number(22),
+            Refusal::NoSuchInput => number(23),
             Refusal::TooManyUnits => number(24),
+            Refusal::NotMerged => number(25),
         }
     }
 }

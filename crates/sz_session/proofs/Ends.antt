@@ -39,7 +39,8 @@ turn-replies z halt.DiskFault limit all left next a b c m total count buffer so_
 turn-replies z halt.NoMemory limit all left next a b c m total count buffer so_far gives says =
     turn-in_lines z all left next a b c m total count buffer so_far gives says
 
-pub turn-ends : {X : Type 0} {T : Ghosts X} {s : Halt} {m n : Moment} {lines : List (List ℕ)} {x y : X} (z : SessionState)
+pub turn-ends : {X : Type 0} {T : Ghosts X} {s : Halt} {m n : Moment} {lines : List (List ℕ)} {x y : X}
+    (z : SessionState)
     (limit : ℕ) (all left next a : Option (List ℕ)) (total count : ℕ) (buffer : List ℕ)
     → IsAnswered T (halted s) m n [] lines x y → Answered z all left a (T.said x) m total
     → Gives left next buffer count
@@ -49,7 +50,8 @@ turn-ends {X} {T} {s} {m} {n} {lines} {x} {y} z limit all left next a total coun
     turn-replies z s limit all left next a (T.said x) (T.said y) m total count buffer so_far gives says
 
 -- the end of the source
-pub end-ends : (z : SessionState) (r : Result (Unit {0}) Halt) (limit : ℕ) (all left a b c : Option (List ℕ)) (m : Moment)
+pub end-ends : (z : SessionState) (r : Result (Unit {0}) Halt) (limit : ℕ) (all left a b c : Option (List ℕ))
+    (m : Moment)
     (total : ℕ) → total ≤ limit → Answered z all left a b m total → AreAll all total
     → SaysText r b c (told_at_end m) → EndsLines z (end_status r) limit all left a c
 end-ends z (Ok u) limit all left a b c m total le so_far is_all says =
@@ -109,7 +111,8 @@ counted-with {X} T s t r r' x y counted is = subst (λ (z : Status). AreCounted 
 -- ---- endings
 
 -- what a status tells, where the session ended with it
-pub ends-with : (z : SessionState) (s t : Status) (limit : ℕ) (all left a b : Option (List ℕ)) → Ends z s limit all left a b
+pub ends-with : (z : SessionState) (s t : Status) (limit : ℕ) (all left a b : Option (List ℕ))
+    → Ends z s limit all left a b
     → s ≡ t → Ends z t limit all left a b
 ends-with z s t limit all left a b h is = let P : Status → Type 0 = λ s. Ends z s limit all left a b in subst P is h
 
@@ -146,7 +149,8 @@ plain-ends z status.DiskFault limit all left a b ends plain = absurd (plain refl
 plain-ends z _ limit all left a b ends plain = ends
 
 -- which comes of the disk alone in no session of no log
-pub ends-not_disk : (z : SessionState) (s : Status) (limit : ℕ) (all left a b : Option (List ℕ)) → Ends z s limit all left a b
+pub ends-not_disk : (z : SessionState) (s : Status) (limit : ℕ) (all left a b : Option (List ℕ))
+    → Ends z s limit all left a b
     → is_of_disk s ≡ true → ⊥
 ends-not_disk z status.Usage limit all left a b ends is = ends
 ends-not_disk z status.DiskFault limit all left a b ends is = ends

@@ -137,6 +137,7 @@ pub writes-blank : (s : SessionState) → WritesLine s (Some (32 ∷ 10 ∷ []))
 writes-blank s (inl is) = true≢false (sym is)
 writes-blank s (inr none) = none
 
-pub writes-one : (s : SessionState) (bytes line : List ℕ) → lines_of bytes ≡ line ∷ [] → makes_durable s.held line ≡ true
+pub writes-one : (s : SessionState) (bytes line : List ℕ) → lines_of bytes ≡ line ∷ []
+    → makes_durable s.held line ≡ true
     → WritesLine s (Some bytes)
 writes-one s bytes line is durable = subst (λ (ls : List (List ℕ)). WritesOne s ls) (sym is) (inl durable)

@@ -37,7 +37,8 @@ end-failed (Err halt.NoMemory) is = cc
 -- ---- lines of a source
 
 -- one of those that end in what a read gave
-pub rest-written : (z : SessionState) (all left next a b : Option (List ℕ)) (m : Moment) (total count : ℕ) (buffer : List ℕ)
+pub rest-written : (z : SessionState) (all left next a b : Option (List ℕ)) (m : Moment) (total count : ℕ)
+    (buffer : List ℕ)
     → Answered z all left a b m total → Gives left next buffer count
     → WritesOne m.held (cut_after m (take count buffer)).whole → WritesRest m all total
 rest-written z None left next a b m total count buffer so_far gives writes = tt

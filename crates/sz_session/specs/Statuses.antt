@@ -67,7 +67,8 @@ is_of_disk _ = false
 
 -- What was read and said by then, for each status that a session of lines ends with.
 abbrev pub Ends :
-    SessionState → Status → ℕ → Option (List ℕ) → Option (List ℕ) → Option (List ℕ) → Option (List ℕ)
+    SessionState → Status → ℕ → Option (List ℕ) → Option (List ℕ) → Option (List ℕ)
+    → Option (List ℕ)
     → Type 0
 Ends c status.Done limit before left said_before said = Done c limit before left said_before said
 Ends c status.ReadFault limit before left said_before said =

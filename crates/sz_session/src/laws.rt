@@ -1,5 +1,4 @@
-//! Laws of the definitions, for a reader: each function has an empty body, and its contract is the
-//! law.
+//! Laws of the definitions, for a reader: each function does nothing, and its contract is the law.
 
 ghost use Rattle.sz_feed.specs.Laws.{LinesAreThoseJoined, BytesLeftAreTheLastLine};
 ghost use Rattle.sz_feed.specs.Laws.{EachTextIsLines, CutsAreThoseJoined, LinesAreTheCut};
@@ -11,6 +10,8 @@ ghost use Rattle.sz_feed.specs.Laws.{BlankLinesAreCounted, OtherLinesHaveOneRepl
 ghost use Rattle.sz_feed.specs.Laws.{SessionsOfNoLogArePlain, SoundLogsArePlain};
 ghost use Rattle.sz_commands.specs.Logged.{OpenedLogsStand};
 ghost use Rattle.sz_session.specs.Checking.{OneLineIsTold, SoundLinesMeanEach};
+
+use sz_versions::sound_stores_tell_the_kinds;
 
 /// The lines of a text are the bytes between its newlines, and those behind the last one where
 /// there are any.
@@ -76,7 +77,10 @@ pub fn opened_logs_stand()
 /// `specs/Plain`, in whose definitions no store stands.
 pub fn sound_logs_are_plain()
     ensures { SoundLogsArePlain }
-{}
+{
+    // the numbers of merged stores are those of the relation too
+    sound_stores_tell_the_kinds();
+}
 
 /// One line can be said of what a log keeps. Where it is that of a sound log, each store stands for
 /// exactly the relation of the operator that was executed at its node.

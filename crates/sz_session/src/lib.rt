@@ -46,11 +46,11 @@
 //! ends and asks versions. `staff` is the threads. `docs/FORMATS.md` describes lines and replies,
 //! `docs/DEFINITIONS.md` reads the definitions aloud.
 //!
-//! Contracts see a session as a `State`: its catalogue, and beside it the stores that a log gave;
-//! of a session of no log the catalogue says all ([`laws::sessions_of_no_log_are_plain`]). What is
-//! written to a log, and what a stop leaves of it, `specs/Logged` of `sz_commands` says of one
-//! command, `specs/Running` of `sz_feed` of lines one after another, and `specs/Continuing` of the
-//! whole call.
+//! Contracts see a session as a `SessionState`: its catalogue, and beside it the stores that a log
+//! gave; of a session of no log the catalogue says all ([`laws::sessions_of_no_log_are_plain`]).
+//! What is written to a log, and what a stop leaves of it, `specs/Logged` of `sz_commands` says of
+//! one command, `specs/Running` of `sz_feed` of lines one after another, and `specs/Continuing` of
+//! the whole call.
 //!
 //! To whoever changes this crate: `serving` carries from turn to turn that every whole line so far
 //! has its reply said (`Answered` of `sz_feed`), and the one function that reads asks for it.

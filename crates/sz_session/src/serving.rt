@@ -143,8 +143,9 @@ const LIMIT: u64 = 1 << 62;
 /// well-made log that holds what is durable behind the lines whose replies were said, or behind one
 /// line more.
 ///
-/// As many threads as the words say work on what a start hands out, beside the lines; they are
-/// joined before the call returns. Nothing that is said depends on them.
+/// As many threads as the words say work on what a start hands out, beside the lines, and one
+/// merges the stores that a merge hands out; they are joined before the call returns. Nothing that
+/// is said depends on them.
 pub fn serve<
     S: Source,
     T: Station,

@@ -2,7 +2,7 @@
 --
 -- The key idea: a command puts at most one flow or one version in, or changes one. What is put in is sound since no
 -- rule refused the command.
-use Rattle.std.proofs.Common.{◌≡◌, ℕ, ◌<◌, List, [], ◌∷◌, length, Bool, true, false, not, refl}
+use Rattle.std.proofs.Common.{◌≡◌, ℕ, ◌<◌, List, [], ◌∷◌, ◌++◌, if◌then◌else◌, length, Bool, true, false, not, refl}
 use Rattle.std.proofs.Common.{sym, ap, ◌∙◌, subst, arith, Option, Some, None, unwrap_or, Ok, Err, eqb-true}
 use Rattle.std.specs.Prelude.{All, Result, ◌^◌, ◌||◌, nat_lt, nat_le, is_none, is_some}
 use Rattle.std.specs.Option.{IfSome, option_map}
@@ -34,6 +34,7 @@ use Rattle.sz_catalogue.specs.Rules.{judged, first_of, version_of}
 use Rattle.sz_catalogue.specs.Kept.{IsWorkflow}
 use Rattle.sz_catalogue.specs.Changes.{accepted, with_flow, with_list, with_strategies, with_version}
 use Rattle.sz_catalogue.specs.Changes.{with_await, changes_no_version}
+use Rattle.sz_catalogue.specs.Merges.{with_merge, is_merge_asked}
 use Rattle.sz_catalogue.proofs.NodeLists.{firsts-right, set-right}
 use Rattle.sz_catalogue.proofs.Bases.{bases-length}
 use Rattle.sz_versions.specs.Runs.{IsSoundVersion, AreSound}
@@ -150,6 +151,13 @@ pub keeps-await : (c : Holdings) (n : ℕ) → AreSound c
 keeps-await c n k none =
     keeps-awaited c n k (rule-fails (rules.has_no_version c n) refusal.NoSuchVersion [] none).0
 
+-- a merge that is asked
+keeps-merge : (c : Holdings) (n : ℕ) → AreSound c → AreSound (with_merge c n)
+keeps-merge c n k = at (is_merge_asked c n) where
+  at : (b : Bool) → AreSound (if b then c else record c { merges = c.merges ++ n ∷ [] })
+  at true = k
+  at false = record { flows = k.flows; versions = k.versions }
+
 -- what is held stays sound where no version is started or awaited
 pub keeps-accepted : (c : Holdings) (command : Command) → AreSound c
     → is_right command ≡ true → judged c command ≡ None → changes_no_version command ≡ true
@@ -171,6 +179,7 @@ keeps-accepted c (order.Flow name flow) k right none kind =
 keeps-accepted c (order.Strategy name node list) k right none kind =
     keeps-strategies c name node list k none
 keeps-accepted c (order.Plan name base units back forward) k right none kind = k
+keeps-accepted c (order.Merge n) k right none kind = keeps-merge c n k
 keeps-accepted c _ k right none kind = cc
 
 -- ---- a start

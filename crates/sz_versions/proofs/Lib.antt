@@ -11,9 +11,16 @@ pub mod Stays
 pub mod FromLogs
 mod Still
 mod Along
+pub mod Asked
 pub mod Residents
 mod Service
 pub mod Ordered
 pub mod Trails
+pub mod Refreshes
+pub mod MergedNodes
+mod MergedRuns
+mod MergedKinds
+mod SoundKinds
 pub mod RowsLending
 pub mod RowsResidents
+pub mod RowsMerging

@@ -23,11 +23,13 @@ use Rattle.sz_recover.specs.Opened.{entries_under, versions_under, AreOfVersions
 use Rattle.sz_versions.specs.Runs.{AreSound}
 use Rattle.sz_versions.specs.Stores.{Trail, IsTrailOf}
 use Rattle.sz_versions.specs.Residents.{Resident, stores_read, IsTrailBy, IsResident, residents_under}
-use Rattle.sz_versions.specs.Residents.{AreResidents, IsInService, kept_of, logged_in, logged_under, logged_of}
+use Rattle.sz_versions.specs.Residents.{AreResidents, AskedWereAwaited, IsInService, kept_of, logged_in}
+use Rattle.sz_versions.specs.Residents.{logged_under, logged_of}
 use Rattle.sz_versions.specs.Residents.{Stored, stored_in, replaced_in, IsStill, AreStill}
 use Rattle.sz_versions.proofs.Keeps.{can-start, keeps-start, keeps-awaited}
 use Rattle.sz_versions.proofs.Stays.{SameStay, accepted-stay, awaited-stay, insert-here, insert-other, started-new}
 use Rattle.sz_versions.proofs.Stays.{await-here, await-other, find-passes, found-all, is-equal}
+use Rattle.sz_versions.proofs.Asked.{asked-accepted, asked-more, asked-awaited}
 use Rattle.sz_versions.proofs.Still.{trail-same, by-still, stores-still, stored-still}
 
 -- what is carried of a version that was started here
@@ -39,7 +41,7 @@ made_here n t = record { number = n; logged = false; trail = t }
 abbrev weight : Bool → ℕ
 weight b = cond b 1 0
 
-under-cons : (n : ℕ) (r : Resident) (rs : List Resident)
+pub under-cons : (n : ℕ) (r : Resident) (rs : List Resident)
     → residents_under n (r ∷ rs) ≡ weight (r.number == n) + residents_under n rs
 under-cons n r rs = sum_by-cons (λ (x : Resident). weight (x.number == n)) r rs
 
@@ -89,7 +91,7 @@ found-under c rs n own held none =
     absurd (omega (arith, one, no))
 
 -- one that stands at a place counts
-some-under : (n : ℕ) (rs : List Resident) (i : ℕ) (r : Resident) → slice_get rs i ≡ Some r → r.number ≡ n
+pub some-under : (n : ℕ) (rs : List Resident) (i : ℕ) (r : Resident) → slice_get rs i ≡ Some r → r.number ≡ n
     → 1 ≤ residents_under n rs
 some-under n [] i r at is = cc
 some-under n (x ∷ rs) zero r at is =
@@ -102,7 +104,7 @@ some-under n (x ∷ rs) (suc i) r at is =
 
 -- ---- those that a log gave
 
-logged-cons : (r : Resident) (rs : List Resident)
+pub logged-cons : (r : Resident) (rs : List Resident)
     → logged_in (r ∷ rs) ≡ (if r.logged then kept_of r ∷ logged_in rs else logged_in rs)
 logged-cons r rs = at r.logged where
   others : List Resident
@@ -243,6 +245,7 @@ residents-still c (r ∷ rs) (s ∷ ss) zip all =
 pub service-still : (c : Holdings) (rs ss : List Resident) → AreStill rs ss → IsInService c rs → IsInService c ss
 service-still c rs ss zip k = record {
   sound = k.sound;
+  asked = k.asked;
   residents = record {
     each = residents-still c rs ss zip k.residents.each;
     once = λ n. under-still n rs ss zip ∙ k.residents.once n;
@@ -343,10 +346,11 @@ versions-same c d n same = ap (λ (o : Option Version). if is_none o then 0 else
 -- ---- commands
 
 -- where under each number the same version is held
-pub service-same : (c d : Holdings) (rs : List Resident) → AreSound d → SameStay c d → IsInService c rs
-    → IsInService d rs
-service-same c d rs sound same k = record {
+pub service-same : (c d : Holdings) (rs : List Resident) → AreSound d → AskedWereAwaited d → SameStay c d
+    → IsInService c rs → IsInService d rs
+service-same c d rs sound asked same k = record {
   sound = sound;
+  asked = asked;
   residents = record {
     each = All-weaker (IsResident c) (IsResident d) (λ r own. resident-same c d r (same r.number) own) rs
         k.residents.each;
@@ -356,22 +360,23 @@ service-same c d rs sound same k = record {
 
 -- a command that changes no version
 pub service-stays : (c : Holdings) (command : Command) (rs : List Resident) → changes_no_version command ≡ true
-    → AreSound (accepted c command).0 → IsInService c rs → IsInService (accepted c command).0 rs
-service-stays c command rs kind sound k =
-    service-same c (accepted c command).0 rs sound (accepted-stay c command kind) k
+    → judged c command ≡ None → AreSound (accepted c command).0 → IsInService c rs
+    → IsInService (accepted c command).0 rs
+service-stays c command rs kind free sound k =
+    service-same c (accepted c command).0 rs sound (asked-accepted c command kind free k.asked)
+    (accepted-stay c command kind) k
 
--- a start
-pub service-started : (c : Holdings) (rs : List Resident) (name : List ℕ) (base : List BaseName) (t : Trail)
-    → IsInService c rs → judged c (order.Start name base) ≡ None → IsTrailOf (version_started c name base) t
-    → IsInService (with_version c (next_number c) (version_started c name base))
-    (rs ++ made_here (next_number c) t ∷ [])
-service-started c rs name base t k none own =
+-- one version more
+pub service-more : (c : Holdings) (rs : List Resident) (v : Version) (t : Trail)
+    → IsInService c rs → AreSound (with_version c (next_number c) v) → IsTrailOf v t
+    → IsInService (with_version c (next_number c) v) (rs ++ made_here (next_number c) t ∷ [])
+service-more c rs v t k sound own =
     let n = next_number c in
-    let v = version_started c name base in
     let d = with_version c n v in
     let new : Resident = made_here n t in
     record {
-      sound = keeps-start c name base k.sound (can-start c name base none);
+      sound = sound;
+      asked = asked-more c v k.asked;
       residents = record {
         each = All-append (IsResident d) rs (new ∷ [])
             (All-weaker (IsResident c) (IsResident d) stays rs k.residents.each)
@@ -381,20 +386,19 @@ service-started c rs name base t k none own =
       };
     } where
       stays : (r : Resident) → IsResident c r
-          → IsResident (with_version c (next_number c) (version_started c name base)) r
+          → IsResident (with_version c (next_number c) v) r
       stays r is =
           let n = next_number c in
           let other : r.number ≡ n → ⊥ = λ h.
           true≢false (sym (started-new c) ∙ ap (has_no_version c) (sym h) ∙ is.held) in
-          resident-same c (with_version c n (version_started c name base)) r
-          (insert-other c.versions n r.number (version_started c name base) other) is
+          resident-same c (with_version c n v) r
+          (insert-other c.versions n r.number v other) is
 
       count : (m : ℕ) (b : Bool) → (next_number c == m) ≡ b
           → residents_under m (rs ++ made_here (next_number c) t ∷ [])
-          ≡ versions_under (with_version c (next_number c) (version_started c name base)) m
+          ≡ versions_under (with_version c (next_number c) v) m
       count m true is =
           let n = next_number c in
-          let v = version_started c name base in
           let new : Resident = made_here n t in
           let same : n ≡ m = eqb-true n m is in
           let no : residents_under m rs ≡ 0 =
@@ -407,12 +411,20 @@ service-started c rs name base t k none own =
           omega (arith, under-more m rs new, no, there, step)
       count m false is =
           let n = next_number c in
-          let v = version_started c name base in
           let new : Resident = made_here n t in
           let other : m ≡ n → ⊥ = λ h. true≢false (sym (is-equal n m (sym h)) ∙ is) in
           let stay = versions-same c (with_version c n v) m (insert-other c.versions n m v other) in
           let step : weight (n == m) ≡ 0 = ap weight is in
           omega (arith, under-more m rs new, k.residents.once m, stay, step)
+
+-- a start
+pub service-started : (c : Holdings) (rs : List Resident) (name : List ℕ) (base : List BaseName) (t : Trail)
+    → IsInService c rs → judged c (order.Start name base) ≡ None → IsTrailOf (version_started c name base) t
+    → IsInService (with_version c (next_number c) (version_started c name base))
+    (rs ++ made_here (next_number c) t ∷ [])
+service-started c rs name base t k none own =
+    service-more c rs (version_started c name base) t k
+    (keeps-start c name base k.sound (can-start c name base none)) own
 
 -- an await of a version that is not awaited
 number-replaced : (n : ℕ) (t : Trail) (r : Resident) (b : Bool) → (r.number == n) ≡ b
@@ -440,6 +452,7 @@ pub service-awaited : (c : Holdings) (rs : List Resident) (n : ℕ) (t : Trail) 
     → IsInService (with_await c n) (replaced_in n t rs)
 service-awaited c rs n t k held own = record {
   sound = keeps-awaited c n k.sound held;
+  asked = asked-awaited c n held k.asked;
   residents = record {
     each = all rs k.residents.each;
     once = λ m. under-replaced m n t rs ∙ k.residents.once m ∙ sym (under m (m == n) refl);
@@ -472,7 +485,8 @@ service-awaited c rs n t k held own = record {
 pub service-again : (c : Holdings) (rs : List Resident) (n : ℕ) → IsInService c rs → has_no_version c n ≡ false
     → (version_of c n).awaited ≡ true → IsInService (with_await c n) rs
 service-again c rs n k held awaited =
-    service-same c (with_await c n) rs (keeps-awaited c n k.sound held) (awaited-stay c n held awaited) k
+    service-same c (with_await c n) rs (keeps-awaited c n k.sound held) (asked-awaited c n held k.asked)
+    (awaited-stay c n held awaited) k
 
 -- ---- what a log gave stays
 

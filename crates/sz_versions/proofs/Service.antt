@@ -29,7 +29,7 @@ use Rattle.sz_versions.proofs.Residents.{logged-still, stored-in-still, found-nu
 abbrev pub IsPlaceOf : ℕ → List Resident → ℕ → Type 0
 IsPlaceOf n rs i = (r : Resident) × (slice_get rs i ≡ Some r) × (find (has_number n) rs ≡ Some r)
 
-read-there : (rs : List Resident) (i : ℕ) (r x : Resident) → slice_get rs i ≡ Some r → x ≡ get_or rs i x → x ≡ r
+pub read-there : (rs : List Resident) (i : ℕ) (r x : Resident) → slice_get rs i ≡ Some r → x ≡ get_or rs i x → x ≡ r
 read-there [] i r x at is = cc
 read-there (y ∷ rs) zero r x at is = cc
 read-there (y ∷ rs) (suc i) r x at is = read-there rs i r x at is

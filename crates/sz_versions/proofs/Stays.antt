@@ -3,7 +3,7 @@
 -- The key idea: a start puts one in under a number that is new, an await changes one that is not awaited, and no other
 -- command changes any.
 use Rattle.std.proofs.Common.{take, length, get_or, zero, ◌≡◌, ℕ, suc, ◌<◌, List, [], ◌∷◌, Bool, true, false, refl}
-use Rattle.std.proofs.Common.{sym, ap, ◌∙◌}
+use Rattle.std.proofs.Common.{sym, ap, ◌∙◌, ◌++◌}
 use Rattle.std.proofs.lemmas.Bool.Decides.{nat_tests}
 use Rattle.std.proofs.Common.{true≢false, subst, arith, Option, Some, None, cond, eqb-true}
 use Rattle.std.specs.Prelude.{All, ◌==◌, is_none, find, nat_lt, if◌then◌else◌}
@@ -16,6 +16,7 @@ use Rattle.sz_script.specs.declared.command.Command.{Command}
 use Rattle.sz_script.specs.declared.command.Command.TheVariants as order
 use Rattle.sz_catalogue.specs.Holdings.{Version, Holdings, version_numbered, next_number}
 use Rattle.sz_catalogue.specs.Rules.{version_of, has_no_version}
+use Rattle.sz_catalogue.specs.Merges.{is_merge_asked}
 use Rattle.sz_catalogue.specs.Changes as changes
 use Rattle.sz_catalogue.specs.Changes.{with_await, changes_no_version}
 use Rattle.sz_catalogue.proofs.Numbers.{next-is_new}
@@ -108,6 +109,11 @@ accepted-stay c (order.Layers name array) kind n = refl
 accepted-stay c (order.Flow name flow) kind n = refl
 accepted-stay c (order.Strategy name node list) kind n = refl
 accepted-stay c (order.Plan name base units back forward) kind n = refl
+accepted-stay c (order.Merge m) kind n = at (is_merge_asked c m) where
+  at : (b : Bool) → version_numbered (if b then c else record c { merges = c.merges ++ m ∷ [] }) n
+      ≡ version_numbered c n
+  at true = refl
+  at false = refl
 accepted-stay c _ kind n = cc
 
 -- ---- one version more

@@ -9,4 +9,5 @@ pub mod Along
 pub mod Recalled
 pub mod Inquiries
 pub mod Residents
+pub mod Merging
 pub mod Bodies

@@ -6,6 +6,7 @@ use Rattle.sz_store.specs.Kept.{NodeLineage}
 use Rattle.sz_shelf.specs.Places.{ShelfPlace}
 use Rattle.sz_catalogue.specs.Holdings.{Version, Holdings}
 use Rattle.sz_catalogue.specs.Rules.{has_no_version, version_of}
+use Rattle.sz_catalogue.specs.Merges.{is_merge_asked}
 use Rattle.sz_bodies.specs.Fitting.{Fit}
 use Rattle.sz_recover.specs.Logs.{Kept}
 use Rattle.sz_recover.specs.Opened.{versions_under}
@@ -62,11 +63,21 @@ pub record AreResidents (c : Holdings) (rs : List Resident) : Type 0 where
   pub each : All (IsResident c) rs
   pub once : (n : ℕ) → residents_under n rs ≡ versions_under c n
 
--- What is kept true of a session: the flows and the versions that are held are sound, and what is
--- carried is carried of these versions.
+-- the version of a number is held and was awaited
+pub record IsAwaited (c : Holdings) (n : ℕ) : Type 0 where
+  pub held : has_no_version c n ≡ false
+  pub awaited : (version_of c n).awaited ≡ true
+
+-- so is each of which a merge was asked
+abbrev pub AskedWereAwaited : Holdings → Type 0
+AskedWereAwaited c = (n : ℕ) → is_merge_asked c n ≡ true → IsAwaited c n
+
+-- What is kept true of a session: the flows and the versions that are held are sound, what is
+-- carried is carried of these versions, and a merge was asked of such alone as were awaited.
 pub record IsInService (c : Holdings) (rs : List Resident) : Type 0 where
   pub sound : AreSound c
   pub residents : AreResidents c rs
+  pub asked : AskedWereAwaited c
 
 -- ---- what is seen of them
 

@@ -82,7 +82,7 @@ IsOwn (read kept) = Unit {0}
 abbrev pub keeping_of : NodeKeeping → Keeping
 keeping_of code.Nothing = nothing
 keeping_of (code.Growing shelf pass) = growing (arc_value shelf) pass
-keeping_of (code.Whole store) = whole (arc_value store)
+keeping_of (code.Whole built) = whole (arc_value built.store)
 keeping_of (code.Read store) = read (arc_value store)
 
 -- ---- what a version carries

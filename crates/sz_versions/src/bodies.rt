@@ -54,7 +54,7 @@ fn store_of(kept: &NodeKeeping) -> Result<Option<Arc<NodeStore>>, NoMemory>
     match kept {
         NodeKeeping::Nothing => Ok(None),
         NodeKeeping::Growing { .. } => Ok(None),
-        NodeKeeping::Whole { store } => Ok(Some(Arc::try_clone(store)?)),
+        NodeKeeping::Whole(built) => Ok(Some(Arc::try_clone(&built.store)?)),
         NodeKeeping::Read { .. } => Ok(None),
     }
 }

@@ -10,9 +10,10 @@ ghost use Rattle.sz_shelf.specs.Places.{ShelfPlace};
 ghost use Rattle.sz_shelf.specs.Passes.{place_of};
 ghost use Rattle.std.specs.Arc.{arc_value};
 ghost use Rattle.sz_versions.specs.Stores.{IsKeptOf, AreKeptOf, AreListed, AreStoresFor};
-ghost use Rattle.sz_versions.specs.Stores.{has_stored, keeping_of, IsShelfFor, whole};
+ghost use Rattle.sz_versions.specs.Stores.{has_stored, keeping_of, IsShelfFor};
 ghost use Rattle.sz_versions.specs.Lending.{IsKeptStill, AreKeptStill, IsTrailStill};
 
+use crate::built::Built;
 use crate::runs::{NodeKeeping, VersionRun};
 use std::alloc::Global;
 use std::sync::{Arc, Wait};
@@ -22,7 +23,6 @@ use sz_pool::finish;
 use sz_script::StrategyList;
 use sz_shelf::{Pass, Shelf};
 use sz_spec::{Strategy, Tally};
-use sz_store::NodeStore;
 
 /// The runs with what lineage needs, where the list at their place has a strategy that keeps a
 /// store: prepared once a version, and before tasks are made of them, so that workers and the await
@@ -175,20 +175,25 @@ fn end<R: Wait>(
 {
     match begun {
         NodeKeeping::Nothing => made(alloc, rt, run, list),
-        NodeKeeping::Growing { shelf, pass } => Ok(NodeKeeping::Whole {
-            store: taken(alloc, rt, run, list, shelf, pass)?,
-        }),
-        NodeKeeping::Whole { store } => shared(store),
+        NodeKeeping::Growing { shelf, pass } => {
+            let built = taken(alloc, rt, run, list, shelf, pass)?;
+            Ok(NodeKeeping::Whole(built))
+        }
+        NodeKeeping::Whole(built) => Ok(NodeKeeping::Whole(shared(built)?)),
         NodeKeeping::Read { .. } => unreachable!(),
     }
 }
 
-/// The same stores, shared once more.
-fn shared(store: &Arc<NodeStore>) -> Result<NodeKeeping, NoMemory>
-    ensures { IfOk result (λ s. keeping_of s ≡ whole (arc_value store.now)) }
+/// The same stores, shared once more, with a pass of their shelf that is split off.
+fn shared(built: &mut Built) -> Result<Built, NoMemory>
+    ensures shared { IfOk result (λ b. arc_value b.store ≡ arc_value built.old.store) }
+    ensures still { arc_value built.new.store ≡ arc_value built.old.store }
 {
-    Ok(NodeKeeping::Whole {
-        store: Arc::try_clone(store)?,
+    let pass = built.shelf.split(&mut built.pass)?;
+    Ok(Built {
+        store: Arc::try_clone(&built.store)?,
+        shelf: Arc::try_clone(&built.shelf)?,
+        pass,
     })
 }
 
@@ -207,29 +212,33 @@ fn made<R: Wait>(
         return Ok(NodeKeeping::Nothing);
     }
     let (shelf, mut pass) = shelf_for(alloc, run, list)?;
-    Ok(NodeKeeping::Whole {
-        store: taken(alloc, rt, run, list, &shelf, &mut pass)?,
-    })
+    let made = taken(alloc, rt, run, list, &shelf, &mut pass)?;
+    Ok(NodeKeeping::Whole(made))
 }
 
-/// The stores on a shelf, once what is missing was made and placed.
+/// The stores on a shelf, once what is missing was made and placed, with a pass that is split off.
 fn taken<R: Wait>(
     alloc: Global,
     rt: &R,
     run: &NodeRun,
     list: &[Strategy],
-    shelf: &Shelf,
+    shelf: &Arc<Shelf>,
     pass: &mut Pass,
-) -> Result<Arc<NodeStore>, NoMemory>
-    requires { IsShelfFor (execution_of run.now) list.now shelf.now pass.old }
+) -> Result<Built, NoMemory>
+    requires { IsShelfFor (execution_of run.now) list.now (arc_value shelf.now) pass.old }
     ensures stands { IfOk result
-        (λ s. AreStoresFor (execution_of run.now) list.now (arc_value s)) }
+        (λ b. AreStoresFor (execution_of run.now) list.now (arc_value b.store)) }
     ensures place { place_of pass.new ≡ place_of pass.old }
 {
     let mut tally = Tally::new();
     finish(alloc, rt, run, list, shelf, pass, &mut tally)?;
-    match shelf.store_of(alloc, rt, pass)? {
-        Some(store) => Ok(store),
-        None => unreachable!(),
-    }
+    let Some(store) = shelf.store_of(alloc, rt, pass)? else {
+        unreachable!()
+    };
+    let pass = shelf.split(pass)?;
+    Ok(Built {
+        store,
+        shelf: Arc::try_clone(shelf)?,
+        pass,
+    })
 }

@@ -210,7 +210,7 @@ fn kept_view(
     match stores {
         NodeKeeping::Nothing => trace_view(alloc, run),
         NodeKeeping::Growing { shelf, pass } => growing_view(alloc, way, run, shelf, pass),
-        NodeKeeping::Whole { store } => store_view(way, run, store),
+        NodeKeeping::Whole(built) => store_view(way, run, &built.store),
         NodeKeeping::Read { store } => store_view(way, run, store),
     }
 }

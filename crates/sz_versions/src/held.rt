@@ -55,7 +55,7 @@ impl Model for HeldRun {
 /// What is carried of each version that is held. Contracts see the list.
 #[derive(Drop)]
 pub struct HeldRuns {
-    runs: Vec<HeldRun>,
+    pub(crate) runs: Vec<HeldRun>,
 }
 
 impl Model for HeldRuns {
@@ -198,7 +198,7 @@ impl HeldRuns {
     }
 
     /// The place of a version.
-    fn place_of(&self, version: u32) -> Option<usize>
+    pub(crate) fn place_of(&self, version: u32) -> Option<usize>
         ensures some { IfSome result (λ i. (r : Resident) × (slice_get self.now i ≡ Some r)
             × (find (λ x. x.number == version) self.now ≡ Some r)) }
         ensures none { IfNone result (find (λ x. x.number == version) self.now ≡ None) }

@@ -13,6 +13,10 @@
 //!   owns what it uses: it can be answered beside others, in any thread.
 //! - [`HeldRuns::whole`] makes what workers left undone, and gives a run with the whole stores,
 //!   which [`HeldRuns::replace`] puts in the place of the one that was carried.
+//! - [`HeldRuns::hand_merges`] hands the whole stores of a version to a thread, which merges them
+//!   on their shelves beside the asks, and [`HeldRuns::merged`] merges what is left and tells how
+//!   many kinds of lineage the stores with region pairs have: what is carried from then on has one
+//!   region pair for each. Stores that a log gave stay as they were read.
 //! - [`body_for`] is the body of a version for a log, with stores that stand for the relation.
 //!
 //! ```text
@@ -20,6 +24,8 @@
 //! runs.add(1, run)?;
 //! let run = runs.whole(alloc, rt, &catalogue, 1)?;                         its stores, whole
 //! runs.replace(1, run);
+//! runs.hand_merges(alloc, rt, &catalogue, &to, 1);                         to a thread
+//! let kinds = runs.merged(alloc, rt, &catalogue, 1)?;                      one for each full store
 //! let inquiry = runs.inquiry(alloc, &catalogue, 1, dir, &path, &named)?;   what each step looks at
 //! let found = inquiry.answer(alloc, rt, &mut spare, &mut tally)?;          the cells
 //! ```
@@ -27,31 +33,37 @@
 //! Contracts see a `VersionRun` as a `Trail`, what is carried as a list of `Resident`, and an
 //! `Inquiry` as a `Search`. `specs/Stores` says what is kept of a node, `specs/Residents` what is
 //! carried, `specs/Views` by what a step is answered, `specs/Searches` what an ask along a path is
-//! over, and `specs/Recalled` the same of a version that a log gave. That such a version is
-//! answered by the composed relation where its stores stand for it is a law
-//! ([`sound_stores_answer_the_relation`]).
+//! over, `specs/Recalled` the same of a version that a log gave, and `specs/Merging` what merging
+//! changes and tells. That a version that a log gave is answered by the composed relation where its
+//! stores stand for it is a law ([`sound_stores_answer_the_relation`]), and so is that the same
+//! numbers are told of it ([`sound_stores_tell_the_kinds`]).
 //!
-//! To whoever changes this crate: what is kept of a node is `NodeKeeping` (`runs`), and each kind of
-//! it has a line in `building` (how it begins and ends), in `finding` (the view of it), in `bodies`
-//! (what a log keeps of it), and in `specs/Stores`, `specs/Views`, `specs/Lending` and
-//! `specs/Residents`.
+//! To whoever changes this crate: what is kept of a node is `NodeKeeping` (`runs`), and each kind
+//! of it has a line in `building` (how it begins and ends), in `finding` (the view of it), in
+//! `merging` (what is merged of it), in `bodies` (what a log keeps of it), and in `specs/Stores`,
+//! `specs/Views`, `specs/Lending`, `specs/Residents` and `specs/Merging`.
 #![tactic(auto)]
 
 mod bodies;
 mod building;
+mod built;
 mod finding;
 mod held;
 mod inquiry;
 mod laws;
+mod merging;
 mod recalled;
+mod refreshing;
 mod runs;
 mod starting;
 mod tasks;
 
 pub use bodies::body_for;
+pub use built::Built;
 pub use held::{HeldRun, HeldRuns};
 pub use inquiry::Inquiry;
-pub use laws::sound_stores_answer_the_relation;
+pub use laws::{sound_stores_answer_the_relation, sound_stores_tell_the_kinds};
+pub use refreshing::{RefreshedRun, refresh_version};
 pub use runs::{NodeKeeping, VersionRun};
 pub use starting::run_version;
 pub use tasks::Hands;

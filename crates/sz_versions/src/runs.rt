@@ -4,6 +4,7 @@ ghost use Rattle.std.specs.Prelude.{◌≡◌, map, IfOk};
 ghost use Rattle.sz_flow.specs.Executions.{execution_of};
 ghost use Rattle.sz_versions.specs.Stores.{keeping_of};
 
+use crate::built::Built;
 use std::alloc::Global;
 use std::marker::Model;
 use std::sync::Arc;
@@ -20,7 +21,7 @@ pub enum NodeKeeping {
     /// The shelf on which its stores grow, with a pass of it.
     Growing { shelf: Arc<Shelf>, pass: Pass },
     /// Its stores, which are whole.
-    Whole { store: Arc<NodeStore> },
+    Whole(Built),
     /// Stores that were read of a log, whatever they stand for.
     Read { store: Arc<NodeStore> },
 }

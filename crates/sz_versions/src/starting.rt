@@ -8,7 +8,8 @@ ghost use Rattle.sz_catalogue.specs.Holdings.{arrays_of};
 ghost use Rattle.sz_catalogue.specs.Starts.{bases_of, version_started};
 ghost use Rattle.sz_catalogue.specs.Rules.{judged, has_no_array};
 ghost use Rattle.sz_catalogue.specs.Kept.{IsWorkflow};
-ghost use Rattle.sz_versions.specs.Stores.{IsTrailOf};
+ghost use Rattle.sz_flow.specs.Executions.{execution_of};
+ghost use Rattle.sz_versions.specs.Stores.{IsTrailOf, AreListed, AreKeptOf};
 
 use crate::building::{begun, prepared};
 use crate::runs::VersionRun;
@@ -18,8 +19,8 @@ use std::sync::{Arc, Wait};
 use std::thread::Threads;
 use sz_catalogue::Catalogue;
 use sz_cells::NoMemory;
-use sz_flow::run_all;
-use sz_script::BaseName;
+use sz_flow::{NodeRun, run_all};
+use sz_script::{BaseName, StrategyList};
 use sz_spec::Array;
 
 /// What is carried of the version that a start makes: the runs of its nodes, each value computed
@@ -46,11 +47,30 @@ pub fn run_version<R: Threads + Wait + Sync>(
     };
     let arrays = arrays_named(alloc, catalogue, base)?;
     let executed = run_all(rt, alloc, flow, &arrays)?;
-    let runs = prepared(alloc, executed, lists.as_slice())?;
-    let stores = begun(alloc, &runs, lists.as_slice())?;
-    let mut run = VersionRun::of(alloc, runs, stores)?;
     let number = catalogue.next_number() as u32;
-    hands.hand_out(alloc, rt, number, lists.as_slice(), &mut run);
+    carried(rt, alloc, hands, number, lists.as_slice(), executed)
+}
+
+/// What is carried of a version from its start on, given the runs of its nodes: for each node with
+/// a stored strategy what its lineage needs, prepared once, and a shelf, of which tasks are handed
+/// out.
+pub(crate) fn carried<R: Wait>(
+    rt: &R,
+    alloc: Global,
+    hands: &Hands,
+    number: u32,
+    lists: &[StrategyList],
+    runs: Vec<NodeRun>,
+) -> Result<VersionRun, NoMemory>
+    requires { AreListed (map execution_of runs.items) lists.now }
+    ensures executions { IfOk result (λ r. r.executions ≡ map execution_of runs.items) }
+    ensures kept { IfOk result
+        (λ r. AreKeptOf false (map execution_of runs.items) lists.now r.kept) }
+{
+    let runs = prepared(alloc, runs, lists)?;
+    let stores = begun(alloc, &runs, lists)?;
+    let mut run = VersionRun::of(alloc, runs, stores)?;
+    hands.hand_out(alloc, rt, number, lists, &mut run);
     Ok(run)
 }
 

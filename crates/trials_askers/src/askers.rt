@@ -41,7 +41,8 @@ impl Gate for Meeting {
     }
 }
 
-/// Asks behind one another, among them some that are refused, with other lines between them.
+/// Asks behind one another, among them some that are refused, with other lines between them, a
+/// merge among these.
 const TEXT: &[u8] = b"{\"array\":\"a\",\"cells\":[[5,6],[7,8]]}
 {\"flow\":\"f\",\"inputs\":1,\"nodes\":[{\"op\":\"transpose\",\"from\":[{\"i\":0}]}]}
 {\"strategy\":\"f\",\"node\":0,\"list\":[\"full_one_b\"]}
@@ -60,6 +61,12 @@ const TEXT: &[u8] = b"{\"array\":\"a\",\"cells\":[[5,6],[7,8]]}
 {\"start\":\"f\",\"base\":[[\"a\",1]]}
 {\"ask\":2,\"dir\":\"back\",\"path\":[[0,0]],\"cells\":[[1,0]]}
 {\"ask\":2,\"dir\":\"forward\",\"path\":[[0,0]],\"cells\":[[1,1]]}
+{\"merge\":1}
+{\"ask\":1,\"dir\":\"back\",\"path\":[[0,0]],\"cells\":[[0,1]]}
+{\"ask\":1,\"dir\":\"forward\",\"path\":[[0,0]],\"cells\":[[1,0]]}
+{\"merged\":1}
+{\"ask\":1,\"dir\":\"back\",\"path\":[[0,0]],\"cells\":[[0,1]]}
+{\"ask\":1,\"dir\":\"forward\",\"path\":[[0,0]],\"cells\":[[1,0]]}
 {
 {\"ask\":2,\"dir\":\"back\",\"path\":[[0,0]],\"cells\":[[1,1]]}";
 
@@ -81,8 +88,14 @@ const REPLIES: &[u8] = b"1 array a 1
 16 started 2
 17 cells 1 0,1
 18 cells 1 1,1
-19 refused 1
-20 cells 1 1,1
+19 merging 1
+20 cells 1 1,0
+21 cells 1 0,1
+22 merged 1 4
+23 cells 1 1,0
+24 cells 1 0,1
+25 refused 1
+26 cells 1 1,1
 ";
 
 /// How a session of the text ends with so many askers, and what is said.

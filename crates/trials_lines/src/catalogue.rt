@@ -21,7 +21,7 @@ use sz_script::{Command, LineFault, Name, StrategyList, read_line};
 use sz_spec::{Array, Flow, Node, Strategy, output_shapes};
 
 /// Reads a line, judges its command and takes it. A reply to a line that changes nothing is that it
-/// is done.
+/// is done; so is one to a refresh, which is not taken.
 fn take(alloc: Global, held: &mut Catalogue, line: &[u8]) -> Result<Reply, Fail> {
     sz_script::laws::commands_are_right();
     let command = match read_line(alloc, line) {
@@ -44,7 +44,9 @@ fn accept(held: &mut Catalogue, command: Command) -> Result<Reply, NoMemory>
 {
     match command {
         Command::Start { name, base } => held.start(name, base.as_slice()),
+        Command::Refresh { .. } => Ok(Reply::Done { version: 0 }),
         Command::Await { version } => Ok(held.await_version(version)),
+        Command::Merged { .. } => Ok(Reply::Done { version: 0 }),
         Command::Ask { .. } => Ok(Reply::Done { version: 0 }),
         Command::Explain { .. } => Ok(Reply::Done { version: 0 }),
         Command::Show { .. } => Ok(Reply::Done { version: 0 }),
@@ -81,18 +83,38 @@ fn fill(alloc: Global, held: &mut Catalogue) -> Result<(), Fail> {
     Ok(())
 }
 
-/// Whether the last array and the last version that can be held are, and no further one. A version
-/// that cannot be started can be planned.
-fn holds_the_last(alloc: Global, held: &mut Catalogue) -> Result<bool, Fail> {
-    let array = br#"{"array":"a","cells":[[5]]}"#;
-    let start = br#"{"start":"f7","base":[["a",1]]}"#;
-    let last_array = says(alloc, held, array, "7 array a 4096\n")?;
-    let no_array = says(alloc, held, array, "7 refused 7\n")?;
-    let last_version = says(alloc, held, start, "7 started 4096\n")?;
-    let no_version = says(alloc, held, start, "7 refused 14\n")?;
-    let plan = br#"{"plan":"f7","base":[["a",1]],"units":0,"back":1,"forward":0}"#;
-    let planned = says(alloc, held, plan, "7 plan 1 0 map\n")?;
-    Ok(last_array && no_array && last_version && no_version && planned)
+/// A refresh of a version that is not awaited.
+const REFRESH: &str = r#"{"refresh":1,"input":0,"set":[[0,0,6]]}"#;
+
+/// The last version that can be held and the last array, and no further ones. A version that cannot
+/// be started can be planned. A refresh needs room for a version, and before that for an array,
+/// whatever else stands against it.
+const LAST: [(&str, &str); 9] = [
+    (REFRESH, "7 refused 22\n"),
+    (r#"{"start":"f7","base":[["a",1]]}"#, "7 started 4096\n"),
+    (r#"{"start":"f7","base":[["a",1]]}"#, "7 refused 14\n"),
+    (
+        r#"{"plan":"f7","base":[["a",1]],"units":0,"back":1,"forward":0}"#,
+        "7 plan 1 0 map\n",
+    ),
+    (REFRESH, "7 refused 14\n"),
+    (r#"{"array":"a","cells":[[5]]}"#, "7 array a 4096\n"),
+    (r#"{"array":"a","cells":[[5]]}"#, "7 refused 7\n"),
+    (REFRESH, "7 refused 7\n"),
+    (
+        r#"{"refresh":9999,"input":9,"set":[[9,9,6]]}"#,
+        "7 refused 7\n",
+    ),
+];
+
+/// Whether each line is answered by its text.
+fn each_says(alloc: Global, held: &mut Catalogue, rows: &[(&str, &str)]) -> Result<bool, Fail> {
+    for (line, text) in rows {
+        if !says(alloc, held, line.as_bytes(), text)? {
+            return Err(Fail::new(format_args!("{line} is not answered by {text}")));
+        }
+    }
+    Ok(true)
 }
 
 /// Whether the last flow that can be held is, and no further one.
@@ -109,7 +131,7 @@ fn the_last_array_flow_and_version_is_held(rt: HostRuntime) -> Result<(), Fail> 
     let alloc = rt.alloc();
     let mut held = Catalogue::new(alloc);
     fill(alloc, &mut held)?;
-    assert!(rt; holds_the_last(alloc, &mut held)?);
+    assert!(rt; each_says(alloc, &mut held, &LAST)?);
     assert!(rt; holds_the_last_flow(alloc, &mut held)?);
     Ok(())
 }
@@ -280,6 +302,55 @@ fn a_session_is_held(rt: HostRuntime) -> Result<(), Fail> {
     Ok(())
 }
 
+/// A refresh and a merge before the await of a version, and behind it. No cell is out of range of
+/// an input that is not there.
+const FURTHER: [(&str, &str); 17] = [
+    (
+        r#"{"refresh":1,"input":0,"set":[[0,0,7]]}"#,
+        "7 refused 15\n",
+    ),
+    (r#"{"merge":1}"#, "7 refused 15\n"),
+    (r#"{"merged":1}"#, "7 refused 15\n"),
+    (r#"{"start":"f","base":[["a",1]]}"#, "7 started 1\n"),
+    (
+        r#"{"refresh":1,"input":0,"set":[[0,0,7]]}"#,
+        "7 refused 22\n",
+    ),
+    (
+        r#"{"refresh":1,"input":0,"set":[[0,1,7]]}"#,
+        "7 refused 17\n",
+    ),
+    (
+        r#"{"refresh":1,"input":1,"set":[[0,1,7]]}"#,
+        "7 refused 22\n",
+    ),
+    (r#"{"merge":1}"#, "7 refused 22\n"),
+    (r#"{"merged":1}"#, "7 refused 25\n"),
+    (r#"{"await":1}"#, "7 done 1\n"),
+    (
+        r#"{"refresh":1,"input":0,"set":[[0,0,7],[1,0,0,7]]}"#,
+        "7 refused 17\n",
+    ),
+    (
+        r#"{"refresh":1,"input":1,"set":[[0,1,7]]}"#,
+        "7 refused 23\n",
+    ),
+    (r#"{"merged":1}"#, "7 refused 25\n"),
+    (r#"{"merge":1}"#, "7 merging 1\n"),
+    (r#"{"merge":1}"#, "7 merging 1\n"),
+    (r#"{"merged":1}"#, "7 done 0\n"),
+    (r#"{"refresh":1,"input":0,"set":[]}"#, "7 done 0\n"),
+];
+
+#[test]
+fn versions_are_refreshed_and_merged(rt: HostRuntime) -> Result<(), Fail> {
+    let alloc = rt.alloc();
+    let mut held = with_flow(alloc)?;
+    assert!(rt; each_says(alloc, &mut held, &FURTHER)?);
+    assert!(rt; held.merge_asked(1) && !held.merge_asked(2));
+    Ok(())
+}
+
 /// Whether a plan of the flow on the first array of `m` is answered by this text.
 fn plans(
     alloc: Global,
@@ -370,5 +441,14 @@ fn replies_are_written(rt: HostRuntime) -> Result<(), Fail> {
     let array = Arc::new(alloc, array)?;
     let text = reply_text(alloc, 18_446_744_073_709_551_615, &Reply::Values { array })?;
     assert!(rt; text.as_slice() == "18446744073709551615 values 1 3 -5 - 0\n".as_bytes());
+    let cells = 10_000_000_000;
+    let text = reply_text(alloc, 3, &Reply::Refreshed { version: 7, cells })?;
+    assert!(rt; text.as_slice() == "3 refreshed 7 cells 10000000000\n".as_bytes());
+    let kinds = Vec::new(alloc);
+    let text = reply_text(alloc, 4, &Reply::Merged { version: 7, kinds })?;
+    assert!(rt; text.as_slice() == "4 merged 7\n".as_bytes());
+    let kinds = vec![in alloc; 0u32, 4_294_967_295]?;
+    let text = reply_text(alloc, 5, &Reply::Merged { version: 7, kinds })?;
+    assert!(rt; text.as_slice() == "5 merged 7 0 4294967295\n".as_bytes());
     Ok(())
 }

@@ -14,6 +14,31 @@ fn refused(alloc: Global, line: &[u8]) -> Option<u32> {
     }
 }
 
+/// Lines that refresh and merge. A cell that is set has three numbers, or four with its layer; the
+/// last may be `null` and is an i64, any other is at least 0, and each is whole.
+const FURTHER: [(&str, Option<u32>); 14] = [
+    (r#"{"refresh":1,"input":0,"set":[]}"#, None),
+    (
+        r#"{"set":[[0,1,-9223372036854775808],[15,2,3,null]],"input":31,"refresh":9}"#,
+        None,
+    ),
+    (r#"{"merge":4294967295}"#, None),
+    (r#"{"merged":0}"#, None),
+    (r#"{"refresh":1,"input":0,"set":[[0,0,1.0]]}"#, Some(3)),
+    (
+        r#"{"refresh":1,"input":0,"set":[[0,0,9223372036854775808]]}"#,
+        Some(3),
+    ),
+    (r#"{"refresh":1,"input":0,"set":[[0,null,1]]}"#, Some(3)),
+    (r#"{"refresh":1,"input":0,"set":[[0,-1,1]]}"#, Some(3)),
+    (r#"{"refresh":1,"input":0,"set":[[0,0]]}"#, Some(3)),
+    (r#"{"refresh":1,"input":0,"set":[[0,0,0,0,0]]}"#, Some(3)),
+    (r#"{"refresh":1,"input":0}"#, Some(3)),
+    (r#"{"refresh":1.0,"input":0,"set":[]}"#, Some(3)),
+    (r#"{"merge":1,"merged":1}"#, Some(3)),
+    (r#"{"merged":4294967296}"#, Some(3)),
+];
+
 #[test]
 fn lines_are_read_or_refused(rt: HostRuntime) {
     let alloc = rt.alloc();
@@ -34,6 +59,9 @@ fn lines_are_read_or_refused(rt: HostRuntime) {
     assert!(rt; refused(alloc, ask.as_bytes()) == None);
     assert!(rt; refused(alloc, br#"{"explain":1,"dir":"back","path":[],"cells":[]}"#) == None);
     assert!(rt; refused(alloc, br#"{"show":1,"node":0}"#) == None);
+    for (line, rule) in FURTHER {
+        assert!(rt; refused(alloc, line.as_bytes()) == rule, "{line}");
+    }
     assert!(rt; refused(alloc, b"{\"await\":\"\xff\"}") == Some(1));
     assert!(rt; refused(alloc, br#"{"start":"f","base":[["A",1]]}"#) == Some(4));
     assert!(rt; refused(alloc, br#"{"array":"a","cells":[[1],[1,2]]}"#) == Some(5));

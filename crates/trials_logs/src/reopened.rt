@@ -46,6 +46,14 @@ const SHOW: &[u8] = br#"{"show":1,"node":0}"#;
 
 const AWAIT: &[u8] = br#"{"await":1}"#;
 
+/// That its stores be merged, and how many kinds of lineage they then have.
+const MERGE: &[u8] = br#"{"merge":1}"#;
+
+const MERGED: &[u8] = br#"{"merged":1}"#;
+
+/// A refresh of it.
+const REFRESH: &[u8] = br#"{"refresh":1,"input":0,"set":[[0,0,7]]}"#;
+
 /// Appends a group with its gate open.
 fn put_group(disk: &mut Vec<u8>, kind: u8, body: &[u8]) -> Result<(), Fail> {
     disk.push(1)?;
@@ -85,36 +93,57 @@ fn opened<T: Station, R: Threads + Sync>(
     Ok(Session::of_log(rt, alloc, recovered, 1, 1)?)
 }
 
-/// The reply to a line in a session of the station's log.
+/// The reply to the second of two lines in a session of the station's log, and how many cells are
+/// counted for it.
 fn reply_on<T: Station, R: Threads + Wait + Sync>(
     rt: &R,
     alloc: Global,
     station: &mut T,
+    before: &[u8],
     line: &[u8],
-) -> Result<Vec<u8>, Fail> {
+) -> Result<(Vec<u8>, u64), Fail> {
     let mut session = opened(rt, alloc, station)?;
+    let mut tally = Tally::new();
+    if session
+        .command(rt, before, 1, station, &NoGate, &mut tally)
+        .is_err()
+    {
+        return Err(Fail::from("stopped at once"));
+    }
     let mut tally = Tally::new();
     let Ok(reply) = session.command(rt, line, 1, station, &NoGate, &mut tally) else {
         return Err(Fail::from("stopped"));
     };
-    if tally.count() != 0 {
-        return Err(Fail::from("traced"));
-    }
     let Some(reply) = reply else {
         return Err(Fail::from("no reply"));
     };
-    Ok(reply_text(alloc, 1, &reply)?)
+    Ok((reply_text(alloc, 1, &reply)?, tally.count()))
 }
 
-/// The reply to a line in a session of the log with this store.
+/// The reply to a line in a session of the log with this store, for which no cell is counted.
 fn reply<R: Threads + Wait + Sync>(
     rt: &R,
     alloc: Global,
     store: &[u8],
     line: &[u8],
 ) -> Result<Vec<u8>, Fail> {
+    reply_behind(rt, alloc, store, b"", line)
+}
+
+/// The same, behind another line.
+fn reply_behind<R: Threads + Wait + Sync>(
+    rt: &R,
+    alloc: Global,
+    store: &[u8],
+    before: &[u8],
+    line: &[u8],
+) -> Result<Vec<u8>, Fail> {
     let mut station = station_with(alloc, store)?;
-    reply_on(rt, alloc, &mut station, line)
+    let (text, count) = reply_on(rt, alloc, &mut station, before, line)?;
+    if count != 0 {
+        return Err(Fail::from("traced"));
+    }
+    Ok(text)
 }
 
 #[test]
@@ -149,5 +178,33 @@ fn values_are_computed_again(rt: HostRuntime) -> Result<(), Fail> {
 fn a_version_of_a_log_is_awaited_already(rt: HostRuntime) -> Result<(), Fail> {
     let told = reply(&rt, rt.alloc(), &TRUE_STORE, AWAIT)?;
     assert!(rt; told.as_slice() == b"1 done 1\n".as_slice());
+    Ok(())
+}
+
+#[test]
+fn no_merge_of_a_version_of_a_log_was_asked(rt: HostRuntime) -> Result<(), Fail> {
+    let told = reply(&rt, rt.alloc(), &TRUE_STORE, MERGED)?;
+    assert!(rt; told.as_slice() == b"1 refused 25\n".as_slice());
+    Ok(())
+}
+
+#[test]
+fn kinds_are_those_of_the_store_whatever_it_stands_for(rt: HostRuntime) -> Result<(), Fail> {
+    let alloc = rt.alloc();
+    let told = reply_behind(&rt, alloc, &TRUE_STORE, MERGE, MERGED)?;
+    assert!(rt; told.as_slice() == b"1 merged 1 1\n".as_slice());
+    let told = reply_behind(&rt, alloc, &EMPTY_STORE, MERGE, MERGED)?;
+    assert!(rt; told.as_slice() == b"1 merged 1 0\n".as_slice());
+    Ok(())
+}
+
+/// The one cell that a set cell reaches is counted, and nothing is taken from the store.
+#[test]
+fn a_version_of_a_log_is_refreshed_by_the_relation(rt: HostRuntime) -> Result<(), Fail> {
+    let alloc = rt.alloc();
+    let mut station = station_with(alloc, &EMPTY_STORE)?;
+    let (told, count) = reply_on(&rt, alloc, &mut station, b"", REFRESH)?;
+    assert!(rt; told.as_slice() == b"1 refreshed 2 cells 1\n".as_slice());
+    assert_eq!(rt; count, 1);
     Ok(())
 }

@@ -1,5 +1,5 @@
 //! Tests of merging: of a row of cells that is one region, through a call, through a task beside
-//! asks and while it is held, and of how many kinds small cases have.
+//! asks, while it is held and by a thread, and of how many kinds small cases have.
 //!
 //! A crate is proved once for those above it and once more with its tests. So tests that call
 //! public functions alone stand in a crate that has nothing else.
@@ -9,6 +9,8 @@
 mod bench;
 #[cfg(test)]
 mod held;
+#[cfg(test)]
+mod hired;
 #[cfg(test)]
 mod small;
 #[cfg(test)]

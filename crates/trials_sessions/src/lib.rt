@@ -12,6 +12,10 @@ mod greatest;
 #[cfg(test)]
 mod load;
 #[cfg(test)]
+mod merged;
+#[cfg(test)]
 mod play;
+#[cfg(test)]
+mod refreshed;
 #[cfg(test)]
 mod rows;

@@ -7,7 +7,7 @@ use std::test::Fail;
 use std::thread::Threads;
 
 /// Whether a session of this text is done, and says these replies.
-fn says<R: Threads + Wait + Clone + Send + Sync + 'static>(
+pub fn says<R: Threads + Wait + Clone + Send + Sync + 'static>(
     rt: &R,
     alloc: Global,
     text: &[u8],

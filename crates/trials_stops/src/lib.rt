@@ -12,6 +12,8 @@ mod changed;
 #[cfg(test)]
 mod ended;
 #[cfg(test)]
+mod refreshed;
+#[cfg(test)]
 mod rows;
 #[cfg(test)]
 mod stopped;

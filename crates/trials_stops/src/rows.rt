@@ -152,3 +152,83 @@ sound 0
 sound 1
 ",
 };
+
+/// A refresh whose version is awaited, and whose stores are merged, and one whose version is not:
+/// of each the array lasts at once, and the version from its await on; of a merge nothing lasts.
+pub const REFRESHED: Row = Row {
+    name: "REFRESHED",
+    text: b"{\"array\":\"a\",\"cells\":[[9,0,9]]}
+{\"flow\":\"f\",\"inputs\":1,\"nodes\":[{\"op\":\"regions\",\"t\":5,\"from\":[{\"i\":0}]}]}
+{\"strategy\":\"f\",\"node\":0,\"list\":[\"full_many_b\"]}
+{\"start\":\"f\",\"base\":[[\"a\",1]]}
+{\"await\":1}
+{\"refresh\":1,\"input\":0,\"set\":[[0,1,8]]}
+{\"show\":2,\"node\":0}
+{\"await\":2}
+{\"merge\":2}
+{\"merged\":2}
+{\"refresh\":2,\"input\":0,\"set\":[[0,0,null]]}
+{\"show\":3,\"node\":0}
+",
+    replies: b"1 array a 1
+2 flow f
+3 strategy f 0
+4 started 1
+5 done 1
+6 refreshed 2 cells 3
+7 values 1 3 1 1 1
+8 done 2
+9 merging 2
+10 merged 2 1
+11 refreshed 3 cells 3
+12 values 1 3 0 2 2
+",
+    lasting: &[1, 2, 3, 5, 6, 8, 11],
+    asks: b"{\"show\":1,\"node\":0}
+{\"ask\":1,\"dir\":\"back\",\"path\":[[0,0]],\"cells\":[[0,0]]}
+{\"show\":2,\"node\":0}
+{\"ask\":2,\"dir\":\"back\",\"path\":[[0,0]],\"cells\":[[0,2]]}
+{\"explain\":2,\"dir\":\"back\",\"path\":[[0,0]],\"cells\":[[0,2]]}
+{\"merged\":2}
+{\"merge\":2}
+{\"merged\":2}
+{\"start\":\"f\",\"base\":[[\"a\",1]]}
+{\"await\":1}
+{\"explain\":1,\"dir\":\"back\",\"path\":[[0,0]],\"cells\":[[0,0]]}
+{\"start\":\"f\",\"base\":[[\"a\",2]]}
+{\"start\":\"f\",\"base\":[[\"a\",3]]}
+{\"array\":\"a\",\"cells\":[[1]]}
+",
+    none: b"1 refused 15
+2 refused 15
+3 refused 15
+4 refused 15
+5 refused 15
+6 refused 15
+7 refused 15
+8 refused 15
+9 refused 10
+10 refused 15
+11 refused 15
+12 refused 10
+13 refused 10
+14 array a 1
+sound 0
+",
+    all: b"1 values 1 3 1 0 3
+2 cells 1 0,0
+3 values 1 3 1 1 1
+4 cells 3 0,0 0,1 0,2
+5 explain full_many_b traced 0
+6 refused 25
+7 merging 2
+8 merged 2 1
+9 started 3
+10 done 1
+11 explain full_many_b traced 0
+12 started 4
+13 started 5
+14 array a 4
+sound 2
+",
+};

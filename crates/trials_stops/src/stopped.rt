@@ -3,7 +3,7 @@
 use crate::ended::{
     Ended, first_lines, lines_in, log_of, served, served_on, whole_source, whole_station,
 };
-use crate::rows::{MOVED, Row, STARS};
+use crate::rows::{MOVED, REFRESHED, Row, STARS};
 use std::alloc::Global;
 use std::sync::Wait;
 use std::test::Fail;
@@ -216,6 +216,12 @@ fn a_disk_that_fails_or_stops_loses_nothing_that_was_said(rt: HostRuntime) -> Re
 #[test]
 fn nor_does_it_lose_stores(rt: HostRuntime) -> Result<(), Fail> {
     assert!(rt; is_safe(&rt, rt.alloc(), &STARS)?);
+    Ok(())
+}
+
+#[test]
+fn nor_does_it_lose_what_a_refresh_makes(rt: HostRuntime) -> Result<(), Fail> {
+    assert!(rt; is_safe(&rt, rt.alloc(), &REFRESHED)?);
     Ok(())
 }
 

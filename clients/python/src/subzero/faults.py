@@ -25,7 +25,10 @@ _RULES = {
     18: "there is no such node, or its list of strategies is empty, too long, or has one twice or unfit",
     19: "the version is not awaited",
     20: "there is no such node to show",
+    22: "the version to be refreshed or merged is still being built",
+    23: "the version has no such input",
     24: "a plan has more than 65,536 units",
+    25: "no merge of the version was asked",
 }
 
 _FAULTS = {

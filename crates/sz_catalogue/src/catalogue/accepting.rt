@@ -1,32 +1,36 @@
 //! What commands that no rule refuses change.
-ghost use Rattle.std.specs.Prelude.{◌≡◌, ◌≤◌, true, false, is_some, [], ◌++◌, length, Some, None};
-ghost use Rattle.std.specs.Prelude.{All, option_map, IfOk, OnOk, OnErr};
+ghost use Rattle.std.specs.Prelude.{◌≡◌, ◌≤◌, ◌+◌, false, true, is_some, [], ◌++◌, length};
+ghost use Rattle.std.specs.Prelude.{Some, None, All, option_map, IfOk, OnOk, OnErr};
+ghost use Rattle.std.specs.Arc.{arc_value};
 ghost use Rattle.std.specs.List.{cons_option};
 ghost use Rattle.std.specs.Result.{result_err};
 ghost use Rattle.sz_spec.specs.Flows.{is_well_formed};
 ghost use Rattle.sz_spec.specs.FlowShapes.{output_shapes};
 ghost use Rattle.sz_script.specs.declared.command.Command.TheVariants as command;
+ghost use Rattle.sz_script.specs.Names.{is_name};
 ghost use Rattle.sz_script.specs.Right.{is_right};
 ghost use Rattle.sz_catalogue.specs.Holdings.{array_version, flow_named, version_numbered};
-ghost use Rattle.sz_catalogue.specs.Holdings.{shapes_of, output_cells};
+ghost use Rattle.sz_catalogue.specs.Holdings.{shapes_of, output_cells, things_named};
 ghost use Rattle.sz_catalogue.specs.Starts.{base_of, bases_of, workflow_of, version_started};
 ghost use Rattle.sz_catalogue.specs.Rules.{judged, has_room, are_lists_for, has_no_version};
 ghost use Rattle.sz_catalogue.specs.Rules.{version_of, has_no_flow, has_no_array, has_wrong_base};
-ghost use Rattle.sz_catalogue.specs.Rules.{has_broken_shapes};
+ghost use Rattle.sz_catalogue.specs.Rules.{has_broken_shapes, has_no_room_for_array};
 ghost use Rattle.sz_catalogue.specs.Sites.{sites_of};
-ghost use Rattle.sz_catalogue.specs.Changes.{accepted, changes_no_version, with_version};
+ghost use Rattle.sz_catalogue.specs.Changes.{accepted, changes_no_version, with_array};
+ghost use Rattle.sz_catalogue.specs.Changes.{with_version};
 ghost use Rattle.sz_catalogue.specs.Plans.{plan_over, plan_for};
 ghost use Rattle.sz_catalogue.specs.Seen.{response_of};
 
 use super::Catalogue;
 use crate::flows::HeldFlow;
 use crate::lists::BaseArrays;
-use crate::memory::{another_flow, another_owner, own_name};
+use crate::memory::{another_flow, another_owner, own_name, share};
 use crate::reply::Reply;
 use crate::shapes::cells_of;
 use crate::sites::sites_over;
 use crate::version::{BaseArray, HeldVersion, Run};
 use std::alloc::Global;
+use std::sync::Arc;
 use sz_cells::NoMemory;
 use sz_planner::laws::{best_choices_are_one, lists_are_best_choices};
 use sz_script::{BaseName, Command, Name, StrategyList};
@@ -58,6 +62,7 @@ impl Catalogue {
                 back,
                 forward,
             } => self.plan(name.as_str(), base.as_slice(), units, back, forward),
+            Command::Merge { version } => self.ask_merge(version),
             _ => unreachable!(),
         }
     }
@@ -70,13 +75,28 @@ impl Catalogue {
             (λ r. (self.new, response_of r) ≡ accepted self.old (command.Array name array)) }
         ensures err { OnErr result (self.new ≡ self.old) }
     {
-        let size = u64::from(array.shape().size());
-        let version = self.arrays.push(self.alloc, name.as_str(), array)?;
-        self.cells += size;
+        let owner = share(self.alloc, array)?;
+        let version = self.hold(name.as_str(), owner)?;
         Ok(Reply::Array {
             name,
             version: version as u32,
         })
+    }
+
+    /// Holds an array as the next version of a name, and gives that version's number.
+    pub(super) fn hold(&mut self, name: &str, owner: Arc<Array>) -> Result<usize, NoMemory>
+        requires name { is_name name.now ≡ true }
+        requires room { has_no_room_for_array self.old (arc_value owner) ≡ false }
+        ensures held { OnOk result (self.new ≡ with_array self.old name.now (arc_value owner)) }
+        ensures version { IfOk result
+            (λ n. n ≡ length (things_named name.now self.old.arrays) + 1) }
+        ensures few { IfOk result (λ n. n ≤ 4096) }
+        ensures err { OnErr result (self.new ≡ self.old) }
+    {
+        let size = u64::from(owner.shape().size());
+        let version = self.arrays.push(self.alloc, name, owner)?;
+        self.cells += size;
+        Ok(version)
     }
 
     /// Holds a flow under a name that no flow has.
@@ -100,6 +120,19 @@ impl Catalogue {
     {
         self.flows.set_list(name.as_str(), node, list);
         Reply::Strategy { name, node }
+    }
+
+    /// Notes that the merge of a version was asked.
+    fn ask_merge(&mut self, number: u32) -> Result<Reply, NoMemory>
+        requires judged { judged self.old (command.Merge number) ≡ None }
+        ensures ok { IfOk result (λ r. (self.new, response_of r)
+            ≡ accepted self.old (command.Merge number)) }
+        ensures err { OnErr result (self.new ≡ self.old) }
+    {
+        if !self.merge_asked(number) {
+            self.merges.push(number)?;
+        }
+        Ok(Reply::Merging { version: number })
     }
 
     /// What is planned for the version that a start would make.
@@ -249,7 +282,7 @@ impl Catalogue {
     }
 
     /// Holds a version under a number that is not held.
-    fn add(&mut self, number: u32, version: HeldVersion) -> Result<(), NoMemory>
+    pub(super) fn add(&mut self, number: u32, version: HeldVersion) -> Result<(), NoMemory>
         requires some { 1 ≤ number }
         requires new { version_numbered self.old number ≡ None }
         requires flow { option_map (λ w. w.graph) (flow_named self.old version.flow_name)

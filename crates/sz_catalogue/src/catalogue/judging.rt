@@ -1,5 +1,6 @@
 //! Which commands are refused: the rules of each, in their order.
 ghost use Rattle.std.specs.Prelude.{◌≡◌, ℕ, ◌≤◌, true, length, List, [], ◌∷◌, Ok, IfOk};
+ghost use Rattle.std.specs.Prelude.{if◌then◌else◌, Some, None};
 ghost use Rattle.std.specs.List.{list_all};
 ghost use Rattle.sz_spec.specs.Flows.{Graph, is_well_formed};
 ghost use Rattle.sz_spec.specs.FlowShapes.{output_shapes};
@@ -8,18 +9,24 @@ ghost use Rattle.sz_script.specs.declared.refusal.Refusal.TheVariants as rule;
 ghost use Rattle.sz_catalogue.specs.Holdings.{shapes_of};
 ghost use Rattle.sz_catalogue.specs.Starts.{bases_of};
 ghost use Rattle.sz_catalogue.specs.Rules.{judged, first_of, has_no_array, has_named_cell};
-ghost use Rattle.sz_catalogue.specs.Rules.{is_not_awaited, has_too_many_units};
-ghost use Rattle.sz_catalogue.specs.Kept.{refusal_by, is_of_room, is_open};
+ghost use Rattle.sz_catalogue.specs.Rules.{is_not_awaited, has_too_many_units, version_of};
+ghost use Rattle.sz_catalogue.specs.Rules.{has_no_room_to_set, has_no_room_to_refresh};
+ghost use Rattle.sz_catalogue.specs.Rules.{names_an_input};
+ghost use Rattle.sz_catalogue.specs.Refreshes.{base_at, has_new_cell};
+ghost use Rattle.sz_catalogue.specs.Kept.{refusal_by, is_of_room, is_open, refusal_on_version};
 ghost use Rattle.sz_catalogue.specs.Seen.{Judges};
 ghost use Rattle.sz_script.specs.Right.{is_right};
 
-use super::{Catalogue, GREATEST_NUMBER, MOST_ARRAYS, MOST_CELLS, MOST_FLOWS, MOST_UNITS};
+use super::{
+    Catalogue, GREATEST_NUMBER, MOST_ARRAYS, MOST_CELLS, MOST_FLOWS, MOST_UNITS, MOST_VERSIONS,
+};
 use crate::paths::is_joined;
 use crate::shapes::cells_of;
 use crate::strategies::is_list_of;
+use crate::version::Run;
 use std::alloc::Global;
 use sz_cells::{NoMemory, Shape};
-use sz_script::{BaseName, Command, LineFault, NamedCell, PathStep, Refusal};
+use sz_script::{BaseName, Command, LineFault, NamedCell, NewCell, PathStep, Refusal};
 use sz_spec::{Array, Dir, Flow, Strategy, output_shapes};
 
 impl Catalogue {
@@ -61,6 +68,13 @@ impl Catalogue {
                 back: _,
                 forward: _,
             } => self.refusal_of_plan(alloc, name.as_str(), base.as_slice(), *units),
+            Command::Refresh {
+                version,
+                input,
+                set,
+            } => Ok(self.refusal_of_refresh(*version, *input, set.as_slice())),
+            Command::Merge { version } => Ok(self.refusal_of_merge(*version)),
+            Command::Merged { version } => Ok(self.refusal_of_merged(*version)),
             Command::Await { version } => Ok(self.refusal_of_await(*version)),
             Command::Ask {
                 version,
@@ -214,6 +228,85 @@ impl Catalogue {
         Ok(refusal)
     }
 
+    /// The rule that refuses a refresh.
+    fn refusal_of_refresh(&self, number: u32, input: u32, set: &[NewCell]) -> Option<Refusal>
+        ensures { result ≡ judged self.now (command.Refresh number input set.now) }
+    {
+        if self.has_no_room_to_set(number, input) {
+            return Some(Refusal::NoRoomForArray);
+        }
+        if self.has_no_room_to_refresh(number, input) {
+            return Some(Refusal::NoRoomForVersion);
+        }
+        let Some(run) = self.versions.get(number) else {
+            return Some(Refusal::NoSuchVersion);
+        };
+        refusal_on_run(run, input, set)
+    }
+
+    /// Whether no further array is held in the place of an input of a version: as many are as may
+    /// be, or with it there would be too many cells.
+    fn has_no_room_to_set(&self, number: u32, input: u32) -> bool
+        ensures { result ≡ has_no_room_to_set self.now number input }
+    {
+        if self.arrays.len() >= MOST_ARRAYS {
+            return true;
+        }
+        match self.input_of(number, input) {
+            Some(shape) => self.cells + u64::from(shape.size()) > MOST_CELLS,
+            None => false,
+        }
+    }
+
+    /// Whether no further version is held that is one with such an array: as many are as may be,
+    /// its number would be too great, or with both there would be too many cells.
+    fn has_no_room_to_refresh(&self, number: u32, input: u32) -> bool
+        ensures { result ≡ has_no_room_to_refresh self.now number input }
+    {
+        if self.versions.len() >= MOST_VERSIONS || self.next_number() > GREATEST_NUMBER {
+            return true;
+        }
+        match self.input_of(number, input) {
+            Some(shape) => {
+                let outputs = cells_of(self.outputs(number));
+                self.cells + u64::from(shape.size()) + outputs > MOST_CELLS
+            }
+            None => false,
+        }
+    }
+
+    /// The shape of the base array of an input, where the version is held and has that input.
+    fn input_of(&self, number: u32, input: u32) -> Option<Shape>
+        ensures { result ≡ (if names_an_input self.now number input
+            then Some (base_at (version_of self.now number) input).array.extent else None) }
+    {
+        let run = self.versions.get(number)?;
+        let base = run.version().base.as_slice().get(input as usize)?;
+        Some(base.array.shape())
+    }
+
+    /// The rule that refuses a merge.
+    fn refusal_of_merge(&self, number: u32) -> Option<Refusal>
+        ensures { result ≡ judged self.now (command.Merge number) }
+    {
+        match self.version(number) {
+            None => Some(Refusal::NoSuchVersion),
+            Some(version) if version.awaited => None,
+            Some(_) => Some(Refusal::StillBuilt),
+        }
+    }
+
+    /// The rule that refuses to tell what a merge gave.
+    fn refusal_of_merged(&self, number: u32) -> Option<Refusal>
+        ensures { result ≡ judged self.now (command.Merged number) }
+    {
+        match self.versions.get(number) {
+            None => Some(Refusal::NoSuchVersion),
+            Some(_) if self.merge_asked(number) => None,
+            Some(_) => Some(Refusal::NotMerged),
+        }
+    }
+
     /// The rule that refuses an await.
     fn refusal_of_await(&self, number: u32) -> Option<Refusal>
         ensures { result ≡ judged self.now (command.Await number) }
@@ -284,6 +377,34 @@ impl Catalogue {
         }
         None
     }
+}
+
+/// The rule that refuses to set cells of an input of a version that is held.
+fn refusal_on_run(run: &Run, input: u32, set: &[NewCell]) -> Option<Refusal>
+    ensures { result ≡ refusal_on_version run.now input set.now }
+{
+    let version = run.version();
+    let base = version.base.as_slice();
+    let only = base.get(input as usize);
+    if let Some(only) = only
+        && !sets_each(only.array.shape(), set)
+    {
+        return Some(Refusal::OutOfRange);
+    }
+    if !version.awaited {
+        return Some(Refusal::StillBuilt);
+    }
+    if only.is_none() {
+        return Some(Refusal::NoSuchInput);
+    }
+    None
+}
+
+/// Whether a shape has each of some cells that are set.
+fn sets_each(shape: Shape, set: &[NewCell]) -> bool
+    ensures { result ≡ list_all (has_new_cell shape) set.now }
+{
+    set.iter().all(|cell| shape.cell_in(cell.layer, cell.row, cell.col).is_some())
 }
 
 /// Whether nothing refuses a start, but want of room.

@@ -50,7 +50,8 @@ fn plan_on(
     back: u32,
     forward: u32,
 ) -> Result<Command, LineFault>
-    ensures { Reads (reading_of_draft (within_units name.now base.items units back forward)) result }
+    ensures { Reads
+        (reading_of_draft (within_units name.now base.items units back forward)) result }
 {
     if !is_name(name) {
         return Err(LineFault::Refused(Refusal::BadName));

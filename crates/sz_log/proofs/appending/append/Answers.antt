@@ -48,7 +48,8 @@ returns-in_err-put-clause-stops g c = all_told _ _ (λ d is.
     let log = as_log at (record { kind = c.args.kind; body = c.args.body.now }) front in
     let e : LogGroup = record { kind = c.args.kind; body = c.args.body.now } in
     let disk_2 : g.T.Station.disk c.stage.new.station ≡ Some (staged d at e) =
-    c.in_ok-next.ensures.written d is_1 place ∙ ap (λ (n : ℕ). Some (written d n (bytes_behind_gate e ++ 0 ∷ []))) next in
+    c.in_ok-next.ensures.written d is_1 place
+    ∙ ap (λ (n : ℕ). Some (written d n (bytes_behind_gate e ++ 0 ∷ []))) next in
     let place_2 : at ≤ length (staged d at e) =
     omega (arith, length-written d (at + 1) (bytes_behind_gate e ++ 0 ∷ []) inner) in
     let is_entry : IsLogGroup e = (c.requires.kind, omega (arith, c.in_ok-next.ensures.limit)) in
@@ -79,7 +80,8 @@ returns-clause-stops g c = all_told _ _ (λ d is.
     let log = as_log at (record { kind = c.args.kind; body = c.args.body.now }) front in
     let e : LogGroup = record { kind = c.args.kind; body = c.args.body.now } in
     let disk_2 : g.T.Station.disk c.stage.new.station ≡ Some (staged d at e) =
-    c.in_ok-next.ensures.written d is_1 place ∙ ap (λ (n : ℕ). Some (written d n (bytes_behind_gate e ++ 0 ∷ []))) next in
+    c.in_ok-next.ensures.written d is_1 place
+    ∙ ap (λ (n : ℕ). Some (written d n (bytes_behind_gate e ++ 0 ∷ []))) next in
     let place_2 : at ≤ length (staged d at e) =
     omega (arith, length-written d (at + 1) (bytes_behind_gate e ++ 0 ∷ []) inner) in
     let is_entry : IsLogGroup e = (c.requires.kind, omega (arith, c.in_ok-next.ensures.limit)) in
@@ -116,7 +118,8 @@ returns-clause-written g c = writes_told _ _ _ _ (λ d is.
     let place : c.saturating_add.result ≤ length d = omega (arith, next, inner) in
     let e : LogGroup = record { kind = c.args.kind; body = c.args.body.now } in
     let disk_2 : g.T.Station.disk c.stage.new.station ≡ Some (staged d at e) =
-    c.in_ok-next.ensures.written d is_1 place ∙ ap (λ (n : ℕ). Some (written d n (bytes_behind_gate e ++ 0 ∷ []))) next in
+    c.in_ok-next.ensures.written d is_1 place
+    ∙ ap (λ (n : ℕ). Some (written d n (bytes_behind_gate e ++ 0 ∷ []))) next in
     let place_2 : at ≤ length (staged d at e) =
     omega (arith, length-written d (at + 1) (bytes_behind_gate e ++ 0 ∷ []) inner) in
     c.in_ok-put.ensures.written (staged d at e) disk_2 place_2
@@ -136,7 +139,8 @@ returns-clause-added g c = added_told _ _ _ _ (c.requires.kind, omega (arith, c.
     let place : c.saturating_add.result ≤ length d = omega (arith, next, inner) in
     let e : LogGroup = record { kind = c.args.kind; body = c.args.body.now } in
     let disk_2 : g.T.Station.disk c.stage.new.station ≡ Some (staged d at e) =
-    c.in_ok-next.ensures.written d is_1 place ∙ ap (λ (n : ℕ). Some (written d n (bytes_behind_gate e ++ 0 ∷ []))) next in
+    c.in_ok-next.ensures.written d is_1 place
+    ∙ ap (λ (n : ℕ). Some (written d n (bytes_behind_gate e ++ 0 ∷ []))) next in
     let place_2 : at ≤ length (staged d at e) =
     omega (arith, length-written d (at + 1) (bytes_behind_gate e ++ 0 ∷ []) inner) in
     c.in_ok-put.ensures.written (staged d at e) disk_2 place_2

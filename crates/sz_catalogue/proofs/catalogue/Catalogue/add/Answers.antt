@@ -16,6 +16,7 @@ invariant_of-self-2 c =
       arrays = c.self.inside.arrays;
       flows = c.self.inside.flows;
       versions = c.self.inside.versions;
+      merges = c.self.inside.merges.items;
     } in
     let new = ap (λ (h : Holdings). version_numbered h c.args.number) c.self.view_is ∙ c.requires.new in
     let room = ap (λ (h : Holdings). has_room h (output_cells c.args.version)) c.self.view_is ∙ c.requires.room in

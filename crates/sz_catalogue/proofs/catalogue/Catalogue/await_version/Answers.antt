@@ -13,6 +13,7 @@ invariant_of-self c =
       arrays = c.self.inside.arrays;
       flows = c.self.inside.flows;
       versions = c.self.inside.versions;
+      merges = c.self.inside.merges.items;
     } in
     let taken = ap (λ (h : Holdings). judged h (command.Await c.args.number)) c.self.view_is ∙ c.requires.judged in
     rw c.note_await.ensures (record {

@@ -12,6 +12,7 @@ invariant_of-self-2 c =
       arrays = c.self.inside.arrays;
       flows = c.self.inside.flows;
       versions = c.self.inside.versions;
+      merges = c.self.inside.merges.items;
     } in
     let taken = ap (λ (h : Holdings). judged h (command.Flow c.args.name c.args.flow)) c.self.view_is
     ∙ c.requires.judged in

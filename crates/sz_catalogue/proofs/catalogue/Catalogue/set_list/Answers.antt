@@ -12,6 +12,7 @@ invariant_of-self c =
       arrays = c.self.inside.arrays;
       flows = c.self.inside.flows;
       versions = c.self.inside.versions;
+      merges = c.self.inside.merges.items;
     } in
     let taken = ap (λ (h : Holdings). judged h (command.Strategy c.args.name c.args.node c.args.list)) c.self.view_is
     ∙ c.requires in

@@ -4,7 +4,7 @@ use Rattle.sz_catalogue.specs.Holdings.{next_number, version_numbered}
 use Rattle.sz_catalogue.proofs.Bases.{bases-length}
 use Rattle.sz_catalogue.proofs.Counts.{start-known, start-count, start-room}
 use Rattle.sz_catalogue.proofs.Numbers.{next-is_new}
-use Rattle.sz_catalogue.proofs.Order.{started-flow, started-bases}
+use Rattle.sz_catalogue.proofs.Order.{none-is, started-flow, started-bases}
 use Rattle.sz_catalogue.proofs.catalogue.Catalogue.start.Goals as goal
 
 pub add-requires-clause-new : goal.add-requires-clause-new
@@ -33,3 +33,8 @@ add-requires-clause-flow c =
 
 pub add-requires-clause-base : goal.add-requires-clause-base
 add-requires-clause-base c = rw c.in_ok-version.ensures.started (started-bases c.args.self.now c.args.base.now)
+
+pub add-requires-clause-fits : goal.add-requires-clause-fits
+add-requires-clause-fits c =
+    let known = start-known c.args.self.now c.args.name c.args.base.now c.requires.judged in
+    rw c.in_ok-version.ensures.started (none-is _ known.fits)

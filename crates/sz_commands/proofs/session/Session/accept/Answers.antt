@@ -19,10 +19,11 @@ accept-requires-clause-judged c =
 pub invariant_of-self-2 : goal.invariant_of-self-2
 invariant_of-self-2 c =
     let cat = c.self.inside.catalogue in
-    let none = subst (λ (s : SessionState). judged s.held c.args.command ≡ None) (sym c.self.view_is) c.requires.judged in
+    let none = subst (λ (s : SessionState). judged s.held c.args.command ≡ None)
+    (sym c.self.view_is) c.requires.judged in
     let after = sym (ap (λ (p : Holdings × Response). p.0) c.in_ok-reply.ensures.ok) in
     subst (λ (h : Holdings). IsInService h c.self.inside.runs) after
-    (service-stays cat c.args.command c.self.inside.runs c.requires.kind
+    (service-stays cat c.args.command c.self.inside.runs c.requires.kind none
     (keeps-accepted cat c.args.command c.self.invariant.sound c.requires.right none c.requires.kind) c.self.invariant)
 
 pub returns-clause-reply : goal.returns-clause-reply

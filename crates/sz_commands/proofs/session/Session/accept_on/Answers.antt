@@ -1,10 +1,11 @@
 -- A command that makes nothing durable leaves the log. A line that was appended is what its command makes durable, and
 -- so is the body of a version.
-use Rattle.std.proofs.Common.{sym, ◌∙◌, true≢false}
+use Rattle.std.proofs.Common.{sym, ◌∙◌, true≢false, []}
 use Rattle.std.proofs.lemmas.Result.{on_ok_weaker}
 use Rattle.sz_commands.specs.Logged.{IsLineGroup, IsVersionGroup, IsGroupFor}
 use Rattle.sz_commands.specs.States.{accepted}
-use Rattle.sz_commands.proofs.Appending.{appends-as, line-group, line-makes, nothing-makes, await-idle, await-makes}
+use Rattle.sz_commands.proofs.Appending.{appends-as, line-group, array-group, line-makes, refresh-makes}
+use Rattle.sz_commands.proofs.Appending.{nothing-makes, await-idle, await-makes}
 use Rattle.sz_commands.proofs.Appending.{await-group, await-writes}
 use Rattle.sz_commands.proofs.Lasting.{nothing-keeps}
 use Rattle.sz_commands.proofs.Logged.{still-stops}
@@ -28,6 +29,25 @@ returns-in-Line-clause-appends g c =
 pub returns-in-Line-clause-written : goal.returns-in-Line-clause-written
 returns-in-Line-clause-written g c =
     λ fault. line-makes c.args.self.now.held c.in-Line.kind c.args.command c.in-Line.ensures
+
+pub returns-in-Array-clause-idle : goal.returns-in-Array-clause-idle
+returns-in-Array-clause-idle g c =
+    λ none. absurd (true≢false
+    (sym (refresh-makes c.args.self.now.held c.args.command c.in-Array.ensures) ∙ none))
+
+pub returns-in-Array-clause-appends : goal.returns-in-Array-clause-appends
+returns-in-Array-clause-appends g c =
+    let held = c.args.self.now.held in
+    let line = c.args.line.now in
+    on_ok_weaker c.add_array.result
+    (λ added made. appends-as g.T.Station (IsGroupFor held [] c.args.command) (IsGroupFor held line c.args.command)
+    c.args.self.now.end c.add_array.new.self.end c.args.station.now c.add_array.new.station
+    (λ e such. array-group held line c.args.command e c.in-Array.ensures such) added)
+    c.add_array.ensures.appends
+
+pub returns-in-Array-clause-written : goal.returns-in-Array-clause-written
+returns-in-Array-clause-written g c =
+    λ fault. refresh-makes c.args.self.now.held c.args.command c.in-Array.ensures
 
 pub returns-in-Version-clause-written : goal.returns-in-Version-clause-written
 returns-in-Version-clause-written g c =

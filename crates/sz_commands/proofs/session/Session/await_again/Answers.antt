@@ -22,7 +22,8 @@ invariant_of-self c =
     let cat = c.self.inside.catalogue in
     let rs = c.self.inside.runs in
     let n = c.args.version in
-    let none = subst (λ (s : SessionState). judged s.held (order.Await n) ≡ None) (sym c.self.view_is) c.requires.judged in
+    let none = subst (λ (s : SessionState). judged s.held (order.Await n) ≡ None)
+    (sym c.self.view_is) c.requires.judged in
     let awaited =
     subst (λ (s : SessionState). (version_of s.held n).awaited ≡ true) (sym c.self.view_is) c.requires.awaited in
     subst (λ (h : Holdings). IsInService h rs) (sym (ap (λ (p : Holdings × Response). p.0) c.await_version.ensures))

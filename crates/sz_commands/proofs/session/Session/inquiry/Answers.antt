@@ -13,19 +13,22 @@ inquiry-requires-clause-held c =
 
 pub inquiry-requires-clause-joined : goal.inquiry-requires-clause-joined
 inquiry-requires-clause-joined c =
-    subst (λ (s : SessionState). is_not_joined s.held c.args.version c.args.dir c.args.path.now ≡ false) (sym c.self.view_is)
+    subst (λ (s : SessionState). is_not_joined s.held c.args.version c.args.dir c.args.path.now ≡ false)
+    (sym c.self.view_is)
     c.requires.joined
 
 pub inquiry-requires-clause-range : goal.inquiry-requires-clause-range
 inquiry-requires-clause-range c =
-    subst (λ (s : SessionState). is_out_of_range s.held c.args.version c.args.dir c.args.path.now c.args.named.now ≡ false)
+    subst (λ (s : SessionState). is_out_of_range s.held c.args.version c.args.dir c.args.path.now c.args.named.now
+    ≡ false)
     (sym c.self.view_is) c.requires.range
 
 pub returns-clause-search : goal.returns-clause-search
 returns-clause-search c =
     let P : SessionState → Search → Type 0 =
     λ s q. IsInquiryOf s c.args.version c.args.dir c.args.path.now c.args.named.now q in
-    IfOk-weaker c.inquiry.result _ _ (λ q h. subst (λ (s : SessionState). P s q) c.self.view_is h) c.inquiry.ensures.search
+    IfOk-weaker c.inquiry.result _ _
+    (λ q h. subst (λ (s : SessionState). P s q) c.self.view_is h) c.inquiry.ensures.search
 
 pub returns-clause-same : goal.returns-clause-same
 returns-clause-same c =

@@ -30,9 +30,11 @@ invariant_of-self c =
     let cat = c.self.inside.catalogue in
     let rs = c.self.inside.runs in
     let n = c.args.version in
-    let none = subst (λ (s : SessionState). judged s.held (order.Await n) ≡ None) (sym c.self.view_is) c.requires.judged in
+    let none = subst (λ (s : SessionState). judged s.held (order.Await n) ≡ None)
+    (sym c.self.view_is) c.requires.judged in
     let own =
-    subst (λ (s : SessionState). IsTrailOf (record (version_of s.held n) { awaited = true }) c.args.run) (sym c.self.view_is)
+    subst (λ (s : SessionState). IsTrailOf (record (version_of s.held n) { awaited = true }) c.args.run)
+    (sym c.self.view_is)
     c.requires.own in
     subst (λ (h : Holdings). IsInService h c.replace.new.self)
     (sym (ap (λ (p : Holdings × Response). p.0) c.await_version.ensures))

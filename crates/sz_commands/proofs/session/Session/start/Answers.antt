@@ -14,7 +14,7 @@ use Rattle.sz_versions.proofs.Residents.{service-started}
 use Rattle.sz_commands.specs.States.{SessionState}
 use Rattle.sz_commands.specs.Carrying.{AddsEntry}
 use Rattle.sz_commands.proofs.Carrying.{stored-more}
-use Rattle.sz_commands.proofs.Seen.{seen-started}
+use Rattle.sz_commands.proofs.Seen.{seen-more}
 use Rattle.sz_commands.proofs.session.Session.start.Goals as goal
 
 pub run_version-requires-clause-sound : goal.run_version-requires-clause-sound
@@ -59,7 +59,7 @@ returns-in-Ok-clause-reply g c =
     let cat = c.self.inside.catalogue in
     let rs = c.self.inside.runs in
     rw (← c.self.view_is)
-    (seen-started cat _ rs c.add.new.self _ c.args.name c.args.base _ None refl c.in_ok-add.ensures.ok
+    (seen-more cat _ rs c.add.new.self _ (order.Start c.args.name c.args.base) _ None refl refl c.in_ok-add.ensures.ok
     (rw c.as_slice-2.ensures at c.in-Ok.ensures.ok))
 
 pub returns-in-Ok-clause-stored : goal.returns-in-Ok-clause-stored

@@ -12,10 +12,12 @@ whole-requires-clause-held g c =
 
 pub whole-requires-clause-first : goal.whole-requires-clause-first
 whole-requires-clause-first g c =
-    subst (λ (s : SessionState). (version_of s.held c.args.version).awaited ≡ false) (sym c.self.view_is) c.requires.first
+    subst (λ (s : SessionState). (version_of s.held c.args.version).awaited ≡ false)
+    (sym c.self.view_is) c.requires.first
 
 pub returns-clause-whole : goal.returns-clause-whole
 returns-clause-whole g c =
     let n = c.args.version in
     let P : SessionState → Trail → Type 0 = λ s t. IsTrailOf (record (version_of s.held n) { awaited = true }) t in
-    IfOk-weaker c.whole.result _ _ (λ t own. subst (λ (s : SessionState). P s t) c.self.view_is own) c.whole.ensures.whole
+    IfOk-weaker c.whole.result _ _
+    (λ t own. subst (λ (s : SessionState). P s t) c.self.view_is own) c.whole.ensures.whole

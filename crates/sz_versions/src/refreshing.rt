@@ -1,0 +1,152 @@
+//! What is carried of the version that a refresh makes.
+
+ghost use Rattle.std.specs.Prelude.{◌≡◌, ◌+◌, ◌*◌, ◌^◌, ◌<◌, true, None, map, length, slice_set};
+ghost use Rattle.std.specs.Prelude.{IfOk, OnOk};
+ghost use Rattle.std.specs.List.{list_all};
+ghost use Rattle.std.specs.Arc.{arc_value};
+ghost use Rattle.sz_cells.specs.Extent.{holds, cell_in};
+ghost use Rattle.sz_script.specs.declared.command.Command.TheVariants as order;
+ghost use Rattle.sz_catalogue.specs.Holdings.{arrays_of};
+ghost use Rattle.sz_catalogue.specs.Rules.{judged, version_of};
+ghost use Rattle.sz_catalogue.specs.Refreshes.{has_new_cell, with_cells, cells_set};
+ghost use Rattle.sz_catalogue.specs.Refreshes.{array_refreshed, version_refreshed, cells_affected};
+ghost use Rattle.sz_versions.specs.Residents.{IsInService};
+ghost use Rattle.sz_versions.specs.Stores.{IsTrailOf};
+
+use crate::held::HeldRuns;
+use crate::runs::VersionRun;
+use crate::starting::carried;
+use crate::tasks::Hands;
+use std::alloc::Global;
+use std::sync::{Arc, Wait};
+use std::thread::Threads;
+use sz_catalogue::{BaseArray, Catalogue};
+use sz_cells::{Cell, CellSet, NoMemory, Shape, laws};
+use sz_refresh::refresh;
+use sz_script::NewCell;
+use sz_spec::{Array, Tally};
+
+/// What a refresh makes.
+#[derive(Drop)]
+pub struct RefreshedRun {
+    /// The array that its version has in the place of an input's.
+    pub array: Arc<Array>,
+    /// What is carried of its version.
+    pub run: VersionRun,
+    /// How many node cells were computed again.
+    pub cells: u64,
+}
+
+/// What a refresh makes of a version that was awaited: the base array of an input with some cells
+/// set, and the runs of its nodes on it, of which those cells alone are computed again that a set
+/// cell reaches; and, as at a start, what lineage needs and shelves, of which tasks are handed out.
+/// Each of those cells is counted.
+pub fn refresh_version<R: Threads + Wait + Sync>(
+    rt: &R,
+    alloc: Global,
+    catalogue: &Catalogue,
+    runs: &HeldRuns,
+    hands: &Hands,
+    version: u32,
+    input: u32,
+    set: &[NewCell],
+    tally: &mut Tally,
+) -> Result<RefreshedRun, NoMemory>
+    requires service { IsInService catalogue.now runs.now }
+    requires judged { judged catalogue.now (order.Refresh version input set.now) ≡ None }
+    requires room { tally.old + 32 * 1048576 < 2 ^ 63 }
+    ensures array { IfOk result (λ r. arc_value r.array
+        ≡ array_refreshed (version_of catalogue.now version) input set.now) }
+    ensures run { IfOk result (λ r. IsTrailOf (version_refreshed catalogue.now
+        (version_of catalogue.now version) input set.now) r.run) }
+    ensures cells { IfOk result (λ r. r.cells
+        ≡ cells_affected catalogue.now (version_of catalogue.now version) input set.now) }
+    ensures ticks { OnOk result (tally.new ≡ tally.old
+        + cells_affected catalogue.now (version_of catalogue.now version) input set.now) }
+{
+    let Some(held) = catalogue.version(version) else {
+        unreachable!()
+    };
+    let Some(old) = runs.runs(version) else {
+        unreachable!()
+    };
+    let base = held.base.as_slice();
+    let only = &base[input as usize];
+    let changed = cells_set(alloc, only.array.shape(), set)?;
+    let array = Arc::new(alloc, array_with(alloc, &only.array, set)?)?;
+    let arrays = arrays_with(alloc, base, input, &array)?;
+    let before = tally.count();
+    let refreshed = refresh(rt, alloc, &held.flow, old, &arrays, input, &changed, tally)?;
+    let cells = tally.count() - before;
+    let number = catalogue.next_number() as u32;
+    let run = carried(
+        rt,
+        alloc,
+        hands,
+        number,
+        held.lists.as_slice(),
+        refreshed.runs,
+    )?;
+    Ok(RefreshedRun { array, run, cells })
+}
+
+/// An array with some cells set, one after another.
+fn array_with(alloc: Global, array: &Array, set: &[NewCell]) -> Result<Array, NoMemory>
+    requires { list_all (has_new_cell array.now.extent) set.now ≡ true }
+    ensures { IfOk result (λ a. a ≡ with_cells array.now set.now) }
+{
+    let shape = array.shape();
+    let mut cells = Vec::from_slice(alloc, array.cells())?;
+    for one in set {
+        let place = shape.index(new_cell(shape, *one));
+        cells[place as usize] = one.value;
+    }
+    match Array::make(shape, cells) {
+        Some(made) => Ok(made),
+        None => unreachable!(),
+    }
+}
+
+/// The cells of a shape that are set.
+fn cells_set(alloc: Global, shape: Shape, set: &[NewCell]) -> Result<CellSet, NoMemory>
+    requires { list_all (has_new_cell shape) set.now ≡ true }
+    ensures { IfOk result (λ s. s ≡ cells_set shape set.now) }
+{
+    let mut cells: Vec<Cell> = Vec::with_capacity(alloc, set.len())?;
+    for one in set {
+        cells.push(new_cell(shape, *one))?;
+    }
+    CellSet::from_cells(alloc, shape, &cells)
+}
+
+/// The cell of a shape that is set.
+fn new_cell(shape: Shape, set: NewCell) -> Cell
+    requires { has_new_cell shape set ≡ true }
+    ensures cell { result ≡ cell_in shape set.layer set.row set.col }
+    ensures held { holds shape result ≡ true }
+{
+    laws::a_shape_is_within_limits(&shape);
+    match shape.cell_in(set.layer, set.row, set.col) {
+        Some(cell) => cell,
+        None => unreachable!(),
+    }
+}
+
+/// Base arrays, with another in the place of an input's.
+fn arrays_with(
+    alloc: Global,
+    base: &[BaseArray],
+    input: u32,
+    array: &Arc<Array>,
+) -> Result<Vec<Arc<Array>>, NoMemory>
+    requires { input < length base.now }
+    ensures { IfOk result (λ v. map (λ a. arc_value a) v.items
+        ≡ slice_set (arrays_of base.now) input (arc_value array.now)) }
+{
+    let mut arrays = Vec::with_capacity(alloc, base.len())?;
+    for only in base {
+        arrays.push(Arc::try_clone(&only.array)?)?;
+    }
+    arrays[input as usize] = Arc::try_clone(array)?;
+    Ok(arrays)
+}
