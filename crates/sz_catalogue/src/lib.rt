@@ -1,7 +1,7 @@
 //! What a session holds: arrays and flows by name, and versions by number.
 //!
 //! A [`Catalogue`] judges a command, takes one that no rule refuses, and is read by name and by
-//! number. A start and an await are calls of their own. [`reply_text`] writes the line of a
+//! number. A start, a refresh and an await are calls of their own. [`reply_text`] writes the line of a
 //! [`Reply`].
 //!
 //! ```

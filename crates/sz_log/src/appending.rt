@@ -9,6 +9,7 @@ ghost use Rattle.sz_log.specs.Steps.{Added, AddsOrKeeps, KeepsFront, place_behin
 
 use crate::LogEnd;
 use crate::writing::{put, write};
+use sz_numbers::eight_bytes;
 use sz_outside::{Failed, Station};
 
 /// Adds a group at the end of a log, and says where the log ends then. Takes no memory.
@@ -85,6 +86,6 @@ fn stage<T: Station>(station: &mut T, at: u64, kind: u8, body: &[u8]) -> Result<
 fn head_of(kind: u8, length: u64) -> [u8; 9]
     ensures { result ≡ kind ∷ to_be_bytes w64 length }
 {
-    let [a, b, c, d, e, f, g, h] = length.to_be_bytes();
+    let [a, b, c, d, e, f, g, h] = eight_bytes(length);
     [kind, a, b, c, d, e, f, g, h]
 }

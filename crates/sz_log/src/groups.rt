@@ -6,6 +6,7 @@ ghost use Rattle.sz_log.specs.Log.{is_kind};
 ghost use Rattle.sz_log.specs.Places.{StandsAt, SpellsAt, SpellsLength, SaysWhether};
 ghost use Rattle.sz_log.specs.Places.{group_on, opened_with};
 
+use sz_numbers::eight_at;
 use sz_outside::{Failed, Station};
 
 /// The kinds of group.
@@ -92,11 +93,11 @@ fn group_of(at: u64, head: &[u8], size: u64) -> Group
     if !is_open(*gate) {
         return Group::Closed;
     }
-    let [_, kind, a, b, c, d, e, f, g, h] = head else {
+    if head.len() < 10 {
         return Group::Bad;
-    };
-    let length = u64::from_be_bytes([*a, *b, *c, *d, *e, *f, *g, *h]);
-    group_with(at, *kind, length, size.saturating_sub(at))
+    }
+    let length = eight_at(head, 2);
+    group_with(at, head[1], length, size.saturating_sub(at))
 }
 
 /// Whether a gate is open.

@@ -1,8 +1,8 @@
 -- Reading a cell set that begins at a place of some bytes.
 use Rattle.std.specs.Prelude.{◌≡◌, ℕ, ◌+◌, ◌*◌, ◌<◌, ◌^◌, List, [], ◌∷◌, ◌++◌, length, drop}
-use Rattle.std.specs.Prelude.{slice_index}
 use Rattle.std.specs.List.{flat_map}
 use Rattle.std.specs.Int.{w32, from_be_bytes}
+use Rattle.sz_numbers.specs.Numbers.{four_at}
 use Rattle.sz_cells.specs.declared.Run.{Run}
 use Rattle.sz_cells.specs.Extent.{Extent, size_of}
 use Rattle.sz_cells.specs.Cells.{Cells}
@@ -27,8 +27,7 @@ runs_bytes runs = four_bytes (length runs) ++ flat_map run_bytes runs
 
 -- the number of four bytes at a place
 abbrev pub number_at : List ℕ → ℕ → ℕ
-number_at bytes at = from_be_bytes w32 (slice_index bytes at ∷ slice_index bytes (at + 1)
-    ∷ slice_index bytes (at + 2) ∷ slice_index bytes (at + 3) ∷ [])
+number_at bytes at = four_at bytes at
 
 -- the run of eight bytes at a place
 abbrev pub run_at : List ℕ → ℕ → Run

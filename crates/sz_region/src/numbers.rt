@@ -6,15 +6,15 @@ ghost use Rattle.sz_cells.specs.SetBytes.{four_bytes};
 ghost use Rattle.sz_region.specs.Counted.{rows_bytes, IsAt};
 ghost use Rattle.sz_region.specs.Putting.{AreRows, MakeRows};
 
-use crate::set_bytes::number_at;
 use sz_cells::NoMemory;
+use sz_numbers::{four_at, four_bytes};
 
 /// Appends a number. After `NoMemory` the bytes are as before.
 pub(crate) fn put_number(number: u32, to: &mut Vec<u8>) -> Result<(), NoMemory>
     ensures ok { OnOk result (to.new.items ≡ to.old.items ++ four_bytes number) }
     ensures err { OnErr result (to.new.items ≡ to.old.items) }
 {
-    to.extend_from_slice(&number.to_be_bytes())?;
+    to.extend_from_slice(&four_bytes(number))?;
     Ok(())
 }
 
@@ -43,5 +43,5 @@ pub(crate) fn take_number(bytes: &[u8], at: u64) -> Option<u32>
     if length < 4 || length - 4 < at {
         return None;
     }
-    Some(number_at(bytes, at as usize))
+    Some(four_at(bytes, at as usize))
 }

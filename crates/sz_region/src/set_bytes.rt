@@ -7,10 +7,11 @@ ghost use Rattle.sz_cells.specs.Runs.{AreRunsFrom};
 ghost use Rattle.sz_cells.specs.SetBytes.{set_bytes, BeginsSet};
 ghost use Rattle.sz_cells.specs.SetWords.{runs_spelled};
 ghost use Rattle.sz_region.specs.Taking.{SaysNoneBegins, runs_bytes, HasBody, HasNoRuns};
-ghost use Rattle.sz_region.specs.Taking.{SaysNoRuns, run_at, number_at};
+ghost use Rattle.sz_region.specs.Taking.{SaysNoRuns, run_at};
 
 use std::alloc::{AllocError, AllocFailed, Global};
 use sz_cells::{CellSet, NoMemory, Run, Shape};
+use sz_numbers::{four_at, four_bytes};
 
 /// Why no set was read.
 #[derive(Clone, Copy, Debug, Drop, PartialEq, Eq)]
@@ -79,10 +80,10 @@ pub(crate) fn put_runs(shape: &Shape, runs: &[Run], to: &mut Vec<u8>) -> Result<
     ensures err { OnErr result (take (length to.old.items) to.new.items ≡ to.old.items) }
 {
     prove!(runs.len() <= shape.size() as usize); // so their number is one of four bytes
-    to.extend_from_slice(&(runs.len() as u32).to_be_bytes())?;
+    to.extend_from_slice(&four_bytes(runs.len() as u32))?;
     for run in runs {
-        to.extend_from_slice(&run.first.to_be_bytes())?;
-        to.extend_from_slice(&run.last.to_be_bytes())?;
+        to.extend_from_slice(&four_bytes(run.first))?;
+        to.extend_from_slice(&four_bytes(run.last))?;
     }
     Ok(())
 }
@@ -120,7 +121,7 @@ fn body_at(bytes: &[u8], at: u64) -> Option<&[u8]>
     }
     let (_, rest) = bytes.split_at(at as usize);
     let (head, rest) = rest.split_at(4);
-    let long = number_at(head, 0) as usize * 8;
+    let long = four_at(head, 0) as usize * 8;
     if rest.len() < long {
         return None;
     }
@@ -156,15 +157,7 @@ fn run_at(bytes: &[u8], at: usize) -> Run
     ensures { result ≡ run_at bytes.now at }
 {
     Run {
-        first: number_at(bytes, at),
-        last: number_at(bytes, at + 4),
+        first: four_at(bytes, at),
+        last: four_at(bytes, at + 4),
     }
-}
-
-/// The number of the four bytes at a place.
-pub(crate) fn number_at(bytes: &[u8], at: usize) -> u32
-    requires { at + 4 ≤ length bytes.now }
-    ensures { result ≡ number_at bytes.now at }
-{
-    u32::from_be_bytes([bytes[at], bytes[at + 1], bytes[at + 2], bytes[at + 3]])
 }

@@ -146,7 +146,8 @@ row-long : (row : List ℕ) → length (flat_map four_bytes row) ≡ length row 
 row-long [] = refl
 row-long (n ∷ row) = omega (arith, row-long row)
 
-rows-long : (width : ℕ) (rows : List (List ℕ)) → All (λ row. length row ≡ width) rows
+-- rows of one width are so many bytes
+pub rows-long : (width : ℕ) (rows : List (List ℕ)) → All (λ row. length row ≡ width) rows
     → length (flat_map (flat_map four_bytes) rows) ≡ length rows * width * 4
 rows-long width [] wide = omega arith
 rows-long width (row ∷ rows) wide =

@@ -6,10 +6,10 @@ ghost use Rattle.sz_cells.specs.SetBytes.{four_bytes};
 ghost use Rattle.sz_region.specs.Counted.{IsAt, counted, rows_bytes};
 ghost use Rattle.sz_region.specs.PayBytes.{IsShort, payload_bytes};
 ghost use Rattle.sz_region.specs.Stores.{OnBad, NoneAt, AreFew};
-ghost use Rattle.sz_region.specs.Taking.{number_at};
 ghost use Rattle.sz_short.specs.ShortStores.{AreRowsOf, IsBlock};
 
 use sz_cells::NoMemory;
+use sz_numbers::four_at;
 use sz_region::Take;
 
 /// The number whose four bytes stand at a place. `None` exactly where there are not four bytes.
@@ -21,15 +21,7 @@ pub(crate) fn take_number(bytes: &[u8], at: u64) -> Option<u32>
     if length < 4 || length - 4 < at {
         return None;
     }
-    Some(number_at(bytes, at as usize))
-}
-
-/// The number of the four bytes at a place.
-fn number_at(bytes: &[u8], at: usize) -> u32
-    requires { at + 4 ≤ length bytes.now }
-    ensures { result ≡ number_at bytes.now at }
-{
-    u32::from_be_bytes([bytes[at], bytes[at + 1], bytes[at + 2], bytes[at + 3]])
+    Some(four_at(bytes, at as usize))
 }
 
 /// Appends the bytes between two places. After `NoMemory` the bytes are as before.

@@ -109,6 +109,20 @@ impl NodeStore {
         })
     }
 
+    /// The operator at its shapes.
+    pub fn site(&self) -> &OpAt
+        ensures { result.now ≡ self.now.site }
+    {
+        &self.at
+    }
+
+    /// The list of the strategies.
+    pub fn list(&self) -> &[Strategy]
+        ensures { result.now ≡ self.now.list }
+    {
+        &self.list
+    }
+
     /// Adds the lineage of a piece to each store, where the piece is not placed yet: then true.
     /// Where it is, nothing changes.
     ///

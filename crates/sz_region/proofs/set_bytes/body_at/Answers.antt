@@ -21,7 +21,7 @@ pub returns-then-rest-long-clause-none : goal.returns-then-rest-long-clause-none
 returns-then-rest-long-clause-none c runs rest few is =
     let there = c.split_at.ensures.back ∙ is in
     let head = c.split_at-2.ensures.front ∙ ap (take 4) there in
-    let number : c.number_at.result ≡ length runs = c.number_at.ensures ∙ ap (λ (xs : List ℕ). number_at xs 0) head
+    let number : c.four_at.result ≡ length runs = c.four_at.ensures ∙ ap (λ (xs : List ℕ). number_at xs 0) head
     ∙ from_be_bytes-to_be_bytes_4 (length runs) few in
     let behind : c.split_at-2.result.1.now ≡ flat_map run_bytes runs ++ rest =
     c.split_at-2.ensures.back ∙ ap (drop 4) there in

@@ -1,0 +1,2 @@
+-- Rows worked by hand.
+mod Rows

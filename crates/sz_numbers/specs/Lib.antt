@@ -1,0 +1,2 @@
+-- The number that bytes at a place spell.
+pub mod Numbers
