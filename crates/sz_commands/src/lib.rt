@@ -45,6 +45,8 @@
 mod asking;
 mod blank;
 mod logging;
+mod merging;
+mod refreshing;
 mod session;
 
 pub use asking::AskLine;

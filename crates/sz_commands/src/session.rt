@@ -11,17 +11,13 @@ ghost use Rattle.sz_script.specs.Right.{is_right};
 ghost use Rattle.sz_script.specs.declared.command.Command.TheVariants as order;
 ghost use Rattle.sz_catalogue.specs.Rules.{judged, version_of, has_no_version, is_not_joined};
 ghost use Rattle.sz_catalogue.specs.Rules.{is_out_of_range};
-ghost use Rattle.std.specs.Arc.{arc_value};
 ghost use Rattle.sz_catalogue.specs.Changes.{way_of, traced, changes_no_version};
-ghost use Rattle.sz_catalogue.specs.Refreshes.{cells_affected};
-ghost use Rattle.sz_commands.specs.Refreshing.{IsMadeBy};
 ghost use Rattle.sz_commands.specs.States.{apart, accepted, cells_told};
 ghost use Rattle.sz_catalogue.specs.Seen.{response_of};
 ghost use Rattle.sz_commands.specs.Commands.{Responds, traced_for_line, traced_for, traced_along};
 ghost use Rattle.sz_commands.specs.Commands.{most_for_line, most_for, most_along};
 ghost use Rattle.sz_versions.specs.Efforts.{most_traced};
 ghost use Rattle.sz_versions.specs.Stores.{IsTrailOf};
-ghost use Rattle.sz_versions.specs.Merging.{IsMergedIn};
 ghost use Rattle.sz_versions.specs.Views.{strategy_told};
 ghost use Rattle.sz_commands.specs.States.{nothing_held};
 ghost use Rattle.sz_commands.specs.Carrying.{AreGiven, AddsEntry, IsFinishedIn, FinishesEntry};
@@ -53,13 +49,10 @@ use sz_pool::{Receiver, Sender, Task, one_more, tasks};
 use sz_query::{Found, Spare, Used};
 use sz_recover::Recovered;
 use sz_script::{
-    BaseList, Command, LineFault, Name, NamedCells, NewCells, Path, Refusal, StrategyList, laws,
-    read_line,
+    BaseList, Command, LineFault, Name, NamedCells, Path, Refusal, StrategyList, laws, read_line,
 };
 use sz_spec::{Dir, Strategy, Tally};
-use sz_versions::{
-    Hands, HeldRuns, Inquiry, RefreshedRun, VersionRun, refresh_version, run_version,
-};
+use sz_versions::{Hands, HeldRuns, Inquiry, VersionRun, run_version};
 
 /// A session: what is held; the runs of the nodes of each version, with what is kept of them; where
 /// the log ends, where it has one; the channels through which tasks go to workers, and stores to be
@@ -70,9 +63,9 @@ pub struct Session {
     pub(crate) runs: HeldRuns,
     pub(crate) end: Option<LogEnd>,
     pub(crate) alloc: Global,
-    hands: Hands,
+    pub(crate) hands: Hands,
     tasks: Receiver<Task>,
-    to_merge: Sender<MergeTask>,
+    pub(crate) to_merge: Sender<MergeTask>,
     merges: Receiver<MergeTask>,
     askers: Askers,
     spare: Spare,
@@ -500,133 +493,6 @@ impl Session {
                 Err(fault)
             }
         }
-    }
-
-    /// Starts the version that a refresh orders: computes again what the set cells reach, and holds
-    /// the array and the version with its runs and its shelves.
-    fn refresh<R: Threads + Wait + Sync>(
-        &mut self,
-        rt: &R,
-        version: u32,
-        input: u32,
-        set: &NewCells,
-        tally: &mut Tally,
-    ) -> Result<Reply, NoMemory>
-        requires judged { judged self.old.held (order.Refresh version input set.now) ≡ None }
-        requires room { tally.old + 32 * 1048576 < 2 ^ 63 }
-        ensures reply { IfOk result (λ r. accepted (apart self.old)
-            (order.Refresh version input set.now) ≡ (apart self.new, response_of r)) }
-        ensures stored { OnOk result
-            (AddsEntry self.old.held self.old.stored self.new.stored) }
-        ensures end { OnOk result (self.new.end ≡ self.old.end) }
-        ensures ticks { OnOk result (tally.new ≡ tally.old + cells_affected self.old.held
-            (version_of self.old.held version) input set.now) }
-        ensures kept { OnErr result (self.new ≡ self.old) }
-    {
-        let made = self.refreshed(rt, version, input, set, tally)?;
-        self.hold_refreshed(version, input, set, made)
-    }
-
-    /// What a refresh makes, of which nothing is held yet.
-    pub(crate) fn refreshed<R: Threads + Wait + Sync>(
-        &self,
-        rt: &R,
-        version: u32,
-        input: u32,
-        set: &NewCells,
-        tally: &mut Tally,
-    ) -> Result<RefreshedRun, NoMemory>
-        requires judged { judged self.now.held (order.Refresh version input set.now) ≡ None }
-        requires room { tally.old + 32 * 1048576 < 2 ^ 63 }
-        ensures made { IfOk result (λ m. IsMadeBy self.now.held version input set.now
-            (arc_value m.array) m.run m.cells) }
-        ensures ticks { OnOk result (tally.new ≡ tally.old + cells_affected self.now.held
-            (version_of self.now.held version) input set.now) }
-    {
-        let made = refresh_version(
-            rt,
-            self.alloc,
-            &self.catalogue,
-            &self.runs,
-            &self.hands,
-            version,
-            input,
-            set.as_slice(),
-            tally,
-        )?;
-        Ok(made)
-    }
-
-    /// Holds the array that a refresh made, and the version on it, with what is carried of that.
-    /// The set cells are lent for the contract alone.
-    pub(crate) fn hold_refreshed(
-        &mut self,
-        version: u32,
-        input: u32,
-        _set: &NewCells,
-        made: RefreshedRun,
-    ) -> Result<Reply, NoMemory>
-        requires judged { judged self.old.held (order.Refresh version input _set.now) ≡ None }
-        requires made { IsMadeBy self.old.held version input _set.now (arc_value made.array)
-            made.run made.cells }
-        ensures reply { IfOk result (λ r. accepted (apart self.old)
-            (order.Refresh version input _set.now) ≡ (apart self.new, response_of r)) }
-        ensures stored { OnOk result
-            (AddsEntry self.old.held self.old.stored self.new.stored) }
-        ensures end { OnOk result (self.new.end ≡ self.old.end) }
-        ensures kept { OnErr result (self.new ≡ self.old) }
-    {
-        let RefreshedRun { array, run, cells } = made;
-        let number = self.catalogue.next_number() as u32;
-        self.runs.add(number, run)?;
-        match self.catalogue.share_refreshed(version, input, array) {
-            Ok(version) => Ok(Reply::Refreshed { version, cells }),
-            Err(fault) => {
-                self.runs.take_back();
-                Err(fault)
-            }
-        }
-    }
-
-    /// Notes that the merge of a version was asked, and hands its stores to whoever merges them,
-    /// where it was not asked before.
-    fn merge<R: Wait>(&mut self, rt: &R, version: u32) -> Result<Reply, NoMemory>
-        requires judged { judged self.old.held (order.Merge version) ≡ None }
-        ensures reply { IfOk result (λ r. accepted (apart self.old) (order.Merge version)
-            ≡ (apart self.new, response_of r)) }
-        ensures stored { OnOk result (self.new.stored ≡ self.old.stored) }
-        ensures end { OnOk result (self.new.end ≡ self.old.end) }
-        ensures kept { OnErr result (self.new ≡ self.old) }
-    {
-        let again = self.catalogue.merge_asked(version);
-        let reply = self.accept(Command::Merge { version })?;
-        if !again {
-            self.hand_merges(rt, version);
-        }
-        Ok(reply)
-    }
-
-    /// Hands the stores of a version to whoever merges them. Nothing that is seen changes.
-    fn hand_merges<R: Wait>(&mut self, rt: &R, version: u32)
-        ensures { self.new ≡ self.old }
-    {
-        self.runs
-            .hand_merges(self.alloc, rt, &self.catalogue, &self.to_merge, version);
-    }
-
-    /// Merges what is left to be merged of a version's stores, and tells how many kinds of lineage
-    /// each store of full lineage has.
-    fn merged<R: Wait>(&mut self, rt: &R, version: u32) -> Result<Reply, NoMemory>
-        requires judged { judged self.old.held (order.Merged version) ≡ None }
-        ensures reply { IfOk result (λ r. accepted (apart self.old) (order.Merged version)
-            ≡ (apart self.new, response_of r)) }
-        ensures stored { OnOk result
-            (AllZip (IsMergedIn version) self.old.stored self.new.stored) }
-        ensures end { OnOk result (self.new.end ≡ self.old.end) }
-        ensures kept { OnErr result (self.new ≡ self.old) }
-    {
-        let kinds = self.runs.merged(self.alloc, rt, &self.catalogue, version)?;
-        Ok(Reply::Merged { version, kinds })
     }
 
     /// Awaits a version: makes what is missing of its stores, takes them off their shelves, and

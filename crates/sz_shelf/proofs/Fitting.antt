@@ -13,7 +13,8 @@ use Rattle.sz_frame.specs.Parts.{Pairing, Entry, Parts}
 use Rattle.sz_frame.specs.Fits.{IsRegion, IsEntry, needs}
 use Rattle.sz_frame.specs.Images.{measure_of}
 use Rattle.sz_store.specs.Kept.{shapes_of, IsPartFor}
-use Rattle.sz_shelf.specs.Fitting.{FitsAsNeeded, FittingLineagesFitAsNeeded, NeededPartsCanBePlaced}
+use Rattle.sz_store.specs.Needed.{FitsAsNeeded}
+use Rattle.sz_shelf.specs.Fitting.{FittingLineagesFitAsNeeded, NeededPartsCanBePlaced}
 
 pub fits-needed : FittingLineagesFitAsNeeded
 fits-needed m list k p fits = record { full = fits.full; pay = fits.pay; comp = fits.comp }

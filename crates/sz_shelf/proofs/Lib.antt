@@ -1,8 +1,6 @@
--- The lemmas: of what lineages placed one after another stand for, of marks of placed pieces, and of the stores of a
--- tag; then of lists, of the kinds of step, of a turn, of the machine's replies, and of the laws; and of what crosses
--- threads.
+-- The lemmas: of lineages that fit as needed, of marks of placed pieces, and of the stores of a tag; then of lists, of
+-- the kinds of step, of a turn, of the machine's replies, and of the laws; and of what crosses threads.
 pub mod Fitting
-pub mod Lineages
 pub mod Marks
 pub mod Stores
 pub mod Lists

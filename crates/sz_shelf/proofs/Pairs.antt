@@ -24,7 +24,7 @@ use Rattle.sz_core.specs.Events.{after_look}
 use Rattle.sz_core.specs.Images.{say}
 use Rattle.sz_core.specs.States.{Shelf, whole_pairs}
 use Rattle.sz_core.proofs.Placing.{all-placed, taken-image}
-use Rattle.sz_store.proofs.Standing.{own-piece}
+use Rattle.sz_store.proofs.Placed.{own-piece}
 use Rattle.sz_shelf.specs.Tags.{Tag, tag_pieces, tag_relation, tag_image}
 use Rattle.sz_shelf.specs.Contents.{missing_in}
 use Rattle.sz_shelf.specs.Answers.{look_answer, read_by}

@@ -23,14 +23,14 @@ use Rattle.sz_spec.specs.Modes.{number_of, is_stored, is_listed}
 use Rattle.sz_spec.specs.Pieces.{pieces_of}
 use Rattle.sz_spec.specs.Sides.{near_side, image_in}
 use Rattle.sz_frame.specs.Parts.{Parts}
-use Rattle.sz_shelf.specs.Fitting.{FitsAsNeeded}
+use Rattle.sz_store.specs.Needed.{FitsAsNeeded}
 use Rattle.sz_frame.specs.Images.{measure_of}
 use Rattle.sz_frame.specs.Laws.{IsTheRelation}
 use Rattle.sz_frame.proofs.Passing.{any-map}
 use Rattle.sz_store.specs.Kept.{Holding, regions, entries, Keep, NodeLineage, keep_with, with_lineage, with_lineages}
 use Rattle.sz_store.specs.Kept.{empty_keep, no_lineage, stored_in, is_placed, holding_for, holding_stands}
 use Rattle.sz_store.proofs.Parting.{holding_has, or-cases, stands-old}
-use Rattle.sz_store.proofs.Standing.{is-false, own-piece}
+use Rattle.sz_store.proofs.Placed.{is-false, own-piece}
 use Rattle.sz_shelf.specs.Tags.{Tag, StandsFor, tag_pieces, tag_relation, tag_image}
 use Rattle.sz_shelf.specs.Contents.{is_in, missing_in}
 use Rattle.sz_shelf.specs.LawsStores.{LineagesStandOnTheirPieces, LineagesOfAllPiecesStandForTheTag}
@@ -41,7 +41,7 @@ use Rattle.sz_shelf.specs.Keeping.{IsMadeOf, AreStores, store_in, IsSharedFrom, 
 use Rattle.sz_shelf.specs.declared.stored.Stored.{Stored}
 use Rattle.sz_shelf.specs.declared.stored.Stored.TheVariants.{Open, Shared, Moved}
 use Rattle.sz_shelf.proofs.Fitting.{needed-placed}
-use Rattle.sz_shelf.proofs.Lineages.{run-all, empty-right, none-placed, needed-make-relation}
+use Rattle.sz_store.proofs.Lineages.{run-all, empty-right, none-placed, needed-make-relation}
 use Rattle.sz_shelf.proofs.Marks.{each-placed}
 
 -- ---- what lineages leave as it is

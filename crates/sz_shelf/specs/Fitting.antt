@@ -1,25 +1,14 @@
--- When a lineage can be placed on a shelf: the parts that the shelf's list needs fit.
-use Rattle.std.specs.Prelude.{◌≡◌, ℕ, ◌<◌, List, All, true}
-use Rattle.sz_spec.specs.declared.modes.Mode.TheVariants as mode
+-- When a lineage can be placed on a shelf: the parts that the shelf's list needs fit (`Needed` of
+-- sz_store).
+use Rattle.std.specs.Prelude.{ℕ, List}
 use Rattle.sz_spec.specs.declared.modes.Strategy.{Strategy}
 use Rattle.sz_spec.specs.Values.{Grid}
 use Rattle.sz_spec.specs.Shapes.{Site}
-use Rattle.sz_spec.specs.Pieces.{pieces_of}
 use Rattle.sz_frame.specs.Parts.{Parts}
-use Rattle.sz_frame.specs.Fits.{Measure, Fits, FitsFull, FitsPay, FitsComp, needs}
+use Rattle.sz_frame.specs.Fits.{Measure, Fits}
 use Rattle.sz_frame.specs.Images.{measure_of}
 use Rattle.sz_store.specs.Kept.{AreParts}
-
--- Each part that a list needs fits piece k. What a lineage has beside them is not asked.
-pub record FitsAsNeeded (m : Measure) (list : List Strategy) (k : ℕ) (p : Parts) : Type 0 where
-  pub full : needs list mode.Full ≡ true → FitsFull m k p.regions
-  pub pay : needs list mode.Pay ≡ true → FitsPay m k p.pays
-  pub comp : needs list mode.Comp ≡ true → FitsComp m k p.comps
-
--- each lineage is one of a piece of the output, and each part of it that the list needs fits
-abbrev pub AllFitAsNeeded : Site → List Grid → List Strategy → List Parts → Type 0
-AllFitAsNeeded s inputs list ps = All
-    (λ p. (p.piece < pieces_of s.out) × FitsAsNeeded (measure_of s inputs) list p.piece p) ps
+use Rattle.sz_store.specs.Needed.{FitsAsNeeded}
 
 -- A lineage that fits does so as needed.
 abbrev pub FittingLineagesFitAsNeeded : Type 0

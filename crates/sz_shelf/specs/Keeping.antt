@@ -9,7 +9,7 @@ use Rattle.std.specs.Arc.{arc_value}
 use Rattle.sz_spec.specs.Pieces.{pieces_of}
 use Rattle.sz_frame.specs.Parts.{Parts}
 use Rattle.sz_store.specs.Kept.{NodeLineage, AreParts, no_lineage, with_lineage, with_lineages}
-use Rattle.sz_shelf.specs.Fitting.{AllFitAsNeeded}
+use Rattle.sz_store.specs.Needed.{AllFitAsNeeded}
 use Rattle.sz_shelf.specs.Tags.{Tag, IsTag, StandsFor, tag_pieces}
 use Rattle.sz_shelf.specs.Contents.{is_in, missing_in}
 use Rattle.sz_shelf.specs.declared.stored.Stored.{Stored}

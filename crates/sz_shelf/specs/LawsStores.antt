@@ -9,7 +9,7 @@ use Rattle.sz_frame.specs.Parts.{Parts}
 use Rattle.sz_frame.specs.Images.{measure_of}
 use Rattle.sz_frame.specs.Laws.{IsTheRelation}
 use Rattle.sz_store.specs.Kept.{NodeLineage, no_lineage, with_lineages, holding_for, holding_stands}
-use Rattle.sz_shelf.specs.Fitting.{AllFitAsNeeded}
+use Rattle.sz_store.specs.Needed.{AllFitAsNeeded}
 use Rattle.sz_shelf.specs.Tags.{Tag, StandsFor, tag_pieces, tag_image}
 use Rattle.sz_shelf.specs.Contents.{missing_in}
 use Rattle.sz_shelf.specs.Placed.{StandsOnPlaced}

@@ -7,7 +7,7 @@ ghost use Rattle.std.specs.Arc.{arc_value};
 ghost use Rattle.sz_cells.specs.Cells.{has, with_those};
 ghost use Rattle.sz_spec.specs.Modes.{is_listed, is_stored};
 ghost use Rattle.sz_spec.specs.Sides.{near_side, far_side};
-ghost use Rattle.sz_shelf.specs.Fitting.{FitsAsNeeded};
+ghost use Rattle.sz_store.specs.Needed.{FitsAsNeeded};
 ghost use Rattle.sz_frame.specs.Images.{measure_of};
 ghost use Rattle.sz_shelf.specs.Tags.{StandsFor, tag_pieces, tag_image};
 ghost use Rattle.sz_shelf.specs.Contents.{missing_in};

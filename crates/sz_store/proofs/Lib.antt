@@ -1,7 +1,8 @@
--- The lemmas: of stores with a lineage more, of what they then stand for, of what stays true of them, of bytes one
--- after another, and of lists of stores.
+-- The lemmas: of stores with a lineage more, of pieces that are placed, of what lineages placed one after another stand
+-- for, of what stays true of the stores, of bytes one after another, and of lists of stores.
 pub mod Parting
-pub mod Standing
+pub mod Placed
+pub mod Lineages
 pub mod Placing
 pub mod Reading
 mod Listed

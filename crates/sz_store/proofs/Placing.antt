@@ -43,7 +43,7 @@ use Rattle.sz_store.specs.Words.{Begins, BeginEach}
 use Rattle.sz_store.specs.declared.stores.ListedStore.{ListedStore}
 use Rattle.sz_store.proofs.Parting.{any-inside, or-cases, piece-number, apart-more, has-more}
 use Rattle.sz_store.proofs.Reading.{payloads-begin}
-use Rattle.sz_store.proofs.Standing.{placed-same, placed-more, is-false, own-piece}
+use Rattle.sz_store.proofs.Placed.{placed-same, placed-more, is-false, own-piece}
 
 -- what is so of each that is made of an element, by the element
 pub all-of_map : {X Y : Type 0} (P : Y → Type 0) (f : X → Y) (xs : List X) → All P (map f xs) → All (λ x. P (f x)) xs

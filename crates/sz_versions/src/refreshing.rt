@@ -1,15 +1,18 @@
 //! What is carried of the version that a refresh makes.
 
-ghost use Rattle.std.specs.Prelude.{◌≡◌, ◌+◌, ◌*◌, ◌^◌, ◌<◌, true, None, map, length, slice_set};
-ghost use Rattle.std.specs.Prelude.{IfOk, OnOk};
+ghost use Rattle.std.specs.Prelude.{◌≡◌, ◌+◌, ◌*◌, ◌^◌, ◌<◌, true, false, None, IfOk, OnOk};
+ghost use Rattle.std.specs.Prelude.{map, length, slice_set};
 ghost use Rattle.std.specs.List.{list_all};
 ghost use Rattle.std.specs.Arc.{arc_value};
 ghost use Rattle.sz_cells.specs.Extent.{holds, cell_in};
 ghost use Rattle.sz_script.specs.declared.command.Command.TheVariants as order;
-ghost use Rattle.sz_catalogue.specs.Holdings.{arrays_of};
-ghost use Rattle.sz_catalogue.specs.Rules.{judged, version_of};
-ghost use Rattle.sz_catalogue.specs.Refreshes.{has_new_cell, with_cells, cells_set};
+ghost use Rattle.sz_flow.specs.Executions.{execution_of};
+ghost use Rattle.sz_catalogue.specs.Holdings.{Holdings, arrays_of};
+ghost use Rattle.sz_catalogue.specs.Rules.{judged, version_of, has_no_version};
+ghost use Rattle.sz_catalogue.specs.Refreshes.{has_input, base_at, has_new_cell, with_cells};
+ghost use Rattle.sz_catalogue.specs.Refreshes.{cells_set};
 ghost use Rattle.sz_catalogue.specs.Refreshes.{array_refreshed, version_refreshed, cells_affected};
+ghost use Rattle.sz_versions.specs.Runs.{executions_of, IsSoundVersion};
 ghost use Rattle.sz_versions.specs.Residents.{IsInService};
 ghost use Rattle.sz_versions.specs.Stores.{IsTrailOf};
 
@@ -20,8 +23,9 @@ use crate::tasks::Hands;
 use std::alloc::Global;
 use std::sync::{Arc, Wait};
 use std::thread::Threads;
-use sz_catalogue::{BaseArray, Catalogue};
+use sz_catalogue::{BaseArray, Catalogue, HeldVersion};
 use sz_cells::{Cell, CellSet, NoMemory, Shape, laws};
+use sz_flow::NodeRun;
 use sz_refresh::refresh;
 use sz_script::NewCell;
 use sz_spec::{Array, Tally};
@@ -64,30 +68,112 @@ pub fn refresh_version<R: Threads + Wait + Sync>(
     ensures ticks { OnOk result (tally.new ≡ tally.old
         + cells_affected catalogue.now (version_of catalogue.now version) input set.now) }
 {
-    let Some(held) = catalogue.version(version) else {
-        unreachable!()
-    };
+    let held = version_held(catalogue, version);
     let Some(old) = runs.runs(version) else {
         unreachable!()
     };
-    let base = held.base.as_slice();
+    refresh_held(rt, alloc, catalogue, held, old, hands, input, set, tally)
+}
+
+/// A version that is held.
+fn version_held(catalogue: &Catalogue, version: u32) -> &HeldVersion
+    requires { has_no_version catalogue.now version ≡ false }
+    ensures { result.now ≡ version_of catalogue.now version }
+{
+    let Some(held) = catalogue.version(version) else {
+        unreachable!()
+    };
+    held
+}
+
+/// What a refresh makes of a version and the runs of its nodes.
+fn refresh_held<R: Threads + Wait + Sync>(
+    rt: &R,
+    alloc: Global,
+    catalogue: &Catalogue,
+    version: &HeldVersion,
+    old: &[NodeRun],
+    hands: &Hands,
+    input: u32,
+    set: &[NewCell],
+    tally: &mut Tally,
+) -> Result<RefreshedRun, NoMemory>
+    requires sound { IsSoundVersion version.now }
+    requires input { has_input version.now input ≡ true }
+    requires cells { list_all (has_new_cell (base_at version.now input).array.extent) set.now
+        ≡ true }
+    requires old { map execution_of old.now ≡ executions_of version.now }
+    requires room { tally.old + 32 * 1048576 < 2 ^ 63 }
+    ensures array { IfOk result
+        (λ r. arc_value r.array ≡ array_refreshed version.now input set.now) }
+    ensures run { IfOk result
+        (λ r. IsTrailOf (version_refreshed catalogue.now version.now input set.now) r.run) }
+    ensures cells { IfOk result
+        (λ r. r.cells ≡ cells_affected catalogue.now version.now input set.now) }
+    ensures ticks { OnOk result
+        (tally.new ≡ tally.old + cells_affected catalogue.now version.now input set.now) }
+{
+    let new = base_with(alloc, version, input, set)?;
+    let before = tally.count();
+    let refreshed = refresh(
+        rt,
+        alloc,
+        &version.flow,
+        old,
+        &new.arrays,
+        input,
+        &new.changed,
+        tally,
+    )?;
+    let cells = tally.count() - before;
+    let number = catalogue.next_number() as u32;
+    let lists = version.lists.as_slice();
+    let run = carried(rt, alloc, hands, number, lists, refreshed.runs)?;
+    Ok(RefreshedRun {
+        array: new.array,
+        run,
+        cells,
+    })
+}
+
+/// Base arrays of which some cells of one are set.
+#[derive(Drop)]
+struct NewBase {
+    /// The array with these cells set.
+    array: Arc<Array>,
+    /// All base arrays, with that in its place.
+    arrays: Vec<Arc<Array>>,
+    /// The cells that are set.
+    changed: CellSet,
+}
+
+/// The base arrays of a version with some cells of an input's set.
+fn base_with(
+    alloc: Global,
+    version: &HeldVersion,
+    input: u32,
+    set: &[NewCell],
+) -> Result<NewBase, NoMemory>
+    requires input { has_input version.now input ≡ true }
+    requires cells { list_all (has_new_cell (base_at version.now input).array.extent) set.now
+        ≡ true }
+    ensures array { IfOk result
+        (λ n. arc_value n.array ≡ array_refreshed version.now input set.now) }
+    ensures arrays { IfOk result (λ n. (c : Holdings) → map (λ a. arc_value a) n.arrays.items
+        ≡ arrays_of (version_refreshed c version.now input set.now).base) }
+    ensures changed { IfOk result
+        (λ n. n.changed ≡ cells_set (base_at version.now input).array.extent set.now) }
+{
+    let base = version.base.as_slice();
     let only = &base[input as usize];
     let changed = cells_set(alloc, only.array.shape(), set)?;
     let array = Arc::new(alloc, array_with(alloc, &only.array, set)?)?;
     let arrays = arrays_with(alloc, base, input, &array)?;
-    let before = tally.count();
-    let refreshed = refresh(rt, alloc, &held.flow, old, &arrays, input, &changed, tally)?;
-    let cells = tally.count() - before;
-    let number = catalogue.next_number() as u32;
-    let run = carried(
-        rt,
-        alloc,
-        hands,
-        number,
-        held.lists.as_slice(),
-        refreshed.runs,
-    )?;
-    Ok(RefreshedRun { array, run, cells })
+    Ok(NewBase {
+        array,
+        arrays,
+        changed,
+    })
 }
 
 /// An array with some cells set, one after another.

@@ -6,5 +6,6 @@
 
 #[cfg(test)]
 mod askers;
+mod merges;
 #[cfg(test)]
 mod workers;

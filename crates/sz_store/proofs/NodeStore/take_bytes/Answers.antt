@@ -8,7 +8,7 @@ use Rattle.sz_store.specs.Kept.{stored_in}
 use Rattle.sz_store.specs.Stocks.{keep_of, site_of}
 use Rattle.sz_store.proofs.Placing.{stocked-read}
 use Rattle.sz_store.proofs.Reading.{each-within}
-use Rattle.sz_store.proofs.Standing.{whole-replicate}
+use Rattle.sz_store.proofs.Placed.{whole-replicate}
 use Rattle.sz_store.proofs.NodeStore.take_bytes.Goals as goal
 
 pub invariant_of-store : goal.invariant_of-store

@@ -1,5 +1,5 @@
 -- The lemma is the law.
-use Rattle.sz_store.proofs.Standing.{pieces-make-relation}
+use Rattle.sz_store.proofs.Lineages.{pieces-make-relation}
 use Rattle.sz_store.proofs.laws.placed_pieces_make_the_relation.Goals as goal
 
 pub returns : goal.returns

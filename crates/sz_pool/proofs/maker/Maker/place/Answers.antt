@@ -8,7 +8,7 @@ use Rattle.sz_spec.specs.Values.{Grid}
 use Rattle.sz_spec.specs.Pieces.{pieces_of}
 use Rattle.sz_frame.specs.Images.{measure_of}
 use Rattle.sz_shelf.specs.Tags.{Tag, tag_pieces}
-use Rattle.sz_shelf.specs.Fitting.{FitsAsNeeded}
+use Rattle.sz_store.specs.Needed.{FitsAsNeeded}
 use Rattle.sz_shelf.proofs.Fitting.{fits-needed}
 use Rattle.sz_shelf.specs.Places.{ShelfPlace}
 use Rattle.sz_shelf.specs.Contents.{is_in}

@@ -4,7 +4,7 @@ use Rattle.std.proofs.Common.{sym, ap, ◌∙◌}
 use Rattle.sz_shelf.specs.Tags.{tag_pieces}
 use Rattle.sz_shelf.specs.Contents.{Contents, is_in}
 use Rattle.sz_frame.specs.Images.{measure_of}
-use Rattle.sz_shelf.specs.Fitting.{FitsAsNeeded}
+use Rattle.sz_store.specs.Needed.{FitsAsNeeded}
 use Rattle.sz_shelf.specs.Keeping.{IsFirst}
 use Rattle.sz_shelf.proofs.Marks.{marks-more}
 use Rattle.sz_shelf.proofs.Stores.{can-take, stores-more}

@@ -25,18 +25,18 @@ use Rattle.sz_spec.specs.Shapes.{Site}
 use Rattle.sz_spec.specs.Modes.{mode_of, is_stored}
 use Rattle.sz_spec.specs.Pieces.{pieces_of, is_in_piece}
 use Rattle.sz_frame.specs.Parts.{Pairing, Entry, Parts}
-use Rattle.sz_frame.specs.Fits.{StandsOn, IsRegion, IsEntry, needs, is_mode}
+use Rattle.sz_frame.specs.Fits.{Fits, StandsOn, IsRegion, IsEntry, needs, is_mode}
 use Rattle.sz_frame.specs.Images.{measure_of}
 use Rattle.sz_frame.specs.Laws.{IsTheRelation}
 use Rattle.sz_store.specs.Kept.{Holding, regions, entries, NodeLineage, with_part, keep_with, with_lineage}
 use Rattle.sz_store.specs.Kept.{with_lineages, empty_keep, no_lineage, stored_in, nothing_for, is_placed}
 use Rattle.sz_store.specs.Kept.{holding_stands, is_whole}
-use Rattle.sz_store.specs.Laws.{HasEachPiece}
+use Rattle.sz_store.specs.Laws.{HasEachPiece, PlacedPiecesMakeTheRelation}
 use Rattle.sz_store.specs.Stocks.{mode_in}
-use Rattle.sz_shelf.specs.Fitting.{FitsAsNeeded, AllFitAsNeeded}
+use Rattle.sz_store.specs.Needed.{FitsAsNeeded, AllFitAsNeeded}
 use Rattle.sz_store.proofs.Parting.{holding_has, part_in, or-cases, has-more, stands-old, stands-new, any-inside}
 use Rattle.sz_store.proofs.Parting.{piece-number}
-use Rattle.sz_store.proofs.Standing.{placed-same, placed-more, placed-cases, is-false, all-placed, own-piece}
+use Rattle.sz_store.proofs.Placed.{placed-same, placed-more, placed-cases, is-false, all-placed, own-piece}
 
 -- a store of the list is right so far
 pub record IsRight (s : Site) (inputs : List Grid) (list : List Strategy) (placed : List Bool)
@@ -272,3 +272,11 @@ needed-make-relation s inputs list ps fit each =
           right.stands (index_of s.out o / 64) (run.own (index_of s.out o / 64) (each (index_of s.out o / 64) own.0))
           i o x few own.1 there,
     )
+
+-- lineages that fit do so as needed
+pub pieces-make-relation : PlacedPiecesMakeTheRelation
+pieces-make-relation s inputs list ps fit each =
+    needed-make-relation s inputs list ps
+    (All-weaker (λ p. (p.piece < pieces_of s.out) × Fits (measure_of s inputs) list p.piece p)
+    (λ p. (p.piece < pieces_of s.out) × FitsAsNeeded (measure_of s inputs) list p.piece p)
+    (λ p both. (both.0, record { full = both.1.full; pay = both.1.pay; comp = both.1.comp })) ps fit) each
