@@ -11,32 +11,12 @@ root=$(cd "$(dirname "$0")/.." && pwd)
 work=$(mktemp -d)
 trap 'rm -rf "$work"' EXIT
 mkdir -p "$work/crates/times/src" "$work/crates/times/specs" "$work/crates/times/proofs"
-cp "$root/HANDLES" "$work/"
-for name in sz_cells sz_spec sz_frame sz_region sz_ops_local sz_ops_move sz_ops_window sz_ops_region sz_ops; do
-    (cd "$root/crates" && tar cf - --exclude=out --exclude=must-fail "$name") | tar xf - -C "$work/crates"
-    grep -E "^$name:" "$root/crates.txt" >>"$work/crates.txt"
-done
+. "$root/bench/apart.sh"
+take_crates sz_cells sz_spec sz_ops
 echo 'times: sz_cells sz_spec sz_ops anyhow' >>"$work/crates.txt"
 touch "$work/crates/times/specs/Lib.antt"
 echo 'pub mod Sites' >"$work/crates/times/proofs/Lib.antt"
-cat >"$work/crates/times/proofs/Sites.antt" <<'ANTT'
--- The inputs' shapes of an operator at its shapes are those that were given.
-use Rattle.std.proofs.Common.{◌≡◌, List, refl, ap}
-use Rattle.std.specs.Prelude.{Result, Ok, Err}
-use Rattle.std.specs.Result.{result_map_both}
-use Rattle.sz_cells.specs.Extent.{Extent}
-use Rattle.sz_spec.specs.declared.op.Op.{Op}
-use Rattle.sz_spec.specs.declared.shapes.ShapeFault.{ShapeFault}
-use Rattle.sz_spec.specs.Shapes.{Site, shape_of, site_of}
-
-placed : (op : Op) (ins : List Extent) (r : Result Extent ShapeFault) (a : Site)
-    → result_map_both (λ out. record { op = op; ins = ins; out = out }) (λ f. f) r ≡ Ok a → a.ins ≡ ins
-placed op ins (Ok e) a h = (cc)
-placed op ins (Err f) a h = (cc)
-
-pub given_ins : (op : Op) (ins : List Extent) (a : Site) → site_of op ins ≡ Ok a → a.ins ≡ ins
-given_ins op ins a h = placed op ins (shape_of op ins) a h
-ANTT
+write_sites "$work/crates/times/proofs/Sites.antt"
 sed "s/SIDE_HERE/$side/" >"$work/crates/times/src/main.rt" <<'RT'
 #![tactic(auto)]
 

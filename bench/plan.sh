@@ -9,11 +9,8 @@ root=$(cd "$(dirname "$0")/.." && pwd)
 work=$(mktemp -d)
 trap 'rm -rf "$work"' EXIT
 mkdir -p "$work/crates/plans/src" "$work/crates/plans/specs"
-cp "$root/HANDLES" "$work/"
-for name in sz_cells sz_spec sz_planner; do
-    (cd "$root/crates" && tar cf - --exclude=must-fail "$name") | tar xf - -C "$work/crates"
-    grep -E "^$name:" "$root/crates.txt" >>"$work/crates.txt"
-done
+. "$root/bench/apart.sh"
+take_crates sz_cells sz_spec sz_planner
 echo 'plans: sz_cells sz_spec sz_planner anyhow' >>"$work/crates.txt"
 touch "$work/crates/plans/specs/Lib.antt"
 cat >"$work/crates/plans/src/main.rt" <<'RT'

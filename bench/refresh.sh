@@ -12,11 +12,8 @@ work=$(mktemp -d)
 trap 'rm -rf "$work"' EXIT
 here="$work/crates/refreshes"
 mkdir -p "$here/src" "$here/specs"
-cp "$root/HANDLES" "$work/"
-for name in sz_cells sz_spec sz_frame sz_region sz_ops_local sz_ops_move sz_ops_window sz_ops_region sz_ops sz_flow sz_refresh; do
-    (cd "$root/crates" && tar cf - --exclude=out --exclude=must-fail "$name") | tar xf - -C "$work/crates"
-    grep -E "^$name:" "$root/crates.txt" >>"$work/crates.txt"
-done
+. "$root/bench/apart.sh"
+take_crates sz_cells sz_spec sz_flow sz_refresh
 echo 'refreshes: sz_cells sz_spec sz_flow sz_refresh anyhow' >>"$work/crates.txt"
 # what a refresh asks for is tested as the tests of refreshes test it
 (cd "$root/crates/trials_refresh" && tar cf - specs proofs src/agreed.rt src/asked.rt) | tar xf - -C "$here"

@@ -25,11 +25,8 @@ work=$(mktemp -d)
 trap 'rm -rf "$work"' EXIT
 here=$work/crates/turns
 mkdir -p "$here/src" "$here/specs" "$here/proofs"
-cp "$root/HANDLES" "$work/"
-for name in sz_cells sz_spec sz_frame sz_region sz_core sz_rtree sz_ops_local sz_ops_move sz_ops_window sz_ops_region sz_ops sz_tables sz_full_one sz_full_many sz_payload sz_store sz_shelf; do
-    (cd "$root/crates" && tar cf - --exclude=must-fail --exclude=rested --exclude=incremental "$name") | tar xf - -C "$work/crates"
-    grep -E "^$name:" "$root/crates.txt" >>"$work/crates.txt"
-done
+. "$root/bench/apart.sh"
+take_crates sz_cells sz_spec sz_frame sz_region sz_ops sz_store sz_shelf
 echo 'turns: sz_cells sz_spec sz_frame sz_region sz_ops sz_store sz_shelf anyhow' >>"$work/crates.txt"
 cat >"$here/specs/Lib.antt" <<'ANTT'
 pub mod Bench
@@ -57,24 +54,7 @@ ANTT
 cat >"$here/proofs/Lib.antt" <<'ANTT'
 pub mod Sites
 ANTT
-cat >"$here/proofs/Sites.antt" <<'ANTT'
--- The inputs' shapes of an operator at its shapes are those that were given.
-use Rattle.std.proofs.Common.{◌≡◌, List, refl, ap}
-use Rattle.std.specs.Prelude.{Result, Ok, Err}
-use Rattle.std.specs.Result.{result_map_both}
-use Rattle.sz_cells.specs.Extent.{Extent}
-use Rattle.sz_spec.specs.declared.op.Op.{Op}
-use Rattle.sz_spec.specs.declared.shapes.ShapeFault.{ShapeFault}
-use Rattle.sz_spec.specs.Shapes.{Site, shape_of, site_of}
-
-placed : (op : Op) (ins : List Extent) (r : Result Extent ShapeFault) (a : Site)
-    → result_map_both (λ out. record { op = op; ins = ins; out = out }) (λ f. f) r ≡ Ok a → a.ins ≡ ins
-placed op ins (Ok e) a h = (cc)
-placed op ins (Err f) a h = (cc)
-
-pub given_ins : (op : Op) (ins : List Extent) (a : Site) → site_of op ins ≡ Ok a → a.ins ≡ ins
-given_ins op ins a h = placed op ins (shape_of op ins) a h
-ANTT
+write_sites "$here/proofs/Sites.antt"
 mkdir -p "$here/proofs/run"
 cat >"$here/proofs/run/Answers.antt" <<'ANTT'
 -- A worker moves, since a pass moves and a shelf is shared.

@@ -30,13 +30,8 @@ work=$(mktemp -d)
 trap 'rm -rf "$work"' EXIT
 here=$work/crates/stores
 mkdir -p "$here/src" "$here/specs" "$here/proofs"
-cp "$root/HANDLES" "$work/"
-for name in sz_cells sz_spec sz_frame sz_region sz_rtree sz_ops_local sz_ops_move sz_ops_window sz_ops_region sz_ops sz_tables sz_full_one sz_full_many \
-    sz_payload sz_store; do
-    mkdir -p "$work/crates/$name"
-    (cd "$root/crates" && tar cf - --exclude=must-fail "$name") | tar xf - -C "$work/crates"
-    grep -E "^$name:" "$root/crates.txt" >>"$work/crates.txt"
-done
+. "$root/bench/apart.sh"
+take_crates sz_cells sz_spec sz_frame sz_region sz_ops sz_tables sz_full_one sz_full_many sz_payload sz_store
 echo 'stores: sz_cells sz_spec sz_frame sz_region sz_ops sz_tables sz_full_one sz_full_many sz_payload sz_store anyhow' >>"$work/crates.txt"
 cat >"$here/specs/Lib.antt" <<'ANTT'
 pub mod Keeping
@@ -96,24 +91,7 @@ pub are_pairs : (s : Site) (inputs : List Grid) (list : List Strategy) (k : ℕ)
     → Fits (measure_of s inputs) list k p → All (IsPairOf s) p.regions
 are_pairs s inputs list k p full h = λ n d below. pair s inputs k _ ((h.full full).each n d below)
 ANTT
-cat >"$here/proofs/Sites.antt" <<'ANTT'
--- The inputs' shapes of an operator at its shapes are those that were given.
-use Rattle.std.proofs.Common.{◌≡◌, List, refl, ap}
-use Rattle.std.specs.Prelude.{Result, Ok, Err}
-use Rattle.std.specs.Result.{result_map_both}
-use Rattle.sz_cells.specs.Extent.{Extent}
-use Rattle.sz_spec.specs.declared.op.Op.{Op}
-use Rattle.sz_spec.specs.declared.shapes.ShapeFault.{ShapeFault}
-use Rattle.sz_spec.specs.Shapes.{Site, shape_of, site_of}
-
-placed : (op : Op) (ins : List Extent) (r : Result Extent ShapeFault) (a : Site)
-    → result_map_both (λ out. record { op = op; ins = ins; out = out }) (λ f. f) r ≡ Ok a → a.ins ≡ ins
-placed op ins (Ok e) a h = (cc)
-placed op ins (Err f) a h = (cc)
-
-pub given_ins : (op : Op) (ins : List Extent) (a : Site) → site_of op ins ≡ Ok a → a.ins ≡ ins
-given_ins op ins a h = placed op ins (shape_of op ins) a h
-ANTT
+write_sites "$here/proofs/Sites.antt"
 for place in 'measures asked row fn.' 'pieces cells_of index'; do
     read -r module function variable whole <<<"$place"
     mkdir -p "$here/proofs/$module/$function"
