@@ -4,6 +4,7 @@
     python3 bench/emptied.py CRATE..                 every definition in specs/ of these crates
     python3 bench/emptied.py --minutes 60 CRATE..    stops after so long
     python3 bench/emptied.py --above 0 CRATE..       checks the crate alone, and none above it
+    python3 bench/emptied.py --part 1/4 CRATE..      tries the first of every four edits: four such runs try all
     python3 bench/emptied.py --list CRATE..          prints the edits, and tries none
     python3 bench/emptied.py --names CRATE..         the definitions that are only handed on by name, and tries none
 
@@ -180,6 +181,7 @@ def main() -> None:
     words.add_argument("crates", nargs="+")
     words.add_argument("--minutes", type=float, default=1e9)
     words.add_argument("--above", type=int, default=3, help="how many crates above are checked at most")
+    words.add_argument("--part", default="1/1")
     words.add_argument("--list", action="store_true")
     words.add_argument("--names", action="store_true")
     given = words.parse_args()
@@ -191,6 +193,8 @@ def main() -> None:
         if file.name != "Lib.antt"
         for edit in edits_of(crate, file)
     ]
+    part, parts = map(int, given.part.split("/"))
+    edits = edits[part - 1 :: parts]
     if given.names:
         print("\n".join(line for crate in given.crates for line in only_named(crate, below)))
         return

@@ -5,6 +5,7 @@ names among the goals that stay open?
     python3 bench/shown.py CRATE..                 each edit in must-fail/ of these crates
     python3 bench/shown.py --rested CRATE..        each in rested/
     python3 bench/shown.py --minutes 60 CRATE..    stops after so long
+    python3 bench/shown.py --part 1/4 CRATE..      tries the first of every four edits: four such runs try all
 
 An edit whose body branches elsewhere renames goals, and is refused since the proof names ones that are gone: that shows
 nothing of the contract. So each is put into a copy of the repository, the answers of the function that it edits are
@@ -104,6 +105,7 @@ def main() -> None:
     words = argparse.ArgumentParser()
     words.add_argument("--rested", action="store_true")
     words.add_argument("--minutes", type=float, default=1e9)
+    words.add_argument("--part", default="1/1")
     words.add_argument("--over", type=pathlib.Path, help="a copy of the repository to work in, where one was checked")
     words.add_argument("crates", nargs="+")
     given = words.parse_args()
@@ -112,12 +114,13 @@ def main() -> None:
     if given.over is None:
         shutil.copytree(ROOT, copy, ignore=shutil.ignore_patterns(".git"))
     kind = "rested" if given.rested else "must-fail"
-    for crate in given.crates:
-        for edit in sorted((ROOT / "crates" / crate / kind).glob("*.edit")):
-            if time.time() > end:
-                sys.exit("out of time")
-            verdict, words_of = try_edit(copy, crate, edit)
-            print(f"{verdict:8} {crate} {edit.stem}: {words_of}", flush=True)
+    part, parts = map(int, given.part.split("/"))
+    edits = [(crate, edit) for crate in given.crates for edit in sorted((ROOT / "crates" / crate / kind).glob("*.edit"))]
+    for crate, edit in edits[part - 1 :: parts]:
+        if time.time() > end:
+            sys.exit("out of time")
+        verdict, words_of = try_edit(copy, crate, edit)
+        print(f"{verdict:8} {crate} {edit.stem}: {words_of}", flush=True)
 
 
 if __name__ == "__main__":
