@@ -1,15 +1,23 @@
 -- Each node in turn is refreshed over the outputs and the affected cells so far.
-use Rattle.std.proofs.Common.{◌≡◌, ℕ, ◌<◌, List, map, length, sym, ap, subst, ◌∙◌, arith}
+use Rattle.std.proofs.Common.{◌≡◌, ℕ, ◌<◌, ◌≤◌, ◌*◌, List, Some, map, length, sym, ap, subst, ◌∙◌, arith}
 use Rattle.std.specs.Arc.{arc_value}
+use Rattle.std.specs.List.{slice_get}
 use Rattle.std.proofs.lemmas.List.{length-map}
 use Rattle.std.proofs.lemmas.Option.{slice_get_within}
 use Rattle.sz_cells.specs.Cells.{Cells}
+use Rattle.sz_spec.specs.Values.{Grid}
+use Rattle.sz_flow.specs.Nodes.{inputs_among}
+use Rattle.sz_spec.specs.Affected.{affected, cells_in}
+use Rattle.sz_refresh.specs.Changes.{changed_from}
 use Rattle.sz_spec.specs.LawsFlows.{IsRightNode}
 use Rattle.sz_spec.proofs.FlowOutputs.{well-formed_parts}
 use Rattle.sz_flow.specs.declared.node_run.NodeRun.{NodeRun}
-use Rattle.sz_flow.specs.Executions.{execution_of}
-use Rattle.sz_refresh.proofs.Nodes.{Over, so_far-all}
-use Rattle.sz_refresh.proofs.Steps.{there-of, olds-count, step-known, step-next}
+use Rattle.sz_flow.specs.Executions.{execution_of, executions}
+use Rattle.sz_refresh.specs.Before.{IsBefore}
+use Rattle.sz_refresh.proofs.Nodes.{Over, IsNode, so_far-all}
+use Rattle.sz_refresh.proofs.Steps.{outs, there-of, olds-count, step-known, step-next}
+use Rattle.sz_refresh.proofs.flow.refresh.Given as given
+use Rattle.sz_refresh.proofs.flow.refresh.Goals.{After-deref-in-loop-number}
 use Rattle.sz_refresh.proofs.flow.refresh.Goals as goal
 
 pub bounds-old-number : goal.bounds-old-number
@@ -25,6 +33,49 @@ bounds-old-number g c =
     c.node-item.is in
     let many = olds-count flow olds base c.args.input c.args.changed.now before is in
     omega (arith, many, slice_get_within flow.nodes n x there)
+
+-- what is known of a node in its turn
+record IsTurn (g : given.Over) (c : After-deref-in-loop-number g) : Type 0 where
+  pub there : slice_get c.args.flow.now.nodes c.loop-number.number ≡ Some c.node-item.result
+  pub inside : c.loop-number.number < length c.args.old.now
+  pub over : Over c.args.flow.now (map execution_of c.args.old.now) (map (λ a. arc_value a) c.args.base.now)
+      c.args.input c.args.changed.now
+  pub node : IsNode c.args.flow.now (map (λ a. arc_value a) c.args.base.now) c.args.input c.args.changed.now
+      c.requires.before.0 c.loop-number.number c.node-item.result (execution_of c.index-old-number.result)
+      (inputs_among (map (λ a. arc_value a) c.args.base.now) (outs c.deref.result.now) c.node-item.result)
+      c.deref-in-loop-number.result.now
+      (map (changed_from c.args.input c.args.changed.now c.deref-in-loop-number.result.now) c.node-item.result.from)
+
+is-turn : (g : given.Over) (c : After-deref-in-loop-number g) → IsTurn g c
+is-turn g c =
+    let flow = c.args.flow.now in
+    let base = map (λ a. arc_value a) c.args.base.now in
+    let olds = c.args.old.now in
+    let n = c.loop-number.number in
+    let x = c.node-item.result in
+    let before = c.requires.before.0 in
+    let is = c.requires.before.1 in
+    let there = there-of c.nodes-node-items.result.now flow.nodes n x c.nodes-node-items.ensures c.loop-number-test.true
+    c.node-item.is in
+    let over : Over flow (map execution_of olds) base c.args.input c.args.changed.now = record {
+      right = c.requires.well_formed;
+      count = length-map c.args.base.now (λ a. arc_value a) ∙ c.requires.count;
+      fits = c.requires.fits;
+      limits = c.within_limits.ensures;
+      shape = c.requires.shape;
+    } in
+    let many = olds-count flow olds base c.args.input c.args.changed.now before is in
+    let inside : n < length olds = omega (arith, many, slice_get_within flow.nodes n x there) in
+    record {
+      there = there;
+      inside = inside;
+      over = over;
+      node =
+          step-known flow olds c.loop-number.runs.items c.deref.result.now base c.args.input c.args.changed.now before
+          c.loop-number.affected.items c.deref-in-loop-number.result.now c.loop-number.count n x
+          c.index-old-number.result over is c.loop-number.invariant there inside c.index-old-number.is
+          c.deref.ensures.value c.deref-in-loop-number.ensures.value;
+    }
 
 pub refresh_node-requires-clause-right : goal.refresh_node-requires-clause-right
 refresh_node-requires-clause-right g c κs within =
@@ -54,235 +105,46 @@ refresh_node-requires-clause-sets g c κs within =
 
 pub refresh_node-requires-clause-op : goal.refresh_node-requires-clause-op
 refresh_node-requires-clause-op g c κs within =
-    let flow = c.args.flow.now in
-    let base = map (λ a. arc_value a) c.args.base.now in
-    let olds = c.args.old.now in
-    let n = c.loop-number.number in
-    let x = c.node-item.result in
-    let before = c.requires.before.0 in
-    let is = c.requires.before.1 in
-    let there = there-of c.nodes-node-items.result.now flow.nodes n x c.nodes-node-items.ensures c.loop-number-test.true
-    c.node-item.is in
-    let over : Over flow (map execution_of olds) base c.args.input c.args.changed.now = record {
-      right = c.requires.well_formed;
-      count = length-map c.args.base.now (λ a. arc_value a) ∙ c.requires.count;
-      fits = c.requires.fits;
-      limits = c.within_limits.ensures;
-      shape = c.requires.shape;
-    } in
-    let many = olds-count flow olds base c.args.input c.args.changed.now before is in
-    let inside : n < length olds = omega (arith, many, slice_get_within flow.nodes n x there) in
-    let node =
-    step-known flow olds c.loop-number.runs.items c.deref.result.now base c.args.input c.args.changed.now before
-    c.loop-number.affected.items c.deref-in-loop-number.result.now c.loop-number.count n x c.index-old-number.result
-    over
-    is c.loop-number.invariant there inside c.index-old-number.is c.deref.ensures.value
-    c.deref-in-loop-number.ensures.value
-    in
-    node.op
+    (is-turn g (goal.at.refresh_node-requires-clause-op g c).After-deref-in-loop-number).node.op
 
 pub refresh_node-requires-clause-ins : goal.refresh_node-requires-clause-ins
 refresh_node-requires-clause-ins g c κs within =
-    let flow = c.args.flow.now in
-    let base = map (λ a. arc_value a) c.args.base.now in
-    let olds = c.args.old.now in
-    let n = c.loop-number.number in
-    let x = c.node-item.result in
-    let before = c.requires.before.0 in
-    let is = c.requires.before.1 in
-    let there = there-of c.nodes-node-items.result.now flow.nodes n x c.nodes-node-items.ensures c.loop-number-test.true
-    c.node-item.is in
-    let over : Over flow (map execution_of olds) base c.args.input c.args.changed.now = record {
-      right = c.requires.well_formed;
-      count = length-map c.args.base.now (λ a. arc_value a) ∙ c.requires.count;
-      fits = c.requires.fits;
-      limits = c.within_limits.ensures;
-      shape = c.requires.shape;
-    } in
-    let many = olds-count flow olds base c.args.input c.args.changed.now before is in
-    let inside : n < length olds = omega (arith, many, slice_get_within flow.nodes n x there) in
-    let node =
-    step-known flow olds c.loop-number.runs.items c.deref.result.now base c.args.input c.args.changed.now before
-    c.loop-number.affected.items c.deref-in-loop-number.result.now c.loop-number.count n x c.index-old-number.result
-    over
-    is c.loop-number.invariant there inside c.index-old-number.is c.deref.ensures.value
-    c.deref-in-loop-number.ensures.value
-    in
-    node.ins
+    (is-turn g (goal.at.refresh_node-requires-clause-ins g c).After-deref-in-loop-number).node.ins
 
 pub refresh_node-requires-clause-out : goal.refresh_node-requires-clause-out
 refresh_node-requires-clause-out g c κs within =
-    let flow = c.args.flow.now in
-    let base = map (λ a. arc_value a) c.args.base.now in
-    let olds = c.args.old.now in
-    let n = c.loop-number.number in
-    let x = c.node-item.result in
-    let before = c.requires.before.0 in
-    let is = c.requires.before.1 in
-    let there = there-of c.nodes-node-items.result.now flow.nodes n x c.nodes-node-items.ensures c.loop-number-test.true
-    c.node-item.is in
-    let over : Over flow (map execution_of olds) base c.args.input c.args.changed.now = record {
-      right = c.requires.well_formed;
-      count = length-map c.args.base.now (λ a. arc_value a) ∙ c.requires.count;
-      fits = c.requires.fits;
-      limits = c.within_limits.ensures;
-      shape = c.requires.shape;
-    } in
-    let many = olds-count flow olds base c.args.input c.args.changed.now before is in
-    let inside : n < length olds = omega (arith, many, slice_get_within flow.nodes n x there) in
-    let node =
-    step-known flow olds c.loop-number.runs.items c.deref.result.now base c.args.input c.args.changed.now before
-    c.loop-number.affected.items c.deref-in-loop-number.result.now c.loop-number.count n x c.index-old-number.result
-    over
-    is c.loop-number.invariant there inside c.index-old-number.is c.deref.ensures.value
-    c.deref-in-loop-number.ensures.value
-    in
-    node.out
+    (is-turn g (goal.at.refresh_node-requires-clause-out g c).After-deref-in-loop-number).node.out
 
 pub refresh_node-requires-clause-value : goal.refresh_node-requires-clause-value
 refresh_node-requires-clause-value g c κs within =
-    let flow = c.args.flow.now in
-    let base = map (λ a. arc_value a) c.args.base.now in
-    let olds = c.args.old.now in
-    let n = c.loop-number.number in
-    let x = c.node-item.result in
-    let before = c.requires.before.0 in
-    let is = c.requires.before.1 in
-    let there = there-of c.nodes-node-items.result.now flow.nodes n x c.nodes-node-items.ensures c.loop-number-test.true
-    c.node-item.is in
-    let over : Over flow (map execution_of olds) base c.args.input c.args.changed.now = record {
-      right = c.requires.well_formed;
-      count = length-map c.args.base.now (λ a. arc_value a) ∙ c.requires.count;
-      fits = c.requires.fits;
-      limits = c.within_limits.ensures;
-      shape = c.requires.shape;
-    } in
-    let many = olds-count flow olds base c.args.input c.args.changed.now before is in
-    let inside : n < length olds = omega (arith, many, slice_get_within flow.nodes n x there) in
-    let node =
-    step-known flow olds c.loop-number.runs.items c.deref.result.now base c.args.input c.args.changed.now before
-    c.loop-number.affected.items c.deref-in-loop-number.result.now c.loop-number.count n x c.index-old-number.result
-    over
-    is c.loop-number.invariant there inside c.index-old-number.is c.deref.ensures.value
-    c.deref-in-loop-number.ensures.value
-    in
-    node.value
+    (is-turn g (goal.at.refresh_node-requires-clause-value g c).After-deref-in-loop-number).node.value
 
 pub refresh_node-requires-clause-shapes : goal.refresh_node-requires-clause-shapes
 refresh_node-requires-clause-shapes g c κs within =
-    let flow = c.args.flow.now in
-    let base = map (λ a. arc_value a) c.args.base.now in
-    let olds = c.args.old.now in
-    let n = c.loop-number.number in
-    let x = c.node-item.result in
-    let before = c.requires.before.0 in
-    let is = c.requires.before.1 in
-    let there = there-of c.nodes-node-items.result.now flow.nodes n x c.nodes-node-items.ensures c.loop-number-test.true
-    c.node-item.is in
-    let over : Over flow (map execution_of olds) base c.args.input c.args.changed.now = record {
-      right = c.requires.well_formed;
-      count = length-map c.args.base.now (λ a. arc_value a) ∙ c.requires.count;
-      fits = c.requires.fits;
-      limits = c.within_limits.ensures;
-      shape = c.requires.shape;
-    } in
-    let many = olds-count flow olds base c.args.input c.args.changed.now before is in
-    let inside : n < length olds = omega (arith, many, slice_get_within flow.nodes n x there) in
-    let node =
-    step-known flow olds c.loop-number.runs.items c.deref.result.now base c.args.input c.args.changed.now before
-    c.loop-number.affected.items c.deref-in-loop-number.result.now c.loop-number.count n x c.index-old-number.result
-    over
-    is c.loop-number.invariant there inside c.index-old-number.is c.deref.ensures.value
-    c.deref-in-loop-number.ensures.value
-    in
-    node.shapes
+    (is-turn g (goal.at.refresh_node-requires-clause-shapes g c).After-deref-in-loop-number).node.shapes
 
 pub refresh_node-requires-clause-others : goal.refresh_node-requires-clause-others
 refresh_node-requires-clause-others g c κs within =
-    let flow = c.args.flow.now in
-    let base = map (λ a. arc_value a) c.args.base.now in
-    let olds = c.args.old.now in
-    let n = c.loop-number.number in
-    let x = c.node-item.result in
-    let before = c.requires.before.0 in
-    let is = c.requires.before.1 in
-    let there = there-of c.nodes-node-items.result.now flow.nodes n x c.nodes-node-items.ensures c.loop-number-test.true
-    c.node-item.is in
-    let over : Over flow (map execution_of olds) base c.args.input c.args.changed.now = record {
-      right = c.requires.well_formed;
-      count = length-map c.args.base.now (λ a. arc_value a) ∙ c.requires.count;
-      fits = c.requires.fits;
-      limits = c.within_limits.ensures;
-      shape = c.requires.shape;
-    } in
-    let many = olds-count flow olds base c.args.input c.args.changed.now before is in
-    let inside : n < length olds = omega (arith, many, slice_get_within flow.nodes n x there) in
-    let node =
-    step-known flow olds c.loop-number.runs.items c.deref.result.now base c.args.input c.args.changed.now before
-    c.loop-number.affected.items c.deref-in-loop-number.result.now c.loop-number.count n x c.index-old-number.result
-    over
-    is c.loop-number.invariant there inside c.index-old-number.is c.deref.ensures.value
-    c.deref-in-loop-number.ensures.value
-    in
-    node.others
+    (is-turn g (goal.at.refresh_node-requires-clause-others g c).After-deref-in-loop-number).node.others
 
 pub refresh_node-requires-clause-room : goal.refresh_node-requires-clause-room
 refresh_node-requires-clause-room g c κs within =
     let flow = c.args.flow.now in
-    let base = map (λ a. arc_value a) c.args.base.now in
-    let olds = c.args.old.now in
-    let n = c.loop-number.number in
-    let x = c.node-item.result in
-    let before = c.requires.before.0 in
-    let is = c.requires.before.1 in
-    let there = there-of c.nodes-node-items.result.now flow.nodes n x c.nodes-node-items.ensures c.loop-number-test.true
-    c.node-item.is in
-    let over : Over flow (map execution_of olds) base c.args.input c.args.changed.now = record {
-      right = c.requires.well_formed;
-      count = length-map c.args.base.now (λ a. arc_value a) ∙ c.requires.count;
-      fits = c.requires.fits;
-      limits = c.within_limits.ensures;
-      shape = c.requires.shape;
-    } in
-    let many = olds-count flow olds base c.args.input c.args.changed.now before is in
-    let inside : n < length olds = omega (arith, many, slice_get_within flow.nodes n x there) in
-    let node =
-    step-known flow olds c.loop-number.runs.items c.deref.result.now base c.args.input c.args.changed.now before
-    c.loop-number.affected.items c.deref-in-loop-number.result.now c.loop-number.count n x c.index-old-number.result
-    over
-    is c.loop-number.invariant there inside c.index-old-number.is c.deref.ensures.value
-    c.deref-in-loop-number.ensures.value
-    in
+    let turn = is-turn g (goal.at.refresh_node-requires-clause-room g c).After-deref-in-loop-number in
     let few = (well-formed_parts flow c.requires.well_formed).1 in
-    let below = slice_get_within flow.nodes n x there in
-    omega (arith, node.few, few, below, c.loop-number.invariant.few)
+    let below = slice_get_within flow.nodes c.loop-number.number c.node-item.result turn.there in
+    omega (arith, turn.node.few, few, below, c.loop-number.invariant.few)
 
 pub loop-number-preserved : goal.loop-number-preserved
 loop-number-preserved g c =
-    let flow = c.args.flow.now in
-    let base = map (λ a. arc_value a) c.args.base.now in
-    let olds = c.args.old.now in
-    let n = c.loop-number.number in
-    let x = c.node-item.result in
-    let before = c.requires.before.0 in
-    let is = c.requires.before.1 in
-    let there = there-of c.nodes-node-items.result.now flow.nodes n x c.nodes-node-items.ensures c.loop-number-test.true
-    c.node-item.is in
-    let over : Over flow (map execution_of olds) base c.args.input c.args.changed.now = record {
-      right = c.requires.well_formed;
-      count = length-map c.args.base.now (λ a. arc_value a) ∙ c.requires.count;
-      fits = c.requires.fits;
-      limits = c.within_limits.ensures;
-      shape = c.requires.shape;
-    } in
-    let many = olds-count flow olds base c.args.input c.args.changed.now before is in
-    let inside : n < length olds = omega (arith, many, slice_get_within flow.nodes n x there) in
-    step-next flow olds c.loop-number.runs.items c.deref.result.now c.push.new.self.items base c.args.input
-    c.args.changed.now before c.loop-number.affected.items c.deref-in-loop-number.result.now
-    c.push-in-loop-number.new.self.items c.loop-number.count n x c.index-old-number.result c.in_ok-run.run'
-    c.in_ok-run.cells c.refresh_node.new.count over is c.loop-number.invariant there inside c.index-old-number.is
-    c.deref.ensures.value c.deref-in-loop-number.ensures.value c.in_ok-run.ensures.run c.in_ok-run.ensures.cells
-    c.in_ok-run.ensures.ticks c.in_ok-push.ensures.items c.in_ok-push-2.ensures.items
+    let turn = is-turn g (goal.at.loop-number-preserved g c).After-deref-in-loop-number in
+    step-next c.args.flow.now c.args.old.now c.loop-number.runs.items c.deref.result.now c.push.new.self.items
+    (map (λ a. arc_value a) c.args.base.now) c.args.input c.args.changed.now c.requires.before.0
+    c.loop-number.affected.items c.deref-in-loop-number.result.now c.push-in-loop-number.new.self.items
+    c.loop-number.count c.loop-number.number c.node-item.result c.index-old-number.result c.in_ok-run.run'
+    c.in_ok-run.cells c.refresh_node.new.count turn.over c.requires.before.1 c.loop-number.invariant turn.there
+    turn.inside c.index-old-number.is c.deref.ensures.value c.deref-in-loop-number.ensures.value c.in_ok-run.ensures.run
+    c.in_ok-run.ensures.cells c.in_ok-run.ensures.ticks c.in_ok-push.ensures.items c.in_ok-push-2.ensures.items
 
 pub returns-clause-runs : goal.returns-clause-runs
 returns-clause-runs g c =
