@@ -72,7 +72,9 @@ pub fn refresh_version<R: Threads + Wait + Sync>(
     let Some(old) = runs.runs(version) else {
         unreachable!()
     };
-    refresh_held(rt, alloc, catalogue, held, old, hands, input, set, tally)
+    let number = catalogue.next_number() as u32;
+    let made = refresh_held(rt, alloc, held, old, hands, number, input, set, tally)?;
+    Ok(made)
 }
 
 /// A version that is held.
@@ -86,14 +88,15 @@ fn version_held(catalogue: &Catalogue, version: u32) -> &HeldVersion
     held
 }
 
-/// What a refresh makes of a version and the runs of its nodes.
+/// What a refresh makes of a version and the runs of its nodes, under the number that the new
+/// version is to have.
 fn refresh_held<R: Threads + Wait + Sync>(
     rt: &R,
     alloc: Global,
-    catalogue: &Catalogue,
     version: &HeldVersion,
     old: &[NodeRun],
     hands: &Hands,
+    number: u32,
     input: u32,
     set: &[NewCell],
     tally: &mut Tally,
@@ -106,12 +109,12 @@ fn refresh_held<R: Threads + Wait + Sync>(
     requires room { tally.old + 32 * 1048576 < 2 ^ 63 }
     ensures array { IfOk result
         (λ r. arc_value r.array ≡ array_refreshed version.now input set.now) }
-    ensures run { IfOk result
-        (λ r. IsTrailOf (version_refreshed catalogue.now version.now input set.now) r.run) }
+    ensures run { IfOk result (λ r. (c : Holdings)
+        → IsTrailOf (version_refreshed c version.now input set.now) r.run) }
     ensures cells { IfOk result
-        (λ r. r.cells ≡ cells_affected catalogue.now version.now input set.now) }
-    ensures ticks { OnOk result
-        (tally.new ≡ tally.old + cells_affected catalogue.now version.now input set.now) }
+        (λ r. (c : Holdings) → r.cells ≡ cells_affected c version.now input set.now) }
+    ensures ticks { OnOk result ((c : Holdings)
+        → tally.new ≡ tally.old + cells_affected c version.now input set.now) }
 {
     let new = base_with(alloc, version, input, set)?;
     let before = tally.count();
@@ -126,7 +129,6 @@ fn refresh_held<R: Threads + Wait + Sync>(
         tally,
     )?;
     let cells = tally.count() - before;
-    let number = catalogue.next_number() as u32;
     let lists = version.lists.as_slice();
     let run = carried(rt, alloc, hands, number, lists, refreshed.runs)?;
     Ok(RefreshedRun {

@@ -1,5 +1,5 @@
 -- What is found at the place of the input is its base array.
-use Rattle.std.proofs.Common.{◌≡◌, ◌+◌, List, map, sym, ap, ap₂, ◌∙◌, arith, slice_set, length}
+use Rattle.std.proofs.Common.{◌≡◌, List, sym, ap, ap₂, ◌∙◌, arith, slice_set, length}
 use Rattle.std.specs.Arc.{arc_value}
 use Rattle.sz_cells.specs.Extent.{Extent}
 use Rattle.sz_spec.specs.Values.{Grid}
@@ -9,7 +9,7 @@ use Rattle.sz_versions.proofs.Refreshes.{base-found, input-low, map-set}
 use Rattle.sz_versions.proofs.refreshing.base_with.Goals as goal
 
 pub cells_set-requires : goal.cells_set-requires
-cells_set-requires g c =
+cells_set-requires c =
     let v = c.args.version.now in
     let base = c.as_slice-base.ensures ∙ ap (λ (w : Version). w.base) c.version.view_is in
     let found = base-found v c.args.input c.as_slice-base.result.now c.index-base-input.result c.requires.input base
@@ -19,7 +19,7 @@ cells_set-requires g c =
     rw (c.shape.ensures, old) c.requires.cells
 
 pub array_with-requires : goal.array_with-requires
-array_with-requires g c =
+array_with-requires c =
     let v = c.args.version.now in
     let base = c.as_slice-base.ensures ∙ ap (λ (w : Version). w.base) c.version.view_is in
     let found = base-found v c.args.input c.as_slice-base.result.now c.index-base-input.result c.requires.input base
@@ -29,13 +29,13 @@ array_with-requires g c =
     rw old c.requires.cells
 
 pub arrays_with-requires : goal.arrays_with-requires
-arrays_with-requires g c =
+arrays_with-requires c =
     let v = c.args.version.now in
     let base = c.as_slice-base.ensures ∙ ap (λ (w : Version). w.base) c.version.view_is in
     omega (arith, input-low v c.args.input c.requires.input, ap (λ (bs : List Base). length bs) base)
 
 pub returns-clause-array : goal.returns-clause-array
-returns-clause-array g c =
+returns-clause-array c =
     let v = c.args.version.now in
     let base = c.as_slice-base.ensures ∙ ap (λ (w : Version). w.base) c.version.view_is in
     let found = base-found v c.args.input c.as_slice-base.result.now c.index-base-input.result c.requires.input base
@@ -45,7 +45,7 @@ returns-clause-array g c =
     c.in_ok-array.ensures.ok ∙ c.in_ok-array_with.ensures ∙ ap (λ (g : Grid). with_cells g c.args.set.now) old
 
 pub returns-clause-arrays : goal.returns-clause-arrays
-returns-clause-arrays g c =
+returns-clause-arrays c =
     let v = c.args.version.now in
     let i = c.args.input in
     let set = c.args.set.now in
@@ -61,7 +61,7 @@ returns-clause-arrays g c =
     ∙ sym (map-set (λ (b : Base). b.array) v.base i (base_on held v i (array_refreshed v i set)))
 
 pub returns-clause-changed : goal.returns-clause-changed
-returns-clause-changed g c =
+returns-clause-changed c =
     let v = c.args.version.now in
     let base = c.as_slice-base.ensures ∙ ap (λ (w : Version). w.base) c.version.view_is in
     let found = base-found v c.args.input c.as_slice-base.result.now c.index-base-input.result c.requires.input base
