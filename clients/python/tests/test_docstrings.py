@@ -11,7 +11,7 @@ import numpy as np
 
 import subzero
 
-MODULES = "session flow keeping plans run spread catalogue later cells logs locks checking program faults progress".split()
+MODULES = "session flow keeping plans changes merges measures run spread catalogue later cells logs locks checking program faults progress".split()
 MODULES += ["numerals", "view", "tiles.mosaic"]
 WITHIN = {  # calls from one module of the client to another, and what a class above has an example of
     "BaseArray": {"is_of"},
