@@ -1,5 +1,5 @@
-"""Refreshes: a run on an array in which cells were set is what a new start on that array is, and what was computed again
-is told; what may be said of cells, and what is refused.
+"""Refreshes: a run on an array in which cells were set is what a new start on that array is, and what was computed
+again is told; what may be said of cells, and what is refused.
 """
 
 from __future__ import annotations
@@ -155,7 +155,7 @@ class ByHand(WithSession):
         self.assertEqual(cells(change.reached(base)), [[0, 1, 1], [1, 0, 2]])
         self.assertEqual(sum(int(change.reached(node).sum()) for node in run.flow.nodes), change.cells)
         self.assertEqual(run.refresh(base, (np.s_[:, 0, 0], 1)).array.values[:, 0, 0].tolist(), [1, 1])
-        with self.assertRaisesRegex(subzero.BadInput, r"\(0, 1\) is no cell of array image 1, .* \(layer, row, column\)"):
+        with self.assertRaisesRegex(subzero.BadInput, r"\(0, 1\) is no cell of .* \(layer, row, column\)"):
             run.refresh(base, {(0, 1): 5})
         with self.assertRaisesRegex(subzero.BadInput, "say of which layer"):
             run.refresh(base, ([(0, 1)], 5))
@@ -192,7 +192,7 @@ class Taken(WithSession):
         last = flow.add(labels, flow.input(1))
         run = self.session.start(flow, [base, base])
         run.wait()
-        with self.assertRaisesRegex(subzero.BadInput, r"takes array image 1 under the inputs 0 and 1, .*flow.input\(0\)"):
+        with self.assertRaisesRegex(subzero.BadInput, r"array image 1 under the inputs 0 and 1, .*flow.input\(0\)"):
             run.refresh(base, {(0, 1): 8})
         change = run.refresh(flow.input(1), {(0, 1): 8})
         self.assertEqual([str(one) for one in change.run.base], ["array image 1", "array image 2"])
@@ -258,7 +258,7 @@ class Taken(WithSession):
         flow = self.session.flow("f")
         flow.neg(flow.input(0))
         run = self.session.start(flow, base)
-        with self.assertRaisesRegex(subzero.Refused, "refused 22: the run was not waited for, .*: call its wait") as caught:
+        with self.assertRaisesRegex(subzero.Refused, "refused 22: the run was not waited for, .*: call") as caught:
             run.refresh(base, {(0, 0): 1})
         self.assertEqual(caught.exception.number, 22)
         run.wait()
@@ -280,7 +280,7 @@ class Taken(WithSession):
         run = self.session.start(flow, base)
         run.wait()
         self.session.array("more", np.zeros((1024, 1024), dtype=int))
-        with self.assertRaisesRegex(subzero.Refused, "refused 14: the new array and the outputs .* have 2,097,152 cells"):
+        with self.assertRaisesRegex(subzero.Refused, "refused 14: the new array and .* have 2,097,152 cells"):
             run.refresh(base, {(0, 0): 1})
         self.session.array("more", np.zeros((1024, 1000), dtype=int))
         with self.assertRaisesRegex(subzero.Refused, "refused 7: the new array has 1,048,576 cells, and 24,576 of"):
@@ -294,7 +294,7 @@ class Drawn(WithSession):
         draw = np.random.RandomState(11)
         counted = 0
         for number in range(16):
-            shape: tuple[int, ...] = (6, 7) if number % 3 else (2, 4, 6)
+            shape: tuple[int, ...] = (8, 9) if number % 3 else (2, 5, 6)
             image: Any = np.ma.MaskedArray(draw.randint(-30, 70, shape), draw.rand(*shape) < 0.1)
             base = self.session.array("image", image)
             table = self.session.array("table", draw.randint(-9, 9, (1, 40)))
@@ -303,7 +303,7 @@ class Drawn(WithSession):
             run = self.session.start(flow, [base, table])
             run.wait()
             which, old = ((base, image), (table, table.values))[number % 4 == 3]
-            mask = draw.rand(*old.shape) < draw.choice([0.05, 0.3])
+            mask = draw.rand(*old.shape) < draw.choice([0.1, 0.5])
             new: Any = np.ma.MaskedArray(draw.randint(-30, 70, old.shape), draw.rand(*old.shape) < 0.2)
             change = run.refresh(which, (mask, new))
             values = old.copy()
@@ -321,12 +321,12 @@ class Drawn(WithSession):
             self.assertEqual(reached, change.cells)
             counted += reached
             self.same_lineage(change, started, which, fresh, draw)
-        self.assertGreater(counted, 200)
+        self.assertGreater(counted, 400)
 
     def same_lineage(
         self, change: subzero.Change, started: subzero.Run, which: subzero.BaseArray, fresh: Any, draw: Any
     ) -> None:
-        """Asks of the refreshed run are answered as those of the one that was started, before and after it is awaited."""
+        """Asks of the refreshed run are answered as those of the started one, before and after it is awaited."""
         last = started.flow.nodes[-1]
         hit, some = draw.rand(*which.shape) < 0.2, draw.rand(*started.shape(last)) < 0.3
         for _ in range(2):
@@ -375,11 +375,12 @@ class Held(unittest.TestCase):
                 numbers = (run.number, later.number, lost.run.number)
             with subzero.Session(log=log) as session:
                 self.assertEqual(len(session.arrays), arrays)
-                self.assertEqual(session.arrays["sky", change.array.version].values.tolist(), change.array.values.tolist())
+                made = session.arrays["sky", change.array.version]
+                self.assertEqual(made.values.tolist(), change.array.values.tolist())
                 self.assertIs(session.arrays["sky"].values[first], np.ma.masked)
                 self.assertNotIn(numbers[2], session.runs)
                 again = session.runs[numbers[1]]
-                self.assertEqual(again.base, (session.arrays["sky", change.array.version],))
+                self.assertEqual(again.base, (made,))
                 self.assertEqual(again.values("labels").tolist(), values)
                 self.assertEqual(again.explain("labels", first, to="sky")[0].steps[0][1], "full_one_b")
                 found = again.merge().wait()

@@ -98,7 +98,7 @@ class Merges(unittest.TestCase):
         flow = self.session.flow("f")
         flow.neg(flow.input(0), keep=["full_one_b"])
         run = self.session.start(flow, base)
-        with self.assertRaisesRegex(subzero.Refused, "refused 22: the run was not waited for, .*: call its wait") as caught:
+        with self.assertRaisesRegex(subzero.Refused, "refused 22: the run was not waited for, .*: call") as caught:
             run.merge()
         self.assertEqual(caught.exception.number, 22)
         with self.session.pipeline() as ahead:
@@ -154,7 +154,8 @@ class Kept(unittest.TestCase):
                 heads = 4 + 1 + len(version.flow) + 4 + sum(5 + len(name) for name, _ in version.base) + 4
                 heads += sum(1 + len(node) for node in stores)
                 self.assertEqual(heads + sum(size for node in stores for _, size in node), group.length)
-                self.assertTrue(all((size == 0) == (name in ("map", "blackbox")) for node in stores for name, size in node))
+                for name, size in (kept for node in stores for kept in node):
+                    self.assertEqual(size == 0, name in ("map", "blackbox"))
             with subzero.Session(log=log) as session:
                 for number, run in session.runs.items():
                     with self.assertRaises(subzero.Refused) as caught:
@@ -170,8 +171,9 @@ def reached_from(flow: Any, number: int) -> set[int]:
     """The numbers of the nodes to which a path leads from an input."""
     found: set[int] = set()
     for node in flow.nodes:
-        if any(place is flow.inputs[number] or getattr(place, "op", None) and place.number in found for place in node.sources):
-            found.add(node.number)
+        for place in node.sources:
+            if place is flow.inputs[number] or isinstance(place, subzero.Node) and place.number in found:
+                found.add(node.number)
     return found
 
 

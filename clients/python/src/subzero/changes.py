@@ -144,8 +144,8 @@ class Change:
                 for run in runs:
                     line = ask_line(b"ask", run.number, "forward", ((node.number, number),), cells)
                     replies.append(run.session.say(line))
-        for mask in Future(replies, "asking forward", lambda texts: [read_mask(text, found.shape) for text in texts]).result():
-            found |= mask
+        for text in Future(replies, "asking forward", lambda texts: texts).result():
+            found |= read_mask(text, found.shape)
         return found
 
 
@@ -263,8 +263,8 @@ def _input_of(run: Run, array: Array) -> Input:
     if len(places) > 1:
         inputs = " and ".join(str(place.number) for place in places)
         raise BadInput(
-            f"the run takes {run.base[places[0].number]} under the inputs {inputs}, and a refresh sets cells under one: "
-            f"name it as flow.input({places[0].number}), or start a run on an array of the new values"
+            f"the run takes {run.base[places[0].number]} under the inputs {inputs}, and a refresh sets cells under "
+            f"one: name it as flow.input({places[0].number}), or start a run on an array of the new values"
         )
     assert isinstance(places[0], Input)
     return places[0]

@@ -13,9 +13,9 @@ _ASKS = (b'{"ask"', b'{"explain"', b'{"show"', b'{"plan"', b'{"merge"', b'{"merg
 def replay(session: Session, path: str | os.PathLike[str]) -> None:
     """Play the lines of a file in a session, which then holds what they hand in, define and start.
 
-    The lines are those that `Session.record` writes and `subzero play` reads. Those that only ask are left out, an await
-    among them where no refresh is behind it, and a line that is refused changes nothing, as in the program. Raises
-    OSError where the file cannot be read.
+    The lines are those that `Session.record` writes and `subzero play` reads. Those that only ask are left out, an
+    await among them where no refresh is behind it, and a line that is refused changes nothing, as in the program.
+    Raises OSError where the file cannot be read.
     """
     awaits: list[bytes] = []
     with open(path, "rb") as lines:
