@@ -18,7 +18,8 @@ WITHIN = {  # calls from one module of the client to another, and what a class a
     "Flow": {"session", "defined", "is_of", "is_same", "shapes", "check_start", "started_on", "of_held", "kept_of"},
     "Refused": {"because"},
     "Room": {"cells"},
-    "Session": {"closed", "pid", "order", "holdings", "hold_flow", "remember", "ready", "set_strategies", "runs_on"},
+    "Session": {"closed", "pid", "order", "holdings", "hold_flow", "remember", "ready", "set_strategies", "runs_on"}
+    | {"hold_refreshed", "run_on", "why_full"},
 }
 FLAGS = doctest.ELLIPSIS | doctest.NORMALIZE_WHITESPACE
 

@@ -47,7 +47,7 @@ class Change:
 
     >>> change = run.refresh(sky, {(0, 2): 9, (3, 2): None})
     >>> change
-    <Change of sky 1 in run 1: 2 cells set, 10 computed again, in run 2>
+    <Change of sky 1 in run 1: 2 cells set, 9 computed again, in run 2>
     >>> change.run, change.array, change.array.values[3, 2]
     (<Run 2 of stars on sky 2>, <BaseArray sky 2: 4 by 4, 1 cells empty>, masked)
     >>> change.run.values(labels).tolist()
@@ -82,7 +82,7 @@ class Change:
         >>> np.argwhere(change.changed(labels)).tolist()
         [[0, 2], [3, 2]]
         """
-        places = self.places(array)
+        places = self._places(array)
         found = np.zeros(self.old.shape(places[0]), dtype=bool)
         for place in places:
             if place is self.input or isinstance(place, Node) and self._leads_to(place):
@@ -104,7 +104,7 @@ class Change:
         >>> sum(int(change.reached(node).sum()) for node in flow.nodes) == change.cells
         True
         """
-        places = self.places(array)
+        places = self._places(array)
         found = np.zeros(self.old.shape(places[0]), dtype=bool)
         for place in places:
             if isinstance(place, Node):
@@ -113,7 +113,7 @@ class Change:
                 found |= self._reached[place]
         return found
 
-    def places(self, array: Array) -> list[Place]:
+    def _places(self, array: Array) -> list[Place]:
         """The places of an array of the old run, or of the new one, in their flow. Raises BadInput where it is none."""
         try:
             return self.old.places(array)

@@ -234,8 +234,8 @@ class Run:
         rounded, as in `Session.array`.
 
         Gives a Change: its `run` is the new run, of the same flow and with the strategies that this run was started
-        with, and the array with these cells is held as the next version of its name. This run stays as it is. No cell
-        at all may be set: the array is then the same, and nothing is computed.
+        with, and the array with these cells is held as the next version of its name. This run stays as it is. Where no
+        cell is set, the new version is the same array, and nothing is computed.
 
         Where the run takes the array under several inputs, BadInput says so, since a refresh sets cells under one of
         them: `flow.input(n)` names it, and under the others the array stays. Raises BadInput also for what is no base
