@@ -51,6 +51,7 @@ class ByHand(WithSession):
         self.assertEqual(cells(change.changed(labels)), [[0, 1], [0, 2]])
         self.assertEqual(cells(change.reached(labels)), [[0, 0], [0, 1], [0, 2]])
         self.assertEqual(cells(change.reached(run.flow.nodes[0])), [[0, 1]])
+        array: Any
         for array in (base, change.array, "image", run.flow.input(0)):
             self.assertEqual((cells(change.reached(array)), cells(change.changed(array))), ([[0, 1]], [[0, 1]]))
         self.assertIs(self.session.arrays["image"], change.array)
@@ -198,6 +199,7 @@ class Taken(WithSession):
         self.assertEqual([str(one) for one in change.run.base], ["array image 1", "array image 2"])
         self.assertEqual((change.cells, cells(change.reached(last)), cells(change.reached(labels))), (1, [[0, 1]], []))
         self.assertFalse(change.changed(labels).any() or change.changed(flow.input(0)).any())
+        array: Any
         for array in (base, change.array, flow.input(1), "image"):
             self.assertEqual((cells(change.changed(array)), cells(change.reached(array))), ([[0, 1]], [[0, 1]]))
         first = run.refresh(flow.input(0), {(0, 1): 8})
@@ -209,6 +211,7 @@ class Taken(WithSession):
     def test_what_is_no_base_array_of_the_run(self) -> None:
         run, base, labels = self.started()
         other = self.session.array("other", [[1]])
+        array: Any
         for array, why in (
             (labels, "node 1 labels, regions .* is no base array: cells are set in what a run was started on"),
             ("labels", "is no base array"),
@@ -226,6 +229,7 @@ class Taken(WithSession):
     def test_what_is_no_way_to_say_cells(self) -> None:
         run, base, _ = self.started()
         mask = np.ones((2, 3), dtype=bool)
+        told: Any
         for told, why in (
             ({(2, 0): 1}, r"the cell \(2, 0\) is out of range of an array of shape \(2, 3\)"),
             ({(0, -1): 1}, "out of range"),

@@ -104,6 +104,7 @@ class Merges(unittest.TestCase):
         with self.session.pipeline() as ahead:
             early, done, told = ahead.merge(run), ahead.wait(run), ahead.merged(run)
         done.result()
+        later: Any
         for later, number, why in ((early, 22, "still being built"), (told, 25, "no merge of the version was asked")):
             with self.assertRaisesRegex(subzero.Refused, f"refused {number}: .*{why}"):
                 later.result()
