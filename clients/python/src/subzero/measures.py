@@ -26,8 +26,8 @@ if TYPE_CHECKING:
     from .run import Direction, Run
     from .session import Session
 
-BUILDS = 3
-"""How often a start is timed; the shortest time is taken."""
+TURNS = 3
+"""How often each thing is timed; the shortest time is taken."""
 
 _LONG, _MOST_ASKS = 0.05, 1024
 
@@ -106,7 +106,7 @@ def measured(plan: Plan, run: Run) -> Measured:
         with run.session.another(log) as session:
             _started(session, run, kept).wait()
         sizes = _sizes(log)
-    times = [min(_build(run, lists) for _ in range(BUILDS)) for lists in (kept, bare)]
+    times = [min(_build(run, lists) for _ in range(TURNS)) for lists in (kept, bare)]
     with run.session.another() as session:
         started = _started(session, run, kept)
         started.wait()
@@ -166,11 +166,14 @@ def _ask(run: Run, number: int, direction: Direction) -> float:
 def _time_of(session: Session, lines: Sequence[bytes]) -> float:
     """The seconds of a line, of as many sent ahead as take long enough to be timed, and at most `_MOST_ASKS`."""
     count = 1
-    while True:
-        begun = time.perf_counter()
-        replies = [session.say(lines[at % len(lines)]) for at in range(count)]
-        Future(replies, "measuring asks", lambda texts: None).result()
-        took = time.perf_counter() - begun
-        if took >= _LONG or count >= _MOST_ASKS:
-            return took / count
+    while count < _MOST_ASKS and _turn(session, lines, count) < _LONG:
         count *= 4
+    return min(_turn(session, lines, count) for _ in range(TURNS)) / count
+
+
+def _turn(session: Session, lines: Sequence[bytes], count: int) -> float:
+    """The seconds of so many of these lines, sent ahead, until all their replies have come."""
+    begun = time.perf_counter()
+    replies = [session.say(lines[at % len(lines)]) for at in range(count)]
+    Future(replies, "measuring asks", lambda texts: None).result()
+    return time.perf_counter() - begun

@@ -96,9 +96,9 @@ class Plan:
           does nothing else, by the plan's strategies, and where each node is kept by "nothing"; each the shortest of
           three. Both have the computing of the values in them, so the stores took what `built` is more
         - `back` and `forward`, node by node: the microseconds of an ask of one cell, from the node's output over its
-          first input, and the other way; the mean of up to 1,024 lines sent ahead, of different cells, after the await.
-          The way through this client and the pipes is in it: `line` is that of a line that asks nothing, in the same
-          way
+          first input, and the other way: the mean of up to 1,024 lines sent ahead, of different cells, after the await,
+          and the shortest of three such turns. The way through this client and the pipes is in it: `line` is that of a
+          line that asks nothing, in the same way
 
         They are times of one moment on this machine. Raises BadInput for a run of another flow.
 
