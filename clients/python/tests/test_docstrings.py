@@ -11,14 +11,15 @@ import numpy as np
 
 import subzero
 
-MODULES = "session flow keeping plans run spread catalogue later cells logs locks checking program faults progress".split()
+MODULES = "session flow keeping plans changes merges measures run spread catalogue later cells logs locks checking program faults progress".split()
 MODULES += ["numerals", "view", "tiles.mosaic"]
 WITHIN = {  # calls from one module of the client to another, and what a class above has an example of
     "BaseArray": {"is_of"},
     "Flow": {"session", "defined", "is_of", "is_same", "shapes", "check_start", "started_on", "of_held", "kept_of"},
     "Refused": {"because"},
     "Room": {"cells"},
-    "Session": {"closed", "pid", "order", "holdings", "hold_flow", "remember", "ready", "set_strategies", "runs_on"},
+    "Session": {"closed", "pid", "order", "holdings", "hold_flow", "remember", "ready", "set_strategies", "runs_on"}
+    | {"hold_refreshed", "run_on", "why_full"},
 }
 FLAGS = doctest.ELLIPSIS | doctest.NORMALIZE_WHITESPACE
 

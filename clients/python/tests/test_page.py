@@ -215,6 +215,23 @@ class Answers(Pages):
             thread.join(60)
         self.assertEqual(faults, [])
 
+    def test_what_a_refresh_changed(self) -> None:
+        change = self.stars.refresh(self.sky, (self.field.dead, 20))
+        with show(change) as page:
+            self.assertIs(page.run, change.run)
+            self.assertEqual((page.selected_in, (page.selected == self.field.dead).all()), (change.array, True))
+            offered = {one["name"]: (one["array"], one["count"]) for one in page.state()["offered"]}
+            wanted = {
+                f"changed in {node.name or node.op}": (1 + node.number, int(change.changed(node).sum()))
+                for node in change.run.flow.nodes
+                if change.changed(node).any()
+            }
+            self.assertEqual(offered, {**wanted, "set cells": (0, int(self.field.dead.sum()))})
+            self.assertGreaterEqual(len(wanted), 3)
+        with show(self.stars.refresh(self.sky, {})) as page:
+            self.assertEqual([one["name"] for one in page.state()["offered"]], ["set cells"])
+            self.assertFalse(np.asarray(page.selected).any())
+
     def test_the_package_is_called(self) -> None:
         page = getattr(subzero, "view")(self.stars, origin="lower")
         self.addCleanup(page.close)

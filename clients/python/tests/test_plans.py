@@ -3,7 +3,9 @@ is set for.
 """
 
 import itertools
+import tempfile
 import unittest
+from pathlib import Path
 from typing import Any
 
 import numpy as np
@@ -152,6 +154,66 @@ class Plans(unittest.TestCase):
         with subzero.Session() as elsewhere:
             with self.assertRaisesRegex(subzero.BadInput, "is of another session"):
                 flow.plan(elsewhere.array("sky", [[1]]), budget=1)
+
+    def test_what_its_stores_took(self) -> None:
+        sky = self.session.array("sky", demo.field().image)
+        flow = self.session.flow("stars")
+        clean = flow.clean(flow.input(0), t=demo.HOT)
+        flow.convolve(clean, demo.KERNEL)
+        flow.regions(flow.nodes[1], t=demo.BRIGHT, name="labels")
+        run = self.session.start(flow, sky)
+        plan = flow.plan(sky, back=1000, forward=10, budget=4096)
+        held, kept = repr(self.session), [node.kept for node in flow.nodes]
+        told = plan.measured(run)
+        self.assertEqual((repr(self.session), [node.kept for node in flow.nodes]), (held, kept))
+        chosen = [(one.node, one.strategy) for one in plan.choices]
+        self.assertEqual([(row.node, row.strategy) for row in told.rows], chosen)
+        for row in told.rows:
+            self.assertEqual(row.bytes == 0, row.strategy in ("map", "blackbox"), row)
+            self.assertGreater(min(row.back, row.forward), 0)
+        self.assertEqual(told.bytes, sum(row.bytes for row in told.rows))
+        self.assertGreater(min(told.built, told.bare, told.line), 0)
+        self.assertEqual(told.rows[0].bytes, self.bytes_of_store(sky, plan.choices[0].strategy))
+        lines = str(told).splitlines()
+        self.assertEqual(lines[0].split(), ["node", "strategy", "units", "bytes", "us", "back", "us", "forward"])
+        self.assertIn(f"{told.rows[2].bytes:,}", lines[3])
+        self.assertRegex(lines[4], "^start and await: .* ms, and .* ms where nothing is kept; a line .*: .* us$")
+        self.assertIn(f"<td>{told.rows[0].bytes:,}</td>", told._repr_html_())
+        self.assertIn("bytes, built in", repr(told))
+
+    def bytes_of_store(self, sky: subzero.BaseArray, strategy: str) -> int:
+        """By how many bytes a log grows more where the first step of the stars is kept so."""
+        sizes = []
+        for keep in ([strategy], ["blackbox"]):
+            with tempfile.TemporaryDirectory() as folder:
+                log = Path(folder) / "x.log"
+                with subzero.Session(log=log) as session:
+                    flow = session.flow("stars")
+                    flow.clean(flow.input(0), t=demo.HOT)
+                    flow.define()
+                    session.set_strategies("stars", 0, keep)
+                    base = session.array("sky", sky.values)
+                    before = log.stat().st_size
+                    session.start(flow, base).wait()
+                    sizes.append(log.stat().st_size - before)
+        return sizes[0] - sizes[1]
+
+    def test_measured_over_layers_and_an_array_that_is_taken_twice(self) -> None:
+        image = self.session.array("a", np.arange(24).reshape(2, 3, 4))
+        flow = self.session.flow("f", inputs=2)
+        flow.add(flow.regions(flow.input(0), t=9, name="high"), flow.input(1))
+        run = self.session.start(flow, [image, image])
+        told = flow.plan([image, image], back=1, budget=6).measured(run)
+        self.assertEqual([row.strategy for row in told.rows], ["full_one_b", "map"])
+        self.assertEqual([row.bytes > 0 for row in told.rows], [True, False])
+
+    def test_measured_of_a_run_of_another_flow(self) -> None:
+        image = self.session.array("a", [[1, 2]])
+        flow, other = self.session.flow("f"), self.session.flow("g")
+        for one in (flow, other):
+            one.neg(one.input(0))
+        with self.assertRaisesRegex(subzero.BadInput, "<Run 1 of g on a 1> is not of f, the flow of the plan"):
+            flow.plan(image, budget=1).measured(self.session.start(other, image))
 
     def test_a_reply_that_does_not_add_up(self) -> None:
         from subzero.plans import _read

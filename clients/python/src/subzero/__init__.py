@@ -18,6 +18,7 @@ matplotlib), `python -m subzero` tells what can be done from a shell.
 from typing import TYPE_CHECKING
 
 from .catalogue import suspects_table
+from .changes import Change
 from .checking import Sound, Unsound, check
 from .faults import (
     BadInput,
@@ -33,6 +34,8 @@ from .faults import (
 from .flow import Flow, Input, Node
 from .keeping import strategies
 from .later import Future, Later, Pipeline
+from .measures import Measure, Measured
+from .merges import Merging
 from .paths import Path
 from .plans import Choice, Plan
 from .run import Explanation, Run
@@ -47,6 +50,7 @@ __all__ = [
     "BadInput",
     "BaseArray",
     "Cancelled",
+    "Change",
     "Choice",
     "Explanation",
     "Flow",
@@ -54,6 +58,9 @@ __all__ = [
     "Input",
     "Later",
     "LogHeld",
+    "Measure",
+    "Measured",
+    "Merging",
     "Node",
     "OutOfStep",
     "Path",

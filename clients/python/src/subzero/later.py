@@ -10,6 +10,8 @@ from .faults import BadInput, SubZeroError
 from .program import Program, Reply, come_each
 
 if TYPE_CHECKING:
+    from .changes import Change, New
+    from .merges import Kinds, Merging
     from .run import Array, Explanation, Run
 
 T = TypeVar("T")
@@ -86,6 +88,10 @@ class Pipeline:
     ...     touched, way = ahead.forward(run, sky, (3, 2), to=labels), ahead.explain(run, labels, (2, 2), to=sky)
     >>> done.result(), values.result().max(), int(touched.result().sum()), way.result()[0].traced
     (None, 11, 3, 32)
+    >>> with session.pipeline() as ahead:
+    ...     merging, change, kinds = ahead.merge(run), ahead.refresh(run, sky, {(0, 2): 9}), ahead.merged(run)
+    >>> merging.result(), change.result().cells, kinds.result()
+    (<Merging of run 1>, 5, {})
     """
 
     def __init__(self, program: Program) -> None:
@@ -123,6 +129,20 @@ class Pipeline:
     def explain(self, run: Run, array: Array, cells: Cells, **how: Any) -> Future[list[Explanation]]:
         """As `Run.explain`."""
         return self._hold(self._own(run).explained_later(array, cells, **how))
+
+    def refresh(self, run: Run, array: Array, cells: New, *, scale: float | None = None) -> Future[Change]:
+        """As `Run.refresh`."""
+        return self._hold(self._own(run).refresh_later(array, cells, scale=scale))
+
+    def merge(self, run: Run) -> Future[Merging]:
+        """As `Run.merge`."""
+        return self._hold(self._own(run).merge_later())
+
+    def merged(self, run: Run) -> Future[Kinds]:
+        """As `Merging.wait`, of a run whose merge was asked. Its `result` raises Refused with 25 where it was not."""
+        from .merges import merged_later
+
+        return self._hold(merged_later(self._own(run)))
 
     def _own(self, run: Run) -> Run:
         if not run.session.runs_on(self._program):

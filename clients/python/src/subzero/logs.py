@@ -26,12 +26,13 @@ from typing import Any, BinaryIO
 
 import numpy as np
 
+from . import stores
 from .cells import Integers, Mask, Shape, Values, values_of
 from .faults import OutOfStep, SubZeroError
 from .keeping import chosen_for
 
 HEADER = b"\x01SubZero log 1\r\n"
-_VERSION = 4
+VERSION = 4
 _PLAIN_ARRAY = re.compile(rb'\{"(?:array|layers)":"([a-z0-9_]{1,32})","cells":\[')
 _HEAD_OF_VERSION = 4 + 256 + 4 + 32 * (256 + 4) + 4
 
@@ -52,20 +53,24 @@ def _fields(pairs: list[tuple[str, Any]]) -> _Fields:
 
 @dataclass
 class HeldArray:
-    """An array that is held: its name, its version, and its values, or the line that they are taken from when they are
-    wanted.
-    """
+    """An array that is held: its name, its version, and its values, or what gives them when they are wanted."""
 
     name: str
     version: int
-    line: Callable[[], bytes] = bytes
+    made: Callable[[], tuple[Integers, Mask]] | None = None
     known: Values | None = None
+
+    @classmethod
+    def of_line(cls, name: str, version: int, line: Callable[[], bytes]) -> HeldArray:
+        """One that a line hands in, which is taken again when its values are wanted."""
+        return cls(name, version, lambda: values_of_line(line()))
 
     @property
     def values(self) -> Values:
         """Its values, which cannot be written."""
         if self.known is None:
-            self.known = frozen(*values_of_line(self.line()))
+            assert self.made is not None
+            self.known = frozen(*self.made())
         return self.known
 
     @property
@@ -142,11 +147,13 @@ def _told(node: dict[str, Any]) -> str:
 
 @dataclass
 class HeldVersion:
-    """A version that is held: its number, its flow's name, and the names and versions of its base arrays."""
+    """A version that is held: its number, its flow's name, the names and versions of its base arrays, and what gives
+    the strategies that its nodes had at its start, a list a node."""
 
     number: int
     flow: str
     base: tuple[tuple[str, int], ...]
+    lists: Callable[[], list[list[str]]]
 
 
 @dataclass
@@ -167,6 +174,24 @@ class Holdings:
         self.arrays[array.name, array.version] = array
         self._latest[array.name] = array.version
 
+    def start(self, number: int, flow: str, base: tuple[tuple[str, int], ...]) -> None:
+        """Hold the version of this number, that was started now."""
+        held = self.flows[flow]
+        lists = [held.list_of(node) for node in range(len(held.nodes))]
+        self.versions[number] = HeldVersion(number, flow, base, lambda: lists)
+
+    def refresh(self, number: int, old: int, place: int, made: Callable[[], tuple[Integers, Mask]]) -> HeldArray:
+        """Hold what a refresh of the version `old` made: an array for the input of the number `place`, which it gives,
+        and the version of this number on it.
+        """
+        version = self.versions[old]
+        name = version.base[place][0]
+        array = HeldArray(name, self.latest(name) + 1, made)
+        self.add(array)
+        base = (*version.base[:place], (name, array.version), *version.base[place + 1 :])
+        self.versions[number] = HeldVersion(number, version.flow, base, version.lists)
+        return array
+
     def take(self, line: bytes, reply: bytes | None = None, again: Callable[[], bytes] | None = None) -> None:
         """Take in a line that was accepted, with its reply where there was one; other forms change nothing.
 
@@ -174,7 +199,7 @@ class Holdings:
         """
         if (name := name_of_array(line)) is not None:
             version = self.latest(name) + 1 if reply is None else int(reply.split()[-1])
-            self.add(HeldArray(name, version, again or (lambda: line)))
+            self.add(HeldArray.of_line(name, version, again or (lambda: line)))
             return
         fields = json.loads(line, object_pairs_hook=_fields)
         if "flow" in fields:
@@ -183,8 +208,11 @@ class Holdings:
             self.flows[fields["strategy"]].lists[fields["node"]] = fields["list"]
         elif "start" in fields and reply is not None:
             number = int(reply.split()[-1])
-            base = tuple((str(name), int(version)) for name, version in fields["base"])
-            self.versions[number] = HeldVersion(number, fields["start"], base)
+            self.start(number, fields["start"], tuple((str(name), int(version)) for name, version in fields["base"]))
+        elif "refresh" in fields and reply is not None:
+            old, place = int(fields["refresh"]), int(fields["input"])
+            before = self.arrays[self.versions[old].base[place]]
+            self.refresh(int(reply.split()[1]), old, place, lambda: with_set(before.values, fields["set"]))
 
     def _take_flow(self, fields: _Fields) -> None:
         nodes, names = fields["nodes"], fields.first["nodes"]
@@ -199,8 +227,8 @@ class Holdings:
             names if named else [None] * len(nodes),
         )
 
-    def take_version(self, body: bytes) -> None:
-        """Take in the version that the body of a group begins with."""
+    def take_version(self, body: bytes, lists: Callable[[HeldVersion], list[list[str]]]) -> None:
+        """Take in the version that the body of a group begins with; `lists` gives the strategies of its nodes."""
         at = 4
         (number,) = struct.unpack_from(">I", body)
 
@@ -217,7 +245,7 @@ class Holdings:
 
         flow = name()
         base = tuple((name(), count()) for _ in range(count()))
-        self.versions[number] = HeldVersion(number, flow, base)
+        version = self.versions[number] = HeldVersion(number, flow, base, lambda: lists(version))
 
 
 def name_of_array(line: bytes) -> str | None:
@@ -239,6 +267,18 @@ def values_of_line(line: bytes) -> tuple[Integers, Mask]:
     else:
         rows = fields["cells"]
     return values_of(rows)
+
+
+def with_set(values: Values, cells: list[list[int | None]]) -> tuple[Integers, Mask]:
+    """The values of an array in which cells were set, and which are empty: each of `cells` as a refresh's line has it,
+    a cell and what it is to hold.
+    """
+    numbers, empty = np.ma.getdata(values).copy(), np.ma.getmaskarray(values).copy()
+    layers, holes = (part.reshape(-1, *values.shape[-2:]) for part in (numbers, empty))
+    for *cell, value in cells:
+        at = tuple([0] * (3 - len(cell)) + cell)
+        layers[at], holes[at] = (0, True) if value is None else (value, False)
+    return numbers, empty
 
 
 @dataclass(frozen=True)
@@ -290,12 +330,13 @@ def read_log(path: str | os.PathLike[str]) -> Holdings:
 
 
 def _take_group(held: Holdings, file: BinaryIO, group: Group) -> None:
-    if group.kind == _VERSION:
-        held.take_version(_bytes_at(file, group.begin, min(group.length, _HEAD_OF_VERSION)))
+    path = os.path.abspath(file.name)
+    if group.kind == VERSION:
+        head = _bytes_at(file, group.begin, min(group.length, _HEAD_OF_VERSION))
+        held.take_version(head, lambda version: _lists_of(held, version, path, group))
         return
     line = _bytes_at(file, group.begin, group.length)
     digest = zlib.crc32(line)
-    path = os.path.abspath(file.name)
 
     def again() -> bytes:
         with open(path, "rb") as log:
@@ -305,6 +346,21 @@ def _take_group(held: Holdings, file: BinaryIO, group: Group) -> None:
         return read
 
     held.take(line, again=again)
+
+
+def stores_of(held: Holdings, version: HeldVersion, path: str, group: Group) -> list[list[tuple[str, int]]]:
+    """What a log keeps of a version's lineage: of each node its strategies, and how many bytes each takes in the file.
+
+    Raises SubZeroError where the file is no longer that log.
+    """
+    try:
+        return stores.kept(path, group.begin, [len(node["from"]) for node in held.flows[version.flow].nodes])
+    except (ValueError, IndexError):
+        raise SubZeroError(f"{path} is no longer the log that it was") from None
+
+
+def _lists_of(held: Holdings, version: HeldVersion, path: str, group: Group) -> list[list[str]]:
+    return [[name for name, _ in node] for node in stores_of(held, version, path, group)]
 
 
 def _bytes_at(file: BinaryIO, begin: int, length: int) -> bytes:

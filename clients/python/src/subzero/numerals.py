@@ -97,6 +97,28 @@ def cells_text(cells: NDArray[np.int64]) -> bytes:
     return b"[" + words.tobytes().translate(None, b"\0")[2:] + b"]]"
 
 
+def set_text(cells: NDArray[np.int64], values: NDArray[np.int64], empty: NDArray[np.bool_]) -> bytes:
+    """The JSON text of cells and what each is to hold, `[[0,1,-7],[2,3,null]]`; `cells` are whole numbers of shape (N,
+    2) or (N, 3), none below 0, `values` int64 and `empty` boolean of shape (N,).
+    """
+    count, axes = cells.shape
+    if count == 0:
+        return b"[]"
+    groups = [_groups(int(cells[:, axis].max())) for axis in range(axes)]
+    sizes = np.abs(values).view(np.uint64)  # right for the least i64 too, as in rows_text
+    words = np.empty((count, axes + sum(groups) + 1 + _groups(int(sizes.max()))), dtype=np.uint32)
+    at = 0
+    for axis, wide in enumerate(groups):
+        words[:, at] = _word(b"],[" if axis == 0 else b",")
+        _put_digits(words[:, at + 1 : at + 1 + wide], cells[:, axis], wide)
+        at += 1 + wide
+    words[:, at] = np.where((values < 0) & ~empty, _word(b",-"), _word(b","))
+    _put_digits(words[:, at + 1 :], sizes, words.shape[1] - at - 1)
+    words[empty, at + 1 :] = 0
+    words[empty, at + 1] = _word(b"null")
+    return b"[" + words.tobytes().translate(None, b"\0")[2:] + b"]]"
+
+
 def read_numbers(text: bytes, count: int) -> NDArray[np.int64]:
     """The `count` numbers, int64, that stand in `text` with one blank between them."""
     if count == 0:

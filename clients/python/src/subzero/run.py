@@ -8,7 +8,7 @@ from typing import TYPE_CHECKING, Literal, TypeAlias
 
 import numpy as np
 
-from . import numerals, spread
+from . import changes, merges, numerals, spread
 from .cells import Cells, Mask, Shape, Values, cells_of, short
 from .faults import BadInput, OutOfStep, Refused
 from .flow import Flow, Input, Node, Place, table
@@ -224,6 +224,60 @@ class Run:
             if fault.number == 19:
                 fault.because("the run was not waited for, so that it is not known yet: call its wait() first")
             raise
+
+    def refresh(self, array: Array, cells: changes.New, *, scale: float | None = None) -> changes.Change:
+        """Run the flow again on a base array in which cells were set, where the program computes only what they reach.
+
+        `array` is a base array of the run, its name, or `flow.input(n)`. `cells` says what its cells are to hold: a
+        mapping from cells to values, a pair of a mask (or other cells) and values, or an array, of which those cells
+        are set that differ (`subzero.changes.New`); None and masked are empty. Floats are multiplied by `scale` and
+        rounded, as in `Session.array`.
+
+        Gives a Change: its `run` is the new run, of the same flow and with the strategies that this run was started
+        with, and the array with these cells is held as the next version of its name. This run stays as it is. Where no
+        cell is set, the new version is the same array, and nothing is computed.
+
+        Where the run takes the array under several inputs, BadInput says so, since a refresh sets cells under one of
+        them: `flow.input(n)` names it, and under the others the array stays. Raises BadInput also for what is no base
+        array, cells out of range, and values that no array can hold; Refused with 22 before `wait`, with 7 where the
+        new array, and 14 where the new run with it, is more than a session can hold.
+
+        >>> change = run.refresh(sky, {(0, 2): 9})
+        >>> change.cells, change.run.values(labels)[0].tolist()
+        (5, [0, 2, 2, 0])
+        """
+        try:
+            return changes.refresh_later(self, array, cells, scale).result()
+        except Refused as fault:
+            changes.tell_why(fault, self, array)
+            raise
+
+    def refresh_later(self, array: Array, cells: changes.New, *, scale: float | None = None) -> Future[changes.Change]:
+        """`refresh`, sent ahead: a Future of it.
+
+        >>> run.refresh_later("sky", (sky.values == 7, None)).result().cells
+        6
+        """
+        return changes.refresh_later(self, array, cells, scale)
+
+    def merge(self) -> merges.Merging:
+        """Have the program join cells of one lineage in the run's stores, beside what it is asked. No answer changes.
+
+        Gives a Merging at once; its `wait` gives how many kinds of lineage each `full_` store has. Stores of other
+        strategies stay as they are. A log is not changed. Raises Refused with number 22 before `wait`.
+
+        >>> run.merge()
+        <Merging of run 1>
+        """
+        return merges.merge(self)
+
+    def merge_later(self) -> Future[merges.Merging]:
+        """`merge`, sent ahead: a Future of it.
+
+        >>> run.merge_later().result()
+        <Merging of run 1>
+        """
+        return merges.merge_later(self)
 
     def wait_later(self) -> Future[None]:
         """`wait`, sent ahead: a Future.

@@ -28,6 +28,13 @@ MOST_ARRAYS, MOST_VERSIONS, MOST_HELD = 4096, 4096, 4 * MOST_CELLS
 Hold = Callable[["Session", bytes], None]
 """What a reply makes a session hold; it names no session of its own, so that one that is let go ends at once."""
 
+_HOLD_NOTHING = tuple(
+    b'{"%s":' % form for form in (b"ask", b"explain", b"show", b"await", b"plan", b"merge", b"merged")
+)
+_HOLD_MORE = tuple(
+    b'"%s"' % form for form in (b"array", b"layers", b"csv", b"flow", b"strategy", b"start", b"refresh")
+)
+
 K = TypeVar("K")
 V = TypeVar("V")
 
@@ -199,6 +206,7 @@ class Session:
             if number is not None:
                 words += [option, str(number_of(number, option))]
         self.log = None if log is None else os.fspath(log)
+        self._options = (workers, askers, path)
         self._holdings = Holdings()
         self._arrays: dict[tuple[str, int], BaseArray] = {}
         self._flows: weakref.WeakValueDictionary[str, Flow] = weakref.WeakValueDictionary()
@@ -342,7 +350,7 @@ class Session:
             reply = self.order(line, hold).wait(f"handing in {name}")
         except Refused as fault:
             if fault.number == 7:
-                fault.because(self._why_full(numbers.size, "the array has", "arrays", MOST_ARRAYS))
+                fault.because(self.why_full(numbers.size, "the array has", "arrays"))
             raise
         self.holdings()
         return self._arrays[name, int(reply.split()[-1])]
@@ -433,18 +441,18 @@ class Session:
 
         def hold(session: Session, text: bytes) -> None:
             number = int(text.split()[-1])
-            session._holdings.versions[number] = HeldVersion(number, held, named)
+            session._holdings.start(number, held, named)
 
         try:
             reply = self.order(line, hold).wait(f"starting {flow.name}")
         except Refused as fault:
             if fault.number == 14:
                 size = sum(_size(shape) for shape in flow.shapes(shapes))
-                fault.because(self._why_full(size, "the outputs of the flow's nodes have", "runs", MOST_VERSIONS))
+                fault.because(self.why_full(size, "the outputs of the flow's nodes have", "runs"))
             raise
         self.holdings()
         flow.started_on(shapes)
-        return self._runs.setdefault(int(reply.split()[-1]), Run(self, int(reply.split()[-1]), flow, tuple(arrays)))
+        return self.run_on(int(reply.split()[-1]), flow)
 
     def ready(self, flow: Flow, base: BaseArray | Sequence[BaseArray]) -> list[BaseArray]:
         """The base arrays of a flow, which is defined where that was not done yet. Raises BadInput for a flow or an
@@ -489,6 +497,16 @@ class Session:
         [1, 1, 3, 3]
         """
         return Pipeline(self._program)
+
+    def another(self, log: str | os.PathLike[str] | None = None) -> Session:
+        """Another session, of the same program with the same options.
+
+        >>> with session.another() as other:
+        ...     other
+        <Session: 0 arrays, 0 flows, 0 runs>
+        """
+        workers, askers, path = self._options
+        return Session(log, workers=workers, askers=askers, program=path)
 
     def record(self, path: str | os.PathLike[str]) -> None:
         """Write all lines of this session to a file that `subzero play` reads: those sent so far, and each further one.
@@ -565,6 +583,20 @@ class Session:
         if text:
             hold(self, text)
 
+    def hold_refreshed(self, number: int, old: int, place: int, before: BaseArray, values: Values) -> None:
+        """Take in what a refresh of the version `old` made: the version of this number, and the array of these values,
+        in the place of `before` as its input of the number `place`.
+        """
+        held = self._holdings.refresh(number, old, place, lambda: (values.data, values.mask))
+        held.known = values
+        self._arrays[held.name, held.version] = BaseArray(self, held, before.unit, before.scale)
+
+    def run_on(self, number: int, flow: Flow) -> Run:
+        """The run of this number, which the session holds, with this flow where nobody has the run yet."""
+        held = self._holdings.versions[number]
+        run = Run(self, number, flow, tuple(self._array_of(key) for key in held.base))
+        return self._runs.setdefault(number, run)
+
     def hold_flow(self, flow: HeldFlow) -> None:
         """Take in a flow that the program accepted."""
         self._holdings.flows[flow.name] = flow
@@ -600,9 +632,7 @@ class Session:
     def _run_of(self, number: int) -> Run:
         run = self._runs.get(number)
         if run is None:
-            held = self._holdings.versions[number]
-            run = Run(self, number, self._flow_of(held.flow), tuple(self._array_of(key) for key in held.base))
-            self._runs[number] = run
+            run = self.run_on(number, self._flow_of(self._holdings.versions[number].flow))
         return run
 
     def _check_own(self, array: BaseArray) -> None:
@@ -613,9 +643,9 @@ class Session:
         names = [f"{name} {version}" for name, version in self._holdings.arrays]
         return ", ".join(names[:20]) + (" and others" if len(names) > 20 else "") if names else "none"
 
-    def _why_full(self, size: int, what: str, kind: str, most: int) -> str | None:
+    def why_full(self, size: int, what: str, kind: Literal["arrays", "runs"]) -> str | None:
         """By which part of its rule a line for so many cells is refused, and what can be done."""
-        room = self.room
+        room, most = self.room, {"arrays": MOST_ARRAYS, "runs": MOST_VERSIONS}[kind]
         do = (
             "nothing can be taken out of a session: begin another one, hand in less (a part of the image, blocks), "
             "or have it cut into tiles by subzero.tiled"
@@ -664,11 +694,11 @@ def _size(shape: Shape) -> int:
 
 def _hold_line_of(name: str, reply: Reply) -> Hold:
     """What the reply to a raw line of an array makes a session hold."""
-    return lambda session, text: session._holdings.add(HeldArray(name, int(text.split()[-1]), reply.line))
+    return lambda session, text: session._holdings.add(HeldArray.of_line(name, int(text.split()[-1]), reply.line))
 
 
 def _may_hold(line: bytes) -> bool:
     """Whether a line may be of a form that makes the session hold more: none that has a field of another form is."""
-    if line.startswith((b'{"ask":', b'{"explain":', b'{"show":', b'{"await":', b'{"plan":')):
+    if line.startswith(_HOLD_NOTHING):
         return False
-    return any(form in line for form in (b'"array"', b'"layers"', b'"csv"', b'"flow"', b'"strategy"', b'"start"'))
+    return any(form in line for form in _HOLD_MORE)

@@ -4,6 +4,7 @@
     print(page.url)               # its link, for a browser on this machine
     page.select(sky, bad)         # select cells from Python
     page.selected                 # what was selected last, a boolean array
+    page = subzero.view(change)   # the run that a refresh made, and what changed in it
 
 `python -m subzero view SESSION_OR_LOG` shows a recorded session, or a log.
 """
@@ -14,6 +15,7 @@ import sys
 from types import ModuleType
 from typing import TYPE_CHECKING, Literal
 
+from ..changes import Change
 from .command import command
 from .page import Page
 
@@ -23,8 +25,9 @@ if TYPE_CHECKING:
 __all__ = ["Page", "command", "show"]
 
 
-def show(run: Run, *, origin: Literal["upper", "lower"] = "upper", port: int = 0) -> Page:
-    """Serve a page over a run, which is waited for; `subzero.view(run)` is the same call.
+def show(run: Run | Change, *, origin: Literal["upper", "lower"] = "upper", port: int = 0) -> Page:
+    """Serve a page over a run, which is waited for; `subzero.view(run)` is the same call. Of a refresh's `Change` it is
+    the page over the new run, where the set cells are selected, with a button for what changed in each node.
 
     `origin` says whether row 0 is drawn at the top, or at the bottom; the page can change it. `port` is the port on the
     loopback address, a free one where it is 0. Raises OSError where the port is taken, and BadInput for another origin.
@@ -33,14 +36,25 @@ def show(run: Run, *, origin: Literal["upper", "lower"] = "upper", port: int = 0
     ...     page.select("labels", (0, 1))
     ...     page.url.startswith("http://127.0.0.1:"), page.selected_in, int(page.selected.sum())
     (True, <Node 1 labels of stars: regions (5 and more)>, 1)
+    >>> with subzero.view(run.refresh(sky, {(0, 2): 9})) as page:
+    ...     page.run, [one["name"] for one in page.state()["offered"]], np.argwhere(page.selected).tolist()
+    (<Run 2 of stars on sky 2>, ['changed in clean', 'changed in labels', 'set cells'], [[0, 2]])
     """
-    return Page(run, origin=origin, port=port)
+    if not isinstance(run, Change):
+        return Page(run, origin=origin, port=port)
+    page = Page(run.run, origin=origin, port=port)
+    for node in run.run.flow.nodes:
+        changed = run.changed(node)
+        if changed.any():
+            page.select(node, changed, name=f"changed in {node.name or node.op}")
+    page.select(run.input, run.reached(run.input), name="set cells")
+    return page
 
 
 class _Callable(ModuleType):
     """This module, which is called as `subzero.view(run)`."""
 
-    def __call__(self, run: Run, *, origin: Literal["upper", "lower"] = "upper", port: int = 0) -> Page:
+    def __call__(self, run: Run | Change, *, origin: Literal["upper", "lower"] = "upper", port: int = 0) -> Page:
         return show(run, origin=origin, port=port)
 
 
