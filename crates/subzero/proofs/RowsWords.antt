@@ -15,7 +15,7 @@ use Rattle.sz_words.specs.Job.{job_of}
 use Rattle.sz_words.specs.Place.{place_of}
 use Rattle.sz_words.specs.declared.Job.{Job}
 use Rattle.sz_words.specs.declared.arguments.JobMode.{JobMode}
-use Rattle.sz_words.specs.declared.arguments.JobMode.TheVariants.{Play, Init, Run, Check, Load}
+use Rattle.sz_words.specs.declared.arguments.JobMode.TheVariants.{Play, Init, Run, Check, Upgrade, Load}
 use Rattle.sz_words.proofs.Rows.{modes_without_a_place, modes_with_a_place, no_modes, places, no_place}
 use Rattle.sz_session.specs.Modes.{AsksFor, mode_in}
 use Rattle.subzero.specs.Words.{Args, words_in, job_asked, AreOther, place_named}
@@ -47,7 +47,7 @@ job-play : job_of (alone (codes "play")) ≡ plain Play
 job-play = ap (λ (l : List (Option Job)). get_or l 0 None) modes_without_a_place
 
 job-load : job_of (alone (codes "load")) ≡ plain Load
-job-load = ap (λ (l : List (Option Job)). get_or l 4 None) modes_without_a_place
+job-load = ap (λ (l : List (Option Job)). get_or l 5 None) modes_without_a_place
 
 job-init : job_of (on_log (codes "init")) ≡ plain Init
 job-init = ap (λ (l : List (Option Job)). get_or l 1 None) modes_with_a_place
@@ -57,6 +57,12 @@ job-run = ap (λ (l : List (Option Job)). get_or l 2 None) modes_with_a_place
 
 job-check : job_of (on_log (codes "check")) ≡ plain Check
 job-check = ap (λ (l : List (Option Job)). get_or l 3 None) modes_with_a_place
+
+job-upgrade : job_of (on_log (codes "upgrade")) ≡ plain Upgrade
+job-upgrade = ap (λ (l : List (Option Job)). get_or l 4 None) modes_with_a_place
+
+job-upgrade_alone : job_of (alone (codes "upgrade")) ≡ None
+job-upgrade_alone = ap (λ (l : List (Option Job)). get_or l 4 None) modes_without_a_place
 
 job-none : job_of (alone (codes "fly")) ≡ None
 job-none = ap (λ (l : List (Option Job)). get_or l 0 None) no_modes
@@ -80,6 +86,13 @@ run-asked args given = asked args (on_log (codes "run")) (plain Run) given job-r
 
 pub check-asked : (args : Args) → Gives args (on_log (codes "check")) → job_asked (Ok args) ≡ plain Check
 check-asked args given = asked args (on_log (codes "check")) (plain Check) given job-check
+
+pub upgrade-asked : (args : Args) → Gives args (on_log (codes "upgrade")) → job_asked (Ok args) ≡ plain Upgrade
+upgrade-asked args given = asked args (on_log (codes "upgrade")) (plain Upgrade) given job-upgrade
+
+-- a mode on a log asks for nothing where no file is given
+pub upgrade-alone_asked : (args : Args) → Gives args (alone (codes "upgrade")) → job_asked (Ok args) ≡ None
+upgrade-alone_asked args given = asked args (alone (codes "upgrade")) None given job-upgrade_alone
 
 pub none-asked : (args : Args) → Gives args (alone (codes "fly")) → job_asked (Ok args) ≡ None
 none-asked args given = asked args (alone (codes "fly")) None given job-none
@@ -113,6 +126,9 @@ run-is args given = for-mode Run _ (run-asked args given)
 pub check-is : (args : Args) → Gives args (on_log (codes "check")) → AsksFor Check (job_asked (Ok args))
 check-is args given = for-mode Check _ (check-asked args given)
 
+pub upgrade-is : (args : Args) → Gives args (on_log (codes "upgrade")) → AsksFor Upgrade (job_asked (Ok args))
+upgrade-is args given = for-mode Upgrade _ (upgrade-asked args given)
+
 pub play-not_load : (args : Args) → Gives args (alone (codes "load")) → AsksFor Play (job_asked (Ok args)) → ⊥
 play-not_load args given for = let e : Some Play ≡ Some Load = sym for ∙ load-is args given in cc
 
@@ -127,6 +143,16 @@ check-not_run args given for = let e : Some Check ≡ Some Run = sym for ∙ run
 
 pub run-not_check : (args : Args) → Gives args (on_log (codes "check")) → AsksFor Run (job_asked (Ok args)) → ⊥
 run-not_check args given for = let e : Some Run ≡ Some Check = sym for ∙ check-is args given in cc
+
+pub upgrade-not_check : (args : Args) → Gives args (on_log (codes "check")) → AsksFor Upgrade (job_asked (Ok args)) → ⊥
+upgrade-not_check args given for = let e : Some Upgrade ≡ Some Check = sym for ∙ check-is args given in cc
+
+pub check-not_upgrade : (args : Args) → Gives args (on_log (codes "upgrade")) → AsksFor Check (job_asked (Ok args)) → ⊥
+check-not_upgrade args given for = let e : Some Check ≡ Some Upgrade = sym for ∙ upgrade-is args given in cc
+
+pub no_mode-upgrade_alone : (m : JobMode) (args : Args) → Gives args (alone (codes "upgrade"))
+    → AsksFor m (job_asked (Ok args)) → ⊥
+no_mode-upgrade_alone m args given = for-none m _ (upgrade-alone_asked args given)
 
 pub no_mode-fly : (m : JobMode) (args : Args) → Gives args (alone (codes "fly")) → AsksFor m (job_asked (Ok args)) → ⊥
 no_mode-fly m args given = for-none m _ (none-asked args given)
@@ -160,6 +186,13 @@ pub place-run : (args : Args) → Gives args (on_log (codes "run")) → place_na
 place-run args given =
     ap (λ (ws : List (List ℕ)). place_of ws) given
     ∙ ap (λ (l : List (Option (List ℕ × Bool))). get_or l 1 None) places
+
+-- the file of a log that is raised is there already
+pub place-upgrade : (args : Args) → Gives args (on_log (codes "upgrade"))
+    → place_named (Ok args) ≡ Some (codes "x", false)
+place-upgrade args given =
+    ap (λ (ws : List (List ℕ)). place_of ws) given
+    ∙ ap (λ (l : List (Option (List ℕ × Bool))). get_or l 3 None) places
 
 pub place-play : (args : Args) → Gives args (alone (codes "play")) → place_named (Ok args) ≡ None
 place-play args given =

@@ -1,8 +1,8 @@
 //! The program: `subzero play` answers a session that comes on standard input, on standard output,
 //! `subzero load` says there what sums up a session that is made from numbers,
 //! `subzero init LOG` makes the file LOG the empty log, `subzero run LOG` answers a session beside
-//! it and keeps it there, and `subzero check LOG` says whether the stores in it stand for what they
-//! should.
+//! it and keeps it there, `subzero check LOG` says whether the stores in it stand for what they
+//! should, and `subzero upgrade LOG` raises it to format 2, in which versions take less room.
 //!
 //! `main` makes the real input and output, with the file of the log, and leaves with what [`run`]
 //! gives: the exit number. That one call is all that is left unproved of it. `words` reads the

@@ -118,6 +118,8 @@ fn words_and_sessions_give_their_exit_numbers(rt: HostRuntime) -> std::result::R
     assert!(rt; ends(&rt, alloc, &["load", "--side", "0"], &[], &[])? == ExitCode::from(1));
     assert!(rt; ends(&rt, alloc, &["run", "x"], &[], &[])? == ExitCode::from(5));
     assert!(rt; ends(&rt, alloc, &["check", "x"], &[], &[])? == ExitCode::from(5));
+    assert!(rt; ends(&rt, alloc, &["upgrade", "x"], &[], &[])? == ExitCode::from(5));
+    assert!(rt; ends(&rt, alloc, &["upgrade"], &[], &[])? == ExitCode::from(1));
     assert!(rt; ends(&rt, alloc, &["play", "x"], &[], &[])? == ExitCode::from(1));
     assert!(rt; ends(&rt, alloc, &["x", "play"], &[], &[])? == ExitCode::from(1));
     Ok(())

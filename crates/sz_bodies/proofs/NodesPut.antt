@@ -12,7 +12,7 @@ use Rattle.sz_spec.specs.Shapes.{Site}
 use Rattle.sz_spec.specs.Modes.{is_stored}
 use Rattle.sz_region.specs.Counted.{IsAt}
 use Rattle.sz_store.specs.Kept.{NodeLineage, stored_in}
-use Rattle.sz_store.specs.Words.{BeginEach}
+use Rattle.sz_formats.specs.Words.{BeginEachIn}
 use Rattle.sz_catalogue.specs.Rules.{names_a_store}
 use Rattle.sz_bodies.specs.Bodies.{NodePart, VersionBody, head_bytes, list_bytes, BeginNodes, IsShort, IsBodyOf}
 use Rattle.sz_bodies.specs.Fitting.{FitsNode, FitNodes, part_of, parts_of}
@@ -50,18 +50,20 @@ at-behind old word rest = record {
 -- ---- nodes
 
 -- nodes, and behind them others
-pub nodes-append : (sites more : List Site) (bytes : List ℕ) (a b c : ℕ) (xs ys : List NodePart)
-    → BeginNodes sites bytes a b xs → BeginNodes more bytes b c ys → BeginNodes (sites ++ more) bytes a c (xs ++ ys)
-nodes-append [] more bytes a b c [] ys first second = subst (λ (n : ℕ). BeginNodes more bytes n c ys) first second
-nodes-append [] more bytes a b c (x ∷ xs) ys first second = absurd first
-nodes-append (s ∷ sites) more bytes a b c [] ys first second = absurd first
-nodes-append (s ∷ sites) more bytes a b c (x ∷ xs) ys first second = (
+pub nodes-append : (format : ℕ) (sites more : List Site) (bytes : List ℕ) (a b c : ℕ) (xs ys : List NodePart)
+    → BeginNodes format sites bytes a b xs → BeginNodes format more bytes b c ys
+    → BeginNodes format (sites ++ more) bytes a c (xs ++ ys)
+nodes-append format [] more bytes a b c [] ys first second = subst (λ
+    (n : ℕ). BeginNodes format more bytes n c ys) first second
+nodes-append format [] more bytes a b c (x ∷ xs) ys first second = absurd first
+nodes-append format (s ∷ sites) more bytes a b c [] ys first second = absurd first
+nodes-append format (s ∷ sites) more bytes a b c (x ∷ xs) ys first second = (
   first.0,
   first.1,
   first.2,
   first.3,
   first.4,
-  nodes-append sites more bytes first.1 b c xs ys first.5 second,
+  nodes-append format sites more bytes first.1 b c xs ys first.5 second,
 )
 
 -- the node at a number, and what it is to those before it
@@ -115,26 +117,28 @@ fit-length (s ∷ sites) (l ∷ lists) (k ∷ stores) fit =
     let rest = fit-length sites lists stores fit.1 in (ap suc rest.0, ap suc rest.1, ap suc rest.2)
 
 -- a node without stores is its list
-pub no-stores : (s : Site) (list : List Strategy) (old new rest : List ℕ) → new ≡ old ++ list_bytes list
-    → FitsNode s list None → BeginNodes (s ∷ []) (new ++ rest) (length old) (length new) (part_of list None ∷ [])
-no-stores s list old new rest is fits =
+pub no-stores : (format : ℕ) (s : Site) (list : List Strategy) (old new rest : List ℕ) → new ≡ old ++ list_bytes list
+    → FitsNode s list None → BeginNodes format (s ∷ []) (new ++ rest) (length old) (length new) (part_of list None ∷ [])
+no-stores format s list old new rest is fits =
     let bytes : new ++ rest ≡ old ++ (list_bytes list ++ rest) =
     ap (λ (xs : List ℕ). xs ++ rest) is ∙ append_assoc old (list_bytes list) rest in
     let here : IsAt (new ++ rest) (length old) (length new) (list_bytes list) =
     subst (λ (xs : List ℕ). IsAt xs (length old) (length new) (list_bytes list)) (sym bytes)
     (subst (λ (n : ℕ). IsAt (old ++ (list_bytes list ++ rest)) (length old) n (list_bytes list))
     (ap length (sym is)) (at-behind old (list_bytes list) rest)) in
-    let none : BeginEach s (stored_in list) (new ++ rest) (length new) (length new) [] =
-    subst (λ (ts : List Strategy). BeginEach s ts (new ++ rest) (length new) (length new) [])
+    let none : BeginEachIn format s (stored_in list) (new ++ rest) (length new) (length new) [] =
+    subst (λ (ts : List Strategy). BeginEachIn format s ts (new ++ rest) (length new) (length new) [])
     (sym (none-stored list fits)) refl in
     (length new, length new, omega (arith, length-append new rest), here, none, refl)
 
 -- ---- the whole
 
 -- what stands before the nodes, and behind it the nodes
-pub body-whole : (sites : List Site) (b : VersionBody) (head more bytes : List ℕ) → IsShort b → head ≡ head_bytes b
-    → bytes ≡ head ++ more → BeginNodes sites bytes (length head) (length bytes) b.nodes → IsBodyOf sites b bytes
-body-whole sites b head more bytes short is spelled nodes = record {
+pub body-whole : (format : ℕ) (sites : List Site) (b : VersionBody) (head more bytes : List ℕ) → IsShort b
+    → head ≡ head_bytes b
+    → bytes ≡ head ++ more → BeginNodes format sites bytes (length head) (length bytes) b.nodes
+    → IsBodyOf format sites b bytes
+body-whole format sites b head more bytes short is spelled nodes = record {
   short = short;
   place = length head;
   head =

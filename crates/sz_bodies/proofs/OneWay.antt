@@ -16,8 +16,8 @@ use Rattle.sz_spec.specs.Modes.{number_of}
 use Rattle.sz_region.specs.Counted.{counted}
 use Rattle.sz_region.proofs.Spans.{IsPrefixFree, number-free, counted-free}
 use Rattle.sz_store.specs.Kept.{Keep, stored_in}
-use Rattle.sz_store.specs.Words.{BeginEach}
-use Rattle.sz_store.proofs.Reading.{stores-one}
+use Rattle.sz_formats.specs.Words.{BeginEachIn}
+use Rattle.sz_formats.proofs.Each.{each-one}
 use Rattle.sz_script.specs.declared.command.BaseName.{BaseName}
 use Rattle.sz_bodies.specs.Bodies.{NodePart, VersionBody, name_bytes, base_bytes, head_bytes, list_bytes, BeginNodes}
 use Rattle.sz_bodies.specs.Bodies.{IsShortName, IsShortBase, IsShort}
@@ -87,26 +87,27 @@ place-same bytes p q low high same =
 abbrev node-make : List Strategy → List Keep → NodePart
 node-make list stores = record { list = list; stores = stores }
 
-pub nodes-one : (sites : List Site) (bytes : List ℕ) (at next other : ℕ) (xs ys : List NodePart)
-    → All IsRightSite sites → BeginNodes sites bytes at next xs → BeginNodes sites bytes at other ys → xs ≡ ys
-nodes-one [] bytes at next other [] [] right first second = refl
-nodes-one [] bytes at next other [] (y ∷ ys) right first second = absurd second
-nodes-one [] bytes at next other (x ∷ xs) ys right first second = absurd first
-nodes-one (s ∷ sites) bytes at next other [] ys right first second = absurd first
-nodes-one (s ∷ sites) bytes at next other (x ∷ xs) [] right first second = absurd second
-nodes-one (s ∷ sites) bytes at next other (x ∷ xs) (y ∷ ys) right first second =
+pub nodes-one : (format : ℕ) (sites : List Site) (bytes : List ℕ) (at next other : ℕ) (xs ys : List NodePart)
+    → All IsRightSite sites → BeginNodes format sites bytes at next xs → BeginNodes format sites bytes at other ys
+    → xs ≡ ys
+nodes-one format [] bytes at next other [] [] right first second = refl
+nodes-one format [] bytes at next other [] (y ∷ ys) right first second = absurd second
+nodes-one format [] bytes at next other (x ∷ xs) ys right first second = absurd first
+nodes-one format (s ∷ sites) bytes at next other [] ys right first second = absurd first
+nodes-one format (s ∷ sites) bytes at next other (x ∷ xs) [] right first second = absurd second
+nodes-one format (s ∷ sites) bytes at next other (x ∷ xs) (y ∷ ys) right first second =
     let list = list-same x.list y.list (drop first.0 bytes) (drop second.0 bytes)
     (sym first.3.spelled ∙ second.3.spelled) in
     let mid : second.0 ≡ first.0 =
     place-same bytes second.0 first.0 second.3.within first.3.within (sym list.1) in
-    let again : BeginEach s (stored_in x.list) bytes first.0 second.1 y.stores =
-    subst (λ (n : ℕ). BeginEach s (stored_in x.list) bytes n second.1 y.stores) mid
-    (subst (λ (ts : List Strategy). BeginEach s (stored_in ts) bytes second.0 second.1 y.stores) (sym list.0)
+    let again : BeginEachIn format s (stored_in x.list) bytes first.0 second.1 y.stores =
+    subst (λ (n : ℕ). BeginEachIn format s (stored_in x.list) bytes n second.1 y.stores) mid
+    (subst (λ (ts : List Strategy). BeginEachIn format s (stored_in ts) bytes second.0 second.1 y.stores) (sym list.0)
     second.4) in
-    let stores = stores-one s (stored_in x.list) bytes first.0 first.1 second.1 x.stores y.stores
+    let stores = each-one format s (stored_in x.list) bytes first.0 first.1 second.1 x.stores y.stores
     (All-head IsRightSite s sites right) first.4 again in
-    let rest = nodes-one sites bytes first.1 next other xs ys (All-tail IsRightSite s sites right) first.5
-    (subst (λ (n : ℕ). BeginNodes sites bytes n other ys) (sym stores.1) second.5) in
+    let rest = nodes-one format sites bytes first.1 next other xs ys (All-tail IsRightSite s sites right) first.5
+    (subst (λ (n : ℕ). BeginNodes format sites bytes n other ys) (sym stores.1) second.5) in
     ap₂ (λ (z : NodePart) (zs : List NodePart). z ∷ zs) (ap₂ node-make list.0 stores.0) rest
 
 -- ---- the whole
@@ -142,13 +143,13 @@ head-same a b x y short small same =
     record { number = number.0; flow_name = name.0; base = base.0; rest = count.1 }
 
 pub bodies-one : OneBodyAtMost
-bodies-one sites bytes a b right one other =
+bodies-one format sites bytes a b right one other =
     let head = head-same a b (drop one.place bytes) (drop other.place bytes) one.short other.short
     (sym one.head.spelled ∙ other.head.spelled) in
     let place : other.place ≡ one.place =
     place-same bytes other.place one.place other.head.within one.head.within (sym head.rest) in
-    let nodes = nodes-one sites bytes one.place (length bytes) (length bytes) a.nodes b.nodes right one.nodes
-    (subst (λ (n : ℕ). BeginNodes sites bytes n (length bytes) b.nodes) place other.nodes) in
+    let nodes = nodes-one format sites bytes one.place (length bytes) (length bytes) a.nodes b.nodes right one.nodes
+    (subst (λ (n : ℕ). BeginNodes format sites bytes n (length bytes) b.nodes) place other.nodes) in
     let make : List ℕ → List BaseName → List NodePart → VersionBody = λ name base ns.
     record { number = a.number; flow_name = name; base = base; nodes = ns } in
     ap (λ (n : ℕ). record a { number = n }) head.number

@@ -11,10 +11,13 @@ use Rattle.sz_spec.specs.declared.op.Op.TheVariants.{Neg}
 use Rattle.sz_spec.specs.declared.modes.Strategy.TheVariants as strategy
 use Rattle.sz_spec.specs.Shapes.{Site}
 use Rattle.sz_frame.specs.Parts.{Pairing}
-use Rattle.sz_region.specs.FullBytes.{Listed, IsListed, BeginsRegions}
+use Rattle.sz_region.specs.FullBytes.{Listed, IsListed}
+use Rattle.sz_short.specs.ShortStores.{AreFullParts, BeginsFull}
+use Rattle.sz_short.specs.ShortNumber.{short_number, short_within}
+use Rattle.sz_formats.specs.Formats.{spelling}
 use Rattle.sz_store.specs.Kept.{Keep, regions, NodeLineage, no_lineage}
 use Rattle.sz_script.specs.declared.command.BaseName.{BaseName}
-use Rattle.sz_bodies.specs.Bodies.{NodePart, VersionBody, head_bytes, list_bytes, IsShortBase, IsBodyOf}
+use Rattle.sz_bodies.specs.Bodies.{NodePart, VersionBody, head_bytes, list_bytes, IsShortBase, IsShort, IsBodyOf}
 use Rattle.sz_bodies.specs.Fitting.{FitsNode, FitNodes}
 use Rattle.sz_bodies.specs.Lawful.{has_names}
 
@@ -79,42 +82,44 @@ listed array is =
 listed-one : IsListed cell (cell ∷ []) (record { array = 1; set = set })
 listed-one = record { array = omega arith; set = record { extent = refl; rising = ((omega arith), (omega arith), tt) } }
 
-pub store-begins : BeginsRegions cell (cell ∷ []) bytes 22 64 (pair ∷ [])
+parts : AreFullParts cell (cell ∷ []) table ((0 ∷ 1 ∷ []) ∷ []) (pair ∷ [])
+parts = record {
+  each =
+      All-cons (IsListed cell (cell ∷ [])) (record { array = 0; set = set })
+      (record { array = 1; set = set } ∷ [])
+      (listed 0 refl)
+      (All-cons (IsListed cell (cell ∷ [])) (record { array = 1; set = set }) [] listed-one
+      (All-nil (IsListed cell (cell ∷ []))));
+  few_sets = omega arith;
+  few = omega arith;
+  named = (record { whole = refl; named = (refl, (refl, tt)) }, tt);
+}
+
+pub store-begins : BeginsFull (spelling 1) cell (cell ∷ []) bytes 22 64 (pair ∷ [])
 store-begins = record {
   table = table;
-  word = store;
+  names = (0 ∷ 1 ∷ []) ∷ [];
   rest = [];
-  is_word =
-      record {
-        each =
-            All-cons (IsListed cell (cell ∷ [])) (record { array = 0; set = set })
-            (record { array = 1; set = set } ∷ [])
-            (listed 0 refl)
-            (All-cons (IsListed cell (cell ∷ [])) (record { array = 1; set = set }) [] listed-one
-            (All-nil (IsListed cell (cell ∷ []))));
-        few_sets = omega arith;
-        few = omega arith;
-        names = (0 ∷ 1 ∷ []) ∷ [];
-        named = (record { whole = refl; named = (refl, (refl, tt)) }, tt);
-        spelled = refl;
-      };
+  are = parts;
   spelled = refl;
   ends = refl;
 }
 
-pub body-spelled : IsBodyOf (site ∷ []) body bytes
+short : IsShort body
+short = record {
+  number = omega arith;
+  flow_name = omega arith;
+  few_bases = omega arith;
+  bases = All-cons IsShortBase base [] (omega arith, omega arith) (All-nil IsShortBase);
+  few_nodes = omega arith;
+  lists =
+      All-cons (λ (x : NodePart). length x.list < 256) part [] (omega arith)
+      (All-nil (λ (x : NodePart). length x.list < 256));
+}
+
+pub body-spelled : IsBodyOf 1 (site ∷ []) body bytes
 body-spelled = record {
-  short =
-      record {
-        number = omega arith;
-        flow_name = omega arith;
-        few_bases = omega arith;
-        bases = All-cons IsShortBase base [] (omega arith, omega arith) (All-nil IsShortBase);
-        few_nodes = omega arith;
-        lists =
-            All-cons (λ (x : NodePart). length x.list < 256) part [] (omega arith)
-            (All-nil (λ (x : NodePart). length x.list < 256));
-      };
+  short = short;
   place = 20;
   head = record { spelled = refl; within = omega arith };
   nodes = (
@@ -128,8 +133,47 @@ body-spelled = record {
 }
 
 -- without the node's operator at its shapes they are none
-pub no-sites : IsBodyOf [] body bytes → ⊥
+pub no-sites : IsBodyOf 1 [] body bytes → ⊥
 no-sites is = is.nodes
+
+-- ---- the same in format 2
+
+-- 00000002  00 01 00 00  01 01 00 00  00000001  00000000 00000001
+abbrev pub short-store : List ℕ
+short-store =
+    0 ∷ 0 ∷ 0 ∷ 2 ∷ 0 ∷ 1 ∷ 0 ∷ 0 ∷ 1 ∷ 1 ∷ 0 ∷ 0 ∷ 0 ∷ 0 ∷ 0 ∷ 1 ∷ 0 ∷ 0 ∷ 0 ∷ 0 ∷ 0 ∷ 0 ∷ 0 ∷ 1 ∷ []
+
+abbrev pub short-bytes : List ℕ
+short-bytes = head ++ 1 ∷ 2 ∷ short-store
+
+pub short-size : length short-bytes ≡ 46
+short-size = refl
+
+short-begins : BeginsFull (spelling 2) cell (cell ∷ []) short-bytes 22 46 (pair ∷ [])
+unfolding short_number short_within
+short-begins = record {
+  table = table;
+  names = (0 ∷ 1 ∷ []) ∷ [];
+  rest = [];
+  are = parts;
+  spelled = refl;
+  ends = refl;
+}
+
+pub short-body : IsBodyOf 2 (site ∷ []) body short-bytes
+short-body = record {
+  short = short;
+  place = 20;
+  head = record { spelled = refl; within = omega arith };
+  nodes = (
+    22,
+    46,
+    omega arith,
+    record { spelled = refl; within = omega arith },
+    (46, omega arith, refl, short-begins, refl),
+    refl,
+  );
+}
 
 -- ---- names
 

@@ -17,8 +17,8 @@ use Rattle.sz_spec.specs.Shapes.{Site}
 use Rattle.sz_region.specs.Counted.{IsAt}
 use Rattle.sz_region.specs.Stores.{NoneAt}
 use Rattle.sz_store.specs.Kept.{Keep, NodeLineage, stored_in}
-use Rattle.sz_store.specs.Words.{BeginEach, NoneBegin}
-use Rattle.sz_store.proofs.Reading.{stores-one}
+use Rattle.sz_formats.specs.Words.{BeginEachIn, NoneBeginIn}
+use Rattle.sz_formats.proofs.Each.{each-one}
 use Rattle.sz_catalogue.specs.Rules as rules
 use Rattle.sz_bodies.specs.Bodies.{NodePart, list_bytes}
 use Rattle.sz_bodies.specs.Fitting.{FitsNode, FitNodes, part_of, parts_of}
@@ -44,42 +44,44 @@ abbrev pub part-make : List Strategy → List Keep → NodePart
 part-make list stores = record { list = list; stores = stores }
 
 -- the list of a node that stands there is the one that was read
-pub list-there : (s : Site) (bytes : List ℕ) (at mid next : ℕ) (list : List Strategy) (x : NodePart)
-    → IsAt bytes at mid (list_bytes list) → IsNodeAt s bytes at next x
-    → (x.list ≡ list) × BeginEach s (stored_in list) bytes mid next x.stores
-list-there s bytes at mid next list x here node =
+pub list-there : (format : ℕ) (s : Site) (bytes : List ℕ) (at mid next : ℕ) (list : List Strategy) (x : NodePart)
+    → IsAt bytes at mid (list_bytes list) → IsNodeAt format s bytes at next x
+    → (x.list ≡ list) × BeginEachIn format s (stored_in list) bytes mid next x.stores
+list-there format s bytes at mid next list x here node =
     let same = list-same x.list list (drop node.mid bytes) (drop mid bytes)
     (sym node.here.spelled ∙ here.spelled) in
     let place : node.mid ≡ mid = place-same bytes node.mid mid node.here.within here.within same.1 in (
       same.0,
-      subst (λ (n : ℕ). BeginEach s (stored_in list) bytes n next x.stores) place
-          (subst (λ (ts : List Strategy). BeginEach s (stored_in ts) bytes node.mid next x.stores) same.0
+      subst (λ (n : ℕ). BeginEachIn format s (stored_in list) bytes n next x.stores) place
+          (subst (λ (ts : List Strategy). BeginEachIn format s (stored_in ts) bytes node.mid next x.stores) same.0
           node.stores),
     )
 
 -- where there is no list, there is no node
-pub no-node-list : (s : Site) (bytes : List ℕ) (at : ℕ) → NoneAt IsShortList list_bytes bytes at → NoNodeAt s bytes at
-no-node-list s bytes at none next x node =
+pub no-node-list : (format : ℕ) (s : Site) (bytes : List ℕ) (at : ℕ) → NoneAt IsShortList list_bytes bytes at
+    → NoNodeAt format s bytes at
+no-node-list format s bytes at none next x node =
     none x.list (drop node.mid bytes) (omega (arith, (list-right s.op x.list node.right).0)) node.here.spelled
 
 -- nor where it is none for the operator
-pub no-node-other : (s : Site) (bytes : List ℕ) (at mid : ℕ) (list : List Strategy)
-    → IsAt bytes at mid (list_bytes list) → rules.is_list_for s.op list ≡ false → NoNodeAt s bytes at
-no-node-other s bytes at mid list here none next x node =
-    let same = (list-there s bytes at mid next list x here node).0 in
+pub no-node-other : (format : ℕ) (s : Site) (bytes : List ℕ) (at mid : ℕ) (list : List Strategy)
+    → IsAt bytes at mid (list_bytes list) → rules.is_list_for s.op list ≡ false → NoNodeAt format s bytes at
+no-node-other format s bytes at mid list here none next x node =
+    let same = (list-there format s bytes at mid next list x here node).0 in
     true≢false (sym node.right ∙ ap (rules.is_list_for s.op) same ∙ none)
 
 -- nor where its stores do not stand behind it
-pub no-node-stores : (s : Site) (bytes : List ℕ) (at mid : ℕ) (list : List Strategy)
-    → IsAt bytes at mid (list_bytes list) → NoneBegin s (stored_in list) bytes mid → NoNodeAt s bytes at
-no-node-stores s bytes at mid list here none next x node =
-    none next x.stores (list-there s bytes at mid next list x here node).1
+pub no-node-stores : (format : ℕ) (s : Site) (bytes : List ℕ) (at mid : ℕ) (list : List Strategy)
+    → IsAt bytes at mid (list_bytes list) → NoneBeginIn format s (stored_in list) bytes mid → NoNodeAt format s bytes at
+no-node-stores format s bytes at mid list here none next x node =
+    none next x.stores (list-there format s bytes at mid next list x here node).1
 
 -- a node of its list and stores
-pub node-stands : (s : Site) (bytes : List ℕ) (at mid next : ℕ) (list : List Strategy) (stores : List Keep)
+pub node-stands : (format : ℕ) (s : Site) (bytes : List ℕ) (at mid next : ℕ) (list : List Strategy) (stores : List Keep)
     → rules.is_list_for s.op list ≡ true → IsAt bytes at mid (list_bytes list) → next ≤ length bytes
-    → BeginEach s (stored_in list) bytes mid next stores → IsNodeAt s bytes at next (part-make list stores)
-node-stands s bytes at mid next list stores right here within begin = record {
+    → BeginEachIn format s (stored_in list) bytes mid next stores
+    → IsNodeAt format s bytes at next (part-make list stores)
+node-stands format s bytes at mid next list stores right here within begin = record {
   right = right;
   mid = mid;
   here = here;
@@ -88,30 +90,30 @@ node-stands s bytes at mid next list stores right here within begin = record {
 }
 
 -- it is the only one there
-pub node-only : (s : Site) (bytes : List ℕ) (at mid next : ℕ) (list : List Strategy) (stores : List Keep)
-    → IsRightSite s → IsAt bytes at mid (list_bytes list) → BeginEach s (stored_in list) bytes mid next stores
-    → IsOnlyNode s bytes at next (part-make list stores)
-node-only s bytes at mid next list stores right here begin other y node =
-    let there = list-there s bytes at mid other list y here node in
-    let same = stores-one s (stored_in list) bytes mid other next y.stores stores right there.1 begin in
+pub node-only : (format : ℕ) (s : Site) (bytes : List ℕ) (at mid next : ℕ) (list : List Strategy) (stores : List Keep)
+    → IsRightSite s → IsAt bytes at mid (list_bytes list) → BeginEachIn format s (stored_in list) bytes mid next stores
+    → IsOnlyNode format s bytes at next (part-make list stores)
+node-only format s bytes at mid next list stores right here begin other y node =
+    let there = list-there format s bytes at mid other list y here node in
+    let same = each-one format s (stored_in list) bytes mid other next y.stores stores right there.1 begin in
     (ap₂ part-make there.0 same.0, same.1)
 
 -- without a stored strategy the list is all
-pub bare-stands : (s : Site) (bytes : List ℕ) (at mid : ℕ) (list : List Strategy)
+pub bare-stands : (format : ℕ) (s : Site) (bytes : List ℕ) (at mid : ℕ) (list : List Strategy)
     → rules.is_list_for s.op list ≡ true → IsAt bytes at mid (list_bytes list) → rules.names_a_store list ≡ false
-    → IsNodeAt s bytes at mid (part-make list [])
-bare-stands s bytes at mid list right here none =
-    node-stands s bytes at mid mid list [] right here here.within
-    (subst (λ (ts : List Strategy). BeginEach s ts bytes mid mid []) (sym (none-stored list none)) refl)
+    → IsNodeAt format s bytes at mid (part-make list [])
+bare-stands format s bytes at mid list right here none =
+    node-stands format s bytes at mid mid list [] right here here.within
+    (subst (λ (ts : List Strategy). BeginEachIn format s ts bytes mid mid []) (sym (none-stored list none)) refl)
 
-pub bare-only : (s : Site) (bytes : List ℕ) (at mid : ℕ) (list : List Strategy)
+pub bare-only : (format : ℕ) (s : Site) (bytes : List ℕ) (at mid : ℕ) (list : List Strategy)
     → IsAt bytes at mid (list_bytes list) → rules.names_a_store list ≡ false
-    → IsOnlyNode s bytes at mid (part-make list [])
-bare-only s bytes at mid list here none other y node =
-    let there = list-there s bytes at mid other list y here node in
-    let begin : BeginEach s [] bytes mid other y.stores =
-    subst (λ (ts : List Strategy). BeginEach s ts bytes mid other y.stores) (none-stored list none) there.1 in
-    let empty : (ks : List Keep) → BeginEach s [] bytes mid other ks → (ks ≡ []) × (other ≡ mid) = elim [
+    → IsOnlyNode format s bytes at mid (part-make list [])
+bare-only format s bytes at mid list here none other y node =
+    let there = list-there format s bytes at mid other list y here node in
+    let begin : BeginEachIn format s [] bytes mid other y.stores =
+    subst (λ (ts : List Strategy). BeginEachIn format s ts bytes mid other y.stores) (none-stored list none) there.1 in
+    let empty : (ks : List Keep) → BeginEachIn format s [] bytes mid other ks → (ks ≡ []) × (other ≡ mid) = elim [
       | [] ↦ λ is. (refl, is)
       | k ∷ ks ↦ λ is. absurd is
     ] in
@@ -121,66 +123,76 @@ bare-only s bytes at mid list here none other y node =
 -- ---- nodes one after another
 
 -- how far the nodes were read: those before a number stand in front, and whatever stands there goes on behind them
-pub record AreRead (base outs : List Extent) (nodes left : List Node) (bytes : List ℕ) (at place : ℕ)
+pub record AreRead (format : ℕ) (base outs : List Extent) (nodes left : List Node) (bytes : List ℕ) (at place : ℕ)
     (done : List NodePart) : Type 0 where
-  pub whole : (next : ℕ) (ys : List NodePart) → AreNodesAt base outs left bytes place next ys
-      → AreNodesAt base outs nodes bytes at next (done ++ ys)
-  pub ahead : (next : ℕ) (xs : List NodePart) → AreNodesAt base outs nodes bytes at next xs
-      → (ys : List NodePart) × (xs ≡ done ++ ys) × AreNodesAt base outs left bytes place next ys
+  pub whole : (next : ℕ) (ys : List NodePart) → AreNodesAt format base outs left bytes place next ys
+      → AreNodesAt format base outs nodes bytes at next (done ++ ys)
+  pub ahead : (next : ℕ) (xs : List NodePart) → AreNodesAt format base outs nodes bytes at next xs
+      → (ys : List NodePart) × (xs ≡ done ++ ys) × AreNodesAt format base outs left bytes place next ys
 
-pub read-none : (base outs : List Extent) (nodes : List Node) (bytes : List ℕ) (at : ℕ)
-    → AreRead base outs nodes nodes bytes at at []
-read-none base outs nodes bytes at = record { whole = λ next ys are. are; ahead = λ next xs are. (xs, refl, are) }
+pub read-none : (format : ℕ) (base outs : List Extent) (nodes : List Node) (bytes : List ℕ) (at : ℕ)
+    → AreRead format base outs nodes nodes bytes at at []
+read-none format base outs nodes bytes at = record {
+  whole = λ next ys are. are;
+  ahead = λ next xs are.
+      (xs, refl, are);
+}
 
 -- the first of nodes that stand there
-first-there : (base outs : List Extent) (n : Node) (left : List Node) (bytes : List ℕ) (place next : ℕ)
-    (ys : List NodePart) → AreNodesAt base outs (n ∷ left) bytes place next ys
+first-there : (format : ℕ) (base outs : List Extent) (n : Node) (left : List Node) (bytes : List ℕ) (place next : ℕ)
+    (ys : List NodePart) → AreNodesAt format base outs (n ∷ left) bytes place next ys
     → (y : NodePart) × (zs : List NodePart) × (mid : ℕ) × (ys ≡ y ∷ zs)
-    × IsNodeAt (site_over base outs n) bytes place mid y × AreNodesAt base outs left bytes mid next zs
-first-there base outs n left bytes place next [] are = absurd are
-first-there base outs n left bytes place next (y ∷ ys) are = (y, ys, are.0, refl, are.1, are.2)
+    × IsNodeAt format (site_over base outs n) bytes place mid y × AreNodesAt format base outs left bytes mid next zs
+first-there format base outs n left bytes place next [] are = absurd are
+first-there format base outs n left bytes place next (y ∷ ys) are = (y, ys, are.0, refl, are.1, are.2)
 
 -- where the next node is not there, no nodes are
-pub read-stops : (base outs : List Extent) (nodes : List Node) (n : Node) (left : List Node) (bytes : List ℕ)
-    (at place : ℕ) (done : List NodePart) → AreRead base outs nodes (n ∷ left) bytes at place done
-    → NoNodeAt (site_over base outs n) bytes place → NoNodesAt base outs nodes bytes at
-read-stops base outs nodes n left bytes at place done read none next xs are =
+pub read-stops : (format : ℕ) (base outs : List Extent) (nodes : List Node) (n : Node) (left : List Node)
+    (bytes : List ℕ)
+    (at place : ℕ) (done : List NodePart) → AreRead format base outs nodes (n ∷ left) bytes at place done
+    → NoNodeAt format (site_over base outs n) bytes place → NoNodesAt format base outs nodes bytes at
+read-stops format base outs nodes n left bytes at place done read none next xs are =
     let rest = read.ahead next xs are in
-    let first = first-there base outs n left bytes place next rest.0 rest.2 in
+    let first = first-there format base outs n left bytes place next rest.0 rest.2 in
     none first.2 first.0 first.4
 
 -- and where it is, one more was read
-pub read-more : (base outs : List Extent) (nodes : List Node) (n : Node) (left : List Node) (bytes : List ℕ)
-    (at place mid : ℕ) (done : List NodePart) (x : NodePart) → AreRead base outs nodes (n ∷ left) bytes at place done
-    → IsNodeAt (site_over base outs n) bytes place mid x → IsOnlyNode (site_over base outs n) bytes place mid x
-    → AreRead base outs nodes left bytes at mid (done ++ x ∷ [])
-read-more base outs nodes n left bytes at place mid done x read node only = record {
+pub read-more : (format : ℕ) (base outs : List Extent) (nodes : List Node) (n : Node) (left : List Node)
+    (bytes : List ℕ)
+    (at place mid : ℕ) (done : List NodePart) (x : NodePart)
+    → AreRead format base outs nodes (n ∷ left) bytes at place done
+    → IsNodeAt format (site_over base outs n) bytes place mid x
+    → IsOnlyNode format (site_over base outs n) bytes place mid x
+    → AreRead format base outs nodes left bytes at mid (done ++ x ∷ [])
+read-more format base outs nodes n left bytes at place mid done x read node only = record {
   whole =
       λ next ys are.
-      subst (AreNodesAt base outs nodes bytes at next) (sym (append_assoc done (x ∷ []) ys))
+      subst (AreNodesAt format base outs nodes bytes at next) (sym (append_assoc done (x ∷ []) ys))
       (read.whole next (x ∷ ys) (mid, node, are));
   ahead =
       λ next xs are.
       let rest = read.ahead next xs are in
-      let first = first-there base outs n left bytes place next rest.0 rest.2 in
+      let first = first-there format base outs n left bytes place next rest.0 rest.2 in
       let same = only first.2 first.0 first.4 in
       let zs = first.1 in (
         zs,
         rest.1 ∙ ap (λ (ys : List NodePart). done ++ ys) (first.3 ∙ ap (λ (y : NodePart). y ∷ zs) same.0)
             ∙ sym (append_assoc done (x ∷ []) zs),
-        subst (λ (k : ℕ). AreNodesAt base outs left bytes k next zs) same.1 first.5,
+        subst (λ (k : ℕ). AreNodesAt format base outs left bytes k next zs) same.1 first.5,
       );
 }
 
 -- where all were read, they are all that stand there
-pub read-all : (base outs : List Extent) (nodes : List Node) (bytes : List ℕ) (at place : ℕ) (done : List NodePart)
-    → AreRead base outs nodes [] bytes at place done
-    → AreNodesAt base outs nodes bytes at place done × AreOnlyNodes base outs nodes bytes at place done
-read-all base outs nodes bytes at place done read = (
-  subst (AreNodesAt base outs nodes bytes at place) (append-nil done) (read.whole place [] refl),
+pub read-all : (format : ℕ) (base outs : List Extent) (nodes : List Node) (bytes : List ℕ) (at place : ℕ)
+    (done : List NodePart)
+    → AreRead format base outs nodes [] bytes at place done
+    → AreNodesAt format base outs nodes bytes at place done × AreOnlyNodes format base outs nodes bytes at place done
+read-all format base outs nodes bytes at place done read = (
+  subst (AreNodesAt format base outs nodes bytes at place) (append-nil done) (read.whole place [] refl),
   λ other ys are.
       let rest = read.ahead other ys are in
-      let ends : (zs : List NodePart) → AreNodesAt base outs [] bytes place other zs → (zs ≡ []) × (other ≡ place)
+      let ends : (zs : List NodePart) → AreNodesAt format base outs [] bytes place other zs
+      → (zs ≡ []) × (other ≡ place)
       = elim [
         | [] ↦ λ is. (refl, is)
         | z ∷ zs ↦ λ is. absurd is

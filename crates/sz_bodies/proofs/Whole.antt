@@ -66,31 +66,34 @@ lists-count (x ∷ nodes) (l ∷ lists) is =
 -- ---- nodes
 
 -- nodes that begin at the sites of a flow's nodes, with a list for each, stand there
-nodes-from : (base outs : List Extent) (nodes : List Node) (bytes : List ℕ) (at next : ℕ) (xs : List NodePart)
+nodes-from : (format : ℕ) (base outs : List Extent) (nodes : List Node) (bytes : List ℕ) (at next : ℕ)
+    (xs : List NodePart)
     → next ≤ length bytes → rules.are_lists_for nodes (map (λ (x : NodePart). x.list) xs) ≡ true
-    → BeginNodes (map (site_over base outs) nodes) bytes at next xs → AreNodesAt base outs nodes bytes at next xs
-nodes-from base outs [] bytes at next [] within right begin = begin
-nodes-from base outs [] bytes at next (x ∷ xs) within right begin = absurd begin
-nodes-from base outs (n ∷ nodes) bytes at next [] within right begin = absurd begin
-nodes-from base outs (n ∷ nodes) bytes at next (x ∷ xs) within right begin =
+    → BeginNodes format (map (site_over base outs) nodes) bytes at next xs
+    → AreNodesAt format base outs nodes bytes at next xs
+nodes-from format base outs [] bytes at next [] within right begin = begin
+nodes-from format base outs [] bytes at next (x ∷ xs) within right begin = absurd begin
+nodes-from format base outs (n ∷ nodes) bytes at next [] within right begin = absurd begin
+nodes-from format base outs (n ∷ nodes) bytes at next (x ∷ xs) within right begin =
     let both = and_parts (rules.is_list_for n.op x.list)
     (rules.are_lists_for nodes (map (λ (y : NodePart). y.list) xs)) right in (
       begin.1,
       record { right = both.0; mid = begin.0; here = begin.3; within = begin.2; stores = begin.4 },
-      nodes-from base outs nodes bytes begin.1 next xs within both.1 begin.5,
+      nodes-from format base outs nodes bytes begin.1 next xs within both.1 begin.5,
     )
 
 -- and the other way round
-nodes-into : (base outs : List Extent) (nodes : List Node) (bytes : List ℕ) (at next : ℕ) (xs : List NodePart)
-    → AreNodesAt base outs nodes bytes at next xs
-    → BeginNodes (map (site_over base outs) nodes) bytes at next xs
+nodes-into : (format : ℕ) (base outs : List Extent) (nodes : List Node) (bytes : List ℕ) (at next : ℕ)
+    (xs : List NodePart)
+    → AreNodesAt format base outs nodes bytes at next xs
+    → BeginNodes format (map (site_over base outs) nodes) bytes at next xs
     × (rules.are_lists_for nodes (map (λ (x : NodePart). x.list) xs) ≡ true)
     × All (λ (x : NodePart). length x.list < 256) xs
-nodes-into base outs [] bytes at next [] are = (are, refl, All-nil (λ (x : NodePart). length x.list < 256))
-nodes-into base outs [] bytes at next (x ∷ xs) are = absurd are
-nodes-into base outs (n ∷ nodes) bytes at next [] are = absurd are
-nodes-into base outs (n ∷ nodes) bytes at next (x ∷ xs) are =
-    let rest = nodes-into base outs nodes bytes are.0 next xs are.2 in
+nodes-into format base outs [] bytes at next [] are = (are, refl, All-nil (λ (x : NodePart). length x.list < 256))
+nodes-into format base outs [] bytes at next (x ∷ xs) are = absurd are
+nodes-into format base outs (n ∷ nodes) bytes at next [] are = absurd are
+nodes-into format base outs (n ∷ nodes) bytes at next (x ∷ xs) are =
+    let rest = nodes-into format base outs nodes bytes are.0 next xs are.2 in
     let node = are.1 in (
       (node.mid, are.0, node.within, node.here, node.stores, rest.0),
       rw (node.right, rest.1) refl,
@@ -118,8 +121,9 @@ bases-held c (b ∷ base) names short held =
     either true y is = absurd (true≢false is)
     either false y is = (refl, is)
 
-lawful-head : (c : Holdings) (b : VersionBody) (bytes : List ℕ) → IsLawful c b bytes → IsHeldHead c (said_of b)
-lawful-head c b bytes is =
+lawful-head : (format : ℕ) (c : Holdings) (b : VersionBody) (bytes : List ℕ) → IsLawful format c b bytes
+    → IsHeldHead c (said_of b)
+lawful-head format c b bytes is =
     let names = and_parts (is_name b.flow_name) (list_all is_name (map (λ (x : BaseName). x.name) b.base)) is.names in
     let short = is.spelled.short in
     record {
@@ -130,9 +134,10 @@ lawful-head c b bytes is =
     }
 
 -- where there is no head, there is no body
-pub no-body-head : (c : Holdings) (bytes : List ℕ) → NoneAt (IsHeldHead c) said_bytes bytes 0 → NoneIsLawful c bytes
-no-body-head c bytes none b is =
-    none (said_of b) (drop is.spelled.place bytes) (lawful-head c b bytes is) is.spelled.head.spelled
+pub no-body-head : (format : ℕ) (c : Holdings) (bytes : List ℕ) → NoneAt (IsHeldHead c) said_bytes bytes 0
+    → NoneIsLawful format c bytes
+no-body-head format c bytes none b is =
+    none (said_of b) (drop is.spelled.place bytes) (lawful-head format c b bytes is) is.spelled.head.spelled
 
 -- ---- what was read before the nodes
 
@@ -151,39 +156,41 @@ body_with h nodes = record {
 }
 
 -- a lawful body says what was read, and its nodes begin behind it
-record SaysHead (c : Holdings) (bytes : List ℕ) (h : Begun) (place : ℕ) (b : VersionBody) : Type 0 where
+record SaysHead (format : ℕ) (c : Holdings) (bytes : List ℕ) (h : Begun) (place : ℕ) (b : VersionBody) : Type 0 where
   count : h.count ≡ length b.nodes
-  lawful : IsLawful c (body_with h b.nodes) bytes
+  lawful : IsLawful format c (body_with h b.nodes) bytes
   place_is : lawful.spelled.place ≡ place
 
-says-head : (c : Holdings) (bytes : List ℕ) (h : Begun) (place : ℕ) (b : VersionBody) → HeadIs c bytes h place
-    → IsLawful c b bytes → SaysHead c bytes h place b
-says-head c bytes h place b read is =
+says-head : (format : ℕ) (c : Holdings) (bytes : List ℕ) (h : Begun) (place : ℕ) (b : VersionBody)
+    → HeadIs c bytes h place
+    → IsLawful format c b bytes → SaysHead format c bytes h place b
+says-head format c bytes h place b read is =
     let same = heads-free c (said_in h) (said_of b) (drop place bytes) (drop is.spelled.place bytes)
-    (begun-held c h read.begun) (lawful-head c b bytes is) (sym read.here.spelled ∙ is.spelled.head.spelled) in
+    (begun-held c h read.begun) (lawful-head format c b bytes is) (sym read.here.spelled ∙ is.spelled.head.spelled) in
     let make : Said → VersionBody = λ s.
     record { number = s.number; flow_name = s.flow_name; base = s.base; nodes = b.nodes } in
     let body : b ≡ body_with h b.nodes = ap make (sym same.0) in
     let at : is.spelled.place ≡ place =
     place-same bytes is.spelled.place place is.spelled.head.within read.here.within (sym same.1) in
-    let moved : (x : VersionBody) → b ≡ x → (l : IsLawful c x bytes) × (l.spelled.place ≡ place) =
-    λ x e. subst (λ (y : VersionBody). (l : IsLawful c y bytes) × (l.spelled.place ≡ place)) e (is, at) in
+    let moved : (x : VersionBody) → b ≡ x → (l : IsLawful format c x bytes) × (l.spelled.place ≡ place) =
+    λ x e. subst (λ (y : VersionBody). (l : IsLawful format c y bytes) × (l.spelled.place ≡ place)) e (is, at) in
     let own = moved (body_with h b.nodes) body in
     record { count = ap (λ (s : Said). s.count) same.0; lawful = own.0; place_is = own.1 }
 
 -- what its conditions are on what was read
-pub record Goes (c : Holdings) (bytes : List ℕ) (h : Begun) (place : ℕ) (xs : List NodePart) : Type 0 where
+pub record Goes (format : ℕ) (c : Holdings) (bytes : List ℕ) (h : Begun) (place : ℕ) (xs : List NodePart) : Type 0 where
   pub outs : List Extent
   pub fit : FitShapes c h outs
-  pub nodes : AreNodesAt (shapes_of h.base) outs h.flow.nodes bytes place (length bytes) xs
+  pub nodes : AreNodesAt format (shapes_of h.base) outs h.flow.nodes bytes place (length bytes) xs
 
 abbrev sites_over : Graph → List Base → List Site
 sites_over g base = map (site_over (shapes_of base) (result_unwrap_or (output_shapes g (shapes_of base)) [])) g.nodes
 
-pub lawful-goes : (c : Holdings) (bytes : List ℕ) (h : Begun) (place : ℕ) (b : VersionBody) → HeadIs c bytes h place
-    → IsLawful c b bytes → Goes c bytes h place b.nodes
-lawful-goes c bytes h place b read is =
-    let said = says-head c bytes h place b read is in
+pub lawful-goes : (format : ℕ) (c : Holdings) (bytes : List ℕ) (h : Begun) (place : ℕ) (b : VersionBody)
+    → HeadIs c bytes h place
+    → IsLawful format c b bytes → Goes format c bytes h place b.nodes
+lawful-goes format c bytes h place b read is =
+    let said = says-head format c bytes h place b read is in
     let own = said.lawful in
     let g = (workflow_of c h.flow_name).graph in
     let bs = bases_of c (map named_base h.base) in
@@ -204,10 +211,12 @@ lawful-goes c bytes h place b read is =
     subst (λ (x : Graph). rules.are_lists_for x.nodes (map (λ (y : NodePart). y.list) b.nodes) ≡ true) flow own.lists in
     let many : length (map named_base h.base) ≡ g.inputs =
     eqb-true (length (map named_base h.base)) g.inputs (on (length (map named_base h.base) == g.inputs) own.each) in
-    let begin : BeginNodes (map (site_over (shapes_of h.base) outs) h.flow.nodes) bytes place (length bytes) b.nodes =
-    subst (λ (k : ℕ). BeginNodes (map (site_over (shapes_of h.base) outs) h.flow.nodes) bytes k (length bytes) b.nodes)
+    let begin : BeginNodes format (map (site_over (shapes_of h.base) outs) h.flow.nodes) bytes place
+    (length bytes) b.nodes =
+    subst (λ (k : ℕ). BeginNodes format (map (site_over (shapes_of h.base) outs) h.flow.nodes) bytes k
+    (length bytes) b.nodes)
     said.place_is
-    (subst (λ (ss : List Site). BeginNodes ss bytes own.spelled.place (length bytes) b.nodes) sites
+    (subst (λ (ss : List Site). BeginNodes format ss bytes own.spelled.place (length bytes) b.nodes) sites
     own.spelled.nodes) in
     record {
       outs = outs;
@@ -221,42 +230,46 @@ lawful-goes c bytes h place b read is =
             room = subst (λ (es : List Extent). rules.has_room c (cells_of es) ≡ true) found own.room;
           };
       nodes =
-          nodes-from (shapes_of h.base) outs h.flow.nodes bytes place (length bytes) b.nodes (omega arith) lists begin;
+          nodes-from format (shapes_of h.base) outs h.flow.nodes bytes place (length bytes) b.nodes
+          (omega arith) lists begin;
     }
 
 -- where the shapes do not fit, there is no body
-pub no-body-shapes : (c : Holdings) (bytes : List ℕ) (h : Begun) (place : ℕ) → HeadIs c bytes h place
-    → NoShapesFit c h → NoneIsLawful c bytes
-no-body-shapes c bytes h place read none b is =
-    let goes = lawful-goes c bytes h place b read is in none goes.outs goes.fit
+pub no-body-shapes : (format : ℕ) (c : Holdings) (bytes : List ℕ) (h : Begun) (place : ℕ) → HeadIs c bytes h place
+    → NoShapesFit c h → NoneIsLawful format c bytes
+no-body-shapes format c bytes h place read none b is =
+    let goes = lawful-goes format c bytes h place b read is in none goes.outs goes.fit
 
 -- the shapes that were found are the only ones
 outs-same : (c : Holdings) (h : Begun) (a b : List Extent) → FitShapes c h a → FitShapes c h b → a ≡ b
 outs-same c h a b one other =
     ap (λ (r : Result (List Extent) ℕ). result_unwrap_or r []) (sym one.fits ∙ other.fits)
 
-goes-with : (c : Holdings) (bytes : List ℕ) (h : Begun) (place : ℕ) (b : VersionBody) (base outs : List Extent)
-    → HeadIs c bytes h place → base ≡ shapes_of h.base → FitShapes c h outs → IsLawful c b bytes
-    → AreNodesAt base outs h.flow.nodes bytes place (length bytes) b.nodes
-goes-with c bytes h place b base outs read shapes fit is =
-    let goes = lawful-goes c bytes h place b read is in
-    subst (λ (es : List Extent). AreNodesAt es outs h.flow.nodes bytes place (length bytes) b.nodes) (sym shapes)
-    (subst (λ (es : List Extent). AreNodesAt (shapes_of h.base) es h.flow.nodes bytes place (length bytes) b.nodes)
+goes-with : (format : ℕ) (c : Holdings) (bytes : List ℕ) (h : Begun) (place : ℕ) (b : VersionBody)
+    (base outs : List Extent)
+    → HeadIs c bytes h place → base ≡ shapes_of h.base → FitShapes c h outs → IsLawful format c b bytes
+    → AreNodesAt format base outs h.flow.nodes bytes place (length bytes) b.nodes
+goes-with format c bytes h place b base outs read shapes fit is =
+    let goes = lawful-goes format c bytes h place b read is in
+    subst (λ (es : List Extent). AreNodesAt format es outs h.flow.nodes bytes place (length bytes) b.nodes) (sym shapes)
+    (subst (λ (es : List Extent). AreNodesAt format (shapes_of h.base) es h.flow.nodes bytes place
+    (length bytes) b.nodes)
     (outs-same c h goes.outs outs goes.fit fit) goes.nodes)
 
 -- nor where there are no nodes
-pub no-body-nodes : (c : Holdings) (bytes : List ℕ) (h : Begun) (place : ℕ) (base outs : List Extent)
+pub no-body-nodes : (format : ℕ) (c : Holdings) (bytes : List ℕ) (h : Begun) (place : ℕ) (base outs : List Extent)
     → HeadIs c bytes h place → base ≡ shapes_of h.base → FitShapes c h outs
-    → NoNodesAt base outs h.flow.nodes bytes place → NoneIsLawful c bytes
-no-body-nodes c bytes h place base outs read shapes fit none b is =
-    none (length bytes) b.nodes (goes-with c bytes h place b base outs read shapes fit is)
+    → NoNodesAt format base outs h.flow.nodes bytes place → NoneIsLawful format c bytes
+no-body-nodes format c bytes h place base outs read shapes fit none b is =
+    none (length bytes) b.nodes (goes-with format c bytes h place b base outs read shapes fit is)
 
 -- nor where something stands behind those that there are
-pub no-body-end : (c : Holdings) (bytes : List ℕ) (h : Begun) (place end : ℕ) (base outs : List Extent)
+pub no-body-end : (format : ℕ) (c : Holdings) (bytes : List ℕ) (h : Begun) (place end : ℕ) (base outs : List Extent)
     (xs : List NodePart) → HeadIs c bytes h place → base ≡ shapes_of h.base → FitShapes c h outs
-    → AreOnlyNodes base outs h.flow.nodes bytes place end xs → (end ≡ length bytes → ⊥) → NoneIsLawful c bytes
-no-body-end c bytes h place end base outs xs read shapes fit only other b is =
-    other (sym (only (length bytes) b.nodes (goes-with c bytes h place b base outs read shapes fit is)).1)
+    → AreOnlyNodes format base outs h.flow.nodes bytes place end xs → (end ≡ length bytes → ⊥)
+    → NoneIsLawful format c bytes
+no-body-end format c bytes h place end base outs xs read shapes fit only other b is =
+    other (sym (only (length bytes) b.nodes (goes-with format c bytes h place b base outs read shapes fit is)).1)
 
 -- what is so of lists is so of those that are equal
 pub carried : (P : List Extent → List Extent → List Node → Type 0) (a b c d : List Extent) (m n : List Node) → a ≡ b
@@ -278,11 +291,12 @@ version_read h lists = record {
 }
 
 -- what is so of it
-pub record IsRead (c : Holdings) (bytes : List ℕ) (n : ℕ) (v : Version) (stores : List (Option NodeLineage))
+pub record IsRead (format : ℕ) (c : Holdings) (bytes : List ℕ) (n : ℕ) (v : Version) (stores : List
+    (Option NodeLineage))
     : Type 0 where
   pub added : CanBeAdded c n v
   pub fit : Fit v stores
-  pub lawful : IsLawful c (body_of n v stores) bytes
+  pub lawful : IsLawful format c (body_of n v stores) bytes
   pub said : v ≡ version_said c (body_of n v stores)
 
 names-all : (c : Holdings) (base : List Base) → All (IsArray c) base
@@ -298,16 +312,16 @@ bases-short c (b ∷ base) are =
     All-cons IsShortBase (named_base b) (map named_base base) (name-short b.name one.name, one.version)
     (bases-short c base (All-tail (IsArray c) b base are))
 
-pub body-read : (c : Holdings) (bytes : List ℕ) (h : Begun) (place end : ℕ) (base outs : List Extent)
+pub body-read : (format : ℕ) (c : Holdings) (bytes : List ℕ) (h : Begun) (place end : ℕ) (base outs : List Extent)
     (lists : List (List Strategy)) (stores : List (Option NodeLineage)) → HeadIs c bytes h place
     → base ≡ shapes_of h.base → FitShapes c h outs
-    → AreNodesAt base outs h.flow.nodes bytes place end (parts_of lists stores)
+    → AreNodesAt format base outs h.flow.nodes bytes place end (parts_of lists stores)
     → FitNodes (map (site_over base outs) h.flow.nodes) lists stores → end ≡ length bytes
-    → IsRead c bytes h.number (version_read h lists) stores
-body-read c bytes h place end base outs lists stores read shapes fit nodes fits last =
+    → IsRead format c bytes h.number (version_read h lists) stores
+body-read format c bytes h place end base outs lists stores read shapes fit nodes fits last =
     let v = version_read h lists in
     let xs = parts_of lists stores in
-    let into = nodes-into base outs h.flow.nodes bytes place end xs nodes in
+    let into = nodes-into format base outs h.flow.nodes bytes place end xs nodes in
     let sites : map (site_over base outs) h.flow.nodes ≡ sites_of v =
     ap (λ (es : List Extent). map (site_over es outs) h.flow.nodes) shapes
     ∙ ap (λ (r : Result (List Extent) ℕ).
@@ -333,7 +347,7 @@ body-read c bytes h place end base outs lists stores read shapes fit nodes fits 
           ap (λ (r : Result (List Extent) ℕ). rules.has_room c (cells_of (result_unwrap_or r []))) fit.fits ∙ fit.room;
     } in
     let own : Fit v stores = subst (λ (ss : List Site). FitNodes ss lists stores) sites fits in
-    let body : IsBodyOf (sites_of v) (body_of h.number v stores) bytes = record {
+    let body : IsBodyOf format (sites_of v) (body_of h.number v stores) bytes = record {
       short =
           record {
             number = held.number.small;
@@ -348,8 +362,8 @@ body-read c bytes h place end base outs lists stores read shapes fit nodes fits 
           subst (λ (k : ℕ). IsAt bytes 0 place (four_bytes h.number ++ (name_bytes h.flow_name
           ++ (counted base_bytes (map named_base h.base) ++ four_bytes k)))) count read.here;
       nodes =
-          subst (λ (k : ℕ). BeginNodes (sites_of v) bytes place k xs) last
-          (subst (λ (ss : List Site). BeginNodes ss bytes place end xs) sites into.0);
+          subst (λ (k : ℕ). BeginNodes format (sites_of v) bytes place k xs) last
+          (subst (λ (ss : List Site). BeginNodes format ss bytes place end xs) sites into.0);
     } in
-    let lawful = written-lawful c h.number v stores bytes can own body in
+    let lawful = written-lawful format c h.number v stores bytes can own body in
     record { added = can; fit = own; lawful = lawful.0; said = sym lawful.1 }

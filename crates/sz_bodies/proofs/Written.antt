@@ -71,7 +71,7 @@ names-said name base is =
     (sym (map-map (λ (b : BaseName). b.name) named_base base)) is
 
 pub written-lawful : WrittenBodiesAreLawful
-written-lawful c n v stores bytes can fit spelled =
+written-lawful format c n v stores bytes can fit spelled =
     let found = flow-found (flow_named c v.flow_name) v.flow can.flow in
     let bases = bases-found c v.base can.base in
     let lists = lists-said (sites_of v) v.lists stores fit in
@@ -96,7 +96,7 @@ written-lawful c n v stores bytes can fit spelled =
         lists =
             ap₂ (λ (g : Graph) (ls : List (List Strategy)). rules.are_lists_for g.nodes ls) found.0 lists ∙ can.lists;
         spelled =
-            subst (λ (x : Version). IsBodyOf (sites_of x) (body_of n v stores) bytes) (sym said) spelled;
+            subst (λ (x : Version). IsBodyOf format (sites_of x) (body_of n v stores) bytes) (sym said) spelled;
       },
       said,
     )

@@ -4,6 +4,7 @@
 -- each its name and 4 for its version; 4 for how many nodes there are; and for each node 1 byte for
 -- how many strategies its list has, 1 for each of these, and the bytes of the store of each stored
 -- one, in the list's order. A name is 1 byte for its length, and its bytes. Numbers are big-endian.
+-- In format 2 the cell sets of stores are short, but for those in payloads.
 use Rattle.std.specs.Prelude.{◌≡◌, ℕ, ◌^◌, ◌<◌, ◌≤◌, List, [], ◌∷◌, ◌++◌, length, map, All}
 use Rattle.sz_cells.specs.SetBytes.{four_bytes}
 use Rattle.sz_spec.specs.declared.modes.Strategy.{Strategy}
@@ -11,7 +12,7 @@ use Rattle.sz_spec.specs.Shapes.{Site}
 use Rattle.sz_spec.specs.Modes.{number_of}
 use Rattle.sz_region.specs.Counted.{counted, IsAt}
 use Rattle.sz_store.specs.Kept.{Keep, stored_in}
-use Rattle.sz_store.specs.Words.{BeginEach}
+use Rattle.sz_formats.specs.Words.{BeginEachIn}
 use Rattle.sz_script.specs.declared.command.BaseName.{BaseName}
 
 -- what a body says of a node: the list of its strategies, and what the store of each stored one
@@ -47,14 +48,14 @@ abbrev pub list_bytes : List Strategy → List ℕ
 list_bytes list = length list ∷ map number_of list
 
 -- Nodes of operators at these shapes begin one where the one before it ends, the first one at a
--- place, and the last one ends before another place.
-abbrev pub BeginNodes : List Site → List ℕ → ℕ → ℕ → List NodePart → Type 0
-BeginNodes [] bytes at next [] = next ≡ at
-BeginNodes (s ∷ sites) bytes at next (x ∷ nodes) = (mid : ℕ) × (place : ℕ)
+-- place, and the last one ends before another place. Their stores are in the bytes of a format.
+abbrev pub BeginNodes : ℕ → List Site → List ℕ → ℕ → ℕ → List NodePart → Type 0
+BeginNodes format [] bytes at next [] = next ≡ at
+BeginNodes format (s ∷ sites) bytes at next (x ∷ nodes) = (mid : ℕ) × (place : ℕ)
     × (place ≤ length bytes) × IsAt bytes at mid (list_bytes x.list)
-    × BeginEach s (stored_in x.list) bytes mid place x.stores
-    × BeginNodes sites bytes place next nodes
-BeginNodes _ _ _ _ _ = ⊥
+    × BeginEachIn format s (stored_in x.list) bytes mid place x.stores
+    × BeginNodes format sites bytes place next nodes
+BeginNodes format _ _ _ _ _ = ⊥
 
 -- ---- the whole
 
@@ -75,10 +76,11 @@ pub record IsShort (b : VersionBody) : Type 0 where
   pub few_nodes : length b.nodes < 2 ^ 32
   pub lists : All (λ x. length x.list < 256) b.nodes
 
--- The bytes are the body that says this of a version whose nodes are operators at these shapes, and
--- nothing stands behind it.
-pub record IsBodyOf (sites : List Site) (b : VersionBody) (bytes : List ℕ) : Type 0 where
+-- The bytes are, in a format, the body that says this of a version whose nodes are operators at
+-- these shapes, and nothing stands behind it.
+pub record IsBodyOf (format : ℕ) (sites : List Site) (b : VersionBody) (bytes : List ℕ)
+    : Type 0 where
   pub short : IsShort b
   pub place : ℕ
   pub head : IsAt bytes 0 place (head_bytes b)
-  pub nodes : BeginNodes sites bytes place (length bytes) b.nodes
+  pub nodes : BeginNodes format sites bytes place (length bytes) b.nodes

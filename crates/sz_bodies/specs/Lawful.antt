@@ -54,8 +54,8 @@ has_room c b = rules.has_room c (output_cells (version_said c b))
 abbrev pub has_lists : Holdings → VersionBody → Bool
 has_lists c b = rules.are_lists_for (workflow_of c b.flow_name).graph.nodes (version_said c b).lists
 
--- The bytes are the body that says this, and it is lawful over what is held.
-pub record IsLawful (c : Holdings) (b : VersionBody) (bytes : List ℕ) : Type 0 where
+-- The bytes are the body that says this in a format, and it is lawful over what is held.
+pub record IsLawful (format : ℕ) (c : Holdings) (b : VersionBody) (bytes : List ℕ) : Type 0 where
   pub number : has_new_number c b ≡ true
   pub names : has_names b ≡ true
   pub flow : has_flow c b ≡ true
@@ -64,7 +64,7 @@ pub record IsLawful (c : Holdings) (b : VersionBody) (bytes : List ℕ) : Type 0
   pub shapes : has_right_shapes c b ≡ true
   pub room : has_room c b ≡ true
   pub lists : has_lists c b ≡ true
-  pub spelled : IsBodyOf (sites_of (version_said c b)) b bytes
+  pub spelled : IsBodyOf format (sites_of (version_said c b)) b bytes
 
 -- A version can be added to what is held under a number: the number is new; each name is one; its
 -- flow and its base arrays are those that are held under these names, as many as the flow takes,

@@ -12,16 +12,16 @@ use Rattle.sz_bodies.specs.Lawful.{version_said, IsLawful, CanBeAdded}
 abbrev pub IsRightSite : Site → Type 0
 IsRightSite s = AreRight (s.out ∷ s.ins)
 
--- Some bytes are the body of at most one version with its stores.
+-- Some bytes are, in a format, the body of at most one version with its stores.
 abbrev pub OneBodyAtMost : Type 0
-OneBodyAtMost = (sites : List Site) (bytes : List ℕ) (a b : VersionBody) → All IsRightSite sites
-    → IsBodyOf sites a bytes → IsBodyOf sites b bytes → a ≡ b
+OneBodyAtMost = (format : ℕ) (sites : List Site) (bytes : List ℕ) (a b : VersionBody)
+    → All IsRightSite sites → IsBodyOf format sites a bytes → IsBodyOf format sites b bytes → a ≡ b
 
--- The body of a version with stores that fit it is lawful wherever the version can be added, and
--- says that version, awaited.
+-- The body of a version with stores that fit it is lawful, in its format, wherever the version can
+-- be added, and says that version, awaited.
 abbrev pub WrittenBodiesAreLawful : Type 0
-WrittenBodiesAreLawful = (c : Holdings) (n : ℕ) (v : Version) (stores : List (Option NodeLineage))
-    (bytes : List ℕ) → CanBeAdded c n v → Fit v stores
-    → IsBodyOf (sites_of v) (body_of n v stores) bytes
-    → IsLawful c (body_of n v stores) bytes
+WrittenBodiesAreLawful = (format : ℕ) (c : Holdings) (n : ℕ) (v : Version)
+    (stores : List (Option NodeLineage)) (bytes : List ℕ) → CanBeAdded c n v → Fit v stores
+    → IsBodyOf format (sites_of v) (body_of n v stores) bytes
+    → IsLawful format c (body_of n v stores) bytes
     × (version_said c (body_of n v stores) ≡ record v { awaited = true })

@@ -13,7 +13,7 @@ use Rattle.sz_spec.specs.Shapes.{Site}
 use Rattle.sz_region.specs.Counted.{counted, IsAt}
 use Rattle.sz_region.specs.Stores.{AreFew}
 use Rattle.sz_store.specs.Kept.{NodeLineage, stored_in}
-use Rattle.sz_store.specs.Words.{BeginEach}
+use Rattle.sz_formats.specs.Words.{BeginEachIn}
 use Rattle.sz_script.specs.Names.{is_name}
 use Rattle.sz_script.specs.declared.command.BaseName.{BaseName}
 use Rattle.sz_catalogue.specs.Holdings.{Base, Version, Holdings, array_version, flow_named}
@@ -39,9 +39,9 @@ pub record Taken : Type 0 where
   pub version : Version
   pub stores : List (Option NodeLineage)
 
--- the bytes are the lawful body of no version
-abbrev pub NoneIsLawful : Holdings → List ℕ → Type 0
-NoneIsLawful c bytes = (b : VersionBody) → IsLawful c b bytes → ⊥
+-- the bytes are in the format the lawful body of no version
+abbrev pub NoneIsLawful : ℕ → Holdings → List ℕ → Type 0
+NoneIsLawful format c bytes = (b : VersionBody) → IsLawful format c b bytes → ⊥
 
 -- ---- what stands before the nodes
 
@@ -147,36 +147,38 @@ IsShortList list = length list < 256
 abbrev pub NumberNone : List ℕ → Type 0
 NumberNone numbers = (list : List Strategy) → map number_of list ≡ numbers → ⊥
 
--- a node stands at a place and ends before another: a list for its operator, and its stores
-pub record IsNodeAt (s : Site) (bytes : List ℕ) (at next : ℕ) (x : NodePart) : Type 0 where
+-- a node stands at a place and ends before another: a list for its operator, and its stores in the
+-- bytes of a format
+pub record IsNodeAt (format : ℕ) (s : Site) (bytes : List ℕ) (at next : ℕ) (x : NodePart)
+    : Type 0 where
   pub right : rules.is_list_for s.op x.list ≡ true
   pub mid : ℕ
   pub here : IsAt bytes at mid (list_bytes x.list)
   pub within : next ≤ length bytes
-  pub stores : BeginEach s (stored_in x.list) bytes mid next x.stores
+  pub stores : BeginEachIn format s (stored_in x.list) bytes mid next x.stores
 
-abbrev pub NoNodeAt : Site → List ℕ → ℕ → Type 0
-NoNodeAt s bytes at = (next : ℕ) (x : NodePart) → IsNodeAt s bytes at next x → ⊥
+abbrev pub NoNodeAt : ℕ → Site → List ℕ → ℕ → Type 0
+NoNodeAt format s bytes at = (next : ℕ) (x : NodePart) → IsNodeAt format s bytes at next x → ⊥
 
 -- no other node stands there
-abbrev pub IsOnlyNode : Site → List ℕ → ℕ → ℕ → NodePart → Type 0
-IsOnlyNode s bytes at next x = (other : ℕ) (y : NodePart) → IsNodeAt s bytes at other y
-    → (y ≡ x) × (other ≡ next)
+abbrev pub IsOnlyNode : ℕ → Site → List ℕ → ℕ → ℕ → NodePart → Type 0
+IsOnlyNode format s bytes at next x = (other : ℕ) (y : NodePart)
+    → IsNodeAt format s bytes at other y → (y ≡ x) × (other ≡ next)
 
 -- nodes stand one where the one before it ends
-abbrev pub AreNodesAt : List Extent → List Extent → List Node → List ℕ → ℕ → ℕ → List NodePart
+abbrev pub AreNodesAt : ℕ → List Extent → List Extent → List Node → List ℕ → ℕ → ℕ → List NodePart
     → Type 0
-AreNodesAt base outs [] bytes at next [] = next ≡ at
-AreNodesAt base outs (n ∷ nodes) bytes at next (x ∷ xs) = (place : ℕ)
-    × IsNodeAt (site_over base outs n) bytes at place x
-    × AreNodesAt base outs nodes bytes place next xs
-AreNodesAt _ _ _ _ _ _ _ = ⊥
+AreNodesAt format base outs [] bytes at next [] = next ≡ at
+AreNodesAt format base outs (n ∷ nodes) bytes at next (x ∷ xs) = (place : ℕ)
+    × IsNodeAt format (site_over base outs n) bytes at place x
+    × AreNodesAt format base outs nodes bytes place next xs
+AreNodesAt format _ _ _ _ _ _ _ = ⊥
 
-abbrev pub NoNodesAt : List Extent → List Extent → List Node → List ℕ → ℕ → Type 0
-NoNodesAt base outs nodes bytes at = (next : ℕ) (xs : List NodePart)
-    → AreNodesAt base outs nodes bytes at next xs → ⊥
+abbrev pub NoNodesAt : ℕ → List Extent → List Extent → List Node → List ℕ → ℕ → Type 0
+NoNodesAt format base outs nodes bytes at = (next : ℕ) (xs : List NodePart)
+    → AreNodesAt format base outs nodes bytes at next xs → ⊥
 
-abbrev pub AreOnlyNodes : List Extent → List Extent → List Node → List ℕ → ℕ → ℕ → List NodePart
+abbrev pub AreOnlyNodes : ℕ → List Extent → List Extent → List Node → List ℕ → ℕ → ℕ → List NodePart
     → Type 0
-AreOnlyNodes base outs nodes bytes at next xs = (other : ℕ) (ys : List NodePart)
-    → AreNodesAt base outs nodes bytes at other ys → (ys ≡ xs) × (other ≡ next)
+AreOnlyNodes format base outs nodes bytes at next xs = (other : ℕ) (ys : List NodePart)
+    → AreNodesAt format base outs nodes bytes at other ys → (ys ≡ xs) × (other ≡ next)

@@ -1,13 +1,13 @@
 //! The body of a version's group in a log: which version it is, and its stores.
 //!
-//! - [`version_body`] writes the body of a version that is held.
+//! - [`version_body`] writes the body of a version that is held, in format 1 or 2 of logs.
 //! - [`take_version_body`] reads the version that a body says, with its stores, over what is held.
 //!   What it gives can be added to the catalogue.
 //!
 //! ```
-//! let body = version_body(alloc, &catalogue, version, &stores)?;
+//! let body = version_body(alloc, &catalogue, version, &stores, 2)?;
 //! // over a catalogue that holds its flow and its base arrays, and no version of its number
-//! let taken = take_version_body(alloc, &other, &body)?;   // taken.number == version
+//! let taken = take_version_body(alloc, &other, &body, 2)?; // taken.number == version
 //! ```
 //!
 //! `IsBodyOf` of `specs/Bodies` is what a body is; `Fit` of `specs/Fitting` is which stores fit a

@@ -6,7 +6,8 @@ ghost use Rattle.std.specs.Arc.{arc_value};
 ghost use Rattle.sz_cells.specs.Extent.{is_extent};
 ghost use Rattle.sz_spec.specs.Modes.{supports};
 ghost use Rattle.sz_store.specs.Kept.{stored_in};
-ghost use Rattle.sz_store.specs.Words.{BeginEach, NoneBegin};
+ghost use Rattle.sz_formats.specs.Formats.{is_format};
+ghost use Rattle.sz_formats.specs.Words.{BeginEachIn, NoneBeginIn};
 ghost use Rattle.sz_bodies.specs.Bodies.{NodePart};
 ghost use Rattle.sz_bodies.specs.Fitting.{FitsNode, FitNodes, IsWholeFor, part_of, parts_of};
 ghost use Rattle.sz_bodies.specs.Fitting.{lineages};
@@ -21,36 +22,40 @@ use std::sync::Arc;
 use sz_catalogue::site_over;
 use sz_cells::laws::a_shape_is_within_limits;
 use sz_cells::{NoMemory, Shape};
+use sz_formats::take_stores;
 use sz_region::Take;
 use sz_script::StrategyList;
 use sz_spec::{Node, OpAt, Strategy};
 use sz_store::NodeStore;
 
-/// The lists and the stores of nodes that stand one behind the other, the first one at a place, and
-/// the place behind the last one. The nodes work between shapes of these base arrays and outputs.
+/// The lists and the stores of nodes that stand one behind the other in a format, the first one at
+/// a place, and the place behind the last one. The nodes work between shapes of these base arrays
+/// and outputs.
 pub(crate) fn take_nodes(
     alloc: Global,
+    format: u8,
     nodes: &[Node],
     base: &[Shape],
     outputs: &[Shape],
     bytes: &[u8],
     at: u64,
 ) -> Result<(Vec<StrategyList>, Vec<Option<Arc<NodeStore>>>, u64), TakeFault>
-    requires { All (IsFitting base.now outputs.now) nodes.now }
-    ensures nodes { IfOk result (λ r. AreNodesAt base.now outputs.now nodes.now bytes.now at r.2
-        (parts_of r.0.items (lineages r.1.items))) }
-    ensures only { IfOk result (λ r. AreOnlyNodes base.now outputs.now nodes.now bytes.now at r.2
-        (parts_of r.0.items (lineages r.1.items))) }
+    requires format { is_format format ≡ true }
+    requires fits { All (IsFitting base.now outputs.now) nodes.now }
+    ensures nodes { IfOk result (λ r. AreNodesAt format base.now outputs.now nodes.now bytes.now at
+        r.2 (parts_of r.0.items (lineages r.1.items))) }
+    ensures only { IfOk result (λ r. AreOnlyNodes format base.now outputs.now nodes.now bytes.now at
+        r.2 (parts_of r.0.items (lineages r.1.items))) }
     ensures fit { IfOk result (λ r. FitNodes (map (site_over base.now outputs.now) nodes.now)
         r.0.items (lineages r.1.items)) }
     ensures err { IfErr result (λ e. IfBad e
-        (NoNodesAt base.now outputs.now nodes.now bytes.now at)) }
+        (NoNodesAt format base.now outputs.now nodes.now bytes.now at)) }
 {
     let mut lists = Vec::new(alloc);
     let mut stores = Vec::new(alloc);
     let mut place = at;
     for node in nodes {
-        let (list, kept, next) = take_node(alloc, node, base, outputs, bytes, place)?;
+        let (list, kept, next) = take_node(alloc, format, node, base, outputs, bytes, place)?;
         lists.push(list)?;
         stores.push(kept)?;
         place = next;
@@ -61,21 +66,23 @@ pub(crate) fn take_nodes(
 /// The list and the stores of the node that stands at a place, and the place behind it.
 fn take_node(
     alloc: Global,
+    format: u8,
     node: &Node,
     base: &[Shape],
     outputs: &[Shape],
     bytes: &[u8],
     at: u64,
 ) -> Result<(StrategyList, Option<Arc<NodeStore>>, u64), TakeFault>
-    requires { IsFitting base.now outputs.now node.now }
+    requires format { is_format format ≡ true }
+    requires fits { IsFitting base.now outputs.now node.now }
     ensures node { let s = site_over base.now outputs.now node.now in IfOk result (λ r.
-        IsNodeAt s bytes.now at r.2 (part_of r.0 (option_map (λ a. arc_value a) r.1))) }
+        IsNodeAt format s bytes.now at r.2 (part_of r.0 (option_map (λ a. arc_value a) r.1))) }
     ensures only { let s = site_over base.now outputs.now node.now in IfOk result (λ r.
-        IsOnlyNode s bytes.now at r.2 (part_of r.0 (option_map (λ a. arc_value a) r.1))) }
+        IsOnlyNode format s bytes.now at r.2 (part_of r.0 (option_map (λ a. arc_value a) r.1))) }
     ensures fits { let s = site_over base.now outputs.now node.now in IfOk result (λ r.
         FitsNode s r.0 (option_map (λ a. arc_value a) r.1)) }
     ensures err { let s = site_over base.now outputs.now node.now in IfErr result (λ e.
-        IfBad e (NoNodeAt s bytes.now at)) }
+        IfBad e (NoNodeAt format s bytes.now at)) }
 {
     let (list, place) = take_list(alloc, bytes, at)?;
     if !is_list_for(&node.op, list.as_slice()) {
@@ -84,13 +91,15 @@ fn take_node(
     if !names_a_store(list.as_slice()) {
         return Ok((list, None, place));
     }
-    let (kept, next) = take_stores(alloc, node, base, outputs, list.as_slice(), bytes, place)?;
+    let own = list.as_slice();
+    let (kept, next) = stores_at(alloc, format, node, base, outputs, own, bytes, place)?;
     Ok((list, Some(kept), next))
 }
 
 /// The stores of a list of a node that stand at a place, and the place behind them.
-fn take_stores(
+fn stores_at(
     alloc: Global,
+    format: u8,
     node: &Node,
     base: &[Shape],
     outputs: &[Shape],
@@ -98,22 +107,23 @@ fn take_stores(
     bytes: &[u8],
     at: u64,
 ) -> Result<(Arc<NodeStore>, u64), TakeFault>
+    requires format { is_format format ≡ true }
     requires fits { IsFitting base.now outputs.now node.now }
     requires supported { All (λ t. supports node.now.op t ≡ true) list.now }
     requires within { at ≤ length bytes.now }
     ensures stores { let s = site_over base.now outputs.now node.now in IfOk result (λ r.
-        BeginEach s (stored_in list.now) bytes.now at r.1 (arc_value r.0).stores) }
+        BeginEachIn format s (stored_in list.now) bytes.now at r.1 (arc_value r.0).stores) }
     ensures whole { let s = site_over base.now outputs.now node.now in IfOk result (λ r.
         IsWholeFor s list.now (arc_value r.0)) }
     ensures within { IfOk result (λ r. r.1 ≤ length bytes.now) }
     ensures right { let s = site_over base.now outputs.now node.now in
         IfOk result (λ r. IsRightSite s) }
     ensures err { let s = site_over base.now outputs.now node.now in IfErr result (λ e.
-        IfBad e (NoneBegin s (stored_in list.now) bytes.now at)) }
+        IfBad e (NoneBeginIn format s (stored_in list.now) bytes.now at)) }
 {
     let op = op_at(alloc, node, base, outputs)?;
     shapes_are_within_limits(&op.out(), op.ins());
-    match NodeStore::take_bytes(alloc, op, list, bytes, at) {
+    match take_stores(alloc, format, op, list, bytes, at) {
         Ok((store, next)) => Ok((Arc::new(alloc, store)?, next)),
         Err(Take::Bad { .. }) => Err(TakeFault::Bad),
         Err(Take::NoMemory) => Err(TakeFault::NoMemory),

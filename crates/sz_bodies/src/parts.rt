@@ -11,6 +11,7 @@ ghost use Rattle.sz_bodies.specs.Taking.{IfBad, IsName, IsAnyText};
 
 use crate::reading::TakeFault;
 use std::alloc::Global;
+use sz_numbers::four_at;
 use sz_script::Name;
 
 /// The number whose four bytes stand at a place. `None` exactly where there are not four bytes.
@@ -22,14 +23,7 @@ pub(crate) fn take_number(bytes: &[u8], at: u64) -> Option<u32>
     if length < 4 || length - 4 < at {
         return None;
     }
-    let from = at as usize;
-    let number = [
-        bytes[from],
-        bytes[from + 1],
-        bytes[from + 2],
-        bytes[from + 3],
-    ];
-    Some(u32::from_be_bytes(number))
+    Some(four_at(bytes, at as usize))
 }
 
 /// The name that stands at a place, and the place behind it.

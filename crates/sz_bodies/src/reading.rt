@@ -1,9 +1,10 @@
 //! Reading the body of a version.
 
-ghost use Rattle.std.specs.Prelude.{◌≡◌, ◌<◌, ◌≤◌, ◌*◌, ℕ, length, map, All, IfOk, IfErr};
+ghost use Rattle.std.specs.Prelude.{◌≡◌, ◌<◌, ◌≤◌, ◌*◌, ℕ, length, map, true, All, IfOk, IfErr};
 ghost use Rattle.std.specs.Arc.{arc_value};
 ghost use Rattle.sz_cells.specs.Extent.{Extent};
 ghost use Rattle.sz_catalogue.specs.Holdings.{shapes_of, cells_of};
+ghost use Rattle.sz_formats.specs.Formats.{is_format};
 ghost use Rattle.sz_bodies.specs.Fitting.{Fit, body_of};
 ghost use Rattle.sz_bodies.specs.Lawful.{version_said, IsLawful, CanBeAdded};
 ghost use Rattle.sz_bodies.specs.Taking.{IfBad, NoneIsLawful, IsFitting, FitShapes, NoShapesFit};
@@ -95,8 +96,9 @@ impl From<NoMemory> for TakeFault {
     }
 }
 
-/// The version that a body says over what is held, with its stores. `Bad` exactly where the bytes
-/// are no lawful body. What is read can be added to the catalogue.
+/// The version that a body in a format of logs, 1 or 2, says over what is held, with its stores.
+/// `Bad` exactly where the bytes are no lawful body in that format. What is read can be added to
+/// the catalogue.
 ///
 /// Takes time and memory in the number of bytes, of which each is read once, and in the flow, and
 /// for each name time in the logarithm of what is held.
@@ -104,19 +106,21 @@ pub fn take_version_body(
     alloc: Global,
     catalogue: &Catalogue,
     body: &[u8],
+    format: u8,
 ) -> Result<TakenVersion, TakeFault>
+    requires { is_format format ≡ true }
     ensures lawful { IfOk result (λ t.
-        IsLawful catalogue.now (body_of t.number t.version t.stores) body.now) }
+        IsLawful format catalogue.now (body_of t.number t.version t.stores) body.now) }
     ensures said { IfOk result (λ t.
         t.version ≡ version_said catalogue.now (body_of t.number t.version t.stores)) }
     ensures fit { IfOk result (λ t. Fit t.version t.stores) }
     ensures added { IfOk result (λ t. CanBeAdded catalogue.now t.number t.version) }
-    ensures bad { IfErr result (λ e. IfBad e (NoneIsLawful catalogue.now body.now)) }
+    ensures bad { IfErr result (λ e. IfBad e (NoneIsLawful format catalogue.now body.now)) }
 {
     let (head, place) = take_head(alloc, catalogue, body)?;
     let (base, outputs) = fit_shapes(alloc, catalogue, &head)?;
     let nodes = head.flow.nodes();
-    let (lists, stores, end) = take_nodes(alloc, nodes, &base, &outputs, body, place)?;
+    let (lists, stores, end) = take_nodes(alloc, format, nodes, &base, &outputs, body, place)?;
     if end != body.len() as u64 {
         return Err(TakeFault::Bad);
     }

@@ -1,13 +1,14 @@
 //! Writing the body of a version.
 
-ghost use Rattle.std.specs.Prelude.{◌≡◌, ◌<◌, ◌^◌, ◌++◌, ◌∷◌, ℕ, List, [], length, map, false};
-ghost use Rattle.std.specs.Prelude.{All, IfOk, OnOk, option_map};
+ghost use Rattle.std.specs.Prelude.{◌≡◌, ◌<◌, ◌^◌, ◌++◌, ◌∷◌, ℕ, List, [], length, map, true};
+ghost use Rattle.std.specs.Prelude.{false, All, IfOk, OnOk, option_map};
 ghost use Rattle.std.specs.Arc.{arc_value};
 ghost use Rattle.sz_cells.specs.SetBytes.{four_bytes};
 ghost use Rattle.sz_spec.specs.Shapes.{Site};
 ghost use Rattle.sz_spec.specs.Modes.{number_of};
 ghost use Rattle.sz_region.specs.Counted.{counted};
 ghost use Rattle.sz_catalogue.specs.Rules.{has_no_version, version_of};
+ghost use Rattle.sz_formats.specs.Formats.{is_format};
 ghost use Rattle.sz_bodies.specs.Bodies.{name_bytes, base_bytes, list_bytes};
 ghost use Rattle.sz_bodies.specs.Bodies.{BeginNodes, IsShortName, IsShortBase, IsBodyOf};
 ghost use Rattle.sz_bodies.specs.Fitting.{sites_of, FitsNode, FitNodes, Fit, lineages};
@@ -17,12 +18,14 @@ use std::alloc::Global;
 use std::sync::Arc;
 use sz_catalogue::{BaseArray, Catalogue};
 use sz_cells::NoMemory;
+use sz_formats::put_stores;
+use sz_numbers::four_bytes;
 use sz_script::{Name, StrategyList};
 use sz_spec::Strategy;
 use sz_store::NodeStore;
 
-/// The body of a version that is held, with these stores: for each node those of its list, where
-/// that has a strategy that keeps one.
+/// The body of a version that is held, in a format of logs, 1 or 2, with these stores: for each
+/// node those of its list, where that has a strategy that keeps one.
 ///
 /// Takes time and memory in the stores. `NoMemory` also where a name has more than 255 bytes, a
 /// list more than 255 strategies, or there are 2^32 base arrays or nodes: none of these is so of a
@@ -32,11 +35,13 @@ pub fn version_body(
     catalogue: &Catalogue,
     version: u32,
     stores: &[Option<Arc<NodeStore>>],
+    format: u8,
 ) -> Result<Vec<u8>, NoMemory>
+    requires format { is_format format ≡ true }
     requires held { has_no_version catalogue.now version ≡ false }
     requires fit { Fit (version_of catalogue.now version) (lineages stores.now) }
     ensures { let v = version_of catalogue.now version in IfOk result (λ body.
-        IsBodyOf (sites_of v) (body_of version v (lineages stores.now)) body.items) }
+        IsBodyOf format (sites_of v) (body_of version v (lineages stores.now)) body.items) }
 {
     let Some(held) = catalogue.version(version) else {
         unreachable!()
@@ -46,7 +51,7 @@ pub fn version_body(
     put_name(&held.flow_name, &mut body)?;
     put_bases(held.base.as_slice(), &mut body)?;
     put_count(stores.len(), &mut body)?;
-    put_nodes(held.lists.as_slice(), stores, &mut body)?;
+    put_nodes(alloc, format, held.lists.as_slice(), stores, &mut body)?;
     Ok(body)
 }
 
@@ -54,7 +59,7 @@ pub fn version_body(
 fn put_number(number: u32, to: &mut Vec<u8>) -> Result<(), NoMemory>
     ensures { OnOk result (to.new.items ≡ to.old.items ++ four_bytes number) }
 {
-    to.extend_from_slice(&number.to_be_bytes())?;
+    to.extend_from_slice(&four_bytes(number))?;
     Ok(())
 }
 
@@ -118,40 +123,47 @@ fn put_base(base: &BaseArray, to: &mut Vec<u8>) -> Result<(), NoMemory>
 
 /// Appends the list and the stores of each node.
 fn put_nodes(
+    alloc: Global,
+    format: u8,
     lists: &[StrategyList],
     stores: &[Option<Arc<NodeStore>>],
     to: &mut Vec<u8>,
 ) -> Result<(), NoMemory>
-    requires { (sites : List Site) × FitNodes sites lists.now (lineages stores.now) }
+    requires format { is_format format ≡ true }
+    requires fit { (sites : List Site) × FitNodes sites lists.now (lineages stores.now) }
     ensures short { OnOk result (All (λ x. length x.list < 256)
         (parts_of lists.now (lineages stores.now))) }
     ensures front { OnOk result ((more : List ℕ) × (to.new.items ≡ to.old.items ++ more)) }
     ensures nodes { OnOk result ((sites : List Site)
         → FitNodes sites lists.now (lineages stores.now)
-        → BeginNodes sites to.new.items (length to.old.items) (length to.new.items)
+        → BeginNodes format sites to.new.items (length to.old.items) (length to.new.items)
         (parts_of lists.now (lineages stores.now))) }
 {
     for node in 0..stores.len() {
-        put_node(&lists[node], &stores[node], to)?;
+        put_node(alloc, format, &lists[node], &stores[node], to)?;
     }
     Ok(())
 }
 
 /// Appends the list of a node, and its stores where there are some.
 fn put_node(
+    alloc: Global,
+    format: u8,
     list: &StrategyList,
     stores: &Option<Arc<NodeStore>>,
     to: &mut Vec<u8>,
 ) -> Result<(), NoMemory>
+    requires { is_format format ≡ true }
     ensures short { OnOk result (length list.now < 256) }
     ensures front { OnOk result ((more : List ℕ) × (to.new.items ≡ to.old.items ++ more)) }
     ensures node { OnOk result ((s : Site) → let kept = option_map (λ a. arc_value a) stores.now in
-        FitsNode s list.now kept → (rest : List ℕ) → BeginNodes (s ∷ []) (to.new.items ++ rest)
+        FitsNode s list.now kept → (rest : List ℕ)
+        → BeginNodes format (s ∷ []) (to.new.items ++ rest)
         (length to.old.items) (length to.new.items) (part_of list.now kept ∷ [])) }
 {
     put_list(list.as_slice(), to)?;
     match stores {
-        Some(kept) => kept.put_bytes(to),
+        Some(kept) => put_stores(alloc, format, kept, to),
         None => Ok(()),
     }
 }

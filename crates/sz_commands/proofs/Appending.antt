@@ -22,43 +22,52 @@ use Rattle.sz_commands.specs.Logged.{lasts, is_refresh, makes, makes_judged, mak
 use Rattle.sz_commands.specs.Logged.{IsLineGroup, IsVersionGroup, IsGroupFor, IsGroupOf, Appends}
 use Rattle.sz_commands.specs.declared.session.Given.{Given}
 use Rattle.sz_commands.specs.declared.session.Given.TheVariants as given
+use Rattle.sz_commands.specs.States.{LogPlace}
+use Rattle.sz_commands.proofs.Logged.{ending}
 use Rattle.sz_commands.proofs.Stops.{told-more}
 use Rattle.sz_versions.proofs.Keeps.{not_false}
 
 -- ---- the group that is added
 
 -- a group that was added where the log ended, behind which it ends
-pub group-added : {X : Type 0} (T : Ghosts X) (IsSuch : LogGroup → Type 0) (end : Option ℕ) (at next : ℕ) (e : LogGroup)
-    (a b : X) → end ≡ Some at → IsSuch e → Added (T.disk a) (T.disk b) at e
-    → Told (T.disk a) (next ≡ place_behind at e) → Appends T IsSuch end (Some next) a b
+pub group-added : {X : Type 0} (T : Ghosts X) (IsSuch : ℕ → LogGroup → Type 0) (end : Option LogPlace)
+    (at : LogPlace) (next : ℕ) (e : LogGroup) (a b : X) → end ≡ Some at → IsSuch at.format e
+    → Added (T.disk a) (T.disk b) at.gate e → Told (T.disk a) (next ≡ place_behind at.gate e)
+    → Appends T IsSuch end (Some (ending at next)) a b
 group-added {X} T IsSuch end at next e a b is such added place =
-    subst (λ (o : Option ℕ). Appends T IsSuch o (Some next) a b) (sym is)
-    (e, such, added, told-more (T.disk a) _ _ (λ (p : next ≡ place_behind at e). ap (λ (n : ℕ). Some n) p) place)
+    subst (λ (o : Option LogPlace). Appends T IsSuch o (Some (ending at next)) a b) (sym is) (
+      e,
+      such,
+      added,
+      told-more (T.disk a) _ _
+          (λ (p : next ≡ place_behind at.gate e). ap (λ (n : ℕ). Some (ending at n)) p)
+          place,
+    )
 
 -- one that is of a further form
-pub appends-as : {X : Type 0} (T : Ghosts X) (P Q : LogGroup → Type 0) (end next : Option ℕ) (a b : X)
-    → ((e : LogGroup) → P e → Q e) → Appends T P end next a b → Appends T Q end next a b
+pub appends-as : {X : Type 0} (T : Ghosts X) (P Q : ℕ → LogGroup → Type 0) (end next : Option LogPlace) (a b : X)
+    → ((format : ℕ) (e : LogGroup) → P format e → Q format e) → Appends T P end next a b → Appends T Q end next a b
 appends-as {X} T P Q None next a b turn added = tt
-appends-as {X} T P Q (Some at) next a b turn (e, such, added, place) = (e, turn e such, added, place)
+appends-as {X} T P Q (Some at) next a b turn (e, such, added, place) = (e, turn at.format e such, added, place)
 
 -- nothing is said of a session of no log
-pub appends-nowhere : {X : Type 0} (T : Ghosts X) (P : LogGroup → Type 0) (end next : Option ℕ) (a b : X)
+pub appends-nowhere : {X : Type 0} (T : Ghosts X) (P : ℕ → LogGroup → Type 0) (end next : Option LogPlace) (a b : X)
     → end ≡ None → Appends T P end next a b
 appends-nowhere {X} T P end next a b none =
-    subst (λ (o : Option ℕ). Appends T P o next a b) (sym none) tt
+    subst (λ (o : Option LogPlace). Appends T P o next a b) (sym none) tt
 
 -- the line of a command that stands in groups of a kind is what the command makes durable
-pub line-group : (c : Holdings) (line : List ℕ) (command : Command) (e : LogGroup) → IsLineGroup command line e
-    → IsGroupFor c line command e
-line-group c line (order.Await n) e such = absurd (true≢false (sym such.0))
-line-group c line (order.Refresh n i set) e such = absurd (true≢false (sym such.0))
-line-group c line _ e such = such
+pub line-group : (c : Holdings) (line : List ℕ) (command : Command) (format : ℕ) (e : LogGroup)
+    → IsLineGroup command line e → IsGroupFor c line command format e
+line-group c line (order.Await n) format e such = absurd (true≢false (sym such.0))
+line-group c line (order.Refresh n i set) format e such = absurd (true≢false (sym such.0))
+line-group c line _ format e such = such
 
 -- the group of a refresh is the same whatever its line
-pub array-group : (c : Holdings) (line : List ℕ) (command : Command) (e : LogGroup) → is_refresh command ≡ true
-    → IsGroupFor c [] command e → IsGroupFor c line command e
-array-group c line (order.Refresh n i set) e kind such = such
-array-group c line _ e kind such = absurd (true≢false (sym kind))
+pub array-group : (c : Holdings) (line : List ℕ) (command : Command) (format : ℕ) (e : LogGroup)
+    → is_refresh command ≡ true → IsGroupFor c [] command format e → IsGroupFor c line command format e
+array-group c line (order.Refresh n i set) format e kind such = such
+array-group c line _ format e kind such = absurd (true≢false (sym kind))
 
 -- ---- commands
 
@@ -99,9 +108,10 @@ pub await-writes : (c : Holdings) (command : Command) (n : ℕ) → command ≡ 
     → (version_of c n).awaited ≡ false → makes c command ≡ true
 await-writes c command n is off = ap (makes c) is ∙ ap not off
 
-pub await-group : (c : Holdings) (line : List ℕ) (command : Command) (n : ℕ) (e : LogGroup) → command ≡ order.Await n
-    → IsVersionGroup c n e → IsGroupFor c line command e
-await-group c line command n e is such = subst (λ (o : Command). IsGroupFor c line o e) (sym is) such
+pub await-group : (c : Holdings) (line : List ℕ) (command : Command) (n format : ℕ) (e : LogGroup)
+    → command ≡ order.Await n → IsVersionGroup c n format e → IsGroupFor c line command format e
+await-group c line command n format e is such =
+    subst (λ (o : Command). IsGroupFor c line o format e) (sym is) such
 
 -- ---- rules
 
@@ -137,7 +147,7 @@ given-makes c line (given.Ask ask) (full, read, is) = filled-makes c line full �
 given-makes c line (given.Other command) (full, read) = filled-makes c line full ∙ ap (makes_read c) read
 
 -- the group of a command is that of a line that is read as it
-pub read-group : (c : Holdings) (line : List ℕ) (command : Command) (e : LogGroup) → reading line ≡ Ok command
-    → IsGroupFor c line command e → IsGroupOf c line (reading line) e
-read-group c line command e read such =
-    subst (λ (r : Result Command Refusal). IsGroupOf c line r e) (sym read) such
+pub read-group : (c : Holdings) (line : List ℕ) (command : Command) (format : ℕ) (e : LogGroup)
+    → reading line ≡ Ok command → IsGroupFor c line command format e → IsGroupOf c line (reading line) format e
+read-group c line command format e read such =
+    subst (λ (r : Result Command Refusal). IsGroupOf c line r format e) (sym read) such

@@ -21,10 +21,10 @@ use Rattle.sz_catalogue.specs.Changes.{changes_no_version}
 use Rattle.sz_catalogue.proofs.Numbers.{next-is_new}
 use Rattle.sz_catalogue.proofs.Refreshed.{set-room, set-extent}
 use Rattle.sz_recover.specs.Growing.{durable}
-use Rattle.sz_recover.specs.Logs.{is_of_kind}
+use Rattle.sz_recover.specs.Logs.{is_of_kind, version_kind}
 use Rattle.sz_catalogue.specs.Order.{IsInOrder}
 use Rattle.sz_recover.proofs.Durable.{starts-not-logged, awaits-once}
-use Rattle.sz_commands.specs.States.{SessionState, apart, accepted, after_command}
+use Rattle.sz_commands.specs.States.{SessionState, LogPlace, apart, accepted, after_command}
 use Rattle.sz_commands.specs.Logged.{lasts, HasLog, KeepsLog}
 use Rattle.sz_versions.specs.Bodies.{IsSoundBody}
 use Rattle.sz_commands.proofs.Logged.{rest-keeps, IsStep, await-step, line-step, step-alike}
@@ -99,7 +99,7 @@ left-apart s d command r is = left-held (apart s) (apart d) command r is
 pub rests-keep : {X : Type 0} (T : Ghosts X) (s t : SessionState) (a : X) → HasLog T s.held s.end a → t.end ≡ s.end
     → durable t.held ≡ durable s.held → KeepsLog T s.held s.end t.held t.end a a
 rests-keep {X} T s t a log place same =
-    subst (λ (o : Option ℕ). KeepsLog T s.held s.end t.held o a a) (sym place)
+    subst (λ (o : Option LogPlace). KeepsLog T s.held s.end t.held o a a) (sym place)
     (rest-keeps T s.held t.held s.end a same log)
 
 -- so does a command that makes nothing durable
@@ -115,12 +115,17 @@ pub same-keeps : {X : Type 0} (T : Ghosts X) (s t : SessionState) (a : X) → Ha
 same-keeps {X} T s t a log is =
     rests-keep T s t a log (ap (λ (x : SessionState). x.end) is) (ap (λ (x : SessionState). durable x.held) is)
 
--- the body of a version that was not awaited
-pub version-step : (c : Holdings) (n : ℕ) (body : List ℕ) → IsInOrder c → has_no_version c n ≡ false
-    → (version_of c n).awaited ≡ false → IsSoundBody n (version_of c n) body
-    → IsStep c (changes.with_await c n) (record { kind = 4; body = body })
-version-step c n body in-order held off sound =
-    await-step c n sound.stores body (catalogue-in-order c in-order) held off sound.fit sound.sound sound.is
+-- the body of a version that was not awaited, in a group of its kind
+pub version-step : (format kind : ℕ) (c : Holdings) (n : ℕ) (body words : List ℕ) → kind ≡ version_kind format
+    → words ≡ body → IsInOrder c → has_no_version c n ≡ false → (version_of c n).awaited ≡ false
+    → IsSoundBody format n (version_of c n) body
+    → IsStep format c (changes.with_await c n) (record { kind = kind; body = words })
+version-step format kind c n body words own same in-order held off sound =
+    let Step : ℕ → List ℕ → Type 0 = λ k bytes.
+    IsStep format c (changes.with_await c n) (record { kind = k; body = bytes }) in
+    subst (λ (k : ℕ). Step k words) (sym own)
+    (subst (Step (version_kind format)) (sym same)
+    (await-step format c n sound.stores body (catalogue-in-order c in-order) held off sound.fit sound.sound sound.is))
 
 -- ---- a refresh
 
@@ -156,21 +161,21 @@ refresh-durable c n i g =
     (ap (λ (o : Option Version). is_none o) new) refl
 
 -- the line of the array that a refresh makes
-pub array-step : (c : Holdings) (n i : ℕ) (set : List NewCell) (line : List ℕ)
+pub array-step : (format : ℕ) (c : Holdings) (n i : ℕ) (set : List NewCell) (line : List ℕ)
     → judged c (order.Refresh n i set) ≡ None
     → reading line ≡ Ok (array_order (base_at (version_of c n) i).name (array_refreshed (version_of c n) i set))
-    → IsStep c (changes.with_refreshed c n i (array_refreshed (version_of c n) i set))
+    → IsStep format c (changes.with_refreshed c n i (array_refreshed (version_of c n) i set))
     (record { kind = 1; body = line })
-array-step c n i set line free read =
+array-step format c n i set line free read =
     let v = version_of c n in
     let name = (base_at v i).name in
     let g = array_refreshed v i set in
     let e : LogGroup = record { kind = 1; body = line } in
     let can = can-refresh c n i set free in
     let room = set-room c n i g can.input (set-extent (base_at v i).array set) can.arrays in
-    step-alike c (changes.with_array c name g) (changes.with_refreshed c n i g) e (refresh-durable c n i g)
-    (subst (λ (h : Holdings). IsStep c h e) (array-held c name g)
-    (line-step c 1 line (array_order name g) read (array-kind name g) (array-free c name g room)))
+    step-alike format c (changes.with_array c name g) (changes.with_refreshed c n i g) e (refresh-durable c n i g)
+    (subst (λ (h : Holdings). IsStep format c h e) (array-held c name g)
+    (line-step format c 1 line (array_order name g) read (array-kind name g) (array-free c name g room)))
 
 -- ---- awaits
 

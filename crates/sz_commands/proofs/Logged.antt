@@ -32,7 +32,7 @@ use Rattle.sz_catalogue.proofs.Entries.{lookup-put}
 use Rattle.sz_bodies.specs.Bodies.{IsBodyOf}
 use Rattle.sz_bodies.specs.Fitting.{sites_of, Fit, body_of}
 use Rattle.sz_recover.specs.Growing.{durable, IsInOrder, Growth}
-use Rattle.sz_recover.specs.Logs.{Kept, Acts, IsWellMade, IsMade, is_of_kind}
+use Rattle.sz_recover.specs.Logs.{Kept, Acts, IsWellMade, IsMade, is_of_kind, version_kind}
 use Rattle.sz_recover.specs.Opened.{IsEntryOf, AreOfVersions}
 use Rattle.sz_recover.specs.Soundness.{executions_of, AreSoundNodes, IsSoundKept, AreSoundKept}
 use Rattle.sz_recover.proofs.Durable.{settled, await-settled, settled-new, version-found}
@@ -43,38 +43,40 @@ use Rattle.sz_recover.proofs.Grown.{logs-grow, logs-grow-or-stay}
 use Rattle.sz_recover.proofs.Logged.{lines-act, lines-keep, awaits-act}
 use Rattle.sz_commands.specs.Stops.{StopsFinding}
 use Rattle.sz_commands.specs.Logged.{IsLogOf, HasLog, Grown, GrowsTo, Grows, LeavesLog, GoesOn, KeepsLog, StopsInLog}
-use Rattle.sz_commands.specs.Logged.{OpenedLogsStand}
+use Rattle.sz_commands.specs.Logged.{OpenedLogsStand, end_behind}
+use Rattle.sz_commands.specs.States.{LogPlace}
 use Rattle.sz_commands.proofs.Stops.{told-more, pass-still}
 
 -- ---- where nothing is appended
 
 -- a log of what is durable is one of whatever is durable alike
-pub grown-same : (c d : Holdings) (kept : List Kept) (image : List ℕ) (at : ℕ) → durable d ≡ durable c
-    → IsWellMade image at (durable c) kept → Grown c kept image at d
+pub grown-same : (c d : Holdings) (kept : List Kept) (image : List ℕ) (at : LogPlace) → durable d ≡ durable c
+    → IsWellMade image at.gate at.format (durable c) kept → Grown c kept image at d
 grown-same c d kept image at same made = record {
   more = [];
   made =
-      subst (λ (ks : List Kept). IsWellMade image at (durable d) ks) (sym (append-nil kept))
-      (subst (λ (h : Holdings). IsWellMade image at h kept) (sym same) made);
+      subst (λ (ks : List Kept). IsWellMade image at.gate at.format (durable d) ks) (sym (append-nil kept))
+      (subst (λ (h : Holdings). IsWellMade image at.gate at.format h kept) (sym same) made);
   sound = λ sound.
       subst (AreSoundKept (durable d)) (sym (append-nil kept))
       (subst (λ (h : Holdings). AreSoundKept h kept) (sym same) sound);
 }
 
-same-left : (c d : Holdings) (at : ℕ) (old image : List ℕ) → image ≡ old → LeavesLog at c d old image
+same-left : (c d : Holdings) (at : LogPlace) (old image : List ℕ) → image ≡ old → LeavesLog at c d old image
 same-left c d at old image same kept made =
     inl (
       at,
-      grown-same c c kept image at refl (subst (λ (i : List ℕ). IsWellMade i at (durable c) kept)
+      grown-same c c kept image at refl (subst (λ (i : List ℕ). IsWellMade i at.gate at.format (durable c) kept)
           (sym same) made),
     )
 
-rest-grows : (disk : Option (List ℕ)) (c d : Holdings) (at : ℕ) → durable d ≡ durable c → Grows disk at c disk at d
+rest-grows : (disk : Option (List ℕ)) (c d : Holdings) (at : LogPlace) → durable d ≡ durable c
+    → Grows disk at c disk at d
 rest-grows None c d at same = refl
 rest-grows (Some disk) c d at same = (disk, refl, λ kept made. grown-same c d kept disk at same made)
 
 -- a command that changes nothing that is durable, and makes no call
-pub rest-keeps : {X : Type 0} (T : Ghosts X) (c d : Holdings) (end : Option ℕ) (a : X) → durable d ≡ durable c
+pub rest-keeps : {X : Type 0} (T : Ghosts X) (c d : Holdings) (end : Option LogPlace) (a : X) → durable d ≡ durable c
     → HasLog T c end a → KeepsLog T c end d end a a
 rest-keeps {X} T c d None a same log = refl
 rest-keeps {X} T c d (Some at) a same log = record {
@@ -83,7 +85,7 @@ rest-keeps {X} T c d (Some at) a same log = record {
 }
 
 -- where no call is made, a stop leaves the log
-pub still-stops : {X : Type 0} (T : Ghosts X) (c d : Holdings) (end : Option ℕ) (a : X)
+pub still-stops : {X : Type 0} (T : Ghosts X) (c d : Holdings) (end : Option LogPlace) (a : X)
     → ((image found : List ℕ) → Told (T.disk a)
     (T.left_since a (T.moment a) image found → T.may_leave a image × Said (T.said a) found))
     → ((t : ℕ) (image found : List ℕ) → Told (T.disk a)
@@ -97,88 +99,109 @@ still-stops {X} T c d (Some at) a only counts =
 
 -- ---- one group more
 
--- A group acts on what the log of c holds, and leaves what the log of d holds; with the stores that it has, stores
--- that stand for the relation go on to.
-pub record IsStep (c d : Holdings) (e : LogGroup) : Type 0 where
+-- A group acts on what the log of c holds, and leaves what the log of d holds, in a format that stays; with the stores
+-- that it has, stores that stand for the relation go on to.
+pub record IsStep (format : ℕ) (c d : Holdings) (e : LogGroup) : Type 0 where
   pub more : List Kept
-  pub acts : Acts (durable c) e (durable d) more
+  pub acts : Acts format (durable c) e format (durable d) more
   pub sound : (kept : List Kept) → AreOfVersions (durable c) kept → AreSoundKept (durable c) kept
       → AreSoundKept (durable d) (kept ++ more)
 
-abbrev growth-of : (c d : Holdings) (e : LogGroup) (kept : List Kept) → IsStep c d e → Growth
-growth-of c d e kept one = record { before = durable c; kept = kept; after = durable d; more = one.more }
-
-step-grown : (c d : Holdings) (e : LogGroup) (disk image : List ℕ) (at : ℕ) → IsStep c d e → Adds at e disk image
-    → GrowsTo disk at c image (place_behind at e) d
-step-grown c d e disk image at one adds kept made = record {
+abbrev growth-of : (format : ℕ) (c d : Holdings) (e : LogGroup) (kept : List Kept) → IsStep format c d e → Growth
+growth-of format c d e kept one = record {
+  format_before = format;
+  before = durable c;
+  kept = kept;
+  format_after = format;
+  after = durable d;
   more = one.more;
-  made = logs-grow disk image at e (growth-of c d e kept one) made one.acts adds;
-  sound = one.sound kept (well-made disk at (durable c) kept made);
 }
 
-step-grows : (old new : Option (List ℕ)) (c d : Holdings) (e : LogGroup) (at next : ℕ) → IsStep c d e
-    → Added old new at e → Told old (next ≡ place_behind at e) → Grows old at c new next d
+step-grown : (c d : Holdings) (e : LogGroup) (disk image : List ℕ) (at : LogPlace) → IsStep at.format c d e
+    → Adds at.gate e disk image → GrowsTo disk at c image (end_behind at e) d
+step-grown c d e disk image at one adds kept made = record {
+  more = one.more;
+  made = logs-grow disk image at.gate e (growth-of at.format c d e kept one) made one.acts adds;
+  sound = one.sound kept (well-made disk at.gate at.format (durable c) kept made);
+}
+
+-- a log that ends elsewhere, in the same format
+abbrev pub ending : LogPlace → ℕ → LogPlace
+ending at next = record at { gate = next }
+
+step-grows : (old new : Option (List ℕ)) (c d : Holdings) (e : LogGroup) (at : LogPlace) (next : ℕ)
+    → IsStep at.format c d e → Added old new at.gate e → Told old (next ≡ place_behind at.gate e)
+    → Grows old at c new (ending at next) d
 step-grows None new c d e at next one added place = added
 step-grows (Some disk) new c d e at next one (image, is, adds) place = (
   image,
   is,
-  subst (λ (n : ℕ). GrowsTo disk at c image n d) (sym place) (step-grown c d e disk image at one adds),
+  subst (λ (n : ℕ). GrowsTo disk at c image (ending at n) d) (sym place) (step-grown c d e disk image at one adds),
 )
 
-step-left : (c d : Holdings) (e : LogGroup) (old image : List ℕ) (at : ℕ) → IsStep c d e → AddsOrKeeps at e old image
-    → LeavesLog at c d old image
+step-left : (c d : Holdings) (e : LogGroup) (old image : List ℕ) (at : LogPlace) → IsStep at.format c d e
+    → AddsOrKeeps at.gate e old image → LeavesLog at c d old image
 step-left c d e old image at one adds kept made =
     ⊎_elim (λ same. inl (at, grown-same c c kept image at refl same))
     (λ more. inr (
-      place_behind at e,
-      record { more = one.more; made = more; sound = one.sound kept (well-made old at (durable c) kept made) },
+      end_behind at e,
+      record {
+        more = one.more;
+        made = more;
+        sound = one.sound kept (well-made old at.gate at.format (durable c) kept made);
+      },
     ))
-    (logs-grow-or-stay old image at e (growth-of c d e kept one) made one.acts adds)
+    (logs-grow-or-stay old image at.gate e (growth-of at.format c d e kept one) made one.acts adds)
 
 -- an append of it
-pub step-keeps : {X : Type 0} (T : Ghosts X) (c d : Holdings) (e : LogGroup) (at next : ℕ) (a b : X) → IsStep c d e
-    → Added (T.disk a) (T.disk b) at e → Told (T.disk a) (next ≡ place_behind at e)
-    → Only (T.disk b) (T.may_leave b) → GoesOn T c at d next a b
+pub step-keeps : {X : Type 0} (T : Ghosts X) (c d : Holdings) (e : LogGroup) (at : LogPlace) (next : ℕ) (a b : X)
+    → IsStep at.format c d e → Added (T.disk a) (T.disk b) at.gate e
+    → Told (T.disk a) (next ≡ place_behind at.gate e) → Only (T.disk b) (T.may_leave b)
+    → GoesOn T c at d (ending at next) a b
 step-keeps {X} T c d e at next a b one added place synced = record {
   grows = step-grows (T.disk a) (T.disk b) c d e at next one added place;
   synced = synced;
 }
 
-pub step-stops : {X : Type 0} (T : Ghosts X) (c d : Holdings) (e : LogGroup) (at : ℕ) (a b : X) → IsStep c d e
+pub step-stops : {X : Type 0} (T : Ghosts X) (c d : Holdings) (e : LogGroup) (at : LogPlace) (a b : X)
+    → IsStep at.format c d e
     → Told (T.disk a) (Passes (T.moment a) (T.moment b) (T.left_since a) (T.left_since b)
-    (T.may_leave a) (T.may_leave b) (AddsOrKeeps at e) (Said (T.said a)))
+    (T.may_leave a) (T.may_leave b) (AddsOrKeeps at.gate e) (Said (T.said a)))
     → StopsFinding T (LeavesLog at c d) (Said (T.said a)) a b
 step-stops {X} T c d e at a b one stops =
     told-more (T.disk a) _ _
     (λ passes. seen_as passes (λ image (old, was, adds). (old, was, step-left c d e old image at one adds))) stops
 
 -- what it leaves is all that is durable of what is left
-pub step-alike : (c d h : Holdings) (e : LogGroup) → durable h ≡ durable d → IsStep c d e → IsStep c h e
-step-alike c d h e same one = record {
+pub step-alike : (format : ℕ) (c d h : Holdings) (e : LogGroup) → durable h ≡ durable d → IsStep format c d e
+    → IsStep format c h e
+step-alike format c d h e same one = record {
   more = one.more;
-  acts = subst (λ (x : Holdings). Acts (durable c) e x one.more) (sym same) one.acts;
+  acts = subst (λ (x : Holdings). Acts format (durable c) e format x one.more) (sym same) one.acts;
   sound = λ kept all sound.
       subst (λ (x : Holdings). AreSoundKept x (kept ++ one.more)) (sym same) (one.sound kept all sound);
 }
 
 -- a log ends where a group is appended
-pub log-ends : {X : Type 0} (T : Ghosts X) (c : Holdings) (at : ℕ) (a : X) → IsLogOf T c at a → EndsAt (T.disk a) at
-log-ends {X} T c at a log = made-logs-end (T.disk a) at (durable c) log.kept log.made
+pub log-ends : {X : Type 0} (T : Ghosts X) (c : Holdings) (at : LogPlace) (a : X) → IsLogOf T c at a
+    → EndsAt (T.disk a) at.gate
+log-ends {X} T c at a log = made-logs-end (T.disk a) at.gate at.format (durable c) log.kept log.made
 
 -- ---- and again
 
-again : (old new : Option (List ℕ)) (c d : Holdings) (at next : ℕ) (kept : List Kept) → IsMade old at (durable c) kept
-    → Grows old at c new next d → (all : List Kept) × IsMade new next (durable d) all
+again : (old new : Option (List ℕ)) (c d : Holdings) (at next : LogPlace) (kept : List Kept)
+    → IsMade old at.gate at.format (durable c) kept
+    → Grows old at c new next d → (all : List Kept) × IsMade new next.gate next.format (durable d) all
 again None new c d at next kept made grows =
-    ([], subst (λ (o : Option (List ℕ)). IsMade o next (durable d) []) (sym grows) tt)
+    ([], subst (λ (o : Option (List ℕ)). IsMade o next.gate next.format (durable d) []) (sym grows) tt)
 again (Some disk) new c d at next kept made (image, is, grows) =
     let one = grows kept made in (
       kept ++ one.more,
-      subst (λ (o : Option (List ℕ)). IsMade o next (durable d) (kept ++ one.more)) (sym is) one.made,
+      subst (λ (o : Option (List ℕ)). IsMade o next.gate next.format (durable d) (kept ++ one.more)) (sym is) one.made,
     )
 
 -- behind a call the log stands beside the session again
-pub log-again : {X : Type 0} (T : Ghosts X) (c d : Holdings) (end next : Option ℕ) (a b : X) → HasLog T c end a
+pub log-again : {X : Type 0} (T : Ghosts X) (c d : Holdings) (end next : Option LogPlace) (a b : X) → HasLog T c end a
     → KeepsLog T c end d next a b → HasLog T d next b
 log-again {X} T c d None None a b log keeps = tt
 log-again {X} T c d None (Some n) a b log keeps = absurd keeps
@@ -208,15 +231,15 @@ same-versions c d n same =
     ap (λ (es : List (ℕ × Version)). unwrap_or (lookup (is_at (nat_cmp n)) (settled es)) no_version) same
 
 -- the line of a command that a session takes
-pub line-step : (c : Holdings) (kind : ℕ) (line : List ℕ) (command : Command) → reading line ≡ Ok command
+pub line-step : (format : ℕ) (c : Holdings) (kind : ℕ) (line : List ℕ) (command : Command) → reading line ≡ Ok command
     → is_of_kind kind command ≡ true → judged c command ≡ None
-    → IsStep c (accepted c command).0 (record { kind = kind; body = line })
-line-step c kind line command read own free =
+    → IsStep format c (accepted c command).0 (record { kind = kind; body = line })
+line-step format c kind line command read own free =
     let d : Holdings = (accepted c command).0 in
     let same : d.versions ≡ c.versions = lines-keep c kind command own in
     record {
       more = [];
-      acts = lines-act c kind line command read own free;
+      acts = lines-act format c kind line command read own free;
       sound = λ kept all sound.
           subst (AreSoundKept (durable d)) (sym (append-nil kept))
           (all-turn (IsSoundKept (durable c)) (IsSoundKept (durable d)) kept
@@ -248,12 +271,12 @@ found-of : (c : Holdings) (n : ℕ) (v : Version) → version_numbered c n ≡ S
 found-of c n v is = ap (λ (o : Option Version). unwrap_or o no_version) is
 
 -- the body of a version that was not awaited, with stores that stand for the relation
-pub await-step : (c : Holdings) (n : ℕ) (stores : List (Option NodeLineage)) (body : List ℕ) → IsInOrder c
+pub await-step : (format : ℕ) (c : Holdings) (n : ℕ) (stores : List (Option NodeLineage)) (body : List ℕ) → IsInOrder c
     → has_no_version c n ≡ false → (version_of c n).awaited ≡ false → Fit (version_of c n) stores
     → AreSoundNodes (executions_of (version_of c n)) stores
-    → IsBodyOf (sites_of (version_of c n)) (body_of n (version_of c n) stores) body
-    → IsStep c (with_await c n) (record { kind = 4; body = body })
-await-step c n stores body in-order held off fit sound spelled =
+    → IsBodyOf format (sites_of (version_of c n)) (body_of n (version_of c n) stores) body
+    → IsStep format c (with_await c n) (record { kind = version_kind format; body = body })
+await-step format c n stores body in-order held off fit sound spelled =
     let v : Version = version_of c n in
     let w : Version = record v { awaited = true } in
     let d : Holdings = with_await c n in
@@ -274,7 +297,7 @@ await-step c n stores body in-order held off fit sound spelled =
     ∙ lookup-put nat_cmp exact-numbers (settled c.versions) k.number n (version_of (durable c) k.number) w old none) in
     record {
       more = one ∷ [];
-      acts = awaits-act c n stores body in-order held off fit spelled;
+      acts = awaits-act format c n stores body in-order held off fit spelled;
       sound = λ kept all each.
           All-append (IsSoundKept (durable d)) kept (one ∷ [])
           (all-both (IsEntryOf (durable c)) (IsSoundKept (durable c)) (IsSoundKept (durable d)) kept
@@ -314,26 +337,27 @@ all-durable c rising none all =
 pub opened-stands : OpenedLogsStand
 opened-stands None at c kept made = tt
 opened-stands (Some disk) at c kept made =
-    let all = well-made disk at c kept made in
-    let rising = (logs-in-order disk at c kept made).rising in
-    subst (λ (h : Holdings). IsWellMade disk at h kept)
+    let all = well-made disk at.gate at.format c kept made in
+    let rising = (logs-in-order disk at.gate at.format c kept made).rising in
+    subst (λ (h : Holdings). IsWellMade disk at.gate at.format h kept)
     (sym (all-durable c rising all.unasked (λ n held. versions-awaited c kept n all held))) made
 
 -- ---- a group more, by where the log ends
 
-pub append-stops : {X : Type 0} (T : Ghosts X) (c d : Holdings) (end : Option ℕ) (at : ℕ) (e : LogGroup) (a b : X)
-    → end ≡ Some at → IsStep c d e
+pub append-stops : {X : Type 0} (T : Ghosts X) (c d : Holdings) (end : Option LogPlace) (at : LogPlace) (e : LogGroup)
+    (a b : X) → end ≡ Some at → IsStep at.format c d e
     → Told (T.disk a) (Passes (T.moment a) (T.moment b) (T.left_since a) (T.left_since b)
-    (T.may_leave a) (T.may_leave b) (AddsOrKeeps at e) (Said (T.said a)))
+    (T.may_leave a) (T.may_leave b) (AddsOrKeeps at.gate e) (Said (T.said a)))
     → StopsInLog T c end d a b
 append-stops {X} T c d end at e a b is one stops =
-    subst (λ (o : Option ℕ). StopsInLog T c o d a b) (sym is) (step-stops T c d e at a b one stops)
+    subst (λ (o : Option LogPlace). StopsInLog T c o d a b) (sym is) (step-stops T c d e at a b one stops)
 
-pub append-keeps : {X : Type 0} (T : Ghosts X) (c d : Holdings) (end : Option ℕ) (at next : ℕ) (e : LogGroup) (a b : X)
-    → end ≡ Some at → IsStep c d e → Added (T.disk a) (T.disk b) at e → Told (T.disk a) (next ≡ place_behind at e)
-    → Only (T.disk b) (T.may_leave b) → KeepsLog T c end d (Some next) a b
+pub append-keeps : {X : Type 0} (T : Ghosts X) (c d : Holdings) (end : Option LogPlace) (at : LogPlace) (next : ℕ)
+    (e : LogGroup) (a b : X) → end ≡ Some at → IsStep at.format c d e → Added (T.disk a) (T.disk b) at.gate e
+    → Told (T.disk a) (next ≡ place_behind at.gate e) → Only (T.disk b) (T.may_leave b)
+    → KeepsLog T c end d (Some (ending at next)) a b
 append-keeps {X} T c d end at next e a b is one added place synced =
-    subst (λ (o : Option ℕ). KeepsLog T c o d (Some next) a b) (sym is)
+    subst (λ (o : Option LogPlace). KeepsLog T c o d (Some (ending at next)) a b) (sym is)
     (step-keeps T c d e at next a b one added place synced)
 
 -- ---- a station whose log was opened
@@ -357,15 +381,16 @@ still-synced {X} T F a b reads stops only =
     stops only)
 
 -- the log of a station that was opened
-pub opened-log : {X : Type 0} (T : Ghosts X) (F : List ℕ → Type 0) (at : ℕ) (c : Holdings) (kept : List Kept) (a b : X)
-    → IsMade (T.disk a) at c kept → T.disk b ≡ T.disk a
+pub opened-log : {X : Type 0} (T : Ghosts X) (F : List ℕ → Type 0) (at : LogPlace) (c : Holdings) (kept : List Kept)
+    (a b : X)
+    → IsMade (T.disk a) at.gate at.format c kept → T.disk b ≡ T.disk a
     → Told (T.disk a) (Passes (T.moment a) (T.moment b) (T.left_since a) (T.left_since b)
     (T.may_leave a) (T.may_leave b) Same F)
     → Only (T.disk a) (T.may_leave a) → IsLogOf T c at b
 opened-log {X} T F at c kept a b made reads stops only = record {
   kept = kept;
   made =
-      subst (λ (o : Option (List ℕ)). IsMade o at (durable c) kept) (sym reads)
+      subst (λ (o : Option (List ℕ)). IsMade o at.gate at.format (durable c) kept) (sym reads)
       (opened-stands (T.disk a) at c kept made);
   synced = still-synced T F a b reads stops only;
 }

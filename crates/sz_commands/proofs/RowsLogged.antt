@@ -33,6 +33,7 @@ use Rattle.sz_recover.proofs.RowsSound.{version, held, right-sound}
 use Rattle.sz_commands.specs.Logged.{IsLogOf, HasLog, Grown, Grows, IsLeft, LeavesLog, GoesOn, KeepsLog}
 use Rattle.sz_commands.specs.Logged.{StopsInLog, lasts, IsLasting, makes, makes_judged, makes_read, makes_durable}
 use Rattle.sz_commands.specs.Logged.{IsLineGroup, IsVersionGroup, IsArrayGroup, IsGroupFor, IsGroupOf, Appends}
+use Rattle.sz_commands.specs.States.{LogPlace}
 use Rattle.sz_commands.specs.declared.logging.Lasting.TheVariants as lasting
 
 -- ---- the group of a line: the line, in a group of its kind
@@ -69,27 +70,39 @@ pub line-longer : (name : List ℕ) (grid : Grid)
     → IsLineGroup (command.Array name grid) line (group_of 1 (line ++ 10 ∷ [])) → ⊥
 line-longer name grid is = let size : 3 ≡ 2 = ap (λ (l : List ℕ). length l) is.1 in omega (arith, size)
 
--- ---- the group of a version: its body with sound stores, in one of kind 4
+-- ---- the group of a version: its body with sound stores, in one of kind 4, or of kind 6 in format 2
 
-pub version-body : IsVersionGroup held 1 (group_of 4 body.bytes)
+pub version-body : IsVersionGroup held 1 1 (group_of 4 body.bytes)
 version-body = (
   refl,
   record { stores = Some body.whole ∷ []; fit = (body.fits-whole, tt); sound = right-sound; is = body.body-spelled },
 )
 
--- another kind
-pub version-kind : (c : Holdings) (n : ℕ) (bytes : List ℕ) → IsVersionGroup c n (group_of 3 bytes) → ⊥
+pub version-short : IsVersionGroup held 1 2 (group_of 6 body.short-bytes)
+version-short = (
+  refl,
+  record { stores = Some body.whole ∷ []; fit = (body.fits-whole, tt); sound = right-sound; is = body.short-body },
+)
+
+-- another kind, and that of the other format
+pub version-kind : (c : Holdings) (n : ℕ) (bytes : List ℕ) → IsVersionGroup c n 1 (group_of 3 bytes) → ⊥
 version-kind c n bytes is = omega (arith, is.0)
 
+pub version-kind_6 : (c : Holdings) (n : ℕ) (bytes : List ℕ) → IsVersionGroup c n 1 (group_of 6 bytes) → ⊥
+version-kind_6 c n bytes is = omega (arith, is.0)
+
+pub version-kind_4 : (c : Holdings) (n : ℕ) (bytes : List ℕ) → IsVersionGroup c n 2 (group_of 4 bytes) → ⊥
+version-kind_4 c n bytes is = omega (arith, is.0)
+
 -- no body at all
-pub version-empty : (c : Holdings) (n : ℕ) → IsVersionGroup c n (group_of 4 []) → ⊥
+pub version-empty : (c : Holdings) (n : ℕ) → IsVersionGroup c n 1 (group_of 4 []) → ⊥
 version-empty c n is =
     let head = is.1.is.head in
     let size = ap (λ (l : List ℕ). length l) head.spelled in
     omega (arith, size)
 
 -- a version that is not held has a body of none of these bytes
-pub version-other : IsVersionGroup held 2 (group_of 4 body.bytes) → ⊥
+pub version-other : IsVersionGroup held 2 1 (group_of 4 body.bytes) → ⊥
 version-other is =
     let number : 1 ≡ 2 = ap (λ (l : List ℕ). get_or l 3 0) is.1.is.head.spelled in omega (arith, number)
 
@@ -127,23 +140,23 @@ array-named is = let name : 98 ≡ 97 = ap first_of_name is.reads in omega (arit
 
 -- ---- which of the three
 
-pub for-refresh : IsGroupFor held line (command.Refresh 1 0 set) (group_of 1 line) → ⊥
+pub for-refresh : IsGroupFor held line (command.Refresh 1 0 set) 1 (group_of 1 line) → ⊥
 unfolding serde_json_on_literals is_utf8 chars
 for-refresh is = let no_form = is.reads in cc
 
-pub for-await : (c : Holdings) (n : ℕ) → IsGroupFor c line (command.Await n) (group_of 1 line) → ⊥
+pub for-await : (c : Holdings) (n : ℕ) → IsGroupFor c line (command.Await n) 1 (group_of 1 line) → ⊥
 for-await c n is = omega (arith, is.0)
 
 pub for-array : (c : Holdings) (name : List ℕ) (grid : Grid)
-    → IsGroupFor c line (command.Array name grid) (group_of 4 line) → ⊥
+    → IsGroupFor c line (command.Array name grid) 1 (group_of 4 line) → ⊥
 for-array c name grid is = true≢false (sym is.0)
 
 -- of a line that is read as no command there is no group
-pub of-refused : (c : Holdings) (e : LogGroup) → IsGroupOf c line (Err refusal.NoJson) e → ⊥
+pub of-refused : (c : Holdings) (e : LogGroup) → IsGroupOf c line (Err refusal.NoJson) 1 e → ⊥
 of-refused c e is = is
 
 pub of-array : (c : Holdings) (name : List ℕ) (grid : Grid)
-    → IsGroupOf c line (Ok (command.Array name grid)) (group_of 1 line)
+    → IsGroupOf c line (Ok (command.Array name grid)) 1 (group_of 1 line)
 of-array c name grid = (refl, refl)
 
 -- ---- what lasts, and what is written of it
@@ -274,35 +287,39 @@ none-added e (image, is, adds) =
 
 -- ---- how a log grows
 
+-- where the empty log ends
+abbrev pub begun : LogPlace
+begun = record { gate = 16; format = 1 }
+
 -- the empty log stays it where nothing is held
-pub grown-empty : Grown no_holdings [] empty_log 16 no_holdings
+pub grown-empty : Grown no_holdings [] empty_log begun no_holdings
 grown-empty = record { more = []; made = empty-made; sound = λ sound. sound }
 
 -- nothing at all is no log
-pub grown-cut : (c d : Holdings) (kept : List Kept) (at : ℕ) → Grown c kept [] at d → ⊥
+pub grown-cut : (c d : Holdings) (kept : List Kept) (at : LogPlace) → Grown c kept [] at d → ⊥
 grown-cut c d kept at is = true≢false (sym is.made.header)
 
 -- where the stores that were kept are sound, so are these
-pub grown-sound : (c d : Holdings) (kept : List Kept) (disk : List ℕ) (at : ℕ) (is : Grown c kept disk at d)
+pub grown-sound : (c d : Holdings) (kept : List Kept) (disk : List ℕ) (at : LogPlace) (is : Grown c kept disk at d)
     → AreSoundKept (durable c) kept → AreSoundKept (durable d) (kept ++ is.more)
 grown-sound c d kept disk at is = is.sound
 
-pub grows-not_cut : (d : Holdings) (next : ℕ) → Grows (Some empty_log) 16 no_holdings (Some []) next d → ⊥
+pub grows-not_cut : (d : Holdings) (next : LogPlace) → Grows (Some empty_log) begun no_holdings (Some []) next d → ⊥
 grows-not_cut d next (image, is, grows) =
     let same : image ≡ [] = ap (λ (o : Option (List ℕ)). unwrap_or o []) (sym is) in
     grown-cut no_holdings d [] next
     (subst (λ (l : List ℕ). Grown no_holdings [] l next d) same (grows [] empty-made))
 
-pub grows-told : (c d : Holdings) (at next : ℕ) (disk : List ℕ) → Grows None at c (Some disk) next d → ⊥
+pub grows-told : (c d : Holdings) (at next : LogPlace) (disk : List ℕ) → Grows None at c (Some disk) next d → ⊥
 grows-told c d at next disk is = cc
 
 pub left-empty : IsLeft no_holdings [] empty_log no_holdings
-left-empty = (16, grown-empty)
+left-empty = (begun, grown-empty)
 
 pub left-cut : (c d : Holdings) (kept : List Kept) → IsLeft c kept [] d → ⊥
 left-cut c d kept (at, is) = grown-cut c d kept at is
 
-pub leaves-cut : (d : Holdings) → LeavesLog 16 no_holdings d empty_log [] → ⊥
+pub leaves-cut : (d : Holdings) → LeavesLog begun no_holdings d empty_log [] → ⊥
 leaves-cut d leaves =
     elim (leaves [] empty-made) as (λ _. ⊥)
     [ inl is ↦ left-cut no_holdings no_holdings [] is | inr is ↦ left-cut no_holdings d [] is ]
@@ -311,54 +328,56 @@ leaves-cut d leaves =
 
 module _ {X : Type 0} (T : Ghosts X) where
   -- a log that is as it was has no group more
-  pub appends-none : (IsSuch : LogGroup → Type 0) (next : Option ℕ) (old new : X) → T.disk old ≡ Some empty_log
-      → T.disk new ≡ Some empty_log → Appends T IsSuch (Some 16) next old new → ⊥
+  pub appends-none : (IsSuch : ℕ → LogGroup → Type 0) (next : Option LogPlace) (old new : X)
+      → T.disk old ≡ Some empty_log → T.disk new ≡ Some empty_log → Appends T IsSuch (Some begun) next old new → ⊥
   appends-none IsSuch next old new told is (e, such, added, end) =
       none-added e (subst (λ (o : Option (List ℕ)). Added (Some empty_log) o 16 e) is
       (subst (λ (o : Option (List ℕ)). Added o (T.disk new) 16 e) told added))
 
   -- and the group that it has more is such a one
-  pub appends-such : (next : Option ℕ) (old new : X) → Appends T (λ e. ⊥) (Some 16) next old new → ⊥
+  pub appends-such : (next : Option LogPlace) (old new : X) → Appends T (λ format e. ⊥) (Some begun) next old new → ⊥
   appends-such next old new (e, such, added, end) = such
 
-  pub appends-no_log : (IsSuch : LogGroup → Type 0) (next : Option ℕ) (old new : X) → Appends T IsSuch None next old new
+  pub appends-no_log : (IsSuch : ℕ → LogGroup → Type 0) (next : Option LogPlace) (old new : X)
+      → Appends T IsSuch None next old new
   appends-no_log IsSuch next old new = tt
 
   -- no write is pending where a session's log stands
-  pub log-synced : (c : Holdings) (at : ℕ) (x : X) (disk image : List ℕ) → T.disk x ≡ Some disk → IsLogOf T c at x
-      → T.may_leave x image → image ≡ disk
+  pub log-synced : (c : Holdings) (at : LogPlace) (x : X) (disk image : List ℕ) → T.disk x ≡ Some disk
+      → IsLogOf T c at x → T.may_leave x image → image ≡ disk
   log-synced c at x disk image told log left =
       subst (λ (o : Option (List ℕ)). Only o (T.may_leave x)) told log.synced image left
 
   -- a disk that begins as no log is none
-  pub log-empty_disk : (c : Holdings) (at : ℕ) (x : X) → T.disk x ≡ Some [] → IsLogOf T c at x → ⊥
+  pub log-empty_disk : (c : Holdings) (at : LogPlace) (x : X) → T.disk x ≡ Some [] → IsLogOf T c at x → ⊥
   log-empty_disk c at x told log =
-      true≢false (sym (subst (λ (o : Option (List ℕ)). IsMade o at (durable c) log.kept) told log.made).header)
+      true≢false (sym (subst (λ (o : Option (List ℕ)). IsMade o at.gate at.format (durable c) log.kept) told
+      log.made).header)
 
-  pub has-log : (c : Holdings) (at : ℕ) (x : X) → T.disk x ≡ Some [] → HasLog T c (Some at) x → ⊥
+  pub has-log : (c : Holdings) (at : LogPlace) (x : X) → T.disk x ≡ Some [] → HasLog T c (Some at) x → ⊥
   has-log c at x told log = log-empty_disk c at x told log
 
   -- ---- how it grows
 
-  pub goes-synced : (c d : Holdings) (at next : ℕ) (old new : X) (disk image : List ℕ) → T.disk new ≡ Some disk
+  pub goes-synced : (c d : Holdings) (at next : LogPlace) (old new : X) (disk image : List ℕ) → T.disk new ≡ Some disk
       → GoesOn T c at d next old new → T.may_leave new image → image ≡ disk
   goes-synced c d at next old new disk image told goes left =
       subst (λ (o : Option (List ℕ)). Only o (T.may_leave new)) told goes.synced image left
 
-  pub goes-not_cut : (d : Holdings) (next : ℕ) (old new : X) → T.disk old ≡ Some empty_log → T.disk new ≡ Some []
-      → GoesOn T no_holdings 16 d next old new → ⊥
+  pub goes-not_cut : (d : Holdings) (next : LogPlace) (old new : X) → T.disk old ≡ Some empty_log → T.disk new ≡ Some []
+      → GoesOn T no_holdings begun d next old new → ⊥
   goes-not_cut d next old new told is goes =
-      grows-not_cut d next (subst (λ (o : Option (List ℕ)). Grows (Some empty_log) 16 no_holdings o next d) is
-      (subst (λ (o : Option (List ℕ)). Grows o 16 no_holdings (T.disk new) next d) told goes.grows))
+      grows-not_cut d next (subst (λ (o : Option (List ℕ)). Grows (Some empty_log) begun no_holdings o next d) is
+      (subst (λ (o : Option (List ℕ)). Grows o begun no_holdings (T.disk new) next d) told goes.grows))
 
   -- a session of no log leaves the station
   pub keeps-no_log : (c d : Holdings) (old new : X) → KeepsLog T c None d None old new → new ≡ old
   keeps-no_log c d old new is = is
 
-  pub keeps-made : (c d : Holdings) (next : ℕ) (old new : X) → KeepsLog T c None d (Some next) old new → ⊥
+  pub keeps-made : (c d : Holdings) (next : LogPlace) (old new : X) → KeepsLog T c None d (Some next) old new → ⊥
   keeps-made c d next old new is = is
 
-  pub keeps-lost : (c d : Holdings) (at : ℕ) (old new : X) → KeepsLog T c (Some at) d None old new → ⊥
+  pub keeps-lost : (c d : Holdings) (at : LogPlace) (old new : X) → KeepsLog T c (Some at) d None old new → ⊥
   keeps-lost c d at old new is = is
 
   pub stops-no_log : (c d : Holdings) (old new : X) → StopsInLog T c None d old new → new ≡ old

@@ -13,9 +13,9 @@ use Rattle.sz_versions.specs.Residents.{Resident, IsInService, logged_in, logged
 use Rattle.sz_versions.specs.Merging.{kinds_by}
 use Rattle.sz_versions.proofs.Keeps.{rule-fails}
 use Rattle.sz_versions.proofs.Residents.{logged-more, logged-replaced}
-use Rattle.sz_commands.specs.States.{SessionState, apart, accepted}
+use Rattle.sz_commands.specs.States.{SessionState, LogPlace, apart, accepted}
 
-abbrev pub seen : Holdings → List Resident → Option ℕ → SessionState
+abbrev pub seen : Holdings → List Resident → Option LogPlace → SessionState
 seen c rs end = record { held = c; logged = logged_in rs; stored = stored_in rs; end = end }
 
 -- what is seen apart of a catalogue and of the stores that a log gave, with a reply
@@ -27,7 +27,7 @@ pub is-held : (c : Holdings) (n : ℕ) → judged c (order.Await n) ≡ None →
 is-held c n none = (rule-fails (has_no_version c n) refusal.NoSuchVersion [] none).0
 
 -- an await, with a trail in place of the one that its version had
-pub seen-awaited : (c d : Holdings) (rs new : List Resident) (n : ℕ) (t : Trail) (r : Response) (end : Option ℕ)
+pub seen-awaited : (c d : Holdings) (rs new : List Resident) (n : ℕ) (t : Trail) (r : Response) (end : Option LogPlace)
     → IsInService c rs → (version_of c n).awaited ≡ false → new ≡ replaced_in n t rs
     → (d, r) ≡ changes.accepted c (order.Await n)
     → accepted (apart (seen c rs end)) (order.Await n) ≡ (apart (seen d new end), r)
@@ -38,7 +38,7 @@ seen-awaited c d rs new n t r end service first replaced is =
 
 -- a command that changes the catalogue alone, as a start and a refresh do, with one more that no log gave
 pub seen-more : (c d : Holdings) (rs new : List Resident) (one : Resident) (command : Command) (r : Response)
-    (end : Option ℕ)
+    (end : Option LogPlace)
     → accepted (apart (seen c rs end)) command ≡ told (logged_in rs) (changes.accepted c command)
     → one.logged ≡ false → new ≡ rs ++ one ∷ [] → (d, r) ≡ changes.accepted c command
     → accepted (apart (seen c rs end)) command ≡ (apart (seen d new end), r)
@@ -48,7 +48,7 @@ seen-more c d rs new one command r end alone plain added is =
     ∙ ap (λ (ks : List Kept). told ks (d, r)) (sym (ap logged_in added ∙ logged-more rs one plain))
 
 -- what a merge gave, of stores that no log gave or did
-pub seen-merged : (c : Holdings) (rs new : List Resident) (n : ℕ) (kinds : List ℕ) (end : Option ℕ)
+pub seen-merged : (c : Holdings) (rs new : List Resident) (n : ℕ) (kinds : List ℕ) (end : Option LogPlace)
     → logged_in new ≡ logged_in rs → kinds ≡ kinds_by (logged_under n (logged_in rs)) (version_of c n)
     → accepted (apart (seen c rs end)) (order.Merged n) ≡ (apart (seen c new end), merged n kinds)
 seen-merged c rs new n kinds end same is =

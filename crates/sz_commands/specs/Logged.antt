@@ -19,72 +19,84 @@ use Rattle.sz_writing.specs.Orders.{array_order}
 use Rattle.sz_catalogue.specs.Holdings.{Holdings}
 use Rattle.sz_catalogue.specs.Rules.{judged, version_of}
 use Rattle.sz_catalogue.specs.Refreshes.{base_at, array_refreshed}
-use Rattle.sz_recover.specs.Logs.{Kept, IsWellMade, IsMade, is_of_kind}
+use Rattle.sz_recover.specs.Logs.{Kept, IsWellMade, IsMade, is_of_kind, version_kind}
 use Rattle.sz_recover.specs.Growing.{durable}
 use Rattle.sz_recover.specs.Soundness.{AreSoundKept}
-use Rattle.sz_commands.specs.States.{SessionState}
+use Rattle.sz_commands.specs.States.{SessionState, LogPlace}
 use Rattle.sz_commands.specs.Transcript.{after_lines}
 use Rattle.sz_commands.specs.Stops.{StopsFinding}
 use Rattle.sz_commands.specs.Lines.{is_blank}
 use Rattle.sz_versions.specs.Bodies.{IsSoundBody}
+use Rattle.sz_recover.specs.declared.opening.Recovered.{Recovered}
+use Rattle.sz_commands.specs.declared.open_log.OpenLog.{OpenLog}
 use Rattle.sz_commands.specs.declared.logging.Lasting.{Lasting}
 use Rattle.sz_commands.specs.declared.logging.Lasting.TheVariants as lasting
 
 -- ---- the log that stands beside a session
 
--- The disk is a well-made log whose first closed gate stands at a place, and which holds what is
--- durable of what is held; and no write is pending.
-pub record IsLogOf {X : Type 0} (T : Ghosts X) (c : Holdings) (at : ℕ) (x : X) : Type 0 where
-  pub kept : List Kept
-  pub made : IsMade (T.disk x) at (durable c) kept
-  pub synced : Only (T.disk x) (T.may_leave x)
+-- the place of a log that is gone on from, and of one that was opened
+abbrev pub place_of : OpenLog → LogPlace
+place_of log = record { gate = log.end.at; format = log.format }
+
+abbrev pub end_of : Recovered → LogPlace
+end_of log = record { gate = log.end.at; format = log.format }
+
+-- The disk is a well-made log of a format, whose first closed gate stands at a place, and which
+-- holds what is durable of what is held; and no write is pending.
+pub record IsLogOf {X : Type 0} (T : Ghosts X) (c : Holdings) (at : LogPlace) (x : X) : Type 0
+  where
+    pub kept : List Kept
+    pub made : IsMade (T.disk x) at.gate at.format (durable c) kept
+    pub synced : Only (T.disk x) (T.may_leave x)
 
 -- of a session of a log, the station has it
-abbrev pub HasLog : {X : Type 0} → Ghosts X → Holdings → Option ℕ → X → Type 0
+abbrev pub HasLog : {X : Type 0} → Ghosts X → Holdings → Option LogPlace → X → Type 0
 HasLog T c None x = ⊤
 HasLog T c (Some at) x = IsLogOf T c at x
 
 -- ---- how it grows
 
--- The disk is a well-made log up to a place, which holds what is durable of d. It keeps the stores
--- that were kept when c was held, with more behind them; and where all of those stand for the
--- relation, all of these do.
-pub record Grown (c : Holdings) (kept : List Kept) (disk : List ℕ) (at : ℕ) (d : Holdings) : Type 0
-  where
-    pub more : List Kept
-    pub made : IsWellMade disk at (durable d) (kept ++ more)
-    pub sound : AreSoundKept (durable c) kept → AreSoundKept (durable d) (kept ++ more)
+-- The disk is a well-made log of a format up to a place, which holds what is durable of d. It keeps
+-- the stores that were kept when c was held, with more behind them; and where all of those stand
+-- for the relation, all of these do.
+pub record Grown (c : Holdings) (kept : List Kept) (disk : List ℕ) (at : LogPlace) (d : Holdings)
+    : Type 0 where
+  pub more : List Kept
+  pub made : IsWellMade disk at.gate at.format (durable d) (kept ++ more)
+  pub sound : AreSoundKept (durable c) kept → AreSoundKept (durable d) (kept ++ more)
 
 -- so it is, whatever the log of c kept
-abbrev pub GrowsTo : List ℕ → ℕ → Holdings → List ℕ → ℕ → Holdings → Type 0
-GrowsTo disk at c new next d = (kept : List Kept) → IsWellMade disk at (durable c) kept
+abbrev pub GrowsTo : List ℕ → LogPlace → Holdings → List ℕ → LogPlace → Holdings → Type 0
+GrowsTo disk at c new next d = (kept : List Kept)
+    → IsWellMade disk at.gate at.format (durable c) kept
     → Grown c kept new next d
 
 -- The log of a disk grew to one of what is held after; a disk that is not told stays so.
-abbrev pub Grows : Option (List ℕ) → ℕ → Holdings → Option (List ℕ) → ℕ → Holdings → Type 0
+abbrev pub Grows : Option (List ℕ) → LogPlace → Holdings → Option (List ℕ) → LogPlace → Holdings
+    → Type 0
 Grows None at c new next d = new ≡ None
 Grows (Some disk) at c new next d =
     (image : List ℕ) × (new ≡ Some image) × GrowsTo disk at c image next d
 
 -- What a stop leaves of the log of c: a log of what is durable of c, or of d.
 abbrev pub IsLeft : Holdings → List Kept → List ℕ → Holdings → Type 0
-IsLeft c kept image d = (at : ℕ) × Grown c kept image at d
+IsLeft c kept image d = (at : LogPlace) × Grown c kept image at d
 
-abbrev pub LeavesLog : ℕ → Holdings → Holdings → List ℕ → List ℕ → Type 0
-LeavesLog at c d old image = (kept : List Kept) → IsWellMade old at (durable c) kept
+abbrev pub LeavesLog : LogPlace → Holdings → Holdings → List ℕ → List ℕ → Type 0
+LeavesLog at c d old image = (kept : List Kept) → IsWellMade old at.gate at.format (durable c) kept
     → IsLeft c kept image c ⊎ IsLeft c kept image d
 
 -- ---- what a call does to it
 
 -- The log grew, no write is pending, and it ends at this place.
-pub record GoesOn {X : Type 0} (T : Ghosts X) (c : Holdings) (at : ℕ) (d : Holdings) (next : ℕ)
-    (old new : X) : Type 0 where
+pub record GoesOn {X : Type 0} (T : Ghosts X) (c : Holdings) (at : LogPlace) (d : Holdings)
+    (next : LogPlace) (old new : X) : Type 0 where
   pub grows : Grows (T.disk old) at c (T.disk new) next d
   pub synced : Only (T.disk new) (T.may_leave new)
 
 -- The same of a session before and after, by where its log ends; one of no log leaves the station.
-abbrev pub KeepsLog : {X : Type 0} → Ghosts X → Holdings → Option ℕ → Holdings → Option ℕ → X → X
-    → Type 0
+abbrev pub KeepsLog : {X : Type 0} → Ghosts X → Holdings → Option LogPlace → Holdings
+    → Option LogPlace → X → X → Type 0
 KeepsLog T c None d None old new = new ≡ old
 KeepsLog T c None d (Some next) old new = ⊥
 KeepsLog T c (Some at) d None old new = ⊥
@@ -92,7 +104,8 @@ KeepsLog T c (Some at) d (Some next) old new = GoesOn T c at d next old new
 
 -- At every moment of the call a stop leaves a log of what is durable of c or of d, and what was
 -- said before; a session of no log leaves the station.
-abbrev pub StopsInLog : {X : Type 0} → Ghosts X → Holdings → Option ℕ → Holdings → X → X → Type 0
+abbrev pub StopsInLog : {X : Type 0} → Ghosts X → Holdings → Option LogPlace → Holdings → X → X
+    → Type 0
 StopsInLog T c None d old new = new ≡ old
 StopsInLog T c (Some at) d old new =
     StopsFinding T (LeavesLog at c d) (Said (T.said old)) old new
@@ -102,8 +115,8 @@ StopsInLog T c (Some at) d old new =
 -- All that is held of a log that was opened is durable: its versions were awaited. So the log
 -- stands beside the session of what it held.
 abbrev pub OpenedLogsStand : Type 0
-OpenedLogsStand = (disk : Option (List ℕ)) (at : ℕ) (c : Holdings) (kept : List Kept)
-    → IsMade disk at c kept → IsMade disk at (durable c) kept
+OpenedLogsStand = (disk : Option (List ℕ)) (at : LogPlace) (c : Holdings) (kept : List Kept)
+    → IsMade disk at.gate at.format c kept → IsMade disk at.gate at.format (durable c) kept
 
 -- ---- lines
 
@@ -162,9 +175,10 @@ makes_durable c line = if is_blank line then false else makes_read c (reading li
 abbrev pub IsLineGroup : Command → List ℕ → LogGroup → Type 0
 IsLineGroup order line e = (is_of_kind e.kind order ≡ true) × (e.body ≡ line)
 
--- The group is the body of a version, with stores that stand for the relation.
-abbrev pub IsVersionGroup : Holdings → ℕ → LogGroup → Type 0
-IsVersionGroup c n e = (e.kind ≡ 4) × IsSoundBody n (version_of c n) e.body
+-- The group is the body of a version in a log's format, with stores that stand for the relation.
+abbrev pub IsVersionGroup : Holdings → ℕ → ℕ → LogGroup → Type 0
+IsVersionGroup c n format e =
+    (e.kind ≡ version_kind format) × IsSoundBody format n (version_of c n) e.body
 
 -- The group is a line that holds the array which a refresh makes, under the name of the input in
 -- whose place it comes: it is read as the command to hold it, and was no line of the session.
@@ -173,21 +187,26 @@ pub record IsArrayGroup (c : Holdings) (n i : ℕ) (set : List NewCell) (e : Log
   pub reads : reading e.body ≡ Ok (array_order (base_at (version_of c n) i).name
       (array_refreshed (version_of c n) i set))
 
--- The group is what the command of a line makes durable: of an await the body of its version, of a
--- refresh the line of its array, and of any other the line.
-abbrev pub IsGroupFor : Holdings → List ℕ → Command → LogGroup → Type 0
-IsGroupFor c line (command.Await n) e = IsVersionGroup c n e
-IsGroupFor c line (command.Refresh n i set) e = IsArrayGroup c n i set e
-IsGroupFor c line order e = IsLineGroup order line e
+-- The group is what the command of a line makes durable in a log of a format: of an await the body
+-- of its version, of a refresh the line of its array, and of any other the line.
+abbrev pub IsGroupFor : Holdings → List ℕ → Command → ℕ → LogGroup → Type 0
+IsGroupFor c line (command.Await n) format e = IsVersionGroup c n format e
+IsGroupFor c line (command.Refresh n i set) format e = IsArrayGroup c n i set e
+IsGroupFor c line order format e = IsLineGroup order line e
 
-abbrev pub IsGroupOf : Holdings → List ℕ → Result Command Refusal → LogGroup → Type 0
-IsGroupOf c line (Err rule) e = ⊥
-IsGroupOf c line (Ok order) e = IsGroupFor c line order e
+abbrev pub IsGroupOf : Holdings → List ℕ → Result Command Refusal → ℕ → LogGroup → Type 0
+IsGroupOf c line (Err rule) format e = ⊥
+IsGroupOf c line (Ok order) format e = IsGroupFor c line order format e
 
--- One such group was added to the log of a session, where that ended, and the log ends behind it.
-abbrev pub Appends : {X : Type 0} → Ghosts X → (LogGroup → Type 0) → Option ℕ → Option ℕ → X → X
-    → Type 0
+-- where a log ends behind a group more, whose format stays
+abbrev pub end_behind : LogPlace → LogGroup → LogPlace
+end_behind at e = record at { gate = place_behind at.gate e }
+
+-- One such group, in the log's format, was added to the log of a session, where that ended, and the
+-- log ends behind it.
+abbrev pub Appends : {X : Type 0} → Ghosts X → (ℕ → LogGroup → Type 0) → Option LogPlace
+    → Option LogPlace → X → X → Type 0
 Appends T IsSuch None next old new = ⊤
-Appends T IsSuch (Some at) next old new = (e : LogGroup) × IsSuch e
-    × Added (T.disk old) (T.disk new) at e
-    × Told (T.disk old) (next ≡ Some (place_behind at e))
+Appends T IsSuch (Some at) next old new = (e : LogGroup) × IsSuch at.format e
+    × Added (T.disk old) (T.disk new) at.gate e
+    × Told (T.disk old) (next ≡ Some (end_behind at e))

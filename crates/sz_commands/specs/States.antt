@@ -24,14 +24,19 @@ use Rattle.sz_versions.specs.Recalled.{cells_recalled}
 use Rattle.sz_versions.specs.Merging.{kinds_by}
 use Rattle.sz_versions.specs.Residents.{Stored, logged_under}
 
+-- where the first closed gate of a log stands, and the log's format
+pub record LogPlace : Type 0 where
+  pub gate : ℕ
+  pub format : ℕ
+
 -- the catalogue; the stores of the versions that the log gave; of each version, by its number, what
 -- stands of what is kept of its nodes: all but the passes of shelves; and, of a session of a log,
--- where the log's first closed gate stands
+-- where that ends and its format
 pub record SessionState : Type 0 where
   pub held : Holdings
   pub logged : List Kept
   pub stored : List (ℕ × List Stored)
-  pub end : Option ℕ
+  pub end : Option LogPlace
 
 -- what a session of no log holds
 abbrev pub state_of : Holdings → SessionState
@@ -41,7 +46,8 @@ state_of c = record { held = c; logged = []; stored = []; end = None }
 abbrev pub nothing_held : SessionState
 nothing_held = state_of no_holdings
 
--- the same but for what is kept of nodes, and where the log ends: of neither does a reply speak
+-- the same but for what is kept of nodes, and the log's end and format: of neither does a reply
+-- speak
 abbrev pub apart : SessionState → SessionState
 apart s = record s { stored = []; end = None }
 

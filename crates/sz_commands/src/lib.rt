@@ -46,6 +46,7 @@ mod asking;
 mod blank;
 mod logging;
 mod merging;
+mod open_log;
 mod refreshing;
 mod session;
 

@@ -28,15 +28,17 @@ ghost use Rattle.sz_commands.specs.Faults.{CountsTell};
 ghost use Rattle.sz_commands.specs.Logged.{IsLogOf, HasLog, KeepsLog, StopsInLog, held_after};
 ghost use Rattle.sz_commands.specs.Logged.{IsLasting, Appends, IsGroupOf, IsGroupFor, IsLineGroup};
 ghost use Rattle.sz_commands.specs.Logged.{IsVersionGroup, IsArrayGroup, is_refresh};
-ghost use Rattle.sz_commands.specs.Logged.{makes, makes_judged, makes_durable};
+ghost use Rattle.sz_commands.specs.Logged.{makes, makes_judged, makes_durable, place_of};
 
+use crate::open_log::OpenLog;
 use crate::session::{Given, Session, Stop};
 use std::sync::Wait;
 use std::thread::Threads;
 use sz_catalogue::Reply;
 use sz_cells::NoMemory;
-use sz_log::{LogEnd, append};
+use sz_log::append;
 use sz_outside::{Gate, Station};
+use sz_recover::version_kind;
 use sz_script::{Command, NewCells};
 use sz_spec::{Array, Tally};
 use sz_versions::body_for;
@@ -185,13 +187,13 @@ impl Session {
             → Appends T.Station (IsGroupFor self.old.held line.now command)
             self.old.end self.new.end station.old station.new) }
     {
-        let Some(end) = self.end else {
+        let Some(log) = self.end else {
             return Ok(self.obey(rt, command, number, gate, tally)?);
         };
         match what_lasts(&command) {
-            Lasting::Line(kind) => self.add_line(command, kind, line, end, station),
-            Lasting::Array => self.add_array(rt, command, end, station, tally),
-            Lasting::Version(version) => self.add_version(rt, version, end, station),
+            Lasting::Line(kind) => self.add_line(command, kind, line, log, station),
+            Lasting::Array => self.add_array(rt, command, log, station, tally),
+            Lasting::Version(version) => self.add_version(rt, version, log, station),
             Lasting::Nothing => Ok(self.obey(rt, command, number, gate, tally)?),
         }
     }
@@ -202,15 +204,15 @@ impl Session {
         command: Command,
         kind: u8,
         line: &[u8],
-        end: LogEnd,
+        log: OpenLog,
         station: &mut T,
     ) -> Result<Reply, Stop>
         requires reads { reading line.now ≡ Ok command }
         requires kind { is_of_kind kind command ≡ true }
         requires right { is_right command ≡ true }
         requires judged { judged self.old.held command ≡ None }
-        requires end { self.old.end ≡ Some end.at }
-        requires log { IsLogOf T.Station self.old.held end.at station.old }
+        requires end { self.old.end ≡ Some (place_of log) }
+        requires log { IsLogOf T.Station self.old.held (place_of log) station.old }
         ensures reply { IfOk result
             (λ r. accepted (apart self.old) command ≡ (apart self.new, response_of r)) }
         ensures stored { OnOk result (StoredBy self.old command self.new) }
@@ -222,12 +224,15 @@ impl Session {
         ensures counted { CountsTell T.Station result station.old station.new }
         ensures kept { result ≡ Err Stop.NoMemory
             → (self.new ≡ self.old) × (station.new ≡ station.old) }
-        ensures appends { OnOk result (Appends T.Station (IsLineGroup command line.now)
+        ensures appends { OnOk result (Appends T.Station (λ _. IsLineGroup command line.now)
             self.old.end self.new.end station.old station.new) }
     {
         let reply = self.accept(command)?;
-        let next = append(station, end, kind, line)?;
-        self.end = Some(next);
+        let next = append(station, log.end, kind, line)?;
+        self.end = Some(OpenLog {
+            end: next,
+            format: log.format,
+        });
         Ok(reply)
     }
 
@@ -236,15 +241,15 @@ impl Session {
         &mut self,
         rt: &R,
         command: Command,
-        end: LogEnd,
+        log: OpenLog,
         station: &mut T,
         tally: &mut Tally,
     ) -> Result<Reply, Stop>
         requires kind { is_refresh command ≡ true }
         requires judged { judged self.old.held command ≡ None }
         requires room { tally.old + 32 * 1048576 < 2 ^ 63 }
-        requires end { self.old.end ≡ Some end.at }
-        requires log { IsLogOf T.Station self.old.held end.at station.old }
+        requires end { self.old.end ≡ Some (place_of log) }
+        requires log { IsLogOf T.Station self.old.held (place_of log) station.old }
         ensures reply { IfOk result
             (λ r. accepted (apart self.old) command ≡ (apart self.new, response_of r)) }
         ensures stored { OnOk result (StoredBy self.old command self.new) }
@@ -270,7 +275,7 @@ impl Session {
         else {
             unreachable!()
         };
-        self.add_refreshed(rt, version, input, &set, end, station, tally)
+        self.add_refreshed(rt, version, input, &set, log, station, tally)
     }
 
     /// Takes a refresh of a version's input, and appends the line of the array that it makes: that
@@ -281,14 +286,14 @@ impl Session {
         version: u32,
         input: u32,
         set: &NewCells,
-        end: LogEnd,
+        log: OpenLog,
         station: &mut T,
         tally: &mut Tally,
     ) -> Result<Reply, Stop>
         requires judged { judged self.old.held (order.Refresh version input set.now) ≡ None }
         requires room { tally.old + 32 * 1048576 < 2 ^ 63 }
-        requires end { self.old.end ≡ Some end.at }
-        requires log { IsLogOf T.Station self.old.held end.at station.old }
+        requires end { self.old.end ≡ Some (place_of log) }
+        requires log { IsLogOf T.Station self.old.held (place_of log) station.old }
         ensures reply { IfOk result (λ r. accepted (apart self.old)
             (order.Refresh version input set.now) ≡ (apart self.new, response_of r)) }
         ensures stored { OnOk result
@@ -305,14 +310,17 @@ impl Session {
         ensures kept { result ≡ Err Stop.NoMemory
             → (self.new ≡ self.old) × (station.new ≡ station.old) }
         ensures appends { OnOk result (Appends T.Station
-            (IsArrayGroup self.old.held version input set.now) self.old.end self.new.end
+            (λ _. IsArrayGroup self.old.held version input set.now) self.old.end self.new.end
             station.old station.new) }
     {
         let made = self.refreshed(rt, version, input, set, tally)?;
         let line = self.line_for(version, input, &made.array)?;
         let reply = self.hold_refreshed(version, input, set, made)?;
-        let next = append(station, end, 1, &line)?;
-        self.end = Some(next);
+        let next = append(station, log.end, 1, &line)?;
+        self.end = Some(OpenLog {
+            end: next,
+            format: log.format,
+        });
         Ok(reply)
     }
 
@@ -337,12 +345,12 @@ impl Session {
         &mut self,
         rt: &R,
         version: u32,
-        end: LogEnd,
+        log: OpenLog,
         station: &mut T,
     ) -> Result<Reply, Stop>
         requires judged { judged self.old.held (order.Await version) ≡ None }
-        requires end { self.old.end ≡ Some end.at }
-        requires log { IsLogOf T.Station self.old.held end.at station.old }
+        requires end { self.old.end ≡ Some (place_of log) }
+        requires log { IsLogOf T.Station self.old.held (place_of log) station.old }
         ensures reply { IfOk result (λ r. accepted (apart self.old) (order.Await version)
             ≡ (apart self.new, response_of r)) }
         ensures stored { OnOk result (FinishesEntry (version_of self.old.held version).awaited
@@ -368,9 +376,12 @@ impl Session {
         }
         let run = self.whole_run(rt, version)?;
         self.catalogue.is_in_order();
-        let body = body_for(self.alloc, &self.catalogue, version, &run)?;
-        let next = append(station, end, 4, &body)?;
-        self.end = Some(next);
+        let body = body_for(self.alloc, &self.catalogue, version, &run, log.format)?;
+        let next = append(station, log.end, version_kind(log.format), &body)?;
+        self.end = Some(OpenLog {
+            end: next,
+            format: log.format,
+        });
         Ok(self.note_await(version, run))
     }
 }

@@ -23,7 +23,7 @@ ghost use Rattle.sz_commands.specs.States.{nothing_held};
 ghost use Rattle.sz_commands.specs.Carrying.{AreGiven, AddsEntry, IsFinishedIn, FinishesEntry};
 ghost use Rattle.sz_commands.specs.Carrying.{StoredBy, StoredBehind};
 ghost use Rattle.sz_commands.specs.Logged.{HasLog, KeepsLog, StopsInLog, held_after, makes_durable};
-ghost use Rattle.sz_commands.specs.Logged.{Appends, IsGroupOf};
+ghost use Rattle.sz_commands.specs.Logged.{Appends, IsGroupOf, end_of};
 ghost use Rattle.sz_script.specs.Reading.{reading};
 ghost use Rattle.sz_commands.specs.Faults.{CountsTell};
 ghost use Rattle.sz_commands.specs.Inquiries.{IsInquiryOf};
@@ -35,6 +35,7 @@ ghost use Rattle.sz_commands.specs.declared.session.Given.TheVariants as given;
 
 use crate::asking::{AskLine, Asked, Askers, work_out};
 use crate::blank::is_blank;
+use crate::open_log::OpenLog;
 use std::alloc::Global;
 use std::marker::Model;
 use std::sync::{Arc, Wait};
@@ -42,7 +43,6 @@ use std::thread::Threads;
 use sz_catalogue::{Catalogue, Reply};
 use sz_cells::NoMemory;
 use sz_flow::NodeRun;
-use sz_log::LogEnd;
 use sz_merge::{MergeTask, merge_tasks, one_more_merger};
 use sz_outside::{Failed, Gate, Station};
 use sz_pool::{Receiver, Sender, Task, one_more, tasks};
@@ -55,13 +55,13 @@ use sz_spec::{Dir, Strategy, Tally};
 use sz_versions::{Hands, HeldRuns, Inquiry, VersionRun, run_version};
 
 /// A session: what is held; the runs of the nodes of each version, with what is kept of them; where
-/// the log ends, where it has one; the channels through which tasks go to workers, and stores to be
-/// merged to whoever attends to them; and bitmaps for the asks to come.
+/// the log ends and its format, where it has one; the channels through which tasks go to workers,
+/// and stores to be merged to whoever attends to them; and bitmaps for the asks to come.
 #[derive(Drop)]
 pub struct Session {
     pub(crate) catalogue: Catalogue,
     pub(crate) runs: HeldRuns,
-    pub(crate) end: Option<LogEnd>,
+    pub(crate) end: Option<OpenLog>,
     pub(crate) alloc: Global,
     pub(crate) hands: Hands,
     tasks: Receiver<Task>,
@@ -74,6 +74,7 @@ pub struct Session {
 impl Model for Session {
     ghost use Rattle.std.specs.Prelude.{option_map};
     ghost use Rattle.sz_commands.specs.States.{SessionState};
+    ghost use Rattle.sz_commands.specs.Logged.{place_of};
     ghost use Rattle.sz_versions.specs.Residents.{IsInService, logged_in, stored_in};
 
     ghost Value = { SessionState };
@@ -82,7 +83,7 @@ impl Model for Session {
       held = s.catalogue;
       logged = logged_in s.runs;
       stored = stored_in s.runs;
-      end = option_map (λ e. e.at) s.end;
+      end = option_map place_of s.end;
     } };
 
     ghost invariant = { λ s. IsInService s.catalogue s.runs };
@@ -172,15 +173,17 @@ impl Session {
           held = recovered.catalogue;
           logged = recovered.stores.items;
           stored = s.stored;
-          end = Some recovered.end.at;
+          end = Some (end_of recovered);
         }) }
         ensures given { IfOk result (λ s. AreGiven s.stored) }
     {
         let Recovered {
+            format,
             catalogue,
             end,
             stores,
         } = recovered;
+        let log = OpenLog { end, format };
         catalogue.is_in_order();
         let runs = HeldRuns::recalled(rt, alloc, &catalogue, stores)?;
         let (to, tasks) = tasks(alloc)?;
@@ -188,7 +191,7 @@ impl Session {
         Ok(Session {
             catalogue,
             runs,
-            end: Some(end),
+            end: Some(log),
             alloc,
             hands: Hands::of(to, workers),
             tasks,

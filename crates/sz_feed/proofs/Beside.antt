@@ -12,7 +12,7 @@ use Rattle.sz_outside.specs.declared.stations.Station.{Ghosts}
 use Rattle.sz_script.specs.Reading.{reading}
 use Rattle.sz_catalogue.specs.Holdings.{Holdings}
 use Rattle.sz_commands.specs.Lines.{Cut, is_blank, last_line}
-use Rattle.sz_commands.specs.States.{SessionState, apart}
+use Rattle.sz_commands.specs.States.{SessionState, LogPlace, apart}
 use Rattle.sz_commands.specs.Transcript.{replies_to, after_lines}
 use Rattle.sz_feed.specs.Moments.{Moment, cut_after, moment_after}
 use Rattle.sz_feed.specs.Serving.{Advances, line_to_say}
@@ -42,7 +42,7 @@ abbrev CountsNow : {X : Type 0} → Ghosts X → X → Type 0
 CountsNow T a = (t : ℕ) (image found : List ℕ) → Told (T.disk a)
     (t ≤ T.moment a → T.may_leave a image → Said (T.said a) found → T.left_since a t image found)
 
-beside-none : {X : Type 0} (T : Ghosts X) (c d : Holdings) (e f : Option ℕ) (a b : X) → e ≡ None → f ≡ None
+beside-none : {X : Type 0} (T : Ghosts X) (c d : Holdings) (e f : Option LogPlace) (a b : X) → e ≡ None → f ≡ None
     → GoesBeside T c e d f a b
 beside-none {X} T c d None None a b plain none = tt
 beside-none {X} T c d None (Some at) a b plain none = cc
@@ -53,7 +53,7 @@ pub stays-none : {X : Type 0} (T : Ghosts X) (m n : Moment) (a b : X) → m.end 
     → StaysBeside T m n a b
 stays-none {X} T m n a b plain none = beside-none T m.held.held n.held.held m.end n.end a b plain none
 
-beside-again : {X : Type 0} (T : Ghosts X) (c d : Holdings) (e f : Option ℕ) (a b : X) → HasLog T c e a
+beside-again : {X : Type 0} (T : Ghosts X) (c d : Holdings) (e f : Option LogPlace) (a b : X) → HasLog T c e a
     → GoesBeside T c e d f a b → HasLog T d f b
 beside-again {X} T c d None None a b log goes = tt
 beside-again {X} T c d None (Some n) a b log goes = absurd goes
@@ -68,11 +68,12 @@ is-again {X} T m n a b log goes = beside-again T m.held.held n.held.held m.end n
 -- a session of no log has none
 pub is-none : {X : Type 0} (T : Ghosts X) (m : Moment) (a : X) → m.end ≡ None → IsBeside T m a
 is-none {X} T m a plain = none m.end plain where
-  none : (e : Option ℕ) → e ≡ None → HasLog T m.held.held e a
+  none : (e : Option LogPlace) → e ≡ None → HasLog T m.held.held e a
   none None is = tt
   none (Some at) is = cc
 
-beside-then : {X : Type 0} (T : Ghosts X) (c d h : Holdings) (e f g : Option ℕ) (a b x : X) → GoesBeside T c e d f a b
+beside-then : {X : Type 0} (T : Ghosts X) (c d h : Holdings) (e f g : Option LogPlace) (a b x : X)
+    → GoesBeside T c e d f a b
     → GoesBeside T d f h g b x → GoesBeside T c e h g a x
 beside-then {X} T c d h None None None a b x one two = tt
 beside-then {X} T c d h None None (Some k) a b x one two = two
@@ -87,7 +88,7 @@ pub stays-then : {X : Type 0} (T : Ghosts X) (l m n : Moment) (a b c : X) → St
 stays-then {X} T l m n a b c one two =
     beside-then T l.held.held m.held.held n.held.held l.end m.end n.end a b c one two
 
-beside-still : {X : Type 0} (T : Ghosts X) (c : Holdings) (e : Option ℕ) (a : X) → HasLog T c e a
+beside-still : {X : Type 0} (T : Ghosts X) (c : Holdings) (e : Option LogPlace) (a : X) → HasLog T c e a
     → GoesBeside T c e c e a a
 beside-still {X} T c None a log = tt
 beside-still {X} T c (Some at) a log = goes-still T c at a log
@@ -97,10 +98,10 @@ pub stays-same : {X : Type 0} (T : Ghosts X) (m n : Moment) (a : X) → m.held.h
     → IsBeside T m a → StaysBeside T m n a a
 stays-same {X} T m n a held end log =
     let P : Holdings → Type 0 = λ c. GoesBeside T m.held.held m.end c m.end a a in
-    let Q : Option ℕ → Type 0 = λ e. GoesBeside T m.held.held m.end n.held.held e a a in
+    let Q : Option LogPlace → Type 0 = λ e. GoesBeside T m.held.held m.end n.held.held e a a in
     subst Q end (subst P held (beside-still T m.held.held m.end a log))
 
-beside-kept : {X : Type 0} (T : Ghosts X) (c d : Holdings) (e f : Option ℕ) (bytes : List ℕ) (a b x : X)
+beside-kept : {X : Type 0} (T : Ghosts X) (c d : Holdings) (e f : Option LogPlace) (bytes : List ℕ) (a b x : X)
     → KeepsLog T c e d f a b → OnlySays T bytes b x → GoesBeside T c e d f a x
 beside-kept {X} T c d None None bytes a b x keeps says = tt
 beside-kept {X} T c d None (Some n) bytes a b x keeps says = absurd keeps
@@ -117,19 +118,19 @@ stays-kept {X} T m z bytes a b x keeps says =
 pub none-stays : {X : Type 0} (T : Ghosts X) (m n : Moment) (a b : X) → StaysBeside T m n a b → m.end ≡ None
     → n.end ≡ None
 none-stays {X} T m n a b goes plain = stays m.end n.end goes plain where
-  stays : (e f : Option ℕ) → GoesBeside T m.held.held e n.held.held f a b → e ≡ None → f ≡ None
+  stays : (e f : Option LogPlace) → GoesBeside T m.held.held e n.held.held f a b → e ≡ None → f ≡ None
   stays None None goes is = refl
   stays None (Some k) goes is = absurd goes
   stays (Some at) f goes is = cc
 
 -- such a session leaves the station where a line is taken
-pub kept-none : {X : Type 0} (T : Ghosts X) (c d : Holdings) (e f : Option ℕ) (a b : X) → KeepsLog T c e d f a b
+pub kept-none : {X : Type 0} (T : Ghosts X) (c d : Holdings) (e f : Option LogPlace) (a b : X) → KeepsLog T c e d f a b
     → e ≡ None → b ≡ a
 kept-none {X} T c d None None a b keeps is = keeps
 kept-none {X} T c d None (Some k) a b keeps is = absurd keeps
 kept-none {X} T c d (Some at) f a b keeps is = cc
 
-pub stops-none : {X : Type 0} (T : Ghosts X) (c d : Holdings) (e : Option ℕ) (a b : X) → StopsInLog T c e d a b
+pub stops-none : {X : Type 0} (T : Ghosts X) (c d : Holdings) (e : Option LogPlace) (a b : X) → StopsInLog T c e d a b
     → e ≡ None → b ≡ a
 stops-none {X} T c d None a b stops is = stops
 stops-none {X} T c d (Some at) a b stops is = cc
@@ -138,7 +139,7 @@ stops-none {X} T c d (Some at) a b stops is = cc
 pub is-idle : {X : Type 0} (T : Ghosts X) (m : Moment) (Idle : Type 0) (a b : X) → IsBeside T m a
     → IfSome m.end (λ at. Idle) → (Idle → b ≡ a) → IsBeside T m b
 is-idle {X} T m Idle a b log idle same = idle_log m.end log idle where
-  idle_log : (e : Option ℕ) → HasLog T m.held.held e a → IfSome e (λ at. Idle) → HasLog T m.held.held e b
+  idle_log : (e : Option LogPlace) → HasLog T m.held.held e a → IfSome e (λ at. Idle) → HasLog T m.held.held e b
   idle_log None log idle = tt
   idle_log (Some at) log idle = subst (λ (x : X). IsLogOf T m.held.held at x) (sym (same idle)) log
 
@@ -146,19 +147,19 @@ is-idle {X} T m Idle a b log idle same = idle_log m.end log idle where
 pub is-moved : {X : Type 0} (T : Ghosts X) (m k : Moment) (a : X) → k.held ≡ m.held → k.end ≡ m.end → IsBeside T m a
     → IsBeside T k a
 is-moved {X} T m k a held end log =
-    subst (λ (e : Option ℕ). HasLog T k.held.held e a) (sym end)
+    subst (λ (e : Option LogPlace). HasLog T k.held.held e a) (sym end)
     (subst (λ (s : SessionState). HasLog T s.held m.end a) (sym held) log)
 
 pub stays-from : {X : Type 0} (T : Ghosts X) (m k n : Moment) (a b : X) → k.held ≡ m.held → k.end ≡ m.end
     → StaysBeside T k n a b → StaysBeside T m n a b
 stays-from {X} T m k n a b held end goes =
-    subst (λ (e : Option ℕ). GoesBeside T m.held.held e n.held.held n.end a b) end
+    subst (λ (e : Option LogPlace). GoesBeside T m.held.held e n.held.held n.end a b) end
     (subst (λ (s : SessionState). GoesBeside T s.held k.end n.held.held n.end a b) held goes)
 
 pub stays-to : {X : Type 0} (T : Ghosts X) (m n k : Moment) (a b : X) → k.held ≡ n.held → k.end ≡ n.end
     → StaysBeside T m n a b → StaysBeside T m k a b
 stays-to {X} T m n k a b held end goes =
-    subst (λ (e : Option ℕ). GoesBeside T m.held.held m.end k.held.held e a b) (sym end)
+    subst (λ (e : Option LogPlace). GoesBeside T m.held.held m.end k.held.held e a b) (sym end)
     (subst (λ (s : SessionState). GoesBeside T m.held.held m.end s.held n.end a b) (sym held) goes)
 
 -- what holds is claimed of any value
@@ -166,20 +167,20 @@ pub some-always : {A : Type 0} (o : Option A) (P : Type 0) → P → IfSome o (�
 some-always {A} None P p = tt
 some-always {A} (Some a) P p = p
 
-pub idle-moved : (e f : Option ℕ) (P : Type 0) → f ≡ e → IfSome e (λ at. P) → IfSome f (λ at. P)
-idle-moved e f P same idle = subst (λ (o : Option ℕ). IfSome o (λ at. P)) (sym same) idle
+pub idle-moved : (e f : Option LogPlace) (P : Type 0) → f ≡ e → IfSome e (λ at. P) → IfSome f (λ at. P)
+idle-moved e f P same idle = subst (λ (o : Option LogPlace). IfSome o (λ at. P)) (sym same) idle
 
 -- ---- what is found
 
 -- of a session of no log nothing is claimed
-pub some-none : (e : Option ℕ) (P : ℕ → Type 0) → e ≡ None → IfSome e P
+pub some-none : (e : Option LogPlace) (P : LogPlace → Type 0) → e ≡ None → IfSome e P
 some-none None P is = tt
 some-none (Some at) P is = cc
 
 pub in-none : {X : Type 0} (T : Ghosts X) (m : Moment) (bytes : List ℕ) (a b : X) → m.end ≡ None → FindsIn T m bytes a b
 in-none {X} T m bytes a b plain = some-none m.end _ plain
 
-still-in : {X : Type 0} (T : Ghosts X) (s : SessionState) (n : ℕ) (lines : List (List ℕ)) (e : Option ℕ) (a : X)
+still-in : {X : Type 0} (T : Ghosts X) (s : SessionState) (n : ℕ) (lines : List (List ℕ)) (e : Option LogPlace) (a : X)
     → HasLog T s.held e a → OnlyNow T a → CountsNow T a → IfSome e (λ at. FindsLines T at s n lines a a)
 still-in {X} T s n lines None a log only counts = tt
 still-in {X} T s n lines (Some at) a log only counts = finds-still T at s n lines a log only counts
@@ -217,7 +218,7 @@ moment_with s line n = record { held = apart s; pending = line; number = n; end 
 only-line : (s : SessionState) (line : List ℕ) (n : ℕ) → line ∷ [] ≡ (cut_after (moment_with s line n) (10 ∷ [])).whole
 only-line s line n = sym (ap (λ (c : Cut). c.whole) (line-only (moment_with s line n)))
 
-taken-in : {X : Type 0} (T : Ghosts X) (s : SessionState) (line : List ℕ) (n : ℕ) (e : Option ℕ) (a b : X)
+taken-in : {X : Type 0} (T : Ghosts X) (s : SessionState) (line : List ℕ) (n : ℕ) (e : Option LogPlace) (a b : X)
     → HasLog T s.held e a
     → StopsInLog T s.held e (held_after s line) a b
     → IfSome e (λ at. FindsLines T at (apart s) n (cut_after (moment_with s line n) (10 ∷ [])).whole a b)
@@ -239,7 +240,7 @@ in-taken {X} T s line given n m a b is same log stops =
 pub only-pending : (m : Moment) → (cut_after m (10 ∷ [])).whole ≡ m.pending ∷ []
 only-pending m = ap (λ (c : Cut). c.whole) (line-only m)
 
-said-in : {X : Type 0} (T : Ghosts X) (m z : Moment) (e f : Option ℕ) (bytes : List ℕ) (a b x : X)
+said-in : {X : Type 0} (T : Ghosts X) (m z : Moment) (e f : Option LogPlace) (bytes : List ℕ) (a b x : X)
     → IfSome e (λ at. FindsLines T at m.held m.number (cut_after m (10 ∷ [])).whole a b)
     → KeepsLog T m.held.held e z.held.held f a b → z.held.held ≡ (after_lines m.held (m.pending ∷ [])).held
     → bytes ≡ replies_to m.held m.number (m.pending ∷ []) → T.said b ≡ T.said a → OnlySays T bytes b x
@@ -266,7 +267,7 @@ in-said {X} T m z r bytes a b x one keeps replies told same says =
 pub in-idle : {X : Type 0} (T : Ghosts X) (m : Moment) (Idle : Type 0) (bytes : List ℕ) (a b x : X)
     → IfSome m.end (λ at. Idle) → (Idle → b ≡ a) → FindsIn T m bytes b x → FindsIn T m bytes a x
 in-idle {X} T m Idle bytes a b x idle same one = idle_in m.end idle one where
-  idle_in : (e : Option ℕ) → IfSome e (λ at. Idle)
+  idle_in : (e : Option LogPlace) → IfSome e (λ at. Idle)
       → IfSome e (λ at. FindsLines T at m.held m.number (cut_after m bytes).whole b x)
       → IfSome e (λ at. FindsLines T at m.held m.number (cut_after m bytes).whole a x)
   idle_in None idle one = tt
@@ -276,7 +277,7 @@ in-idle {X} T m Idle bytes a b x idle same one = idle_in m.end idle one where
 pub stays-idle : {X : Type 0} (T : Ghosts X) (m n : Moment) (Idle : Type 0) (a b x : X)
     → IfSome m.end (λ at. Idle) → (Idle → b ≡ a) → StaysBeside T m n b x → StaysBeside T m n a x
 stays-idle {X} T m n Idle a b x idle same one = idle_stays m.end n.end idle one where
-  idle_stays : (e f : Option ℕ) → IfSome e (λ at. Idle) → GoesBeside T m.held.held e n.held.held f b x
+  idle_stays : (e f : Option LogPlace) → IfSome e (λ at. Idle) → GoesBeside T m.held.held e n.held.held f b x
       → GoesBeside T m.held.held e n.held.held f a x
   idle_stays None None idle one = tt
   idle_stays None (Some k) idle one = one
@@ -285,7 +286,7 @@ stays-idle {X} T m n Idle a b x idle same one = idle_stays m.end n.end idle one 
 
 -- ---- several calls
 
-then-in : {X : Type 0} (T : Ghosts X) (l m : Moment) (e f : Option ℕ) (xs ys : List ℕ) (a b c : X)
+then-in : {X : Type 0} (T : Ghosts X) (l m : Moment) (e f : Option LogPlace) (xs ys : List ℕ) (a b c : X)
     → IfSome e (λ at. FindsLines T at l.held l.number (cut_after l xs).whole a b)
     → Advances (T.said a) (T.said b) l m xs → GoesBeside T l.held.held e m.held.held f a b
     → IfSome f (λ at. FindsLines T at m.held m.number (cut_after m ys).whole b c)
@@ -309,7 +310,7 @@ in-then {X} T l m xs ys a b c one took goes two = then-in T l m l.end m.end xs y
 pub in-more : {X : Type 0} (T : Ghosts X) (l : Moment) (xs ys : List ℕ) (a b : X) → FindsIn T l xs a b
     → FindsIn T l (xs ++ ys) a b
 in-more {X} T l xs ys a b one = more l.end one where
-  more : (e : Option ℕ) → IfSome e (λ at. FindsLines T at l.held l.number (cut_after l xs).whole a b)
+  more : (e : Option LogPlace) → IfSome e (λ at. FindsLines T at l.held l.number (cut_after l xs).whole a b)
       → IfSome e (λ at. FindsLines T at l.held l.number (cut_after l (xs ++ ys)).whole a b)
   more None one = tt
   more (Some at) one =
@@ -358,7 +359,7 @@ pub in-waits : {X : Type 0} (T : Ghosts X) (l m : Moment) (xs ys : List ℕ) (wa
     → FindsIn T l xs a b → Waits (T.said a) (T.said b) l m xs waiting → IfSome m.end (λ at. waiting ≡ [])
     → StaysBeside T l m a b → FindsIn T m ys b c → FindsIn T l (xs ++ ys) a c
 in-waits {X} T l m xs ys waiting a b c one waits idle goes two = waited l.end m.end one idle goes two where
-  waited : (e f : Option ℕ) → IfSome e (λ at. FindsLines T at l.held l.number (cut_after l xs).whole a b)
+  waited : (e f : Option LogPlace) → IfSome e (λ at. FindsLines T at l.held l.number (cut_after l xs).whole a b)
       → IfSome f (λ at. waiting ≡ []) → GoesBeside T l.held.held e m.held.held f a b
       → IfSome f (λ at. FindsLines T at m.held m.number (cut_after m ys).whole b c)
       → IfSome e (λ at. FindsLines T at l.held l.number (cut_after l (xs ++ ys)).whole a c)
@@ -373,7 +374,7 @@ in-waits {X} T l m xs ys waiting a b c one waits idle goes two = waited l.end m.
 pub in-rest : {X : Type 0} (T : Ghosts X) (l m : Moment) (Idle : Type 0) (xs : List ℕ) (a b c : X) → FindsIn T l xs a b
     → StaysBeside T l m a b → IfSome m.end (λ at. Idle) → (Idle → c ≡ b) → FindsIn T l xs a c
 in-rest {X} T l m Idle xs a b c one goes idle same = rest l.end m.end one goes idle where
-  rest : (e f : Option ℕ) → IfSome e (λ at. FindsLines T at l.held l.number (cut_after l xs).whole a b)
+  rest : (e f : Option LogPlace) → IfSome e (λ at. FindsLines T at l.held l.number (cut_after l xs).whole a b)
       → GoesBeside T l.held.held e m.held.held f a b → IfSome f (λ at. Idle)
       → IfSome e (λ at. FindsLines T at l.held l.number (cut_after l xs).whole a c)
   rest None f one goes idle = tt
@@ -384,7 +385,7 @@ in-rest {X} T l m Idle xs a b c one goes idle same = rest l.end m.end one goes i
 pub stays-rest : {X : Type 0} (T : Ghosts X) (l m : Moment) (Idle : Type 0) (a b c : X) → StaysBeside T l m a b
     → IfSome m.end (λ at. Idle) → (Idle → c ≡ b) → StaysBeside T l m a c
 stays-rest {X} T l m Idle a b c goes idle same = rest l.end m.end goes idle where
-  rest : (e f : Option ℕ) → GoesBeside T l.held.held e m.held.held f a b → IfSome f (λ at. Idle)
+  rest : (e f : Option LogPlace) → GoesBeside T l.held.held e m.held.held f a b → IfSome f (λ at. Idle)
       → GoesBeside T l.held.held e m.held.held f a c
   rest None None goes idle = tt
   rest None (Some next) goes idle = goes

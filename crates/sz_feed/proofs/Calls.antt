@@ -4,7 +4,7 @@
 -- callee told of the same end is told of the caller, once no count rose before it. What a stop finds is told of a
 -- session of no log and of one of a log apart, and put together.
 use Rattle.std.proofs.Common.{◌≡◌, ℕ, ◌+◌, ◌-◌, ◌<◌, ◌≤◌, List, [], ◌∷◌, ◌++◌, length, get_or, take, drop}
-use Rattle.std.proofs.Common.{Option, None, Some, Result, Ok, Err, OnOk, refl, sym, ap, ◌∙◌, subst, true}
+use Rattle.std.proofs.Common.{Option, None, Some, Result, Ok, Err, OnOk, refl, sym, ap, ◌∙◌, subst}
 use Rattle.std.proofs.lemmas.Result.{on_ok_weaker}
 use Rattle.sz_outside.specs.Outside.{Rose, Says}
 use Rattle.sz_outside.specs.declared.stations.Station.{Ghosts}
@@ -12,7 +12,7 @@ use Rattle.sz_catalogue.specs.declared.reply.Reply.{Reply}
 use Rattle.sz_commands.specs.Asks.{asks_text}
 use Rattle.sz_commands.specs.Commands.{Responds}
 use Rattle.sz_commands.specs.Faults as faults
-use Rattle.sz_commands.specs.States.{SessionState}
+use Rattle.sz_commands.specs.States.{SessionState, LogPlace}
 use Rattle.sz_commands.specs.Transcript.{replies_to}
 use Rattle.sz_commands.specs.declared.asking.AskLine.{AskLine}
 use Rattle.sz_commands.specs.declared.session.Stop.{Stop}
@@ -130,19 +130,19 @@ answered-memory {X} T h m n first lines a b is counts found =
 -- ---- what a stop finds
 
 -- the two parts of it
-pub behind-of : {X : Type 0} (T : Ghosts X) (e : Option ℕ) (first : List ℕ) (s : SessionState) (n : ℕ)
+pub behind-of : {X : Type 0} (T : Ghosts X) (e : Option LogPlace) (first : List ℕ) (s : SessionState) (n : ℕ)
     (lines : List (List ℕ)) (a b : X) → (e ≡ None → OnlySays T (first ++ replies_to s n lines) a b)
     → IfSome e (λ at. FindsLines T at s n lines a b) → FindsBehind T e first s n lines a b
 behind-of {X} T None first s n lines a b none some = none refl
 behind-of {X} T (Some at) first s n lines a b none some = some
 
-pub behind-only : {X : Type 0} (T : Ghosts X) (e : Option ℕ) (first : List ℕ) (s : SessionState) (n : ℕ)
+pub behind-only : {X : Type 0} (T : Ghosts X) (e : Option LogPlace) (first : List ℕ) (s : SessionState) (n : ℕ)
     (lines : List (List ℕ)) (a b : X) → FindsBehind T e first s n lines a b → e ≡ None
     → OnlySays T (first ++ replies_to s n lines) a b
 behind-only {X} T None first s n lines a b found is = found
 behind-only {X} T (Some at) first s n lines a b found is = cc
 
-pub behind-lines : {X : Type 0} (T : Ghosts X) (e : Option ℕ) (first : List ℕ) (s : SessionState) (n : ℕ)
+pub behind-lines : {X : Type 0} (T : Ghosts X) (e : Option LogPlace) (first : List ℕ) (s : SessionState) (n : ℕ)
     (lines : List (List ℕ)) (a b : X) → FindsBehind T e first s n lines a b
     → IfSome e (λ at. FindsLines T at s n lines a b)
 behind-lines {X} T None first s n lines a b found = tt

@@ -121,7 +121,7 @@ stays-both {X} T F a b c one two =
     }
 
 -- what was said before is a first part, with nothing behind it
-said-part : (a : Option (List ℕ)) (bytes found : List ℕ) → Said a found → SaysPart a (Some found) bytes
+pub said-part : (a : Option (List ℕ)) (bytes found : List ℕ) → Said a found → SaysPart a (Some found) bytes
 said-part None bytes found is = tt
 said-part (Some all) bytes found is =
     (0, omega arith, ap (λ (xs : List ℕ). Some xs) (is ∙ sym (append-nil all)))

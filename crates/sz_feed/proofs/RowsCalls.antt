@@ -2,14 +2,14 @@
 --
 -- The key idea: what the counts, the bytes said and the images of a stop are is read off each word; so a call that
 -- tells otherwise is refused.
-use Rattle.std.proofs.Common.{◌≡◌, ℕ, ◌+◌, ◌^◌, ◌≤◌, List, [], ◌∷◌, ◌++◌, Option, Some, None, refl, sym, ap, ◌∙◌, arith}
-use Rattle.std.proofs.Common.{Result, Err, length, unwrap_or, codes, true, false, true≢false, inl, ⊎_elim}
+use Rattle.std.proofs.Common.{◌≡◌, ℕ, List, [], ◌∷◌, Option, Some, None, refl, sym, ◌∙◌, arith}
+use Rattle.std.proofs.Common.{Result, length, codes, true, false, true≢false, inl, ⊎_elim}
 use Rattle.sz_outside.specs.Outside.{Rose}
 use Rattle.sz_outside.specs.declared.stations.Station.{Ghosts}
 use Rattle.sz_recover.specs.Logs.{Kept, IsWellMade}
 use Rattle.sz_recover.specs.Growing.{durable}
 use Rattle.sz_commands.specs.Logged.{makes_durable}
-use Rattle.sz_commands.specs.States.{SessionState}
+use Rattle.sz_commands.specs.States.{SessionState, LogPlace}
 use Rattle.sz_commands.specs.declared.asking.AskLine.{AskLine}
 use Rattle.sz_feed.specs.Moments.{Moment}
 use Rattle.sz_feed.specs.Calls.{CountsStand, CountsTell, SaysText, SaysReplies, IsSaid, IsTaken, FindsBehind}
@@ -78,14 +78,14 @@ writes-other s line rests writes = ⊎_elim (λ is. true≢false (sym is ∙ res
 
 -- ---- asks that wait
 
-pub waiting-none : (end : Option ℕ) → AreWaiting end []
+pub waiting-none : (end : Option LogPlace) → AreWaiting end []
 waiting-none None = record { asks = tt; few = omega arith; idle = tt }
 waiting-none (Some at) = record { asks = tt; few = omega arith; idle = refl }
 
-pub waiting-log : (at : ℕ) (l : AskLine) → AreWaiting (Some at) (l ∷ []) → ⊥
+pub waiting-log : (at : LogPlace) (l : AskLine) → AreWaiting (Some at) (l ∷ []) → ⊥
 waiting-log at l waiting = let none = waiting.idle in cc
 
-pub waiting-many : (end : Option ℕ) (lines : List AskLine) → length lines ≡ 65 → AreWaiting end lines → ⊥
+pub waiting-many : (end : Option LogPlace) (lines : List AskLine) → length lines ≡ 65 → AreWaiting end lines → ⊥
 waiting-many end lines many waiting = omega (arith, many, waiting.few)
 
 module _ {X : Type 0} (T : Ghosts X) (old new : X) where
@@ -160,7 +160,7 @@ module _ {X : Type 0} (T : Ghosts X) (old new : X) where
       answered-no_line answered = answered.written refl
 
       -- a session of no log is given none
-      pub answered-no_log : (at : ℕ) → before.end ≡ None → now.end ≡ Some at
+      pub answered-no_log : (at : LogPlace) → before.end ≡ None → now.end ≡ Some at
           → IsAnswered T went_on before now first lines old new → ⊥
       answered-no_log at none some answered =
           let still = none-stays T before now old new answered.log none in cc
@@ -171,8 +171,8 @@ module _ {X : Type 0} (T : Ghosts X) (old new : X) where
     behind-reads found = found.reads
 
     -- and where there is one it is never found cut
-    pub behind-cut : (at : ℕ) (disk said : List ℕ) (kept : List Kept) → T.disk old ≡ Some disk
-        → IsWellMade disk at (durable s.held) kept → FindsBehind T (Some at) first s n lines old new
+    pub behind-cut : (at : LogPlace) (disk said : List ℕ) (kept : List Kept) → T.disk old ≡ Some disk
+        → IsWellMade disk at.gate at.format (durable s.held) kept → FindsBehind T (Some at) first s n lines old new
         → T.left_since new (T.moment old) [] said → ⊥
     behind-cut at disk said kept told made found left =
         at-cut kept s n lines (T.said old) said

@@ -1,8 +1,7 @@
 -- What the making of a log says of the disk, for any station: each part of it as it is taken, and what it refuses.
 --
 -- The key idea: a disk that is told is a list of bytes, so what was made of it, and what a stop leaves, is read off.
-use Rattle.std.proofs.Common.{◌≡◌, ℕ, List, [], ◌∷◌, Option, Some, None, sym, ap, subst, ◌∙◌, arith, unwrap_or, length}
-use Rattle.sz_outside.specs.Outside.{Stood}
+use Rattle.std.proofs.Common.{◌≡◌, ℕ, List, [], Option, Some, None, sym, ap, subst, ◌∙◌, arith, unwrap_or, length}
 use Rattle.sz_outside.specs.Disk.{Only}
 use Rattle.sz_outside.specs.declared.stations.Station.{Ghosts}
 use Rattle.sz_log.specs.Log.{empty_log, bar_to}

@@ -1,7 +1,7 @@
 -- What a stop finds of a session beside its log, on both sides of each part.
 --
 -- The key idea: of no lines nothing is said, and nothing at all is no log; so what is found otherwise is refused.
-use Rattle.std.proofs.Common.{◌≡◌, ℕ, ◌+◌, ◌≤◌, List, [], ◌∷◌, Option, Some, None, refl, sym, ap, subst, ◌∙◌, arith}
+use Rattle.std.proofs.Common.{◌≡◌, ℕ, ◌+◌, ◌≤◌, List, [], ◌∷◌, Option, Some, None, refl, ap, subst, ◌∙◌, arith}
 use Rattle.std.proofs.Common.{length, unwrap_or, take, inl, inr}
 use Rattle.sz_outside.specs.declared.stations.Station.{Ghosts}
 use Rattle.sz_log.specs.Log.{empty_log}
@@ -9,11 +9,11 @@ use Rattle.sz_catalogue.specs.Holdings.{Holdings, no_holdings}
 use Rattle.sz_recover.specs.Logs.{Kept, IsWellMade}
 use Rattle.sz_recover.specs.Growing.{durable}
 use Rattle.sz_commands.specs.Lines.{lines_of}
-use Rattle.sz_commands.specs.States.{SessionState}
+use Rattle.sz_commands.specs.States.{SessionState, LogPlace}
 use Rattle.sz_commands.specs.Transcript.{replies_to, after_lines}
 use Rattle.sz_feed.specs.Running.{IfSome, FoundBetween, FoundAt, PassesAmong, FindsLines, GoesBeside, FindsAll}
 use Rattle.sz_feed.specs.Running.{StandsBehind, state_of_log}
-use Rattle.sz_commands.proofs.RowsLogged.{left-cut, left-empty, goes-synced, goes-not_cut}
+use Rattle.sz_commands.proofs.RowsLogged.{left-cut, left-empty, goes-synced, goes-not_cut, begun}
 
 -- ---- where there is a value
 
@@ -89,39 +89,40 @@ passes-within before now past since Among image said passes left = passes.within
 
 module _ {X : Type 0} (T : Ghosts X) (old new : X) where
   -- what a stop leaves since the call began is found at some line
-  pub finds-lines : (at : ℕ) (s : SessionState) (n : ℕ) (lines : List (List ℕ)) (disk image said : List ℕ)
+  pub finds-lines : (at : LogPlace) (s : SessionState) (n : ℕ) (lines : List (List ℕ)) (disk image said : List ℕ)
       (kept : List Kept)
-      → T.disk old ≡ Some disk → IsWellMade disk at (durable s.held) kept → FindsLines T at s n lines old new
+      → T.disk old ≡ Some disk → IsWellMade disk at.gate at.format (durable s.held) kept
+      → FindsLines T at s n lines old new
       → T.left_since new (T.moment old) image said → FoundAt kept s n lines (T.said old) image said
   finds-lines at s n lines disk image said kept told made finds left =
-      let P : List ℕ → Type 0 = λ d. (ks : List Kept) → IsWellMade d at (durable s.held) ks
+      let P : List ℕ → Type 0 = λ d. (ks : List Kept) → IsWellMade d at.gate at.format (durable s.held) ks
       → PassesAmong (T.moment old) (T.moment new) (T.left_since old) (T.left_since new)
       (FoundAt ks s n lines (T.said old)) in
       let here : IfSome (Some disk) P = subst (λ (o : Option (List ℕ)). IfSome o P) told finds in
       (here kept made).within image said left
 
-  pub finds-all : (s : SessionState) (at : ℕ) (bytes : List ℕ) → FindsAll T s (Some at) (Some bytes) old new
+  pub finds-all : (s : SessionState) (at : LogPlace) (bytes : List ℕ) → FindsAll T s (Some at) (Some bytes) old new
       → FindsLines T at s 1 (lines_of bytes) old new
   finds-all s at bytes finds = finds
 
   -- a session of no log stays one, and one of a log too
-  pub beside-made : (c d : Holdings) (next : ℕ) → GoesBeside T c None d (Some next) old new → ⊥
+  pub beside-made : (c d : Holdings) (next : LogPlace) → GoesBeside T c None d (Some next) old new → ⊥
   beside-made c d next is = is
 
-  pub beside-lost : (c d : Holdings) (at : ℕ) → GoesBeside T c (Some at) d None old new → ⊥
+  pub beside-lost : (c d : Holdings) (at : LogPlace) → GoesBeside T c (Some at) d None old new → ⊥
   beside-lost c d at is = is
 
   -- ---- behind all lines
 
   -- no write is pending
-  pub stands-synced : (s : SessionState) (at : ℕ) (bytes disk image : List ℕ) → T.disk new ≡ Some disk
+  pub stands-synced : (s : SessionState) (at : LogPlace) (bytes disk image : List ℕ) → T.disk new ≡ Some disk
       → StandsBehind T s (Some at) (Some bytes) old new → T.may_leave new image → image ≡ disk
   stands-synced s at bytes disk image told (next, goes) left =
       goes-synced T s.held (after_lines s (lines_of bytes)).held at next old new disk image told goes left
 
   -- and there is a log
   pub stands-not_cut : (bytes : List ℕ) → T.disk old ≡ Some empty_log → T.disk new ≡ Some []
-      → StandsBehind T state (Some 16) (Some bytes) old new → ⊥
+      → StandsBehind T state (Some begun) (Some bytes) old new → ⊥
   stands-not_cut bytes told is (next, goes) =
       goes-not_cut T (after_lines state (lines_of bytes)).held next old new told is goes
 

@@ -18,7 +18,7 @@ use Rattle.sz_catalogue.specs.Holdings.{Holdings}
 use Rattle.sz_recover.specs.Growing.{durable}
 use Rattle.sz_recover.specs.Logs.{Kept, IsWellMade}
 use Rattle.sz_recover.specs.Soundness.{AreSoundKept}
-use Rattle.sz_commands.specs.States.{SessionState}
+use Rattle.sz_commands.specs.States.{SessionState, LogPlace}
 use Rattle.sz_commands.specs.Transcript.{replies_to, after_lines}
 use Rattle.sz_feed.specs.Moments.{Moment, cut_after, Alike, AreAlike}
 use Rattle.sz_commands.specs.Lines.{last_line, lines_of}
@@ -34,20 +34,22 @@ use Rattle.sz_feed.proofs.Turns.{says-then, says-nothing}
 -- ---- logs that grow
 
 -- it grew, and then once more
-grown-then : (c d e : Holdings) (kept : List Kept) (mid image : List ℕ) (next at : ℕ) (one : Grown c kept mid next d)
+grown-then : (c d e : Holdings) (kept : List Kept) (mid image : List ℕ) (next at : LogPlace)
+    (one : Grown c kept mid next d)
     → Grown d (kept ++ one.more) image at e → Grown c kept image at e
 grown-then c d e kept mid image next at one two = record {
   more = one.more ++ two.more;
-  made = subst (λ (ks : List Kept). IsWellMade image at (durable e) ks) (append_assoc kept one.more two.more) two.made;
+  made = subst (λ (ks : List Kept). IsWellMade image at.gate at.format (durable e) ks)
+      (append_assoc kept one.more two.more) two.made;
   sound = λ sound.
       subst (AreSoundKept (durable e)) (append_assoc kept one.more two.more) (two.sound (one.sound sound));
 }
 
-left-then : (c d e : Holdings) (kept : List Kept) (mid image : List ℕ) (next : ℕ) (one : Grown c kept mid next d)
+left-then : (c d e : Holdings) (kept : List Kept) (mid image : List ℕ) (next : LogPlace) (one : Grown c kept mid next d)
     → IsLeft d (kept ++ one.more) image e → IsLeft c kept image e
 left-then c d e kept mid image next one (at, two) = (at, grown-then c d e kept mid image next at one two)
 
-grows-then : (a b x : Option (List ℕ)) (c d e : Holdings) (at mid next : ℕ) → Grows a at c b mid d
+grows-then : (a b x : Option (List ℕ)) (c d e : Holdings) (at mid next : LogPlace) → Grows a at c b mid d
     → Grows b mid d x next e
     → Grows a at c x next e
 grows-then None b x c d e at mid next one two =
@@ -62,22 +64,24 @@ grows-then (Some disk) b x c d e at mid next (half, is, one) two =
           grown-then c d e kept half more.0 mid next first (more.2 (kept ++ first.more) first.made),
     )
 
-pub goes-then : {X : Type 0} (T : Ghosts X) (c d e : Holdings) (at mid next : ℕ) (a b x : X) → GoesOn T c at d mid a b
+pub goes-then : {X : Type 0} (T : Ghosts X) (c d e : Holdings) (at mid next : LogPlace) (a b x : X)
+    → GoesOn T c at d mid a b
     → GoesOn T d mid e next b x → GoesOn T c at e next a x
 goes-then {X} T c d e at mid next a b x one two = record {
   grows = grows-then (T.disk a) (T.disk b) (T.disk x) c d e at mid next one.grows two.grows;
   synced = two.synced;
 }
 
-stays-grown : (o : Option (List ℕ)) (c : Holdings) (at : ℕ) → Grows o at c o at c
+stays-grown : (o : Option (List ℕ)) (c : Holdings) (at : LogPlace) → Grows o at c o at c
 stays-grown None c at = refl
 stays-grown (Some disk) c at = (disk, refl, λ kept made. grown-same c c kept disk at refl made)
 
-pub goes-still : {X : Type 0} (T : Ghosts X) (c : Holdings) (at : ℕ) (a : X) → IsLogOf T c at a → GoesOn T c at c at a a
+pub goes-still : {X : Type 0} (T : Ghosts X) (c : Holdings) (at : LogPlace) (a : X) → IsLogOf T c at a
+    → GoesOn T c at c at a a
 goes-still {X} T c at a log = record { grows = stays-grown (T.disk a) c at; synced = log.synced }
 
 -- a say leaves the disk, and what a stop leaves of it
-pub goes-said : {X : Type 0} (T : Ghosts X) (c d : Holdings) (at next : ℕ) (bytes : List ℕ) (a b x : X)
+pub goes-said : {X : Type 0} (T : Ghosts X) (c d : Holdings) (at next : LogPlace) (bytes : List ℕ) (a b x : X)
     → GoesOn T c at d next a b → OnlySays T bytes b x → GoesOn T c at d next a x
 goes-said {X} T c d at next bytes a b x one says =
     let P : Option (List ℕ) → Type 0 = λ o. Grows (T.disk a) at c o next d in
@@ -109,7 +113,7 @@ between-more kept s n some more a image found f =
 
 -- and behind other lines, whose replies were said whole
 between-behind : (kept : List Kept) (s : SessionState) (n : ℕ) (first some more : List (List ℕ)) (a b : Option (List ℕ))
-    (mid image found : List ℕ) (next : ℕ) (one : Grown s.held kept mid next (after_lines s first).held)
+    (mid image found : List ℕ) (next : LogPlace) (one : Grown s.held kept mid next (after_lines s first).held)
     → Says a b (replies_to s n first)
     → FoundBetween (kept ++ one.more) (after_lines s first) (n + length first) some more b image found
     → FoundBetween kept s n (first ++ some) (first ++ more) a image found
@@ -196,7 +200,7 @@ found-longer kept s n lines more a image found f =
 
 -- and so is what is found while others are answered behind them
 found-behind : (kept : List Kept) (s : SessionState) (n : ℕ) (first lines : List (List ℕ)) (a b : Option (List ℕ))
-    (mid image found : List ℕ) (next : ℕ) (one : Grown s.held kept mid next (after_lines s first).held)
+    (mid image found : List ℕ) (next : LogPlace) (one : Grown s.held kept mid next (after_lines s first).held)
     → Says a b (replies_to s n first)
     → FoundAt (kept ++ one.more) (after_lines s first) (n + length first) lines b image found
     → FoundAt kept s n (first ++ lines) a image found
@@ -243,7 +247,8 @@ found-last kept s n x y a image found h f =
 -- no line was answered
 found-none : (kept : List Kept) (s : SessionState) (n : ℕ) (lines : List (List ℕ)) (a : Option (List ℕ))
     (image found : List ℕ)
-    (at : ℕ) → Said a found → IsWellMade image at (durable s.held) kept → FoundAt kept s n lines a image found
+    (at : LogPlace) → Said a found → IsWellMade image at.gate at.format (durable s.held) kept → FoundAt kept s n lines a
+    image found
 found-none kept s n lines a image found at said made = record {
   many = 0;
   within = omega arith;
@@ -362,14 +367,15 @@ among-apart {n} {m} {past} {since} {A} {B} {step} {F} C both p = record {
 }
 
 -- what is found of a disk, while lines are answered
-abbrev FindsOn : Option (List ℕ) → ℕ → SessionState → ℕ → List (List ℕ) → Option (List ℕ) → ℕ → ℕ → Since → Since
-    → Type 0
+abbrev FindsOn : Option (List ℕ) → LogPlace → SessionState → ℕ → List (List ℕ) → Option (List ℕ) → ℕ → ℕ → Since
+    → Since → Type 0
 FindsOn o at s n lines a before now past since = IfSome o (λ disk. (kept : List Kept)
-    → IsWellMade disk at (durable s.held) kept → PassesAmong before now past since (FoundAt kept s n lines a))
+    → IsWellMade disk at.gate at.format (durable s.held) kept
+    → PassesAmong before now past since (FoundAt kept s n lines a))
 
-finds-two : (o p : Option (List ℕ)) (before mid now : ℕ) (past half since : Since) (at next : ℕ) (s : SessionState)
-    (n : ℕ)
-    (first lines : List (List ℕ)) (a b : Option (List ℕ)) → Grows o at s.held p next (after_lines s first).held
+finds-two : (o p : Option (List ℕ)) (before mid now : ℕ) (past half since : Since) (at next : LogPlace)
+    (s : SessionState) (n : ℕ) (first lines : List (List ℕ)) (a b : Option (List ℕ))
+    → Grows o at s.held p next (after_lines s first).held
     → Says a b (replies_to s n first) → FindsOn o at s n first a before mid past half
     → FindsOn p next (after_lines s first) (n + length first) lines b mid now half since
     → FindsOn o at s n (first ++ lines) a before now past since
@@ -388,7 +394,8 @@ finds-two (Some disk) p before mid now past half since at next s n first lines a
     (one kept made) (more (kept ++ grown.more) grown.made)
 
 -- lines, and others behind them
-pub finds-then : {X : Type 0} (T : Ghosts X) (at next : ℕ) (s : SessionState) (n : ℕ) (first lines : List (List ℕ))
+pub finds-then : {X : Type 0} (T : Ghosts X) (at next : LogPlace) (s : SessionState) (n : ℕ)
+    (first lines : List (List ℕ))
     (a b c : X)
     → GoesOn T s.held at (after_lines s first).held next a b → Says (T.said a) (T.said b) (replies_to s n first)
     → FindsLines T at s n first a b → FindsLines T next (after_lines s first) (n + length first) lines b c
@@ -397,7 +404,7 @@ finds-then {X} T at next s n first lines a b c goes says one two =
     finds-two (T.disk a) (T.disk b) _ _ _ _ _ _ at next s n first lines (T.said a) (T.said b) goes.grows says one two
 
 -- further lines, which were not answered
-pub finds-longer : {X : Type 0} (T : Ghosts X) (at : ℕ) (s : SessionState) (n : ℕ) (lines more : List (List ℕ))
+pub finds-longer : {X : Type 0} (T : Ghosts X) (at : LogPlace) (s : SessionState) (n : ℕ) (lines more : List (List ℕ))
     (a b : X)
     → FindsLines T at s n lines a b → FindsLines T at s n (lines ++ more) a b
 finds-longer {X} T at s n lines more a b one =
@@ -407,19 +414,20 @@ finds-longer {X} T at s n lines more a b one =
     (λ image found f. found-longer kept s n lines more (T.said a) image found f) (finds kept made)) one
 
 -- moments that are alike
-pub finds-alike : {X : Type 0} (T : Ghosts X) (at : ℕ) (m k : Moment) (bytes : List ℕ) (a b : X) → AreAlike m k
+pub finds-alike : {X : Type 0} (T : Ghosts X) (at : LogPlace) (m k : Moment) (bytes : List ℕ) (a b : X) → AreAlike m k
     → FindsLines T at m.held m.number (cut_after m bytes).whole a b
     → FindsLines T at k.held k.number (cut_after k bytes).whole a b
 finds-alike {X} T at m k bytes a b h one =
     some-more (T.disk a) _ _
     (λ disk finds kept made.
-    let own = subst (λ (s : SessionState). IsWellMade disk at (durable s.held) kept) (sym h.held) made in
+    let own = subst (λ (s : SessionState). IsWellMade disk at.gate at.format (durable s.held) kept) (sym h.held) made in
     among-more (FoundAt kept m.held m.number (cut_after m bytes).whole (T.said a))
     (FoundAt kept k.held k.number (cut_after k bytes).whole (T.said a))
     (λ image found f. found-alike kept m k bytes (T.said a) image found h f) (finds kept own)) one
 
 -- and last lines
-pub finds-last : {X : Type 0} (T : Ghosts X) (at : ℕ) (s : SessionState) (n : ℕ) (x y : List ℕ) (a b : X) → Alike x y
+pub finds-last : {X : Type 0} (T : Ghosts X) (at : LogPlace) (s : SessionState) (n : ℕ) (x y : List ℕ) (a b : X)
+    → Alike x y
     → FindsLines T at s n (last_line x) a b → FindsLines T at s n (last_line y) a b
 finds-last {X} T at s n x y a b h one =
     some-more (T.disk a) _ _
@@ -429,7 +437,8 @@ finds-last {X} T at s n x y a b h one =
 
 -- ---- one line
 
-still-on : (o a : Option (List ℕ)) (at : ℕ) (s : SessionState) (n : ℕ) (lines : List (List ℕ)) (k : ℕ) (since : Since)
+still-on : (o a : Option (List ℕ)) (at : LogPlace) (s : SessionState) (n : ℕ) (lines : List (List ℕ)) (k : ℕ)
+    (since : Since)
     (A : List ℕ → Type 0) → Only o A
     → ((image found : List ℕ) → Told o (since k image found → A image × Said a found))
     → ((t : ℕ) (image found : List ℕ) → Told o (t ≤ k → A image → Said a found → since t image found))
@@ -443,11 +452,11 @@ still-on (Some disk) a at s n lines k since A synced only counts = λ kept made.
   within = λ image found left.
       let now = only image found left in
       found-none kept s n lines a image found at now.1
-      (subst (λ (i : List ℕ). IsWellMade i at (durable s.held) kept) (sym (synced image now.0)) made);
+      (subst (λ (i : List ℕ). IsWellMade i at.gate at.format (durable s.held) kept) (sym (synced image now.0)) made);
 }
 
 -- where no call is made no line is answered
-pub finds-still : {X : Type 0} (T : Ghosts X) (at : ℕ) (s : SessionState) (n : ℕ) (lines : List (List ℕ)) (a : X)
+pub finds-still : {X : Type 0} (T : Ghosts X) (at : LogPlace) (s : SessionState) (n : ℕ) (lines : List (List ℕ)) (a : X)
     → IsLogOf T s.held at a
     → ((image found : List ℕ) → Told (T.disk a)
     (T.left_since a (T.moment a) image found → T.may_leave a image × Said (T.said a) found))
@@ -457,7 +466,8 @@ pub finds-still : {X : Type 0} (T : Ghosts X) (at : ℕ) (s : SessionState) (n :
 finds-still {X} T at s n lines a log only counts =
     still-on (T.disk a) (T.said a) at s n lines (T.moment a) (T.left_since a) (T.may_leave a) log.synced only counts
 
-taken-on : (o a : Option (List ℕ)) (at : ℕ) (s : SessionState) (d : Holdings) (n : ℕ) (line : List ℕ) (before now : ℕ)
+taken-on : (o a : Option (List ℕ)) (at : LogPlace) (s : SessionState) (d : Holdings) (n : ℕ) (line : List ℕ)
+    (before now : ℕ)
     (past since : Since) (A B : List ℕ → Type 0) → d ≡ (after_lines s (line ∷ [])).held → Only o A
     → Told o (Passes before now past since A B (LeavesLog at s.held d) (Said a))
     → FindsOn o at s n (line ∷ []) a before now past since
@@ -467,17 +477,19 @@ taken-on (Some disk) a at s d n line before now past since A B held synced passe
     (λ image found (old, was, leaves) said.
     found-taken kept s n line a image found said
     (subst (λ (c : Holdings). IsLeft s.held kept image s.held ⊎ IsLeft s.held kept image c) held
-    (leaves kept (subst (λ (i : List ℕ). IsWellMade i at (durable s.held) kept) (sym (synced old was)) made)))) passes
+    (leaves kept (subst (λ (i : List ℕ). IsWellMade i at.gate at.format (durable s.held) kept) (sym (synced old was))
+    made)))) passes
 
 -- a line is taken
-pub finds-taken : {X : Type 0} (T : Ghosts X) (at : ℕ) (s : SessionState) (d : Holdings) (n : ℕ) (line : List ℕ)
+pub finds-taken : {X : Type 0} (T : Ghosts X) (at : LogPlace) (s : SessionState) (d : Holdings) (n : ℕ) (line : List ℕ)
     (a b : X)
     → d ≡ (after_lines s (line ∷ [])).held → IsLogOf T s.held at a → StopsInLog T s.held (Some at) d a b
     → FindsLines T at s n (line ∷ []) a b
 finds-taken {X} T at s d n line a b held log stops =
     taken-on (T.disk a) (T.said a) at s d n line _ _ _ _ _ _ held log.synced stops
 
-said-on : (o p a b : Option (List ℕ)) (at next : ℕ) (s : SessionState) (d : Holdings) (n : ℕ) (line bytes : List ℕ)
+said-on : (o p a b : Option (List ℕ)) (at next : LogPlace) (s : SessionState) (d : Holdings) (n : ℕ)
+    (line bytes : List ℕ)
     (before mid now : ℕ) (past half since : Since) (B C : List ℕ → Type 0) → d ≡ (after_lines s (line ∷ [])).held
     → bytes ≡ replies_to s n (line ∷ []) → b ≡ a → Grows o at s.held p next d → Only p B
     → Told p (Passes mid now half since B C Same (λ found. SaysPart b (Some found) bytes))
@@ -503,7 +515,7 @@ said-on (Some disk) p a b at next s d n line bytes before mid now past half sinc
     passes)
 
 -- and then its reply is said
-pub finds-said : {X : Type 0} (T : Ghosts X) (at next : ℕ) (s : SessionState) (d : Holdings) (n : ℕ)
+pub finds-said : {X : Type 0} (T : Ghosts X) (at next : LogPlace) (s : SessionState) (d : Holdings) (n : ℕ)
     (line bytes : List ℕ)
     (a b c : X) → d ≡ (after_lines s (line ∷ [])).held → bytes ≡ replies_to s n (line ∷ []) → T.said b ≡ T.said a
     → GoesOn T s.held at d next a b → OnlySays T bytes b c → FindsLines T at s n (line ∷ []) a b
@@ -514,7 +526,7 @@ finds-said {X} T at next s d n line bytes a b c held told same goes says one =
 
 -- ---- what came before
 
-before-on : (o a : Option (List ℕ)) (s : SessionState) (at n : ℕ) (before now : ℕ) (past since : Since)
+before-on : (o a : Option (List ℕ)) (s : SessionState) (at : LogPlace) (n before now : ℕ) (past since : Since)
     (A B : List ℕ → Type 0) → Only o A → Told o (Passes before now past since A B Same (Said a))
     → FindsOn o at s n [] a before now past since
 before-on None a s at n before now past since A B only passes = tt
@@ -522,10 +534,11 @@ before-on (Some disk) a s at n before now past since A B only passes = λ kept m
     among-apart (FoundAt kept s n [] a)
     (λ image found (old, was, same) said.
     found-none kept s n [] a image found at said
-    (subst (λ (i : List ℕ). IsWellMade i at (durable s.held) kept) (sym (same ∙ only old was)) made)) passes
+    (subst (λ (i : List ℕ). IsWellMade i at.gate at.format (durable s.held) kept) (sym (same ∙ only old was)) made))
+    passes
 
 -- calls that change no image and say nothing, before lines are answered
-pub finds-before : {X : Type 0} (T : Ghosts X) (s : SessionState) (at : ℕ) (left : Option (List ℕ)) (a b x : X)
+pub finds-before : {X : Type 0} (T : Ghosts X) (s : SessionState) (at : LogPlace) (left : Option (List ℕ)) (a b x : X)
     → T.disk b ≡ T.disk a → T.said b ≡ T.said a → StopsFinding T Same (Said (T.said a)) a b
     → Only (T.disk a) (T.may_leave a) → IsLogOf T s.held at b → FindsAll T s (Some at) left b x
     → FindsAll T s (Some at) left a x

@@ -105,9 +105,9 @@ shapes-made (Ok es) h = (es, refl)
 shapes-made (Err n) h = cc
 
 -- the version that a lawful body says is sound
-body-sound : (c : Holdings) (b : VersionBody) (bytes : List ℕ) → AreSound c → IsLawful c b bytes
+body-sound : (format : ℕ) (c : Holdings) (b : VersionBody) (bytes : List ℕ) → AreSound c → IsLawful format c b bytes
     → IsSoundVersion (version_said c b)
-body-sound c b bytes sound is =
+body-sound format c b bytes sound is =
     let flow : IsWorkflow (workflow_of c b.flow_name) =
     flow-sound c b.flow_name sound.flows (off (rules.has_no_flow c b.flow_name) is.flow) in
     let shapes = shapes-made (output_shapes (workflow_of c b.flow_name).graph (shapes_of (bases_of c b.base)))
@@ -126,11 +126,15 @@ body-sound c b bytes sound is =
     }
 
 -- behind a group that acts all is sound
-acts-sound : (c d : Holdings) (e : LogGroup) (kept : List Kept) → AreSound c → Acts c e d kept → AreSound d
-acts-sound c d e kept sound (inl line) = line-sound c d e.kind e.body (reading e.body) refl sound line.held
-acts-sound c d e kept sound (inr v) =
+acts-sound : (format after : ℕ) (c d : Holdings) (e : LogGroup) (kept : List Kept) → AreSound c
+    → Acts format c e after d kept → AreSound d
+acts-sound format after c d e kept sound (to, inl line) = line-sound c d e.kind e.body (reading e.body) refl sound
+    line.held
+acts-sound format after c d e kept sound (to, inr (inr u)) = subst AreSound (sym u.held) sound
+acts-sound format after c d e kept sound (to, inr (inl v)) =
     let b : VersionBody = body_of v.one.number v.version v.one.stores in
-    let own : IsSoundVersion v.version = subst IsSoundVersion (sym v.said) (body-sound c b e.body sound v.lawful) in
+    let own : IsSoundVersion v.version = subst IsSoundVersion (sym v.said) (body-sound format c b e.body sound v.lawful)
+    in
     let added : AreSound (with_version c v.one.number v.version) = record {
       flows = sound.flows;
       versions = All-values-insert_entry nat_cmp v.one.number v.version IsSoundVersion c.versions sound.versions own;
@@ -138,17 +142,19 @@ acts-sound c d e kept sound (inr v) =
     subst AreSound (sym v.held) added
 
 -- and behind groups one after another
-each-sound : (c d : Holdings) (es : List LogGroup) (kept : List Kept) → AreSound c → ActEach c es d kept → AreSound d
-each-sound c d [] kept sound all = subst AreSound (sym all.0) sound
-each-sound c d (e ∷ es) kept sound all =
-    each-sound all.0 d es all.2 (acts-sound c all.0 e all.1 sound all.3) all.4
+each-sound : (format after : ℕ) (c d : Holdings) (es : List LogGroup) (kept : List Kept) → AreSound c
+    → ActEach format c es after d kept → AreSound d
+each-sound format after c d [] kept sound (to, same, none) = subst AreSound (sym same) sound
+each-sound format after c d (e ∷ es) kept sound (between, mid, first, rest, acts, all, is) =
+    each-sound between after mid d es rest (acts-sound format between c mid e first sound acts) all
 
 nothing-sound : AreSound no_holdings
 nothing-sound = record { flows = All-nil IsWorkflow; versions = All-nil IsSoundVersion }
 
 -- what a well-made log holds is sound
-pub log-sound : (disk : List ℕ) (at : ℕ) (c : Holdings) (kept : List Kept) → IsWellMade disk at c kept → AreSound c
-log-sound disk at c kept made = each-sound no_holdings c made.entries kept nothing-sound made.acts
+pub log-sound : (disk : List ℕ) (at format : ℕ) (c : Holdings) (kept : List Kept) → IsWellMade disk at format c kept
+    → AreSound c
+log-sound disk at format c kept made = each-sound 1 format no_holdings c made.entries kept nothing-sound made.acts
 
 -- ---- versions that are answered by their stores
 
@@ -167,12 +173,12 @@ record IsAnswering (c : Holdings) (k : Kept) : Type 0 where
   own : IsAnswered (version_of c k.number) k.stores
 
 -- each entry of a sound log is one of these
-log-answers : (disk : List ℕ) (at : ℕ) (c : Holdings) (kept : List Kept) → IsWellMade disk at c kept
+log-answers : (disk : List ℕ) (at format : ℕ) (c : Holdings) (kept : List Kept) → IsWellMade disk at format c kept
     → AreSoundKept c kept → All (IsAnswering c) kept
-log-answers disk at c kept made sound =
+log-answers disk at format c kept made sound =
     let both = all-both (IsSoundKept c) HasHoldings IsKeptSo kept (λ k exact holds. (exact, holds)) sound
-    (logs-hold no_holdings c made.entries kept made.acts) in
-    all-both (IsEntryOf c) IsKeptSo (IsAnswering c) kept one (well-made disk at c kept made).each both where
+    (logs-hold 1 format no_holdings c made.entries kept made.acts) in
+    all-both (IsEntryOf c) IsKeptSo (IsAnswering c) kept one (well-made disk at format c kept made).each both where
       IsKeptSo : Kept → Type 0
       IsKeptSo k = IsSoundKept c k × HasHoldings k
 
@@ -181,7 +187,7 @@ log-answers disk at c kept made sound =
         held = is.held;
         awaited = is.awaited;
         own = record {
-          sound = version-sound c k.number (log-sound disk at c kept made).versions is.held;
+          sound = version-sound c k.number (log-sound disk at format c kept made).versions is.held;
           fit = is.fit;
           each = is.stored;
           holding = holds;
@@ -335,5 +341,5 @@ replies-plain tell c kept n (line ∷ lines) all = elim (cases_Bool (is_blank li
 ]
 
 pub sound-logs-plain : SoundStoresTellTheKinds → SoundLogsArePlain
-sound-logs-plain tell disk at c kept bytes made sound =
-    replies-plain tell c kept 1 (lines_of bytes) (log-answers disk at c kept made sound)
+sound-logs-plain tell disk at format c kept bytes made sound =
+    replies-plain tell c kept 1 (lines_of bytes) (log-answers disk at format c kept made sound)

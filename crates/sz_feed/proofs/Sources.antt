@@ -10,7 +10,7 @@ use Rattle.sz_outside.specs.Disk.{Told, Said}
 use Rattle.sz_outside.specs.declared.stations.Station.{Ghosts}
 use Rattle.sz_catalogue.specs.Holdings.{Holdings}
 use Rattle.sz_commands.specs.Lines.{Cut, cut, last_line, lines_of}
-use Rattle.sz_commands.specs.States.{SessionState}
+use Rattle.sz_commands.specs.States.{SessionState, LogPlace}
 use Rattle.sz_commands.specs.Transcript.{after_lines}
 use Rattle.sz_feed.specs.Moments.{Moment, moment_before, cut_after, moment_after, Alike, AreAlike}
 use Rattle.sz_feed.specs.Serving.{Advances, HasAnswered, Answered, AreAll}
@@ -42,7 +42,7 @@ rest-still {X} T m all total a log only counts =
     some-all all _ (λ bytes. in-still T m (drop total bytes) a log only counts)
 
 -- where no read was made
-pub all-still : {X : Type 0} (T : Ghosts X) (z : SessionState) (at : ℕ) (all : Option (List ℕ)) (a : X)
+pub all-still : {X : Type 0} (T : Ghosts X) (z : SessionState) (at : LogPlace) (all : Option (List ℕ)) (a : X)
     → IsLogOf T z.held at a
     → ((image found : List ℕ) → Told (T.disk a)
     (T.left_since a (T.moment a) image found → T.may_leave a image × Said (T.said a) found))
@@ -79,13 +79,13 @@ rest-none {X} T m all total a b none = some-all all _ (λ bytes. in-none T m (dr
 -- ---- from the opening on
 
 -- what is held as a session begins, and where its log ends
-abbrev pub opened : SessionState → Option ℕ → Moment
+abbrev pub opened : SessionState → Option LogPlace → Moment
 opened z e = record { held = z; pending = []; number = 1; end = e }
 
-abbrev pub FindsRead : {X : Type 0} → Ghosts X → SessionState → Option ℕ → Option (List ℕ) → ℕ → X → X → Type 0
+abbrev pub FindsRead : {X : Type 0} → Ghosts X → SessionState → Option LogPlace → Option (List ℕ) → ℕ → X → X → Type 0
 FindsRead T z e all total a b = IfSome all (λ bytes. FindsIn T (opened z e) (take total bytes) a b)
 
-opened-advances : (z : SessionState) (e : Option ℕ) (bytes : List ℕ) (left a b : Option (List ℕ)) (m : Moment)
+opened-advances : (z : SessionState) (e : Option LogPlace) (bytes : List ℕ) (left a b : Option (List ℕ)) (m : Moment)
     (count : ℕ)
     → HasAnswered z bytes left a b m count → Advances a b (opened z e) m (take count bytes)
 opened-advances z e bytes left a b m count h =
@@ -96,7 +96,7 @@ opened-advances z e bytes left a b m count h =
     }
 
 -- nothing was read of a session that was opened
-pub answered-opened : (z : SessionState) (e : Option ℕ) (left said : Option (List ℕ))
+pub answered-opened : (z : SessionState) (e : Option LogPlace) (left said : Option (List ℕ))
     → Answered z left left said said (opened z e) 0
 answered-opened z e None said = tt
 answered-opened z e (Some bytes) said = record {
@@ -140,7 +140,7 @@ read-more {X} T z (Some bytes) first left said l m total count a b x same start 
     (from-opened T z bytes first said (T.said a) l m a b start goes) two)
 
 -- all bytes, and lines behind them
-all-lines : {X : Type 0} (T : Ghosts X) (z : SessionState) (e : Option ℕ) (bytes : List ℕ) (a b : X)
+all-lines : {X : Type 0} (T : Ghosts X) (z : SessionState) (e : Option LogPlace) (bytes : List ℕ) (a b : X)
     → FindsIn T (opened z e) bytes a b → IfSome e (λ at. FindsLines T at z 1 (lines_of bytes) a b)
 all-lines {X} T z None bytes a b one = tt
 all-lines {X} T z (Some at) bytes a b one =
@@ -164,7 +164,8 @@ all-rest {X} T z (Some bytes) first left said l m total a b x same start so_far 
     (subst Q same (opened-advances z l.end bytes left said (T.said b) m total so_far))
     (from-opened T z bytes first said (T.said a) l m a b start goes) two))
 
-last-in : {X : Type 0} (T : Ghosts X) (z : SessionState) (e f : Option ℕ) (bytes : List ℕ) (m : Moment) (a b x : X)
+last-in : {X : Type 0} (T : Ghosts X) (z : SessionState) (e f : Option LogPlace) (bytes : List ℕ) (m : Moment)
+    (a b x : X)
     → IfSome e (λ at. FindsLines T at z 1 (cut_after (opened z e) bytes).whole a b)
     → Advances (T.said a) (T.said b) (opened z e) m bytes → GoesBeside T z.held e m.held.held f a b
     → IfSome f (λ at. FindsLines T at m.held m.number (last_line m.pending) b x)
@@ -223,8 +224,9 @@ held-last z bytes m alike =
     ∙ ap (λ (c : Cut). after_lines z (c.whole ++ last_line c.last)) first
     ∙ ap (after_lines z) (sym (lines_of-cut bytes))
 
-behind-from : {X : Type 0} (T : Ghosts X) (c d h : Holdings) (e f : Option ℕ) (a x : X) → GoesBeside T c e d f a x
-    → d ≡ h → IfSome e (λ at. (next : ℕ) × GoesOn T c at h next a x)
+behind-from : {X : Type 0} (T : Ghosts X) (c d h : Holdings) (e f : Option LogPlace) (a x : X)
+    → GoesBeside T c e d f a x
+    → d ≡ h → IfSome e (λ at. (next : LogPlace) × GoesOn T c at h next a x)
 behind-from {X} T c d h None f a x goes same = tt
 behind-from {X} T c d h (Some at) None a x goes same = absurd goes
 behind-from {X} T c d h (Some at) (Some next) a x goes same =

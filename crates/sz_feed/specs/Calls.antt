@@ -8,7 +8,7 @@ use Rattle.sz_outside.specs.Outside.{Rose, Stood, Says, SaysPart}
 use Rattle.sz_outside.specs.declared.stations.Station.{Ghosts}
 use Rattle.sz_commands.specs.Asks.{IsAskLine}
 use Rattle.sz_commands.specs.Logged.{KeepsLog, makes_durable}
-use Rattle.sz_commands.specs.States.{SessionState}
+use Rattle.sz_commands.specs.States.{SessionState, LogPlace}
 use Rattle.sz_commands.specs.Transcript.{replies_to, after_lines}
 use Rattle.sz_commands.specs.declared.asking.AskLine.{AskLine}
 use Rattle.sz_feed.specs.Moments.{Moment}
@@ -91,7 +91,7 @@ WritesOne s (line ∷ lines) =
 -- What a stop finds while lines are answered, before which a text is said: of a session of no log a
 -- first part of all that is said, over the disk as it was; and of one of a log, where nothing is
 -- said before them, so many of the lines answered, and a log of these.
-abbrev pub FindsBehind : {X : Type 0} → Ghosts X → Option ℕ → List ℕ → SessionState → ℕ
+abbrev pub FindsBehind : {X : Type 0} → Ghosts X → Option LogPlace → List ℕ → SessionState → ℕ
     → List (List ℕ) → X → X → Type 0
 FindsBehind T None first s n lines old new = OnlySays T (first ++ replies_to s n lines) old new
 FindsBehind T (Some at) first s n lines old new = FindsLines T at s n lines old new
@@ -107,7 +107,7 @@ pub record IsAnswered {X U : Type 0} (T : Ghosts X) (r : Result U Halt) (before 
   pub found : FindsBehind T before.end first before.held before.number lines old new
 
 -- Asks wait, no more than there may be askers; behind a log none do.
-pub record AreWaiting (end : Option ℕ) (waiting : List AskLine) : Type 0 where
+pub record AreWaiting (end : Option LogPlace) (waiting : List AskLine) : Type 0 where
   pub asks : AllByRecursion IsAskLine waiting
   pub few : length waiting ≤ 64
   pub idle : IfSome end (λ at. waiting ≡ [])

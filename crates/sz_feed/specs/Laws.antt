@@ -151,6 +151,7 @@ SessionsOfNoLogArePlain = (c : Holdings) (bytes : List ℕ)
 -- A session on a well-made log, each of whose stores stands for the relation, says what the
 -- catalogue alone tells: no store changes an answer.
 abbrev pub SoundLogsArePlain : Type 0
-SoundLogsArePlain = (disk : List ℕ) (at : ℕ) (c : Holdings) (kept : List Kept) (bytes : List ℕ)
-    → IsWellMade disk at c kept → AreSoundKept c kept
+SoundLogsArePlain = (disk : List ℕ) (at format : ℕ) (c : Holdings) (kept : List Kept)
+    (bytes : List ℕ)
+    → IsWellMade disk at format c kept → AreSoundKept c kept
     → transcript (state_of_log c kept) bytes ≡ plain_transcript c bytes

@@ -2,7 +2,7 @@
 use Rattle.std.specs.Prelude.{◌≡◌, ◌⊎◌, ℕ, ◌+◌, ◌<◌, List, [], length, Option, None}
 use Rattle.sz_script.specs.Reading.{line_limit}
 use Rattle.sz_commands.specs.Lines.{Cut, before_cut, cut, last_line, is_blank}
-use Rattle.sz_commands.specs.States.{SessionState}
+use Rattle.sz_commands.specs.States.{SessionState, LogPlace}
 use Rattle.sz_commands.specs.Transcript.{replies_to, after_lines}
 
 -- what is held, but for where a log ends; the bytes of the line that has not ended, and that line's
@@ -11,7 +11,7 @@ pub record Moment : Type 0 where
   pub held : SessionState
   pub pending : List ℕ
   pub number : ℕ
-  pub end : Option ℕ
+  pub end : Option LogPlace
 
 -- before the first byte, from what is held
 abbrev pub moment_before : SessionState → Moment

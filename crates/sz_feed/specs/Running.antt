@@ -11,7 +11,7 @@ use Rattle.sz_catalogue.specs.Holdings.{Holdings}
 use Rattle.sz_recover.specs.Logs.{Kept, IsWellMade}
 use Rattle.sz_recover.specs.Growing.{durable}
 use Rattle.sz_commands.specs.Lines.{last_line, lines_of}
-use Rattle.sz_commands.specs.States.{SessionState}
+use Rattle.sz_commands.specs.States.{SessionState, LogPlace}
 use Rattle.sz_commands.specs.Transcript.{replies_to, after_lines}
 use Rattle.sz_feed.specs.Moments.{Moment, cut_after}
 use Rattle.sz_commands.specs.Logged.{IsLeft, HasLog, GoesOn}
@@ -59,10 +59,11 @@ pub record PassesAmong (before now : ℕ) (past since : ℕ → List ℕ → Lis
 
 -- So time passed from an old station to a new one, while these lines were answered by the session
 -- of a log that ended at a place; whatever stores the log had kept.
-abbrev pub FindsLines : {X : Type 0} → Ghosts X → ℕ → SessionState → ℕ → List (List ℕ) → X → X
+abbrev pub FindsLines : {X : Type 0} → Ghosts X → LogPlace → SessionState → ℕ → List (List ℕ) → X
+    → X
     → Type 0
 FindsLines T at s n lines old new = IfSome (T.disk old) (λ disk. (kept : List Kept)
-    → IsWellMade disk at (durable s.held) kept
+    → IsWellMade disk at.gate at.format (durable s.held) kept
     → PassesAmong (T.moment old) (T.moment new) (T.left_since old) (T.left_since new)
     (FoundAt kept s n lines (T.said old)))
 
@@ -73,7 +74,8 @@ abbrev pub IsBeside : {X : Type 0} → Ghosts X → Moment → X → Type 0
 IsBeside T m x = HasLog T m.held.held m.end x
 
 -- From one moment to another the log went on beside what is held; a session of no log stays one.
-abbrev pub GoesBeside : {X : Type 0} → Ghosts X → Holdings → Option ℕ → Holdings → Option ℕ
+abbrev pub GoesBeside : {X : Type 0} → Ghosts X → Holdings → Option LogPlace → Holdings
+    → Option LogPlace
     → X → X → Type 0
 GoesBeside T c None d None old new = ⊤
 GoesBeside T c None d (Some next) old new = ⊥
@@ -105,18 +107,20 @@ FindsNext T m left total count old new =
     IfSome left (λ bytes. FindsIn T m (take count (drop total bytes)) old new)
 
 -- all lines of its bytes, from what was held as the session of a log began
-abbrev pub FindsAll : {X : Type 0} → Ghosts X → SessionState → Option ℕ → Option (List ℕ) → X → X
+abbrev pub FindsAll : {X : Type 0} → Ghosts X → SessionState → Option LogPlace → Option (List ℕ) → X
+    → X
     → Type 0
 FindsAll T s end left old new = IfSome left (λ bytes. IfSome end
     (λ at. FindsLines T at s 1 (lines_of bytes) old new))
 
 -- Where the source tells its bytes, the log went on from what it held to what is durable behind all
 -- of their lines, and no write is pending.
-abbrev pub StandsBehind : {X : Type 0} → Ghosts X → SessionState → Option ℕ → Option (List ℕ) → X
+abbrev pub StandsBehind : {X : Type 0} → Ghosts X → SessionState → Option LogPlace → Option (List ℕ)
+    → X
     → X
     → Type 0
 StandsBehind T s end left old new = IfSome left (λ bytes. IfSome end (λ at.
-    (next : ℕ) × GoesOn T s.held at (after_lines s (lines_of bytes)).held next old new))
+    (next : LogPlace) × GoesOn T s.held at (after_lines s (lines_of bytes)).held next old new))
 
 -- what is held as a log is gone on from: the catalogue that its groups make, and the stores that
 -- they give

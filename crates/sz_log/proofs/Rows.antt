@@ -101,8 +101,14 @@ kind_0 = refl
 pub kind_4 : group_on (set log 17 4) 16 ≡ Whole 4 26 27 53
 kind_4 = refl
 
-pub kind_5 : group_on (set log 17 5) 16 ≡ Bad
+pub kind_5 : group_on (set log 17 5) 16 ≡ Whole 5 26 27 53
 kind_5 = refl
+
+pub kind_6 : group_on (set log 17 6) 16 ≡ Whole 6 26 27 53
+kind_6 = refl
+
+pub kind_7 : group_on (set log 17 7) 16 ≡ Bad
+kind_7 = refl
 
 pub kind_255 : group_on (set log 17 255) 16 ≡ Bad
 kind_255 = refl

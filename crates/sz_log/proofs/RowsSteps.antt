@@ -24,8 +24,8 @@ long = replicate 18 7
 pub entry-one : IsLogGroup one
 entry-one = (refl, omega arith)
 
-pub entry-kind_5 : IsLogGroup (record { kind = 5; body = line }) → ⊥
-entry-kind_5 is = true≢false (sym is.0)
+pub entry-kind_7 : IsLogGroup (record { kind = 7; body = line }) → ⊥
+entry-kind_7 is = true≢false (sym is.0)
 
 pub entry-too_long : (e : LogGroup) → length e.body ≡ 2 ^ 64 → IsLogGroup e → ⊥
 entry-too_long e long is = omega (arith, long, is.1)
@@ -54,8 +54,8 @@ log-one_untold is = is.closed (sym (ap (λ (l : List ℕ). get_or l 16 0) is.byt
 pub log-other_end : IsLog log (one ∷ []) 54 → ⊥
 log-other_end is = let place : 54 ≡ 53 = is.place in omega (arith, place)
 
-pub log-kind_5 : IsLog (set log 17 5) (record { kind = 5; body = line } ∷ []) 53 → ⊥
-log-kind_5 is = true≢false (sym is.each.0.0)
+pub log-kind_7 : IsLog (set log 17 7) (record { kind = 7; body = line } ∷ []) 53 → ⊥
+log-kind_7 is = true≢false (sym is.each.0.0)
 
 pub ends-log : EndsAt (Some log) 53
 ends-log = (

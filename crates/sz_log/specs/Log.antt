@@ -11,7 +11,7 @@ use Rattle.sz_log.specs.declared.LogFault.TheVariants as fault
 
 -- The kinds of group.
 abbrev pub kinds : List ℕ
-kinds = 1 ∷ 2 ∷ 3 ∷ 4 ∷ []
+kinds = 1 ∷ 2 ∷ 3 ∷ 4 ∷ 5 ∷ 6 ∷ []
 
 abbrev pub is_kind : ℕ → Bool
 is_kind kind = list_any (λ k. k == kind) kinds

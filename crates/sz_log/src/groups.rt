@@ -10,7 +10,7 @@ use sz_numbers::eight_at;
 use sz_outside::{Failed, Station};
 
 /// The kinds of group.
-const KINDS: [u8; 4] = [1, 2, 3, 4];
+const KINDS: [u8; 6] = [1, 2, 3, 4, 5, 6];
 
 /// How a log begins: an open gate and a title.
 const HEADER: [u8; 16] = [

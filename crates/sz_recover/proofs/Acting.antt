@@ -1,9 +1,11 @@
 -- What a group does to what is held.
 --
--- The key idea: a group of kind 4 is no line, and any other group is no version, so it acts in one way at most.
-use Rattle.std.proofs.Common.{◌≡◌, ℕ, List, [], refl, sym, ap, ◌∙◌, inl, inr, true, false, true≢false}
-use Rattle.std.proofs.Common.{Option, Some, None}
-use Rattle.std.specs.Prelude.{Result, Ok, Err}
+-- The key idea: a version's group is no line, one of kind 5 is neither, and any other group is no version, so a group
+-- acts in one way at most.
+use Rattle.std.proofs.Common.{◌≡◌, ◌==◌, ℕ, List, [], refl, sym, ap, subst, ◌∙◌, inl, inr, Bool, true, false}
+use Rattle.std.proofs.Common.{true≢false, Option, Some, None}
+use Rattle.std.specs.Prelude.{if◌then◌else◌, Result, Ok, Err}
+use Rattle.std.proofs.lemmas.Bool.{eqb-true}
 use Rattle.sz_log.specs.Log.{LogGroup}
 use Rattle.sz_script.specs.Reading.{reading}
 use Rattle.sz_script.specs.declared.command.Command.{Command}
@@ -13,7 +15,8 @@ use Rattle.sz_catalogue.specs.Holdings.{Holdings}
 use Rattle.sz_catalogue.specs.Rules.{judged}
 use Rattle.sz_catalogue.specs.Changes.{accepted, changes_no_version}
 use Rattle.sz_bodies.specs.Fitting.{body_of}
-use Rattle.sz_recover.specs.Logs.{Acts, IsBad, held_by, held_behind, is_of_kind}
+use Rattle.sz_recover.specs.Logs.{Kept, Acts, ActsAsVersion, IsBad, held_by, held_behind, is_of_kind, version_kind}
+use Rattle.sz_recover.specs.Logs.{format_behind}
 use Rattle.sz_bodies.specs.Taking.{NoneIsLawful}
 
 abbrev pub entry_of : ℕ → List ℕ → LogGroup
@@ -53,23 +56,124 @@ line-refused c kind body order rule read own refused = ap (held_by c kind) read 
 
 -- ---- groups
 
--- no line has kind 4
-version-no_line : (c : Holdings) (r : Result Command Refusal) → held_by c 4 r ≡ None
-version-no_line c (Err rule) = refl
-version-no_line c (Ok (command.Array name array)) = refl
-version-no_line c (Ok _) = refl
+-- no line has the kind of a version's group, nor kind 5
+no-line-of : (kind : ℕ) → ((order : Command) → is_of_kind kind order ≡ false) → (c : Holdings)
+    (r : Result Command Refusal) → held_by c kind r ≡ None
+no-line-of kind other c (Err rule) = refl
+no-line-of kind other c (Ok order) = rw (other order) refl
 
-none-some : {X : Type 0} (o : Option X) (x : X) → o ≡ None → o ≡ Some x → ⊥
+of-kind-4 : (order : Command) → is_of_kind 4 order ≡ false
+of-kind-4 (command.Array name array) = refl
+of-kind-4 (command.Csv name array) = refl
+of-kind-4 (command.Layers name array) = refl
+of-kind-4 (command.Flow name flow) = refl
+of-kind-4 (command.Strategy name node list) = refl
+of-kind-4 _ = refl
+
+of-kind-5 : (order : Command) → is_of_kind 5 order ≡ false
+of-kind-5 (command.Array name array) = refl
+of-kind-5 (command.Csv name array) = refl
+of-kind-5 (command.Layers name array) = refl
+of-kind-5 (command.Flow name flow) = refl
+of-kind-5 (command.Strategy name node list) = refl
+of-kind-5 _ = refl
+
+of-kind-6 : (order : Command) → is_of_kind 6 order ≡ false
+of-kind-6 (command.Array name array) = refl
+of-kind-6 (command.Csv name array) = refl
+of-kind-6 (command.Layers name array) = refl
+of-kind-6 (command.Flow name flow) = refl
+of-kind-6 (command.Strategy name node list) = refl
+of-kind-6 _ = refl
+
+of-version-kind : (format : ℕ) (order : Command) → is_of_kind (version_kind format) order ≡ false
+of-version-kind format order = by (format == 2) where
+  by : (b : Bool) → is_of_kind (if b then 6 else 4) order ≡ false
+  by true = of-kind-6 order
+  by false = of-kind-4 order
+
+pub version-no-line : (format : ℕ) (c : Holdings) (r : Result Command Refusal)
+    → held_by c (version_kind format) r ≡ None
+version-no-line format c r = no-line-of (version_kind format) (of-version-kind format) c r
+
+pub upgrade-no-line : (c : Holdings) (r : Result Command Refusal) → held_by c 5 r ≡ None
+upgrade-no-line c r = no-line-of 5 of-kind-5 c r
+
+-- the kind of a version's group is not 5
+version-not-5 : (format : ℕ) → (version_kind format == 5) ≡ false
+version-not-5 format = by (format == 2) where
+  by : (b : Bool) → ((if b then 6 else 4) == 5) ≡ false
+  by true = refl
+  by false = refl
+
+pub version-no-upgrade : (format : ℕ) → version_kind format ≡ 5 → ⊥
+version-no-upgrade format is =
+    true≢false (sym (ap (λ (k : ℕ). k == 5) is) ∙ version-not-5 format)
+
+-- so the format stays behind it
+pub version-stays : (format : ℕ) (body : List ℕ) → format ≡ format_behind format (entry_of (version_kind format) body)
+version-stays format body = sym (ap (λ (b : Bool). if b then 2 else format) (version-not-5 format))
+
+-- and behind a line
+pub kind-stays : (format kind : ℕ) (order : Command) (body : List ℕ) → is_of_kind kind order ≡ true
+    → format ≡ format_behind format (entry_of kind body)
+kind-stays format kind order body is = by (kind == 5) refl where
+  by : (b : Bool) → (kind == 5) ≡ b → format ≡ (if b then 2 else format)
+  by false other = refl
+  by true same =
+      absurd (true≢false (sym is ∙ ap (λ (k : ℕ). is_of_kind k order) (eqb-true kind 5 same) ∙ of-kind-5 order))
+
+-- and behind any other group than one of kind 5
+pub other-stays : (format kind : ℕ) (body : List ℕ) → (kind ≡ 5 → ⊥)
+    → format ≡ format_behind format (entry_of kind body)
+other-stays format kind body other = by (kind == 5) refl where
+  by : (b : Bool) → (kind == 5) ≡ b → format ≡ (if b then 2 else format)
+  by false apart = refl
+  by true same = absurd (other (eqb-true kind 5 same))
+
+pub none-some : {X : Type 0} (o : Option X) (x : X) → o ≡ None → o ≡ Some x → ⊥
 none-some o x none some = let clash = sym none ∙ some in cc
 
-pub line-acts : (c d : Holdings) (e : LogGroup) → held_behind c e ≡ Some d → Acts c e d []
-line-acts c d e is = inl (record { held = is; none = refl })
+pub line-acts : (format : ℕ) (c d : Holdings) (e : LogGroup) → held_behind c e ≡ Some d
+    → Acts format c e (format_behind format e) d []
+line-acts format c d e is = (refl, inl (record { held = is; none = refl }))
 
-pub line-bad : (c : Holdings) (e : LogGroup) → (e.kind ≡ 4 → ⊥) → held_behind c e ≡ None → IsBad c e
-line-bad c e other none d kept (inl l) = none-some (held_behind c e) d none l.held
-line-bad c e other none d kept (inr v) = other v.kind
+pub line-bad : (format : ℕ) (c : Holdings) (e : LogGroup) → (e.kind ≡ version_kind format → ⊥) → (e.kind ≡ 5 → ⊥)
+    → held_behind c e ≡ None → IsBad format c e
+line-bad format c e other more none after d kept (to, inl l) = none-some (held_behind c e) d none l.held
+line-bad format c e other more none after d kept (to, inr (inl v)) = other v.kind
+line-bad format c e other more none after d kept (to, inr (inr u)) = more u.kind
 
-pub version-bad : (c : Holdings) (body : List ℕ) → NoneIsLawful c body → IsBad c (entry_of 4 body)
-version-bad c body none d kept (inl l) =
-    none-some (held_behind c (entry_of 4 body)) d (version-no_line c (reading body)) l.held
-version-bad c body none d kept (inr v) = none (body_of v.one.number v.version v.one.stores) v.lawful
+pub version-bad : (format : ℕ) (c : Holdings) (body : List ℕ) → NoneIsLawful format c body
+    → IsBad format c (entry_of (version_kind format) body)
+version-bad format c body none after d kept (to, inl l) =
+    none-some (held_behind c (entry_of (version_kind format) body)) d (version-no-line format c (reading body)) l.held
+version-bad format c body none after d kept (to, inr (inl v)) =
+    none (body_of v.one.number v.version v.one.stores) v.lawful
+version-bad format c body none after d kept (to, inr (inr u)) = version-no-upgrade format u.kind
+
+-- a version's group acts, and leaves the format
+pub version-acts : (format kind : ℕ) (c d : Holdings) (body : List ℕ) (kept : List Kept)
+    → kind ≡ version_kind format → ActsAsVersion format c (entry_of (version_kind format) body) d kept
+    → Acts format c (entry_of kind body) format d kept
+version-acts format kind c d body kept is acts =
+    subst (λ (k : ℕ). Acts format c (entry_of k body) format d kept) (sym is)
+    (version-stays format body, inr (inl acts))
+
+-- a group of kind 5 that has bytes, or stands in a log of another format than 1
+pub upgrade-bad : (format : ℕ) (c : Holdings) (body : List ℕ) → (format ≡ 1 → body ≡ [] → ⊥)
+    → IsBad format c (entry_of 5 body)
+upgrade-bad format c body other after d kept (to, inl l) =
+    none-some (held_behind c (entry_of 5 body)) d (upgrade-no-line c (reading body)) l.held
+upgrade-bad format c body other after d kept (to, inr (inl v)) = version-no-upgrade format (sym v.kind)
+upgrade-bad format c body other after d kept (to, inr (inr u)) = other u.first u.bare
+
+-- the first one acts where it is bare
+pub upgraded : (format after kind : ℕ) (c : Holdings) (body : List ℕ) → kind ≡ 5
+    → (format ≡ 1) × (after ≡ 2) × (body ≡ []) → Acts format c (entry_of kind body) after c []
+upgraded format after kind c body is own =
+    subst (λ (k : ℕ). Acts format c (entry_of k body) after c []) (sym is)
+    (own.1, inr (inr (record { kind = refl; bare = own.2; first = own.0; held = refl; none = refl })))
+
+pub upgrade-acts : (c : Holdings) → Acts 1 c (entry_of 5 []) 2 c []
+upgrade-acts c = (refl, inr (inr (record { kind = refl; bare = refl; first = refl; held = refl; none = refl })))

@@ -210,13 +210,13 @@ no-byte-read : from_be_bytes w64 (0 ∷ 0 ∷ 0 ∷ 0 ∷ 0 ∷ 0 ∷ 0 ∷ 300 
 no-byte-read = refl
 
 -- its groups are those that act
-pub well-made-log : (disk : List ℕ) (at : ℕ) (c : Holdings) (kept : List Kept) (made : IsWellMade disk at c kept)
-    → IsLog disk made.entries at
-well-made-log disk at c kept made = read-logs disk made.entries at made.header made.read made.spelled
+pub well-made-log : (disk : List ℕ) (at format : ℕ) (c : Holdings) (kept : List Kept)
+    (made : IsWellMade disk at format c kept) → IsLog disk made.entries at
+well-made-log disk at format c kept made = read-logs disk made.entries at made.header made.read made.spelled
 
 pub well-made-logs-end : WellMadeLogsEnd
-well-made-logs-end disk at c kept made = (made.entries, well-made-log disk at c kept made)
+well-made-logs-end disk at format c kept made = (made.entries, well-made-log disk at format c kept made)
 
 pub made-logs-end : MadeLogsEnd
-made-logs-end None at c kept made = tt
-made-logs-end (Some disk) at c kept made = well-made-logs-end disk at c kept made
+made-logs-end None at format c kept made = tt
+made-logs-end (Some disk) at format c kept made = well-made-logs-end disk at format c kept made

@@ -22,7 +22,7 @@ use Rattle.sz_log.specs.Log.{LogGroup}
 use Rattle.sz_spec.specs.declared.modes.Strategy.{Strategy}
 use Rattle.sz_spec.specs.Shapes.{Site}
 use Rattle.sz_store.specs.Kept.{Keep, NodeLineage, stored_in}
-use Rattle.sz_store.specs.Words.{BeginEach}
+use Rattle.sz_formats.specs.Words.{BeginEachIn}
 use Rattle.sz_script.specs.Reading.{reading}
 use Rattle.sz_script.specs.declared.command.Command.{Command}
 use Rattle.sz_script.specs.declared.command.Command.TheVariants as command
@@ -87,30 +87,31 @@ held-old (e ∷ es) n m v other = step (nat_cmp n e.0) refl (held-old es n m v o
 
 -- ---- the stores of a body
 
-strategies-begun : (s : Site) (ts : List Strategy) (bytes : List ℕ) (at next : ℕ) (fs : List Keep)
-    → BeginEach s ts bytes at next fs → map (λ (f : Keep). f.strategy) fs ≡ ts
-strategies-begun s [] bytes at next [] begin = refl
-strategies-begun s [] bytes at next (f ∷ fs) begin = absurd begin
-strategies-begun s (t ∷ ts) bytes at next [] begin = absurd begin
-strategies-begun s (t ∷ ts) bytes at next (f ∷ fs) begin =
-    ap₂ (λ (u : Strategy) (us : List Strategy). u ∷ us) begin.2 (strategies-begun s ts bytes begin.0 next fs begin.4)
+strategies-begun : (format : ℕ) (s : Site) (ts : List Strategy) (bytes : List ℕ) (at next : ℕ) (fs : List Keep)
+    → BeginEachIn format s ts bytes at next fs → map (λ (f : Keep). f.strategy) fs ≡ ts
+strategies-begun format s [] bytes at next [] begin = refl
+strategies-begun format s [] bytes at next (f ∷ fs) begin = absurd begin
+strategies-begun format s (t ∷ ts) bytes at next [] begin = absurd begin
+strategies-begun format s (t ∷ ts) bytes at next (f ∷ fs) begin =
+    ap₂ (λ (u : Strategy) (us : List Strategy). u ∷ us) begin.2
+    (strategies-begun format s ts bytes begin.0 next fs begin.4)
 
 -- the stores that a body says are those of their lists
-begin-stored : (sites : List Site) (lists : List (List Strategy)) (stores : List (Option NodeLineage))
+begin-stored : (format : ℕ) (sites : List Site) (lists : List (List Strategy)) (stores : List (Option NodeLineage))
     (bytes : List ℕ) (at next : ℕ) → FitNodes sites lists stores
-    → BeginNodes sites bytes at next (parts_of lists stores) → All HasItsStores stores
-begin-stored [] [] [] bytes at next fit begin = All-nil HasItsStores
-begin-stored [] [] (k ∷ stores) bytes at next fit begin = absurd fit
-begin-stored [] (l ∷ lists) stores bytes at next fit begin = absurd fit
-begin-stored (s ∷ sites) [] stores bytes at next fit begin = absurd fit
-begin-stored (s ∷ sites) (l ∷ lists) [] bytes at next fit begin = absurd fit
-begin-stored (s ∷ sites) (l ∷ lists) (None ∷ stores) bytes at next fit begin =
-    All-cons HasItsStores None stores tt (begin-stored sites lists stores bytes begin.1 next fit.1 begin.5)
-begin-stored (s ∷ sites) (l ∷ lists) (Some kept ∷ stores) bytes at next fit begin =
+    → BeginNodes format sites bytes at next (parts_of lists stores) → All HasItsStores stores
+begin-stored format [] [] [] bytes at next fit begin = All-nil HasItsStores
+begin-stored format [] [] (k ∷ stores) bytes at next fit begin = absurd fit
+begin-stored format [] (l ∷ lists) stores bytes at next fit begin = absurd fit
+begin-stored format (s ∷ sites) [] stores bytes at next fit begin = absurd fit
+begin-stored format (s ∷ sites) (l ∷ lists) [] bytes at next fit begin = absurd fit
+begin-stored format (s ∷ sites) (l ∷ lists) (None ∷ stores) bytes at next fit begin =
+    All-cons HasItsStores None stores tt (begin-stored format sites lists stores bytes begin.1 next fit.1 begin.5)
+begin-stored format (s ∷ sites) (l ∷ lists) (Some kept ∷ stores) bytes at next fit begin =
     let own : kept.list ≡ l = fit.0.1.own in
     All-cons HasItsStores (Some kept) stores
-    (strategies-begun s (stored_in l) bytes begin.0 begin.1 kept.stores begin.4 ∙ ap stored_in (sym own))
-    (begin-stored sites lists stores bytes begin.1 next fit.1 begin.5)
+    (strategies-begun format s (stored_in l) bytes begin.0 begin.1 kept.stores begin.4 ∙ ap stored_in (sym own))
+    (begin-stored format sites lists stores bytes begin.1 next fit.1 begin.5)
 
 -- ---- entries
 
@@ -256,35 +257,39 @@ version-more c v kept one number awaited fit stored are =
     }
 
 -- Behind a group that acts the entries are those of the versions, as they were before it.
-pub acts-keep : (c d : Holdings) (e : LogGroup) (kept more : List Kept) → AreOfVersions c kept → Acts c e d more
-    → AreOfVersions d (kept ++ more)
-acts-keep c d e kept more are (inl l) =
+pub acts-keep : (m n : ℕ) (c d : Holdings) (e : LogGroup) (kept more : List Kept) → AreOfVersions c kept
+    → Acts m c e n d more → AreOfVersions d (kept ++ more)
+acts-keep m n c d e kept more are (to, inl l) =
     subst (λ (ks : List Kept). AreOfVersions d (kept ++ ks)) (sym l.none)
     (subst (λ (ks : List Kept). AreOfVersions d ks) (sym (append-nil kept))
     (versions-same c d kept (line-versions c d e.kind (reading e.body) l.held) are))
-acts-keep c d e kept more are (inr v) =
+acts-keep m n c d e kept more are (to, inr (inr u)) =
+    subst (λ (ks : List Kept). AreOfVersions d (kept ++ ks)) (sym u.none)
+    (subst (λ (ks : List Kept). AreOfVersions d ks) (sym (append-nil kept))
+    (subst (λ (h : Holdings). AreOfVersions h kept) (sym u.held) are))
+acts-keep m n c d e kept more are (to, inr (inl v)) =
     let awaited : v.version.awaited ≡ true = ap (λ (w : Version). w.awaited) v.said in
     let body = v.lawful.spelled in
     let said = version_said c (body_of v.one.number v.version v.one.stores) in
     let fit : FitNodes (sites_of said) v.version.lists v.one.stores =
     subst (λ (w : Version). FitNodes (sites_of w) v.version.lists v.one.stores) v.said v.fit in
-    let stored = begin-stored (sites_of said) v.version.lists v.one.stores e.body body.place (length e.body) fit
+    let stored = begin-stored m (sites_of said) v.version.lists v.one.stores e.body body.place (length e.body) fit
     body.nodes in
     subst (λ (ks : List Kept). AreOfVersions d (kept ++ ks)) (sym v.kept_is)
     (subst (λ (h : Holdings). AreOfVersions h (kept ++ v.one ∷ [])) (sym v.held)
     (version-more c v.version kept v.one v.lawful.number awaited v.fit stored are))
 
-each-keep : (c d : Holdings) (es : List LogGroup) (kept more : List Kept) → AreOfVersions c kept
-    → ActEach c es d more → AreOfVersions d (kept ++ more)
-each-keep c d [] kept more are all =
-    subst (λ (ks : List Kept). AreOfVersions d (kept ++ ks)) (sym all.1)
+each-keep : (m n : ℕ) (c d : Holdings) (es : List LogGroup) (kept more : List Kept) → AreOfVersions c kept
+    → ActEach m c es n d more → AreOfVersions d (kept ++ more)
+each-keep m n c d [] kept more are all =
+    subst (λ (ks : List Kept). AreOfVersions d (kept ++ ks)) (sym all.2)
     (subst (λ (ks : List Kept). AreOfVersions d ks) (sym (append-nil kept))
-    (subst (λ (h : Holdings). AreOfVersions h kept) (sym all.0) are))
-each-keep c d (e ∷ es) kept more are all =
-    let mid = acts-keep c all.0 e kept all.1 are all.3 in
-    subst (λ (ks : List Kept). AreOfVersions d (kept ++ ks)) (sym all.5)
-    (subst (λ (ks : List Kept). AreOfVersions d ks) (append_assoc kept all.1 all.2)
-    (each-keep all.0 d es (kept ++ all.1) all.2 mid all.4))
+    (subst (λ (h : Holdings). AreOfVersions h kept) (sym all.1) are))
+each-keep m n c d (e ∷ es) kept more are all =
+    let mid = acts-keep m all.0 c all.1 e kept all.2 are all.4 in
+    subst (λ (ks : List Kept). AreOfVersions d (kept ++ ks)) (sym all.6)
+    (subst (λ (ks : List Kept). AreOfVersions d ks) (append_assoc kept all.2 all.3)
+    (each-keep all.0 n all.1 d es (kept ++ all.2) all.3 mid all.5))
 
 -- Of nothing that is held there is no entry.
 none-kept : AreOfVersions no_holdings []
@@ -298,7 +303,8 @@ nothing_kept c kept nothing none =
 -- ---- laws
 
 pub well-made : WellMadeLogsKeepTheirVersions
-well-made disk at c kept made = each-keep no_holdings c made.entries [] kept none-kept made.acts
+well-made disk at format c kept made =
+    each-keep 1 format no_holdings c made.entries [] kept none-kept made.acts
 
 under-first : (n : ℕ) (k : Kept) (kept : List Kept)
     → entries_under n (k ∷ kept) ≡ weight (k.number == n) + entries_under n kept

@@ -13,23 +13,25 @@ use Rattle.sz_recover.proofs.Ending.{logs-spelled, well-made-log}
 
 -- ---- one more group
 
-act-behind : (c d f : Holdings) (es : List LogGroup) (e : LogGroup) (kept more : List Kept) → ActEach c es d kept
-    → Acts d e f more → ActEach c (es ++ e ∷ []) f (kept ++ more)
-act-behind c d f [] e kept more all acts = (
+act-behind : (m n p : ℕ) (c d f : Holdings) (es : List LogGroup) (e : LogGroup) (kept more : List Kept)
+    → ActEach m c es n d kept → Acts n d e p f more → ActEach m c (es ++ e ∷ []) p f (kept ++ more)
+act-behind m n p c d f [] e kept more all acts = (
+  p,
   f,
   more,
   [],
-  subst (λ (h : Holdings). Acts h e f more) all.0 acts,
-  (refl, refl),
-  ap (λ (ks : List Kept). ks ++ more) all.1 ∙ sym (append-nil more),
+  subst (λ (k : ℕ). Acts k c e p f more) all.0 (subst (λ (h : Holdings). Acts n h e p f more) all.1 acts),
+  (refl, refl, refl),
+  ap (λ (ks : List Kept). ks ++ more) all.2 ∙ sym (append-nil more),
 )
-act-behind c d f (x ∷ es) e kept more all acts = (
+act-behind m n p c d f (x ∷ es) e kept more all acts = (
   all.0,
   all.1,
-  all.2 ++ more,
-  all.3,
-  act-behind all.0 d f es e all.2 more all.4 acts,
-  ap (λ (ks : List Kept). ks ++ more) all.5 ∙ append_assoc all.1 all.2 more,
+  all.2,
+  all.3 ++ more,
+  all.4,
+  act-behind all.0 n p all.1 d f es e all.3 more all.5 acts,
+  ap (λ (ks : List Kept). ks ++ more) all.6 ∙ append_assoc all.2 all.3 more,
 )
 
 -- ---- a log is well made where its groups act
@@ -37,9 +39,9 @@ act-behind c d f (x ∷ es) e kept more all acts = (
 begins : (es : List LogGroup) (rest : List ℕ) → begins_as_log (log_bytes es ++ rest) ≡ true
 begins es rest = refl
 
-log-made : (image : List ℕ) (at : ℕ) (es : List LogGroup) (c : Holdings) (kept : List Kept) → IsLog image es at
-    → ActEach no_holdings es c kept → IsWellMade image at c kept
-log-made image at es c kept held acts = record {
+log-made : (image : List ℕ) (at format : ℕ) (es : List LogGroup) (c : Holdings) (kept : List Kept) → IsLog image es at
+    → ActEach 1 no_holdings es format c kept → IsWellMade image at format c kept
+log-made image at format es c kept held acts = record {
   header = ap begins_as_log held.bytes ∙ begins es (held.gate ∷ held.behind);
   entries = es;
   read = groups_read image es at held;
@@ -48,44 +50,48 @@ log-made image at es c kept held acts = record {
 }
 
 grown-made : (image : List ℕ) (at : ℕ) (es : List LogGroup) (e : LogGroup) (g : Growth)
-    → ActEach no_holdings es g.before g.kept → Acts g.before e g.after g.more → IsLog image (es ++ e ∷ []) at
-    → IsWellMade image at g.after (g.kept ++ g.more)
+    → ActEach 1 no_holdings es g.format_before g.before g.kept
+    → Acts g.format_before g.before e g.format_after g.after g.more → IsLog image (es ++ e ∷ []) at
+    → IsWellMade image at g.format_after g.after (g.kept ++ g.more)
 grown-made image at es e g each acts held =
-    log-made image at (es ++ e ∷ []) g.after (g.kept ++ g.more) held
-    (act-behind no_holdings g.before g.after es e g.kept g.more each acts)
+    log-made image at g.format_after (es ++ e ∷ []) g.after (g.kept ++ g.more) held
+    (act-behind 1 g.format_before g.format_after no_holdings g.before g.after es e g.kept g.more each acts)
 
 pub logs-grow : LogsGrow
 logs-grow disk image at e g made acts adds =
     grown-made image (place_behind at e) made.entries e g made.acts acts
-    (adds made.entries (well-made-log disk at g.before g.kept made))
+    (adds made.entries (well-made-log disk at g.format_before g.before g.kept made))
 
 pub logs-grow-or-stay : LogsGrowOrStay
 logs-grow-or-stay disk image at e g made acts adds =
-    ⊎_elim (λ same. inl (log-made image at made.entries g.before g.kept same made.acts))
+    ⊎_elim (λ same. inl (log-made image at g.format_before made.entries g.before g.kept same made.acts))
     (λ more. inr (grown-made image (place_behind at e) made.entries e g made.acts acts more))
-    (adds made.entries (well-made-log disk at g.before g.kept made))
+    (adds made.entries (well-made-log disk at g.format_before g.before g.kept made))
 
 -- ---- where it is not said whether the disk is told
 
 pub made-logs-grow : MadeLogsGrow
 made-logs-grow None new at next e g made acts added place =
-    subst (λ (p : Option (List ℕ)). IsMade p next g.after (g.kept ++ g.more)) (sym added) tt
+    subst (λ (p : Option (List ℕ)). IsMade p next g.format_after g.after (g.kept ++ g.more)) (sym added) tt
 made-logs-grow (Some disk) new at next e g made acts (image, is, adds) place =
-    subst (λ (p : Option (List ℕ)). IsMade p next g.after (g.kept ++ g.more)) (sym is)
-    (subst (λ (n : ℕ). IsWellMade image n g.after (g.kept ++ g.more)) (sym place)
+    subst (λ (p : Option (List ℕ)). IsMade p next g.format_after g.after (g.kept ++ g.more)) (sym is)
+    (subst (λ (n : ℕ). IsWellMade image n g.format_after g.after (g.kept ++ g.more)) (sym place)
     (logs-grow disk image at e g made acts adds))
 
 -- ---- what a stop leaves, for the proofs of whoever adds a group
 
-images-grow : (disk old image : List ℕ) (at : ℕ) (e : LogGroup) (g : Growth) → IsWellMade disk at g.before g.kept
-    → Acts g.before e g.after g.more → old ≡ disk → AddsOrKeeps at e old image → GrowsOrKeeps at e g old image
+images-grow : (disk old image : List ℕ) (at : ℕ) (e : LogGroup) (g : Growth)
+    → IsWellMade disk at g.format_before g.before g.kept
+    → Acts g.format_before g.before e g.format_after g.after g.more → old ≡ disk → AddsOrKeeps at e old image
+    → GrowsOrKeeps at e g old image
 images-grow disk old image at e g made acts same adds =
     logs-grow-or-stay disk image at e g made acts (subst (λ (d : List ℕ). AddsOrKeeps at e d image) same adds)
 
 -- where no write is pending, each image that a stop in `append` leaves is a well-made log
 pub passes-grow : (before now : ℕ) (past since : ℕ → List ℕ → List ℕ → Type 0) (A C : List ℕ → Type 0)
-    (F : List ℕ → Type 0) (o : Option (List ℕ)) (at : ℕ) (e : LogGroup) (g : Growth) → IsMade o at g.before g.kept
-    → Acts g.before e g.after g.more → Only o A
+    (F : List ℕ → Type 0) (o : Option (List ℕ)) (at : ℕ) (e : LogGroup) (g : Growth)
+    → IsMade o at g.format_before g.before g.kept
+    → Acts g.format_before g.before e g.format_after g.after g.more → Only o A
     → Told o (Passes before now past since A C (AddsOrKeeps at e) F)
     → Told o (Passes before now past since A C (GrowsOrKeeps at e g) F)
 passes-grow before now past since A C F None at e g made acts only stops = tt

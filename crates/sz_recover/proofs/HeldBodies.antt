@@ -131,6 +131,6 @@ can-be-added c n v order found =
     }
 
 pub held-lawful : HeldBodiesAreLawful
-held-lawful c n stores bytes order some fit spelled =
+held-lawful format c n stores bytes order some fit spelled =
     let v : Version = version_of c n in
-    written-lawful (without c n) n v stores bytes (can-be-added c n v order (version-found c n some)) fit spelled
+    written-lawful format (without c n) n v stores bytes (can-be-added c n v order (version-found c n some)) fit spelled

@@ -2,12 +2,12 @@
 -- held.
 use Rattle.std.proofs.Common.{◌≡◌, inl, inr, ℕ, List, [], ◌∷◌, length, refl, sym, ap, subst, ◌∙◌}
 use Rattle.std.proofs.Common.{true, false, true≢false, Bool, ◌&&◌, not, ◌==◌, Option, Some, None, is_none, nat_le}
-use Rattle.std.specs.Prelude.{if◌then◌else◌, Result, Ok, Err}
+use Rattle.std.specs.Prelude.{if◌then◌else◌, ◌||◌, Result, Ok, Err}
+use Rattle.std.specs.List.{list_any}
 use Rattle.std.proofs.lemmas.Bool.{and_parts, eqb-true}
 use Rattle.sz_script.specs.Reading.{reading}
 use Rattle.sz_script.proofs.LawsLines.{are_right}
 use Rattle.sz_script.specs.declared.command.Command.{Command}
-use Rattle.sz_script.specs.declared.command.Command.TheVariants as command
 use Rattle.sz_script.specs.declared.refusal.Refusal.{Refusal}
 use Rattle.sz_catalogue.specs.Holdings.{Version, Holdings, no_holdings, version_numbered}
 use Rattle.sz_catalogue.specs.Starts.{workflow_of}
@@ -18,8 +18,8 @@ use Rattle.sz_log.specs.Log.{LogGroup}
 use Rattle.sz_bodies.specs.Bodies.{VersionBody}
 use Rattle.sz_bodies.specs.Fitting.{body_of}
 use Rattle.sz_bodies.specs.Lawful.{IsLawful, version_said}
-use Rattle.sz_recover.specs.Logs.{Kept, Acts, ActEach, IsWellMade, is_of_kind, held_by}
-use Rattle.sz_recover.specs.Growing.{IsInOrder, LogsAreInOrder}
+use Rattle.sz_recover.specs.Logs.{Kept, Acts, ActEach, is_of_kind, held_by}
+use Rattle.sz_recover.specs.Growing.{IsInOrder, LogsAreInOrder, FormatsAreByGroups}
 use Rattle.sz_recover.proofs.InOrder.{nothing-in-order, commands-keep, added-in-order, named-in}
 
 off : (b : Bool) → not b ≡ true → b ≡ false
@@ -49,9 +49,9 @@ line-in-order c d kind line (Ok x) read order held =
           subst IsInOrder same (commands-keep c x order (are_right line x read) is)
 
 -- a version
-version-in-order : (c : Holdings) (b : VersionBody) (bytes : List ℕ) → IsInOrder c → IsLawful c b bytes
-    → IsInOrder (with_version c b.number (version_said c b))
-version-in-order c b bytes order is =
+version-in-order : (format : ℕ) (c : Holdings) (b : VersionBody) (bytes : List ℕ) → IsInOrder c
+    → IsLawful format c b bytes → IsInOrder (with_version c b.number (version_said c b))
+version-in-order format c b bytes order is =
     let number = and_parts (nat_le 1 b.number) (rules.has_no_version c b.number) is.number in
     let count : length b.base ≡ (workflow_of c b.flow_name).graph.inputs =
     eqb-true (length b.base) (workflow_of c b.flow_name).graph.inputs
@@ -61,18 +61,41 @@ version-in-order c b bytes order is =
     (off (rules.has_no_flow c b.flow_name) is.flow) (off (rules.has_no_array c b.base) is.bases) count
     (off (rules.has_broken_shapes c b.flow_name b.base) is.shapes) is.lists)
 
-acts-in-order : (c d : Holdings) (e : LogGroup) (kept : List Kept) → IsInOrder c → Acts c e d kept → IsInOrder d
-acts-in-order c d e kept order (inl line) = line-in-order c d e.kind e.body (reading e.body) refl order line.held
-acts-in-order c d e kept order (inr v) =
-    let b : VersionBody = body_of v.one.number v.version v.one.stores in
-    let made = version-in-order c b e.body order v.lawful in
-    subst IsInOrder (ap (λ (x : Version). with_version c v.one.number x) (sym v.said) ∙ sym v.held) made
-
-each-in-order : (c d : Holdings) (es : List LogGroup) (kept : List Kept) → IsInOrder c → ActEach c es d kept
+acts-in-order : (m n : ℕ) (c d : Holdings) (e : LogGroup) (kept : List Kept) → IsInOrder c → Acts m c e n d kept
     → IsInOrder d
-each-in-order c d [] kept order all = subst IsInOrder (sym all.0) order
-each-in-order c d (e ∷ es) kept order all =
-    each-in-order all.0 d es all.2 (acts-in-order c all.0 e all.1 order all.3) all.4
+acts-in-order m n c d e kept order (to, inl line) =
+    line-in-order c d e.kind e.body (reading e.body) refl order line.held
+acts-in-order m n c d e kept order (to, inr (inl v)) =
+    let b : VersionBody = body_of v.one.number v.version v.one.stores in
+    let made = version-in-order m c b e.body order v.lawful in
+    subst IsInOrder (ap (λ (x : Version). with_version c v.one.number x) (sym v.said) ∙ sym v.held) made
+acts-in-order m n c d e kept order (to, inr (inr u)) = subst IsInOrder (sym u.held) order
+
+each-in-order : (m n : ℕ) (c d : Holdings) (es : List LogGroup) (kept : List Kept) → IsInOrder c
+    → ActEach m c es n d kept → IsInOrder d
+each-in-order m n c d [] kept order all = subst IsInOrder (sym all.1) order
+each-in-order m n c d (e ∷ es) kept order all =
+    each-in-order all.0 n all.1 d es all.3 (acts-in-order m all.0 c all.1 e all.2 order all.4) all.5
 
 pub logs-in-order : LogsAreInOrder
-logs-in-order disk at c kept made = each-in-order no_holdings c made.entries kept nothing-in-order made.acts
+logs-in-order disk at format c kept made =
+    each-in-order 1 format no_holdings c made.entries kept nothing-in-order made.acts
+
+-- ---- the format
+
+-- the format behind groups
+each-format : (m n : ℕ) (c d : Holdings) (es : List LogGroup) (kept : List Kept) → ActEach m c es n d kept
+    → n ≡ (if list_any (λ e. e.kind == 5) es then 2 else m)
+each-format m n c d [] kept all = all.0
+each-format m n c d (e ∷ es) kept all =
+    step (e.kind == 5) (list_any (λ x. x.kind == 5) es) all.4.0 (each-format all.0 n all.1 d es all.3 all.5)
+  where
+    step : (b t : Bool) → all.0 ≡ (if b then 2 else m) → n ≡ (if t then 2 else all.0)
+        → n ≡ (if (b || t) then 2 else m)
+    step true true here rest = rest
+    step true false here rest = rest ∙ here
+    step false true here rest = rest
+    step false false here rest = rest ∙ here
+
+pub formats-by-groups : FormatsAreByGroups
+formats-by-groups disk at format c kept made = each-format 1 format no_holdings c made.entries kept made.acts

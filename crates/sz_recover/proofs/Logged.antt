@@ -1,7 +1,7 @@
 -- What a session takes, its log takes too. The key idea: its log holds fewer cells and fewer versions, and the same
 -- arrays and flows, so what a rule lets pass over what is held it lets pass over what the log holds.
-use Rattle.std.proofs.Common.{◌≡◌, ℕ, ◌+◌, ◌≤◌, ◌<◌, List, [], ◌∷◌, length, refl, sym, ap, arith, true, false}
-use Rattle.std.proofs.Common.{true≢false, ◌&&◌, nat_lt, nat_le, Option, Some, None, is_none, inr}
+use Rattle.std.proofs.Common.{◌≡◌, ℕ, ◌+◌, ◌≤◌, ◌<◌, List, [], ◌∷◌, length, refl, sym, ap, subst, arith, true, false}
+use Rattle.std.proofs.Common.{true≢false, ◌&&◌, nat_lt, nat_le, Option, Some, None, is_none, inl, inr}
 use Rattle.std.proofs.lemmas.Bool.Decides.{nat_tests}
 use Rattle.sz_cells.specs.Extent.{size_of}
 use Rattle.sz_spec.specs.Values.{Grid}
@@ -14,9 +14,9 @@ use Rattle.sz_catalogue.specs.Rules.{version_of, first_of}
 use Rattle.sz_catalogue.specs.Changes.{accepted}
 use Rattle.sz_catalogue.proofs.Counts.{first-passed, neither}
 use Rattle.sz_bodies.specs.Lawful.{CanBeAdded}
-use Rattle.sz_recover.specs.Logs.{Kept, is_of_kind}
-use Rattle.sz_recover.specs.Growing.{durable, IsInOrder, LinesAct, LinesKeepVersions, AwaitsAct}
-use Rattle.sz_recover.proofs.Acting.{entry_of, line-held, line-acts}
+use Rattle.sz_recover.specs.Logs.{Kept, Acts, is_of_kind}
+use Rattle.sz_recover.specs.Growing.{durable, IsInOrder, LinesAct, LinesKeepVersions, AwaitsAct, UpgradesAct}
+use Rattle.sz_recover.proofs.Acting.{entry_of, line-held, line-acts, kind-stays, version-stays, upgrade-acts}
 use Rattle.sz_recover.proofs.Durable.{durable-cells, durable-room, version-found, await-settled, settled-new}
 use Rattle.sz_bodies.proofs.Written.{written-lawful}
 
@@ -54,10 +54,13 @@ line-durable c kind (command.Strategy name node list) own = refl
 line-durable c kind _ own = absurd (true≢false (sym own))
 
 pub lines-act : LinesAct
-lines-act c kind line order read own free =
+lines-act format c kind line order read own free =
     let d : Holdings = durable (accepted c order).0 in
-    line-acts (durable c) d (entry_of kind line)
-    (line-held (durable c) d kind line order read own (line-free c kind order own free) (line-durable c kind order own))
+    let e = entry_of kind line in
+    subst (λ (n : ℕ). Acts format (durable c) e n d []) (sym (kind-stays format kind order line own))
+    (line-acts format (durable c) d e
+    (line-held (durable c) d kind line order read own (line-free c kind order own free)
+    (line-durable c kind order own)))
 
 pub lines-keep : LinesKeepVersions
 lines-keep c kind (command.Array name array) own = refl
@@ -93,21 +96,26 @@ can-be-added c n v order found off =
     }
 
 pub awaits-act : AwaitsAct
-awaits-act c n stores body order some off fit spelled =
+awaits-act format c n stores body order some off fit spelled =
     let v : Version = version_of c n in
     let w : Version = record v { awaited = true } in
     let found = version-found c n some in
-    let lawful = written-lawful (durable c) n v stores body (can-be-added c n v order found off) fit spelled in
-    let one : Kept = record { number = n; stores = stores } in
-    inr (record {
-      kind = refl;
-      one = one;
-      version = w;
-      fit = fit;
-      lawful = lawful.0;
-      said = sym lawful.1;
-      held =
-          ap (λ (es : List (ℕ × Version)). record (durable c) { versions = es })
-          (await-settled c.versions n v w off refl order.rising found);
-      kept_is = refl;
-    })
+    let lawful = written-lawful format (durable c) n v stores body (can-be-added c n v order found off) fit spelled in
+    let one : Kept = record { number = n; stores = stores } in (
+      version-stays format body,
+      inr (inl (record {
+        kind = refl;
+        one = one;
+        version = w;
+        fit = fit;
+        lawful = lawful.0;
+        said = sym lawful.1;
+        held =
+            ap (λ (es : List (ℕ × Version)). record (durable c) { versions = es })
+            (await-settled c.versions n v w off refl order.rising found);
+        kept_is = refl;
+      })),
+    )
+
+pub upgrades-act : UpgradesAct
+upgrades-act c = upgrade-acts c

@@ -28,49 +28,52 @@ stand-more disk a b [] e same stands =
     (subst (λ (k : ℕ). Stands disk k e) (sym same) stands, ap (λ (k : ℕ). place_behind k e) same)
 stand-more disk a b (x ∷ es) e all stands = (all.0, stand-more disk (place_behind a x) b es e all.1 stands)
 
-act-more : (c d f : Holdings) (es : List LogGroup) (e : LogGroup) (kept more : List Kept) → ActEach c es d kept
-    → Acts d e f more → ActEach c (es ++ e ∷ []) f (kept ++ more)
-act-more c d f [] e kept more all acts = (
+act-more : (m n p : ℕ) (c d f : Holdings) (es : List LogGroup) (e : LogGroup) (kept more : List Kept)
+    → ActEach m c es n d kept → Acts n d e p f more → ActEach m c (es ++ e ∷ []) p f (kept ++ more)
+act-more m n p c d f [] e kept more all acts = (
+  p,
   f,
   more,
   [],
-  subst (λ (h : Holdings). Acts h e f more) all.0 acts,
-  (refl, refl),
-  ap (λ (ks : List Kept). ks ++ more) all.1 ∙ sym (append-nil more),
+  subst (λ (k : ℕ). Acts k c e p f more) all.0 (subst (λ (h : Holdings). Acts n h e p f more) all.1 acts),
+  (refl, refl, refl),
+  ap (λ (ks : List Kept). ks ++ more) all.2 ∙ sym (append-nil more),
 )
-act-more c d f (x ∷ es) e kept more all acts = (
+act-more m n p c d f (x ∷ es) e kept more all acts = (
   all.0,
   all.1,
-  all.2 ++ more,
-  all.3,
-  act-more all.0 d f es e all.2 more all.4 acts,
-  ap (λ (ks : List Kept). ks ++ more) all.5 ∙ append_assoc all.1 all.2 more,
+  all.2,
+  all.3 ++ more,
+  all.4,
+  act-more all.0 n p all.1 d f es e all.3 more all.5 acts,
+  ap (λ (ks : List Kept). ks ++ more) all.6 ∙ append_assoc all.2 all.3 more,
 )
 
-goes-more : (disk : List ℕ) (at next : ℕ) (c d : Holdings) (kept all more : List Kept) (e : LogGroup)
-    → GoesWell disk at c kept → Stands disk at e → next ≡ place_behind at e → Acts c e d more → all ≡ kept ++ more
-    → GoesWell disk next d all
-goes-more disk at next c d kept all more e well stands place acts is = record {
+goes-more : (disk : List ℕ) (at next m n : ℕ) (c d : Holdings) (kept all more : List Kept) (e : LogGroup)
+    → GoesWell disk at m c kept → Stands disk at e → next ≡ place_behind at e → Acts m c e n d more
+    → all ≡ kept ++ more → GoesWell disk next n d all
+goes-more disk at next m n c d kept all more e well stands place acts is = record {
   header = well.header;
   entries = well.entries ++ e ∷ [];
   stand = subst (λ (k : ℕ). StandEach disk 16 (well.entries ++ e ∷ []) k) (sym place)
       (stand-more disk 16 at well.entries e well.stand stands);
-  acts = subst (λ (ks : List Kept). ActEach no_holdings (well.entries ++ e ∷ []) d ks) (sym is)
-      (act-more no_holdings c d well.entries e kept more well.acts acts);
+  acts = subst (λ (ks : List Kept). ActEach 1 no_holdings (well.entries ++ e ∷ []) n d ks) (sym is)
+      (act-more 1 m n no_holdings c d well.entries e kept more well.acts acts);
 }
 
 -- where the disk is told
-pub so_far-start : (o : Option (List ℕ)) (c : Holdings) (kept : List Kept) → c ≡ no_holdings → kept ≡ []
-    → ((disk : List ℕ) → o ≡ Some disk → begins_as_log disk ≡ true) → IsSoFar o 16 c kept
-so_far-start None c kept nothing none header = tt
-so_far-start (Some disk) c kept nothing none header =
-    record { header = header disk refl; entries = []; stand = refl; acts = (nothing, none) }
+pub so_far-start : (o : Option (List ℕ)) (format : ℕ) (c : Holdings) (kept : List Kept) → format ≡ 1
+    → c ≡ no_holdings → kept ≡ [] → ((disk : List ℕ) → o ≡ Some disk → begins_as_log disk ≡ true)
+    → IsSoFar o 16 format c kept
+so_far-start None format c kept first nothing none header = tt
+so_far-start (Some disk) format c kept first nothing none header =
+    record { header = header disk refl; entries = []; stand = refl; acts = (first, nothing, none) }
 
-pub so_far-more : (o : Option (List ℕ)) (at next : ℕ) (c d : Holdings) (kept all : List Kept) → IsSoFar o at c kept
-    → TakesNext o at (Some next) c d kept all → IsSoFar o next d all
-so_far-more None at next c d kept all well takes = tt
-so_far-more (Some disk) at next c d kept all well takes =
-    goes-more disk at next c d kept all takes.3 takes.0 well takes.1 takes.2 takes.4 takes.5
+pub so_far-more : (o : Option (List ℕ)) (at next m n : ℕ) (c d : Holdings) (kept all : List Kept)
+    → IsSoFar o at m c kept → TakesNext o at (Some next) m n c d kept all → IsSoFar o next n d all
+so_far-more None at next m n c d kept all well takes = tt
+so_far-more (Some disk) at next m n c d kept all well takes =
+    goes-more disk at next m n c d kept all takes.3 takes.0 well takes.1 takes.2 takes.4 takes.5
 
 -- ---- the end
 
@@ -85,26 +88,28 @@ spelled-each : (disk : List ℕ) (a b : ℕ) (es : List LogGroup) → StandEach 
 spelled-each disk a b [] all = tt
 spelled-each disk a b (e ∷ es) all = (all.0.2, spelled-each disk (place_behind a e) b es all.1)
 
-pub so_far-end : (o : Option (List ℕ)) (at : ℕ) (c d : Holdings) (kept all : List Kept) → IsSoFar o at c kept
-    → TakesNext o at None c d kept all → IsMade o at d all
-so_far-end None at c d kept all well takes = tt
-so_far-end (Some disk) at c d kept all well takes = record {
+pub so_far-end : (o : Option (List ℕ)) (at m n : ℕ) (c d : Holdings) (kept all : List Kept) → IsSoFar o at m c kept
+    → TakesNext o at None m n c d kept all → IsMade o at n d all
+so_far-end None at m n c d kept all well takes = tt
+so_far-end (Some disk) at m n c d kept all well takes = record {
   header = well.header;
   entries = well.entries;
   read = reads-closed disk 16 at well.entries well.stand takes.0;
   spelled = spelled-each disk 16 at well.entries well.stand;
-  acts = subst (λ (h : Holdings). ActEach no_holdings well.entries h all) (sym takes.1)
-      (subst (λ (ks : List Kept). ActEach no_holdings well.entries c ks) (sym takes.2) well.acts);
+  acts = subst (λ (k : ℕ). ActEach 1 no_holdings well.entries k d all) (sym takes.1)
+      (subst (λ (h : Holdings). ActEach 1 no_holdings well.entries m h all) (sym takes.2)
+      (subst (λ (ks : List Kept). ActEach 1 no_holdings well.entries m c ks) (sym takes.3) well.acts));
 }
 
-pub so_far-broken : (o : Option (List ℕ)) (at place : ℕ) (c : Holdings) (kept : List Kept) → IsSoFar o at c kept
-    → IsBadOn o at c place → IsBroken o place
-so_far-broken None at place c kept well bad = tt
-so_far-broken (Some disk) at place c kept well bad = record {
+pub so_far-broken : (o : Option (List ℕ)) (at place format : ℕ) (c : Holdings) (kept : List Kept)
+    → IsSoFar o at format c kept → IsBadOn o at format c place → IsBroken o place
+so_far-broken None at place format c kept well bad = tt
+so_far-broken (Some disk) at place format c kept well bad = record {
+  format = format;
   c = c;
   kept = kept;
-  before = subst (λ (k : ℕ). GoesWell disk k c kept) (sym bad.0) well;
-  bad = subst (λ (k : ℕ). IsBadAt disk k c) (sym bad.0) bad.1;
+  before = subst (λ (k : ℕ). GoesWell disk k format c kept) (sym bad.0) well;
+  bad = subst (λ (k : ℕ). IsBadAt disk k format c) (sym bad.0) bad.1;
 }
 
 -- ---- what stands at a place
@@ -203,10 +208,10 @@ entry-there (Some disk) p at kind place long next count into same stands spelled
     )
 
 -- a group that is bad over what is held is bad at its place
-pub bad-on : (o : Option (List ℕ)) (at kind next : ℕ) (body : List ℕ) (c : Holdings) → IsEntryAt o at kind body next
-    → IsBad c (entry_of kind body) → IsBadOn o at c at
-bad-on None at kind next body c there bad = tt
-bad-on (Some disk) at kind next body c there bad = (refl, inr (entry_of kind body, there.0, bad))
+pub bad-on : (o : Option (List ℕ)) (at kind next format : ℕ) (body : List ℕ) (c : Holdings)
+    → IsEntryAt o at kind body next → IsBad format c (entry_of kind body) → IsBadOn o at format c at
+bad-on None at kind next format body c there bad = tt
+bad-on (Some disk) at kind next format body c there bad = (refl, inr (entry_of kind body, there.0, bad))
 
 -- the front of a list
 pub front : (xs ys : List ℕ) (n : ℕ) → length xs ≡ n → take n (xs ++ ys) ≡ xs

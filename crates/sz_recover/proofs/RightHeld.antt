@@ -152,10 +152,13 @@ line-right c d kind line (Ok x) read right held =
           let same : (accepted c x).0 ≡ d = cc in
           subst IsRightHeld same (lines-right c kind x of right (are_right line x read) (arrays-right line x read) is)
 
-pub acts-right : (c d : Holdings) (e : LogGroup) (kept : List Kept) → IsRightHeld c → Acts c e d kept → IsRightHeld d
-acts-right c d e kept right (inl line) = line-right c d e.kind e.body (reading e.body) refl right line.held
-acts-right c d e kept right (inr v) =
+pub acts-right : (m n : ℕ) (c d : Holdings) (e : LogGroup) (kept : List Kept) → IsRightHeld c → Acts m c e n d kept
+    → IsRightHeld d
+acts-right m n c d e kept right (to, inl line) =
+    line-right c d e.kind e.body (reading e.body) refl right line.held
+acts-right m n c d e kept right (to, inr (inl v)) =
     subst IsRightHeld (sym v.held) (record { arrays = right.arrays; flows = right.flows })
+acts-right m n c d e kept right (to, inr (inr u)) = subst IsRightHeld (sym u.held) right
 
 -- ---- what is held under a name is right
 
@@ -283,9 +286,9 @@ on : (b : Bool) → not (not b) ≡ true → b ≡ true
 on true is = refl
 on false is = absurd (true≢false (sym is))
 
-lawful-version : (c : Holdings) (b : VersionBody) (bytes : List ℕ) → IsLawful c b bytes
+lawful-version : (format : ℕ) (c : Holdings) (b : VersionBody) (bytes : List ℕ) → IsLawful format c b bytes
     → IsVersionIn c b.number (version_said c b)
-lawful-version c b bytes is =
+lawful-version format c b bytes is =
     let number = and_parts (nat_le 1 b.number) (rules.has_no_version c b.number) is.number in
     let count : length b.base ≡ (workflow_of c b.flow_name).graph.inputs =
     eqb-true (length b.base) (workflow_of c b.flow_name).graph.inputs
@@ -294,7 +297,7 @@ lawful-version c b bytes is =
     (off (rules.has_no_flow c b.flow_name) is.flow) (off (rules.has_no_array c b.base) is.bases) count
     (off (rules.has_broken_shapes c b.flow_name b.base) is.shapes) is.lists
 
-pub lawful-right : (c : Holdings) (b : VersionBody) (bytes : List ℕ) → IsRightHeld c → IsLawful c b bytes
-    → All IsRightSite (sites_of (version_said c b))
-lawful-right c b bytes right is =
-    sites-right c b.number (version_said c b) right (lawful-version c b bytes is)
+pub lawful-right : (format : ℕ) (c : Holdings) (b : VersionBody) (bytes : List ℕ) → IsRightHeld c
+    → IsLawful format c b bytes → All IsRightSite (sites_of (version_said c b))
+lawful-right format c b bytes right is =
+    sites-right c b.number (version_said c b) right (lawful-version format c b bytes is)

@@ -173,7 +173,14 @@ order-flow is = let own = is.flows (102 ∷ []) (record { graph = version.flow; 
 -- ---- a log that grows or stays
 
 abbrev growth : Growth
-growth = record { before = no_holdings; kept = []; after = no_holdings; more = [] }
+growth = record {
+  format_before = 1;
+  before = no_holdings;
+  kept = [];
+  format_after = 1;
+  after = no_holdings;
+  more = [];
+}
 
 pub stays-empty : GrowsOrKeeps 16 one growth empty_log empty_log
 stays-empty = inl empty-made
@@ -185,7 +192,7 @@ stays-not_cut (inr is) = true≢false (sym is.header)
 
 -- nor is the empty log, where stores were kept: it keeps none, and does not end behind the group
 pub stays-not_kept : GrowsOrKeeps 16 one (record growth { kept = right ∷ [] }) empty_log empty_log → ⊥
-stays-not_kept (inl is) = made-kept no_holdings right is
+stays-not_kept (inl is) = made-kept 1 no_holdings right is
 stays-not_kept (inr is) = none is.entries is.read where
   none : (es : List LogGroup) → Reads empty_log 16 es 53 → ⊥
   none [] (end, closed) = omega (arith, end)

@@ -9,63 +9,73 @@ use Rattle.sz_log.specs.Log.{LogGroup, empty_log, header}
 use Rattle.sz_log.proofs.Rows.{log, line, one, kind_0, cut_within, cut_behind_gate}
 use Rattle.sz_catalogue.specs.Holdings.{Holdings, no_holdings}
 use Rattle.sz_recover.specs.Logs.{Kept, IsWellMade, IsFirstBad, IsMade, IsNoLog, IsBroken, SaysWhy, has_read}
-use Rattle.sz_recover.specs.Logs.{ActsAsLine, ActsAsVersion, ActEach, Stands, StandEach, AreSpelled}
+use Rattle.sz_recover.specs.Logs.{Acts, ActsAsLine, ActsAsVersion, ActEach, Stands, StandEach, AreSpelled}
 use Rattle.sz_recover.specs.declared.opening.RecoverFault.TheVariants as fault
+use Rattle.sz_recover.proofs.Acting.{upgrade-acts, upgrade-bad}
 
 -- the empty log holds nothing
-pub empty-made : IsWellMade empty_log 16 no_holdings []
-empty-made = record { header = refl; entries = []; read = (refl, refl); spelled = tt; acts = (refl, refl) }
+pub empty-made : IsWellMade empty_log 16 1 no_holdings []
+empty-made = record { header = refl; entries = []; read = (refl, refl); spelled = tt; acts = (refl, refl, refl) }
 
 -- a group of a kind that is none is bad where its gate stands
 pub kind-bad : IsFirstBad (set log 17 0) 16
 kind-bad = record {
+  format = 1;
   c = no_holdings;
   kept = [];
-  before = record { header = refl; entries = []; stand = refl; acts = (refl, refl) };
+  before = record { header = refl; entries = []; stand = refl; acts = (refl, refl, refl) };
   bad = inl kind_0;
 }
 
 -- and so is one that is not wholly there
 pub cut-bad : IsFirstBad (take 40 log) 16
 cut-bad = record {
+  format = 1;
   c = no_holdings;
   kept = [];
-  before = record { header = refl; entries = []; stand = refl; acts = (refl, refl) };
+  before = record { header = refl; entries = []; stand = refl; acts = (refl, refl, refl) };
   bad = inl cut_within;
 }
 
 pub gate-bad : IsFirstBad (take 17 log) 16
 gate-bad = record {
+  format = 1;
   c = no_holdings;
   kept = [];
-  before = record { header = refl; entries = []; stand = refl; acts = (refl, refl) };
+  before = record { header = refl; entries = []; stand = refl; acts = (refl, refl, refl) };
   bad = inl cut_behind_gate;
 }
 
 -- ---- a log is not well made
 
 -- where it does not begin as one
-pub made-no_header : (at : ℕ) (c : Holdings) (kept : List Kept) → IsWellMade [] at c kept → ⊥
-made-no_header at c kept is = true≢false (sym is.header)
+pub made-no_header : (at format : ℕ) (c : Holdings) (kept : List Kept) → IsWellMade [] at format c kept → ⊥
+made-no_header at format c kept is = true≢false (sym is.header)
 
 -- where its gate is open, and nothing stands behind it
-pub made-open : (c : Holdings) (kept : List Kept) → IsWellMade (header ++ 1 ∷ []) 16 c kept → ⊥
-made-open c kept is = none is.entries is.read where
+pub made-open : (format : ℕ) (c : Holdings) (kept : List Kept) → IsWellMade (header ++ 1 ∷ []) 16 format c kept → ⊥
+made-open format c kept is = none is.entries is.read where
   none : (es : List LogGroup) → Reads (header ++ 1 ∷ []) 16 es 16 → ⊥
   none [] (end, closed) = cc
   none (e ∷ es) (group, body, rest) = cc
 
--- the empty log ends at byte 16, and holds and keeps nothing
-pub made-elsewhere : (c : Holdings) (kept : List Kept) → IsWellMade empty_log 17 c kept → ⊥
-made-elsewhere c kept is = none is.entries is.read where
+-- the empty log ends at byte 16, has format 1, and holds and keeps nothing
+pub made-elsewhere : (format : ℕ) (c : Holdings) (kept : List Kept) → IsWellMade empty_log 17 format c kept → ⊥
+made-elsewhere format c kept is = none is.entries is.read where
   none : (es : List LogGroup) → Reads empty_log 16 es 17 → ⊥
   none [] (end, closed) = omega (arith, end)
   none (e ∷ es) (group, body, rest) = cc
 
-pub made-kept : (c : Holdings) (k : Kept) → IsWellMade empty_log 16 c (k ∷ []) → ⊥
-made-kept c k is = none is.entries is.read is.acts where
-  none : (es : List LogGroup) → Reads empty_log 16 es 16 → ActEach no_holdings es c (k ∷ []) → ⊥
-  none [] read (same, kept) = cc
+pub made-kept : (format : ℕ) (c : Holdings) (k : Kept) → IsWellMade empty_log 16 format c (k ∷ []) → ⊥
+made-kept format c k is = none is.entries is.read is.acts where
+  none : (es : List LogGroup) → Reads empty_log 16 es 16 → ActEach 1 no_holdings es format c (k ∷ []) → ⊥
+  none [] read (to, same, kept) = cc
+  none (e ∷ es) (group, body, rest) acts = cc
+
+pub made-raised : (c : Holdings) (kept : List Kept) → IsWellMade empty_log 16 2 c kept → ⊥
+made-raised c kept is = none is.entries is.read is.acts where
+  none : (es : List LogGroup) → Reads empty_log 16 es 16 → ActEach 1 no_holdings es 2 c kept → ⊥
+  none [] read (to, same, own) = omega (arith, to)
   none (e ∷ es) (group, body, rest) acts = cc
 
 -- a length that is written otherwise than it is
@@ -98,17 +108,42 @@ stand-elsewhere (one, end) = omega (arith, end)
 pub line-kept : (c d : Holdings) (k : Kept) → ActsAsLine c one d (k ∷ []) → ⊥
 line-kept c d k is = let none = is.none in cc
 
--- a group of kind 1 is no version
-pub version-kind : (c d : Holdings) (kept : List Kept) → ActsAsVersion c one d kept → ⊥
+-- a group of kind 1 is no version, and none of kind 4 is one in format 2, nor one of kind 6 in format 1
+pub version-kind : (c d : Holdings) (kept : List Kept) → ActsAsVersion 1 c one d kept → ⊥
 version-kind c d kept is = omega (arith, is.kind)
+
+pub version-old : (c d : Holdings) (body : List ℕ) (kept : List Kept)
+    → ActsAsVersion 2 c (record { kind = 4; body = body }) d kept → ⊥
+version-old c d body kept is = omega (arith, is.kind)
+
+pub version-early : (c d : Holdings) (body : List ℕ) (kept : List Kept)
+    → ActsAsVersion 1 c (record { kind = 6; body = body }) d kept → ⊥
+version-early c d body kept is = omega (arith, is.kind)
+
+-- a group of kind 5 raises a log once, where it has no byte, and keeps nothing
+abbrev raise : LogGroup
+raise = record { kind = 5; body = [] }
+
+pub raised : (c : Holdings) → ActEach 1 c (raise ∷ []) 2 c []
+raised c = (2, c, [], [], upgrade-acts c, (refl, refl, refl), refl)
+
+pub raised-again : (after : ℕ) (c d : Holdings) (kept : List Kept) → Acts 2 c raise after d kept → ⊥
+raised-again after c d kept acts = upgrade-bad 2 c [] (λ first bare. omega (arith, first)) after d kept acts
+
+pub raised-with-bytes : (after : ℕ) (c d : Holdings) (kept : List Kept)
+    → Acts 1 c (record { kind = 5; body = 0 ∷ [] }) after d kept → ⊥
+raised-with-bytes after c d kept acts = upgrade-bad 1 c (0 ∷ []) (λ first bare. cc) after d kept acts
+
+pub raised-stays : (c d : Holdings) (kept : List Kept) → Acts 1 c raise 1 d kept → ⊥
+raised-stays c d kept acts = omega (arith, acts.0)
 
 -- ---- what opening tells of a told disk, and why a log was not opened
 
-pub told-made : IsMade (Some empty_log) 16 no_holdings []
+pub told-made : IsMade (Some empty_log) 16 1 no_holdings []
 told-made = empty-made
 
-pub told-not_made : (at : ℕ) (c : Holdings) (kept : List Kept) → IsMade (Some []) at c kept → ⊥
-told-not_made at c kept is = true≢false (sym is.header)
+pub told-not_made : (at format : ℕ) (c : Holdings) (kept : List Kept) → IsMade (Some []) at format c kept → ⊥
+told-not_made at format c kept is = true≢false (sym is.header)
 
 pub no_log-nothing : IsNoLog (Some [])
 no_log-nothing = refl

@@ -2,7 +2,9 @@
 --
 -- A group of kind 1 is a line that holds an array, one of kind 2 a line that holds a flow, and one
 -- of kind 3 a line that sets strategies: it acts as that line does. A group of kind 4 is the body
--- of a version, which it adds awaited, with its stores. Any other group is bad.
+-- of a version in format 1, and one of kind 6 that of a version in format 2: it adds the version
+-- awaited, with its stores. A log begins in format 1, and a group of kind 5 raises it to format 2,
+-- once. Any other group is bad.
 use Rattle.std.specs.Prelude.{◌≡◌, ◌⊎◌, ℕ, ◌+◌, ◌<◌, List, [], ◌∷◌, ◌++◌, length, Bool, true, false}
 use Rattle.std.specs.Prelude.{◌&&◌, ◌==◌, if◌then◌else◌, Option, Some, None, is_none, ⊤}
 use Rattle.std.specs.Prelude.{Result, Ok, Err}
@@ -58,30 +60,51 @@ pub record ActsAsLine (c : Holdings) (e : LogGroup) (d : Holdings) (kept : List 
   pub held : held_behind c e ≡ Some d
   pub none : kept ≡ []
 
--- the group is the lawful body of a version with these stores, which is added
-pub record ActsAsVersion (c : Holdings) (e : LogGroup) (d : Holdings) (kept : List Kept)
-    : Type 0 where
-  pub kind : e.kind ≡ 4
+-- the kind of a version's group in a format
+abbrev pub version_kind : ℕ → ℕ
+version_kind format = if format == 2 then 6 else 4
+
+-- the group is the lawful body of a version with these stores in the log's format, which is added
+pub record ActsAsVersion (format : ℕ) (c : Holdings) (e : LogGroup) (d : Holdings)
+    (kept : List Kept) : Type 0 where
+  pub kind : e.kind ≡ version_kind format
   pub one : Kept
   pub version : Version
   pub fit : Fit version one.stores
-  pub lawful : IsLawful c (body_of one.number version one.stores) e.body
+  pub lawful : IsLawful format c (body_of one.number version one.stores) e.body
   pub said : version ≡ version_said c (body_of one.number version one.stores)
   pub held : d ≡ with_version c one.number version
   pub kept_is : kept ≡ one ∷ []
 
--- what is held before a group and behind it, and the stores that are kept of it
-abbrev pub Acts : Holdings → LogGroup → Holdings → List Kept → Type 0
-Acts c e d kept = ActsAsLine c e d kept ⊎ ActsAsVersion c e d kept
+-- the group has no byte and stands in a log of format 1; nothing is held or kept of it
+pub record ActsAsUpgrade (format : ℕ) (c : Holdings) (e : LogGroup) (d : Holdings)
+    (kept : List Kept) : Type 0 where
+  pub kind : e.kind ≡ 5
+  pub bare : e.body ≡ []
+  pub first : format ≡ 1
+  pub held : d ≡ c
+  pub none : kept ≡ []
 
-abbrev pub IsBad : Holdings → LogGroup → Type 0
-IsBad c e = (d : Holdings) (kept : List Kept) → Acts c e d kept → ⊥
+-- the format of the log behind a group
+abbrev pub format_behind : ℕ → LogGroup → ℕ
+format_behind format e = if e.kind == 5 then 2 else format
+
+-- the format and what is held before a group and behind it, and the stores that are kept of it
+abbrev pub Acts : ℕ → Holdings → LogGroup → ℕ → Holdings → List Kept → Type 0
+Acts format c e after d kept = (after ≡ format_behind format e)
+    × (ActsAsLine c e d kept
+    ⊎ (ActsAsVersion format c e d kept ⊎ ActsAsUpgrade format c e d kept))
+
+abbrev pub IsBad : ℕ → Holdings → LogGroup → Type 0
+IsBad format c e = (after : ℕ) (d : Holdings) (kept : List Kept)
+    → Acts format c e after d kept → ⊥
 
 -- the same of groups one after another
-abbrev pub ActEach : Holdings → List LogGroup → Holdings → List Kept → Type 0
-ActEach c [] d kept = (d ≡ c) × (kept ≡ [])
-ActEach c (e ∷ es) d kept = (mid : Holdings) × (first : List Kept) × (rest : List Kept)
-    × Acts c e mid first × ActEach mid es d rest × (kept ≡ first ++ rest)
+abbrev pub ActEach : ℕ → Holdings → List LogGroup → ℕ → Holdings → List Kept → Type 0
+ActEach format c [] after d kept = (after ≡ format) × (d ≡ c) × (kept ≡ [])
+ActEach format c (e ∷ es) after d kept = (between : ℕ) × (mid : Holdings) × (first : List Kept)
+    × (rest : List Kept) × Acts format c e between mid first
+    × ActEach between mid es after d rest × (kept ≡ first ++ rest)
 
 -- ---- well-made logs
 
@@ -95,14 +118,15 @@ AreSpelled disk at [] = ⊤
 AreSpelled disk at (e ∷ es) = IsSpelled disk at e × AreSpelled disk (place_behind at e) es
 
 -- The disk begins as a log, and its groups are read up to a closed gate at a place, their lengths
--- as they are written; each acts on what those before it leave, and in the end this is held, and
--- these stores are kept.
-pub record IsWellMade (disk : List ℕ) (at : ℕ) (c : Holdings) (kept : List Kept) : Type 0 where
+-- as they are written; each acts on what those before it leave, from format 1 and nothing on, and
+-- in the end the log has this format, this is held, and these stores are kept.
+pub record IsWellMade (disk : List ℕ) (at format : ℕ) (c : Holdings) (kept : List Kept)
+    : Type 0 where
   pub header : begins_as_log disk ≡ true
   pub entries : List LogGroup
   pub read : Reads disk 16 entries at
   pub spelled : AreSpelled disk 16 entries
-  pub acts : ActEach no_holdings entries c kept
+  pub acts : ActEach 1 no_holdings entries format c kept
 
 -- the group stands at a place of the disk
 abbrev pub Stands : List ℕ → ℕ → LogGroup → Type 0
@@ -116,32 +140,34 @@ StandEach disk at [] end = at ≡ end
 StandEach disk at (e ∷ es) end = Stands disk at e × StandEach disk (place_behind at e) es end
 
 -- a bad group stands at a place: there is no gate, or no whole group behind an open one, or one
--- that is bad over what is held
-abbrev pub IsBadAt : List ℕ → ℕ → Holdings → Type 0
-IsBadAt disk at c =
-    (group_on disk at ≡ group.Bad) ⊎ ((e : LogGroup) × Stands disk at e × IsBad c e)
+-- that is bad in the format over what is held
+abbrev pub IsBadAt : List ℕ → ℕ → ℕ → Holdings → Type 0
+IsBadAt disk at format c =
+    (group_on disk at ≡ group.Bad) ⊎ ((e : LogGroup) × Stands disk at e × IsBad format c e)
 
 -- how far a log goes well: it begins as a log, and from byte 16 up to a place groups stand that act
 -- one after another
-pub record GoesWell (disk : List ℕ) (at : ℕ) (c : Holdings) (kept : List Kept) : Type 0 where
+pub record GoesWell (disk : List ℕ) (at format : ℕ) (c : Holdings) (kept : List Kept)
+    : Type 0 where
   pub header : begins_as_log disk ≡ true
   pub entries : List LogGroup
   pub stand : StandEach disk 16 entries at
-  pub acts : ActEach no_holdings entries c kept
+  pub acts : ActEach 1 no_holdings entries format c kept
 
 -- The first bad group of a log stands at a place: the log goes well up to there.
 pub record IsFirstBad (disk : List ℕ) (at : ℕ) : Type 0 where
+  pub format : ℕ
   pub c : Holdings
   pub kept : List Kept
-  pub before : GoesWell disk at c kept
-  pub bad : IsBadAt disk at c
+  pub before : GoesWell disk at format c kept
+  pub bad : IsBadAt disk at format c
 
 -- ---- what opening tells, where the disk is told
 
 -- it is well made
-abbrev pub IsMade : Option (List ℕ) → ℕ → Holdings → List Kept → Type 0
-IsMade None at c kept = ⊤
-IsMade (Some disk) at c kept = IsWellMade disk at c kept
+abbrev pub IsMade : Option (List ℕ) → ℕ → ℕ → Holdings → List Kept → Type 0
+IsMade None at format c kept = ⊤
+IsMade (Some disk) at format c kept = IsWellMade disk at format c kept
 
 -- it does not begin as a log
 abbrev pub IsNoLog : Option (List ℕ) → Type 0
@@ -170,9 +196,9 @@ has_read (Err (fault.BadLog at)) = true
 has_read (Err fault.NoMemory) = true
 
 -- the log goes well up to a place
-abbrev pub IsSoFar : Option (List ℕ) → ℕ → Holdings → List Kept → Type 0
-IsSoFar None at c kept = ⊤
-IsSoFar (Some disk) at c kept = GoesWell disk at c kept
+abbrev pub IsSoFar : Option (List ℕ) → ℕ → ℕ → Holdings → List Kept → Type 0
+IsSoFar None at format c kept = ⊤
+IsSoFar (Some disk) at format c kept = GoesWell disk at format c kept
 
 -- a group of this kind and with this body stands at a place, and behind it the next gate
 abbrev pub IsEntryAt : Option (List ℕ) → ℕ → ℕ → List ℕ → ℕ → Type 0
@@ -194,25 +220,26 @@ IsFurther at found.Bad = ⊤
 IsFurther at (found.Entry kind body next) = at < next
 
 -- what is read next acts, and behind it is the next place; or nothing changes at a closed gate
-abbrev pub TakesNext : Option (List ℕ) → ℕ → Option ℕ → Holdings → Holdings → List Kept → List Kept
-    → Type 0
-TakesNext None at next c d kept all = ⊤
-TakesNext (Some disk) at None c d kept all =
-    (group_on disk at ≡ group.Closed) × (d ≡ c) × (all ≡ kept)
-TakesNext (Some disk) at (Some next) c d kept all = (e : LogGroup) × Stands disk at e
-    × (next ≡ place_behind at e) × (more : List Kept) × Acts c e d more × (all ≡ kept ++ more)
+abbrev pub TakesNext : Option (List ℕ) → ℕ → Option ℕ → ℕ → ℕ → Holdings → Holdings → List Kept
+    → List Kept → Type 0
+TakesNext None at next format after c d kept all = ⊤
+TakesNext (Some disk) at None format after c d kept all =
+    (group_on disk at ≡ group.Closed) × (after ≡ format) × (d ≡ c) × (all ≡ kept)
+TakesNext (Some disk) at (Some next) format after c d kept all = (e : LogGroup)
+    × Stands disk at e × (next ≡ place_behind at e) × (more : List Kept)
+    × Acts format c e after d more × (all ≡ kept ++ more)
 
 -- a bad group stands at this place
-abbrev pub IsBadOn : Option (List ℕ) → ℕ → Holdings → ℕ → Type 0
-IsBadOn None at c place = ⊤
-IsBadOn (Some disk) at c place = (place ≡ at) × IsBadAt disk at c
+abbrev pub IsBadOn : Option (List ℕ) → ℕ → ℕ → Holdings → ℕ → Type 0
+IsBadOn None at format c place = ⊤
+IsBadOn (Some disk) at format c place = (place ≡ at) × IsBadAt disk at format c
 
 -- why it is not taken: it is bad there
-abbrev pub SaysBad : Option (List ℕ) → ℕ → Holdings → RecoverFault → Type 0
-SaysBad disk at c fault.Failed = ⊤
-SaysBad disk at c fault.NotALog = ⊥
-SaysBad disk at c (fault.BadLog place) = IsBadOn disk at c place
-SaysBad disk at c fault.NoMemory = ⊤
+abbrev pub SaysBad : Option (List ℕ) → ℕ → ℕ → Holdings → RecoverFault → Type 0
+SaysBad disk at format c fault.Failed = ⊤
+SaysBad disk at format c fault.NotALog = ⊥
+SaysBad disk at format c (fault.BadLog place) = IsBadOn disk at format c place
+SaysBad disk at format c fault.NoMemory = ⊤
 
 -- a fault that says nothing of the bytes
 abbrev pub IsPlain : RecoverFault → Type 0

@@ -41,8 +41,8 @@ pub record AreOfVersions (c : Holdings) (kept : List Kept) : Type 0 where
 
 -- The stores that a well-made log keeps are those of its versions.
 abbrev pub WellMadeLogsKeepTheirVersions : Type 0
-WellMadeLogsKeepTheirVersions = (disk : List ℕ) (at : ℕ) (c : Holdings) (kept : List Kept)
-    → IsWellMade disk at c kept → AreOfVersions c kept
+WellMadeLogsKeepTheirVersions = (disk : List ℕ) (at format : ℕ) (c : Holdings) (kept : List Kept)
+    → IsWellMade disk at format c kept → AreOfVersions c kept
 
 -- A version that is held has an entry; so it is awaited.
 abbrev pub HeldVersionsHaveEntries : Type 0

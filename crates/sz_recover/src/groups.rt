@@ -1,9 +1,11 @@
-//! What a group of a log does: the line that it has acts as that line does, and a version is added.
+//! What a group of a log does: the line that it has acts as that line does, a version is added, and
+//! the log's format is raised.
 
-ghost use Rattle.std.specs.Prelude.{◌≡◌, ◌++◌, List, Some, None, true, IfErr, OnOk};
+ghost use Rattle.std.specs.Prelude.{◌≡◌, ◌++◌, List, [], Some, None, true, IfErr, OnOk};
+ghost use Rattle.sz_formats.specs.Formats.{is_format};
 ghost use Rattle.sz_log.specs.Log.{LogGroup};
 ghost use Rattle.sz_recover.specs.Logs.{Kept, Acts, ActsAsVersion, IsBad, held_behind};
-ghost use Rattle.sz_recover.specs.Logs.{is_of_kind};
+ghost use Rattle.sz_recover.specs.Logs.{is_of_kind, version_kind};
 ghost use Rattle.sz_bodies.specs.Taking.{IfBad, NoneIsLawful};
 
 use std::alloc::Global;
@@ -32,28 +34,54 @@ impl Model for KeptVersion {
     ghost view = { λ k. record { number = k.version; stores = lineages k.nodes.items } };
 }
 
-/// The kind of the groups that have a version.
-const VERSION_KIND: u8 = 4;
+/// The kind of the group that raises a log to format 2.
+const UPGRADE_KIND: u8 = 5;
 
-/// Takes a group of a kind with a body over what is held, and keeps the stores of a version. `Bad`
-/// exactly where the group is bad there.
+/// The kind of the groups that have a version, in a format.
+pub fn version_kind(format: u8) -> u8
+    ensures { result ≡ version_kind format }
+{
+    if format == 2 { 6 } else { 4 }
+}
+
+/// Takes a group of a kind with a body in a format over what is held, and keeps the stores of a
+/// version. `Bad` exactly where the group is bad there.
 pub(crate) fn act(
     alloc: Global,
     catalogue: &mut Catalogue,
     kept: &mut Vec<KeptVersion>,
+    format: &mut u8,
     kind: u8,
     body: &[u8],
 ) -> Result<(), TakeFault>
+    requires { is_format format.old ≡ true }
     ensures ok { let e : LogGroup = record { kind = kind; body = body.now } in OnOk result (
-        (more : List Kept) × Acts catalogue.old e catalogue.new more
+        (more : List Kept) × Acts format.old catalogue.old e format.new catalogue.new more
         × (kept.new.items ≡ kept.old.items ++ more)) }
+    ensures format { OnOk result (is_format format.new ≡ true) }
     ensures err { let e : LogGroup = record { kind = kind; body = body.now } in
-        IfErr result (λ f. IfBad f (IsBad catalogue.old e)) }
+        IfErr result (λ f. IfBad f (IsBad format.old catalogue.old e)) }
 {
-    if kind == VERSION_KIND {
-        return act_as_version(alloc, catalogue, kept, body);
+    let own = version_kind(*format);
+    if kind == own {
+        return act_as_version(alloc, catalogue, kept, *format, body);
+    }
+    if kind == UPGRADE_KIND {
+        return act_as_upgrade(format, body);
     }
     act_as_line(alloc, catalogue, kind, body)
+}
+
+/// Raises a log of format 1, where the group has no byte.
+fn act_as_upgrade(format: &mut u8, body: &[u8]) -> Result<(), TakeFault>
+    ensures ok { OnOk result ((format.old ≡ 1) × (format.new ≡ 2) × (body.now ≡ [])) }
+    ensures err { IfErr result (λ f. IfBad f (format.old ≡ 1 → body.now ≡ [] → ⊥)) }
+{
+    if *format != 1 || !body.is_empty() {
+        return Err(TakeFault::Bad);
+    }
+    *format = 2;
+    Ok(())
 }
 
 /// Takes the line of a group of a kind.
@@ -100,19 +128,22 @@ fn is_of_kind(kind: u8, command: &Command) -> bool
     }
 }
 
-/// Adds the version of a body, and keeps its stores.
+/// Adds the version of a body in a format, and keeps its stores.
 fn act_as_version(
     alloc: Global,
     catalogue: &mut Catalogue,
     kept: &mut Vec<KeptVersion>,
+    format: u8,
     body: &[u8],
 ) -> Result<(), TakeFault>
-    ensures ok { let e : LogGroup = record { kind = 4; body = body.now } in OnOk result (
-        (more : List Kept) × ActsAsVersion catalogue.old e catalogue.new more
+    requires { is_format format ≡ true }
+    ensures ok { let e : LogGroup = record { kind = version_kind format; body = body.now } in
+        OnOk result ((more : List Kept)
+        × ActsAsVersion format catalogue.old e catalogue.new more
         × (kept.new.items ≡ kept.old.items ++ more)) }
-    ensures err { IfErr result (λ f. IfBad f (NoneIsLawful catalogue.old body.now)) }
+    ensures err { IfErr result (λ f. IfBad f (NoneIsLawful format catalogue.old body.now)) }
 {
-    let taken = take_version_body(alloc, catalogue, body)?;
+    let taken = take_version_body(alloc, catalogue, body, format)?;
     let version = HeldVersion {
         flow_name: taken.flow_name,
         flow: taken.flow,

@@ -5,6 +5,7 @@ ghost use Rattle.sz_recover.specs.Growing.{ReadGroupsAreLogs, LogsAreSpelled, We
 ghost use Rattle.sz_recover.specs.Growing.{MadeLogsEnd, LogsGrow, MadeLogsGrow, LogsGrowOrStay};
 ghost use Rattle.sz_recover.specs.Growing.{LinesAct};
 ghost use Rattle.sz_recover.specs.Growing.{LinesKeepVersions, AwaitsAct, AwaitsAreOnce};
+ghost use Rattle.sz_recover.specs.Growing.{UpgradesAct, FormatsAreByGroups};
 ghost use Rattle.sz_recover.specs.Growing.{StartsAreNotLogged, NothingIsInOrder};
 ghost use Rattle.sz_recover.specs.Growing.{HeldBodiesAreLawful};
 ghost use Rattle.sz_recover.specs.Growing.{CommandsKeepOrder, LogsAreInOrder};
@@ -64,6 +65,17 @@ pub fn awaits_act_on_logs()
     ensures once { AwaitsAreOnce }
 {}
 
+/// The empty group of kind 5 raises a log of format 1 to format 2, and changes nothing that is held
+/// or kept.
+pub fn upgrades_act_on_logs()
+    ensures { UpgradesAct }
+{}
+
+/// The format of a well-made log is 2 where it has a group of kind 5, and else 1.
+pub fn formats_are_by_groups()
+    ensures { FormatsAreByGroups }
+{}
+
 /// A log holds nothing of a version that is started.
 pub fn starts_are_not_logged()
     ensures { StartsAreNotLogged }
@@ -92,9 +104,9 @@ pub fn one_thing_is_told_of_stores()
     ensures one { OneThingIsTold }
 {}
 
-/// A log is read in one way: a well-made log ends at one place, holds one thing and keeps of each
-/// version stores that keep the same, and has no bad group; and the first bad group of a log stands
-/// at one place.
+/// A log is read in one way: a well-made log ends at one place, has one format, holds one thing and
+/// keeps of each version stores that keep the same, and has no bad group; and the first bad group
+/// of a log stands at one place.
 pub fn logs_are_read_in_one_way()
     ensures made { WellMadeLogsAreReadInOneWay }
     ensures whole { WellMadeLogsAreNotBad }

@@ -1,8 +1,9 @@
 //! What a log holds: its groups act on a catalogue, and the body of a version's group says which
 //! version it is, and has its stores.
 //!
-//! - [`catalogue_of`] opens a log: it gives the catalogue that its groups make, where its first
-//!   closed gate stands, and the stores of its versions; or the place of its first bad group.
+//! - [`catalogue_of`] opens a log: it gives its format, the catalogue that its groups make, where
+//!   its first closed gate stands, and the stores of its versions; or the place of its first bad
+//!   group.
 //! - [`unsound`] tells which store of an opened log, if any, does not stand for exactly the
 //!   relation of its node's operator: it runs each version again.
 //! - [`version_body`] writes the body of a version that is held.
@@ -10,9 +11,9 @@
 //!   What it gives can be added to the catalogue.
 //!
 //! ```
-//! let body = version_body(alloc, &catalogue, version, &stores)?;
+//! let body = version_body(alloc, &catalogue, version, &stores, 2)?;
 //! // over a catalogue that holds its flow and its base arrays, and no version of its number
-//! let taken = take_version_body(alloc, &other, &body)?;   // taken.number == version
+//! let taken = take_version_body(alloc, &other, &body, 2)?; // taken.number == version
 //! let opened: Recovered = catalogue_of(alloc, &mut station)?;
 //! let wrong = unsound(rt, alloc, &opened)?;   // None: each store is sound
 //! ```
@@ -26,7 +27,7 @@
 //! ends there as that asks (`MadeLogsEnd` of `specs/Growing`). A group that acts on what the log
 //! holds makes of it a well-made log again (`MadeLogsGrow`, by the clauses `added` and `end`), and
 //! so does what a stop leaves on the way (`LogsGrowOrStay`, by the clause `stops`); which groups
-//! act, `LinesAct` and `AwaitsAct` say. All are [`laws`].
+//! act, `LinesAct`, `AwaitsAct` and `UpgradesAct` say. All are [`laws`].
 //!
 //! `IsBodyOf` of `specs/Bodies` is what a body is; `Fit` of `specs/Fitting` is which stores fit a
 //! version, and `body_of` what its body says.
@@ -48,6 +49,6 @@ pub mod laws;
 mod opening;
 
 pub use checking::{WrongStore, unsound};
-pub use groups::KeptVersion;
+pub use groups::{KeptVersion, version_kind};
 pub use opening::{RecoverFault, Recovered, catalogue_of};
 pub use sz_bodies::{TakeFault, TakenVersion, take_version_body, version_body};

@@ -1,9 +1,10 @@
 //! Opening a log: its groups are read one after another, and act on what is held.
 
-ghost use Rattle.std.specs.Prelude.{◌≡◌, ◌<◌, [], IfOk, IfErr, IfSome, OnOk};
+ghost use Rattle.std.specs.Prelude.{◌≡◌, ◌<◌, [], true, IfOk, IfErr, IfSome, OnOk};
 ghost use Rattle.sz_outside.specs.Counts.{faults_after};
 ghost use Rattle.sz_outside.specs.Disk.{Told, Passes, Same, Said};
 ghost use Rattle.sz_catalogue.specs.Holdings.{no_holdings};
+ghost use Rattle.sz_formats.specs.Formats.{is_format};
 ghost use Rattle.sz_recover.specs.Logs.{IsMade, SaysWhy, TakesNext, SaysBad, IsNext, IsFurther};
 ghost use Rattle.sz_recover.specs.Logs.{IsPlain, has_read};
 ghost use Rattle.sz_recover.specs.Opened.{AreOfVersions};
@@ -16,14 +17,16 @@ use sz_catalogue::Catalogue;
 use sz_log::{Group, LogEnd, group_at, is_log};
 use sz_outside::{Failed, Station};
 
-/// What a log holds: the catalogue that its groups make, the place of its first closed gate, and
-/// the stores of its versions, in the order of the log: those of each version that is held, which
-/// was awaited, and no others.
+/// What a log holds: its format, 1 or 2, the catalogue that its groups make, the place of its first
+/// closed gate, and the stores of its versions, in the order of the log: those of each version that
+/// is held, which was awaited, and no others.
 #[derive(Drop)]
 pub struct Recovered {
+    pub format: u8,
     pub catalogue: Catalogue,
     pub end: LogEnd,
     pub stores: Vec<KeptVersion>,
+    pub ghost right: { is_format format ≡ true },
     ghost entries: { AreOfVersions catalogue stores.items } by { own-prop catalogue stores.items },
 }
 
@@ -73,14 +76,14 @@ impl<T: Drop> From<AllocFailed<T>> for RecoverFault {
     }
 }
 
-/// The catalogue that the groups of a well-made log make, with where its first closed gate stands
-/// and the stores of its versions. Each byte of the log is read once.
+/// The catalogue that the groups of a well-made log make, with the log's format, where its first
+/// closed gate stands and the stores of its versions. Each byte of the log is read once.
 ///
 /// Takes time in the bytes of the log, and for each group time in the logarithm of what is held;
 /// and memory in what is held, in the stores, and in the longest group.
 pub fn catalogue_of<T: Station>(alloc: Global, station: &mut T) -> Result<Recovered, RecoverFault>
     ensures made { IfOk result
-        (λ r. IsMade (T.disk station.old) r.end.at r.catalogue r.stores.items) }
+        (λ r. IsMade (T.disk station.old) r.end.at r.format r.catalogue r.stores.items) }
     ensures why { IfErr result (λ e. SaysWhy (T.disk station.old) e) }
     ensures counted { T.disk_faults station.new
         ≡ faults_after (T.disk_faults station.old) (has_read result) }
@@ -94,8 +97,10 @@ pub fn catalogue_of<T: Station>(alloc: Global, station: &mut T) -> Result<Recove
 {
     let mut catalogue = Catalogue::new(alloc);
     let mut stores = Vec::new(alloc);
-    match act_each(alloc, station, &mut catalogue, &mut stores) {
+    let mut format = 1;
+    match act_each(alloc, station, &mut catalogue, &mut stores, &mut format) {
         Ok(at) => Ok(Recovered {
+            format,
             catalogue,
             end: LogEnd { at },
             stores,
@@ -104,18 +109,22 @@ pub fn catalogue_of<T: Station>(alloc: Global, station: &mut T) -> Result<Recove
     }
 }
 
-/// Takes the groups of a log, from nothing on, and gives the place of the first closed gate.
+/// Takes the groups of a log, from format 1 and nothing on, and gives the place of the first closed
+/// gate.
 #[tactic(auto, using(crate::proofs::Entries::nothing_kept))]
 fn act_each<T: Station>(
     alloc: Global,
     station: &mut T,
     catalogue: &mut Catalogue,
     kept: &mut Vec<KeptVersion>,
+    format: &mut u8,
 ) -> Result<u64, RecoverFault>
     requires nothing { catalogue.old ≡ no_holdings }
     requires none { kept.old.items ≡ [] }
+    requires first { format.old ≡ 1 }
     ensures made { IfOk result
-        (λ at. IsMade (T.disk station.old) at catalogue.new kept.new.items) }
+        (λ at. IsMade (T.disk station.old) at format.new catalogue.new kept.new.items) }
+    ensures format { OnOk result (is_format format.new ≡ true) }
     ensures entries { OnOk result (AreOfVersions catalogue.new kept.new.items) }
     ensures why { IfErr result (λ e. SaysWhy (T.disk station.old) e) }
     ensures counted { T.disk_faults station.new
@@ -132,7 +141,7 @@ fn act_each<T: Station>(
         return Err(RecoverFault::NotALog);
     }
     let mut at = 16;
-    while let Some(next) = take_next(alloc, station, catalogue, kept, at)? {
+    while let Some(next) = take_next(alloc, station, catalogue, kept, format, at)? {
         at = next;
     }
     Ok(at)
@@ -145,14 +154,17 @@ fn take_next<T: Station>(
     station: &mut T,
     catalogue: &mut Catalogue,
     kept: &mut Vec<KeptVersion>,
+    format: &mut u8,
     at: u64,
 ) -> Result<Option<u64>, RecoverFault>
+    requires { is_format format.old ≡ true }
     ensures ok { IfOk result (λ next. TakesNext (T.disk station.old) at next
-        catalogue.old catalogue.new kept.old.items kept.new.items) }
+        format.old format.new catalogue.old catalogue.new kept.old.items kept.new.items) }
+    ensures format { OnOk result (is_format format.new ≡ true) }
     ensures entries { OnOk result (AreOfVersions catalogue.old kept.old.items
         → AreOfVersions catalogue.new kept.new.items) }
     ensures further { IfOk result (λ n. IfSome n (λ next. at < next)) }
-    ensures bad { IfErr result (λ e. SaysBad (T.disk station.old) at catalogue.old e) }
+    ensures bad { IfErr result (λ e. SaysBad (T.disk station.old) at format.old catalogue.old e) }
     ensures counted { T.disk_faults station.new
         ≡ faults_after (T.disk_faults station.old) (has_read result) }
     ensures disk { T.disk station.new ≡ T.disk station.old }
@@ -166,11 +178,13 @@ fn take_next<T: Station>(
     match next_group(alloc, station, at) {
         Ok(Next::End) => Ok(None),
         Ok(Next::Bad) => Err(RecoverFault::BadLog { at }),
-        Ok(Next::Entry { kind, body, next }) => match act(alloc, catalogue, kept, kind, &body) {
-            Ok(()) => Ok(Some(next)),
-            Err(TakeFault::Bad) => Err(RecoverFault::BadLog { at }),
-            Err(TakeFault::NoMemory) => Err(RecoverFault::NoMemory),
-        },
+        Ok(Next::Entry { kind, body, next }) => {
+            match act(alloc, catalogue, kept, format, kind, &body) {
+                Ok(()) => Ok(Some(next)),
+                Err(TakeFault::Bad) => Err(RecoverFault::BadLog { at }),
+                Err(TakeFault::NoMemory) => Err(RecoverFault::NoMemory),
+            }
+        }
         Err(fault) => Err(fault),
     }
 }

@@ -43,10 +43,10 @@ abbrev pub StopsUnlike : Status → Type 0
 StopsUnlike s = (s ≡ status.NotALog) ⊎ ((s ≡ status.DiskFault) ⊎ (s ≡ status.NoMemory))
 
 -- a disk that is a log, well made or bad somewhere, is none of these
-pub no_log-made : (o : Option (List ℕ)) (at : ℕ) (c : Holdings) (kept : List Kept) (Claim : Type 0) → IsMade o at c kept
-    → IfNoLog o Claim
-no_log-made None at c kept Claim made = tt
-no_log-made (Some disk) at c kept Claim made = λ other. absurd (true≢false (sym made.header ∙ other))
+pub no_log-made : (o : Option (List ℕ)) (at format : ℕ) (c : Holdings) (kept : List Kept) (Claim : Type 0)
+    → IsMade o at format c kept → IfNoLog o Claim
+no_log-made None at format c kept Claim made = tt
+no_log-made (Some disk) at format c kept Claim made = λ other. absurd (true≢false (sym made.header ∙ other))
 
 pub no_log-broken : (o : Option (List ℕ)) (at : ℕ) (Claim : Type 0) → IsBroken o at → IfNoLog o Claim
 no_log-broken None at Claim broken = tt
@@ -59,7 +59,7 @@ no_log-each (Some disk) Claim is = λ other. is
 
 -- a line is said of a well-made log
 no_log-line : (o : Option (List ℕ)) (line : List ℕ) (Claim : Type 0) → IsLineOf o line → IfNoLog o Claim
-no_log-line o line Claim is = no_log-made o is.at is.c is.kept Claim is.made
+no_log-line o line Claim is = no_log-made o is.at is.format is.c is.kept Claim is.made
 
 pub check-unlike : {X : Type 0} (T : Ghosts X) (s : Status) (a b : X) → ChecksLog T s a b
     → IfNoLog (T.disk a) (StopsUnlike s)

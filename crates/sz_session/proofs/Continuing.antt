@@ -14,7 +14,7 @@ use Rattle.sz_recover.specs.declared.opening.RecoverFault.{RecoverFault}
 use Rattle.sz_recover.specs.declared.opening.RecoverFault.TheVariants as recover
 use Rattle.sz_commands.specs.Stops.{StopsFinding}
 use Rattle.sz_commands.specs.Logged.{IsLogOf, Grows, GoesOn}
-use Rattle.sz_commands.specs.States.{SessionState}
+use Rattle.sz_commands.specs.States.{SessionState, LogPlace}
 use Rattle.sz_commands.specs.Lines.{lines_of}
 use Rattle.sz_commands.specs.Transcript.{after_lines}
 use Rattle.sz_feed.specs.Running.{FindsAll, StandsBehind, state_of_log}
@@ -71,7 +71,7 @@ unopened-counted {X} T recover.NoMemory r a b says rose stood = (refl, says, sto
 -- ---- a log
 
 -- a log that goes on from a station goes on from one before it too, where the disk reads alike
-behind-before : {X : Type 0} (T : Ghosts X) (s : SessionState) (at : ℕ) (left : Option (List ℕ)) (a b x : X)
+behind-before : {X : Type 0} (T : Ghosts X) (s : SessionState) (at : LogPlace) (left : Option (List ℕ)) (a b x : X)
     → T.disk b ≡ T.disk a → StandsBehind T s (Some at) left b x → StandsBehind T s (Some at) left a x
 behind-before {X} T s at None a b x reads behind = tt
 behind-before {X} T s at (Some bytes) a b x reads behind =
@@ -82,9 +82,9 @@ behind-before {X} T s at (Some bytes) a b x reads behind =
     (behind.0, goes)
 
 -- what was so since the log was opened is so from the start of the call
-pub opened : {X : Type 0} (T : Ghosts X) (s : Status) (limit at : ℕ) (c : Holdings) (kept : List Kept)
+pub opened : {X : Type 0} (T : Ghosts X) (s : Status) (limit : ℕ) (at : LogPlace) (c : Holdings) (kept : List Kept)
     (left rest : Option (List ℕ)) (a b x : X) → T.disk b ≡ T.disk a → T.said b ≡ T.said a
-    → StopsFinding T Same (Said (T.said a)) a b → IsMade (T.disk a) at c kept → IsLogOf T c at b
+    → StopsFinding T Same (Said (T.said a)) a b → IsMade (T.disk a) at.gate at.format c kept → IsLogOf T c at b
     → EndsLines (state_of_log c kept) s limit left rest (T.said b) (T.said x)
     → (s ≡ status.Done → StandsBehind T (state_of_log c kept) (Some at) left b x)
     → FindsAll T (state_of_log c kept) (Some at) left b x → EndsOpened T s limit left rest a x

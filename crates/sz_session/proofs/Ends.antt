@@ -9,7 +9,7 @@ use Rattle.std.specs.Prelude.{Option, Result, Ok, Err, OnOk, ◌⊎◌}
 use Rattle.sz_outside.specs.Outside.{Rose, Gives}
 use Rattle.sz_outside.specs.declared.stations.Station.{Ghosts}
 use Rattle.sz_feed.specs.Moments.{Moment, cut_after, told_at_end}
-use Rattle.sz_commands.specs.States.{SessionState}
+use Rattle.sz_commands.specs.States.{SessionState, LogPlace}
 use Rattle.sz_feed.specs.Serving.{Opening, Answered, AreAll, SaidToLimit}
 use Rattle.sz_feed.specs.Serving.{IsPastLimit, IsWithinLimit}
 use Rattle.sz_feed.specs.Disks.{StaysFinding, FoundInPart}
@@ -188,18 +188,18 @@ done-end (Err halt.NoMemory) P is owed = cc
 -- ---- what a stop finds
 
 -- of a session of no log, and of one of a log
-pub of-both : {X : Type 0} (T : Ghosts X) (e : Option ℕ) (o : Opening) (Claim : Type 0) (a b : X)
+pub of-both : {X : Type 0} (T : Ghosts X) (e : Option LogPlace) (o : Opening) (Claim : Type 0) (a b : X)
     → (e ≡ None → StaysFinding T (FoundInPart o.held o.left o.said) a b) → Claim → FindsOf T e o Claim a b
 of-both {X} T None o Claim a b stays claim = stays refl
 of-both {X} T (Some at) o Claim a b stays claim = claim
 
-pub of-stays : {X : Type 0} (T : Ghosts X) (e : Option ℕ) (o : Opening) (Claim : Type 0) (a b : X)
+pub of-stays : {X : Type 0} (T : Ghosts X) (e : Option LogPlace) (o : Opening) (Claim : Type 0) (a b : X)
     → FindsOf T e o Claim a b → e ≡ None → StaysFinding T (FoundInPart o.held o.left o.said) a b
 of-stays {X} T None o Claim a b found is = found
 of-stays {X} T (Some at) o Claim a b found is = cc
 
 -- what is so of a session of no log too
-pub of-claim : {X : Type 0} (T : Ghosts X) (e : Option ℕ) (o : Opening) (Claim : Type 0) (a b : X)
+pub of-claim : {X : Type 0} (T : Ghosts X) (e : Option LogPlace) (o : Opening) (Claim : Type 0) (a b : X)
     → FindsOf T e o Claim a b → (e ≡ None → Claim) → Claim
 of-claim {X} T None o Claim a b found none = none refl
 of-claim {X} T (Some at) o Claim a b found none = found

@@ -12,10 +12,11 @@ use Rattle.sz_catalogue.specs.Holdings.{Holdings}
 use Rattle.sz_recover.specs.Logs.{Kept, IsMade, IsNoLog, IsBroken}
 use Rattle.sz_recover.specs.OneReading.{WellMadeLogsAreNotBad, LogsAreFirstBadAtOnePlace}
 use Rattle.sz_feed.specs.Serving.{IsPastLimit, IsWithinLimit}
-use Rattle.sz_commands.specs.States.{SessionState}
+use Rattle.sz_commands.specs.States.{SessionState, LogPlace}
 use Rattle.sz_feed.specs.Running.{state_of_log}
 use Rattle.sz_session.specs.Continuing.{IsUnopened, EndsOnLog}
 use Rattle.sz_session.specs.Checking.{IsLineOf, IsUnlike, IfNoLog, IfBadLog, IsWellMadeLog}
+use Rattle.sz_session.specs.Raising.{HasRaised, RaisesLog}
 use Rattle.sz_session.specs.Statuses.{ChecksLog, EndsLines, AreCounted}
 use Rattle.sz_session.specs.declared.serving.Status.{Status}
 use Rattle.sz_session.specs.declared.serving.Status.TheVariants as status
@@ -34,7 +35,7 @@ made-begins (Some disk) made other = true≢false (sym made.3.header ∙ other)
 -- and is bad nowhere
 made-whole : WellMadeLogsAreNotBad → (o : Option (List ℕ)) (at : ℕ) → IsWellMadeLog o → IsBroken o at → ⊥
 made-whole law None at made broken = made
-made-whole law (Some disk) at made broken = law disk made.0 at made.1 made.2 made.3 broken
+made-whole law (Some disk) at made broken = law disk made.0.gate at made.0.format made.1 made.2 made.3 broken
 
 -- ---- a log that is bad at a place
 
@@ -43,14 +44,16 @@ abbrev pub StopsBroken : Status → ℕ → Type 0
 StopsBroken s at = (s ≡ status.BadLog at) ⊎ ((s ≡ status.DiskFault) ⊎ (s ≡ status.NoMemory))
 
 -- a well-made log is none of these
-broken-made : WellMadeLogsAreNotBad → (o : Option (List ℕ)) (at : ℕ) (c : Holdings) (kept : List Kept)
-    (Claim : ℕ → Type 0) → IsMade o at c kept → IfBadLog o Claim
+broken-made : WellMadeLogsAreNotBad → (o : Option (List ℕ)) (at : LogPlace) (c : Holdings) (kept : List Kept)
+    (Claim : ℕ → Type 0) → IsMade o at.gate at.format c kept → IfBadLog o Claim
 broken-made law None at c kept Claim made = tt
-broken-made law (Some disk) at c kept Claim made = λ place bad. absurd (law disk at place c kept made bad)
+broken-made law (Some disk) at c kept Claim made =
+    λ place bad. absurd (law disk at.gate place at.format c kept made bad)
 
 broken-line : WellMadeLogsAreNotBad → (o : Option (List ℕ)) (line : List ℕ) (Claim : ℕ → Type 0) → IsLineOf o line
     → IfBadLog o Claim
-broken-line law o line Claim is = broken-made law o is.at is.c is.kept Claim is.made
+broken-line law o line Claim is =
+    broken-made law o (record { gate = is.at; format = is.format }) is.c is.kept Claim is.made
 
 -- nor is a disk that does not begin as a log
 broken-no_log : (o : Option (List ℕ)) (Claim : ℕ → Type 0) → IsNoLog o → IfBadLog o Claim
@@ -88,7 +91,8 @@ unopened-unlike o _ why = absurd why
 pub run-unlike : {X : Type 0} (T : Ghosts X) (s : Status) (limit : ℕ) (left rest : Option (List ℕ)) (x y : X)
     → EndsOnLog T s limit left rest x y → IfNoLog (T.disk x) (StopsUnlike s)
 run-unlike {X} T s limit left rest x y (inl none) = unopened-unlike (T.disk x) s none.why
-run-unlike {X} T s limit left rest x y (inr one) = no_log-made (T.disk x) one.at one.c one.kept _ one.made
+run-unlike {X} T s limit left rest x y (inr one) =
+    no_log-made (T.disk x) one.at.gate one.at.format one.c one.kept _ one.made
 
 -- ---- a log that is bad at a place has the status of that place
 
@@ -119,6 +123,22 @@ check-broken whole place {X} T (status.BadLog at) x y ends = broken-there place 
 check-broken whole place {X} T status.NoMemory x y ends = broken-each (T.disk x) _ (λ at. inr (inr refl))
 check-broken whole place {X} T _ x y ends = absurd ends
 
+-- a log that was raised is bad nowhere
+broken-raised : WellMadeLogsAreNotBad → {X : Type 0} (T : Ghosts X) (x y : X) (Claim : ℕ → Type 0) → HasRaised T x y
+    → IfBadLog (T.disk x) Claim
+broken-raised law {X} T x y Claim one = broken-made law (T.disk x) one.at one.c one.kept Claim one.made
+
+pub upgrade-broken : WellMadeLogsAreNotBad → LogsAreFirstBadAtOnePlace → {X : Type 0} (T : Ghosts X) (s : Status)
+    (x y : X)
+    → RaisesLog T s x y → IfBadLog (T.disk x) (λ at. StopsBroken s at)
+upgrade-broken whole place {X} T status.Done x y ends = broken-raised whole T x y _ ends.0
+upgrade-broken whole place {X} T status.SayFault x y ends = broken-raised whole T x y _ ends.0
+upgrade-broken whole place {X} T status.DiskFault x y ends = broken-each (T.disk x) _ (λ at. inr (inl refl))
+upgrade-broken whole place {X} T status.NotALog x y ends = broken-no_log (T.disk x) _ ends.1.0
+upgrade-broken whole place {X} T (status.BadLog at) x y ends = broken-there place (T.disk x) at ends.1.0
+upgrade-broken whole place {X} T status.NoMemory x y ends = broken-each (T.disk x) _ (λ at. inr (inr refl))
+upgrade-broken whole place {X} T _ x y ends = absurd ends
+
 -- ---- a well-made log, where no count rose
 
 -- its check is done
@@ -134,6 +154,20 @@ check-completes whole {X} T (status.BadLog at) x y ends counted made no_disk no_
     absurd (made-whole whole (T.disk x) at made ends.1.0)
 check-completes whole {X} T status.NoMemory x y ends counted made no_disk no_say = inr refl
 check-completes whole {X} T _ x y ends counted made no_disk no_say = absurd ends
+
+-- and so is its raising
+pub upgrade-completes : WellMadeLogsAreNotBad → {X : Type 0} (T : Ghosts X) (s : Status) (x y : X) → RaisesLog T s x y
+    → AreCounted T s 0 0 x y → IsWellMadeLog (T.disk x) → (Rose (T.disk_faults x) (T.disk_faults y) → ⊥)
+    → (Rose (T.say_faults x) (T.say_faults y) → ⊥) → (s ≡ status.Done) ⊎ (s ≡ status.NoMemory)
+upgrade-completes whole {X} T status.Done x y ends counted made no_disk no_say = inl refl
+upgrade-completes whole {X} T status.SayFault x y ends counted made no_disk no_say = absurd (no_say counted.1)
+upgrade-completes whole {X} T status.DiskFault x y ends counted made no_disk no_say = absurd (no_disk counted.2)
+upgrade-completes whole {X} T status.NotALog x y ends counted made no_disk no_say =
+    absurd (made-begins (T.disk x) made ends.1.0)
+upgrade-completes whole {X} T (status.BadLog at) x y ends counted made no_disk no_say =
+    absurd (made-whole whole (T.disk x) at made ends.1.0)
+upgrade-completes whole {X} T status.NoMemory x y ends counted made no_disk no_say = inr refl
+upgrade-completes whole {X} T _ x y ends counted made no_disk no_say = absurd ends
 
 -- it is opened, unless there was no memory
 unopened-completes : WellMadeLogsAreNotBad → {X : Type 0} (T : Ghosts X) (s : Status) (r r' : ℕ) (x y : X)

@@ -4,6 +4,7 @@ pub mod Written
 pub mod Loads
 pub mod Makings
 pub mod Checkings
+pub mod Raisings
 pub mod Continuing
 pub mod Modes
 pub mod Exactly
@@ -11,5 +12,6 @@ pub mod Statuses
 pub mod Numbers
 pub mod Sayings
 mod RowsChecking
+mod RowsRaising
 mod RowsContinuing
 mod RowsSessions

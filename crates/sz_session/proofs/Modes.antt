@@ -14,7 +14,8 @@ use Rattle.sz_commands.specs.States.{SessionState, nothing_held}
 use Rattle.sz_feed.specs.Serving.{load_line}
 use Rattle.sz_session.specs.Statuses.{words_status, Ends, EndsLines, AreCounted, SaysSummary, MakesLog, ChecksLog}
 use Rattle.sz_session.specs.Modes.{mode_in, AsksFor, IfLoad, is_for}
-use Rattle.sz_session.specs.Modes.{EndsPlay, EndsLoad, EndsInit, EndsCheck, EndsRun, Serves}
+use Rattle.sz_session.specs.Modes.{EndsPlay, EndsLoad, EndsInit, EndsCheck, EndsUpgrade, EndsRun, Serves}
+use Rattle.sz_session.specs.Raising.{RaisesLog}
 use Rattle.sz_session.specs.declared.serving.Status.{Status}
 use Rattle.sz_session.specs.declared.serving.Status.TheVariants as status
 use Rattle.sz_words.specs.declared.Job.{Job}
@@ -26,6 +27,7 @@ use Rattle.sz_feed.proofs.Told.{none-in_lines}
 use Rattle.sz_feed.proofs.Turns.{says-nothing}
 use Rattle.sz_feed.proofs.Disks.{stays-still, start-stays, making-still}
 use Rattle.sz_session.proofs.Checkings.{line-stops}
+use Rattle.sz_session.proofs.Raisings.{raising-still}
 use Rattle.sz_session.proofs.Continuing.{unopened-still}
 
 -- ---- what is asked for
@@ -104,16 +106,18 @@ pub by-mode : {Y X : Type 0} (S : source.Ghosts Y) (T : Ghosts X) (o : Option Jo
     → (AsksFor mode.Load o → (line : List ℕ) → EndsLoad T s line old new → Claim)
     → (AsksFor mode.Init o → EndsInit T s old new → Claim)
     → (AsksFor mode.Check o → EndsCheck T s old new → Claim)
+    → (AsksFor mode.Upgrade o → EndsUpgrade T s old new → Claim)
     → (AsksFor mode.Run o → RunEnds S T s before after old new → Claim) → Claim
-by-mode {Y} {X} S T None s before after old new Claim serves none play load init check run =
+by-mode {Y} {X} S T None s before after old new Claim serves none play load init check upgrade run =
     none refl (serves.refused refl) (serves.untouched refl).1
-by-mode {Y} {X} S T (Some job) s before after old new Claim serves none play load init check run =
+by-mode {Y} {X} S T (Some job) s before after old new Claim serves none play load init check upgrade run =
     by job.mode refl where
       by : (m : JobMode) → AsksFor m (Some job) → Claim
       by mode.Play is = play is (serves.play is)
       by mode.Init is = init is (serves.init is)
       by mode.Run is = run is (serves.run is)
       by mode.Check is = check is (serves.check is)
+      by mode.Upgrade is = upgrade is (serves.upgrade is)
       by mode.Load is = load is (load_line job) (serves.load (same_Some _ _ is))
 
 -- ---- statuses
@@ -195,6 +199,15 @@ idle-check {X} T s x only counts is = record {
   found = line-stops T [] x x (inl refl) (stays-still T [] x only counts);
 }
 
+idle-upgrade : {X : Type 0} (T : Ghosts X) (s : Status) (x : X) → FindsNow T x → CountsNow T x → s ≡ status.NoMemory
+    → EndsUpgrade T s x x
+idle-upgrade {X} T s x only counts is = record {
+  ends = subst (λ (z : Status). RaisesLog T z x x) (sym is)
+      (record { silent = record { said = refl; quiet = refl }; reads = refl });
+  counted = idle-counted T s 0 x is;
+  found = raising-still T x only counts;
+}
+
 idle-run : {X : Type 0} (T : Ghosts X) (s : Status) (limit r : ℕ) (left : Option (List ℕ)) (x : X) → FindsNow T x
     → CountsNow T x → s ≡ status.NoMemory → EndsRun T s limit r r left left x x
 idle-run {X} T s limit r left x only counts is = record {
@@ -215,6 +228,7 @@ idle-serves {Y} {X} S T o s y x only counts refused memory = record {
       (λ asked line. idle-load T s line x only counts (memory mode.Load asked));
   init = λ asked. idle-init T s x only counts (memory mode.Init asked);
   check = λ asked. idle-check T s x only counts (memory mode.Check asked);
+  upgrade = λ asked. idle-upgrade T s x only counts (memory mode.Upgrade asked);
   run = λ asked. idle-run T s (2 ^ 62) (S.faults y) (S.left y) x only counts (memory mode.Run asked);
 }
 

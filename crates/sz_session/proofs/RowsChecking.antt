@@ -2,7 +2,7 @@
 --
 -- The key idea: one line can be said of what is kept, so another is refused by a byte in which it differs.
 use Rattle.std.proofs.Common.{◌≡◌, ℕ, List, [], ◌∷◌, ◌++◌, Option, Some, None, refl, sym, ap, subst, arith}
-use Rattle.std.proofs.Common.{true≢false, length, get_or, unwrap_or, codes, take, length-append}
+use Rattle.std.proofs.Common.{true≢false, length, get_or, codes, take, length-append}
 use Rattle.std.specs.Fmt.{digits}
 use Rattle.std.proofs.lemmas.List.Elements.{All-nil}
 use Rattle.sz_outside.specs.Outside.{Says}
@@ -12,8 +12,8 @@ use Rattle.sz_log.specs.Laws.{Reads}
 use Rattle.sz_log.proofs.Rows.{log}
 use Rattle.sz_spec.specs.declared.modes.Strategy.TheVariants as strategy
 use Rattle.sz_catalogue.specs.Holdings.{Holdings, no_holdings}
-use Rattle.sz_recover.specs.Logs.{Kept, ActEach, IsWellMade, IsMade, IsNoLog, IsBroken}
-use Rattle.sz_recover.specs.Soundness.{TellsOfAll, IsSoundKept}
+use Rattle.sz_recover.specs.Logs.{Kept, ActEach, IsWellMade, IsNoLog, IsBroken}
+use Rattle.sz_recover.specs.Soundness.{IsSoundKept}
 use Rattle.sz_recover.specs.declared.checking.WrongStore.{WrongStore}
 use Rattle.sz_recover.proofs.RowsLogs.{empty-made, gate-bad}
 use Rattle.sz_recover.proofs.RowsSound.{held, right, wrong, sound_0, sound_1, first-is}
@@ -21,6 +21,7 @@ use Rattle.sz_recover.proofs.OneReading.{made-whole}
 use Rattle.sz_session.specs.Checking.{sound_line, check_line, TellsLine, IsLineOf, SaysLine, IsUnlike, IsBadLog}
 use Rattle.sz_session.specs.Checking.{IfNoLog, IfBadLog, IsWellMadeLog, BeginsAsLog}
 use Rattle.sz_session.proofs.Sayings.{one-line}
+use Rattle.sz_commands.proofs.RowsLogged.{begun}
 
 -- ---- lines
 
@@ -88,10 +89,10 @@ tells-nothing is =
 -- ---- the line of a log
 
 -- the empty log keeps nothing
-empty-keeps : (at : ℕ) (c : Holdings) (kept : List Kept) → IsWellMade empty_log at c kept → kept ≡ []
-empty-keeps at c kept is = none is.entries is.read is.acts where
-  none : (es : List LogGroup) → Reads empty_log 16 es at → ActEach no_holdings es c kept → kept ≡ []
-  none [] read (same, kept_is) = kept_is
+empty-keeps : (at format : ℕ) (c : Holdings) (kept : List Kept) → IsWellMade empty_log at format c kept → kept ≡ []
+empty-keeps at format c kept is = none is.entries is.read is.acts where
+  none : (es : List LogGroup) → Reads empty_log 16 es at → ActEach 1 no_holdings es format c kept → kept ≡ []
+  none [] read (first, same, kept_is) = kept_is
   none (e ∷ es) (group, body, rest) acts = cc
 
 tells-none : (c : Holdings) (line : List ℕ) → TellsLine c [] line → line ≡ sound_line 0
@@ -103,11 +104,12 @@ tells-none c line (Some w, tells, is) =
 pub line_of-empty : (line : List ℕ) → IsLineOf (Some empty_log) line → line ≡ sound_line 0
 line_of-empty line is =
     tells-none is.c line
-    (subst (λ (ks : List Kept). TellsLine is.c ks line) (empty-keeps is.at is.c is.kept is.made) is.tells)
+    (subst (λ (ks : List Kept). TellsLine is.c ks line) (empty-keeps is.at is.format is.c is.kept is.made) is.tells)
 
 pub line_of-empty_is : IsLineOf (Some empty_log) (sound_line 0)
 line_of-empty_is = record {
   at = 16;
+  format = 1;
   c = no_holdings;
   kept = [];
   made = empty-made;
@@ -139,7 +141,7 @@ module _ {X : Type 0} (T : Ghosts X) (old new : X) where
   -- a well-made log is not bad anywhere
   pub bad-well_made : (at : ℕ) → T.disk old ≡ Some empty_log → IsBadLog T at old new → ⊥
   bad-well_made at told is =
-      made-whole empty_log 16 at no_holdings [] empty-made (subst (λ (o : Option (List ℕ)). IsBroken o at) told is.0)
+      made-whole empty_log 16 at 1 no_holdings [] empty-made (subst (λ (o : Option (List ℕ)). IsBroken o at) told is.0)
 
   pub bad-quiet : (at : ℕ) → IsBadLog T at old new → T.disk_faults new ≡ T.disk_faults old
   bad-quiet at is = is.1
@@ -162,7 +164,7 @@ pub if_bad-untold : IfBadLog None (λ at. ⊥)
 if_bad-untold = tt
 
 pub well_made-empty : IsWellMadeLog (Some empty_log)
-well_made-empty = (16, no_holdings, [], empty-made)
+well_made-empty = (begun, no_holdings, [], empty-made)
 
 pub well_made-nothing : IsWellMadeLog (Some []) → ⊥
 well_made-nothing (at, c, kept, is) = true≢false (sym is.header)

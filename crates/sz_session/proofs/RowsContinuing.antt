@@ -1,13 +1,13 @@
 -- How a session on a log ends, on both sides of each part.
 --
 -- The key idea: a log that is told is opened or it is not, by its bytes; and what an ending says is taken part by part.
-use Rattle.std.proofs.Common.{◌≡◌, ℕ, List, [], Option, Some, None, refl, sym, subst, true≢false, take, inl, inr}
+use Rattle.std.proofs.Common.{◌≡◌, ℕ, List, [], Option, Some, refl, sym, subst, true≢false, take, inl, inr}
 use Rattle.sz_outside.specs.Disk.{Only}
 use Rattle.sz_outside.specs.declared.stations.Station.{Ghosts}
 use Rattle.sz_log.specs.Log.{empty_log}
 use Rattle.sz_log.proofs.Rows.{log}
-use Rattle.sz_catalogue.specs.Holdings.{Holdings, no_holdings}
-use Rattle.sz_recover.specs.Logs.{Kept, IsMade, IsBroken}
+use Rattle.sz_catalogue.specs.Holdings.{no_holdings}
+use Rattle.sz_recover.specs.Logs.{IsMade}
 use Rattle.sz_recover.proofs.RowsLogs.{empty-made, gate-bad}
 use Rattle.sz_recover.proofs.OneReading.{made-whole}
 use Rattle.sz_feed.specs.Running.{FindsAll, StandsBehind, state_of_log}
@@ -28,7 +28,7 @@ pub unopened-bad : IsUnopened (Some (take 17 log)) (status.BadLog 16)
 unopened-bad = gate-bad
 
 pub unopened-well_made : (at : ℕ) → IsUnopened (Some empty_log) (status.BadLog at) → ⊥
-unopened-well_made at is = made-whole empty_log 16 at no_holdings [] empty-made is
+unopened-well_made at is = made-whole empty_log 16 at 1 no_holdings [] empty-made is
 
 pub unopened-done : (disk : Option (List ℕ)) → IsUnopened disk status.Done → ⊥
 unopened-done disk is = is
@@ -66,7 +66,8 @@ module _ {X : Type 0} (T : Ghosts X) (old new : X) where
     -- it was a log
     pub opened-made : T.disk old ≡ Some [] → EndsOpened T s limit left rest old new → ⊥
     opened-made told ends =
-        true≢false (sym (subst (λ (o : Option (List ℕ)). IsMade o ends.at ends.c ends.kept) told ends.made).header)
+        true≢false (sym (subst (λ (o : Option (List ℕ)). IsMade o ends.at.gate ends.at.format ends.c ends.kept) told
+        ends.made).header)
 
     pub opened-ends : (ends : EndsOpened T s limit left rest old new)
         → EndsLines (state_of_log ends.c ends.kept) s limit left rest (T.said old) (T.said new)

@@ -8,7 +8,7 @@ use Rattle.sz_outside.specs.Outside.{Rose}
 use Rattle.sz_outside.specs.declared.stations.Station.{Ghosts}
 use Rattle.sz_commands.specs.Lines.{lines_of}
 use Rattle.sz_commands.specs.Logged.{makes_durable}
-use Rattle.sz_commands.specs.States.{SessionState}
+use Rattle.sz_commands.specs.States.{SessionState, LogPlace}
 use Rattle.sz_feed.specs.Calls.{WritesOne}
 use Rattle.sz_feed.specs.Moments.{Moment}
 use Rattle.sz_feed.specs.Serving.{Opening, Answered}
@@ -77,7 +77,7 @@ module _ {X : Type 0} (T : Ghosts X) (old new : X) where
   finds-none o Claim found = found.reads
 
   -- and of one of a log what is claimed is found
-  pub finds-log : (o : Opening) (at : ℕ) → FindsOf T (Some at) o ⊥ old new → ⊥
+  pub finds-log : (o : Opening) (at : LogPlace) → FindsOf T (Some at) o ⊥ old new → ⊥
   finds-log o at found = found
 
   -- ---- a turn
@@ -104,11 +104,11 @@ module _ {X : Type 0} (T : Ghosts X) (old new : X) where
   -- ---- a session
 
   module _ (s : Status) (limit : ℕ) (o : Opening) (left : Option (List ℕ)) (reads_before reads : ℕ) where
-    pub session-ends : (end : Option ℕ) → EndsSession T s limit o end left reads_before reads old new
+    pub session-ends : (end : Option LogPlace) → EndsSession T s limit o end left reads_before reads old new
         → EndsLines o.held s limit o.left left o.said (T.said new)
     session-ends end session = session.ends
 
-    pub session-behind : (end : Option ℕ) → EndsSession T s limit o end left reads_before reads old new
+    pub session-behind : (end : Option LogPlace) → EndsSession T s limit o end left reads_before reads old new
         → s ≡ status.Done → StandsBehind T o.held end o.left old new
     session-behind end session = session.behind
 
@@ -127,7 +127,8 @@ module _ {X : Type 0} (T : Ghosts X) (old new : X) where
   ends_turn-written limit o left reads_before reads before told turn =
       subst (λ (l : Option (List ℕ)). WritesRest before l 0) told (turn.written refl)
 
-  pub session-written : (limit : ℕ) (o : Opening) (end : Option ℕ) (left : Option (List ℕ)) (reads_before reads : ℕ)
+  pub session-written : (limit : ℕ) (o : Opening) (end : Option LogPlace) (left : Option (List ℕ))
+      (reads_before reads : ℕ)
       → o.left ≡ Some [] → EndsSession T status.DiskFault limit o end left reads_before reads old new → ⊥
   session-written limit o end left reads_before reads told session =
       subst (λ (l : Option (List ℕ)). WritesLine o.held l) told (session.written refl)

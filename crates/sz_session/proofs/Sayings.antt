@@ -2,12 +2,9 @@
 --
 -- The key idea: what looking at the stores tells is one thing, and the line is read off it.
 use Rattle.std.proofs.Common.{◌≡◌, List, ℕ, Some, None, Option, sym, ap, ◌∙◌, arith, get_or, length}
-use Rattle.sz_catalogue.specs.Holdings.{Holdings}
-use Rattle.sz_recover.specs.Logs.{Kept}
-use Rattle.sz_recover.specs.Soundness.{HaveEachNode, EachStoreIsExact}
 use Rattle.sz_recover.specs.declared.checking.WrongStore.{WrongStore}
 use Rattle.sz_recover.proofs.Telling.{one-told, none-means-each}
-use Rattle.sz_session.specs.Checking.{TellsLine, check_line, sound_line, OneLineIsTold, SoundLinesMeanEach}
+use Rattle.sz_session.specs.Checking.{check_line, OneLineIsTold, SoundLinesMeanEach}
 
 pub one-line : OneLineIsTold
 one-line c kept line other (a, tells, is) (b, told, same) =

@@ -30,9 +30,10 @@ use Rattle.sz_session.proofs.Ends.{ends-with, ends-not_disk, counted-with, limit
 use Rattle.sz_session.proofs.Loads.{load-ends_with, load-not_disk}
 use Rattle.sz_session.proofs.Makings.{init-ends_with, init-silent}
 use Rattle.sz_session.proofs.Checkings.{check-ends_with, check-silent, check-unlike, StopsUnlike}
+use Rattle.sz_session.proofs.Raisings.{upgrade-ends_with, upgrade-silent, upgrade-unlike}
 use Rattle.sz_session.proofs.Modes.{by-mode, for-mode, for-none, not-for, is_refusal, not-refused, lines-with}
 use Rattle.sz_session.proofs.Modes.{FindsNow, CountsNow}
-use Rattle.sz_session.proofs.Exactly.{StopsBroken, run-no_log, run-unlike, run-broken, check-broken}
+use Rattle.sz_session.proofs.Exactly.{StopsBroken, run-no_log, run-unlike, run-broken, check-broken, upgrade-broken}
 
 -- ---- counts of faults
 
@@ -56,6 +57,7 @@ call-counted {Y} {X} S T o s before after old new serves asks =
     (λ asked line e. unread-counted T s _ _ old new (unread mode.Load asked refl) e.counted)
     (λ asked e. unread-counted T s _ _ old new (unread mode.Init asked refl) e.counted)
     (λ asked e. unread-counted T s _ _ old new (unread mode.Check asked refl) e.counted)
+    (λ asked e. unread-counted T s _ _ old new (unread mode.Upgrade asked refl) e.counted)
     (λ asked e. e.counted)
 
 -- where this status is none of those of refused words, it is of such a call
@@ -125,6 +127,7 @@ usage-refused {Y} {X} S T o s before after old new serves is =
     (λ asked line e. absurd (load-ends_with s status.Usage line _ _ e.ends is))
     (λ asked e. absurd (init-ends_with T s status.Usage old new e.ends is))
     (λ asked e. absurd (check-ends_with T s status.Usage old new e.ends is))
+    (λ asked e. absurd (upgrade-ends_with T s status.Usage old new e.ends is))
     (λ asked e. absurd (counted-with T s status.Usage _ _ old new e.counted is))
 
 -- a fault in reading comes where lines are read
@@ -138,6 +141,7 @@ read-lines {Y} {X} S T o s before after old new serves is =
     (λ asked line e. absurd (load-ends_with s status.ReadFault line _ _ e.ends is))
     (λ asked e. absurd (init-ends_with T s status.ReadFault old new e.ends is))
     (λ asked e. absurd (check-ends_with T s status.ReadFault old new e.ends is))
+    (λ asked e. absurd (upgrade-ends_with T s status.ReadFault old new e.ends is))
     (λ asked e. for-mode is_of_lines o mode.Run asked)
 
 -- and so does the limit
@@ -151,6 +155,7 @@ limit-lines {Y} {X} S T o s before after old new serves is =
     (λ asked line e. absurd (load-ends_with s status.InputLimit line _ _ e.ends is))
     (λ asked e. absurd (init-ends_with T s status.InputLimit old new e.ends is))
     (λ asked e. absurd (check-ends_with T s status.InputLimit old new e.ends is))
+    (λ asked e. absurd (upgrade-ends_with T s status.InputLimit old new e.ends is))
     (λ asked e. for-mode is_of_lines o mode.Run asked)
 
 -- of a source that has more bytes than a session may have
@@ -173,6 +178,7 @@ limit-past {Y} {X} S T o s before after old new serves is =
     (λ asked line e. absurd (load-ends_with s status.InputLimit line _ _ e.ends is))
     (λ asked e. absurd (init-ends_with T s status.InputLimit old new e.ends is))
     (λ asked e. absurd (check-ends_with T s status.InputLimit old new e.ends is))
+    (λ asked e. absurd (upgrade-ends_with T s status.InputLimit old new e.ends is))
     (λ asked e. limit-run T old new s (2 ^ 62) _ _ e.ends is)
 
 -- a log is there already in init
@@ -192,6 +198,7 @@ already-init {Y} {X} S T o s before after old new serves is =
     (λ asked line e. absurd (load-ends_with s status.AlreadyALog line _ _ e.ends is))
     (λ asked e. asked)
     (λ asked e. absurd (check-ends_with T s status.AlreadyALog old new e.ends is))
+    (λ asked e. absurd (upgrade-ends_with T s status.AlreadyALog old new e.ends is))
     (λ asked e. absurd (run-not_already T s (2 ^ 62) _ _ old new e.ends is))
 
 pub already-spared : {Y X : Type 0} (S : source.Ghosts Y) (T : Ghosts X) (o : Option Job) (s : Status)
@@ -219,6 +226,7 @@ disk-log {Y} {X} S T o s before after old new serves is =
     (λ asked line e. absurd (load-not_disk s line _ _ e.ends is))
     (λ asked e. for-mode is_on_log o mode.Init asked)
     (λ asked e. for-mode is_on_log o mode.Check asked)
+    (λ asked e. for-mode is_on_log o mode.Upgrade asked)
     (λ asked e. for-mode is_on_log o mode.Run asked)
 
 -- and then nothing was said, but where a session goes on
@@ -232,6 +240,7 @@ log-silent {Y} {X} S T o s before after old new serves other is =
     (λ asked line e. absurd (load-not_disk s line _ _ e.ends is))
     (λ asked e. init-silent T s old new e.ends is)
     (λ asked e. check-silent T s old new e.ends is)
+    (λ asked e. upgrade-silent T s old new e.ends is)
     (λ asked e. absurd (other asked))
 
 -- a mode that uses no log leaves it as it was
@@ -248,6 +257,7 @@ disk-same {Y} {X} S T o s before after old new only counts serves other =
     (λ asked line e. disk-stays T _ old new e.found)
     (λ asked e. absurd (of_log mode.Init asked refl))
     (λ asked e. absurd (of_log mode.Check asked refl))
+    (λ asked e. absurd (of_log mode.Upgrade asked refl))
     (λ asked e. absurd (of_log mode.Run asked refl))
 
 -- ---- the modes that open a log
@@ -263,6 +273,7 @@ opening-no_log {Y} {X} S T o s before after old new serves opened is =
     (λ asked line e. absurd (not-for is_opened o mode.Load asked refl opened))
     (λ asked e. absurd (not-for is_opened o mode.Init asked refl opened))
     (λ asked e. (check-ends_with T s status.NotALog old new e.ends is).1)
+    (λ asked e. (upgrade-ends_with T s status.NotALog old new e.ends is).1)
     (λ asked e. run-no_log T s (2 ^ 62) _ _ _ _ old new e.ends e.counted is)
 
 -- and such a one has that status
@@ -276,6 +287,7 @@ opening-unlike {Y} {X} S T o s before after old new serves opened =
     (λ asked line e. absurd (not-for is_opened o mode.Load asked refl opened))
     (λ asked e. absurd (not-for is_opened o mode.Init asked refl opened))
     (λ asked e. check-unlike T s old new e.ends)
+    (λ asked e. upgrade-unlike T s old new e.ends)
     (λ asked e. run-unlike T s (2 ^ 62) _ _ old new e.ends)
 
 -- a bad log is one that was opened, and its first bad group stands there
@@ -301,6 +313,10 @@ bad-place {Y} {X} S T o s before after old new at serves is =
       (check-ends_with T s (status.BadLog at) old new e.ends is).1,
     ))
     (λ asked e. (
+      for-mode is_opened o mode.Upgrade asked,
+      (upgrade-ends_with T s (status.BadLog at) old new e.ends is).1,
+    ))
+    (λ asked e. (
       for-mode is_opened o mode.Run asked,
       bad-run T old new s at (2 ^ 62) _ _ _ _ e.ends e.counted is,
     ))
@@ -317,4 +333,5 @@ opening-broken whole place {Y} {X} S T o s before after old new serves opened =
     (λ asked line e. absurd (not-for is_opened o mode.Load asked refl opened))
     (λ asked e. absurd (not-for is_opened o mode.Init asked refl opened))
     (λ asked e. check-broken whole place T s old new e.ends)
+    (λ asked e. upgrade-broken whole place T s old new e.ends)
     (λ asked e. run-broken whole place T s (2 ^ 62) _ _ old new e.ends)

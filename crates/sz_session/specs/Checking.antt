@@ -12,6 +12,7 @@ use Rattle.sz_catalogue.specs.Responses.{number_text, word_text}
 use Rattle.sz_recover.specs.Logs.{Kept, IsMade, IsNoLog, IsBroken, IsWellMade, IsFirstBad}
 use Rattle.sz_recover.specs.Soundness.{TellsOfAll, HaveEachNode, EachStoreIsExact}
 use Rattle.sz_recover.specs.declared.checking.WrongStore.{WrongStore}
+use Rattle.sz_commands.specs.States.{LogPlace}
 use Rattle.sz_commands.specs.Stops.{StopsFinding}
 
 -- ---- the line
@@ -42,9 +43,10 @@ TellsLine c kept line = (wrong : Option WrongStore) × TellsOfAll c kept wrong
 -- each group of a version, whether all stand for exactly the relation, or the first that does not.
 pub record IsLineOf (disk : Option (List ℕ)) (line : List ℕ) : Type 0 where
   pub at : ℕ
+  pub format : ℕ
   pub c : Holdings
   pub kept : List Kept
-  pub made : IsMade disk at c kept
+  pub made : IsMade disk at format c kept
   pub tells : TellsLine c kept line
 
 -- the line of the log was said
@@ -81,7 +83,7 @@ IfBadLog (Some disk) Claim = (at : ℕ) → IsFirstBad disk at → Claim at
 abbrev pub IsWellMadeLog : Option (List ℕ) → Type 0
 IsWellMadeLog None = ⊥
 IsWellMadeLog (Some disk) =
-    (at : ℕ) × (c : Holdings) × (kept : List Kept) × IsWellMade disk at c kept
+    (at : LogPlace) × (c : Holdings) × (kept : List Kept) × IsWellMade disk at.gate at.format c kept
 
 -- The disk is told, and begins as a log.
 abbrev pub BeginsAsLog : Option (List ℕ) → Type 0

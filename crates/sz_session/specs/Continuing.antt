@@ -10,6 +10,7 @@ use Rattle.sz_outside.specs.declared.stations.Station.{Ghosts}
 use Rattle.sz_catalogue.specs.Holdings.{Holdings}
 use Rattle.sz_recover.specs.Logs.{Kept, IsMade, IsNoLog, IsBroken}
 use Rattle.sz_feed.specs.Making.{IsSilent}
+use Rattle.sz_commands.specs.States.{LogPlace}
 use Rattle.sz_commands.specs.Stops.{StopsFinding}
 use Rattle.sz_feed.specs.Running.{FindsAll, StandsBehind, state_of_log}
 use Rattle.sz_session.specs.Statuses.{EndsLines}
@@ -33,16 +34,16 @@ pub record EndsUnopened {X : Type 0} (T : Ghosts X) (s : Status) (old new : X) :
   pub reads : T.disk new ≡ T.disk old
   pub stops : StopsFinding T Same (Said (T.said old)) old new
 
--- A log was opened, that ends at a place, holds this and has kept these stores. What was read and
--- said by then is as the status says, from what it holds; where the session is done, the log is one
--- of all its lines; and where no write was pending at first, a stop at any moment finds so many
--- lines answered, and a log of them.
+-- A log was opened, that ends at a place, has a format, holds this and has kept these stores. What
+-- was read and said by then is as the status says, from what it holds; where the session is done,
+-- the log is one of all its lines; and where no write was pending at first, a stop at any moment
+-- finds so many lines answered, and a log of them.
 pub record EndsOpened {X : Type 0} (T : Ghosts X) (s : Status) (limit : ℕ)
     (left rest : Option (List ℕ)) (old new : X) : Type 0 where
-  pub at : ℕ
+  pub at : LogPlace
   pub c : Holdings
   pub kept : List Kept
-  pub made : IsMade (T.disk old) at c kept
+  pub made : IsMade (T.disk old) at.gate at.format c kept
   pub ends : EndsLines (state_of_log c kept) s limit left rest (T.said old) (T.said new)
   pub behind : s ≡ status.Done → StandsBehind T (state_of_log c kept) (Some at) left old new
   pub found : Only (T.disk old) (T.may_leave old)

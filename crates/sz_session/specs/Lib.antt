@@ -1,5 +1,6 @@
 -- The files of definitions, the lower ones first.
 pub mod Checking
+pub mod Raising
 pub mod Statuses
 pub mod Sessions
 pub mod Continuing

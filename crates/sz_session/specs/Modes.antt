@@ -14,12 +14,14 @@ use Rattle.sz_feed.specs.Serving.{load_line}
 use Rattle.sz_feed.specs.Disks.{StaysFinding, OnlySays, FoundInPart, StopsMaking}
 use Rattle.sz_session.specs.Statuses.{Ends, AreCounted, SaysSummary, MakesLog, ChecksLog}
 use Rattle.sz_session.specs.Checking.{StopsChecking}
+use Rattle.sz_session.specs.Raising.{RaisesLog, StopsRaising}
 use Rattle.sz_session.specs.Continuing.{EndsOnLog}
 use Rattle.sz_session.specs.declared.serving.Status.{Status}
 use Rattle.sz_session.specs.declared.serving.Status.TheVariants as status
 use Rattle.sz_words.specs.declared.Job.{Job}
 use Rattle.sz_words.specs.declared.arguments.JobMode.{JobMode}
-use Rattle.sz_words.specs.declared.arguments.JobMode.TheVariants.{Play, Init, Run, Check, Load}
+use Rattle.sz_words.specs.declared.arguments.JobMode.TheVariants.{Play, Init, Run, Check}
+use Rattle.sz_words.specs.declared.arguments.JobMode.TheVariants.{Upgrade, Load}
 
 -- ---- what is asked for
 
@@ -42,6 +44,7 @@ is_of_lines Play = true
 is_of_lines Init = false
 is_of_lines Run = true
 is_of_lines Check = false
+is_of_lines Upgrade = false
 is_of_lines Load = false
 
 -- the modes that open a log
@@ -50,6 +53,7 @@ is_opened Play = false
 is_opened Init = false
 is_opened Run = true
 is_opened Check = true
+is_opened Upgrade = true
 is_opened Load = false
 
 -- There is a job, and its mode passes a test, as these or `is_on_log` of `sz_words`.
@@ -89,6 +93,14 @@ pub record EndsCheck {X : Type 0} (T : Ghosts X) (s : Status) (old new : X) : Ty
   pub counted : AreCounted T s 0 0 old new
   pub found : StopsChecking T old new
 
+-- Upgrade: the log is one of format 2, and its line was said, or the disk is no log or a bad one
+-- and reads as before; the counts of faults tell the status; a stop leaves the log as it was or
+-- with the group that raises it, and finds a first part of the line said.
+pub record EndsUpgrade {X : Type 0} (T : Ghosts X) (s : Status) (old new : X) : Type 0 where
+  pub ends : RaisesLog T s old new
+  pub counted : AreCounted T s 0 0 old new
+  pub found : StopsRaising T old new
+
 -- Run: no log was opened, or one was and its session went on, with what a stop finds of both; the
 -- counts of faults tell the status.
 pub record EndsRun {X : Type 0} (T : Ghosts X) (s : Status) (limit reads_before reads : ℕ)
@@ -112,6 +124,7 @@ pub record Serves {Y X : Type 0} (S : source.Ghosts Y) (T : Ghosts X) (job : Opt
   pub load : IfLoad job (λ line. EndsLoad T s line old new)
   pub init : AsksFor Init job → EndsInit T s old new
   pub check : AsksFor Check job → EndsCheck T s old new
+  pub upgrade : AsksFor Upgrade job → EndsUpgrade T s old new
   pub run : AsksFor Run job → EndsRun T s (2 ^ 62) (S.faults before) (S.faults after)
       (S.left before) (S.left after) old new
 

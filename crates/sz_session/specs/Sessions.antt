@@ -5,7 +5,7 @@
 -- disk is as before.
 use Rattle.std.specs.Prelude.{◌≡◌, ℕ, ◌+◌, Option, Some, None, List, drop}
 use Rattle.sz_outside.specs.declared.stations.Station.{Ghosts}
-use Rattle.sz_commands.specs.States.{SessionState}
+use Rattle.sz_commands.specs.States.{SessionState, LogPlace}
 use Rattle.sz_commands.specs.Lines.{lines_of}
 use Rattle.sz_feed.specs.Moments.{Moment, cut_after}
 use Rattle.sz_feed.specs.Serving.{Opening, Answered}
@@ -23,7 +23,7 @@ opening_of held left said = record { held = held; left = left; said = said }
 
 -- What a stop finds: of a session of no log a first part of the transcript said, over the disk as
 -- it was; and of one of a log this.
-abbrev pub FindsOf : {X : Type 0} → Ghosts X → Option ℕ → Opening → Type 0 → X → X → Type 0
+abbrev pub FindsOf : {X : Type 0} → Ghosts X → Option LogPlace → Opening → Type 0 → X → X → Type 0
 FindsOf T None o Claim old new = StaysFinding T (FoundInPart o.held o.left o.said) old new
 FindsOf T (Some at) o Claim old new = Claim
 
@@ -64,7 +64,7 @@ pub record EndsTurn {X : Type 0} (T : Ghosts X) (s : Status) (limit : ℕ) (o : 
 -- it is done, the log is one of all its lines; and no disk fails where there is no log, nor where
 -- no line is written to it.
 pub record EndsSession {X : Type 0} (T : Ghosts X) (s : Status) (limit : ℕ) (o : Opening)
-    (end : Option ℕ) (left : Option (List ℕ)) (reads_before reads : ℕ) (old new : X)
+    (end : Option LogPlace) (left : Option (List ℕ)) (reads_before reads : ℕ) (old new : X)
     : Type 0 where
   pub ends : EndsLines o.held s limit o.left left o.said (T.said new)
   pub counted : AreCounted T s reads_before reads old new

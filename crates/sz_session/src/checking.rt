@@ -42,7 +42,8 @@ fn check_opened<T: Station, R: Threads + Sync>(
     log: &Recovered,
     station: &mut T,
 ) -> Status
-    requires { IsMade (T.disk station.old) log.now.end.at log.now.catalogue log.now.stores.items }
+    requires { IsMade (T.disk station.old) log.now.end.at log.now.format log.now.catalogue
+        log.now.stores.items }
     ensures ends { ChecksLog T.Station result station.old station.new }
     ensures counted { AreCounted T.Station result 0 0 station.old station.new }
     ensures stops { StopsChecking T.Station station.old station.new }

@@ -19,6 +19,7 @@ ghost use Rattle.sz_session.specs.declared.serving.Status.{Status as StatusOf};
 ghost use Rattle.sz_session.specs.Checking.{SaysLine, SaysPartOfLine, IfNoLog, BeginsAsLog};
 ghost use Rattle.sz_session.specs.Checking.{StopsChecking, IsUnlike, IsBadLog, IfBadLog};
 ghost use Rattle.sz_session.specs.Checking.{IsWellMadeLog};
+ghost use Rattle.sz_session.specs.Raising.{raised_line, HasRaised, IsLeftAlone, StopsRaising};
 ghost use Rattle.sz_session.specs.Continuing.{EndsOnLog};
 ghost use Rattle.sz_session.specs.Modes.{AsksFor, IfLoad, OfEachCall};
 ghost use Rattle.sz_session.specs.Modes.{is_for, is_of_lines, is_opened};
@@ -207,6 +208,37 @@ pub fn check_tells_of_a_log<S: Source, T: Station>()
         → (s ≡ Status.Done) ⊎ ((s ≡ Status.NoMemory) ⊎ ((at : ℕ) × (s ≡ Status.BadLog at)))) }
     ensures found_in_check { OfEachCall S.Source T.Station (λ job s before after old new.
         AsksFor JobMode.Check job → StopsChecking T.Station old new) }
+{
+    logs_are_read_in_one_way();
+}
+
+/// In upgrade the log is one of format 2 that holds and keeps the same where the call is done, and
+/// where the line that says so could not be said; and a disk that is no log, or a bad one, reads as
+/// before. Without a fault the raising of a well-made log is done, or there was no memory.
+pub fn upgrade_raises_a_log<S: Source, T: Station>()
+    ensures raised { OfEachCall S.Source T.Station (λ job s before after old new.
+        AsksFor JobMode.Upgrade job → (s ≡ Status.Done) ⊎ (s ≡ Status.SayFault)
+        → HasRaised T.Station old new) }
+    ensures said { OfEachCall S.Source T.Station (λ job s before after old new.
+        AsksFor JobMode.Upgrade job → s ≡ Status.Done
+        → Says (T.said old) (T.said new) raised_line) }
+    ensures said_in_part { OfEachCall S.Source T.Station (λ job s before after old new.
+        AsksFor JobMode.Upgrade job → s ≡ Status.SayFault
+        → SaysPart (T.said old) (T.said new) raised_line) }
+    ensures upgrade_after_no_memory { OfEachCall S.Source T.Station
+        (λ job s before after old new.
+        AsksFor JobMode.Upgrade job → s ≡ Status.NoMemory → IsLeftAlone T.Station old new) }
+    ensures upgrade_left_alone { OfEachCall S.Source T.Station (λ job s before after old new.
+        AsksFor JobMode.Upgrade job
+        → (s ≡ Status.NotALog) ⊎ ((at : ℕ) × (s ≡ Status.BadLog at))
+        → IsLeftAlone T.Station old new) }
+    ensures upgrade_completes { OfEachCall S.Source T.Station (λ job s before after old new.
+        AsksFor JobMode.Upgrade job → IsWellMadeLog (T.disk old)
+        → ¬ Rose (T.disk_faults old) (T.disk_faults new)
+        → ¬ Rose (T.say_faults old) (T.say_faults new)
+        → (s ≡ Status.Done) ⊎ (s ≡ Status.NoMemory)) }
+    ensures found_in_upgrade { OfEachCall S.Source T.Station (λ job s before after old new.
+        AsksFor JobMode.Upgrade job → StopsRaising T.Station old new) }
 {
     logs_are_read_in_one_way();
 }

@@ -19,18 +19,20 @@
 //! - `check` opens the log on the disk and compares its stores with what the operators relate, and
 //!   one line says what was found (`specs/Checking`). A disk that does not begin as a log, and a
 //!   log with a bad group, have statuses of their own.
+//! - `upgrade` opens the log and raises it to format 2 in place where it has format 1, and one line
+//!   says its format (`specs/Raising`). A stop at any moment leaves the log as it was or raised.
 //! - `run` opens the log, and the session goes on from it (`specs/Continuing`): what is said is the
 //!   transcript from what the log holds, and a stop at any moment finds the replies of so many
 //!   lines said, and perhaps a part of the next one, and leaves a well-made log of what is durable
 //!   behind those lines, or behind one more.
 //!
 //! What follows of these clauses are the laws of [`endings`]: what was said by each status (`done`,
-//! `after_say_fault`, `ready`, `checked`, ..), that a call is done only where no fault was counted
-//! (`quiet`), nor ends for want of memory where one was
+//! `after_say_fault`, `ready`, `checked`, `said`, ..), that a call is done only where no fault was
+//! counted (`quiet`), nor ends for want of memory where one was
 //! ([`endings::want_of_memory_hides_no_fault`]), that there is no other ending without one
-//! (`completes`, `init_completes`, `check_completes`, `run_completes`), which statuses come where
-//! and nowhere else (`unlike`, `broken`, `barred`, ..), and that each exit number is that of one
-//! status.
+//! (`completes`, `init_completes`, `check_completes`, `upgrade_completes`, `run_completes`), which
+//! statuses come where and nowhere else (`unlike`, `broken`, `barred`, ..), and that each exit
+//! number is that of one status.
 //!
 //! ```text
 //! {"array":"a","cells":[[5]]}                                         1 array a 1
@@ -56,9 +58,9 @@
 //! has its reply said (`Answered` of `sz_feed`), and the one function that reads asks for it.
 //! `specs/Statuses` says what each status tells of what was read and said, and what the counts of
 //! faults tell of it in every mode (`AreCounted`); `specs/Sessions` what a turn leaves, and how a
-//! session of lines ends; `specs/Checking` what a check tells; and `specs/Modes` puts these
-//! together, mode by mode. `proofs/Modes` goes through the modes once (`by-mode`), and each law
-//! that speaks of a status in any of them goes by it.
+//! session of lines ends; `specs/Checking` what a check tells; `specs/Raising` what a log is made
+//! that is raised; and `specs/Modes` puts these together, mode by mode. `proofs/Modes` goes through
+//! the modes once (`by-mode`), and each law that speaks of a status in any of them goes by it.
 #![tactic(auto)]
 
 mod checking;
@@ -66,6 +68,7 @@ pub mod endings;
 pub mod laws;
 mod load;
 mod making;
+mod raising;
 mod serving;
 mod staff;
 

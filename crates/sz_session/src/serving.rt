@@ -13,9 +13,10 @@ ghost use Rattle.sz_session.specs.Statuses.{Ends, AreCounted};
 ghost use Rattle.sz_session.specs.Sessions.{opening_of, TurnsOn, EndsTurn, EndsSession};
 ghost use Rattle.sz_session.specs.Continuing.{EndsOnLog};
 ghost use Rattle.sz_session.specs.Modes.{AsksFor, IfLoad, is_for, is_of_lines};
-ghost use Rattle.sz_session.specs.Modes.{EndsPlay, EndsLoad, EndsInit, EndsCheck, EndsRun};
+ghost use Rattle.sz_session.specs.Modes.{EndsPlay, EndsLoad, EndsInit, EndsCheck, EndsUpgrade};
+ghost use Rattle.sz_session.specs.Modes.{EndsRun};
 ghost use Rattle.sz_commands.specs.States.{nothing_held};
-ghost use Rattle.sz_commands.specs.Logged.{IsLogOf};
+ghost use Rattle.sz_commands.specs.Logged.{IsLogOf, end_of};
 ghost use Rattle.sz_feed.specs.Running.{IsBeside, state_of_log};
 ghost use Rattle.sz_feed.specs.Serving.{load_line, Opening, Answered, AreAll};
 ghost use Rattle.sz_feed.specs.Disks.{StaysFinding, FoundInPart};
@@ -24,6 +25,7 @@ ghost use Rattle.sz_words.specs.Job.{job_of, IsInRange};
 use crate::checking::check_log;
 use crate::load::load;
 use crate::making::make_log;
+use crate::raising::raise_log;
 use crate::staff::Staff;
 use std::alloc::Global;
 use std::sync::{Arc, Wait};
@@ -127,6 +129,9 @@ const LIMIT: u64 = 1 << 62;
 ///   what their operators relate, and says one line: how many versions it has where each store is
 ///   sound (`sound 2`), or the first that is not (`unsound version 1 node 0 full_one_b`). A disk
 ///   that does not begin as a log, or a log with a bad group, has a status of its own.
+/// - `upgrade` opens the log on the disk of the station, and adds to a log of format 1 the group
+///   that raises it to format 2: its versions are written in less room from then on, and it holds
+///   and keeps the same. A log of format 2 stays as it is. Of both it says one line, `log 2`.
 /// - `run` opens the log on the disk of the station, and answers the lines of the source as `play`
 ///   does, from what the log holds. What a line makes durable is in the log before its reply is
 ///   said. Asks are answered one by one.
@@ -137,11 +142,11 @@ const LIMIT: u64 = 1 << 62;
 /// follows of these are the laws of [`crate::endings`]: that no fault is passed over, say, and that
 /// a session with none ends as Done or for want of memory.
 ///
-/// But in init and run the disk of the station is as before, whatever the status. A stop at any
-/// moment finds a first part of what the mode says (`found` of each record). In init it leaves of
-/// the disk the old bytes, at most 17 bytes that are no log, or the empty log; and in run a
-/// well-made log that holds what is durable behind the lines whose replies were said, or behind one
-/// line more.
+/// But in init, upgrade and run the disk of the station is as before, whatever the status. A stop
+/// at any moment finds a first part of what the mode says (`found` of each record). In init it
+/// leaves of the disk the old bytes, at most 17 bytes that are no log, or the empty log; in upgrade
+/// the log as it was, or raised; and in run a well-made log that holds what is durable behind the
+/// lines whose replies were said, or behind one line more.
 ///
 /// As many threads as the words say work on what a start hands out, beside the lines, and one
 /// merges the stores that a merge hands out; they are joined before the call returns. Nothing that
@@ -167,6 +172,8 @@ pub fn serve<
         → EndsInit T.Station result station.old station.new }
     ensures check { AsksFor JobMode.Check (job_of (map string_bytes words.now))
         → EndsCheck T.Station result station.old station.new }
+    ensures upgrade { AsksFor JobMode.Upgrade (job_of (map string_bytes words.now))
+        → EndsUpgrade T.Station result station.old station.new }
     ensures run { AsksFor JobMode.Run (job_of (map string_bytes words.now))
         → EndsRun T.Station result (2 ^ 62) (S.faults source.old) (S.faults source.new)
         (S.left source.old) (S.left source.new) station.old station.new }
@@ -203,6 +210,8 @@ fn run_job<
         → EndsLoad T.Station result (load_line job) station.old station.new }
     ensures init { job.mode ≡ JobMode.Init → EndsInit T.Station result station.old station.new }
     ensures check { job.mode ≡ JobMode.Check → EndsCheck T.Station result station.old station.new }
+    ensures upgrade { job.mode ≡ JobMode.Upgrade
+        → EndsUpgrade T.Station result station.old station.new }
     ensures run { job.mode ≡ JobMode.Run
         → EndsRun T.Station result (2 ^ 62) (S.faults source.old) (S.faults source.new)
         (S.left source.old) (S.left source.new) station.old station.new }
@@ -212,6 +221,7 @@ fn run_job<
         JobMode::Init => make_log(station),
         JobMode::Run => run_log(rt, alloc, job, source, station, gate, LIMIT),
         JobMode::Check => check_log(rt, alloc, station),
+        JobMode::Upgrade => raise_log(alloc, station),
         JobMode::Load => load(rt, alloc, job, station, gate),
     }
 }
@@ -304,11 +314,11 @@ pub(crate) fn run_on<
 ) -> Status
     requires limit { limit ≤ LIMIT }
     requires ranges { IsInRange job }
-    requires log { IsLogOf T.Station recovered.catalogue recovered.end.at station.old }
+    requires log { IsLogOf T.Station recovered.catalogue (end_of recovered) station.old }
     ensures { EndsSession T.Station result limit
         (opening_of (state_of_log recovered.catalogue recovered.stores.items)
         (S.left source.old) (T.said station.old))
-        (Some recovered.end.at) (S.left source.new)
+        (Some (end_of recovered)) (S.left source.new)
         (S.faults source.old) (S.faults source.new) station.old station.new }
 {
     let Ok(mut buffer) = vec![in alloc; 0u8; CHUNK] else {

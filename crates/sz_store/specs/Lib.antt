@@ -1,5 +1,5 @@
--- What the stores of a node keep and stand for, their bytes, what stays true of them, which lineages
--- can be placed, and the law of a store in which each piece was placed.
+-- What the stores of a node keep and stand for, their bytes, what stays true of them, which
+-- lineages can be placed, and the law of a store in which each piece was placed.
 pub mod Kept
 pub mod Stocks
 pub mod Words

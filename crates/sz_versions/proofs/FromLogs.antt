@@ -9,7 +9,7 @@ use Rattle.std.specs.Prelude.{◌&&◌, ◌<◌, length, sum_by, filter, if◌th
 use Rattle.std.specs.List.{All, AllZip, slice_get}
 use Rattle.std.specs.Option.{option_map}
 use Rattle.std.proofs.lemmas.Bool.{and_parts}
-use Rattle.std.proofs.lemmas.List.Elements.{All-head, All-tail, All-nil, All-cons}
+use Rattle.std.proofs.lemmas.List.Elements.{All-head, All-tail}
 use Rattle.std.proofs.lemmas.List.Sums.{sum_by-cons}
 use Rattle.std.proofs.lemmas.Option.{slice_get-map}
 use Rattle.sz_cells.specs.Extent.{Extent, size_of}
@@ -26,8 +26,7 @@ use Rattle.sz_spec.specs.FlowShapes.{node_inputs}
 use Rattle.sz_spec.specs.Paths.{Step, source_of, is_there, follows, are_joined}
 use Rattle.sz_spec.specs.Sides.{near_side, far_side}
 use Rattle.sz_spec.proofs.FlowShapes.{inputs-shapes}
-use Rattle.sz_store.specs.Kept.{NodeLineage, Keep, stored_in}
-use Rattle.sz_store.specs.Words.{BeginEach}
+use Rattle.sz_store.specs.Kept.{NodeLineage, stored_in}
 use Rattle.sz_flow.specs.Executions.{Execution, execution}
 use Rattle.sz_script.specs.declared.command.NamedCell.{NamedCell}
 use Rattle.sz_query.specs.declared.path.Found.{Found}
@@ -38,8 +37,7 @@ use Rattle.sz_query.specs.Answers.{answered, traced_of, IsStep, AreSteps}
 use Rattle.sz_catalogue.specs.Holdings.{Version, arrays_of}
 use Rattle.sz_catalogue.specs.Starts as starts
 use Rattle.sz_catalogue.specs.Changes.{outputs, way_of, is_black_box, traced}
-use Rattle.sz_bodies.specs.Bodies.{BeginNodes, IsBodyOf}
-use Rattle.sz_bodies.specs.Fitting.{FitsNode, FitNodes, Fit, site_in, sites_of, part_of, parts_of, body_of}
+use Rattle.sz_bodies.specs.Fitting.{FitsNode, FitNodes, Fit, site_in, sites_of}
 use Rattle.sz_versions.specs.Runs.{executions_of, IsSoundVersion}
 use Rattle.sz_versions.specs.Stores.{Keeping, nothing, whole, read, IsKeptOf, keeping_from}
 use Rattle.sz_versions.specs.Efforts.{most_traced}
@@ -452,36 +450,3 @@ recalled-sound v stores dir path named version fit each sound joined =
     views-answer v dir path views (named_in start cells) version parts.2
     (sound-views v dir path views version there (sound-recalled v stores dir path version fit each sound there)) refl
     (named-set start cells)
-
--- ---- stores that a body has
-
--- stores that begin at places of bytes are for the strategies for which they were read
-begun-listed : (s : Site) (ts : List Strategy) (bytes : List ℕ) (at next : ℕ) (fs : List Keep)
-    → BeginEach s ts bytes at next fs → map (λ (f : Keep). f.strategy) fs ≡ ts
-begun-listed s [] bytes at next [] h = refl
-begun-listed s [] bytes at next (f ∷ fs) h = absurd h
-begun-listed s (t ∷ ts) bytes at next [] h = absurd h
-begun-listed s (t ∷ ts) bytes at next (f ∷ fs) h =
-    ap₂ (λ (x : Strategy) (xs : List Strategy). x ∷ xs) h.2 (begun-listed s ts bytes h.0 next fs h.4)
-
-begun-each : (sites : List Site) (lists : List (List Strategy)) (stores : List (Option NodeLineage)) (bytes : List ℕ)
-    (at next : ℕ) → FitNodes sites lists stores → BeginNodes sites bytes at next (parts_of lists stores)
-    → All HasEachStore stores
-begun-each [] [] [] bytes at next fit h = All-nil HasEachStore
-begun-each [] [] (k ∷ stores) bytes at next fit h = absurd fit
-begun-each [] (l ∷ lists) stores bytes at next fit h = absurd fit
-begun-each (s ∷ sites) [] stores bytes at next fit h = absurd fit
-begun-each (s ∷ sites) (l ∷ lists) [] bytes at next fit h = absurd fit
-begun-each (s ∷ sites) (l ∷ lists) (k ∷ stores) bytes at next fit h =
-    All-cons HasEachStore k stores (one k fit.0 h.4) (begun-each sites lists stores bytes h.1 next fit.1 h.5) where
-      one : (k : Option NodeLineage) → FitsNode s l k → BeginEach s (stored_in l) bytes h.0 h.1 (part_of l k).stores
-          → HasEachStore k
-      one None fits begun = tt
-      one (Some kept) fits begun =
-          begun-listed s (stored_in l) bytes h.0 h.1 kept.stores begun ∙ sym (ap stored_in fits.1.own)
-
--- where bytes are the body of a version with its stores, there are stores of each list
-pub body-each : (v : Version) (n : ℕ) (stores : List (Option NodeLineage)) (bytes : List ℕ) → Fit v stores
-    → IsBodyOf (sites_of v) (body_of n v stores) bytes → All HasEachStore stores
-body-each v n stores bytes fit h =
-    begun-each (sites_of v) v.lists stores bytes h.place (length bytes) fit h.nodes

@@ -15,10 +15,10 @@ store_in (growing z p) = None
 store_in (whole kept) = Some kept
 store_in (read kept) = None
 
--- The bytes are the body of a version, under its number, with stores of its nodes that fit it, each
--- of which stands for exactly the relation.
-pub record IsSoundBody (n : ℕ) (v : Version) (body : List ℕ) : Type 0 where
+-- The bytes are the body of a version in a format, under its number, with stores of its nodes that
+-- fit it, each of which stands for exactly the relation.
+pub record IsSoundBody (format n : ℕ) (v : Version) (body : List ℕ) : Type 0 where
   pub stores : List (Option NodeLineage)
   pub fit : Fit v stores
   pub sound : AreSoundNodes (executions_of v) stores
-  pub is : IsBodyOf (sites_of v) (body_of n v stores) body
+  pub is : IsBodyOf format (sites_of v) (body_of n v stores) body

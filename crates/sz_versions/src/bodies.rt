@@ -3,6 +3,7 @@
 ghost use Rattle.std.specs.Prelude.{◌≡◌, map, true, false, IfOk, option_map};
 ghost use Rattle.std.specs.Arc.{arc_value};
 ghost use Rattle.sz_catalogue.specs.Rules.{has_no_version, version_of};
+ghost use Rattle.sz_formats.specs.Formats.{is_format};
 ghost use Rattle.sz_bodies.specs.Fitting.{lineages};
 ghost use Rattle.sz_versions.specs.Bodies.{IsSoundBody, store_in};
 ghost use Rattle.sz_versions.specs.Stores.{IsTrailOf, keeping_of};
@@ -15,7 +16,8 @@ use sz_catalogue::Catalogue;
 use sz_cells::NoMemory;
 use sz_store::NodeStore;
 
-/// The body of a version that is held, with the stores that its run has once it is awaited.
+/// The body of a version that is held, in a format of a log, with the stores that its run has once
+/// it is awaited.
 ///
 /// Takes time and memory in the stores.
 pub fn body_for(
@@ -23,16 +25,18 @@ pub fn body_for(
     catalogue: &Catalogue,
     version: u32,
     run: &VersionRun,
+    format: u8,
 ) -> Result<Vec<u8>, NoMemory>
+    requires format { is_format format ≡ true }
     requires held { has_no_version catalogue.now version ≡ false }
     requires own { IsTrailOf (record (version_of catalogue.now version) { awaited = true })
         run.now }
     ensures { IfOk result
-        (λ body. IsSoundBody version (version_of catalogue.now version) body.items) }
+        (λ body. IsSoundBody format version (version_of catalogue.now version) body.items) }
 {
     catalogue.is_in_order();
     let stores = stores_of(alloc, run)?;
-    version_body(alloc, catalogue, version, &stores)
+    version_body(alloc, catalogue, version, &stores, format)
 }
 
 /// The stores that were made of each node, where they are whole.

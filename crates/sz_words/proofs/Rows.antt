@@ -11,7 +11,7 @@ use Rattle.sz_words.specs.Numbers.{IsNumberIn, number_of}
 use Rattle.sz_words.specs.Place.{place_of}
 use Rattle.sz_words.specs.declared.Job.{Job}
 use Rattle.sz_words.specs.declared.arguments.JobMode.{JobMode}
-use Rattle.sz_words.specs.declared.arguments.JobMode.TheVariants.{Play, Init, Run, Check, Load}
+use Rattle.sz_words.specs.declared.arguments.JobMode.TheVariants.{Play, Init, Run, Check, Upgrade, Load}
 
 -- the job of this mode and these numbers
 abbrev job : JobMode → ℕ → ℕ → ℕ → ℕ → Option Job
@@ -30,15 +30,15 @@ with_place mode = mode ∷ codes "x" ∷ []
 
 -- play and load stand alone
 pub modes_without_a_place : map (λ mode. job_of (mode ∷ []))
-    (codes "play" ∷ codes "init" ∷ codes "run" ∷ codes "check" ∷ codes "load" ∷ [])
-    ≡ job Play 4 1 1 64 ∷ None ∷ None ∷ None ∷ job Load 4 1 1 64 ∷ []
+    (codes "play" ∷ codes "init" ∷ codes "run" ∷ codes "check" ∷ codes "upgrade" ∷ codes "load" ∷ [])
+    ≡ job Play 4 1 1 64 ∷ None ∷ None ∷ None ∷ None ∷ job Load 4 1 1 64 ∷ []
 unfolding clap_on_literals job_of mode_of faults_of matches_in
 modes_without_a_place = refl
 
--- init, run and check want the file of the log
+-- init, run, check and upgrade want the file of the log
 pub modes_with_a_place : map (λ mode. job_of (with_place mode))
-    (codes "play" ∷ codes "init" ∷ codes "run" ∷ codes "check" ∷ codes "load" ∷ [])
-    ≡ None ∷ job Init 4 1 1 64 ∷ job Run 4 1 1 64 ∷ job Check 4 1 1 64 ∷ None ∷ []
+    (codes "play" ∷ codes "init" ∷ codes "run" ∷ codes "check" ∷ codes "upgrade" ∷ codes "load" ∷ [])
+    ≡ None ∷ job Init 4 1 1 64 ∷ job Run 4 1 1 64 ∷ job Check 4 1 1 64 ∷ job Upgrade 4 1 1 64 ∷ None ∷ []
 unfolding clap_on_literals job_of mode_of faults_of matches_in
 modes_with_a_place = refl
 
@@ -129,8 +129,9 @@ no_text_is_no_number number = number
 -- ---- places
 
 -- only init makes the file
-pub places : map (λ mode. place_of (with_place mode)) (codes "init" ∷ codes "run" ∷ codes "check" ∷ [])
-    ≡ Some (codes "x", true) ∷ Some (codes "x", false) ∷ Some (codes "x", false) ∷ []
+pub places : map (λ mode. place_of (with_place mode))
+    (codes "init" ∷ codes "run" ∷ codes "check" ∷ codes "upgrade" ∷ [])
+    ≡ Some (codes "x", true) ∷ Some (codes "x", false) ∷ Some (codes "x", false) ∷ Some (codes "x", false) ∷ []
 unfolding clap_on_literals place_of mode_of faults_of matches_in
 places = refl
 

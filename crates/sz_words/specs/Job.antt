@@ -8,6 +8,7 @@ use Rattle.sz_words.specs.Numbers.{number_of}
 use Rattle.sz_words.specs.declared.Job.{Job}
 use Rattle.sz_words.specs.declared.arguments.JobMode.{JobMode}
 use Rattle.sz_words.specs.declared.arguments.JobMode.TheVariants.{Play, Init, Run, Check, Load}
+use Rattle.sz_words.specs.declared.arguments.JobMode.TheVariants.{Upgrade}
 
 -- the mode of this name
 abbrev pub mode_named : Text → Option JobMode
@@ -16,7 +17,8 @@ mode_named name =
     else (if bytes_eq name (codes "init") then Some Init
     else (if bytes_eq name (codes "run") then Some Run
     else (if bytes_eq name (codes "check") then Some Check
-    else (if bytes_eq name (codes "load") then Some Load else None))))
+    else (if bytes_eq name (codes "upgrade") then Some Upgrade
+    else (if bytes_eq name (codes "load") then Some Load else None)))))
 
 -- the mode works on a log, whose file PLACE names
 abbrev pub is_on_log : JobMode → Bool
@@ -24,6 +26,7 @@ is_on_log Play = false
 is_on_log Init = true
 is_on_log Run = true
 is_on_log Check = true
+is_on_log Upgrade = true
 is_on_log Load = false
 
 -- PLACE is given exactly in the modes on a log

@@ -28,6 +28,8 @@ pub enum JobMode {
     Run,
     /// Says whether a log is sound.
     Check,
+    /// Raises a log of format 1 to format 2.
+    Upgrade,
     /// The generated session, on memory.
     Load,
 }
@@ -117,6 +119,7 @@ fn mode_named(name: &str) -> Option<JobMode>
         "init" => Some(JobMode::Init),
         "run" => Some(JobMode::Run),
         "check" => Some(JobMode::Check),
+        "upgrade" => Some(JobMode::Upgrade),
         "load" => Some(JobMode::Load),
         _ => None,
     }
@@ -126,7 +129,7 @@ fn is_on_log(mode: JobMode) -> bool
     ensures { result ≡ is_on_log mode }
 {
     match mode {
-        JobMode::Init | JobMode::Run | JobMode::Check => true,
+        JobMode::Init | JobMode::Run | JobMode::Check | JobMode::Upgrade => true,
         JobMode::Play | JobMode::Load => false,
     }
 }

@@ -8,7 +8,7 @@
 //! | Mode | PLACE |
 //! |---|---|
 //! | `play`, `load` | none |
-//! | `init`, `run`, `check` | the file of the log |
+//! | `init`, `run`, `check`, `upgrade` | the file of the log |
 //!
 //! | Option | Numbers | When it is not given |
 //! |---|---|---|

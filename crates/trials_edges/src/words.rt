@@ -47,6 +47,7 @@ fn reads_the_words_of_each_mode(rt: HostRuntime) -> Result<(), Fail> {
         "init dir/x",
         "run _ --workers 2",
         "--askers=5 check x",
+        "upgrade x",
         "load --seed 7 --side 8",
     ];
     for line in lines {
@@ -64,6 +65,8 @@ fn refuses_words(rt: HostRuntime) -> Result<(), Fail> {
         "play x",
         "run",
         "run a b",
+        "upgrade",
+        "upgrade a b",
         "play --workers 2 --workers 3",
         "play --workers 65",
         "play --workers",

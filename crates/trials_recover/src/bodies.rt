@@ -1,5 +1,5 @@
-//! A body worked out byte by byte: it is read, it is written again, and where one of its conditions
-//! is broken it is bad.
+//! A body worked out byte by byte, in either format: it is read, it is written again, and where one
+//! of its conditions is broken, or it is read in the other format, it is bad.
 ghost use Rattle.std.specs.Prelude.{◌≡◌, ◌<◌, true, false, None, IfOk, OnOk};
 ghost use Rattle.sz_script.specs.Right.{is_right};
 ghost use Rattle.sz_catalogue.specs.Rules.{judged, has_no_version, version_of};
@@ -18,10 +18,16 @@ use sz_store::NodeStore;
 
 /// Version 1 of the flow `f` on version 1 of the array `a`, of one cell: one node, which negates,
 /// with the list of `full_one_b`, whose store has one region pair.
-const BODY: [u8; 64] = [
+pub(crate) const BODY: [u8; 64] = [
     0, 0, 0, 1, 1, b'f', 0, 0, 0, 1, 1, b'a', 0, 0, 0, 1, 0, 0, 0, 1, 1, 2, 0, 0, 0, 2, 0, 0, 0, 0,
     1, 0, 0, 0, 0, 0, 0, 0, 0, 1, 0, 0, 0, 1, 0, 0, 0, 0, 0, 0, 0, 0, 0, 0, 0, 1, 0, 0, 0, 0, 0, 0,
     0, 1,
+];
+
+/// The same in format 2: each set has three bytes in place of twelve.
+pub(crate) const SHORT_BODY: [u8; 46] = [
+    0, 0, 0, 1, 1, b'f', 0, 0, 0, 1, 1, b'a', 0, 0, 0, 1, 0, 0, 0, 1, 1, 2, 0, 0, 0, 2, 0, 1, 0, 0,
+    1, 1, 0, 0, 0, 0, 0, 1, 0, 0, 0, 0, 0, 0, 0, 1,
 ];
 
 /// Takes a line that holds an array or a flow.
@@ -65,9 +71,18 @@ fn holds_both(alloc: Global) -> Result<Catalogue, Fail> {
     Ok(held)
 }
 
-/// Whether a body is bad.
+/// Whether a body is bad in format 1.
 fn is_bad(alloc: Global, held: &Catalogue, body: &[u8]) -> Result<bool, Fail> {
-    match take_version_body(alloc, held, body) {
+    match take_version_body(alloc, held, body, 1) {
+        Ok(_) => Ok(false),
+        Err(TakeFault::Bad) => Ok(true),
+        Err(TakeFault::NoMemory) => Err(Fail::from("no memory")),
+    }
+}
+
+/// Whether a body is bad in format 2.
+fn is_bad_short(alloc: Global, held: &Catalogue, body: &[u8]) -> Result<bool, Fail> {
+    match take_version_body(alloc, held, body, 2) {
         Ok(_) => Ok(false),
         Err(TakeFault::Bad) => Ok(true),
         Err(TakeFault::NoMemory) => Err(Fail::from("no memory")),
@@ -88,7 +103,18 @@ fn read(alloc: Global, held: &Catalogue) -> Result<TakenVersion, Fail>
     ensures added { IfOk result (λ t. CanBeAdded held.now t.number t.version) }
     ensures fit { IfOk result (λ t. Fit t.version t.stores) }
 {
-    match take_version_body(alloc, held, &BODY) {
+    match take_version_body(alloc, held, &BODY, 1) {
+        Ok(taken) => Ok(taken),
+        Err(_) => Err(Fail::from("not read")),
+    }
+}
+
+/// The version that the body in format 2 says.
+fn read_short(alloc: Global, held: &Catalogue) -> Result<TakenVersion, Fail>
+    ensures added { IfOk result (λ t. CanBeAdded held.now t.number t.version) }
+    ensures fit { IfOk result (λ t. Fit t.version t.stores) }
+{
+    match take_version_body(alloc, held, &SHORT_BODY, 2) {
         Ok(taken) => Ok(taken),
         Err(_) => Err(Fail::from("not read")),
     }
@@ -197,7 +223,32 @@ fn a_version_that_was_read_is_added_and_written(rt: HostRuntime) -> Result<(), F
     assert!(rt; is_bad(alloc, &held, &BODY)?); // the number is held
     let other = breaks(alloc, &held, 3, 2)?;
     assert!(rt; !other);
-    let written = version_body(alloc, &held, number, &stores)?;
+    let written = version_body(alloc, &held, number, &stores, 1)?;
     assert!(rt; written.as_slice() == BODY.as_slice());
+    Ok(())
+}
+
+#[test]
+fn a_body_of_format_2_is_read_added_and_written(rt: HostRuntime) -> Result<(), Fail> {
+    let alloc = rt.alloc();
+    let mut held = holds_both(alloc)?;
+    let taken = read_short(alloc, &held)?;
+    assert!(rt; is_right(&taken));
+    let number = taken.number;
+    let stores = add(&mut held, taken)?;
+    let written = version_body(alloc, &held, number, &stores, 2)?;
+    assert!(rt; written.as_slice() == SHORT_BODY.as_slice());
+    let long = version_body(alloc, &held, number, &stores, 1)?;
+    assert!(rt; long.as_slice() == BODY.as_slice());
+    Ok(())
+}
+
+#[test]
+fn a_body_is_bad_in_the_other_format(rt: HostRuntime) -> Result<(), Fail> {
+    let alloc = rt.alloc();
+    let held = holds_both(alloc)?;
+    assert!(rt; is_bad(alloc, &held, &SHORT_BODY)?);
+    assert!(rt; is_bad_short(alloc, &held, &BODY)?);
+    assert!(rt; is_bad_short(alloc, &held, &SHORT_BODY[..45])?);
     Ok(())
 }

@@ -7,13 +7,14 @@ use sz_recover::{Recovered, WrongStore, catalogue_of, unsound};
 use sz_spec::Strategy;
 
 /// The first bytes of a log.
-const HEADER: [u8; 16] = *b"\x01SubZero log 1\r\n";
+pub(crate) const HEADER: [u8; 16] = *b"\x01SubZero log 1\r\n";
 
 /// An array of one cell.
-const ARRAY: &[u8] = br#"{"array":"a","cells":[[5]]}"#;
+pub(crate) const ARRAY: &[u8] = br#"{"array":"a","cells":[[5]]}"#;
 
 /// A flow of one node, which negates.
-const FLOW: &[u8] = br#"{"flow":"f","inputs":1,"nodes":[{"op":"neg","from":[{"i":0}]}]}"#;
+pub(crate) const FLOW: &[u8] =
+    br#"{"flow":"f","inputs":1,"nodes":[{"op":"neg","from":[{"i":0}]}]}"#;
 
 /// Version 1 of the flow on the array, up to the store: its node has the list of `full_one_b`.
 const HEAD: [u8; 22] = [
@@ -30,7 +31,7 @@ const TRUE_STORE: [u8; 42] = [
 const EMPTY_STORE: [u8; 8] = [0; 8];
 
 /// Appends a group with its gate open.
-fn put_group(disk: &mut Vec<u8>, kind: u8, body: &[u8]) -> Result<(), Fail> {
+pub(crate) fn put_group(disk: &mut Vec<u8>, kind: u8, body: &[u8]) -> Result<(), Fail> {
     disk.push(1)?;
     disk.push(kind)?;
     disk.extend_from_slice(&(body.len() as u64).to_be_bytes())?;

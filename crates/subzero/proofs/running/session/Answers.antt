@@ -37,6 +37,7 @@ returns-clause-serves g c =
       load = c.serve.ensures.load;
       init = c.serve.ensures.init;
       check = c.serve.ensures.check;
+      upgrade = c.serve.ensures.upgrade;
       run = c.serve.ensures.run;
     } in
     let Owed = λ (o : Option Job). Serves g.S.Source g.T.Station o c.serve.result c.args.source.now c.serve.new.source
@@ -54,6 +55,7 @@ returns-clause-usage g c =
       load = c.serve.ensures.load;
       init = c.serve.ensures.init;
       check = c.serve.ensures.check;
+      upgrade = c.serve.ensures.upgrade;
       run = c.serve.ensures.run;
     } in
     λ is. other-given _ _ _ c.in-Ok.is (c.deref.ensures.value ∙ c.in-Ok-words_of.ensures)

@@ -25,11 +25,14 @@ returns-in_err-list-clause-err c =
     let n : Node = c.node-item.result in
     let done = parts_of c.loop-node.lists.items (lineages c.loop-node.stores.items) in
     let left = left-is nodes i n c.loop-node-test.true c.node-item.is in
-    let read : AreRead base outs nodes (n ∷ drop (i + 1) nodes) c.args.bytes.now c.args.at c.loop-node.place done =
-    subst (λ (xs : List Node). AreRead base outs nodes xs c.args.bytes.now c.args.at c.loop-node.place done) left
+    let read : AreRead c.args.format base outs nodes (n ∷ drop (i + 1) nodes) c.args.bytes.now c.args.at
+    c.loop-node.place done =
+    subst (λ (xs : List Node). AreRead c.args.format base outs nodes xs c.args.bytes.now c.args.at
+    c.loop-node.place done) left
     c.loop-node.invariant.read in
     let none = if_bad-weaker c.in_err-list.field-0.0
-    (λ missing. read-stops base outs nodes n (drop (i + 1) nodes) c.args.bytes.now c.args.at c.loop-node.place done read
+    (λ missing. read-stops c.args.format base outs nodes n (drop (i + 1) nodes) c.args.bytes.now c.args.at
+    c.loop-node.place done read
     missing) c.in_err-list.ensures.err in
     let p = err_from_is_err_and c.from_residual.result c.from_residual.ensures.1 in
     rw (p.1, p.2) none
@@ -54,8 +57,10 @@ loop-node-preserved c =
     ap (λ xs. lineages xs) c.in_ok-push-2.ensures.items
     ∙ map-append (λ a. option_map (λ b. arc_value b) a) c.loop-node.stores.items (c.in_ok-list.kept ∷ []) in
     let left = left-is nodes i n c.loop-node-test.true c.node-item.is in
-    let read : AreRead base outs nodes (n ∷ drop (i + 1) nodes) c.args.bytes.now c.args.at c.loop-node.place done =
-    subst (λ (xs : List Node). AreRead base outs nodes xs c.args.bytes.now c.args.at c.loop-node.place done) left
+    let read : AreRead c.args.format base outs nodes (n ∷ drop (i + 1) nodes) c.args.bytes.now c.args.at
+    c.loop-node.place done =
+    subst (λ (xs : List Node). AreRead c.args.format base outs nodes xs c.args.bytes.now c.args.at
+    c.loop-node.place done) left
     inv.read in
     let parts : parts_of c.push.new.self.items (lineages c.push-in-loop-node.new.self.items)
     ≡ done ++ part_of list kept ∷ [] =
@@ -66,9 +71,10 @@ loop-node-preserved c =
     ∙ map-append (site_over base outs) (take i nodes) (n ∷ []) in
     record {
       read =
-          subst (λ (xs : List NodePart). AreRead base outs nodes (drop (i + 1) nodes) c.args.bytes.now c.args.at
+          subst (λ (xs : List NodePart). AreRead c.args.format base outs nodes (drop (i + 1) nodes) c.args.bytes.now
+          c.args.at
           c.in_ok-list.next xs) (sym parts)
-          (read-more base outs nodes n (drop (i + 1) nodes) c.args.bytes.now c.args.at c.loop-node.place
+          (read-more c.args.format base outs nodes n (drop (i + 1) nodes) c.args.bytes.now c.args.at c.loop-node.place
           c.in_ok-list.next done (part_of list kept) read c.in_ok-list.ensures.node c.in_ok-list.ensures.only);
       fit =
           subst (λ (ss : List Site). FitNodes ss c.push.new.self.items
@@ -84,8 +90,9 @@ pub returns-clause-nodes : goal.returns-clause-nodes
 returns-clause-nodes c =
     let nodes = c.args.nodes.now in
     let done = parts_of c.loop-node.lists.items (lineages c.loop-node.stores.items) in
-    (read-all c.args.base.now c.args.outputs.now nodes c.args.bytes.now c.args.at c.loop-node.place done
-    (subst (λ (xs : List Node). AreRead c.args.base.now c.args.outputs.now nodes xs c.args.bytes.now c.args.at
+    (read-all c.args.format c.args.base.now c.args.outputs.now nodes c.args.bytes.now c.args.at c.loop-node.place done
+    (subst (λ (xs : List Node). AreRead c.args.format c.args.base.now c.args.outputs.now nodes xs c.args.bytes.now
+    c.args.at
     c.loop-node.place done) (drop_all c.loop-node.node-index nodes c.loop-node-test.false)
     c.loop-node.invariant.read)).0
 
@@ -93,7 +100,8 @@ pub returns-clause-only : goal.returns-clause-only
 returns-clause-only c =
     let nodes = c.args.nodes.now in
     let done = parts_of c.loop-node.lists.items (lineages c.loop-node.stores.items) in
-    (read-all c.args.base.now c.args.outputs.now nodes c.args.bytes.now c.args.at c.loop-node.place done
-    (subst (λ (xs : List Node). AreRead c.args.base.now c.args.outputs.now nodes xs c.args.bytes.now c.args.at
+    (read-all c.args.format c.args.base.now c.args.outputs.now nodes c.args.bytes.now c.args.at c.loop-node.place done
+    (subst (λ (xs : List Node). AreRead c.args.format c.args.base.now c.args.outputs.now nodes xs c.args.bytes.now
+    c.args.at
     c.loop-node.place done) (drop_all c.loop-node.node-index nodes c.loop-node-test.false)
     c.loop-node.invariant.read)).1

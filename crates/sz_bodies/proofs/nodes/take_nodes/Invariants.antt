@@ -7,7 +7,7 @@ use Rattle.sz_bodies.proofs.nodes.take_nodes.Given as goal
 
 abbrev pub invariant-loop-node : goal.invariant-loop-node
 invariant-loop-node l = record {
-  read : AreRead l.base l.outputs l.nodes (drop l.node-index l.nodes) l.bytes l.at l.place
+  read : AreRead l.format l.base l.outputs l.nodes (drop l.node-index l.nodes) l.bytes l.at l.place
       (parts_of l.lists.items (lineages l.stores.items));
   fit : FitNodes (map (site_over l.base l.outputs) (take l.node-index l.nodes)) l.lists.items
       (lineages l.stores.items);

@@ -16,7 +16,7 @@ use Rattle.sz_bodies.proofs.reading.take_version_body.Goals as goal
 
 pub returns-in_err-head-clause-bad : goal.returns-in_err-head-clause-bad
 returns-in_err-head-clause-bad c =
-    let none = if_bad-weaker c.in_err-head.field-0.0 (no-body-head c.args.catalogue.now c.args.body.now)
+    let none = if_bad-weaker c.in_err-head.field-0.0 (no-body-head c.args.format c.args.catalogue.now c.args.body.now)
     c.in_err-head.ensures.err in
     let p = err_from_is_err_and c.from_residual.result c.from_residual.ensures.1 in
     rw (p.1, p.2) none
@@ -28,7 +28,7 @@ returns-in_err-base-clause-bad c =
     let read : HeadIs held c.args.body.now h c.in_ok-head.place =
     record { begun = c.in_ok-head.ensures.held; here = c.in_ok-head.ensures.bytes } in
     let none = if_bad-weaker c.in_err-base.field-0.0
-    (no-body-shapes held c.args.body.now h c.in_ok-head.place read) c.in_err-base.ensures.err in
+    (no-body-shapes c.args.format held c.args.body.now h c.in_ok-head.place read) c.in_err-base.ensures.err in
     let p = err_from_is_err_and c.from_residual-in_err-base.result c.from_residual-in_err-base.ensures.1 in
     rw (p.1, p.2) none
 
@@ -46,8 +46,9 @@ returns-in_err-lists-clause-bad c =
     c.nodes-nodes.ensures
     ∙ ap (λ (x : Graph). x.nodes) (c.deref.ensures ∙ ap (λ (b : Begun). b.flow) c.head.view_is) in
     let none = if_bad-weaker c.in_err-lists.field-0.0
-    (λ missing. no-body-nodes held body h place base outs read c.in_ok-base.ensures.base c.in_ok-base.ensures.fit
-    (carried (λ (b o : List Extent) (n : List Node). NoNodesAt b o n body place) c.deref-2.result.now base
+    (λ missing. no-body-nodes c.args.format held body h place base outs read c.in_ok-base.ensures.base
+    c.in_ok-base.ensures.fit
+    (carried (λ (b o : List Extent) (n : List Node). NoNodesAt c.args.format b o n body place) c.deref-2.result.now base
     c.deref-3.result.now outs c.nodes-nodes.result.now h.flow.nodes c.deref-2.ensures.value c.deref-3.ensures.value
     nodes missing)) c.in_err-lists.ensures.err in
     let p = err_from_is_err_and c.from_residual-in_err-lists.result c.from_residual-in_err-lists.ensures.1 in
@@ -68,12 +69,14 @@ returns-then-end-body-clause-bad c =
     let nodes : c.nodes-nodes.result.now ≡ h.flow.nodes =
     c.nodes-nodes.ensures
     ∙ ap (λ (x : Graph). x.nodes) (c.deref.ensures ∙ ap (λ (b : Begun). b.flow) c.head.view_is) in
-    no-body-end held body h place end base outs parts read c.in_ok-base.ensures.base c.in_ok-base.ensures.fit
-    (carried (λ (b o : List Extent) (n : List Node). AreOnlyNodes b o n body place end parts) c.deref-2.result.now base
+    no-body-end c.args.format held body h place end base outs parts read c.in_ok-base.ensures.base
+    c.in_ok-base.ensures.fit
+    (carried (λ (b o : List Extent) (n : List Node). AreOnlyNodes
+    c.args.format b o n body place end parts) c.deref-2.result.now base
     c.deref-3.result.now outs c.nodes-nodes.result.now h.flow.nodes c.deref-2.ensures.value c.deref-3.ensures.value
     nodes c.in_ok-lists.ensures.only) c.if-end-body.true
 
-whole : (c : goal.After-drop-base-2) → IsRead c.args.catalogue.now c.args.body.now c.head.inside.number
+whole : (c : goal.After-drop-base-2) → IsRead c.args.format c.args.catalogue.now c.args.body.now c.head.inside.number
     (record {
       flow_name = c.head.inside.flow_name;
       flow = arc_value c.head.inside.flow;
@@ -97,16 +100,18 @@ whole c =
     let nodes : c.nodes-nodes.result.now ≡ h.flow.nodes =
     c.nodes-nodes.ensures
     ∙ ap (λ (x : Graph). x.nodes) (c.deref.ensures ∙ ap (λ (b : Begun). b.flow) c.head.view_is) in
-    let there : AreNodesAt base outs h.flow.nodes body place end parts =
-    carried (λ (b o : List Extent) (n : List Node). AreNodesAt b o n body place end parts) c.deref-2.result.now base
+    let there : AreNodesAt c.args.format base outs h.flow.nodes body place end parts =
+    carried (λ (b o : List Extent) (n : List Node). AreNodesAt
+    c.args.format b o n body place end parts) c.deref-2.result.now base
     c.deref-3.result.now outs c.nodes-nodes.result.now h.flow.nodes c.deref-2.ensures.value c.deref-3.ensures.value
     nodes c.in_ok-lists.ensures.nodes in
     let fits : FitNodes (map (site_over base outs) h.flow.nodes) lists stores =
     carried (λ (b o : List Extent) (n : List Node). FitNodes (map (site_over b o) n) lists stores) c.deref-2.result.now
     base c.deref-3.result.now outs c.nodes-nodes.result.now h.flow.nodes c.deref-2.ensures.value c.deref-3.ensures.value
     nodes c.in_ok-lists.ensures.fit in
-    let own : IsRead held body h.number (version_read h lists) stores =
-    body-read held body h place end base outs lists stores read c.in_ok-base.ensures.base c.in_ok-base.ensures.fit there
+    let own : IsRead c.args.format held body h.number (version_read h lists) stores =
+    body-read c.args.format held body h place end base outs lists stores read c.in_ok-base.ensures.base
+    c.in_ok-base.ensures.fit there
     fits c.if-end-body.false in
     let make : List Base → List (List Strategy) → Version = λ bs ls. record {
       flow_name = c.head.inside.flow_name;
@@ -117,8 +122,8 @@ whole c =
     } in
     let version : make c.of.result c.of-2.result ≡ version_read h lists =
     ap₂ make c.of.ensures c.of-2.ensures ∙ ap (λ (b : Begun). version_read b lists) c.head.view_is in
-    subst (λ (v : Version). IsRead held body c.head.inside.number v stores) (sym version)
-    (subst (λ (n : ℕ). IsRead held body n (version_read h lists) stores)
+    subst (λ (v : Version). IsRead c.args.format held body c.head.inside.number v stores) (sym version)
+    (subst (λ (n : ℕ). IsRead c.args.format held body n (version_read h lists) stores)
     (sym (ap (λ (b : Begun). b.number) c.head.view_is)) own)
 
 pub returns-clause-lawful : goal.returns-clause-lawful

@@ -14,7 +14,7 @@ use Rattle.sz_bodies.proofs.writing.put_nodes.Goals as goal
 pub bounds-lists-node : goal.bounds-lists-node
 bounds-lists-node c =
     let stores = c.args.stores.now in
-    let fit = fit-length c.requires.0 c.args.lists.now (lineages stores) c.requires.1 in
+    let fit = fit-length c.requires.fit.0 c.args.lists.now (lineages stores) c.requires.fit.1 in
     omega (arith, c.loop-node-test.true, fit.0, length-map stores (option_map (λ a. arc_value a)))
 
 pub loop-node-preserved : goal.loop-node-preserved
@@ -30,7 +30,7 @@ loop-node-preserved c =
     let inv = c.loop-node.invariant in
     let put = c.in_ok-put_node.ensures in
     let one : n + 1 ≡ suc n = omega arith in
-    let lengths = fit-length c.requires.0 lists (lineages stores) c.requires.1 in
+    let lengths = fit-length c.requires.fit.0 lists (lineages stores) c.requires.fit.1 in
     let below : n < length lists = omega (
       arith,
       c.loop-node-test.true,
@@ -45,7 +45,7 @@ loop-node-preserved c =
     let next : (sites : List Site) → FitNodes sites lists (lineages stores)
     → NextNode n sites lists (lineages stores) list kept =
     λ sites fit. node-next n sites lists (lineages stores) list kept fit here there in
-    let parts = (next c.requires.0 c.requires.1).parts in
+    let parts = (next c.requires.fit.0 c.requires.fit.1).parts in
     let short : NodePart → Type 0 = λ x. length x.list < 256 in
     record {
       end = refl;
@@ -65,16 +65,18 @@ loop-node-preserved c =
           let bytes : mid ++ (put.front.0 ++ rest) ≡ new ++ rest =
           sym (append_assoc mid put.front.0 rest) ∙ ap (λ (xs : List ℕ). xs ++ rest) (sym put.front.1) in
           let before = subst
-          (λ (xs : List ℕ). BeginNodes (take n sites) xs (length old) (length mid)
+          (λ (xs : List ℕ). BeginNodes c.args.format (take n sites) xs (length old) (length mid)
           (parts_of (take n lists) (take n (lineages stores))))
           bytes (inv.nodes sites fit (put.front.0 ++ rest)) in
-          let both = nodes-append (take n sites) (r.site ∷ []) (new ++ rest) (length old) (length mid) (length new)
+          let both = nodes-append c.args.format (take n sites) (r.site ∷ []) (new ++ rest) (length old) (length mid)
+          (length new)
           (parts_of (take n lists) (take n (lineages stores))) (part_of list kept ∷ []) before
           (put.node r.site r.fits rest) in
           rw one
-          (subst (λ (xs : List Site). BeginNodes xs (new ++ rest) (length old) (length new)
+          (subst (λ (xs : List Site). BeginNodes c.args.format xs (new ++ rest) (length old) (length new)
           (parts_of (take (suc n) lists) (take (suc n) (lineages stores)))) (sym r.taken)
-          (subst (BeginNodes (take n sites ++ r.site ∷ []) (new ++ rest) (length old) (length new)) (sym r.parts)
+          (subst (BeginNodes c.args.format (take n sites ++ r.site ∷ []) (new ++ rest) (length old) (length new))
+          (sym r.parts)
           both));
     }
 
@@ -83,7 +85,7 @@ returns-clause-short c =
     let lists = c.args.lists.now in
     let stores = c.args.stores.now in
     let n = c.loop-node.node in
-    let lengths = fit-length c.requires.0 lists (lineages stores) c.requires.1 in
+    let lengths = fit-length c.requires.fit.0 lists (lineages stores) c.requires.fit.1 in
     let kept : length (lineages stores) ≡ length stores = length-map stores (option_map (λ a. arc_value a)) in
     subst (λ ls. All (λ x. length x.list < 256) (parts_of ls (lineages stores)))
     (take_all n lists (omega (arith, c.loop-node-test.false, lengths.0, kept)))
@@ -101,11 +103,12 @@ returns-clause-nodes c sites fit =
     let kept : length (lineages stores) ≡ length stores = length-map stores (option_map (λ a. arc_value a)) in
     let more = length stores in
     let end : more ≤ n = c.loop-node-test.false in
-    subst (λ ls. BeginNodes sites new (length old) (length new) (parts_of ls (lineages stores)))
+    subst (λ ls. BeginNodes c.args.format sites new (length old) (length new) (parts_of ls (lineages stores)))
     (take_all n lists (omega (arith, end, lengths.0, kept)))
-    (subst (λ ks. BeginNodes sites new (length old) (length new) (parts_of (take n lists) ks))
+    (subst (λ ks. BeginNodes c.args.format sites new (length old) (length new) (parts_of (take n lists) ks))
     (take_all n (lineages stores) (omega (arith, end, kept)))
-    (subst (λ ss. BeginNodes ss new (length old) (length new) (parts_of (take n lists) (take n (lineages stores))))
+    (subst (λ ss. BeginNodes c.args.format ss new (length old) (length new) (parts_of (take n lists) (take n
+    (lineages stores))))
     (take_all n sites (omega (arith, end, lengths.1, kept)))
-    (subst (λ xs. BeginNodes (take n sites) xs (length old) (length new)
+    (subst (λ xs. BeginNodes c.args.format (take n sites) xs (length old) (length new)
     (parts_of (take n lists) (take n (lineages stores)))) (append-nil new) (c.loop-node.invariant.nodes sites fit []))))

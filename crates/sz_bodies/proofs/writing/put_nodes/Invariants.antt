@@ -11,6 +11,6 @@ invariant-loop-node l = record {
   short : All (λ x. length x.list < 256) (parts_of (take l.node l.lists) (take l.node (lineages l.stores)));
   front : (more : List ℕ) × (l.to.items ≡ l.fn.to.items ++ more);
   nodes : (sites : List Site) → FitNodes sites l.lists (lineages l.stores) → (rest : List ℕ)
-      → BeginNodes (take l.node sites) (l.to.items ++ rest) (length l.fn.to.items) (length l.to.items)
+      → BeginNodes l.format (take l.node sites) (l.to.items ++ rest) (length l.fn.to.items) (length l.to.items)
       (parts_of (take l.node l.lists) (take l.node (lineages l.stores)));
 }

@@ -55,11 +55,12 @@ returns c =
       few_nodes = few;
       lists = c.in_ok-put_nodes.ensures.short;
     } in
-    let whole = body-whole (sites_of h) b c.put_count.new.to.items front.0 c.put_nodes.new.to.items short head front.1
+    let whole = body-whole c.args.format
+    (sites_of h) b c.put_count.new.to.items front.0 c.put_nodes.new.to.items short head front.1
     (c.in_ok-put_nodes.ensures.nodes (sites_of h) fits) in
     let said : b ≡ body_of n h kept =
     ap (λ (xs : List Base). record b { base = map named_base xs }) base
     ∙ ap (λ (ls : List (List Strategy)). record b { base = map named_base inside.base; nodes = parts_of ls kept }) lists
     ∙ ap (λ (v : Version). body_of n v kept) c.held.view_is in
-    subst (λ (v : Version). IsBodyOf (sites_of v) (body_of n v kept) c.put_nodes.new.to.items) (sym held)
-    (subst (λ (x : VersionBody). IsBodyOf (sites_of h) x c.put_nodes.new.to.items) said whole)
+    subst (λ (v : Version). IsBodyOf c.args.format (sites_of v) (body_of n v kept) c.put_nodes.new.to.items) (sym held)
+    (subst (λ (x : VersionBody). IsBodyOf c.args.format (sites_of h) x c.put_nodes.new.to.items) said whole)

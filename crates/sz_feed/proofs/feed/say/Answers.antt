@@ -1,7 +1,7 @@
 -- Where there is no reply, or no memory for its line, nothing is done.
 use Rattle.std.proofs.Common.{refl}
 use Rattle.std.proofs.lemmas.Result.{err_from_is_err_and}
-use Rattle.sz_feed.proofs.Disks.{stays-still, stays-said}
+use Rattle.sz_feed.proofs.Disks.{stays-still}
 use Rattle.sz_feed.proofs.feed.say.Goals as goal
 
 pub returns-in_default-clause-said : goal.returns-in_default-clause-said

@@ -1,6 +1,7 @@
 -- The disk is as before, the entries are those of the versions, and the log goes well up to the place.
-use Rattle.std.proofs.Common.{◌≡◌, ◌-◌}
+use Rattle.std.proofs.Common.{◌≡◌, ◌-◌, true}
 use Rattle.sz_outside.specs.Disk.{Told, Passes, Same, Said}
+use Rattle.sz_formats.specs.Formats.{is_format}
 use Rattle.sz_recover.specs.Logs.{IsSoFar}
 use Rattle.sz_recover.specs.Opened.{AreOfVersions}
 use Rattle.sz_recover.proofs.opening.act_each.Given as goal
@@ -16,7 +17,8 @@ invariant-loop-next g l = record {
       (g.T.Station.may_leave l.fn.station) (g.T.Station.may_leave l.station) Same
       (Said (g.T.Station.said l.fn.station)));
   entries : AreOfVersions l.catalogue l.kept.items;
-  far : IsSoFar (g.T.Station.disk l.fn.station) l.at l.catalogue l.kept.items;
+  format : is_format l.format ≡ true;
+  far : IsSoFar (g.T.Station.disk l.fn.station) l.at l.format l.catalogue l.kept.items;
 }
 
 abbrev pub decreases-loop-next : goal.decreases-loop-next

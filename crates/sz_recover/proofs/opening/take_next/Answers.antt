@@ -17,11 +17,12 @@ returns-in-Err-Bad-clause-bad g c =
     let held = c.args.catalogue.now in
     let there : IsEntryAt o c.args.at e.kind e.body.items e.next =
     subst (λ (x : Next). IsNext o c.args.at x) e.field-0-is e.ensures.next in
-    let bad : IsBad held (entry_of e.kind c.deref.result.now) =
-    subst (λ (f : TakeFault). IfBad f (IsBad held (entry_of e.kind c.deref.result.now))) c.in-Err-Bad.field-0-is
+    let f = c.args.format.now in
+    let bad : IsBad f held (entry_of e.kind c.deref.result.now) =
+    subst (λ (x : TakeFault). IfBad x (IsBad f held (entry_of e.kind c.deref.result.now))) c.in-Err-Bad.field-0-is
     c.in-Err-Bad.ensures.err in
-    bad-on o c.args.at e.kind e.next e.body.items held there
-    (subst (λ (xs : List ℕ). IsBad held (entry_of e.kind xs)) c.deref.ensures.value bad)
+    bad-on o c.args.at e.kind e.next f e.body.items held there
+    (subst (λ (xs : List ℕ). IsBad f held (entry_of e.kind xs)) c.deref.ensures.value bad)
 
 pub returns-in-Ok-clause-entries : goal.returns-in-Ok-clause-entries
 returns-in-Ok-clause-entries g c =
@@ -29,4 +30,5 @@ returns-in-Ok-clause-entries g c =
     let e = entry_of c.in-Ok-Entry.kind c.deref.result.now in
     let acts = c.in-Ok.ensures.ok in
     subst (λ (ks : List Kept). AreOfVersions c.act.new.catalogue ks) (sym acts.2)
-    (acts-keep c.args.catalogue.now c.act.new.catalogue e c.args.kept.now.items acts.0 are acts.1)
+    (acts-keep c.args.format.now c.act.new.format c.args.catalogue.now c.act.new.catalogue e c.args.kept.now.items
+    acts.0 are acts.1)

@@ -2,6 +2,7 @@
 use Rattle.std.proofs.Common.{ℕ, List, Option, sym, ◌∙◌, subst, inr}
 use Rattle.sz_outside.specs.Disk.{Only, Same, Said}
 use Rattle.sz_recover.specs.Logs.{IsMade}
+use Rattle.sz_commands.specs.Logged.{end_of}
 use Rattle.sz_commands.specs.Stops.{StopsFinding}
 use Rattle.sz_feed.proofs.Disks.{stops-both}
 use Rattle.sz_commands.proofs.Logged.{opened-log}
@@ -16,7 +17,8 @@ run_on-requires-clause-log g c κs within =
     let b = c.catalogue_of.new.station in
     let only = not-failed c.sync.result _ (sym c.is_err.ensures.value ∙ c.if-is_err.false) c.sync.ensures.synced in
     let L : Option (List ℕ) → Type 0 = λ o. Only o (g.T.Station.may_leave a) in
-    opened-log g.T.Station _ c.in-Ok.recovered.end.at c.in-Ok.recovered.catalogue c.in-Ok.recovered.stores.items a b
+    let at = end_of c.in-Ok.recovered in
+    opened-log g.T.Station _ at c.in-Ok.recovered.catalogue c.in-Ok.recovered.stores.items a b
     c.in-Ok.ensures.made c.catalogue_of.ensures.disk c.catalogue_of.ensures.stops
     (subst L (sym c.sync.ensures.disk) only)
 
@@ -26,7 +28,7 @@ returns-in-Ok-clause-ends g c =
     let mid = c.sync.new.self in
     let b = c.catalogue_of.new.station in
     let x = c.run_on.new.station in
-    let at = c.in-Ok.recovered.end.at in
+    let at = end_of c.in-Ok.recovered in
     let held = c.in-Ok.recovered.catalogue in
     let kept = c.in-Ok.recovered.stores.items in
     let only = not-failed c.sync.result _ (sym c.is_err.ensures.value ∙ c.if-is_err.false) c.sync.ensures.synced in
@@ -36,7 +38,7 @@ returns-in-Ok-clause-ends g c =
     let S : Option (List ℕ) → Type 0 = λ o. StopsFinding g.T.Station Same (Said o) mid b in
     let stops = stops-both g.T.Station (Said (g.T.Station.said a)) a mid b c.sync.ensures.disk c.sync.ensures.stops
     (subst S c.sync.ensures.output.0 c.catalogue_of.ensures.stops) in
-    let M : Option (List ℕ) → Type 0 = λ o. IsMade o at held kept in
+    let M : Option (List ℕ) → Type 0 = λ o. IsMade o at.gate at.format held kept in
     inr (opened g.T.Station c.run_on.result c.args.limit at held kept (g.S.Source.left c.args.source.now)
     (g.S.Source.left c.run_on.new.source) a b x (c.catalogue_of.ensures.disk ∙ c.sync.ensures.disk)
     (c.catalogue_of.ensures.output.0 ∙ c.sync.ensures.output.0) stops (subst M c.sync.ensures.disk c.in-Ok.ensures.made)

@@ -2,6 +2,7 @@
 use Rattle.std.proofs.Common.{◌≡◌, Some, refl, subst, sym, ap, ◌∙◌}
 use Rattle.sz_feed.specs.Moments.{Moment}
 use Rattle.sz_commands.specs.States.{SessionState, apart}
+use Rattle.sz_commands.specs.Logged.{end_of}
 use Rattle.sz_feed.specs.Serving.{Answered}
 use Rattle.sz_session.specs.Sessions.{opening_of, EndsSession}
 use Rattle.sz_feed.specs.Running.{IsBeside, state_of_log}
@@ -16,7 +17,7 @@ answer_all-status-requires g c =
     let z = state_of_log c.args.recovered.catalogue c.args.recovered.stores.items in
     let P : Moment → Type 0 = λ m. Answered m.held left left said said m 0 in
     let L : Moment → Type 0 = λ m. IsBeside g.T.Station m c.args.station.now in
-    let is : c.over-feed.result ≡ opened z (Some c.args.recovered.end.at) =
+    let is : c.over-feed.result ≡ opened z (Some (end_of c.args.recovered)) =
     c.over-feed.ensures ∙ ap (λ (s : SessionState). opened (apart s) s.end) c.in-Ok-of_log.ensures.state in
     λ κs lives. (
       lives.0,
@@ -40,7 +41,7 @@ answer_all-status-requires g c =
                       (
                         ap (λ (m : Moment). m.number) is,
                         (
-                          subst P (sym is) (answered-opened z (Some c.args.recovered.end.at) left said),
+                          subst P (sym is) (answered-opened z (Some (end_of c.args.recovered)) left said),
                           (subst L (sym is) c.requires.log, refl),
                         ),
                       ),
@@ -66,7 +67,7 @@ returns-in_default g c =
       plain = λ e is. cc;
       written = λ is. cc;
       behind = λ is. cc;
-      found = all-still g.T.Station z c.args.recovered.end.at left a c.requires.log (g.met.T.Station.only_now a)
+      found = all-still g.T.Station z (end_of c.args.recovered) left a c.requires.log (g.met.T.Station.only_now a)
           (g.met.T.Station.counts_now a);
     }
 
@@ -81,7 +82,7 @@ returns-in_default-of_log g c =
       plain = λ e is. cc;
       written = λ is. cc;
       behind = λ is. cc;
-      found = all-still g.T.Station z c.args.recovered.end.at left a c.requires.log (g.met.T.Station.only_now a)
+      found = all-still g.T.Station z (end_of c.args.recovered) left a c.requires.log (g.met.T.Station.only_now a)
           (g.met.T.Station.counts_now a);
     }
 
@@ -91,7 +92,7 @@ returns g c =
     let z = state_of_log c.args.recovered.catalogue c.args.recovered.stores.items in
     let left = g.S.Source.left c.args.source.now in
     let a = c.args.station.now in
-    let is : c.over-feed.result ≡ opened z (Some c.args.recovered.end.at) =
+    let is : c.over-feed.result ≡ opened z (Some (end_of c.args.recovered)) =
     c.over-feed.ensures ∙ ap (λ (s : SessionState). opened (apart s) s.end) c.in-Ok-of_log.ensures.state in
     let P : Moment → Type 0 = λ m. EndsSession g.T.Station c.answer_all-status.result c.args.limit
     (opening_of m.held left (g.T.Station.said a)) m.end (g.S.Source.left c.answer_all-status.new.source)

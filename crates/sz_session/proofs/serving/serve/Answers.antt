@@ -37,6 +37,14 @@ returns-in-Err-clause-check g c =
     (λ usage. c.read_words.ensures.usage (c.in-Err.is ∙ ap (λ (f : WordsFault). Err f) usage)) in
     owed.check
 
+pub returns-in-Err-clause-upgrade : goal.returns-in-Err-clause-upgrade
+returns-in-Err-clause-upgrade g c =
+    let x = c.args.station.now in
+    let owed = refused-serves g.S.Source g.T.Station _ c.in-Err.fault _ c.args.source.now x (g.met.T.Station.only_now x)
+    (g.met.T.Station.counts_now x) c.status_of_words.ensures
+    (λ usage. c.read_words.ensures.usage (c.in-Err.is ∙ ap (λ (f : WordsFault). Err f) usage)) in
+    owed.upgrade
+
 pub returns-in-Err-clause-run : goal.returns-in-Err-clause-run
 returns-in-Err-clause-run g c =
     let x = c.args.station.now in

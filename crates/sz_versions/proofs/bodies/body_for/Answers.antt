@@ -31,8 +31,8 @@ returns c =
     let here = in_order.version-found cat n v c.is_in_order.ensures (version-found cat n c.requires.held) in
     let kept = lineages c.deref.result.now in
     let same = ap (λ xs. lineages xs) c.deref.ensures.value ∙ c.in_ok-stores.ensures in
-    IfOk-weaker c.version_body.result (λ body. IsBodyOf (sites_of v) (body_of n v kept) body.items)
-    (λ body. IsSoundBody n v body.items)
+    IfOk-weaker c.version_body.result (λ body. IsBodyOf c.args.format (sites_of v) (body_of n v kept) body.items)
+    (λ body. IsSoundBody c.args.format n v body.items)
     (λ body is. record {
       stores = kept;
       fit = subst (λ (ks : List (Option NodeLineage)). Fit v ks) (sym same)

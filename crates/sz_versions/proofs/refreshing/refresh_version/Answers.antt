@@ -25,7 +25,9 @@ refresh_held-requires-clause-input g c = λ κs lives.
 pub refresh_held-requires-clause-cells : goal.refresh_held-requires-clause-cells
 refresh_held-requires-clause-cells g c =
     let set = c.args.set.now in
-    λ κs lives. ap (λ (v : Version). list_all (has_new_cell (base_at v c.args.input).array.extent) set) c.version_held-held.ensures
+    λ κs lives.
+    ap (λ (v : Version). list_all (has_new_cell (base_at v c.args.input).array.extent) set)
+    c.version_held-held.ensures
     ∙ (can-refresh c.args.catalogue.now c.args.version c.args.input set c.requires.judged).cells
 
 pub refresh_held-requires-clause-old : goal.refresh_held-requires-clause-old
@@ -46,7 +48,8 @@ returns-clause-run g c =
 pub returns-clause-cells : goal.returns-clause-cells
 returns-clause-cells g c =
     c.in_ok-made.ensures.cells c.args.catalogue.now
-    ∙ ap (λ (v : Version). cells_affected c.args.catalogue.now v c.args.input c.args.set.now) c.version_held-held.ensures
+    ∙ ap (λ (v : Version). cells_affected c.args.catalogue.now v c.args.input c.args.set.now)
+    c.version_held-held.ensures
 
 pub returns-clause-ticks : goal.returns-clause-ticks
 returns-clause-ticks g c =

@@ -21,7 +21,8 @@ returns-in-Line-clause-appends g c =
     let held = c.args.self.now.held in
     let line = c.args.line.now in
     on_ok_weaker c.add_line.result
-    (λ added made. appends-as g.T.Station (IsLineGroup c.args.command line) (IsGroupFor held line c.args.command)
+    (λ added made. appends-as g.T.Station (λ format. IsLineGroup c.args.command line)
+    (IsGroupFor held line c.args.command)
     c.args.self.now.end c.add_line.new.self.end c.args.station.now c.add_line.new.station
     (line-group held line c.args.command) added)
     c.add_line.ensures.appends
@@ -42,7 +43,7 @@ returns-in-Array-clause-appends g c =
     on_ok_weaker c.add_array.result
     (λ added made. appends-as g.T.Station (IsGroupFor held [] c.args.command) (IsGroupFor held line c.args.command)
     c.args.self.now.end c.add_array.new.self.end c.args.station.now c.add_array.new.station
-    (λ e such. array-group held line c.args.command e c.in-Array.ensures such) added)
+    (λ format e such. array-group held line c.args.command format e c.in-Array.ensures such) added)
     c.add_array.ensures.appends
 
 pub returns-in-Array-clause-written : goal.returns-in-Array-clause-written
@@ -68,7 +69,7 @@ returns-in-Version-clause-appends g c =
     on_ok_weaker c.add_version.result
     (λ added made. appends-as g.T.Station (IsVersionGroup held n) (IsGroupFor held line c.args.command)
     c.args.self.now.end c.add_version.new.self.end c.args.station.now c.add_version.new.station
-    (λ e such. await-group held line c.args.command n e is such)
+    (λ format e such. await-group held line c.args.command n format e is such)
     (added (await-makes held c.args.command n is made)))
     c.add_version.ensures.appends
 

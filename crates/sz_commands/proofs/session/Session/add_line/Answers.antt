@@ -5,11 +5,11 @@ use Rattle.sz_catalogue.specs.Holdings.{Holdings}
 use Rattle.sz_catalogue.specs.Seen.{response_of}
 use Rattle.sz_commands.specs.States.{SessionState, apart}
 use Rattle.sz_commands.specs.Carrying.{StoredBy}
-use Rattle.sz_commands.specs.Logged.{KeepsLog, IsLineGroup}
+use Rattle.sz_commands.specs.Logged.{KeepsLog, IsLineGroup, place_of}
 use Rattle.sz_commands.proofs.Appending.{group-added}
 use Rattle.sz_commands.proofs.Carrying.{stored-left, line-leaves}
 use Rattle.sz_commands.proofs.Lasting.{left-held}
-use Rattle.sz_commands.proofs.Logged.{still-stops, log-ends, line-step, append-stops, append-keeps}
+use Rattle.sz_commands.proofs.Logged.{still-stops, log-ends, ending, line-step, append-stops, append-keeps}
 use Rattle.sz_commands.proofs.States.{accepted-seen}
 use Rattle.sz_commands.proofs.session.Session.add_line.Goals as goal
 
@@ -21,14 +21,15 @@ returns-in_err-reply-clause-stops g c =
 
 pub append-requires-clause-log : goal.append-requires-clause-log
 append-requires-clause-log g c =
-    log-ends g.T.Station c.args.self.now.held c.args.end.at c.args.station.now c.requires.log
+    log-ends g.T.Station c.args.self.now.held (place_of c.args.log) c.args.station.now c.requires.log
 
 pub returns-in_err-next-clause-stops : goal.returns-in_err-next-clause-stops
 returns-in_err-next-clause-stops g c =
     let held = c.args.self.now.held in
-    append-stops g.T.Station held (changes.accepted held c.args.command).0 c.args.self.now.end c.args.end.at _
+    append-stops g.T.Station held (changes.accepted held c.args.command).0 c.args.self.now.end (place_of c.args.log) _
     c.args.station.now c.append.new.station c.requires.end
-    (line-step held c.args.kind c.args.line.now c.args.command c.requires.reads c.requires.kind c.requires.judged)
+    (line-step c.args.log.format held c.args.kind c.args.line.now c.args.command c.requires.reads c.requires.kind
+    c.requires.judged)
     c.append.ensures.stops
 
 pub returns-clause-log : goal.returns-clause-log
@@ -37,25 +38,29 @@ returns-clause-log g c =
     let left = ap (λ (s : SessionState). s.held) c.self.view_is
     ∙ left-held c.args.self.now c.accept.new.self c.args.command _ c.in_ok-reply.ensures.reply in
     let L : Holdings → Type 0 = λ h.
-    KeepsLog g.T.Station held c.args.self.now.end h (Some c.in_ok-next.next.at) c.args.station.now
+    KeepsLog g.T.Station held c.args.self.now.end h (Some (ending (place_of c.args.log) c.in_ok-next.next.at))
+    c.args.station.now
     c.append.new.station in
     subst L (sym left)
-    (append-keeps g.T.Station held (changes.accepted held c.args.command).0 c.args.self.now.end c.args.end.at
+    (append-keeps g.T.Station held (changes.accepted held c.args.command).0 c.args.self.now.end (place_of c.args.log)
     c.in_ok-next.next.at _ c.args.station.now c.append.new.station c.requires.end
-    (line-step held c.args.kind c.args.line.now c.args.command c.requires.reads c.requires.kind c.requires.judged)
+    (line-step c.args.log.format held c.args.kind c.args.line.now c.args.command c.requires.reads c.requires.kind
+    c.requires.judged)
     c.in_ok-next.ensures.added c.in_ok-next.ensures.end c.in_ok-next.ensures.synced)
 
 pub returns-clause-stops : goal.returns-clause-stops
 returns-clause-stops g c =
     let held = c.args.self.now.held in
-    append-stops g.T.Station held (changes.accepted held c.args.command).0 c.args.self.now.end c.args.end.at _
+    append-stops g.T.Station held (changes.accepted held c.args.command).0 c.args.self.now.end (place_of c.args.log) _
     c.args.station.now c.append.new.station c.requires.end
-    (line-step held c.args.kind c.args.line.now c.args.command c.requires.reads c.requires.kind c.requires.judged)
+    (line-step c.args.log.format held c.args.kind c.args.line.now c.args.command c.requires.reads c.requires.kind
+    c.requires.judged)
     c.append.ensures.stops
 
 pub returns-clause-appends : goal.returns-clause-appends
 returns-clause-appends g c =
-    group-added g.T.Station (IsLineGroup c.args.command c.args.line.now) c.args.self.now.end c.args.end.at
+    group-added g.T.Station (λ format. IsLineGroup c.args.command c.args.line.now) c.args.self.now.end
+    (place_of c.args.log)
     c.in_ok-next.next.at (record { kind = c.args.kind; body = c.args.line.now }) c.args.station.now c.append.new.station
     c.requires.end (c.requires.kind, refl) c.in_ok-next.ensures.added c.in_ok-next.ensures.end
 

@@ -15,10 +15,10 @@ use Rattle.sz_catalogue.specs.Seen.{response_of}
 use Rattle.sz_versions.proofs.Refreshes.{can-refresh}
 use Rattle.sz_commands.specs.States.{SessionState, apart}
 use Rattle.sz_commands.specs.Carrying.{AddsEntry}
-use Rattle.sz_commands.specs.Logged.{KeepsLog, IsArrayGroup}
+use Rattle.sz_commands.specs.Logged.{KeepsLog, IsArrayGroup, place_of}
 use Rattle.sz_commands.proofs.Appending.{group-added}
 use Rattle.sz_commands.proofs.Lasting.{left-apart, array-step}
-use Rattle.sz_commands.proofs.Logged.{still-stops, log-ends, append-stops, append-keeps}
+use Rattle.sz_commands.proofs.Logged.{still-stops, log-ends, ending, append-stops, append-keeps}
 use Rattle.sz_commands.proofs.session.Session.add_refreshed.Goals as goal
 
 abbrev group_of : List ℕ → LogGroup
@@ -67,7 +67,7 @@ returns-in_err-reply-clause-stops g c =
 
 pub append-requires-clause-log : goal.append-requires-clause-log
 append-requires-clause-log g c =
-    log-ends g.T.Station c.args.self.now.held c.args.end.at c.args.station.now c.requires.log
+    log-ends g.T.Station c.args.self.now.held (place_of c.args.log) c.args.station.now c.requires.log
 
 pub returns-in_err-next-clause-stops : goal.returns-in_err-next-clause-stops
 returns-in_err-next-clause-stops g c =
@@ -79,8 +79,8 @@ returns-in_err-next-clause-stops g c =
     let read = reads-as held n i set body c.in_ok-line.line.items _ c.deref-2.ensures.value
     (c.deref.ensures ∙ c.in_ok-made.ensures.made.array_is) c.in_ok-line.ensures in
     append-stops g.T.Station held (with_refreshed held n i (array_refreshed (version_of held n) i set))
-    c.args.self.now.end c.args.end.at (group_of body) c.args.station.now c.append.new.station c.requires.end
-    (array-step held n i set body c.requires.judged read) c.append.ensures.stops
+    c.args.self.now.end (place_of c.args.log) (group_of body) c.args.station.now c.append.new.station c.requires.end
+    (array-step c.args.log.format held n i set body c.requires.judged read) c.append.ensures.stops
 
 pub returns-clause-log : goal.returns-clause-log
 returns-clause-log g c =
@@ -95,11 +95,13 @@ returns-clause-log g c =
     let left = ap (λ (x : SessionState). x.held) c.self.view_is
     ∙ left-apart s c.hold_refreshed.new.self (order.Refresh n i set) _ c.in_ok-reply.ensures.reply in
     let L : Holdings → Type 0 = λ h.
-    KeepsLog g.T.Station held s.end h (Some c.in_ok-next.next.at) c.args.station.now c.append.new.station in
+    KeepsLog g.T.Station held s.end h (Some (ending (place_of c.args.log) c.in_ok-next.next.at)) c.args.station.now
+    c.append.new.station in
     subst L (sym left)
     (append-keeps g.T.Station held (with_refreshed held n i (array_refreshed (version_of held n) i set)) s.end
-    c.args.end.at c.in_ok-next.next.at (group_of body) c.args.station.now c.append.new.station c.requires.end
-    (array-step held n i set body c.requires.judged read) c.in_ok-next.ensures.added c.in_ok-next.ensures.end
+    (place_of c.args.log) c.in_ok-next.next.at (group_of body) c.args.station.now c.append.new.station c.requires.end
+    (array-step c.args.log.format held n i set body c.requires.judged read) c.in_ok-next.ensures.added
+    c.in_ok-next.ensures.end
     c.in_ok-next.ensures.synced)
 
 pub returns-clause-stops : goal.returns-clause-stops
@@ -112,8 +114,8 @@ returns-clause-stops g c =
     let read = reads-as held n i set body c.in_ok-line.line.items _ c.deref-2.ensures.value
     (c.deref.ensures ∙ c.in_ok-made.ensures.made.array_is) c.in_ok-line.ensures in
     append-stops g.T.Station held (with_refreshed held n i (array_refreshed (version_of held n) i set))
-    c.args.self.now.end c.args.end.at (group_of body) c.args.station.now c.append.new.station c.requires.end
-    (array-step held n i set body c.requires.judged read) c.append.ensures.stops
+    c.args.self.now.end (place_of c.args.log) (group_of body) c.args.station.now c.append.new.station c.requires.end
+    (array-step c.args.log.format held n i set body c.requires.judged read) c.append.ensures.stops
 
 pub returns-clause-appends : goal.returns-clause-appends
 returns-clause-appends g c =
@@ -124,7 +126,8 @@ returns-clause-appends g c =
     let body = c.deref-2.result.now in
     let read = reads-as held n i set body c.in_ok-line.line.items _ c.deref-2.ensures.value
     (c.deref.ensures ∙ c.in_ok-made.ensures.made.array_is) c.in_ok-line.ensures in
-    group-added g.T.Station (IsArrayGroup held n i set) c.args.self.now.end c.args.end.at c.in_ok-next.next.at
+    group-added g.T.Station (λ format. IsArrayGroup held n i set) c.args.self.now.end (place_of c.args.log)
+    c.in_ok-next.next.at
     (group_of body) c.args.station.now c.append.new.station c.requires.end (record { kind = refl; reads = read })
     c.in_ok-next.ensures.added c.in_ok-next.ensures.end
 

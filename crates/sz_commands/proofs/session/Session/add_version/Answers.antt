@@ -13,13 +13,13 @@ use Rattle.sz_catalogue.specs.Changes.{with_await}
 use Rattle.sz_recover.specs.Growing.{durable}
 use Rattle.sz_versions.specs.Bodies.{IsSoundBody}
 use Rattle.sz_versions.specs.Residents.{Stored, stored_in}
-use Rattle.sz_commands.specs.States.{SessionState}
+use Rattle.sz_commands.specs.States.{SessionState, LogPlace}
 use Rattle.sz_commands.specs.Carrying.{IsFinishedIn, FinishesEntry}
-use Rattle.sz_commands.specs.Logged.{KeepsLog, HasLog, IsVersionGroup, Appends}
+use Rattle.sz_commands.specs.Logged.{KeepsLog, HasLog, IsVersionGroup, Appends, place_of}
 use Rattle.sz_commands.proofs.Appending.{group-added}
 use Rattle.sz_versions.proofs.Keeps.{rule-fails}
 use Rattle.sz_commands.proofs.Lasting.{rests-keep, version-step, again-durable, left-held}
-use Rattle.sz_commands.proofs.Logged.{still-stops, log-ends, append-stops, append-keeps, IsStep}
+use Rattle.sz_commands.proofs.Logged.{still-stops, log-ends, ending, append-stops, append-keeps, IsStep}
 use Rattle.sz_commands.proofs.session.Session.add_version.Goals as goal
 
 pub returns-then-is_awaited-clause-log : goal.returns-then-is_awaited-clause-log
@@ -32,7 +32,8 @@ returns-then-is_awaited-clause-log g c =
     let left = left-held s t (order.Await n) _ c.await_again.ensures in
     let place = ap (λ (p : SessionState × Response). p.0.end) (sym c.await_again.ensures) in
     let log =
-    subst (λ (o : Option ℕ). HasLog g.T.Station s.held o c.args.station.now) (sym c.requires.end) c.requires.log in
+    subst (λ (o : Option LogPlace). HasLog g.T.Station s.held o c.args.station.now) (sym c.requires.end) c.requires.log
+    in
     rests-keep g.T.Station s t c.args.station.now log place
     (ap durable left ∙ again-durable s.held n held on)
 
@@ -56,7 +57,7 @@ returns-in_err-body-clause-stops g c =
 
 pub append-requires-clause-log : goal.append-requires-clause-log
 append-requires-clause-log g c =
-    log-ends g.T.Station c.args.self.now.held c.args.end.at c.args.station.now c.requires.log
+    log-ends g.T.Station c.args.self.now.held (place_of c.args.log) c.args.station.now c.requires.log
 
 pub returns-in_err-next-clause-stops : goal.returns-in_err-next-clause-stops
 returns-in_err-next-clause-stops g c =
@@ -68,12 +69,13 @@ returns-in_err-next-clause-stops g c =
     let off = sym c.is_awaited.ensures ∙ c.if-is_awaited.false in
     let in-order = subst IsInOrder is c.is_in_order.ensures in
     let sound =
-    subst (λ (h : Holdings). IsSoundBody n (version_of h n) c.in_ok-body.body.items) is c.in_ok-body.ensures in
-    let E : List ℕ → LogGroup = λ body. record { kind = 4; body = body } in
-    let one : IsStep s.held (with_await s.held n) (E c.deref.result.now) =
-    subst (λ (body : List ℕ). IsStep s.held (with_await s.held n) (E body)) (sym c.deref.ensures.value)
-    (version-step s.held n c.in_ok-body.body.items in-order held off sound) in
-    append-stops g.T.Station s.held (with_await s.held n) s.end c.args.end.at (E c.deref.result.now)
+    subst (λ (h : Holdings). IsSoundBody c.args.log.format n (version_of h n) c.in_ok-body.body.items) is
+    c.in_ok-body.ensures in
+    let e : LogGroup = record { kind = c.version_kind.result; body = c.deref.result.now } in
+    let one : IsStep c.args.log.format s.held (with_await s.held n) e =
+    version-step c.args.log.format c.version_kind.result s.held n c.in_ok-body.body.items c.deref.result.now
+    c.version_kind.ensures c.deref.ensures.value in-order held off sound in
+    append-stops g.T.Station s.held (with_await s.held n) s.end (place_of c.args.log) e
     c.args.station.now c.append.new.station c.requires.end one c.append.ensures.stops
 
 pub returns-clause-log : goal.returns-clause-log
@@ -87,21 +89,22 @@ returns-clause-log g c =
     let off = sym c.is_awaited.ensures ∙ c.if-is_awaited.false in
     let in-order = subst IsInOrder is c.is_in_order.ensures in
     let sound =
-    subst (λ (h : Holdings). IsSoundBody n (version_of h n) c.in_ok-body.body.items) is c.in_ok-body.ensures in
-    let E : List ℕ → LogGroup = λ body. record { kind = 4; body = body } in
-    let one : IsStep s.held (with_await s.held n) (E c.deref.result.now) =
-    subst (λ (body : List ℕ). IsStep s.held (with_await s.held n) (E body)) (sym c.deref.ensures.value)
-    (version-step s.held n c.in_ok-body.body.items in-order held off sound) in
+    subst (λ (h : Holdings). IsSoundBody c.args.log.format n (version_of h n) c.in_ok-body.body.items) is
+    c.in_ok-body.ensures in
+    let e : LogGroup = record { kind = c.version_kind.result; body = c.deref.result.now } in
+    let one : IsStep c.args.log.format s.held (with_await s.held n) e =
+    version-step c.args.log.format c.version_kind.result s.held n c.in_ok-body.body.items c.deref.result.now
+    c.version_kind.ensures c.deref.ensures.value in-order held off sound in
     let left : t.held ≡ with_await s.held n =
     ap (λ (p : SessionState × Response). p.0.held) (sym c.note_await.ensures.reply)
     ∙ ap (λ (h : Holdings). with_await h n) is in
-    let place : t.end ≡ Some c.in_ok-next.next.at = c.note_await.ensures.end in
+    let place : t.end ≡ Some (ending (place_of c.args.log) c.in_ok-next.next.at) = c.note_await.ensures.end in
     subst (λ (h : Holdings). KeepsLog g.T.Station s.held s.end h t.end c.args.station.now c.append.new.station)
     (sym left)
-    (subst (λ (o : Option ℕ). KeepsLog g.T.Station s.held s.end (with_await s.held n) o c.args.station.now
+    (subst (λ (o : Option LogPlace). KeepsLog g.T.Station s.held s.end (with_await s.held n) o c.args.station.now
     c.append.new.station) (sym place)
-    (append-keeps g.T.Station s.held (with_await s.held n) s.end c.args.end.at c.in_ok-next.next.at
-    (E c.deref.result.now) c.args.station.now c.append.new.station c.requires.end one c.in_ok-next.ensures.added
+    (append-keeps g.T.Station s.held (with_await s.held n) s.end (place_of c.args.log) c.in_ok-next.next.at
+    e c.args.station.now c.append.new.station c.requires.end one c.in_ok-next.ensures.added
     c.in_ok-next.ensures.end c.in_ok-next.ensures.synced))
 
 pub returns-clause-stops : goal.returns-clause-stops
@@ -114,12 +117,13 @@ returns-clause-stops g c =
     let off = sym c.is_awaited.ensures ∙ c.if-is_awaited.false in
     let in-order = subst IsInOrder is c.is_in_order.ensures in
     let sound =
-    subst (λ (h : Holdings). IsSoundBody n (version_of h n) c.in_ok-body.body.items) is c.in_ok-body.ensures in
-    let E : List ℕ → LogGroup = λ body. record { kind = 4; body = body } in
-    let one : IsStep s.held (with_await s.held n) (E c.deref.result.now) =
-    subst (λ (body : List ℕ). IsStep s.held (with_await s.held n) (E body)) (sym c.deref.ensures.value)
-    (version-step s.held n c.in_ok-body.body.items in-order held off sound) in
-    append-stops g.T.Station s.held (with_await s.held n) s.end c.args.end.at (E c.deref.result.now)
+    subst (λ (h : Holdings). IsSoundBody c.args.log.format n (version_of h n) c.in_ok-body.body.items) is
+    c.in_ok-body.ensures in
+    let e : LogGroup = record { kind = c.version_kind.result; body = c.deref.result.now } in
+    let one : IsStep c.args.log.format s.held (with_await s.held n) e =
+    version-step c.args.log.format c.version_kind.result s.held n c.in_ok-body.body.items c.deref.result.now
+    c.version_kind.ensures c.deref.ensures.value in-order held off sound in
+    append-stops g.T.Station s.held (with_await s.held n) s.end (place_of c.args.log) e
     c.args.station.now c.append.new.station c.requires.end one c.append.ensures.stops
 
 pub returns-clause-appends : goal.returns-clause-appends
@@ -130,13 +134,19 @@ returns-clause-appends g c =
     let is : c.self.inside.catalogue ≡ s.held =
     ap (λ (x : SessionState). x.held) (c.self.view_is ∙ c.in_ok-run.ensures.same) in
     let sound =
-    subst (λ (h : Holdings). IsSoundBody n (version_of h n) c.in_ok-body.body.items) is c.in_ok-body.ensures in
-    let place : t.end ≡ Some c.in_ok-next.next.at = c.note_await.ensures.end in
-    let P : LogGroup → Type 0 = IsVersionGroup s.held n in
-    λ off. subst (λ (o : Option ℕ). Appends g.T.Station P s.end o c.args.station.now c.append.new.station) (sym place)
-    (group-added g.T.Station P s.end c.args.end.at c.in_ok-next.next.at
-    (record { kind = 4; body = c.deref.result.now }) c.args.station.now c.append.new.station c.requires.end
-    (refl, subst (λ (body : List ℕ). IsSoundBody n (version_of s.held n) body) (sym c.deref.ensures.value) sound)
+    subst (λ (h : Holdings). IsSoundBody c.args.log.format n (version_of h n) c.in_ok-body.body.items) is
+    c.in_ok-body.ensures in
+    let place : t.end ≡ Some (ending (place_of c.args.log) c.in_ok-next.next.at) = c.note_await.ensures.end in
+    let P : ℕ → LogGroup → Type 0 = IsVersionGroup s.held n in
+    λ off. subst (λ (o : Option LogPlace). Appends g.T.Station P s.end o c.args.station.now c.append.new.station)
+    (sym place)
+    (group-added g.T.Station P s.end (place_of c.args.log) c.in_ok-next.next.at
+    (record { kind = c.version_kind.result; body = c.deref.result.now }) c.args.station.now c.append.new.station
+    c.requires.end (
+      c.version_kind.ensures,
+      subst (λ (body : List ℕ). IsSoundBody c.args.log.format n (version_of s.held n) body)
+          (sym c.deref.ensures.value) sound,
+    )
     c.in_ok-next.ensures.added c.in_ok-next.ensures.end)
 
 -- ---- what is kept of nodes

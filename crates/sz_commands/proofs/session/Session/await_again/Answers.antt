@@ -1,7 +1,6 @@
 -- What is carried stays that of its versions.
 use Rattle.std.proofs.Common.{◌≡◌, true, sym, ap, subst}
 use Rattle.std.specs.Prelude.{None, option_map}
-use Rattle.sz_log.specs.declared.LogEnd.{LogEnd}
 use Rattle.sz_script.specs.declared.command.Command.TheVariants as order
 use Rattle.sz_catalogue.specs.Holdings.{Holdings}
 use Rattle.sz_catalogue.specs.Responses.{Response}
@@ -9,6 +8,7 @@ use Rattle.sz_catalogue.specs.Rules.{judged, version_of}
 use Rattle.sz_versions.specs.Residents.{IsInService}
 use Rattle.sz_versions.proofs.Residents.{service-again}
 use Rattle.sz_commands.specs.States.{SessionState, changed}
+use Rattle.sz_commands.specs.Logged.{place_of}
 use Rattle.sz_commands.proofs.Seen.{seen, is-held}
 use Rattle.sz_commands.proofs.session.Session.await_again.Goals as goal
 
@@ -31,6 +31,6 @@ invariant_of-self c =
 
 pub returns : goal.returns
 returns c =
-    let end = option_map (λ (e : LogEnd). e.at) c.self.inside.end in
+    let end = option_map place_of c.self.inside.end in
     rw (← c.self.view_is)
     (ap (changed (seen c.self.inside.catalogue c.self.inside.runs end)) (sym c.await_version.ensures))

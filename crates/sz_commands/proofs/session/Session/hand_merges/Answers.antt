@@ -4,6 +4,7 @@ use Rattle.std.specs.Prelude.{option_map}
 use Rattle.sz_recover.specs.Logs.{Kept}
 use Rattle.sz_versions.specs.Residents.{Stored}
 use Rattle.sz_commands.specs.States.{SessionState}
+use Rattle.sz_commands.specs.Logged.{place_of}
 use Rattle.sz_commands.proofs.session.Session.hand_merges.Goals as goal
 
 pub returns : goal.returns
@@ -13,6 +14,6 @@ returns g c =
       held = c.self.inside.catalogue;
       logged = ks;
       stored = es;
-      end = option_map (λ e. e.at) c.self.inside.end;
+      end = option_map place_of c.self.inside.end;
     } in
     ap₂ made c.hand_merges.ensures.logged c.hand_merges.ensures.stored ∙ c.self.view_is

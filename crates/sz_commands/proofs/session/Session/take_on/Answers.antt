@@ -1,5 +1,5 @@
 -- A blank line and one that is read as no command leave the log; any other line does what its command does.
-use Rattle.std.proofs.Common.{◌≡◌, Ok, Err, true, refl, sym, ◌∙◌, subst, true≢false, arith}
+use Rattle.std.proofs.Common.{◌≡◌, ℕ, Ok, Err, true, refl, sym, ◌∙◌, subst, true≢false, arith}
 use Rattle.sz_log.specs.Log.{LogGroup}
 use Rattle.sz_catalogue.specs.Rules.{judged}
 use Rattle.sz_commands.specs.Given.{LineGives}
@@ -53,7 +53,7 @@ returns-in_ok-reply-in-Ask-clause-appends g c =
     let gives = subst (λ (x : Given). LineGives line x) c.in-Ask.is c.requires.gives in
     λ made. appends-as g.T.Station (IsGroupFor held line command) (IsGroupOf held line (reading line))
     c.args.self.now.end c.judge_on.new.self.end c.args.station.now c.judge_on.new.station
-    (λ (e : LogGroup). read-group held line command e gives.1)
+    (λ (format : ℕ) (e : LogGroup). read-group held line command format e gives.1)
     (c.in_ok-reply-in-Ask.ensures.appends (sym (given-makes held line (given.Ask command) gives) ∙ made))
 
 pub returns-in_ok-reply-in-Other-clause-appends : goal.returns-in_ok-reply-in-Other-clause-appends
@@ -64,7 +64,7 @@ returns-in_ok-reply-in-Other-clause-appends g c =
     let gives = subst (λ (x : Given). LineGives line x) c.in-Other.is c.requires.gives in
     λ made. appends-as g.T.Station (IsGroupFor held line command) (IsGroupOf held line (reading line))
     c.args.self.now.end c.judge_on-in-Other.new.self.end c.args.station.now c.judge_on-in-Other.new.station
-    (λ (e : LogGroup). read-group held line command e gives.1)
+    (λ (format : ℕ) (e : LogGroup). read-group held line command format e gives.1)
     (c.in_ok-reply-in-Other.ensures.appends (sym (given-makes held line (given.Other command) gives) ∙ made))
 
 -- ---- where the disk failed
