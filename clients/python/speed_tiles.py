@@ -104,6 +104,12 @@ def main(side: int, programs: int, tile: int) -> None:
         with timed(f"what {bad.sum()} hot pixels touched"):
             touched = run.forward(sky, bad, to=bins)
         print(touched.sum(), "cells")
+        with timed("one hot pixel refreshed, up to the joined labels"):
+            change = run.refresh(sky, {tuple(np.argwhere(bad)[0].tolist()): 0})
+            change.run.wait()
+        with timed("what was computed again, and what changed"):
+            again, changed = change.cells, change.changed(labels).sum()
+        print(again, "cells and", changed, "labels")
         print(f"memory: this process {peak('self')} MiB, programs {sorted(peaks.values())[-programs:]} MiB")
     used = resource.getrusage(resource.RUSAGE_CHILDREN)
     print(f"time of the programs: {used.ru_utime + used.ru_stime:.1f} s")

@@ -31,7 +31,7 @@ from subzero import demo
 from subzero.cells import Mask
 from subzero.view import Page, show
 
-BACK, FORWARD = (255, 162, 74), (86, 182, 255)
+BACK, FORWARD, ASKED = (255, 162, 74), (86, 182, 255), (255, 255, 255)
 
 
 def started_browser(folder: str, wide: int, high: int) -> webdriver.Chrome:
@@ -90,11 +90,11 @@ class Browser(unittest.TestCase):
         self.addCleanup(session.close)
         return build(session)
 
-    def open(self, run: subzero.Run, fragment: str = "", **how: Any) -> Page:
-        """A page over the run, open in the browser."""
+    def open(self, run: subzero.Run | subzero.Change, fragment: str = "", **how: Any) -> Page:
+        """A page over the run, or over what a refresh made, open in the browser."""
         page = show(run, **how)
         self.addCleanup(page.close)
-        self.arrays = [*dict.fromkeys(run.base), *run.flow.nodes]
+        self.arrays = [*dict.fromkeys(page.run.base), *page.run.flow.nodes]
         self.go(page.url + fragment)
         return page
 
@@ -479,6 +479,97 @@ class Stars(Browser):
         self.until(lambda: self.script("return document.body.dataset.ready === 'yes'"))
         self.assertEqual(self.script("return document.querySelectorAll('.panel').length"), 5)
         self.browser.switch_to.default_content()
+
+
+class Changed(Browser):
+    """The page of a refresh: the run that it made, what was set, what changed, and what was computed again."""
+
+    def refreshed(self) -> subzero.Change:
+        """The tutorial's stars, whose dead column then holds the mean of the columns beside it."""
+        run = self.run_of(stars)
+        run.wait()
+        mended = demo.field().image.copy()
+        mended[:, 31] = (mended[:, 30] + mended[:, 32]) // 2
+        return run.refresh("sky", mended)
+
+    def choose(self, name: str) -> None:
+        """Click the button of this name, and wait until the answer is shown."""
+        before = self.script("return page.timing.number")
+        self.script(
+            "[...document.querySelectorAll('#offered button')].find((one) => one.textContent === arguments[0]).click()",
+            name,
+        )
+        self.until(lambda: self.script("return page.timing.number") != before)
+
+    def test_the_set_cells_are_selected_and_what_they_touch_is_marked(self) -> None:
+        change = self.refreshed()
+        page = self.open(change)
+        self.until(lambda: self.marked(0))
+        self.assertEqual(self.text("run"), "run 2")
+        self.assertIs(page.selected_in, change.array)
+        self.assertEqual(self.marked(0), ("asked", [row * 64 + 31 for row in range(64)]))
+        self.assertEqual(self.painted(0, ASKED), [[row, 31] for row in range(64)])
+        for number, node in enumerate(change.run.flow.nodes, 1):
+            touched = change.run.forward(change.array, demo.field().dead, to=node)
+            self.assertEqual(self.marked(number), ("forward", self.cells(touched)))
+            self.assertEqual(self.painted(number, FORWARD), np.argwhere(touched).tolist())
+            self.assertFalse((touched & ~change.reached(node)).any())
+        self.assertIn("These 64 raw cells of sky touched", self.text("sentence"))
+
+    def test_what_changed_and_what_was_computed_again_in_each_array(self) -> None:
+        change = self.refreshed()
+        self.open(change)
+        self.until(lambda: self.marked(0))
+        names, titles = self.script(
+            "const all = [...document.querySelectorAll('#offered button')];"
+            "return [all.map((one) => one.textContent), all.map((one) => one.title)]"
+        )
+        wanted: list[tuple[str, int, Mask]] = [("set cells", 0, change.reached("sky"))]
+        for number, node in reversed(list(enumerate(change.run.flow.nodes, 1))):
+            wanted.insert(0, (f"computed again in {node.op}", number, change.reached(node)))
+            if change.changed(node).any():
+                wanted.insert(0, (f"changed in {node.op}", number, change.changed(node)))
+        self.assertEqual(names, [name for name, _, _ in wanted])
+        counts = {name: int(mask.sum()) for name, _, mask in wanted}
+        self.assertEqual((counts["changed in regions"], "changed in block" in counts), (12, False))
+        self.assertEqual(sum(count for name, count in counts.items() if "again" in name), change.cells)
+        for title, (name, number, _) in zip(titles, wanted):
+            told = self.script("return page.state.panels[arguments[0]].told.title", number)
+            self.assertEqual(title, f"select {counts[name]} cells of {told}")
+        for name, number, mask in wanted:
+            with self.subTest(button=name):
+                self.choose(name)
+                self.assertEqual(self.marked(number), ("asked", self.cells(mask)))
+                self.assertEqual(self.painted(number, ASKED), np.argwhere(mask).tolist())
+                count = self.script("return page.state.panels[arguments[0]].count.textContent", number)
+                self.assertEqual(count, f"{counts[name]} cells selected")
+                if number:
+                    behind = change.run.back(change.run.flow.nodes[number - 1], mask, to=change.array)
+                    self.assertEqual(self.marked(0), ("back", self.cells(behind)))
+
+    def test_the_values_are_those_of_the_new_run(self) -> None:
+        change = self.refreshed()
+        self.open(change)
+        labels = change.run.flow.nodes[2]
+        old, new = change.old.values(labels), change.run.values(labels)
+        for row, column in np.argwhere(change.changed(labels)).tolist():
+            self.assertEqual((old[row, column], new[row, column]), (0, 3611))
+            self.assertEqual(self.script("return page.value(3, arguments[0])", row * 64 + column), "3,611")
+        row = int(np.argwhere(change.changed(labels))[0][0])
+        self.point(0, row, 31)
+        value = f"{change.array.values[row, 31]:,}"
+        self.assertEqual(self.text("readout").split(), f"sky row {row}, column 31: {value}".split())
+
+    def test_where_nothing_was_set_nothing_is_marked(self) -> None:
+        run = self.run_of(stars)
+        run.wait()
+        self.open(run.refresh("sky", {}))
+        self.settled()
+        buttons = self.script("return [...document.querySelectorAll('#offered button')].map((one) => one.textContent)")
+        self.assertEqual(buttons, ["set cells"])
+        self.assertEqual(self.text("sentence"), "No cell is selected.")
+        self.click(4, 4, 6)
+        self.assertEqual(self.text("sentence"), "109 raw cells stood behind this cell of block.")
 
 
 class Layers(Browser):

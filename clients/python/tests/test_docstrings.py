@@ -11,8 +11,8 @@ import numpy as np
 
 import subzero
 
-MODULES = "session flow keeping plans changes merges measures run spread catalogue later cells logs locks checking program faults progress".split()
-MODULES += ["numerals", "view", "tiles.mosaic"]
+MODULES = "session flow keeping plans changes merges measures run spread catalogue later cells logs stores locks checking program faults progress".split()
+MODULES += ["numerals", "upgrading", "view", "tiles.mosaic", "tiles.run"]
 WITHIN = {  # calls from one module of the client to another, and what a class above has an example of
     "BaseArray": {"is_of"},
     "Flow": {"session", "defined", "is_of", "is_same", "shapes", "check_start", "started_on", "of_held", "kept_of"},
@@ -54,7 +54,7 @@ class Docstrings(unittest.TestCase):
         finder = doctest.DocTestFinder()
         tests = [test for name in MODULES for test in finder.find(importlib.import_module(f"subzero.{name}"))]
         shown = "".join(example.source for test in tests for example in test.examples)
-        missing = [name for name in ("tiled", "view", "suspects_table", "check", "strategies") if f"subzero.{name}(" not in shown]
+        missing = [name for name in ("tiled", "view", "suspects_table", "check", "upgrade", "strategies") if f"subzero.{name}(" not in shown]
         for name in subzero.__all__:
             thing = getattr(subzero, name)
             if inspect.isclass(thing) and not issubclass(thing, Exception):

@@ -42,22 +42,21 @@ class Shell(unittest.TestCase):
         for words in ((), ("--help",)):
             status, out, _ = self.run_shell(*words)
             self.assertEqual(status, 0)
-            for command in ("info LOG", "check LOG", "demo [FOLDER]", "view LOG"):
+            for command in ("info LOG", "check LOG", "upgrade LOG", "demo [FOLDER]", "view LOG"):
                 self.assertIn(f"python -m subzero {command}", out)
         status, out, _ = self.run_shell("--version")
         self.assertEqual((status, out), (0, subzero.__version__ + "\n"))
         status, _, err = self.run_shell("what")
         self.assertEqual(status, 2)
-        self.assertIn("'what' is none of info, check, demo, view", err)
+        self.assertIn("'what' is none of info, check, upgrade, demo, view", err)
 
     def test_info_tells_what_a_log_holds(self) -> None:
         self.write()
         status, out, err = self.run_shell("info", str(self.log))
         self.assertEqual((status, err), (0, ""))
         size, *lines = out.splitlines()
-        self.assertRegex(
-            size, rf"^survey\.log: {self.log.stat().st_size:,} bytes, of them \d+ of arrays and [\d,]+ of ver"
-        )
+        begins = rf"^survey\.log: {self.log.stat().st_size:,} bytes in format 1"
+        self.assertRegex(size, begins + r", of them \d+ of arrays and [\d,]+ of versions$")
         self.assertEqual(
             lines,
             [

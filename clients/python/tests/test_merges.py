@@ -147,7 +147,7 @@ class Kept(unittest.TestCase):
                     kinds[run.number] = [*run.merge().wait().values()]
             held = logs.read_log(log)
             with open(log, "rb") as file:
-                groups = [group for group in logs.groups(file) if group.kind == logs.VERSION]
+                groups = [group for group in logs.groups(file) if group.is_version]
             for group, version in zip(groups, held.versions.values()):
                 stores = logs.stores_of(held, version, str(log), group)
                 self.assertEqual([[name for name, _ in node] for node in stores], lists[version.number])

@@ -222,12 +222,13 @@ class Answers(Pages):
             self.assertEqual((page.selected_in, (page.selected == self.field.dead).all()), (change.array, True))
             offered = {one["name"]: (one["array"], one["count"]) for one in page.state()["offered"]}
             wanted = {
-                f"changed in {node.name or node.op}": (1 + node.number, int(change.changed(node).sum()))
+                f"{what} in {node.name or node.op}": (1 + node.number, int(cells(node).sum()))
                 for node in change.run.flow.nodes
-                if change.changed(node).any()
+                for what, cells in (("changed", change.changed), ("computed again", change.reached))
+                if cells(node).any()
             }
             self.assertEqual(offered, {**wanted, "set cells": (0, int(self.field.dead.sum()))})
-            self.assertGreaterEqual(len(wanted), 3)
+            self.assertGreaterEqual(len(wanted), 7)
         with show(self.stars.refresh(self.sky, {})) as page:
             self.assertEqual([one["name"] for one in page.state()["offered"]], ["set cells"])
             self.assertFalse(np.asarray(page.selected).any())

@@ -68,6 +68,28 @@ class OnDask(unittest.TestCase):
             self.assertEqual(len([pid for pid in mosaic.pids if pid is not None]), 2)
         print(f"OnDask: {cases} comparisons of values and lineage")
 
+    def test_a_refresh_and_a_merge(self) -> None:
+        draw = np.random.RandomState(8)
+        image = draw.randint(0, 100, (40, 50))
+
+        def build(flow: subzero.Flow) -> None:
+            clean = flow.clean(flow.input(0), 90, keep=["full_one_b"])
+            flow.block(flow.regions(clean, 60), "max", 4, 5, keep=["full_many_b"])
+
+        with subzero.Session() as session, subzero.tiled(tile=20, client=self.client) as mosaic:
+            both = Both(session, mosaic, [image], build)
+            both.whole.wait()
+            both.tiled.wait()
+            new = {(19, 20): 80, (0, 3): None, (39, 49): 95}
+            change, told = both.whole.refresh(both.whole.base[0], new), both.tiled.refresh(both.tiled.base[0], new)
+            self.assertEqual(told.cells, change.cells)
+            for node, twin in zip(both.whole_flow.nodes, both.tiled_flow.nodes):
+                self.assertEqual(told.changed(twin).tolist(), change.changed(node).tolist())
+            both.whole, both.tiled = change.run, told.run
+            merging = both.tiled.merge()
+            both.check(self, draw)
+            self.assertEqual(merging.wait(), {(both.tiled_flow.nodes[2], "full_many_b"): 100})
+
     def test_a_worker_that_is_killed_in_the_middle(self) -> None:
         draw = np.random.RandomState(5)
         image = draw.randint(0, 100, (80, 70))

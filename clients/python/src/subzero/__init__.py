@@ -40,6 +40,7 @@ from .paths import Path
 from .plans import Choice, Plan
 from .run import Explanation, Run
 from .session import BaseArray, Room, Session
+from .upgrading import upgrade
 
 __version__ = "0.1.0"
 
@@ -79,6 +80,7 @@ __all__ = [
     "check",
     "strategies",
     "suspects_table",
+    "upgrade",
 ]
 
 

@@ -5,32 +5,36 @@ from __future__ import annotations
 import argparse
 import importlib
 import sys
-from collections.abc import Sequence
+from collections.abc import Callable, Sequence
 
-from . import __version__, checking
+from . import __version__, checking, upgrading
 from .faults import ProgramEnded, SubZeroError
 from .logs import told
 
 
 def info(words: Sequence[str]) -> int:
     """Tell what a log holds."""
-    print(told(_log("info", "Tells what a log holds: its arrays, flows and versions.", words)))
+    print(told(_log("info", "Tells what a log holds: its format, its arrays, flows and versions.", words)))
     return 0
 
 
 def check(words: Sequence[str]) -> int:
     """Run the program's check of a log, which no session has open meanwhile."""
     log = _log("check", "Compares the stores of a log with what their operators relate.", words)
-    try:
+
+    def line() -> str:
         found = checking.check(log)
-    except ProgramEnded as fault:  # it is told as the program tells it
-        print(fault.text or fault, file=sys.stderr)
-        return fault.status
-    if isinstance(found, checking.Sound):
-        print(f"sound {found.versions}")
-    else:
-        print(f"unsound version {found.version} node {found.node} {found.strategy}")
-    return 0
+        if isinstance(found, checking.Sound):
+            return f"sound {found.versions}"
+        return f"unsound version {found.version} node {found.node} {found.strategy}"
+
+    return _say(line)
+
+
+def upgrade(words: Sequence[str]) -> int:
+    """Have the program raise a log to format 2, which no session has open meanwhile."""
+    log = _log("upgrade", "Raises a log to format 2, in place.", words)
+    return _say(lambda: f"log {upgrading.upgrade(log)}")
 
 
 def demo(words: Sequence[str]) -> int:
@@ -48,6 +52,7 @@ def view(words: Sequence[str]) -> int:
 COMMANDS = {
     "info": (info, "LOG", "tell what a log holds"),
     "check": (check, "LOG", "compare the stores of a log with what their operators relate, by the program"),
+    "upgrade": (upgrade, "LOG", "raise a log to format 2, in which runs take less room, by the program"),
     "demo": (demo, "[FOLDER]", "write the tutorial's pictures"),
     "view": (view, "LOG", "look at the arrays of a log, or of a recorded session, and their lineage in the browser"),
 }
@@ -78,6 +83,16 @@ def main(words: Sequence[str] | None = None) -> int:
     except (SubZeroError, OSError, ImportError) as fault:
         print(f"subzero: {fault}", file=sys.stderr)
         return 1
+
+
+def _say(line: Callable[[], str]) -> int:
+    """Print the line that the program said, or how it ended, as it tells that itself; gives its status."""
+    try:
+        print(line())
+    except ProgramEnded as fault:
+        print(fault.text or fault, file=sys.stderr)
+        return fault.status
+    return 0
 
 
 def _log(command: str, what: str, words: Sequence[str]) -> str:

@@ -6,14 +6,27 @@ The program computes again what the set cells can reach, node by node, and copie
 
 from __future__ import annotations
 
-from collections.abc import Mapping
-from typing import TYPE_CHECKING, Any, TypeAlias
+from collections.abc import Mapping, Sequence
+from typing import TYPE_CHECKING, Any, Protocol, TypeAlias
 
 import numpy as np
 from numpy.typing import NDArray
 
 from . import numerals
-from .cells import Cells, Given, Integers, Mask, Values, cells_of, given, mask_of, short, whole_numbers
+from .cells import (
+    MOST_CELLS,
+    Cells,
+    Given,
+    Integers,
+    Mask,
+    Shape,
+    Values,
+    cells_of,
+    given,
+    mask_of,
+    short,
+    whole_numbers,
+)
 from .faults import BadInput, OutOfStep, Refused
 from .flow import Input, Node, Place
 from .keeping import WITHOUT_MAPPING
@@ -36,6 +49,21 @@ New: TypeAlias = "Mapping[tuple[int, ...], Any] | tuple[Cells, Any] | NDArray[An
 - an array of the base array's shape, or a container that `Session.array` takes: set are the cells in which it differs,
   one being empty and the other not among them.
 """
+
+Set: TypeAlias = "tuple[Integers, Integers, Mask]"
+"""Cells that are to be set, whole numbers of shape (N, axes); what they are to hold; and which are to be empty."""
+
+
+class Base(Protocol):
+    """What is asked of a base array in which cells are to be set: its shape and its unit."""
+
+    @property
+    def shape(self) -> Shape:
+        """(height, width), or (layers, height, width)."""
+
+    @property
+    def unit(self) -> Any:
+        """Its unit, of astropy, or None."""
 
 
 class Change:
@@ -151,7 +179,7 @@ class Change:
 
 def refresh_later(run: Run, array: Array, cells: New, scale: float | None) -> Future[Change]:
     """As `Run.refresh_later`."""
-    place = _input_of(run, array)
+    place = input_of(run.places(array), run.base)
     before = run.base[place.number]
     where, numbers, empty = cells_and_values(cells, before, scale)
     values = before.values.data.copy(), np.ma.getmaskarray(before.values).copy()
@@ -189,12 +217,27 @@ def differs(old: Values, new: Values) -> Mask:
     return found
 
 
-def cells_and_values(cells: New, base: BaseArray, scale: float | None) -> tuple[Integers, Integers, Mask]:
-    """The cells that are to be set, whole numbers of shape (N, axes); what they are to hold, and which are to be empty.
+def cells_and_values(cells: New, base: BaseArray, scale: float | None) -> Set:
+    """The cells that are to be set, and what they are to hold.
 
     Raises BadInput for what is none of the ways of `New`, for cells out of range, and for values that the program could
     not hold as they are.
     """
+    named = named_cells(cells, base, scale)
+    if named is not None:
+        return named
+    parts = given(cells)
+    if parts.data.shape != base.shape:
+        raise BadInput(f"the new values have the shape {parts.data.shape}, and {base} has {base.shape}")
+    check_is_no_mask(parts.data.dtype)
+    _check_unit(parts, base)
+    numbers, empty = whole_numbers(parts, scale)
+    found = differs(base.values, frozen(numbers, empty))
+    return np.argwhere(found), numbers[found], empty[found]
+
+
+def named_cells(cells: New, base: Base, scale: float | None) -> Set | None:
+    """`cells_and_values` of a mapping, or of a pair; None for what may be a whole array."""
     if isinstance(cells, Mapping):
         for key in cells:
             if not isinstance(key, tuple) or len(key) != len(base.shape) or not all(map(_is_number, key)):
@@ -212,18 +255,16 @@ def cells_and_values(cells: New, base: BaseArray, scale: float | None) -> tuple[
             f"{short(cells)} does not say which cells are to hold what: a mapping does, as {{(0, 1): 5}}, a pair, as "
             f"(mask, 5), or an array of the shape {base.shape}"
         )
-    parts = given(cells)
-    if parts.data.shape != base.shape:
-        raise BadInput(f"the new values have the shape {parts.data.shape}, and {base} has {base.shape}")
-    if parts.data.dtype == bool:
+    return None
+
+
+def check_is_no_mask(kind: Any) -> None:
+    """Refuse values of this type of numpy's where they are True and False. Raises BadInput."""
+    if kind == bool:
         raise BadInput("a mask alone does not say what its cells are to hold: hand in a pair, as (mask, 5)")
-    _check_unit(parts, base)
-    numbers, empty = whole_numbers(parts, scale)
-    found = differs(base.values, frozen(numbers, empty))
-    return np.argwhere(found), numbers[found], empty[found]
 
 
-def _values_at(where: Integers, values: Any, base: BaseArray, scale: float | None) -> tuple[Integers, Mask]:
+def _values_at(where: Integers, values: Any, base: Base, scale: float | None) -> tuple[Integers, Mask]:
     """What each of these cells is to hold, where a pair says `values` of them."""
     parts = given([None] if values is None else values)
     if parts.data.shape == base.shape:
@@ -240,30 +281,31 @@ def _values_at(where: Integers, values: Any, base: BaseArray, scale: float | Non
     return _row(parts, base, scale)
 
 
-def _row(parts: Given, base: BaseArray, scale: float | None) -> tuple[Integers, Mask]:
+def _row(parts: Given, base: Base, scale: float | None) -> tuple[Integers, Mask]:
     """Values in a row, of no or one axis, as whole numbers."""
     _check_unit(parts, base)
     if parts.data.size == 0:
         return np.zeros(0, dtype=np.int64), np.zeros(0, dtype=bool)
-    row = Given(parts.data.reshape(1, -1), parts.empty.reshape(1, -1))
-    numbers, empty = whole_numbers(row, scale)
-    return numbers[0], empty[0]
+    data, empty = parts.data.reshape(1, -1), parts.empty.reshape(1, -1)
+    pieces = [np.s_[:, at : at + MOST_CELLS] for at in range(0, data.size, MOST_CELLS)]
+    found = [whole_numbers(Given(data[piece], empty[piece]), scale) for piece in pieces]
+    return np.concatenate([one[0] for one, _ in found]), np.concatenate([holes[0] for _, holes in found])
 
 
-def _check_unit(parts: Given, base: BaseArray) -> None:
+def _check_unit(parts: Given, base: Base) -> None:
     if parts.unit is not None and parts.unit != base.unit:
         raise BadInput(f"the new values are in {parts.unit}, and {base} is in {base.unit or 'no unit'}")
 
 
-def _input_of(run: Run, array: Array) -> Input:
-    """The input that an array of a run is. Raises BadInput for a node, and where the flow takes it under several."""
-    places = run.places(array)
+def input_of(places: Sequence[Place], base: Sequence[object]) -> Input:
+    """The input that an array is which stands in these places of a flow, whose base arrays are these. Raises BadInput
+    for a node, and where the flow takes it under several."""
     if isinstance(places[0], Node):
         raise BadInput(f"{places[0]} is no base array: cells are set in what a run was started on")
     if len(places) > 1:
         inputs = " and ".join(str(place.number) for place in places)
         raise BadInput(
-            f"the run takes {run.base[places[0].number]} under the inputs {inputs}, and a refresh sets cells under "
+            f"the run takes {base[places[0].number]} under the inputs {inputs}, and a refresh sets cells under "
             f"one: name it as flow.input({places[0].number}), or start a run on an array of the new values"
         )
     assert isinstance(places[0], Input)

@@ -2,19 +2,14 @@
 
 from __future__ import annotations
 
-import contextlib
 import os
 import re
-import signal
-import subprocess
-import threading
-from collections.abc import Iterator
 from dataclasses import dataclass
 from typing import Literal
 
-from . import progress
-from .faults import OutOfStep, ProgramEnded
+from .faults import OutOfStep
 from .locks import lock_log
+from .modes import said
 from .program import find
 
 
@@ -88,67 +83,16 @@ def check(log: str | os.PathLike[str], *, program: str | os.PathLike[str] | None
     found, path = find(program), os.fspath(log)
     lock = lock_log(path, alone=False)
     try:
-        return _read(_said(found, path, lock))
+        return _read(said(found, "check", path, lock, "checking"))
     finally:
         os.close(lock)
 
 
-def _said(program: str, log: str, lock: int) -> str:
-    """What the program's check of a log says; it has the lock too, and so keeps it where this process is killed."""
-    try:
-        with _interrupt_held():
-            running = subprocess.Popen(
-                [program, "check", log],
-                stdin=subprocess.DEVNULL,
-                stdout=subprocess.PIPE,
-                stderr=subprocess.PIPE,
-                pass_fds=(lock,),
-                text=True,
-                errors="replace",
-            )
-        with running, progress.shown(f"checking {os.path.basename(log)}") as step:
-            try:
-                while True:
-                    try:
-                        said, wrote = running.communicate(timeout=step.seconds)
-                        break
-                    except subprocess.TimeoutExpired:
-                        step.show()
-            except BaseException:
-                running.kill()
-                running.wait()
-                raise
-    except KeyboardInterrupt:  # also one that came before the loop did
-        running.kill()
-        running.wait()
-        raise
-    if running.returncode != 0:
-        raise ProgramEnded(running.returncode, wrote.strip())
-    return said
-
-
-@contextlib.contextmanager
-def _interrupt_held() -> Iterator[None]:
-    """An interrupt that comes meanwhile is raised behind it, so that a program that was begun within is known."""
-    came: list[int] = []
-    before = signal.getsignal(signal.SIGINT)
-    holds = threading.current_thread() is threading.main_thread() and callable(before)
-    if holds:
-        signal.signal(signal.SIGINT, lambda number, _: came.append(number))
-    try:
-        yield
-    finally:
-        if holds:
-            signal.signal(signal.SIGINT, before)
-    if came:
-        raise KeyboardInterrupt
-
-
-def _read(said: str) -> Sound | Unsound:
-    sound = re.fullmatch(r"sound (\d+)\n", said)
-    unsound = re.fullmatch(r"unsound version (\d+) node (\d+) ([a-z_]+)\n", said)
+def _read(told: str) -> Sound | Unsound:
+    sound = re.fullmatch(r"sound (\d+)\n", told)
+    unsound = re.fullmatch(r"unsound version (\d+) node (\d+) ([a-z_]+)\n", told)
     if sound is not None:
         return Sound(int(sound[1]))
     if unsound is not None:
         return Unsound(int(unsound[1]), int(unsound[2]), unsound[3])
-    raise OutOfStep(f"the program's check of a log said {said[:80]!r}")
+    raise OutOfStep(f"the program's check of a log said {told[:80]!r}")

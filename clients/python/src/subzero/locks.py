@@ -18,13 +18,13 @@ except ImportError:  # a system without it has no such lock
     fcntl = None  # type: ignore[assignment]
 
 
-def lock_log(path: str, *, alone: bool = True) -> int:
+def lock_log(path: str, *, alone: bool = True, make: bool = True) -> int:
     """Open the file, which is made where it is not there, and lock it: gives the open file, which holds the lock.
 
-    Where not `alone`, others may read beside it, and the file has to be there. Raises LogHeld where another one has it,
-    and OSError where it cannot be opened; warns where the file system has no locks.
+    Where not `alone`, others may read beside it. Where not `alone`, or not to `make`, the file has to be there. Raises
+    LogHeld where another one has it, and OSError where it cannot be opened; warns where the file system has no locks.
     """
-    file = os.open(path, os.O_RDWR | os.O_CREAT if alone else os.O_RDONLY, 0o666)
+    file = os.open(path, os.O_RDWR | (os.O_CREAT if make else 0) if alone else os.O_RDONLY, 0o666)
     if fcntl is None:
         return file
     try:

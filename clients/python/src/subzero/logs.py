@@ -2,8 +2,9 @@
 
 A log is a row of groups (docs/FORMATS.md, "The log"). Groups of kinds 1 to 3 are the lines that were accepted, as they
 were sent: arrays, flows, strategies. Those of kind 4 are versions that were awaited, which begin with the version's
-number, its flow's name and the names and versions of its base arrays. `read_log` takes a log in, `Holdings` is what it
-says; lines that a session sends are taken into the same.
+number, its flow's name and the names and versions of its base arrays. A group of kind 5, which has no body, raises the
+log to format 2: from there on versions are of kind 6, in which the cell sets of stores are short. `read_log` takes a
+log in, `Holdings` is what it says; lines that a session sends are taken into the same.
 
 Names that only people read stand in the line of a flow: of a field that is given twice the program takes the last one,
 so this client writes a first `"nodes"`, a list with the nodes' names, and a first `"flow"`, the name that is shown,
@@ -32,7 +33,11 @@ from .faults import OutOfStep, SubZeroError
 from .keeping import chosen_for
 
 HEADER = b"\x01SubZero log 1\r\n"
-VERSION = 4
+VERSION, RAISED, SHORT_VERSION = 4, 5, 6
+"""The kinds of group that are no lines: a version of format 1, what raises a log to format 2, a version of format 2."""
+
+_LAWFUL = {1, 2, 3, VERSION, RAISED}
+_LAWFUL_BEHIND = {1, 2, 3, SHORT_VERSION}
 _PLAIN_ARRAY = re.compile(rb'\{"(?:array|layers)":"([a-z0-9_]{1,32})","cells":\[')
 _HEAD_OF_VERSION = 4 + 256 + 4 + 32 * (256 + 4) + 4
 
@@ -290,11 +295,21 @@ class Group:
     begin: int
     length: int
 
+    @property
+    def is_version(self) -> bool:
+        """Whether it is a version that was awaited, in either format."""
+        return self.kind in (VERSION, SHORT_VERSION)
+
 
 def groups(file: BinaryIO) -> Iterator[Group]:
-    """The groups of an open log, up to the first closed gate. Raises OutOfStep where it is none, or a group is bad."""
+    """The groups of an open log, up to the first closed gate.
+
+    Raises OutOfStep, which names the byte, where it is none, or a group is bad: where it is not wholly there, is of no
+    kind, or is of one that has no place there. A log is raised once, by a group without a body; versions before that
+    are of kind 4, and behind it of kind 6.
+    """
     size = file.seek(0, os.SEEK_END)
-    at = len(HEADER)
+    at, lawful = len(HEADER), _LAWFUL
     if _bytes_at(file, 0, min(at, size)) != HEADER:
         raise OutOfStep("the file does not begin as a log")
     while True:
@@ -302,8 +317,10 @@ def groups(file: BinaryIO) -> Iterator[Group]:
         if head and head[0] != 1:
             return
         length = int.from_bytes(head[2:], "big")
-        if len(head) < 10 or not 1 <= head[1] <= 4 or at + 10 + length > size:
+        if len(head) < 10 or head[1] not in lawful or at + 10 + length > size or (head[1] == RAISED and length > 0):
             raise OutOfStep(f"the log is bad at {at}")
+        if head[1] == RAISED:
+            lawful = _LAWFUL_BEHIND
         yield Group(at, head[1], at + 10, length)
         at += 10 + length
 
@@ -331,7 +348,9 @@ def read_log(path: str | os.PathLike[str]) -> Holdings:
 
 def _take_group(held: Holdings, file: BinaryIO, group: Group) -> None:
     path = os.path.abspath(file.name)
-    if group.kind == VERSION:
+    if group.kind == RAISED:
+        return
+    if group.is_version:
         head = _bytes_at(file, group.begin, min(group.length, _HEAD_OF_VERSION))
         held.take_version(head, lambda version: _lists_of(held, version, path, group))
         return
@@ -351,12 +370,13 @@ def _take_group(held: Holdings, file: BinaryIO, group: Group) -> None:
 def stores_of(held: Holdings, version: HeldVersion, path: str, group: Group) -> list[list[tuple[str, int]]]:
     """What a log keeps of a version's lineage: of each node its strategies, and how many bytes each takes in the file.
 
-    Raises SubZeroError where the file is no longer that log.
+    Raises SubZeroError, which names the byte, where the file is no longer that log.
     """
+    inputs = [len(node["from"]) for node in held.flows[version.flow].nodes]
     try:
-        return stores.kept(path, group.begin, [len(node["from"]) for node in held.flows[version.flow].nodes])
-    except (ValueError, IndexError):
-        raise SubZeroError(f"{path} is no longer the log that it was") from None
+        return stores.kept(path, group.begin, group.length, inputs, short=group.kind == SHORT_VERSION)
+    except ValueError as fault:
+        raise SubZeroError(f"{path} is no longer the log that it was: {fault}") from None
 
 
 def _lists_of(held: Holdings, version: HeldVersion, path: str, group: Group) -> list[list[str]]:
@@ -373,14 +393,19 @@ def _bytes_at(file: BinaryIO, begin: int, length: int) -> bytes:
 
 
 def told(path: str | os.PathLike[str]) -> str:
-    """What a log holds, in lines: its arrays, flows and versions. Raises OutOfStep where it is no log, or a bad one."""
+    """What a log holds, in lines: its format, its arrays, flows and versions. Raises OutOfStep where it is no log, or a
+    bad one."""
     held = read_log(path)
-    sizes = {kind: 0 for kind in (1, 2, 3, 4)}
     with open(path, "rb") as file:
-        for group in groups(file):
-            sizes[group.kind] += 10 + group.length
+        every = list(groups(file))
         size = file.seek(0, os.SEEK_END)
-    lines = [f"{Path(path).name}: {size:,} bytes, of them {sizes[1]:,} of arrays and {sizes[4]:,} of versions"]
+    of_arrays = sum(10 + group.length for group in every if group.kind == 1)
+    of_versions = sum(10 + group.length for group in every if group.is_version)
+    written = 2 if any(group.kind == RAISED for group in every) else 1
+    lines = [
+        f"{Path(path).name}: {size:,} bytes in format {written}, of them {of_arrays:,} of arrays and "
+        f"{of_versions:,} of versions"
+    ]
     lines += [f"array {array.name} {array.version}: {size_told(array.values)}" for array in held.arrays.values()]
     for flow in held.flows.values():
         shown = f" (shown as {flow.shown})" if flow.shown != flow.name else ""

@@ -34,8 +34,8 @@ _LONG, _MOST_ASKS = 0.05, 1024
 
 @dataclass(frozen=True)
 class Measure:
-    """What a node took by the strategy that the plan gives it: the bytes of its store in a log, and the microseconds of
-    an ask of one cell back, and forward, over the step of its first input."""
+    """What a node took by the strategy that the plan gives it: the bytes of its store in a log of format 1, and the
+    microseconds of an ask of one cell back, and forward, over the step of its first input."""
 
     node: Node
     strategy: str
@@ -147,7 +147,7 @@ def _sizes(log: str) -> list[int]:
     """How many bytes the stores of each node take in a log of one version."""
     held = logs.read_log(log)
     with open(log, "rb") as file:
-        group = [group for group in logs.groups(file) if group.kind == logs.VERSION][0]
+        group = [group for group in logs.groups(file) if group.is_version][0]
     return [sum(size for _, size in node) for node in logs.stores_of(held, held.versions[1], log, group)]
 
 

@@ -80,6 +80,12 @@ def within(indexes: Indexes, rect: Rect, shape: Shape) -> Indexes:
     return parts[0] if len(parts) == 1 else np.concatenate(parts)
 
 
+def hull_of(indexes: Indexes, shape: Shape) -> Rect:
+    """The least rectangle round some cells, of whatever layers; there is at least one."""
+    _, rows, columns = apart(indexes, shape)
+    return Rect(int(rows.min()), int(rows.max()) + 1, int(columns.min()), int(columns.max()) + 1)
+
+
 def to_local(indexes: Indexes, shape: Shape, rect: Rect) -> NDArray[Any]:
     """Cells as the array of a tile counts them that holds `rect` alone: (N, 3), layer, row, column."""
     layers, rows, columns = apart(indexes, shape)

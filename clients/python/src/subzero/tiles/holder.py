@@ -18,7 +18,7 @@ from ..faults import ProgramEnded, SubZeroError
 from ..numerals import read_cells, read_values
 from ..program import Reply
 from ..session import Session
-from .orders import Ask, Key, Order, Request, Show
+from .orders import Ask, Key, Merge, Order, Renewal, Request, Show
 from .windows import Limits
 
 Answer: TypeAlias = "tuple[Literal['ok', 'missing', 'ended', 'fault'], Any]"
@@ -73,10 +73,10 @@ class Holder:
 
     def tiles(self, requests: list[Request]) -> list[Answer]:
         """Give parts of tiles' outputs and answer questions to them; make those first that are not held and have an
-        order. One answer for each request.
+        order, or can be made of a tile that is held. One answer for each request.
 
         A result is two lists: of each show the values and which are empty, of 3 axes; of each ask the cells, (N, 3), or
-        the text of the explanation.
+        the text of the explanation, and of each merge the kinds of lineage, where they are told.
         """
         with self._turn:
             answers: list[Answer] = []
@@ -142,9 +142,16 @@ class Holder:
     def _send(self, request: Request) -> _Sent:
         """Send all lines of a request."""
         held = self._held
-        if held is None or (request.key not in held.versions and request.order is None):
+        if held is None:
             return _Sent(request, None, [], [])
-        made = [] if request.key in held.versions or request.order is None else self._start(held, request.order)
+        made: list[Reply] = []
+        if request.key not in held.versions:
+            if request.order is not None:
+                made = self._start(held, request.order)
+            elif request.renewal is not None and self._has_room(held, request.renewal):
+                made = self._refresh(held, request.key, request.renewal)
+            else:
+                return _Sent(request, None, [], [])
         version = held.versions[request.key]
         shown = [held.session.say(b'{"show":%d,"node":%d}\n' % (version, show.node)) for show in request.shows]
         return _Sent(request, made, shown, [held.session.say(ask.line(version)) for ask in request.asks])
@@ -175,6 +182,31 @@ class Holder:
         held.versions[order.key] = held.started
         return replies
 
+    def _has_room(self, held: _Held, renewal: Renewal) -> bool:
+        """Whether the tile of which another one is to be made is held, and the other one fits beside it."""
+        return (
+            renewal.old in held.versions
+            and held.cells + renewal.cells <= self._most
+            and held.sent + len(renewal.new) <= _MOST_ARRAYS
+            and held.started + len(renewal.new) <= _MOST_VERSIONS
+        )
+
+    def _refresh(self, held: _Held, key: Key, renewal: Renewal) -> list[Reply]:
+        """Send the lines that make a tile of another one: for each window a version of its own. What the session holds
+        by that is not taken in, since nobody asks it."""
+        replies = []
+        version = held.versions[renewal.old]
+        for window in renewal.new:
+            replies.append(held.session.order(window.line(version), lambda session, text: None))
+            held.sent += 1
+            held.arrays[window.name] = held.sent
+            held.started += 1
+            version = held.started
+            replies.append(held.session.say(b'{"await":%d}\n' % version))
+        held.cells += renewal.cells
+        held.versions[key] = version
+        return replies
+
     def _end(self) -> None:
         held, self._held = self._held, None
         if held is not None:
@@ -193,8 +225,10 @@ def _part(text: bytes, show: Show) -> tuple[NDArray[Any], NDArray[Any]]:
     return np.ascontiguousarray(values.reshape(show.shape)[part]), np.ascontiguousarray(empty.reshape(show.shape)[part])
 
 
-def _answer(text: bytes, ask: Ask) -> Any:
-    """The cells of an ask, (N, 3); or the words of an explanation."""
+def _answer(text: bytes, ask: Ask | Merge) -> Any:
+    """The cells of an ask, (N, 3); the words of an explanation; the numbers behind a merge."""
+    if isinstance(ask, Merge):
+        return [int(word) for word in text.split()[2:]]
     if ask.explain:
         return text.decode()
     _, count, *rest = text.split(b" ", 2)

@@ -9,12 +9,13 @@ from typing import Any
 
 from ..cells import name_of, number_of
 from ..faults import BadInput
-from ..flow import Flow
+from ..flow import Flow, Input
 from ..session import Session
 from .crew import Crew, LocalCrew, processors
 from .making import Making
+from .remaking import Remaking
 from .run import TiledRun
-from .sources import TiledArray, check_kind, windows_of
+from .sources import SetCells, TiledArray, check_kind, windows_of
 from .stages import plan_flow
 from .windows import Limits
 
@@ -63,8 +64,12 @@ class Mosaic:
         """
         windows = windows_of(values)
         check_kind(windows, scale)
-        version = self._versions[name_of(name)] = self._versions.get(name, 0) + 1
+        version = self._versions[name] = self.next_version(name_of(name))
         return TiledArray(name, version, tuple(windows.shape), windows, scale, nan_is_empty)
+
+    def next_version(self, name: str) -> int:
+        """The version that the next array of this name has."""
+        return self._versions.get(name, 0) + 1
 
     def load(self, name: str, path: str | os.PathLike[str], *, scale: float | None = None) -> TiledArray:
         """Name the array of a `.npy` or FITS file, which is read window by window."""
@@ -92,7 +97,17 @@ class Mosaic:
         plan = plan_flow(flow, [array.shape for array in base], self.side, self._limits)
         self._runs += 1
         making = Making(self._runs, plan, tuple(base), dict(kept), self._crew, self._pool)
-        return TiledRun(self._runs, flow, tuple(base), making)
+        return TiledRun(self._runs, flow, tuple(base), making, self)
+
+    def refreshed(self, run: TiledRun, place: Input, cells: SetCells) -> TiledRun:
+        """A run of the flow of another one, on the same arrays, but that these cells were set in the one under
+        `place`, which is the next version of its name. `TiledRun.refresh` calls it."""
+        before = run.base[place.number]
+        version = self._versions[before.name] = self.next_version(before.name)
+        base = (*run.base[: place.number], before.with_set(version, cells), *run.base[place.number + 1 :])
+        self._runs += 1
+        making = Remaking(self._runs, run._making, base, place, cells.indexes)
+        return TiledRun(self._runs, run.flow, base, making, self)
 
 
 def tiled(

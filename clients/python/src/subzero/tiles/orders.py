@@ -92,14 +92,58 @@ class Ask:
 
 
 @dataclass(frozen=True)
+class Merge:
+    """That a tile's stores are merged: begun, or with `told` waited for, where it was begun before. Told is how many
+    kinds of lineage each `full_` store has, in the order of the tile's nodes and of their lists."""
+
+    told: bool = False
+
+    def line(self, version: int) -> bytes:
+        """The line that says so, of a version of the tile's flow."""
+        return b'{"%s":%d}\n' % (b"merged" if self.told else b"merge", version)
+
+
+@dataclass(frozen=True)
+class NewCells:
+    """Cells of one of a tile's windows that are to be set: the number of the window among the tile's, the text of the
+    cells with what they are to hold, the name by which the window with these cells is known, and how many cells it has
+    in all."""
+
+    input: int
+    text: bytes
+    name: tuple[Any, ...]
+    count: int
+
+    def line(self, version: int) -> bytes:
+        """The line that sets them, of a version of the tile's flow."""
+        return b'{"refresh":%d,"input":%d,"set":%s}\n' % (version, self.input, self.text)
+
+
+@dataclass(frozen=True)
+class Renewal:
+    """How a tile is made of another one of the same windows, in which cells are set: the other's key, which a program
+    may hold, the cells window by window, and how many cells the outputs of its nodes have."""
+
+    old: Key
+    new: list[NewCells]
+    outputs: int
+
+    @property
+    def cells(self) -> int:
+        """How many further cells a session then holds."""
+        return sum(window.count + self.outputs for window in self.new)
+
+
+@dataclass(frozen=True)
 class Request:
-    """What is wanted of a tile: parts of its outputs, and answers; with the order to make it by, where it may not be
-    held."""
+    """What is wanted of a tile: parts of its outputs, answers, and merges; with the order to make it by, where it may
+    not be held, or how it is made of another one that may be."""
 
     key: Key
     shows: list[Show]
-    asks: list[Ask]
+    asks: list[Ask | Merge]
     order: Order | None
+    renewal: Renewal | None = None
 
 
 def numbers_in(members: Members, plan: TilePlan) -> dict[int, int]:

@@ -4,12 +4,13 @@ from __future__ import annotations
 
 from collections.abc import Sequence
 from dataclasses import dataclass
-from typing import Any, TypeAlias
+from typing import TYPE_CHECKING, Any, TypeAlias
 
 import numpy as np
 from numpy.typing import NDArray
 
 from ..cells import Cells, Shape
+from ..changes import New
 from ..faults import BadInput
 from ..flow import Flow, Input, Node, Place
 from ..geometry import Rect, rect_of, whole
@@ -18,8 +19,14 @@ from ..run import MOST_PATHS, Direction, Explanation
 from .asks import along, explained_along, follow
 from .cellsets import Indexes, indexes_of, listed, mask_of, union
 from .chains import Chain, chains_along, chains_between
+from .changes import TiledChange, refreshed
 from .making import Making
+from .merges import TiledMerging
+from .orders import Merge
 from .sources import TiledArray
+
+if TYPE_CHECKING:
+    from .mosaic import Mosaic
 
 Array: TypeAlias = TiledArray | Input | Node
 """An array of a run: a base array that it was started on, a base array's place in its flow, or a node of it."""
@@ -60,11 +67,14 @@ class TiledRun:
     node. Tiles are made when they are needed: `wait` makes all that is kept whole.
     """
 
-    def __init__(self, number: int, flow: Flow, base: tuple[TiledArray, ...], making: Making) -> None:
+    def __init__(
+        self, number: int, flow: Flow, base: tuple[TiledArray, ...], making: Making, mosaic: Mosaic
+    ) -> None:
         self.number = number
         self.flow = flow
         self.base = base
         self._making = making
+        self._mosaic = mosaic
 
     @property
     def layout(self) -> Layout:
@@ -167,6 +177,51 @@ class TiledRun:
             steps, traced = explained_along(self._making, self._along(one), start, forward=direction == "forward")
             told.append(Explanation(one, tuple(steps), traced))
         return told
+
+    def refresh(self, array: Array, cells: New, *, scale: float | None = None) -> TiledChange:
+        """Run the flow again on a base array in which cells were set.
+
+        `array` is a base array of the run, or `flow.input(n)`. `cells` says what its cells are to hold, None and masked
+        being empty: a mapping from cells to values, a pair of cells and values, or an array, of which those cells are
+        set that differ (`subzero.changes.New`). Such an array may be whatever `Mosaic.array` takes, and is read in
+        parts. Floats are multiplied by `scale` and rounded.
+
+        Gives a TiledChange: its `run` is a run over tiles of the same flow, with the strategies that this run was
+        started with, on the array with these cells, which is the next version of its name. This run stays as it is.
+        Tiles that take no changed cell are shared by both runs; of the others those are refreshed in their programs
+        that are held there with room for a second one, and the rest is made as in every run. Where this run was not
+        waited for, what it keeps whole is made first.
+
+        Raises BadInput for what is no base array, an array that the flow takes under several inputs (`flow.input(n)`
+        names one), cells out of range, and values that no array can hold.
+
+        >>> with subzero.tiled(tile=2, programs=1) as mosaic:
+        ...     big, flow = mosaic.array("sky", sky.values), mosaic.flow("stars")
+        ...     labels = flow.regions(flow.clean(flow.input(0), t=100), t=5)
+        ...     change = mosaic.start(flow, [big]).refresh(big, {(0, 2): 9})
+        ...     change, change.cells, change.run.values(labels)[0].tolist()
+        ...     change.changed(labels, as_cells=True).tolist()
+        (<Change of sky 1 in run 1: 1 cell set, in run 2>, 5, [0, 2, 2, 0])
+        [[0, 2]]
+        """
+        return refreshed(self, array, cells, scale)
+
+    def merge(self) -> TiledMerging:
+        """Have the programs join cells of one lineage in the stores of the tiles that they hold, beside what they are
+        asked. No answer changes.
+
+        Gives a TiledMerging at once; its `wait` gives how many kinds of lineage `full_` stores have, where that can be
+        told of the whole array. A tile that is made again later has its stores as they are built.
+
+        >>> with subzero.tiled(tile=2, programs=1) as mosaic:
+        ...     big, flow = mosaic.array("sky", sky.values), mosaic.flow("f")
+        ...     node = flow.block(flow.input(0), "max", 2, 2, keep=["full_many_b"])
+        ...     run = mosaic.start(flow, [big])
+        ...     run.merge(), run.merge().wait()[node, "full_many_b"]
+        (<Merging of run 1>, 4)
+        """
+        self._making.merges_held([Merge()], "merging")
+        return TiledMerging(self)
 
     def told(self, path: Path) -> str:
         """A path in words."""

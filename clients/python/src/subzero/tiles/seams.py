@@ -7,6 +7,7 @@ take the least of their numbers: that is 1 plus the least index of the component
 
 from __future__ import annotations
 
+from collections.abc import Sequence
 from dataclasses import dataclass
 from typing import Any
 
@@ -61,6 +62,19 @@ class Labels:
         first = np.repeat(starts - np.concatenate([[0], np.cumsum(counts)[:-1]]), counts)
         rects = np.unique(self.part_rect[first + np.arange(first.size)])
         return union([self._cells_in(self.rects[number], labels) for number in rects])
+
+    def parts(self) -> list[tuple[Rect, NDArray[Any]]]:
+        """The rectangles of the tiles, each with the different labels that stand in it, which rise."""
+        order = np.argsort(self.part_rect, kind="stable")
+        ends = np.searchsorted(self.part_rect[order], np.arange(1, len(self.rects)))
+        return list(zip(self.rects, np.split(self.part_label[order], ends)))
+
+    def rects_with(self, some: Sequence[bool]) -> NDArray[Any]:
+        """Of each rectangle whether it is one of `some`, or has a part of a component that has one in these."""
+        chosen = np.array(some, dtype=bool)
+        components = np.unique(self.part_label[chosen[self.part_rect]])
+        chosen[self.part_rect[np.isin(self.part_label, components)]] = True
+        return chosen
 
     def _cells_in(self, rect: Rect, labels: NDArray[Any]) -> Indexes:
         part = self.values[:, rect.top : rect.bottom, rect.left : rect.right]

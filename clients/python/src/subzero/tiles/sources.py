@@ -4,7 +4,7 @@ from __future__ import annotations
 
 import os
 from collections.abc import Callable
-from dataclasses import dataclass, field
+from dataclasses import dataclass, field, replace
 from pathlib import Path
 from typing import Any, Protocol
 
@@ -13,7 +13,10 @@ from numpy.typing import NDArray
 
 from ..cells import MOST_LAYERS, Shape, values_of
 from ..faults import BadInput
-from ..geometry import Rect
+from ..geometry import Rect, layers_of
+from .cellsets import Indexes, apart, hull_of, to_local, within
+
+_BLOCK = 256
 
 
 class Windows(Protocol):
@@ -27,10 +30,34 @@ class Windows(Protocol):
         """The cells there."""
 
 
+@dataclass(frozen=True)
+class SetCells:
+    """Cells of an array that hold something else: their indexes, what they hold, int64, and which are empty."""
+
+    indexes: Indexes
+    values: NDArray[Any]
+    empty: NDArray[Any]
+
+    def at(self, indexes: Indexes) -> tuple[NDArray[Any], NDArray[Any]]:
+        """What some of these cells hold, and which are empty."""
+        places = np.searchsorted(self.indexes, indexes)
+        return self.values[places], self.empty[places]
+
+    def over(self, other: SetCells | None) -> SetCells:
+        """These cells, and behind them those of others that are none of these."""
+        if other is None:
+            return self
+        left = ~np.isin(other.indexes, self.indexes, assume_unique=True)
+        indexes = np.concatenate([self.indexes, other.indexes[left]])
+        order = np.argsort(indexes)
+        values = np.concatenate([self.values, other.values[left]])
+        return SetCells(indexes[order], values[order], np.concatenate([self.empty, other.empty[left]])[order])
+
+
 @dataclass(frozen=True, eq=False)
 class TiledArray:
     """A base array of a mosaic: its name, its version from 1, and its shape. Its values stay where they are, and are
-    read when tiles are made."""
+    read when tiles are made; cells that a refresh set are kept beside them."""
 
     name: str
     version: int
@@ -38,13 +65,59 @@ class TiledArray:
     _windows: Windows = field(repr=False)
     _scale: float | None = field(repr=False, default=None)
     _nan_is_empty: bool = field(repr=False, default=False)
+    _set: SetCells | None = field(repr=False, default=None)
 
     def __str__(self) -> str:
         return f"array {self.name} {self.version}"
 
+    @property
+    def unit(self) -> None:
+        """None: a unit is not kept."""
+
+    def with_set(self, version: int, cells: SetCells) -> TiledArray:
+        """The array in which these cells were set, as this version of its name."""
+        return replace(self, version=version, _set=cells.over(self._set))
+
+    def with_values(self, version: int, values: Any, scale: float | None) -> TiledArray:
+        """An array of this name and shape with other values, as this version. Raises BadInput where they do not fit."""
+        windows = windows_of(values)
+        if tuple(windows.shape) != self.shape:
+            raise BadInput(f"the new values have the shape {tuple(windows.shape)}, and {self} has {self.shape}")
+        check_kind(windows, scale)
+        return TiledArray(self.name, version, self.shape, windows, scale, self._nan_is_empty)
+
+    def set_at(self, indexes: Indexes) -> tuple[NDArray[Any], NDArray[Any]]:
+        """What cells hold that were set, and which are empty."""
+        assert self._set is not None
+        return self._set.at(indexes)
+
     def read(self, rect: Rect) -> tuple[NDArray[Any], NDArray[Any]]:
         """The values in a rectangle, int64, and which are empty, of the array's axes. Raises BadInput as
         `Session.array`."""
+        values, empty = self._read(rect)
+        if self._set is not None:
+            part = within(self._set.indexes, rect, self.shape)
+            layers, rows, columns = apart(part, self.shape)
+            at = (layers, rows - rect.top, columns - rect.left)
+            room = (layers_of(self.shape), rect.height, rect.width)
+            values.reshape(room)[at], empty.reshape(room)[at] = self._set.at(part)
+        return values, empty
+
+    def at(self, indexes: Indexes) -> tuple[NDArray[Any], NDArray[Any]]:
+        """The values of cells, int64, and which are empty; those that lie together are read together."""
+        values, empty = np.zeros(indexes.size, dtype=np.int64), np.zeros(indexes.size, dtype=bool)
+        _, rows, columns = apart(indexes, self.shape)
+        blocks = rows // _BLOCK * self.shape[-1] + columns // _BLOCK
+        order = np.argsort(blocks, kind="stable")
+        for some in np.split(order, 1 + np.flatnonzero(np.diff(blocks[order]))) if indexes.size else ():
+            rect = hull_of(indexes[some], self.shape)
+            room = (layers_of(self.shape), rect.height, rect.width)
+            at = tuple(to_local(indexes[some], self.shape, rect).T)
+            values[some], empty[some] = (part.reshape(room)[at] for part in self.read(rect))
+        return values, empty
+
+    def _read(self, rect: Rect) -> tuple[NDArray[Any], NDArray[Any]]:
+        """As `read`, where no cell was set: two new arrays."""
         at = (slice(None),) * (len(self.shape) - 2) + (slice(rect.top, rect.bottom), slice(rect.left, rect.right))
         part = self._windows[at]
         if hasattr(part, "compute"):
