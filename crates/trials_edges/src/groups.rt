@@ -108,20 +108,30 @@ fn is_old_or_new(image: &[u8], again: &mut MemStation, is_made: bool) -> bool {
 }
 
 #[test]
-fn a_log_is_made_and_has_a_group(rt: HostRuntime) -> Result<(), Fail> {
+fn a_log_is_made(rt: HostRuntime) -> Result<(), Fail> {
     let alloc = rt.alloc();
     let mut station = station_with(alloc, &[])?;
     assert_eq!(rt; is_log(&mut station), Ok(false));
     assert_eq!(rt; init(&mut station), Ok(LogEnd { at: 16 }));
-    assert_eq!(rt;
-        station.image(alloc, Torn::New)?.as_slice(),
-        EMPTY.as_slice()
-    );
+    assert!(rt; station.image(alloc, Torn::New)?.as_slice() == EMPTY.as_slice());
     assert_eq!(rt; is_log(&mut station), Ok(true));
+    Ok(())
+}
+
+/// Whether a stop leaves the log with its group, torn or not.
+fn leaves_the_group(alloc: Global, station: &MemStation) -> Result<bool, Fail> {
+    Ok(
+        station.image(alloc, Torn::New)?.as_slice() == LOG
+            && station.image(alloc, Torn::Old)?.as_slice() == LOG,
+    )
+}
+
+#[test]
+fn a_log_has_a_group(rt: HostRuntime) -> Result<(), Fail> {
+    let alloc = rt.alloc();
     let mut station = failing_empty(alloc, 99)?;
     assert_eq!(rt; add(&mut station, LINE), Ok(LogEnd { at: 53 }));
-    assert_eq!(rt; station.image(alloc, Torn::New)?.as_slice(), LOG);
-    assert_eq!(rt; station.image(alloc, Torn::Old)?.as_slice(), LOG);
+    assert!(rt; leaves_the_group(alloc, &station)?);
     assert!(rt; is_without_or_with(&mut station, true));
     assert_eq!(rt; group_at(&mut station, 54), Ok(Group::Bad));
     Ok(())

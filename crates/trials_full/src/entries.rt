@@ -34,19 +34,35 @@ fn add_cell(alloc: Global, table: &mut EntryTable, col: u32, byte: u8) -> Result
     Ok(())
 }
 
-#[test]
-fn equal_payloads_stand_once(rt: HostRuntime) -> Result<(), Fail> {
-    let alloc = rt.alloc();
+/// The entries of three cells, of which the first and the last have one payload.
+fn three_entries(alloc: Global) -> Result<EntryTable, Fail>
+    ensures { IfOk result (λ t. length t.rows ≡ 3) }
+{
     let mut table = EntryTable::new(alloc, row_of_20()?)?;
     add_cell(alloc, &mut table, 1, 70)?;
     add_cell(alloc, &mut table, 2, 80)?;
     add_cell(alloc, &mut table, 3, 70)?;
-    assert_eq!(rt; table.len(), 3);
-    assert_eq!(rt; table.sets(), 3);
-    assert_eq!(rt; table.payloads(), 2);
-    assert_eq!(rt; table.set_number(2), 2);
-    assert_eq!(rt; table.payload_number(1), 1);
-    assert_eq!(rt; table.payload_number(2), 0);
+    Ok(table)
+}
+
+/// Whether three entries have these numbers of sets and of payloads.
+fn are_numbered(table: &EntryTable) -> bool
+    requires { length table.now.rows ≡ 3 }
+{
+    table.set_number(2) == 2 && table.payload_number(1) == 1 && table.payload_number(2) == 0
+}
+
+#[test]
+fn equal_payloads_stand_once(rt: HostRuntime) -> Result<(), Fail> {
+    let table = three_entries(rt.alloc())?;
+    assert_eq!(rt; (table.len(), table.sets(), table.payloads()), (3, 3, 2));
+    assert!(rt; are_numbered(&table));
+    Ok(())
+}
+
+#[test]
+fn sets_and_payloads_are_kept(rt: HostRuntime) -> Result<(), Fail> {
+    let table = three_entries(rt.alloc())?;
     if 2 < table.sets() {
         assert_eq!(rt; table.out_runs(2), [Run { first: 3, last: 3 }].as_slice());
     }

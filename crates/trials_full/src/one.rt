@@ -141,42 +141,54 @@ fn is_forward(alloc: Global, store: &FullOne, asked: [u32; 2], wanted: &[Run]) -
     leads_to(alloc, store, Dir::Forward, 0, [shape, shape], run, wanted)
 }
 
-/// A store of the windows of three cells round each cell.
-fn windows(alloc: Global, dir: Dir) -> Result<FullOne, Fail>
+/// Gives a store of six cells to six the region pairs of these runs, an output's and an input's
+/// each.
+fn give_all(alloc: Global, store: &mut FullOne, pairs: &[[[u32; 2]; 2]]) -> Result<(), Fail>
+    requires site { store.old.site ≡ record { op = Op.Neg; ins = flat 1 6 ∷ []; out = flat 1 6 } }
+    requires few { length store.old.given + length pairs.now < 100 }
+    ensures { store.new.site ≡ store.old.site }
+{
+    let [[out, ins], others @ ..] = pairs else {
+        return Ok(());
+    };
+    give_runs(alloc, store, *out, *ins)?;
+    give_all(alloc, store, others)
+}
+
+/// A store of the region pairs of these runs.
+fn store_of(alloc: Global, dir: Dir, pairs: &[[[u32; 2]; 2]]) -> Result<FullOne, Fail>
+    requires { length pairs.now < 100 }
     ensures { IfOk result (λ s. s.site
         ≡ record { op = Op.Neg; ins = flat 1 6 ∷ []; out = flat 1 6 }) }
 {
     let mut store = FullOne::new(alloc, six_to_six(alloc)?, dir)?;
-    give_runs(alloc, &mut store, [0, 0], [0, 1])?;
-    give_runs(alloc, &mut store, [1, 1], [0, 2])?;
-    give_runs(alloc, &mut store, [2, 2], [1, 3])?;
-    give_runs(alloc, &mut store, [3, 3], [2, 4])?;
-    give_runs(alloc, &mut store, [4, 4], [3, 5])?;
-    give_runs(alloc, &mut store, [5, 5], [4, 5])?;
+    give_all(alloc, &mut store, pairs)?;
     Ok(store)
 }
 
-/// A store of pairs that are no operator's: cell 3 of the output is in all of them, and two name
-/// one set of the input.
-fn overlaps(alloc: Global, dir: Dir) -> Result<FullOne, Fail>
-    ensures { IfOk result (λ s. s.site
-        ≡ record { op = Op.Neg; ins = flat 1 6 ∷ []; out = flat 1 6 }) }
-{
-    let mut store = FullOne::new(alloc, six_to_six(alloc)?, dir)?;
-    give_runs(alloc, &mut store, [0, 3], [0, 0])?;
-    give_runs(alloc, &mut store, [3, 5], [4, 5])?;
-    give_runs(alloc, &mut store, [3, 3], [0, 0])?;
-    Ok(store)
-}
+/// The windows of three cells round each cell.
+const WINDOWS: [[[u32; 2]; 2]; 6] = [
+    [[0, 0], [0, 1]],
+    [[1, 1], [0, 2]],
+    [[2, 2], [1, 3]],
+    [[3, 3], [2, 4]],
+    [[4, 4], [3, 5]],
+    [[5, 5], [4, 5]],
+];
+
+/// Pairs that are no operator's: cell 3 of the output is in all of them, and two name one set of
+/// the input.
+const OVERLAPS: [[[u32; 2]; 2]; 3] = [[[0, 3], [0, 0]], [[3, 5], [4, 5]], [[3, 3], [0, 0]]];
 
 /// Whether the windows of a store are found from both sides.
 fn windows_are_found(alloc: Global, dir: Dir) -> Result<bool, Fail> {
-    let store = windows(alloc, dir)?;
-    let back = is_back(alloc, &store, [2, 2], &[Run { first: 1, last: 3 }])?
-        && is_back(alloc, &store, [4, 5], &[Run { first: 3, last: 5 }])?;
-    let forward = is_forward(alloc, &store, [0, 0], &[Run { first: 0, last: 1 }])?
-        && is_forward(alloc, &store, [3, 4], &[Run { first: 2, last: 5 }])?;
-    Ok(back && forward)
+    let store = store_of(alloc, dir, &WINDOWS)?;
+    Ok(
+        is_back(alloc, &store, [2, 2], &[Run { first: 1, last: 3 }])?
+            && is_back(alloc, &store, [4, 5], &[Run { first: 3, last: 5 }])?
+            && is_forward(alloc, &store, [0, 0], &[Run { first: 0, last: 1 }])?
+            && is_forward(alloc, &store, [3, 4], &[Run { first: 2, last: 5 }])?,
+    )
 }
 
 /// Whether the overlapping pairs of a store are found from both sides.
@@ -203,31 +215,60 @@ fn windows_are_found_from_both_sides(rt: HostRuntime) -> Result<(), Fail> {
 #[test]
 fn overlapping_pairs_are_all_found(rt: HostRuntime) -> Result<(), Fail> {
     let alloc = rt.alloc();
-    assert!(rt; overlaps_are_found(alloc, &overlaps(alloc, Dir::Back)?)?);
-    assert!(rt; overlaps_are_found(alloc, &overlaps(alloc, Dir::Forward)?)?);
+    assert!(rt; overlaps_are_found(alloc, &store_of(alloc, Dir::Back, &OVERLAPS)?)?);
+    assert!(rt; overlaps_are_found(alloc, &store_of(alloc, Dir::Forward, &OVERLAPS)?)?);
     Ok(())
 }
 
-/// Whether the pairs of two inputs are found, of each input its own.
-fn inputs_are_found(alloc: Global, dir: Dir) -> Result<bool, Fail> {
+/// A store of one region pair of two inputs.
+fn store_of_two(alloc: Global, dir: Dir) -> Result<FullOne, Fail>
+    ensures { IfOk result (λ s. s.site
+        ≡ record { op = Op.Lookup; ins = flat 1 3 ∷ flat 1 2 ∷ []; out = flat 1 3 }) }
+{
     let three = row(3)?;
-    let two = row(2)?;
-    let mut store = FullOne::new(alloc, three_and_two(alloc)?, dir)?;
     let first = cells(alloc, three, 0, 0)?;
-    let second = cells(alloc, two, 1, 1)?;
+    let second = cells(alloc, row(2)?, 1, 1)?;
     let region = Region {
         out: cells(alloc, three, 0, 1)?,
         ins: SetList::of(vec![in alloc; first, second]?),
     };
+    let mut store = FullOne::new(alloc, three_and_two(alloc)?, dir)?;
     give(alloc, &mut store, region)?;
+    Ok(store)
+}
+
+/// Whether the pairs of two inputs are found backward, of each input its own.
+fn inputs_are_behind(alloc: Global, store: &FullOne) -> Result<bool, Fail>
+    requires { store.now.site
+        ≡ record { op = Op.Lookup; ins = flat 1 3 ∷ flat 1 2 ∷ []; out = flat 1 3 } }
+{
+    let three = row(3)?;
     let one = Run { first: 1, last: 1 };
     let first = Run { first: 0, last: 0 };
-    let back = leads_to(alloc, &store, Dir::Back, 0, [three, three], one, &[first])?
-        && leads_to(alloc, &store, Dir::Back, 1, [three, two], one, &[one])?;
+    Ok(
+        leads_to(alloc, store, Dir::Back, 0, [three, three], one, &[first])?
+            && leads_to(alloc, store, Dir::Back, 1, [three, row(2)?], one, &[one])?,
+    )
+}
+
+/// The same forward.
+fn inputs_lead_on(alloc: Global, store: &FullOne) -> Result<bool, Fail>
+    requires { store.now.site
+        ≡ record { op = Op.Lookup; ins = flat 1 3 ∷ flat 1 2 ∷ []; out = flat 1 3 } }
+{
+    let three = row(3)?;
+    let one = Run { first: 1, last: 1 };
     let whole = [Run { first: 0, last: 1 }];
-    let forward = leads_to(alloc, &store, Dir::Forward, 0, [three, three], one, &[])?
-        && leads_to(alloc, &store, Dir::Forward, 1, [two, three], one, &whole)?;
-    Ok(back && forward)
+    Ok(
+        leads_to(alloc, store, Dir::Forward, 0, [three, three], one, &[])?
+            && leads_to(alloc, store, Dir::Forward, 1, [row(2)?, three], one, &whole)?,
+    )
+}
+
+/// Whether the pairs of two inputs are found from both sides.
+fn inputs_are_found(alloc: Global, dir: Dir) -> Result<bool, Fail> {
+    let store = store_of_two(alloc, dir)?;
+    Ok(inputs_are_behind(alloc, &store)? && inputs_lead_on(alloc, &store)?)
 }
 
 #[test]
@@ -238,17 +279,29 @@ fn each_input_has_its_own_sets(rt: HostRuntime) -> Result<(), Fail> {
     Ok(())
 }
 
+/// The bytes of the overlapping pairs, between a 9 and a 7.
+fn written(alloc: Global) -> Result<Vec<u8>, Fail> {
+    let mut bytes = vec![in alloc; 9u8]?;
+    store_of(alloc, Dir::Back, &OVERLAPS)?.put_bytes(&mut bytes)?;
+    bytes.push(7)?;
+    Ok(bytes)
+}
+
 #[test]
 fn what_is_written_is_read_again(rt: HostRuntime) -> Result<(), Fail> {
     let alloc = rt.alloc();
-    let at = six_to_six(alloc)?;
-    let mut bytes = vec![in alloc; 9u8]?;
-    overlaps(alloc, Dir::Back)?.put_bytes(&mut bytes)?;
-    bytes.push(7)?;
-    let (store, next) = FullOne::take_bytes(alloc, Arc::try_clone(&at)?, Dir::Forward, &bytes, 1)?;
-    assert_eq!(rt; next, bytes.len() as u64 - 1);
+    let bytes = written(alloc)?;
+    let (store, next) = FullOne::take_bytes(alloc, six_to_six(alloc)?, Dir::Forward, &bytes, 1)?;
+    assert!(rt; next.checked_add(1) == Some(bytes.len() as u64));
     assert!(rt; overlaps_are_found(alloc, &store)?);
-    let fault = FullOne::take_bytes(alloc, at, Dir::Back, &bytes, 2).err();
+    Ok(())
+}
+
+#[test]
+fn bytes_of_no_store_are_refused(rt: HostRuntime) -> Result<(), Fail> {
+    let alloc = rt.alloc();
+    let bytes = written(alloc)?;
+    let fault = FullOne::take_bytes(alloc, six_to_six(alloc)?, Dir::Back, &bytes, 2).err();
     assert_eq!(rt; fault, Some(Take::Bad { at: 2 }));
     Ok(())
 }

@@ -51,22 +51,45 @@ fn add_cells(alloc: Global, table: &mut RegionTable, cols: [u32; 3]) -> Result<(
     Ok(())
 }
 
-#[test]
-fn equal_sets_of_an_array_stand_once(rt: HostRuntime) -> Result<(), Fail> {
-    let alloc = rt.alloc();
+/// A table of three region pairs, of which each set but one stands in two.
+fn three_pairs(alloc: Global) -> Result<RegionTable, Fail>
+    ensures rows { IfOk result (λ t. length t.rows ≡ 3) }
+    ensures ins { IfOk result (λ t. length t.ins ≡ 2) }
+{
     let shape = row_of_20()?;
     let mut table = RegionTable::new(alloc, shape, &[shape, shape])?;
     add_cells(alloc, &mut table, [1, 2, 3])?;
     add_cells(alloc, &mut table, [1, 3, 2])?;
     add_cells(alloc, &mut table, [4, 2, 3])?;
-    assert_eq!(rt; table.len(), 3);
-    assert_eq!(rt; table.out_sets(), 2);
-    assert_eq!(rt; table.sets_of(0), 2);
-    assert_eq!(rt; table.out_number(1), 0);
-    assert_eq!(rt; table.out_number(2), 1);
-    assert_eq!(rt; table.number_of(1, 0), 1);
-    assert_eq!(rt; table.number_of(2, 0), 0);
-    assert_eq!(rt; table.number_of(1, 1), 1);
+    Ok(table)
+}
+
+/// Whether the rows of three region pairs have these numbers.
+fn are_numbered(table: &RegionTable) -> bool
+    requires rows { length table.now.rows ≡ 3 }
+    requires ins { length table.now.ins ≡ 2 }
+{
+    table.out_number(1) == 0
+        && table.out_number(2) == 1
+        && table.number_of(1, 0) == 1
+        && table.number_of(2, 0) == 0
+        && table.number_of(1, 1) == 1
+}
+
+#[test]
+fn equal_sets_of_an_array_stand_once(rt: HostRuntime) -> Result<(), Fail> {
+    let table = three_pairs(rt.alloc())?;
+    assert_eq!(rt;
+        (table.len(), table.out_sets(), table.sets_of(0)),
+        (3, 2, 2)
+    );
+    assert!(rt; are_numbered(&table));
+    Ok(())
+}
+
+#[test]
+fn sets_are_kept_as_runs(rt: HostRuntime) -> Result<(), Fail> {
+    let table = three_pairs(rt.alloc())?;
     if 1 < table.out_sets() {
         assert_eq!(rt; table.out_runs(1), [Run { first: 4, last: 4 }].as_slice());
     }
@@ -77,30 +100,42 @@ fn equal_sets_of_an_array_stand_once(rt: HostRuntime) -> Result<(), Fail> {
 }
 
 #[test]
-fn each_set_of_an_array_is_written_once(rt: HostRuntime) -> Result<(), Fail> {
+fn no_row_is_two_empty_lists(rt: HostRuntime) -> Result<(), Fail> {
     let alloc = rt.alloc();
     let shape = row_of_20()?;
-    let mut table = RegionTable::new(alloc, shape, &[shape, shape])?;
+    let table = RegionTable::new(alloc, shape, &[shape, shape])?;
     let mut bytes = vec![in alloc; 9u8]?;
     table.put_bytes(&mut bytes)?;
-    assert_eq!(rt; bytes.as_slice(), [9, 0, 0, 0, 0, 0, 0, 0, 0].as_slice());
+    assert_eq!(rt; bytes.as_slice(), b"\x09\0\0\0\0\0\0\0\0".as_slice());
+    Ok(())
+}
+
+/// A table of two region pairs, which share the sets of the output and of input 1.
+fn two_pairs(alloc: Global) -> Result<RegionTable, Fail> {
+    let shape = row_of_20()?;
+    let mut table = RegionTable::new(alloc, shape, &[shape, shape])?;
     add_cells(alloc, &mut table, [1, 2, 3])?;
     add_cells(alloc, &mut table, [1, 3, 3])?;
-    bytes.clear();
-    table.put_bytes(&mut bytes)?;
-    assert_eq!(rt;
-        bytes.as_slice(),
-        [
-            0, 0, 0, 4, // four sets
-            0, 0, 0, 0, 1, 0, 0, 0, 1, 0, 0, 0, 1, // output: 1
-            1, 0, 0, 0, 1, 0, 0, 0, 2, 0, 0, 0, 2, // input 0: 2
-            1, 0, 0, 0, 1, 0, 0, 0, 3, 0, 0, 0, 3, // input 0: 3
-            2, 0, 0, 0, 1, 0, 0, 0, 3, 0, 0, 0, 3, // input 1: 3
-            0, 0, 0, 2, // two rows
-            0, 0, 0, 0, 0, 0, 0, 1, 0, 0, 0, 3, //
-            0, 0, 0, 0, 0, 0, 0, 2, 0, 0, 0, 3,
-        ]
-        .as_slice()
-    );
+    Ok(table)
+}
+
+/// Their bytes.
+const TWO_PAIRS: [u8; 84] = [
+    0, 0, 0, 4, // four sets
+    0, 0, 0, 0, 1, 0, 0, 0, 1, 0, 0, 0, 1, // output: 1
+    1, 0, 0, 0, 1, 0, 0, 0, 2, 0, 0, 0, 2, // input 0: 2
+    1, 0, 0, 0, 1, 0, 0, 0, 3, 0, 0, 0, 3, // input 0: 3
+    2, 0, 0, 0, 1, 0, 0, 0, 3, 0, 0, 0, 3, // input 1: 3
+    0, 0, 0, 2, // two rows
+    0, 0, 0, 0, 0, 0, 0, 1, 0, 0, 0, 3, //
+    0, 0, 0, 0, 0, 0, 0, 2, 0, 0, 0, 3,
+];
+
+#[test]
+fn each_set_of_an_array_is_written_once(rt: HostRuntime) -> Result<(), Fail> {
+    let alloc = rt.alloc();
+    let mut bytes = Vec::new(alloc);
+    two_pairs(alloc)?.put_bytes(&mut bytes)?;
+    assert_eq!(rt; bytes.as_slice(), TWO_PAIRS.as_slice());
     Ok(())
 }

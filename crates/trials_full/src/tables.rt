@@ -1,6 +1,6 @@
 //! Entries under three keys, and sets by number: each call once, with memory to spare.
 
-ghost use Rattle.std.specs.Prelude.{◌≡◌, ◌<◌, ◌≤◌, ◌+◌, true, length, All, IfOk};
+ghost use Rattle.std.specs.Prelude.{◌≡◌, ◌<◌, ◌≤◌, ◌+◌, [], ◌∷◌, true, length, All, IfOk};
 ghost use Rattle.sz_cells.specs.Extent.{holds};
 
 use std::alloc::Global;
@@ -8,19 +8,29 @@ use std::test::Fail;
 use sz_cells::{Cell, CellSet, NoMemory, Run, Shape};
 use sz_tables::{Chains, SetTable};
 
-#[test]
-fn walks_from_the_last_entry_of_a_key_to_its_first(rt: HostRuntime) -> Result<(), Fail> {
-    let mut chains = Chains::new(rt.alloc(), 2)?;
+/// Three entries, two under the first of three keys and one under the last.
+fn three_entries(alloc: Global) -> Result<Chains, NoMemory>
+    ensures keys { IfOk result (λ c. c.keys ≡ 3) }
+    ensures entries { IfOk result (λ c. c.entries ≡ record { key = 0; item = 70 }
+        ∷ record { key = 2; item = 80 } ∷ record { key = 0; item = 90 } ∷ []) }
+{
+    let mut chains = Chains::new(alloc, 2)?;
     chains.reserve(1, 3)?;
     chains.add_key();
     chains.add(0, 70);
     chains.add(2, 80);
     chains.add(0, 90);
-    assert_eq!(rt; chains.last(0), Some(2));
-    assert_eq!(rt; chains.before(2, 0), Some(0));
-    assert_eq!(rt; chains.before(0, 0), None);
-    assert_eq!(rt; chains.last(1), None);
-    assert_eq!(rt; chains.last(2), Some(1));
+    Ok(chains)
+}
+
+#[test]
+fn walks_from_the_last_entry_of_a_key_to_its_first(rt: HostRuntime) -> Result<(), Fail> {
+    let chains = three_entries(rt.alloc())?;
+    assert_eq!(rt;
+        (chains.last(0), chains.last(1), chains.last(2)),
+        (Some(2), None, Some(1))
+    );
+    assert_eq!(rt; (chains.before(2, 0), chains.before(0, 0)), (Some(0), None));
     assert_eq!(rt; chains.item(2), 90);
     Ok(())
 }
@@ -59,23 +69,28 @@ fn number_of(alloc: Global, table: &mut SetTable, cols: [u32; 3]) -> Result<u32,
     Ok(table.add(&set))
 }
 
+/// A table of two sets that are added four times, and the numbers that they get.
+fn two_sets(alloc: Global) -> Result<(SetTable, [u32; 4]), Fail> {
+    let mut table = SetTable::new(alloc, row_of_20()?)?;
+    let first = number_of(alloc, &mut table, [0, 5, 10])?;
+    let equal = number_of(alloc, &mut table, [0, 5, 10])?;
+    // The first run, the last one and the count are those of the set before.
+    let other = number_of(alloc, &mut table, [0, 6, 10])?;
+    let again = number_of(alloc, &mut table, [10, 0, 5])?;
+    Ok((table, [first, equal, other, again]))
+}
+
 #[test]
 fn equal_sets_have_one_number(rt: HostRuntime) -> Result<(), Fail> {
-    let mut table = SetTable::new(rt.alloc(), row_of_20()?)?;
-    let first = number_of(rt.alloc(), &mut table, [0, 5, 10])?;
-    let equal = number_of(rt.alloc(), &mut table, [0, 5, 10])?;
-    // The first run, the last one and the count are those of the set before.
-    let other = number_of(rt.alloc(), &mut table, [0, 6, 10])?;
-    let again = number_of(rt.alloc(), &mut table, [10, 0, 5])?;
-    assert_eq!(rt; first, 0);
-    assert_eq!(rt; equal, 0);
-    assert_eq!(rt; other, 1);
-    assert_eq!(rt; again, 0);
+    let (table, numbers) = two_sets(rt.alloc())?;
+    assert_eq!(rt; numbers, [0, 0, 1, 0]);
     assert_eq!(rt; table.len(), 2);
     if 1 < table.len() {
         let runs = table.runs(1);
-        assert_eq!(rt; runs.len(), 3);
-        assert_eq!(rt; runs.get(1), Some(&Run { first: 6, last: 6 }));
+        assert_eq!(rt;
+            (runs.len(), runs.get(1)),
+            (3, Some(&Run { first: 6, last: 6 }))
+        );
     }
     Ok(())
 }

@@ -424,31 +424,66 @@ fn two_cells(alloc: Global) -> Result<CellSet, Fail> {
     Ok(CellSet::from_cells(alloc, shape, &cells)?)
 }
 
-#[test]
-fn replies_are_written(rt: HostRuntime) -> Result<(), Fail> {
-    let alloc = rt.alloc();
-    let cells = Reply::Cells {
-        cells: two_cells(alloc)?,
-    };
-    let text = reply_text(alloc, 1, &cells)?;
-    assert!(rt; text.as_slice() == "1 cells 2 0,0,1 1,0,0\n".as_bytes());
-    let used = StrategyList::of(vec![in alloc; Strategy::PayMany, Strategy::BlackBox]?);
-    let text = reply_text(alloc, 2, &Reply::Explain { used, traced: 9 })?;
-    assert!(rt; text.as_slice() == "2 explain pay_many blackbox traced 9\n".as_bytes());
+/// Whether a reply to the line of a number has this text.
+fn is_written(alloc: Global, number: u64, reply: &Reply, text: &str) -> Result<bool, Fail> {
+    Ok(reply_text(alloc, number, reply)?.as_slice() == text.as_bytes())
+}
+
+/// Whether the number of kinds of each store of version 7 is written so.
+fn kinds_are_written(alloc: Global, kinds: &[u32], text: &str) -> Result<bool, Fail> {
+    let kinds = kinds.to_vec(alloc)?;
+    is_written(alloc, 4, &Reply::Merged { version: 7, kinds }, text)
+}
+
+/// An array of three cells, of which one is empty.
+fn three_values(alloc: Global) -> Result<Arc<Array>, Fail> {
     let shape = Shape::make(1, 3).ok_or("1 by 3")?;
     let values = vec![in alloc; Some(-5), None, Some(0)]?;
     let array = Array::make(shape, values).ok_or("three values")?;
-    let array = Arc::new(alloc, array)?;
-    let text = reply_text(alloc, 18_446_744_073_709_551_615, &Reply::Values { array })?;
-    assert!(rt; text.as_slice() == "18446744073709551615 values 1 3 -5 - 0\n".as_bytes());
+    Ok(Arc::new(alloc, array)?)
+}
+
+#[test]
+fn answers_are_written(rt: HostRuntime) -> Result<(), Fail> {
+    let alloc = rt.alloc();
+    let cells = two_cells(alloc)?;
+    assert!(rt; is_written(alloc, 1, &Reply::Cells { cells }, "1 cells 2 0,0,1 1,0,0\n")?);
+    let used = StrategyList::of(vec![in alloc; Strategy::PayMany, Strategy::BlackBox]?);
+    let explained = Reply::Explain { used, traced: 9 };
+    assert!(rt;
+        is_written(
+            alloc,
+            2,
+            &explained,
+            "2 explain pay_many blackbox traced 9\n"
+        )?
+    );
+    Ok(())
+}
+
+#[test]
+fn values_are_written(rt: HostRuntime) -> Result<(), Fail> {
+    let alloc = rt.alloc();
+    let array = three_values(alloc)?;
+    let text = "18446744073709551615 values 1 3 -5 - 0\n";
+    assert!(rt;
+        is_written(
+            alloc,
+            18_446_744_073_709_551_615,
+            &Reply::Values { array },
+            text
+        )?
+    );
+    Ok(())
+}
+
+#[test]
+fn numbers_are_written(rt: HostRuntime) -> Result<(), Fail> {
+    let alloc = rt.alloc();
     let cells = 10_000_000_000;
-    let text = reply_text(alloc, 3, &Reply::Refreshed { version: 7, cells })?;
-    assert!(rt; text.as_slice() == "3 refreshed 7 cells 10000000000\n".as_bytes());
-    let kinds = Vec::new(alloc);
-    let text = reply_text(alloc, 4, &Reply::Merged { version: 7, kinds })?;
-    assert!(rt; text.as_slice() == "4 merged 7\n".as_bytes());
-    let kinds = vec![in alloc; 0u32, 4_294_967_295]?;
-    let text = reply_text(alloc, 5, &Reply::Merged { version: 7, kinds })?;
-    assert!(rt; text.as_slice() == "5 merged 7 0 4294967295\n".as_bytes());
+    let refreshed = Reply::Refreshed { version: 7, cells };
+    assert!(rt; is_written(alloc, 3, &refreshed, "3 refreshed 7 cells 10000000000\n")?);
+    assert!(rt; kinds_are_written(alloc, &[], "4 merged 7\n")?);
+    assert!(rt; kinds_are_written(alloc, &[0, 4_294_967_295], "4 merged 7 0 4294967295\n")?);
     Ok(())
 }

@@ -39,34 +39,53 @@ const FURTHER: [(&str, Option<u32>); 14] = [
     (r#"{"merged":4294967296}"#, Some(3)),
 ];
 
+/// A line of each form, and lines of which each breaks another rule.
+const LINES: [(&[u8], Option<u32>); 16] = [
+    (
+        br#" {"cells": [[1,null],[-3,9223372036854775807]], "array": "\u0073ky_9"} "#,
+        None,
+    ),
+    (br#"{"csv":"t","text":"1,,3\n4,5,6\n"}"#, None),
+    (br#"{"layers":"a","cells":[[[1,2]],[[3,null]]]}"#, None),
+    (
+        br#"{"flow":"f","inputs":1,"nodes":[
+        {"op":"convolve","kernel":[[0,-1,0]],"from":[{"i":0}]},
+        {"op":"block","fold":"count","h":2,"w":3,"from":[{"n":0}]}]}"#,
+        None,
+    ),
+    (br#"{"strategy":"f","node":3,"list":["full_one_b"]}"#, None),
+    (br#"{"start":"minus","base":[["sky",4294967295]]}"#, None),
+    (
+        br#"{"plan":"f","base":[["a",1]],"units":65537,"back":0,"forward":4294967295}"#,
+        None,
+    ),
+    (br#"{"await":"x","await":1}"#, None),
+    (
+        br#"{"ask":2,"dir":"forward","path":[[0,1]],"cells":[[3,4],[5,6,7]]}"#,
+        None,
+    ),
+    (br#"{"explain":1,"dir":"back","path":[],"cells":[]}"#, None),
+    (br#"{"show":1,"node":0}"#, None),
+    (b"{\"await\":\"\xff\"}", Some(1)),
+    (br#"{"start":"f","base":[["A",1]]}"#, Some(4)),
+    (br#"{"array":"a","cells":[[1],[1,2]]}"#, Some(5)),
+    (br#"{"csv":"t","text":"1,2\n3"}"#, Some(5)),
+    (br#"{"flow":"f","inputs":1,"nodes":[]}"#, Some(8)),
+];
+
 #[test]
 fn lines_are_read_or_refused(rt: HostRuntime) {
     let alloc = rt.alloc();
-    let array = r#" {"cells": [[1,null],[-3,9223372036854775807]], "array": "\u0073ky_9"} "#;
-    let flow = r#"{"flow":"f","inputs":1,"nodes":[
-        {"op":"convolve","kernel":[[0,-1,0]],"from":[{"i":0}]},
-        {"op":"block","fold":"count","h":2,"w":3,"from":[{"n":0}]}]}"#;
-    let plan = r#"{"plan":"f","base":[["a",1]],"units":65537,"back":0,"forward":4294967295}"#;
-    let ask = r#"{"ask":2,"dir":"forward","path":[[0,1]],"cells":[[3,4],[5,6,7]]}"#;
-    assert!(rt; refused(alloc, array.as_bytes()) == None);
-    assert!(rt; refused(alloc, br#"{"csv":"t","text":"1,,3\n4,5,6\n"}"#) == None);
-    assert!(rt; refused(alloc, br#"{"layers":"a","cells":[[[1,2]],[[3,null]]]}"#) == None);
-    assert!(rt; refused(alloc, flow.as_bytes()) == None);
-    assert!(rt; refused(alloc, br#"{"strategy":"f","node":3,"list":["full_one_b"]}"#) == None);
-    assert!(rt; refused(alloc, br#"{"start":"minus","base":[["sky",4294967295]]}"#) == None);
-    assert!(rt; refused(alloc, plan.as_bytes()) == None);
-    assert!(rt; refused(alloc, br#"{"await":"x","await":1}"#) == None);
-    assert!(rt; refused(alloc, ask.as_bytes()) == None);
-    assert!(rt; refused(alloc, br#"{"explain":1,"dir":"back","path":[],"cells":[]}"#) == None);
-    assert!(rt; refused(alloc, br#"{"show":1,"node":0}"#) == None);
+    for (line, rule) in LINES {
+        assert!(rt; refused(alloc, line) == rule);
+    }
     for (line, rule) in FURTHER {
         assert!(rt; refused(alloc, line.as_bytes()) == rule, "{line}");
     }
-    assert!(rt; refused(alloc, b"{\"await\":\"\xff\"}") == Some(1));
-    assert!(rt; refused(alloc, br#"{"start":"f","base":[["A",1]]}"#) == Some(4));
-    assert!(rt; refused(alloc, br#"{"array":"a","cells":[[1],[1,2]]}"#) == Some(5));
-    assert!(rt; refused(alloc, br#"{"csv":"t","text":"1,2\n3"}"#) == Some(5));
-    assert!(rt; refused(alloc, br#"{"flow":"f","inputs":1,"nodes":[]}"#) == Some(8));
+}
+
+#[test]
+fn strategies_have_names(rt: HostRuntime) {
     assert_eq!(rt; strategy_name(Strategy::PayMany), "pay_many");
     assert!(rt; strategy_named("blackbox") == Some(Strategy::BlackBox));
 }

@@ -52,20 +52,58 @@ pub fn fills<R: Wait>(alloc: Global, rt: &R, bench: &Bench, pass: &mut Pass) -> 
     Ok(none && new && still && early && again && last)
 }
 
+/// Whether a full shelf is sealed, with these answers before the seal and behind it.
+fn seals<R: Wait>(alloc: Global, rt: &R, bench: &Bench, pass: &mut Pass) -> Result<bool, Fail>
+    requires { place_of pass.old ≡ bench.now }
+    ensures { place_of pass.new ≡ place_of pass.old }
+{
+    let open = looks(alloc, rt, bench, pass, Some(2), &BEFORE)?;
+    let none = bench.store_of(alloc, rt, pass)?.is_none();
+    let sealed = bench.seal(rt, pass) == SealReply::Sealed;
+    let closed = looks(alloc, rt, bench, pass, None, &ADDED)?;
+    let late = bench.place(alloc, rt, pass, 0)? == Placed::Sealed;
+    Ok(open && none && sealed && closed && late)
+}
+
 #[test]
 fn pieces_are_placed_and_then_sealed(rt: HostRuntime) -> Result<(), Fail> {
     let alloc = rt.alloc();
     let (bench, mut pass) = Bench::new(alloc)?;
     let mut other = bench.split(&mut pass)?;
     assert!(rt; fills(alloc, &rt, &bench, &mut pass)?);
-    assert!(rt; looks(alloc, &rt, &bench, &mut pass, Some(2), &BEFORE)?);
-    assert!(rt; bench.store_of(alloc, &rt, &mut pass)?.is_none());
     assert!(rt; !bench.sealed_now(&mut other));
-    assert_eq!(rt; bench.seal(&rt, &mut pass), SealReply::Sealed);
-    assert!(rt; looks(alloc, &rt, &bench, &mut pass, None, &ADDED)?);
-    assert_eq!(rt; bench.place(alloc, &rt, &mut pass, 0)?, Placed::Sealed);
+    assert!(rt; seals(alloc, &rt, &bench, &mut pass)?);
     assert!(rt; bench.sealed_now(&mut other));
     Ok(())
+}
+
+/// Whether a pass of a sealed shelf keeps what is handed out to it, and nothing before.
+fn keeps<R: Wait>(alloc: Global, rt: &R, bench: &Bench, pass: &mut Pass) -> Result<bool, Fail>
+    requires { place_of pass.old ≡ bench.now }
+    ensures { place_of pass.new ≡ place_of pass.old }
+{
+    let before = pass.kept().is_none();
+    let given = bench.store_of(alloc, rt, pass)?.is_some();
+    Ok(before && given && pass.kept().is_some())
+}
+
+/// Whether a pass that is split off from one that keeps the stores keeps them too, and so does one
+/// that it is joined to.
+fn hands_on<R: Wait>(
+    alloc: Global,
+    rt: &R,
+    bench: &Bench,
+    pass: &mut Pass,
+    before: &mut Pass,
+) -> Result<bool, Fail>
+    requires pass { place_of pass.old ≡ bench.now }
+    requires before { place_of before.old ≡ bench.now }
+{
+    let mut after = bench.split(pass)?;
+    let kept = before.kept().is_none() && after.kept().is_some();
+    let looked = looks(alloc, rt, bench, &mut after, None, &ADDED)?;
+    bench.join(before, after);
+    Ok(kept && looked && before.kept().is_some())
 }
 
 #[test]
@@ -75,13 +113,7 @@ fn what_is_handed_out_is_kept(rt: HostRuntime) -> Result<(), Fail> {
     assert!(rt; fills(alloc, &rt, &bench, &mut pass)?);
     assert_eq!(rt; bench.seal(&rt, &mut pass), SealReply::Sealed);
     let mut before = bench.split(&mut pass)?;
-    assert!(rt; pass.kept().is_none());
-    assert!(rt; bench.store_of(alloc, &rt, &mut pass)?.is_some());
-    assert!(rt; pass.kept().is_some());
-    let mut after = bench.split(&mut pass)?;
-    assert!(rt; before.kept().is_none() && after.kept().is_some());
-    assert!(rt; looks(alloc, &rt, &bench, &mut after, None, &ADDED)?);
-    bench.join(&mut before, after);
-    assert!(rt; before.kept().is_some());
+    assert!(rt; keeps(alloc, &rt, &bench, &mut pass)?);
+    assert!(rt; hands_on(alloc, &rt, &bench, &mut pass, &mut before)?);
     Ok(())
 }
