@@ -131,29 +131,52 @@ entries-count e runs spans index was =
     let pieces = runs_by_number runs spans in
     ap length was.filed ∙ length-map pieces (filed_by index.keys) ∙ sym (length-map pieces (spelled e))
 
--- the set that runs spell is filed under the rest of what these are mixed to
+-- the set that runs spell has these runs
+pub piece-at : (e : Extent) (runs more : List Run) (spans : List Span) (index : Files) (n : ℕ)
+    → AreNumbered e runs spans index → AreRunsFrom 0 (size_of e) more
+    → slice_get (map (spelled e) (runs_by_number runs spans)) n ≡ Some (spelled e more)
+    → (n < length (runs_by_number runs spans)) × (get_or (runs_by_number runs spans) n [] ≡ more)
+piece-at e runs more spans index n was long same =
+    let pieces = runs_by_number runs spans in
+    let sets = map (spelled e) pieces in
+    let in_sets : n < length sets = slice_get_within sets n (spelled e more) same in
+    let many : n < length pieces = omega (arith, length-map pieces (spelled e)) in
+    let p = get_or pieces n [] in (
+      many,
+      sym (runs_of-spelled 0 (size_of e) p (was.longest n [] many))
+          ∙ ap (λ (s : Cells). runs_of s.indexes) (sym (get_or-map (spelled e) pieces n [] (spelled e more) many)
+          ∙ get_or_from_slice_get sets n (spelled e more) (spelled e more) same)
+          ∙ runs_of-spelled 0 (size_of e) more long,
+    )
+
+-- and is filed under the rest of what these are mixed to
 pub key-at : (e : Extent) (runs more : List Run) (spans : List Span) (index : Files) (key n : ℕ)
     → AreNumbered e runs spans index → AreRunsFrom 0 (size_of e) more → key ≡ mix_of more % index.keys
     → slice_get (map (spelled e) (runs_by_number runs spans)) n ≡ Some (spelled e more)
     → HoldsAt (λ f. f.key ≡ key) index.entries n × (n < length index.entries)
 key-at e runs more spans index key n was long under same =
     let pieces = runs_by_number runs spans in
-    let sets = map (spelled e) pieces in
-    let in_sets : n < length sets = slice_get_within sets n (spelled e more) same in
-    let many : n < length pieces = omega (arith, length-map pieces (spelled e)) in
-    let filed : n < length index.entries = omega (arith, entries-count e runs spans index was) in
-    let p = get_or pieces n [] in
-    let piece : p ≡ more =
-    sym (runs_of-spelled 0 (size_of e) p (was.longest n [] many))
-    ∙ ap (λ (s : Cells). runs_of s.indexes) (sym (get_or-map (spelled e) pieces n [] (spelled e more) many)
-    ∙ get_or_from_slice_get sets n (spelled e more) (spelled e more) same)
-    ∙ runs_of-spelled 0 (size_of e) more long in (
+    let piece = piece-at e runs more spans index n was long same in
+    let filed : n < length index.entries =
+    omega (arith, piece.0, length-map pieces (spelled e), entries-count e runs spans index was) in (
       λ d. ap (λ (es : List Filed). (get_or es n d).key) was.filed
-          ∙ ap (λ (f : Filed). f.key) (get_or-map (filed_by index.keys) pieces n [] d many)
-          ∙ ap (λ (rs : List Run). mix_of rs % index.keys) piece
+          ∙ ap (λ (f : Filed). f.key) (get_or-map (filed_by index.keys) pieces n [] d piece.0)
+          ∙ ap (λ (rs : List Run). mix_of rs % index.keys) piece.1
           ∙ sym under,
       filed,
     )
+
+-- and its entry has what they are mixed to
+pub item-at : (e : Extent) (runs more : List Run) (spans : List Span) (index : Files) (n : ℕ)
+    → AreNumbered e runs spans index → AreRunsFrom 0 (size_of e) more
+    → slice_get (map (spelled e) (runs_by_number runs spans)) n ≡ Some (spelled e more)
+    → HoldsAt (λ f. f.item ≡ mix_of more) index.entries n
+item-at e runs more spans index n was long same d =
+    let pieces = runs_by_number runs spans in
+    let piece = piece-at e runs more spans index n was long same in
+    ap (λ (es : List Filed). (get_or es n d).item) was.filed
+    ∙ ap (λ (f : Filed). f.item) (get_or-map (filed_by index.keys) pieces n [] d piece.0)
+    ∙ ap mix_of piece.1
 
 -- ---- more keys
 

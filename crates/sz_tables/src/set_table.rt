@@ -162,12 +162,24 @@ impl SetTable {
         let key = mix % self.index.keys();
         let mut next = self.index.last(key);
         while let Some(number) = next {
-            if are_same(self.runs(number), runs) {
+            if self.is_spelled(number, runs, mix) {
                 return Some(number);
             }
             next = self.index.before(number, key);
         }
         None
+    }
+
+    /// Whether the set of a number has these runs, which are mixed to this. The runs of a set that
+    /// are mixed to something else are not looked at.
+    fn is_spelled(&self, number: u32, runs: &[Run], mix: u32) -> bool
+        requires number { number < length self.now.sets }
+        requires longest { AreRunsFrom 0 (size_of self.now.extent) runs.now }
+        requires mix { mix ≡ mix_of runs.now }
+        ensures { Decides result
+            (slice_get self.now.sets number ≡ Some (spelled self.now.extent runs.now)) }
+    {
+        self.index.item(number) == mix && are_same(self.runs(number), runs)
     }
 
     /// Adds the set that has these runs, which is none of the table's. Its number is the count of

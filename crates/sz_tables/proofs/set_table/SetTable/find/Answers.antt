@@ -1,11 +1,9 @@
 -- The key idea: a set that these runs spell is filed under their key, so the walk over the entries of the key meets it.
-use Rattle.std.proofs.Common.{◌≡◌, ◌≢◌, ℕ, ◌<◌, ◌%◌, ◌∙◌, length, ap, sym, arith}
-use Rattle.std.specs.List.{flat_map}
+use Rattle.std.proofs.Common.{◌≡◌, ◌≢◌, ℕ, ◌%◌, ◌∙◌, ap, sym, arith}
+use Rattle.std.specs.List.{slice_get}
 use Rattle.std.proofs.lemmas.Bool.{false≢true}
-use Rattle.sz_cells.specs.Runs.{runs_of, indexes_of}
-use Rattle.sz_tables.specs.Rows.{set_at}
 use Rattle.sz_tables.proofs.Chained.{entry-within}
-use Rattle.sz_tables.proofs.Numbered.{last-reach, last-filed, key-at, entries-count, set-met, runs-met}
+use Rattle.sz_tables.proofs.Numbered.{last-reach, last-filed, key-at, entries-count}
 use Rattle.sz_tables.proofs.set_table.SetTable.find.Goals as goal
 
 pub loop-next-init : goal.loop-next-init
@@ -26,8 +24,8 @@ loop-next-init c =
       filed = last-filed index.entries key_now _ c.last-next.result c.last-next.ensures;
     }
 
-pub runs-requires : goal.runs-requires
-runs-requires c =
+pub is_spelled-requires-clause-number : goal.is_spelled-requires-clause-number
+is_spelled-requires-clause-number c =
     let key_now = c.args.mix % c.keys.result in
     let index = c.self.inside.index in
     let filed = rw c.in-Some.is at c.loop-next.invariant.filed in
@@ -35,19 +33,6 @@ runs-requires c =
     let count = entries-count c.self.inside.shape c.self.inside.runs.items c.self.inside.spans.items index
     c.self.invariant.0 in
     rw (← c.self.view_is) (omega (arith, many, count))
-
-pub returns-then-are_same : goal.returns-then-are_same
-returns-then-are_same c =
-    let key_now = c.args.mix % c.keys.result in
-    let index = c.self.inside.index in
-    let filed = rw c.in-Some.is at c.loop-next.invariant.filed in
-    let many = entry-within index.entries c.in-Some.number key_now filed in
-    let count = entries-count c.self.inside.shape c.self.inside.runs.items c.self.inside.spans.items index
-    c.self.invariant.0 in
-    let within : c.in-Some.number < length c.args.self.now.sets = rw (← c.self.view_is) (omega (arith, many, count)) in
-    let same : c.runs.result.now ≡ c.args.runs.now = c.are_same.ensures.0 c.if-are_same.true in
-    set-met c.args.self.now.sets c.in-Some.number c.args.self.now.extent c.args.runs.now within c.runs.ensures.extent
-    (ap (flat_map indexes_of) (sym same) ∙ c.runs.ensures.spelled.spelled)
 
 pub loop-next-preserved : goal.loop-next-preserved
 loop-next-preserved c =
@@ -63,9 +48,8 @@ loop-next-preserved c =
           c.self.invariant.0 longest key_is (rw (← c.self.view_is) at same) in
           let ahead = rw c.in-Some.is at c.loop-next.invariant.ahead n same in
           let other : n ≢ c.in-Some.number = λ here.
-          false≢true (sym c.if-are_same.false ∙ c.are_same.ensures.1 (c.runs.ensures.runs
-          ∙ ap (λ (k : ℕ). runs_of (set_at c.args.self.now.sets k).indexes) (sym here)
-          ∙ runs-met c.args.self.now.sets n c.args.self.now.extent c.args.runs.now c.requires.longest same)) in
+          false≢true (sym c.if-is_spelled.false ∙ c.is_spelled.ensures.1
+          (ap (slice_get c.args.self.now.sets) (sym here) ∙ same)) in
           last-reach index.entries key_now c.in-Some.number c.before-next.result n c.before-next.ensures key.0
           (omega (arith, ahead));
       key = c.loop-next.invariant.key;

@@ -1,0 +1,29 @@
+-- The key idea: a set that these runs spell is filed with what they are mixed to.
+use Rattle.std.proofs.Common.{◌≡◌, ◌∙◌, ap, sym}
+use Rattle.std.specs.List.{flat_map}
+use Rattle.std.proofs.lemmas.Bool.{eq-eqb, eqb-true}
+use Rattle.sz_cells.specs.Runs.{indexes_of}
+use Rattle.sz_tables.specs.Filed.{Filed}
+use Rattle.sz_tables.proofs.Numbered.{item-at, set-met, runs-met}
+use Rattle.sz_tables.proofs.set_table.SetTable.is_spelled.Goals as goal
+
+pub returns-then-item-mix : goal.returns-then-item-mix
+returns-then-item-mix c =
+    let t = c.args.self.now in (
+      λ true. let same : c.runs.result.now ≡ c.args.runs.now = c.are_same.ensures.0 true in
+          set-met t.sets c.args.number t.extent c.args.runs.now c.requires.number c.runs.ensures.extent
+          (ap (flat_map indexes_of) (sym same) ∙ c.runs.ensures.spelled.spelled),
+      λ same. c.are_same.ensures.1 (c.runs.ensures.runs
+          ∙ runs-met t.sets c.args.number t.extent c.args.runs.now c.requires.longest same),
+    )
+
+pub returns-else-item-mix : goal.returns-else-item-mix
+returns-else-item-mix c =
+    let d : Filed = record { key = 0; item = 0 } in
+    let s = c.self.inside in (
+      λ true. absurd (c.if-item-mix.false (eqb-true c.item.result c.args.mix true)),
+      λ same. eq-eqb c.item.result c.args.mix (sym (c.item.ensures d)
+          ∙ item-at s.shape s.runs.items c.args.runs.now s.spans.items s.index c.args.number c.self.invariant.0
+          (rw (← c.self.view_is) at c.requires.longest) (rw (← c.self.view_is) at same) d
+          ∙ sym c.requires.mix),
+    )
