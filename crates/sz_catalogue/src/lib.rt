@@ -1,8 +1,8 @@
 //! What a session holds: arrays and flows by name, and versions by number.
 //!
 //! A [`Catalogue`] judges a command, takes one that no rule refuses, and is read by name and by
-//! number. A start, a refresh and an await are calls of their own. [`reply_text`] writes the line of
-//! a [`Reply`].
+//! number. A start, a refresh and an await are calls of their own. [`reply_text`] writes the line
+//! of a [`Reply`].
 //!
 //! ```
 //! let mut held = Catalogue::new(alloc);

@@ -5,7 +5,7 @@ use Rattle.std.proofs.Common.{◌≡◌, ℕ, List, [], ◌∷◌, ◌++◌, Opt
 use Rattle.std.proofs.Common.{true≢false, length, get_or, codes, take, length-append}
 use Rattle.std.specs.Fmt.{digits}
 use Rattle.std.proofs.lemmas.List.Elements.{All-nil}
-use Rattle.sz_outside.specs.Outside.{Says}
+use Rattle.sz_outside.specs.Outside.{Says, SaysPart}
 use Rattle.sz_outside.specs.declared.stations.Station.{Ghosts}
 use Rattle.sz_log.specs.Log.{LogGroup, empty_log}
 use Rattle.sz_log.specs.Laws.{Reads}
@@ -19,7 +19,7 @@ use Rattle.sz_recover.proofs.RowsLogs.{empty-made, gate-bad}
 use Rattle.sz_recover.proofs.RowsSound.{held, right, wrong, sound_0, sound_1, first-is}
 use Rattle.sz_recover.proofs.OneReading.{made-whole}
 use Rattle.sz_session.specs.Checking.{sound_line, check_line, TellsLine, IsLineOf, SaysLine, IsUnlike, IsBadLog}
-use Rattle.sz_session.specs.Checking.{IfNoLog, IfBadLog, IsWellMadeLog, BeginsAsLog}
+use Rattle.sz_session.specs.Checking.{IfNoLog, IfBadLog, IsWellMadeLog, BeginsAsLog, SaysPartOfLine}
 use Rattle.sz_session.proofs.Sayings.{one-line}
 use Rattle.sz_commands.proofs.RowsLogged.{begun}
 
@@ -131,6 +131,17 @@ module _ {X : Type 0} (T : Ghosts X) (old new : X) where
   says-empty told (line, is, says) =
       subst (λ (l : List ℕ). Says (T.said old) (T.said new) l)
       (line_of-empty line (subst (λ (o : Option (List ℕ)). IsLineOf o line) told is)) says
+
+  -- and where saying failed a first part of that line, and no byte beside it
+  pub says-part_of_empty : T.disk old ≡ Some empty_log → SaysPartOfLine T old new
+      → SaysPart (T.said old) (T.said new) (sound_line 0)
+  says-part_of_empty told (line, is, says) =
+      subst (λ (l : List ℕ). SaysPart (T.said old) (T.said new) l)
+      (line_of-empty line (subst (λ (o : Option (List ℕ)). IsLineOf o line) told is)) says
+
+  pub says-part_of_none : T.disk old ≡ Some [] → SaysPartOfLine T old new → ⊥
+  says-part_of_none told (line, is, says) =
+      line_of-no_log line (subst (λ (o : Option (List ℕ)). IsLineOf o line) told is)
 
   pub unlike-log : T.disk old ≡ Some empty_log → IsUnlike T old new → ⊥
   unlike-log told is = true≢false (subst (λ (o : Option (List ℕ)). IsNoLog o) told is.0)

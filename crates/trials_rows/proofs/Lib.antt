@@ -1,0 +1,5 @@
+-- The rows, crate by crate.
+mod RowsClaims
+mod RowsShelf
+mod RowsQuery
+mod RowsRecover
