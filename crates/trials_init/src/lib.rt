@@ -5,6 +5,8 @@
 #![tactic(auto)]
 
 #[cfg(test)]
+mod ended;
+#[cfg(test)]
 mod making;
 #[cfg(test)]
 mod raising;

@@ -1,10 +1,10 @@
 //! The making of a log: on each kind of disk, and with each disk call failing in turn.
+use crate::ended::{Ended, served, station_of};
 use std::alloc::Global;
-use std::sync::{Arc, Wait};
+use std::sync::Wait;
 use std::test::Fail;
 use std::thread::Threads;
-use sz_outside::{MemStation, NoGate, SteadySource, Torn};
-use sz_session::{Status, serve};
+use sz_session::Status;
 
 /// The empty log.
 const EMPTY_LOG: &[u8] = b"\x01SubZero log 1\r\n\x00";
@@ -12,37 +12,17 @@ const EMPTY_LOG: &[u8] = b"\x01SubZero log 1\r\n\x00";
 /// Thirty bytes that are no log.
 const TEXT: &[u8] = b"thirty bytes of text, no more.";
 
-/// How a call ended, what was said, and what a stop may then leave of the disk: all that was
-/// written, and the same with each byte that is not synced 1.
-#[derive(Drop)]
-struct Outcome {
-    status: Status,
-    said: Vec<u8>,
-    read: Vec<u8>,
-    torn: Vec<u8>,
-}
-
-impl Outcome {
-    /// Whether it ended so, with these bytes said and this disk, whatever a stop leaves.
-    fn is(&self, status: Status, said: &[u8], disk: &[u8]) -> bool {
-        self.status == status
-            && self.said.as_slice() == said
-            && self.read.as_slice() == disk
-            && self.torn.as_slice() == disk
-    }
-
-    /// Whether the disk failed, nothing was said, and a stop leaves what the making of a log may.
-    fn is_cut_short(&self, old: &[u8]) -> bool {
-        self.status == Status::DiskFault
-            && self.said.as_slice().is_empty()
-            && is_making(&self.read, old)
-            && is_making(&self.torn, old)
-    }
-}
-
 /// Whether a disk is as it was, or is the empty log, or has at most 17 bytes that are no log.
 fn is_making(disk: &[u8], old: &[u8]) -> bool {
     disk == old || disk == EMPTY_LOG || (disk.len() <= 17 && disk.get(..16) != EMPTY_LOG.get(..16))
+}
+
+/// Whether the disk failed, nothing was said, and a stop leaves what the making of a log may.
+fn is_cut_short(made: &Ended, old: &[u8]) -> bool {
+    made.status == Status::DiskFault
+        && made.said.as_slice().is_empty()
+        && is_making(&made.read, old)
+        && is_making(&made.torn, old)
 }
 
 /// Makes a log on a disk. The disk calls and the says of these numbers fail.
@@ -52,24 +32,24 @@ fn make<R: Threads + Wait + Clone + Send + Sync + 'static>(
     disk: &[u8],
     disk_fails: &[u64],
     say_fails: &[u64],
-) -> Result<Outcome, Fail> {
-    let mut words = vec![in alloc; String::from_str(alloc, "init")?]?;
-    words.push(String::from_str(alloc, "log")?)?;
-    let gate = Arc::new(alloc, NoGate)?;
-    let mut source = SteadySource::new(Vec::new(alloc), 1);
-    let mut station = MemStation::new(
-        alloc,
-        disk.to_vec(alloc)?,
-        disk_fails.to_vec(alloc)?,
-        say_fails.to_vec(alloc)?,
-    )?;
-    let status = serve(rt, alloc, &words, &mut source, &mut station, &gate);
-    Ok(Outcome {
-        status,
-        said: station.said().to_vec(alloc)?,
-        read: station.image(alloc, Torn::New)?,
-        torn: station.image(alloc, Torn::Ones)?,
-    })
+) -> Result<Ended, Fail> {
+    let station = station_of(alloc, disk, disk_fails, say_fails)?;
+    served(rt, alloc, "init", station)
+}
+
+/// Whether the making of a log is cut short where the disk call of this number fails. None where
+/// that changes nothing.
+fn fails_at<R: Threads + Wait + Clone + Send + Sync + 'static>(
+    rt: &R,
+    alloc: Global,
+    disk: &[u8],
+    call: u64,
+) -> Result<Option<bool>, Fail> {
+    let made = make(rt, alloc, disk, &[call], &[])?;
+    if made.is(Status::Done, b"log ready\n", EMPTY_LOG) {
+        return Ok(None);
+    }
+    Ok(Some(is_cut_short(&made, disk)))
 }
 
 #[test]
@@ -106,11 +86,10 @@ fn a_log_that_was_made_stays_where_its_line_is_not_said(rt: HostRuntime) -> Resu
 fn a_disk_call_that_fails_leaves_no_other_log(rt: HostRuntime) -> Result<(), Fail> {
     let mut failed = 0u32;
     for call in 1u64..20 {
-        let made = make(&rt, rt.alloc(), b"old", &[call], &[])?;
-        if made.is(Status::Done, b"log ready\n", EMPTY_LOG) {
+        let Some(is_cut) = fails_at(&rt, rt.alloc(), b"old", call)? else {
             break;
-        }
-        assert!(rt; made.is_cut_short(b"old"), "disk call {call}");
+        };
+        assert!(rt; is_cut, "disk call {call}");
         failed = failed.saturating_add(1);
     }
     assert!(rt; failed > 7, "each of the making's calls failed once");

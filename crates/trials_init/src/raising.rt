@@ -1,11 +1,12 @@
 //! The raising of a log: on each kind of disk, and with each disk call failing, or being the last
 //! one, in turn.
+use crate::ended::{Ended, served, station_of};
 use std::alloc::Global;
-use std::sync::{Arc, Wait};
+use std::sync::Wait;
 use std::test::Fail;
 use std::thread::Threads;
-use sz_outside::{MemStation, NoGate, SteadySource, Torn};
-use sz_session::{Status, serve};
+use sz_outside::MemStation;
+use sz_session::Status;
 
 /// The empty log.
 const EMPTY_LOG: &[u8] = b"\x01SubZero log 1\r\n\x00";
@@ -32,49 +33,6 @@ const RAISED_TWICE: &[u8] = b"\x01SubZero log 1\r\n\
 /// The line of a log that has format 2.
 const LINE: &[u8] = b"log 2\n";
 
-/// How a call ended, what was said, and what a stop may then leave of the disk: what was there at
-/// the last sync, what is read there, and this with each byte that is not synced 1.
-#[derive(Drop)]
-struct Outcome {
-    status: Status,
-    said: Vec<u8>,
-    synced: Vec<u8>,
-    read: Vec<u8>,
-    torn: Vec<u8>,
-}
-
-impl Outcome {
-    /// Whether it ended so, with these bytes said and this disk, whatever a stop leaves.
-    fn is(&self, status: Status, said: &[u8], disk: &[u8]) -> bool {
-        self.status == status
-            && self.said.as_slice() == said
-            && self.synced.as_slice() == disk
-            && self.read.as_slice() == disk
-            && self.torn.as_slice() == disk
-    }
-}
-
-/// Raises the log of a station.
-fn raise_on<R: Threads + Wait + Clone + Send + Sync + 'static>(
-    rt: &R,
-    alloc: Global,
-    station: MemStation,
-) -> Result<Outcome, Fail> {
-    let mut words = vec![in alloc; String::from_str(alloc, "upgrade")?]?;
-    words.push(String::from_str(alloc, "log")?)?;
-    let gate = Arc::new(alloc, NoGate)?;
-    let mut source = SteadySource::new(Vec::new(alloc), 1);
-    let mut station = station;
-    let status = serve(rt, alloc, &words, &mut source, &mut station, &gate);
-    Ok(Outcome {
-        status,
-        said: station.said().to_vec(alloc)?,
-        synced: station.image(alloc, Torn::Old)?,
-        read: station.image(alloc, Torn::New)?,
-        torn: station.image(alloc, Torn::Ones)?,
-    })
-}
-
 /// Raises the log on a disk. The disk calls and the says of these numbers fail.
 fn raise<R: Threads + Wait + Clone + Send + Sync + 'static>(
     rt: &R,
@@ -82,14 +40,9 @@ fn raise<R: Threads + Wait + Clone + Send + Sync + 'static>(
     disk: &[u8],
     disk_fails: &[u64],
     say_fails: &[u64],
-) -> Result<Outcome, Fail> {
-    let station = MemStation::new(
-        alloc,
-        disk.to_vec(alloc)?,
-        disk_fails.to_vec(alloc)?,
-        say_fails.to_vec(alloc)?,
-    )?;
-    raise_on(rt, alloc, station)
+) -> Result<Ended, Fail> {
+    let station = station_of(alloc, disk, disk_fails, say_fails)?;
+    served(rt, alloc, "upgrade", station)
 }
 
 /// Whether a disk is one of the two logs: up to its first closed gate it is the old one, or it is
@@ -110,7 +63,7 @@ fn is_either<R: Threads + Wait + Clone + Send + Sync + 'static>(
 fn is_cut_short<R: Threads + Wait + Clone + Send + Sync + 'static>(
     rt: &R,
     alloc: Global,
-    cut: &Outcome,
+    cut: &Ended,
     old: &[u8],
     raised: &[u8],
 ) -> Result<bool, Fail> {
@@ -120,6 +73,22 @@ fn is_cut_short<R: Threads + Wait + Clone + Send + Sync + 'static>(
         }
     }
     Ok(cut.status == Status::DiskFault && cut.said.as_slice().is_empty())
+}
+
+/// Whether the raising of a log on a station is cut short. None where it ends as if all calls were
+/// done.
+fn fails_on<R: Threads + Wait + Clone + Send + Sync + 'static>(
+    rt: &R,
+    alloc: Global,
+    station: MemStation,
+    old: &[u8],
+    raised: &[u8],
+) -> Result<Option<bool>, Fail> {
+    let cut = served(rt, alloc, "upgrade", station)?;
+    if cut.is(Status::Done, LINE, raised) {
+        return Ok(None);
+    }
+    Ok(Some(is_cut_short(rt, alloc, &cut, old, raised)?))
 }
 
 #[test]
@@ -164,14 +133,11 @@ fn a_disk_call_that_fails_leaves_either_log(rt: HostRuntime) -> Result<(), Fail>
     for (old, raised) in [(EMPTY_LOG, RAISED_LOG), (ARRAY_LOG, RAISED_ARRAY_LOG)] {
         let mut failed = 0u32;
         for call in 1u64..40 {
-            let cut = raise(&rt, alloc, old, &[call], &[])?;
-            if cut.is(Status::Done, LINE, raised) {
+            let station = station_of(alloc, old, &[call], &[])?;
+            let Some(is_cut) = fails_on(&rt, alloc, station, old, raised)? else {
                 break;
-            }
-            assert!(rt;
-                is_cut_short(&rt, alloc, &cut, old, raised)?,
-                "disk call {call}"
-            );
+            };
+            assert!(rt; is_cut, "disk call {call}");
             failed = failed.saturating_add(1);
         }
         assert!(rt; failed > 7, "each of the raising's calls failed once");
@@ -187,14 +153,10 @@ fn a_stop_behind_each_disk_call_leaves_either_log(rt: HostRuntime) -> Result<(),
         let mut stopped = 0u32;
         for calls in 0u64..40 {
             let station = MemStation::stopped(alloc, old.to_vec(alloc)?, calls)?;
-            let cut = raise_on(&rt, alloc, station)?;
-            if cut.is(Status::Done, LINE, raised) {
+            let Some(is_cut) = fails_on(&rt, alloc, station, old, raised)? else {
                 break;
-            }
-            assert!(rt;
-                is_cut_short(&rt, alloc, &cut, old, raised)?,
-                "behind {calls} calls"
-            );
+            };
+            assert!(rt; is_cut, "behind {calls} calls");
             stopped = stopped.saturating_add(1);
         }
         assert!(rt;

@@ -1,16 +1,16 @@
 //! Sessions of a log of one version, with a store that stands for the relation and with one that
 //! does not: each answers by the store, and none is made again.
-ghost use Rattle.std.specs.Prelude.{IfOk};
+ghost use Rattle.std.specs.Prelude.{IfOk, true, ◌≡◌};
 ghost use Rattle.sz_commands.specs.Logged.{HasLog};
 
 use std::alloc::Global;
 use std::sync::Wait;
 use std::test::Fail;
 use std::thread::Threads;
-use sz_catalogue::reply_text;
+use sz_catalogue::{Reply, reply_text};
 use sz_outside::{MemStation, NoGate, Station};
 use sz_recover::{Recovered, catalogue_of};
-use sz_session::Session;
+use sz_session::{Session, Stop};
 use sz_spec::Tally;
 
 /// The first bytes of a log.
@@ -56,22 +56,33 @@ const REFRESH: &[u8] = br#"{"refresh":1,"input":0,"set":[[0,0,7]]}"#;
 
 /// Appends a group with its gate open.
 fn put_group(disk: &mut Vec<u8>, kind: u8, body: &[u8]) -> Result<(), Fail> {
-    disk.push(1)?;
-    disk.push(kind)?;
+    disk.extend_from_slice(&[1, kind])?;
     disk.extend_from_slice(&(body.len() as u64).to_be_bytes())?;
     disk.extend_from_slice(body)?;
     Ok(())
 }
 
-/// A station with a log that holds the array, the flow and the version with a store.
-fn station_with(alloc: Global, store: &[u8]) -> Result<MemStation, Fail> {
+/// The version with a store.
+fn version_with(alloc: Global, store: &[u8]) -> Result<Vec<u8>, Fail> {
     let mut body = Vec::from_slice(alloc, &HEAD)?;
     body.extend_from_slice(store)?;
+    Ok(body)
+}
+
+/// A log that holds the array, the flow and this version.
+fn disk_with(alloc: Global, version: &[u8]) -> Result<Vec<u8>, Fail> {
     let mut disk = Vec::from_slice(alloc, &HEADER)?;
     put_group(&mut disk, 1, ARRAY)?;
     put_group(&mut disk, 2, FLOW)?;
-    put_group(&mut disk, 4, &body)?;
+    put_group(&mut disk, 4, version)?;
     disk.push(0)?;
+    Ok(disk)
+}
+
+/// A station with a log that holds the array, the flow and the version with a store.
+fn station_with(alloc: Global, store: &[u8]) -> Result<MemStation, Fail> {
+    let version = version_with(alloc, store)?;
+    let disk = disk_with(alloc, &version)?;
     Ok(MemStation::new(alloc, disk, Vec::new(alloc), Vec::new(alloc))?)
 }
 
@@ -93,118 +104,153 @@ fn opened<T: Station, R: Threads + Sync>(
     Ok(Session::of_log(rt, alloc, recovered, 1, 1)?)
 }
 
+/// Whether a session does what a line orders.
+fn is_taken<T: Station, R: Threads + Wait + Sync>(
+    rt: &R,
+    session: &mut Session,
+    line: &[u8],
+    station: &mut T,
+) -> bool
+    requires { HasLog T.Station session.old.held session.old.end station.old }
+    ensures { result ≡ true → HasLog T.Station session.new.held session.new.end station.new }
+{
+    let mut tally = Tally::new();
+    session
+        .command(rt, line, 1, station, &NoGate, &mut tally)
+        .is_ok()
+}
+
+/// The text of what a session gave for a line; none where it has no reply or stopped.
+fn text_of(alloc: Global, given: &Result<Option<Reply>, Stop>) -> Result<Vec<u8>, Fail> {
+    match given {
+        Ok(Some(reply)) => Ok(reply_text(alloc, 1, reply)?),
+        Ok(None) => Err(Fail::from("no reply")),
+        Err(_) => Err(Fail::from("stopped")),
+    }
+}
+
+/// The reply of a session to a line, and how many cells are counted for it.
+fn reply_to<T: Station, R: Threads + Wait + Sync>(
+    rt: &R,
+    alloc: Global,
+    session: &mut Session,
+    line: &[u8],
+    station: &mut T,
+) -> Result<(Vec<u8>, u64), Fail>
+    requires { HasLog T.Station session.old.held session.old.end station.old }
+{
+    let mut tally = Tally::new();
+    let given = session.command(rt, line, 1, station, &NoGate, &mut tally);
+    let count = tally.count();
+    Ok((text_of(alloc, &given)?, count))
+}
+
+/// The same behind another line.
+fn reply_behind<T: Station, R: Threads + Wait + Sync>(
+    rt: &R,
+    alloc: Global,
+    session: &mut Session,
+    lines: [&[u8]; 2],
+    station: &mut T,
+) -> Result<(Vec<u8>, u64), Fail>
+    requires { HasLog T.Station session.old.held session.old.end station.old }
+{
+    let [before, line] = lines;
+    if !is_taken(rt, session, before, station) {
+        return Err(Fail::from("stopped at once"));
+    }
+    reply_to(rt, alloc, session, line, station)
+}
+
 /// The reply to the second of two lines in a session of the station's log, and how many cells are
 /// counted for it.
 fn reply_on<T: Station, R: Threads + Wait + Sync>(
     rt: &R,
     alloc: Global,
     station: &mut T,
-    before: &[u8],
-    line: &[u8],
+    lines: [&[u8]; 2],
 ) -> Result<(Vec<u8>, u64), Fail> {
     let mut session = opened(rt, alloc, station)?;
-    let mut tally = Tally::new();
-    if session
-        .command(rt, before, 1, station, &NoGate, &mut tally)
-        .is_err()
-    {
-        return Err(Fail::from("stopped at once"));
-    }
-    let mut tally = Tally::new();
-    let Ok(reply) = session.command(rt, line, 1, station, &NoGate, &mut tally) else {
-        return Err(Fail::from("stopped"));
-    };
-    let Some(reply) = reply else {
-        return Err(Fail::from("no reply"));
-    };
-    Ok((reply_text(alloc, 1, &reply)?, tally.count()))
+    reply_behind(rt, alloc, &mut session, lines, station)
 }
 
-/// The reply to a line in a session of the log with this store, for which no cell is counted.
-fn reply<R: Threads + Wait + Sync>(
+/// Whether this is the reply to the second of two lines in a session of the log with this store,
+/// and so many cells are counted for it.
+fn is_told<R: Threads + Wait + Sync>(
     rt: &R,
     alloc: Global,
     store: &[u8],
-    line: &[u8],
-) -> Result<Vec<u8>, Fail> {
-    reply_behind(rt, alloc, store, b"", line)
-}
-
-/// The same, behind another line.
-fn reply_behind<R: Threads + Wait + Sync>(
-    rt: &R,
-    alloc: Global,
-    store: &[u8],
-    before: &[u8],
-    line: &[u8],
-) -> Result<Vec<u8>, Fail> {
+    lines: [&[u8]; 2],
+    told: &[u8],
+    counted: u64,
+) -> Result<bool, Fail> {
     let mut station = station_with(alloc, store)?;
-    let (text, count) = reply_on(rt, alloc, &mut station, before, line)?;
-    if count != 0 {
-        return Err(Fail::from("traced"));
-    }
-    Ok(text)
+    let (text, count) = reply_on(rt, alloc, &mut station, lines)?;
+    Ok(text.as_slice() == told && count == counted)
+}
+
+/// Whether this is the reply to a line in a session of the log with this store, and no cell is
+/// counted for it.
+fn is_reply<R: Threads + Wait + Sync>(
+    rt: &R,
+    alloc: Global,
+    store: &[u8],
+    line: &[u8],
+    told: &[u8],
+) -> Result<bool, Fail> {
+    is_told(rt, alloc, store, [b"", line], told, 0)
 }
 
 #[test]
 fn a_true_store_answers_the_relation(rt: HostRuntime) -> Result<(), Fail> {
-    let told = reply(&rt, rt.alloc(), &TRUE_STORE, ASK)?;
-    assert!(rt; told.as_slice() == b"1 cells 1 0,0\n".as_slice());
+    assert!(rt; is_reply(&rt, rt.alloc(), &TRUE_STORE, ASK, b"1 cells 1 0,0\n")?);
     Ok(())
 }
 
 #[test]
 fn a_store_of_nothing_answers_nothing(rt: HostRuntime) -> Result<(), Fail> {
-    let told = reply(&rt, rt.alloc(), &EMPTY_STORE, ASK)?;
-    assert!(rt; told.as_slice() == b"1 cells 0\n".as_slice());
+    assert!(rt; is_reply(&rt, rt.alloc(), &EMPTY_STORE, ASK, b"1 cells 0\n")?);
     Ok(())
 }
 
 #[test]
 fn the_way_is_the_store_whatever_it_stands_for(rt: HostRuntime) -> Result<(), Fail> {
-    let told = reply(&rt, rt.alloc(), &EMPTY_STORE, EXPLAIN)?;
-    assert!(rt; told.as_slice() == b"1 explain full_one_b traced 0\n".as_slice());
+    let told = b"1 explain full_one_b traced 0\n";
+    assert!(rt; is_reply(&rt, rt.alloc(), &EMPTY_STORE, EXPLAIN, told)?);
     Ok(())
 }
 
 #[test]
 fn values_are_computed_again(rt: HostRuntime) -> Result<(), Fail> {
-    let told = reply(&rt, rt.alloc(), &EMPTY_STORE, SHOW)?;
-    assert!(rt; told.as_slice() == b"1 values 1 1 -5\n".as_slice());
+    assert!(rt; is_reply(&rt, rt.alloc(), &EMPTY_STORE, SHOW, b"1 values 1 1 -5\n")?);
     Ok(())
 }
 
 #[test]
 fn a_version_of_a_log_is_awaited_already(rt: HostRuntime) -> Result<(), Fail> {
-    let told = reply(&rt, rt.alloc(), &TRUE_STORE, AWAIT)?;
-    assert!(rt; told.as_slice() == b"1 done 1\n".as_slice());
+    assert!(rt; is_reply(&rt, rt.alloc(), &TRUE_STORE, AWAIT, b"1 done 1\n")?);
     Ok(())
 }
 
 #[test]
 fn no_merge_of_a_version_of_a_log_was_asked(rt: HostRuntime) -> Result<(), Fail> {
-    let told = reply(&rt, rt.alloc(), &TRUE_STORE, MERGED)?;
-    assert!(rt; told.as_slice() == b"1 refused 25\n".as_slice());
+    assert!(rt; is_reply(&rt, rt.alloc(), &TRUE_STORE, MERGED, b"1 refused 25\n")?);
     Ok(())
 }
 
 #[test]
 fn kinds_are_those_of_the_store_whatever_it_stands_for(rt: HostRuntime) -> Result<(), Fail> {
     let alloc = rt.alloc();
-    let told = reply_behind(&rt, alloc, &TRUE_STORE, MERGE, MERGED)?;
-    assert!(rt; told.as_slice() == b"1 merged 1 1\n".as_slice());
-    let told = reply_behind(&rt, alloc, &EMPTY_STORE, MERGE, MERGED)?;
-    assert!(rt; told.as_slice() == b"1 merged 1 0\n".as_slice());
+    let lines = [MERGE, MERGED];
+    assert!(rt; is_told(&rt, alloc, &TRUE_STORE, lines, b"1 merged 1 1\n", 0)?);
+    assert!(rt; is_told(&rt, alloc, &EMPTY_STORE, lines, b"1 merged 1 0\n", 0)?);
     Ok(())
 }
 
 /// The one cell that a set cell reaches is counted, and nothing is taken from the store.
 #[test]
 fn a_version_of_a_log_is_refreshed_by_the_relation(rt: HostRuntime) -> Result<(), Fail> {
-    let alloc = rt.alloc();
-    let mut station = station_with(alloc, &EMPTY_STORE)?;
-    let (told, count) = reply_on(&rt, alloc, &mut station, b"", REFRESH)?;
-    assert!(rt; told.as_slice() == b"1 refreshed 2 cells 1\n".as_slice());
-    assert_eq!(rt; count, 1);
+    let told = b"1 refreshed 2 cells 1\n";
+    assert!(rt; is_told(&rt, rt.alloc(), &EMPTY_STORE, [b"", REFRESH], told, 1)?);
     Ok(())
 }

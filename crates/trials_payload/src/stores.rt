@@ -99,32 +99,48 @@ fn is_default(alloc: Global, store: &NodeStore) -> Result<bool, Fail>
     )
 }
 
+/// Whether each piece is placed once, and the store is whole when both are, and answers by default.
+fn takes_each_once(alloc: Global, store: &mut NodeStore) -> Result<bool, Fail>
+    requires out { store.old.site.out ≡ flat 1 65 }
+    requires ins { store.old.site.ins ≡ flat 1 65 ∷ [] }
+    requires list { store.old.list
+        ≡ strategy.FullManyF ∷ strategy.BlackBox ∷ strategy.CompOne ∷ [] }
+{
+    let once = place_none(alloc, store, 1)? && !place_none(alloc, store, 1)?;
+    let in_part = store.missing() == 0 && !store.is_whole();
+    let last = place_none(alloc, store, 0)?;
+    let whole = store.missing() == 2 && store.is_whole();
+    Ok(once && in_part && last && whole && is_default(alloc, store)?)
+}
+
 #[test]
 fn each_piece_is_placed_once(rt: HostRuntime) -> Result<(), Fail> {
     let alloc = rt.alloc();
     let mut store = empty(alloc)?;
-    assert!(rt; place_none(alloc, &mut store, 1)?);
-    assert!(rt; !place_none(alloc, &mut store, 1)?);
-    assert_eq!(rt; store.missing(), 0);
-    assert!(rt; !store.is_whole());
-    assert!(rt; place_none(alloc, &mut store, 0)?);
-    assert_eq!(rt; store.missing(), 2);
-    assert!(rt; store.is_whole());
-    assert!(rt; is_default(alloc, &store)?);
+    assert!(rt; takes_each_once(alloc, &mut store)?);
     Ok(())
+}
+
+/// Appends the bytes that the empty stores write.
+fn put(alloc: Global, to: &mut Vec<u8>) -> Result<(), Fail> {
+    Ok(empty(alloc)?.put_bytes(to)?)
+}
+
+/// Whether stores that begin at place 1 of these bytes, and end at this one, are whole and answer
+/// by default.
+fn is_read(alloc: Global, bytes: &[u8], end: u64) -> Result<bool, Fail> {
+    let (again, next) = NodeStore::take_bytes(alloc, sample(alloc)?, &LIST, bytes, 1)?;
+    Ok(next == end && again.is_whole() && is_default(alloc, &again)?)
 }
 
 #[test]
 fn what_is_written_is_read_again(rt: HostRuntime) -> Result<(), Fail> {
     let alloc = rt.alloc();
     let mut bytes = vec![in alloc; 7u8]?;
-    empty(alloc)?.put_bytes(&mut bytes)?;
+    put(alloc, &mut bytes)?;
     let end = bytes.len() as u64;
     bytes.push(9)?;
-    let (again, next) = NodeStore::take_bytes(alloc, sample(alloc)?, &LIST, &bytes, 1)?;
-    assert_eq!(rt; next, end);
-    assert!(rt; again.is_whole());
-    assert!(rt; is_default(alloc, &again)?);
+    assert!(rt; is_read(alloc, &bytes, end)?);
     Ok(())
 }
 

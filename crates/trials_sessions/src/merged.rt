@@ -1,18 +1,17 @@
 //! Sessions in which the stores of a version are merged: each row is a text and the replies that
 //! are said of it.
 
-use crate::rows::says;
+use crate::rows::{Row, first_other};
 use std::test::Fail;
 
 #[test]
 fn merged_versions_say_their_replies(rt: HostRuntime) -> Result<(), Fail> {
-    let alloc = rt.alloc();
-    assert!(rt; says(&rt, alloc, BESIDE, BESIDE_REPLIES)?, "the row BESIDE");
-    assert!(rt; says(&rt, alloc, KINDS, KINDS_REPLIES)?, "the row KINDS");
-    assert!(rt;
-        says(&rt, alloc, REFRESHED, REFRESHED_REPLIES)?,
-        "the row REFRESHED"
-    );
+    let rows: [Row; 3] = [
+        ("BESIDE", BESIDE, BESIDE_REPLIES),
+        ("KINDS", KINDS, KINDS_REPLIES),
+        ("REFRESHED", REFRESHED, REFRESHED_REPLIES),
+    ];
+    assert_eq!(rt; first_other(&rt, rt.alloc(), &rows)?, None);
     Ok(())
 }
 

@@ -1,19 +1,18 @@
 //! Sessions in which a version is refreshed: each row is a text and the replies that are said of
 //! it.
 
-use crate::rows::says;
+use crate::rows::{Row, first_other};
 use std::test::Fail;
 
 #[test]
 fn refreshed_versions_say_their_replies(rt: HostRuntime) -> Result<(), Fail> {
-    let alloc = rt.alloc();
-    assert!(rt; says(&rt, alloc, SET, SET_REPLIES)?, "the row SET");
-    assert!(rt; says(&rt, alloc, JOINED, JOINED_REPLIES)?, "the row JOINED");
-    assert!(rt;
-        says(&rt, alloc, IN_LAYERS, IN_LAYERS_REPLIES)?,
-        "the row IN_LAYERS"
-    );
-    assert!(rt; says(&rt, alloc, OF_TWO, OF_TWO_REPLIES)?, "the row OF_TWO");
+    let rows: [Row; 4] = [
+        ("SET", SET, SET_REPLIES),
+        ("JOINED", JOINED, JOINED_REPLIES),
+        ("IN_LAYERS", IN_LAYERS, IN_LAYERS_REPLIES),
+        ("OF_TWO", OF_TWO, OF_TWO_REPLIES),
+    ];
+    assert_eq!(rt; first_other(&rt, rt.alloc(), &rows)?, None);
     Ok(())
 }
 

@@ -6,43 +6,43 @@ use std::sync::Wait;
 use std::test::Fail;
 use std::thread::Threads;
 
-/// Whether a session of this text is done, and says these replies.
-pub fn says<R: Threads + Wait + Clone + Send + Sync + 'static>(
+/// A session: its name, its text and the replies that are said of it.
+pub type Row = (&'static str, &'static [u8], &'static [u8]);
+
+/// The name of the first of these sessions that says other replies, if any does.
+pub fn first_other<R: Threads + Wait + Clone + Send + Sync + 'static>(
     rt: &R,
     alloc: Global,
-    text: &[u8],
-    replies: &[u8],
-) -> Result<bool, Fail> {
-    let played = session(rt, alloc, text.to_vec(alloc)?, 65_536, &[], &[])?;
-    Ok(played.is_done(replies))
+    rows: &[Row],
+) -> Result<Option<&'static str>, Fail> {
+    for row in rows {
+        let played = session(rt, alloc, row.1.to_vec(alloc)?, 65_536, &[], &[])?;
+        if !played.is_done(row.2) {
+            return Ok(Some(row.0));
+        }
+    }
+    Ok(None)
 }
 
 #[test]
 fn sessions_say_their_replies(rt: HostRuntime) -> Result<(), Fail> {
-    let alloc = rt.alloc();
-    assert!(rt; says(&rt, alloc, MOVED, MOVED_REPLIES)?, "the row MOVED");
-    assert!(rt; says(&rt, alloc, FOLDED, FOLDED_REPLIES)?, "the row FOLDED");
-    assert!(rt;
-        says(&rt, alloc, NEIGHBOURS, NEIGHBOURS_REPLIES)?,
-        "the row NEIGHBOURS"
-    );
-    assert!(rt;
-        says(&rt, alloc, TWO_INPUTS, TWO_INPUTS_REPLIES)?,
-        "the row TWO_INPUTS"
-    );
-    assert!(rt;
-        says(&rt, alloc, REFUSED, REFUSED_REPLIES)?,
-        "the row REFUSED"
-    );
-    assert!(rt; says(&rt, alloc, LAYERS, LAYERS_REPLIES)?, "the row LAYERS");
-    assert!(rt; says(&rt, alloc, ASKED, ASKED_REPLIES)?, "the row ASKED");
-    assert!(rt; says(&rt, alloc, NAMED, NAMED_REPLIES)?, "the row NAMED");
-    assert!(rt; says(&rt, alloc, TURNED, TURNED_REPLIES)?, "the row TURNED");
-    assert!(rt; says(&rt, alloc, APART, APART_REPLIES)?, "the row APART");
-    assert!(rt; says(&rt, alloc, STORED, STORED_REPLIES)?, "the row STORED");
-    assert!(rt; says(&rt, alloc, LISTED, LISTED_REPLIES)?, "the row LISTED");
-    assert!(rt; says(&rt, alloc, UNEVEN, UNEVEN_REPLIES)?, "the row UNEVEN");
-    assert!(rt; says(&rt, alloc, b"", b"")?);
+    let rows: [Row; 14] = [
+        ("MOVED", MOVED, MOVED_REPLIES),
+        ("FOLDED", FOLDED, FOLDED_REPLIES),
+        ("NEIGHBOURS", NEIGHBOURS, NEIGHBOURS_REPLIES),
+        ("TWO_INPUTS", TWO_INPUTS, TWO_INPUTS_REPLIES),
+        ("REFUSED", REFUSED, REFUSED_REPLIES),
+        ("LAYERS", LAYERS, LAYERS_REPLIES),
+        ("ASKED", ASKED, ASKED_REPLIES),
+        ("NAMED", NAMED, NAMED_REPLIES),
+        ("TURNED", TURNED, TURNED_REPLIES),
+        ("APART", APART, APART_REPLIES),
+        ("STORED", STORED, STORED_REPLIES),
+        ("LISTED", LISTED, LISTED_REPLIES),
+        ("UNEVEN", UNEVEN, UNEVEN_REPLIES),
+        ("EMPTY", b"", b""),
+    ];
+    assert_eq!(rt; first_other(&rt, rt.alloc(), &rows)?, None);
     Ok(())
 }
 
