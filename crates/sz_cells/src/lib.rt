@@ -39,7 +39,7 @@ ghost use Rattle.sz_cells.specs.Extent.{cell_in};
 
 pub use cell_bits::CellBits;
 pub use cell_set::CellSet;
-pub use spelling::add_run;
+pub use spelling::{add_run, bounds_with_run};
 use std::alloc::{AllocError, AllocFailed};
 use std::marker::Model;
 

@@ -96,8 +96,8 @@ pub(crate) fn is_left_next(left: &[Run], right: &[Run], from_left: usize, from_r
         && (from_right >= right.len() || left[from_left].first <= right[from_right].first)
 }
 
-/// A rectangle made so wide that it has the cells of a run.
-pub(crate) fn bounds_with_run(shape: &Shape, bounds: Bounds, run: Run) -> Bounds
+/// A rectangle made so wide that it has the cells of a run of a shape. Takes no memory.
+pub fn bounds_with_run(shape: &Shape, bounds: Bounds, run: Run) -> Bounds
     requires order { run.first ≤ run.last }
     requires within { run.last < size_of shape.now }
     ensures { result ≡ fold (λ b k. bounds_with b (cell_of shape.now k)) bounds (indexes_of run) }

@@ -2,3 +2,4 @@
 mod Rounded
 mod Looked
 mod Indexing
+mod Filing

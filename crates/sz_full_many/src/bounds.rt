@@ -6,8 +6,9 @@ ghost use Rattle.sz_cells.specs.declared.Cell.{Cell};
 ghost use Rattle.sz_cells.specs.Cells.{has};
 ghost use Rattle.sz_cells.specs.Laws.{IsInBounds};
 ghost use Rattle.sz_rtree.specs.Rectangles.{Rectangles};
-ghost use Rattle.sz_full_many.specs.Indexed.{HasNext, trees_for};
-ghost use Rattle.sz_tables.specs.Scans.{near_set};
+ghost use Rattle.sz_full_many.specs.Indexed.{HasNext, trees_for, AreRound};
+ghost use Rattle.sz_tables.specs.Rows.{pairings};
+ghost use Rattle.sz_tables.specs.Scans.{near_set, pairing_at};
 ghost use Rattle.sz_tables.specs.Sets.{IsRound};
 
 use std::alloc::Global;
@@ -15,7 +16,7 @@ use sz_cells::{Bounds, Cell, CellBits, NoMemory};
 use sz_frame::Region;
 use sz_rtree::RTree;
 use sz_spec::Dir;
-use sz_tables::bounds_of_set;
+use sz_tables::{RegionTable, bounds_of_set};
 
 /// The trees of a store without a region pair.
 pub(crate) fn empty_trees(alloc: Global, dir: Dir, inputs: usize) -> Result<Vec<RTree>, NoMemory>
@@ -32,6 +33,55 @@ pub(crate) fn empty_trees(alloc: Global, dir: Dir, inputs: usize) -> Result<Vec<
         trees.push(RTree::new(alloc)?)?;
     }
     Ok(trees)
+}
+
+/// The trees of the region pairs of a table.
+pub(crate) fn trees_of(
+    alloc: Global,
+    dir: Dir,
+    table: &RegionTable,
+    inputs: u32,
+) -> Result<Vec<RTree>, NoMemory>
+    requires { inputs ≡ length table.now.ins }
+    ensures count { IfOk result (λ v. length v.items ≡ trees_for dir inputs) }
+    ensures round { IfOk result (λ v. (i : ℕ) (d : Rectangles) → i < length v.items
+        → AreRound dir i (pairings table.now) (slice_index_or v.items i d).rectangles) }
+{
+    let count = match dir {
+        Dir::Back => 1,
+        Dir::Forward => inputs,
+    };
+    let mut trees = Vec::new(alloc);
+    for input in 0..count {
+        trees.push(tree_of(alloc, dir, table, input)?)?;
+    }
+    Ok(trees)
+}
+
+/// The tree of the rectangles round the sets of a table's region pairs from which a look over an
+/// input starts.
+fn tree_of(alloc: Global, dir: Dir, table: &RegionTable, input: u32) -> Result<RTree, NoMemory>
+    requires { input < trees_for dir (length table.now.ins) }
+    ensures { IfOk result (λ t. AreRound dir input (pairings table.now) t.rectangles) }
+{
+    let mut tree = RTree::new(alloc)?;
+    tree.reserve(table.len())?;
+    for row in 0..table.len() {
+        tree.insert(row_bounds(dir, table, input, row));
+    }
+    Ok(tree)
+}
+
+/// A rectangle round the set of a row from which a look over an input starts.
+fn row_bounds(dir: Dir, table: &RegionTable, input: u32, row: u32) -> Bounds
+    requires input { input < trees_for dir (length table.now.ins) }
+    requires row { row < length table.now.rows }
+    ensures { IsRound result (near_set dir input (pairing_at table.now row)) }
+{
+    match dir {
+        Dir::Back => table.out_bounds(row),
+        Dir::Forward => table.in_bounds(input, row),
+    }
 }
 
 /// Makes room for so many more rectangles in each tree.

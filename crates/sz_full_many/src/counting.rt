@@ -2,12 +2,12 @@
 
 ghost use Rattle.std.specs.Prelude.{◌≡◌, ◌≤◌, ◌*◌, ◌+◌, length, map, sum_by, All};
 ghost use Rattle.std.specs.Arc.{arc_value};
-ghost use Rattle.sz_tables.specs.Rows.{runs_in, weight_of};
+ghost use Rattle.sz_tables.specs.Rows.{weight_of};
 ghost use Rattle.sz_tables.specs.Stores.{cells_in, most_given};
 
 use std::sync::Arc;
 use sz_frame::Region;
-use sz_tables::runs_of_set;
+use sz_tables::runs_of_region;
 
 /// How many runs the sets of all these region pairs have.
 pub(crate) fn runs_of_all(regions: &[Arc<Region>]) -> usize
@@ -19,21 +19,7 @@ pub(crate) fn runs_of_all(regions: &[Arc<Region>]) -> usize
 {
     let mut runs = 0;
     for region in regions {
-        runs += runs_of(region);
-    }
-    runs
-}
-
-/// How many runs the sets of a region pair have.
-fn runs_of(region: &Region) -> usize
-    requires { length region.now.ins ≤ 2 }
-    ensures runs { result ≡ weight_of region.now }
-    ensures few { result ≤ 3145728 }
-    ensures cells { cells_in region.now.out + sum_by cells_in region.now.ins ≤ result * 1048576 }
-{
-    let mut runs = runs_of_set(&region.out);
-    for set in region.ins.as_slice() {
-        runs += runs_of_set(set);
+        runs += runs_of_region(region);
     }
     runs
 }

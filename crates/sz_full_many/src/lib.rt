@@ -32,7 +32,7 @@ ghost use Rattle.sz_spec.specs.Sides.{near_side, far_side, image_in};
 ghost use Rattle.sz_frame.specs.Stands.{full_stands};
 ghost use Rattle.sz_region.specs.FullBytes.{Listed, IsFullWord, BeginsRegions};
 ghost use Rattle.sz_region.specs.Stores.{SaysNoRegions};
-ghost use Rattle.sz_tables.specs.Rows.{weight_of};
+ghost use Rattle.sz_tables.specs.Rows.{weight_of, pairings};
 ghost use Rattle.sz_tables.specs.Tables.{AreDifferent};
 ghost use Rattle.sz_tables.specs.Stores.{IsPairOf, IsWithin, room_for_pairs, no_room, most_given};
 
@@ -40,7 +40,7 @@ mod bounds;
 mod counting;
 mod looking;
 
-use crate::bounds::{add_bounds, empty_trees, reserve_trees};
+use crate::bounds::{add_bounds, empty_trees, reserve_trees, trees_of};
 use crate::counting::runs_of_all;
 use crate::looking::{look, tree_for};
 use std::alloc::Global;
@@ -48,7 +48,7 @@ use std::marker::Model;
 use std::sync::Arc;
 use sz_cells::{CellBits, NoMemory};
 use sz_frame::{PieceLineage, Region};
-use sz_region::{Take, take_regions};
+use sz_region::Take;
 use sz_rtree::RTree;
 use sz_spec::{Dir, OpAt};
 use sz_tables::RegionTable;
@@ -224,8 +224,7 @@ impl FullMany {
     /// The store of the region pairs whose bytes begin at a place, and the place behind them.
     /// `Take::Bad` exactly where none begin there.
     ///
-    /// Costs by the bytes that it reads, and by the runs of the sets of all region pairs. The store
-    /// has room for each different set once, and for the sets of one region pair more.
+    /// Costs by the bytes that it reads. The store has each different set once.
     pub fn take_bytes(
         alloc: Global,
         at: Arc<OpAt>,
@@ -240,42 +239,31 @@ impl FullMany {
         ensures err { let s = arc_value at in IfErr result
             (λ e. SaysNoRegions s.out s.ins bytes.now from e) }
     {
-        let (regions, next) = take_regions(alloc, at.out(), at.ins(), bytes, from)?;
-        let store = FullMany::of_regions(alloc, at, dir, &regions)?;
+        let (table, next) = RegionTable::take_bytes(alloc, at.out(), at.ins(), bytes, from)?;
+        let store = FullMany::of_table(alloc, at, dir, table)?;
         Ok((store, next))
     }
 
-    /// The store of these region pairs. The room for each is made when those before it are added,
-    /// so a set that many of them share is counted once.
-    fn of_regions(
+    /// The store of the region pairs of a table between the operator's shapes.
+    ///
+    /// Costs a visit to the runs of the sets of each region pair from which a look starts.
+    pub fn of_table(
         alloc: Global,
         at: Arc<OpAt>,
         dir: Dir,
-        regions: &[Arc<Region>],
+        table: RegionTable,
     ) -> Result<FullMany, NoMemory>
-        requires few { length regions.now ≤ most_given }
-        requires pairs { All (IsPairOf (arc_value at)) (map (λ a. arc_value a) regions.now) }
-        ensures given { IfOk result (λ s. s.given ≡ map (λ a. arc_value a) regions.now) }
+        requires out { table.out ≡ (arc_value at).out }
+        requires ins { table.ins ≡ (arc_value at).ins }
+        ensures given { IfOk result (λ s. s.given ≡ pairings table) }
         ensures site { IfOk result (λ s. s.site ≡ arc_value at) }
     {
-        let mut store = FullMany::new(alloc, at, dir)?;
-        for region in regions {
-            store.keep(region)?;
-        }
-        Ok(store)
-    }
-
-    /// Makes the room for a region pair, and adds it.
-    fn keep(&mut self, region: &Arc<Region>) -> Result<(), NoMemory>
-        requires few { length self.old.given < most_given }
-        requires pair { IsPairOf self.old.site (arc_value region.now) }
-        ensures given { OnOk result
-            (self.new.given ≡ self.old.given ++ arc_value region.now ∷ []) }
-        ensures site { self.new.site ≡ self.old.site }
-    {
-        let pairs = [Arc::try_clone(region)?];
-        self.reserve_all(&pairs)?;
-        self.add_all(&pairs);
-        Ok(())
+        let trees = trees_of(alloc, dir, &table, at.ins().len() as u32)?;
+        Ok(FullMany {
+            at,
+            dir,
+            table,
+            trees,
+        })
     }
 }

@@ -2,7 +2,7 @@
 --
 -- The key idea: where no word of a kind begins another, what bytes begin with can be said in one way only. So what was
 -- read so far is how any list of such things begins, and where the next one is not there, no list goes on.
-use Rattle.std.proofs.Common.{◌≡◌, ℕ, zero, suc, ◌+◌, ◌^◌, ◌<◌, ◌≤◌, List, [], ◌∷◌, ◌++◌, length, drop, get_or, refl}
+use Rattle.std.proofs.Common.{◌≡◌, ℕ, suc, ◌+◌, ◌^◌, ◌<◌, ◌≤◌, List, [], ◌∷◌, ◌++◌, length, drop, get_or, refl}
 use Rattle.std.proofs.Common.{true}
 use Rattle.std.proofs.Common.{sym, ap, ap₂, subst, ◌∙◌, arith, append_assoc, length-append, length-drop, drop-cons}
 use Rattle.std.specs.List.{All, flat_map}
@@ -11,7 +11,7 @@ use Rattle.std.proofs.Math.Seq.{drop-drop, drop-append_seam}
 use Rattle.std.proofs.lemmas.Nat.{from_be_bytes-to_be_bytes_4}
 use Rattle.std.proofs.lemmas.List.{append-nil}
 use Rattle.std.proofs.lemmas.List.Concat.{flat_map-append}
-use Rattle.std.proofs.lemmas.List.Elements.{All-nil, All-cons, All-head, All-tail, All-get_or}
+use Rattle.std.proofs.lemmas.List.Elements.{All-head, All-tail, All-get_or}
 use Rattle.std.proofs.lemmas.Option.{unwrap_or-slice_get}
 use Rattle.sz_cells.specs.Extent.{Extent, is_extent}
 use Rattle.sz_cells.specs.Cells.{Cells}
@@ -186,16 +186,16 @@ first-read IsOne word free bytes at place x y tail rest is read other spelled =
 -- ---- a set with its array
 
 -- where no set of the array's shape begins behind its byte, no set with its array begins
-pub no-listed : (out : Extent) (ins : List Extent) (e : Extent) (bytes : List ℕ) (at : ℕ) → at < length bytes
-    → e ≡ extent_at (out ∷ ins) (get_or bytes at 0) → NoneBegins e bytes (at + 1)
+pub no-listed : (out : Extent) (ins : List Extent) (e : Extent) (array : ℕ) (bytes : List ℕ) (at : ℕ)
+    → IsAt bytes at (at + 1) (array ∷ []) → e ≡ extent_at (out ∷ ins) array → NoneBegins e bytes (at + 1)
     → NoneAt (IsListed out ins) listed_bytes bytes at
-no-listed out ins e bytes at inside shape none l rest is spelled =
-    let split = split-same (get_or bytes at 0 ∷ []) (l.array ∷ []) (drop (at + 1) bytes) (set_bytes l.set ++ rest) refl
-    (sym (at-byte bytes at inside).spelled ∙ spelled) in
-    let array : get_or bytes at 0 ≡ l.array = ap (λ (xs : List ℕ). get_or xs 0 0) split.0 in
+no-listed out ins e array bytes at byte shape none l rest is spelled =
+    let split = split-same (array ∷ []) (l.array ∷ []) (drop (at + 1) bytes) (set_bytes l.set ++ rest) refl
+    (sym byte.spelled ∙ spelled) in
+    let same : array ≡ l.array = ap (λ (xs : List ℕ). get_or xs 0 0) split.0 in
     let next = at + 1 + length (set_bytes l.set) in
     none next l.set (record {
-      is_set = subst (λ (x : Extent). IsSetOf x l.set) (ap (extent_at (out ∷ ins)) (sym array) ∙ sym shape) is.set;
+      is_set = subst (λ (x : Extent). IsSetOf x l.set) (ap (extent_at (out ∷ ins)) (sym same) ∙ sym shape) is.set;
       rest = rest;
       spelled = split.1;
       ends = sym (drop-drop (length (set_bytes l.set)) (at + 1) bytes)

@@ -6,9 +6,11 @@
 -- numbered from 0. A set may stand several times in the table, or be named by no region pair.
 use Rattle.std.specs.Prelude.{◌≡◌, ℕ, ◌+◌, ◌^◌, ◌<◌, ◌≤◌, List, [], ◌∷◌, ◌++◌, length, drop}
 use Rattle.std.specs.Prelude.{Some}
-use Rattle.std.specs.List.{All, AllZip, slice_get}
+use Rattle.std.specs.List.{All, AllZip, slice_get, flat_map}
 use Rattle.sz_cells.specs.Extent.{Extent}
 use Rattle.sz_cells.specs.Cells.{Cells}
+use Rattle.sz_cells.specs.Runs.{indexes_of}
+use Rattle.sz_cells.specs.declared.Run.{Run}
 use Rattle.sz_cells.specs.SetBytes.{IsSetOf, set_bytes}
 use Rattle.sz_spec.specs.Values.{extent_at}
 use Rattle.sz_frame.specs.Parts.{Pairing}
@@ -27,6 +29,13 @@ pub record IsListed (out : Extent) (ins : List Extent) (l : Listed) : Type 0 whe
 -- the array's byte, and the set's bytes
 abbrev pub listed_bytes : Listed → List ℕ
 listed_bytes l = l.array ∷ set_bytes l.set
+
+-- the listed set of an array that runs spell
+abbrev pub listed_by : Extent → List Extent → ℕ → List Run → Listed
+listed_by out ins array runs = record {
+  array = array;
+  set = record { extent = extent_at (out ∷ ins) array; indexes = flat_map indexes_of runs };
+}
 
 -- sets of one array after another, from this array on
 abbrev pub listed_from : ℕ → List Cells → List Listed

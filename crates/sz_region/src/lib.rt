@@ -29,14 +29,15 @@ mod tables;
 mod take_full;
 mod take_pay;
 
+pub use numbers::take_number;
 pub use put_full::put_regions;
 pub use put_pay::put_entries;
-pub use set_bytes::{Take, put_set, take_set};
+pub use set_bytes::{Take, put_set, take_set, take_set_runs};
 pub use sz_frame::{
     AtWork, Folding, MapOf, Mapped, Mapping, PayEntry, Payload, PieceLineage, Region, SetList,
     add_cell, at_work, has_cell, image_by, input_of, output_with, piece_by, right_shapes, run_by,
     set_of_cell, trace_by,
 };
 pub use tables::{ListedPayload, ListedSet, put_numbered, put_numbered_entries};
-pub use take_full::take_regions;
+pub use take_full::{MOST_ROWS, take_listed_runs, take_regions};
 pub use take_pay::take_entries;

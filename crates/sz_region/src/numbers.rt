@@ -35,7 +35,7 @@ pub(crate) fn put_rows(width: u32, numbers: &[u32], to: &mut Vec<u8>) -> Result<
 }
 
 /// The number whose four bytes stand at a place. `None` exactly where there are not four bytes.
-pub(crate) fn take_number(bytes: &[u8], at: u64) -> Option<u32>
+pub fn take_number(bytes: &[u8], at: u64) -> Option<u32>
     ensures some { IfSome result (λ n. IsAt bytes.now at (at + 4) (four_bytes n)) }
     ensures none { IfNone result (length bytes.now < at + 4) }
 {

@@ -3,7 +3,8 @@
 ghost use Rattle.std.specs.Prelude.{◌≡◌, ◌≤◌, ◌+◌, ◌%◌, ◌++◌, length, take};
 ghost use Rattle.std.specs.Prelude.{IfOk, OnOk, IfErr, OnErr, IfSome, IfNone};
 ghost use Rattle.sz_cells.specs.Extent.{size_of};
-ghost use Rattle.sz_cells.specs.Runs.{AreRunsFrom};
+ghost use Rattle.std.specs.List.{flat_map};
+ghost use Rattle.sz_cells.specs.Runs.{AreRunsFrom, indexes_of};
 ghost use Rattle.sz_cells.specs.SetBytes.{set_bytes, BeginsSet};
 ghost use Rattle.sz_cells.specs.SetWords.{runs_spelled};
 ghost use Rattle.sz_region.specs.Taking.{SaysNoneBegins, runs_bytes, HasBody, HasNoRuns};
@@ -98,12 +99,26 @@ pub fn take_set(alloc: Global, shape: Shape, bytes: &[u8], at: u64) -> Result<(C
     ensures within { IfOk result (λ r. r.1 ≤ length bytes.now) }
     ensures err { IfErr result (λ e. SaysNoneBegins shape bytes.now at e) }
 {
+    let mut runs = Vec::new(alloc);
+    let next = take_set_runs(shape, bytes, at, &mut runs)?;
+    Ok((CellSet::from_runs(shape, runs), next))
+}
+
+/// As [`take_set`], but that the set's longest runs, rising, take the place of what a list has. So
+/// one list does for many sets, and takes memory only where a set has more runs than any before.
+pub fn take_set_runs(shape: Shape, bytes: &[u8], at: u64, to: &mut Vec<Run>) -> Result<u64, Take>
+    ensures ok { IfOk result (λ next. BeginsSet shape bytes.now at next
+        (record { extent = shape; indexes = flat_map indexes_of to.new.items })) }
+    ensures longest { OnOk result (AreRunsFrom 0 (size_of shape) to.new.items) }
+    ensures within { IfOk result (λ next. next ≤ length bytes.now) }
+    ensures err { IfErr result (λ e. SaysNoneBegins shape bytes.now at e) }
+{
     shape.size(); // a shape is within the limits
     let Some(body) = body_at(bytes, at) else {
         return Err(Take::Bad { at })
     };
-    match take_runs(alloc, &shape, body) {
-        Ok(runs) => Ok((CellSet::from_runs(shape, runs), at + 4 + body.len() as u64)),
+    match take_runs(&shape, body, to) {
+        Ok(()) => Ok(at + 4 + body.len() as u64),
         Err(Take::Bad { .. }) => Err(Take::Bad { at }),
         Err(Take::NoMemory) => Err(Take::NoMemory),
     }
@@ -129,26 +144,26 @@ fn body_at(bytes: &[u8], at: u64) -> Option<&[u8]>
     Some(body)
 }
 
-/// The runs that eight bytes after eight bytes spell. `Bad` where they are not the longest runs of
-/// a set of the shape.
-fn take_runs(alloc: Global, shape: &Shape, body: &[u8]) -> Result<Vec<Run>, Take>
+/// The runs that eight bytes after eight bytes spell, in place of what a list has. `Bad` where they
+/// are not the longest runs of a set of the shape.
+fn take_runs(shape: &Shape, body: &[u8], to: &mut Vec<Run>) -> Result<(), Take>
     requires { length body.now % 8 ≡ 0 }
-    ensures runs { IfOk result (λ v. v.items ≡ runs_spelled body.now) }
-    ensures longest { IfOk result (λ v. AreRunsFrom 0 (size_of shape.now) v.items) }
+    ensures runs { OnOk result (to.new.items ≡ runs_spelled body.now) }
+    ensures longest { OnOk result (AreRunsFrom 0 (size_of shape.now) to.new.items) }
     ensures err { IfErr result (λ e. SaysNoRuns shape.now body.now e) }
 {
     let size = shape.size();
-    let mut runs = Vec::new(alloc);
+    to.clear();
     let mut least = 0;
     for index in 0..body.len() / 8 {
         let run = run_at(body, index * 8);
         if run.first < least || run.last < run.first || size <= run.last {
             return Err(Take::Bad { at: 0 });
         }
-        runs.push(run)?;
+        to.push(run)?;
         least = run.last + 2;
     }
-    Ok(runs)
+    Ok(())
 }
 
 /// The run of the eight bytes at a place.

@@ -1,25 +1,26 @@
 //! Reading a store of full lineage: the table of sets, and then the region pairs that name them.
 
-ghost use Rattle.std.specs.Prelude.{◌≡◌, ◌<◌, ◌≤◌, ◌+◌, ◌^◌, ◌∷◌, ℕ, List, length, map, true, Some};
+ghost use Rattle.std.specs.Prelude.{◌≡◌, ◌<◌, ◌≤◌, ◌+◌, ◌^◌, ◌∷◌, ℕ, List, [], length, map, true, Some};
 ghost use Rattle.std.specs.Prelude.{All, IfOk, IfErr, IfSome, IfNone};
 ghost use Rattle.std.specs.List.{AllZip, flat_map, slice_get};
 ghost use Rattle.std.specs.Arc.{arc_value};
-ghost use Rattle.sz_cells.specs.Extent.{Extent, is_extent};
+ghost use Rattle.sz_cells.specs.Extent.{Extent, is_extent, size_of};
+ghost use Rattle.sz_cells.specs.Runs.{AreRunsFrom};
 ghost use Rattle.sz_cells.specs.SetBytes.{four_bytes};
 ghost use Rattle.sz_spec.specs.Values.{extent_at};
 ghost use Rattle.sz_region.specs.Counted.{counted, rows_bytes, IsAt};
 ghost use Rattle.sz_region.specs.FullBytes.{IsListed, listed_bytes, listed_from, AreNumbersOf};
-ghost use Rattle.sz_region.specs.FullBytes.{AreNamesOf, BeginsRegions};
+ghost use Rattle.sz_region.specs.FullBytes.{AreNamesOf, BeginsRegions, listed_by};
 ghost use Rattle.sz_region.specs.Stores.{OnBad, NoRegionsBegin, SaysNoRegions, NoneAt, AreFew};
 ghost use Rattle.sz_region.specs.Stores.{IsNameFor, AreNamesFor, ArePairNames, AreStoreNames};
 
 use crate::numbers::take_number;
-use crate::set_bytes::{Take, take_set};
+use crate::set_bytes::{Take, take_set, take_set_runs};
 use std::alloc::Global;
 use std::marker::Model;
 use std::sync::Arc;
 use sz_cells::laws::a_shape_is_within_limits;
-use sz_cells::{CellSet, Shape};
+use sz_cells::{CellSet, Run, Shape};
 use sz_frame::{Region, SetList};
 
 /// A set of the table of a store.
@@ -130,16 +131,55 @@ fn take_listed(
     ensures err { IfErr result (λ e. OnBad e
         (NoneAt (IsListed out ins.now) listed_bytes bytes.now at)) }
 {
-    if bytes.len() as u64 <= at {
-        return Err(Take::Bad { at });
-    }
-    let array = bytes[at as usize];
-    let Some(shape) = shape_of(out, ins, array) else {
+    let Some(head) = array_at(out, ins, bytes, at) else {
         return Err(Take::Bad { at });
     };
-    let (set, next) = take_set(alloc, shape, bytes, at + 1)?;
+    let (set, next) = take_set(alloc, head.1, bytes, at + 1)?;
     let set = Arc::new(alloc, set)?;
-    Ok((Kept { array, set }, next))
+    Ok((Kept { array: head.0, set }, next))
+}
+
+/// The array of the listed set that begins at a place of some bytes, 0 for the output and i + 1 for
+/// input i of an operator with these shapes, and the place behind the set. Its longest runs,
+/// rising, take the place of what a list has. `Bad` exactly where none begins there.
+///
+/// Takes time in the number of the set's runs, and memory only where it has more than the list had
+/// before.
+pub fn take_listed_runs(
+    out: Shape,
+    ins: &[Shape],
+    bytes: &[u8],
+    at: u64,
+    to: &mut Vec<Run>,
+) -> Result<(u8, u64), Take>
+    ensures set { IfOk result (λ r. IsListed out ins.now (listed_by out ins.now r.0 to.new.items)) }
+    ensures longest { IfOk result (λ r.
+        AreRunsFrom 0 (size_of (extent_at (out ∷ ins.now) r.0)) to.new.items) }
+    ensures bytes { IfOk result (λ r. IsAt bytes.now at r.1
+        (listed_bytes (listed_by out ins.now r.0 to.new.items))) }
+    ensures err { IfErr result (λ e. OnBad e
+        (NoneAt (IsListed out ins.now) listed_bytes bytes.now at)) }
+{
+    let Some(head) = array_at(out, ins, bytes, at) else {
+        return Err(Take::Bad { at });
+    };
+    let next = take_set_runs(head.1, bytes, at + 1, to)?;
+    Ok((head.0, next))
+}
+
+/// The array whose byte stands at a place, and its shape. `None` where no listed set begins there.
+fn array_at(out: Shape, ins: &[Shape], bytes: &[u8], at: u64) -> Option<(u8, Shape)>
+    ensures array { IfSome result (λ r. IsAt bytes.now at (at + 1) (r.0 ∷ [])) }
+    ensures there { IfSome result (λ r. r.0 ≤ length ins.now) }
+    ensures shape { IfSome result (λ r. r.1 ≡ extent_at (out ∷ ins.now) r.0) }
+    ensures none { IfNone result (NoneAt (IsListed out ins.now) listed_bytes bytes.now at) }
+{
+    if bytes.len() as u64 <= at {
+        return None;
+    }
+    let array = bytes[at as usize];
+    let shape = shape_of(out, ins, array)?;
+    Some((array, shape))
 }
 
 /// The shape of an array of an operator. `None` exactly where it has no such array.
@@ -172,7 +212,7 @@ fn take_pairs(
     let Some(count) = take_number(bytes, at) else {
         return Err(Take::Bad { at });
     };
-    if count > MOST {
+    if count > MOST_ROWS {
         return Err(Take::Bad { at });
     }
     let mut regions = Vec::new(alloc);
@@ -185,8 +225,8 @@ fn take_pairs(
     Ok((regions, place))
 }
 
-/// The most region pairs of a store.
-pub(crate) const MOST: u32 = 1_073_741_824;
+/// The most region pairs or entries of a store.
+pub const MOST_ROWS: u32 = 1_073_741_824;
 
 /// The region pair whose names stand at a place.
 fn take_region(

@@ -15,7 +15,7 @@ ghost use Rattle.sz_region.specs.Stores.{IsNumberIn, AreEntryNames, AreEntriesNa
 use crate::apart::are_apart;
 use crate::numbers::take_number;
 use crate::set_bytes::{Take, take_set};
-use crate::take_full::MOST;
+use crate::take_full::MOST_ROWS;
 use std::alloc::Global;
 use std::sync::Arc;
 use sz_cells::laws::a_shape_is_within_limits;
@@ -154,7 +154,7 @@ fn take_rows(
     let Some(count) = take_number(bytes, at) else {
         return Err(Take::Bad { at });
     };
-    if count > MOST {
+    if count > MOST_ROWS {
         return Err(Take::Bad { at });
     }
     let mut entries = Vec::new(alloc);

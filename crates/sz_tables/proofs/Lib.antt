@@ -15,3 +15,4 @@ pub mod MetRuns
 pub mod Counted
 pub mod Rounding
 pub mod ReadPairs
+pub mod Placing

@@ -130,7 +130,7 @@ pub none-added : (dir : Dir) (t : RowTable) (i : ℕ) (from to : Cells) → to �
 none-added dir t i from to own = with-none to (pairs_add dir i from (take 0 (pairings t))) own (λ x held. refl)
 
 -- the region pair of a row
-pairing-get : (t : RowTable) (n : ℕ) (d : Pairing) → n < length t.rows → get_or (pairings t) n d ≡ pairing_at t n
+pub pairing-get : (t : RowTable) (n : ℕ) (d : Pairing) → n < length t.rows → get_or (pairings t) n d ≡ pairing_at t n
 pairing-get t n d inside =
     let none : Row = record { out = 0; ins = [] } in
     get_or-map (pairing_of t.outs t.sets) t.rows n none d inside

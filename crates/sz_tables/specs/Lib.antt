@@ -4,6 +4,7 @@ pub mod Filed
 pub mod Tables
 pub mod Payloads
 pub mod Rows
+pub mod Placing
 pub mod Entries
 pub mod Listing
 pub mod Stores

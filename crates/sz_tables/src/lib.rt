@@ -7,7 +7,8 @@
 //! - [`RegionTable`] keeps region pairs as rows of the numbers of their sets.
 //! - [`EntryTable`] keeps payload entries as rows of the numbers of their sets and payloads.
 //! - [`Chains`] files entries under keys, and finds those of a key one after another.
-//! - [`runs_of_set`] counts the runs of a set, and [`bounds_of_set`] puts a rectangle round it.
+//! - [`runs_of_set`] and [`runs_of_region`] count the runs of a set and of a region pair's sets, and
+//!   [`bounds_of_set`] puts a rectangle round a set.
 //!
 //! Each takes the room for what is to come beforehand (`reserve`), so that adding takes no memory.
 #![tactic(auto)]
@@ -16,6 +17,7 @@ mod chains;
 mod entry_table;
 mod looks;
 mod payload_table;
+mod reading;
 mod region_table;
 mod scans;
 mod set_table;
@@ -28,4 +30,4 @@ pub use payload_table::PayloadTable;
 pub use region_table::RegionTable;
 pub use scans::Seen;
 pub use set_table::SetTable;
-pub use sets::{bounds_of_set, runs_of_set};
+pub use sets::{bounds_of_set, runs_of_region, runs_of_set};

@@ -3,27 +3,31 @@
 ghost use Rattle.std.specs.Prelude.{◌≡◌, ◌<◌, ◌≤◌, ◌+◌, ◌-◌, ◌^◌, [], ◌∷◌, ◌++◌};
 ghost use Rattle.std.specs.Prelude.{length, map, max, OnOk, OnErr, IfOk, Some, All, ℕ, take, drop};
 ghost use Rattle.std.specs.Prelude.{sum_by, vec_len, vec_capacity, ◌*◌, List, slice_index_or};
-ghost use Rattle.std.specs.Prelude.{flat_map};
+ghost use Rattle.std.specs.Prelude.{flat_map, IfSome, true};
 ghost use Rattle.std.specs.List.{range_with_len};
 ghost use Rattle.std.specs.Arc.{arc_value};
 ghost use Rattle.sz_cells.specs.Runs.{runs_of};
 ghost use Rattle.sz_spec.specs.Values.{extent_at};
 ghost use Rattle.sz_cells.specs.SetBytes.{IsSetOf};
 ghost use Rattle.sz_tables.specs.Rows.{pairings, weight_of, empty_rows, Keeps, IsRowOf};
-ghost use Rattle.sz_tables.specs.Rows.{row_at, number_in};
+ghost use Rattle.sz_tables.specs.Rows.{row_at, number_in, rows_of, table_of};
 ghost use Rattle.sz_tables.specs.Stores.{most_given};
 ghost use Rattle.sz_tables.specs.Rows.{set_at, sets_of, empty_sets, runs_in, HasRoomFor};
 ghost use Rattle.sz_tables.specs.Rows.{Takes, TakeEach};
+ghost use Rattle.sz_tables.specs.Scans.{pairing_at};
+ghost use Rattle.sz_tables.specs.Sets.{IsRound};
 ghost use Rattle.sz_tables.specs.Tables.{AreDifferent, HasAtMostOneMore};
 ghost use Rattle.sz_frame.specs.Stands.{set_of};
 ghost use Rattle.sz_tables.specs.Listing.{listed_as, numbers_at, shifted, AreSetsOf, AreListed};
 ghost use Rattle.sz_region.specs.FullBytes.{Listed, IsFullWord};
+ghost use Rattle.sz_region.specs.Putting.{HasShapes};
 
 use crate::set_table::SetTable;
+use crate::sets::{bounds_of_runs, runs_of_region};
 use std::alloc::Global;
 use std::marker::Model;
 use std::sync::Arc;
-use sz_cells::{CellSet, NoMemory, Run, Shape};
+use sz_cells::{Bounds, CellSet, NoMemory, Run, Shape};
 use sz_frame::Region;
 use sz_region::{ListedSet, put_numbered};
 
@@ -132,6 +136,60 @@ impl RegionTable {
         self.spare_runs -= region.out.runs().len() + runs_of_each(sets);
     }
 
+    /// A table of these region pairs. The room for each is made when those before it are added, so
+    /// a set that many of them share is counted once.
+    pub fn of_regions(
+        alloc: Global,
+        out: Shape,
+        ins: &[Shape],
+        regions: &[Arc<Region>],
+    ) -> Result<RegionTable, NoMemory>
+        requires inputs { length ins.now ≤ 2 }
+        requires few { length regions.now ≤ most_given }
+        requires shapes { All (HasShapes out ins.now) (map (λ a. arc_value a) regions.now) }
+        ensures pairings { IfOk result
+            (λ t. pairings t ≡ map (λ a. arc_value a) regions.now) }
+        ensures out { IfOk result (λ t. t.out ≡ out) }
+        ensures ins { IfOk result (λ t. t.ins ≡ ins.now) }
+    {
+        let mut table = RegionTable::new(alloc, out, ins)?;
+        for region in regions {
+            table.reserve(1, runs_of_region(region))?;
+            table.add(region);
+        }
+        Ok(table)
+    }
+
+    /// The table whose rows so many numbers spell, by the sets of these tables. `None` where there
+    /// are more sets of an array than rows.
+    pub(crate) fn of_rows(
+        outs: SetTable,
+        ins: Vec<SetTable>,
+        names: Vec<u32>,
+        count: u32,
+    ) -> Option<RegionTable>
+        requires inputs { length ins.items ≤ 2 }
+        requires few { count ≤ most_given }
+        requires whole { length names.items ≡ count * (length ins.items + 1) }
+        requires named { All (IsRowOf (table_of outs ins.items names.items count 0 0))
+            (rows_of (length ins.items) count names.items) }
+        ensures { IfSome result (λ t. t ≡ record (table_of outs ins.items names.items count 0 0) {
+          capacities = t.capacities;
+        }) }
+    {
+        if count < outs.len() || !are_few(&ins, count) {
+            return None;
+        }
+        Some(RegionTable {
+            outs,
+            ins,
+            names,
+            count,
+            spare_rows: 0,
+            spare_runs: 0,
+        })
+    }
+
     /// How many region pairs there are.
     pub fn len(&self) -> u32
         ensures count { result ≡ length self.now.rows }
@@ -195,6 +253,25 @@ impl RegionTable {
         self.ins[input as usize].runs(number)
     }
 
+    /// A rectangle round the output set of a row.
+    pub fn out_bounds(&self, row: u32) -> Bounds
+        requires { row < length self.now.rows }
+        ensures { IsRound result (pairing_at self.now row).out }
+    {
+        self.len(); // each row names sets of the table
+        bounds_in(&self.outs, self.out_number(row))
+    }
+
+    /// A rectangle round the set of an input of a row.
+    pub fn in_bounds(&self, input: u32, row: u32) -> Bounds
+        requires input { input < length self.now.ins }
+        requires row { row < length self.now.rows }
+        ensures { IsRound result (set_of (pairing_at self.now row) input) }
+    {
+        self.len(); // each row names sets of the table
+        bounds_in(&self.ins[input as usize], self.number_of(row, input))
+    }
+
     /// Appends the bytes of these region pairs: a table of the different sets, each once, and the
     /// rows. After `NoMemory` the bytes are as before.
     ///
@@ -219,7 +296,7 @@ impl RegionTable {
 }
 
 /// A table of sets for each of these shapes, without a set.
-fn tables_for(alloc: Global, shapes: &[Shape]) -> Result<Vec<SetTable>, NoMemory>
+pub(crate) fn tables_for(alloc: Global, shapes: &[Shape]) -> Result<Vec<SetTable>, NoMemory>
     ensures tables { IfOk result (λ tables. tables.items ≡ map empty_sets shapes.now) }
     ensures capacity { IfOk result (λ tables. vec_capacity tables ≡ length shapes.now) }
 {
@@ -229,6 +306,26 @@ fn tables_for(alloc: Global, shapes: &[Shape]) -> Result<Vec<SetTable>, NoMemory
         tables.push_reserved(table);
     }
     Ok(tables)
+}
+
+/// A rectangle round the set of a number.
+fn bounds_in(table: &SetTable, number: u32) -> Bounds
+    requires { number < length table.now.sets }
+    ensures { IsRound result (set_at table.now.sets number) }
+{
+    bounds_of_runs(table.shape(), table.runs(number))
+}
+
+/// Whether none of these tables has more than so many sets.
+fn are_few(tables: &[SetTable], most: u32) -> bool
+    ensures { result ≡ true → All (λ t. length t.sets ≤ most) tables.now }
+{
+    for table in tables {
+        if most < table.len() {
+            return false;
+        }
+    }
+    true
 }
 
 /// Makes room in each of these tables.

@@ -143,7 +143,23 @@ impl SetTable {
         ensures runs { self.old.spare_runs ≤ self.new.spare_runs + runs_in set.now }
         ensures capacities { self.new.capacities ≡ self.old.capacities }
     {
-        let runs = set.runs();
+        self.add_runs(set.runs())
+    }
+
+    /// As [`SetTable::add`], of the set that has these runs, which are its longest ones.
+    pub fn add_runs(&mut self, runs: &[Run]) -> u32
+        requires longest { AreRunsFrom 0 (size_of self.old.extent) runs.now }
+        requires sets { 0 < self.old.spare_sets }
+        requires runs { length runs.now ≤ self.old.spare_runs }
+        ensures number { slice_get self.new.sets result
+            ≡ Some (spelled self.old.extent runs.now) }
+        ensures sets { HasAtMostOneMore self.old.sets self.new.sets
+            (spelled self.old.extent runs.now) }
+        ensures extent { self.new.extent ≡ self.old.extent }
+        ensures room { self.old.spare_sets ≤ self.new.spare_sets + 1 }
+        ensures runs { self.old.spare_runs ≤ self.new.spare_runs + length runs.now }
+        ensures capacities { self.new.capacities ≡ self.old.capacities }
+    {
         let mix = mix_of(runs);
         match self.find(runs, mix) {
             Some(number) => number,

@@ -5,15 +5,16 @@ ghost use Rattle.sz_commands.specs.Asks.{IsAskLine};
 ghost use Rattle.sz_commands.specs.Logged.{HasLog};
 ghost use Rattle.sz_commands.specs.States.{nothing_held};
 
+use crate::served::{empty_station, is_said};
 use std::alloc::Global;
 use std::sync::atomic::{AtomicU64, Ordering};
 use std::sync::{Arc, Wait};
 use std::test::Fail;
 use std::thread::Threads;
 use sz_catalogue::{Reply, reply_text};
-use sz_outside::{Gate, MemStation, NoGate, Station, SteadySource};
+use sz_outside::{Gate, NoGate, Station};
 use sz_script::{Command, laws, read_line};
-use sz_session::{AskLine, Session, Status, serve};
+use sz_session::{AskLine, Session};
 use sz_spec::Tally;
 
 /// For how many turns something is waited for.
@@ -98,25 +99,18 @@ const REPLIES: &[u8] = b"1 array a 1
 26 cells 1 1,1
 ";
 
-/// How a session of the text ends with so many askers, and what is said.
-fn played<G: Gate + 'static, R: Threads + Wait + Clone + Send + Sync + 'static>(
+/// Whether a session of the text with so many askers says the replies.
+fn says_the_replies<G: Gate + 'static, R: Threads + Wait + Clone + Send + Sync + 'static>(
     rt: &R,
     alloc: Global,
     askers: &str,
     chunk: u32,
     gate: &Arc<G>,
-) -> Result<(Status, Vec<u8>), Fail>
+) -> Result<bool, Fail>
     requires { 1 ≤ chunk }
 {
-    let words = vec![in alloc;
-        String::from_str(alloc, "play")?,
-        String::from_str(alloc, "--askers")?,
-        String::from_str(alloc, askers)?,
-    ]?;
-    let mut source = SteadySource::new(TEXT.to_vec(alloc)?, chunk);
-    let mut station = MemStation::new(alloc, Vec::new(alloc), Vec::new(alloc), Vec::new(alloc))?;
-    let status = serve(rt, alloc, &words, &mut source, &mut station, gate);
-    Ok((status, station.said().to_vec(alloc)?))
+    let words = ["play", "--askers", askers];
+    is_said(rt, alloc, &words, TEXT, chunk, gate, REPLIES)
 }
 
 /// With any number of askers, and reads of any size, the same is said.
@@ -126,9 +120,7 @@ fn any_number_of_askers_says_the_same(rt: HostRuntime) -> Result<(), Fail> {
     let gate = Arc::new(alloc, NoGate)?;
     for askers in ["1", "2", "4", "64"] {
         for chunk in [7u32, 200, 65_536] {
-            let (status, said) = played(&rt, alloc, askers, chunk.max(1), &gate)?;
-            assert_eq!(rt; status, Status::Done);
-            assert_eq!(rt; said.as_slice(), REPLIES);
+            assert!(rt; says_the_replies(&rt, alloc, askers, chunk.max(1), &gate)?);
         }
     }
     Ok(())
@@ -143,9 +135,7 @@ fn two_asks_are_answered_at_the_same_time(rt: HostRuntime) -> Result<(), Fail> {
         missed: AtomicU64::new(0),
     };
     let gate = Arc::new(alloc, meeting)?;
-    let (status, said) = played(&rt, alloc, "2", 65_536, &gate)?;
-    assert_eq!(rt; status, Status::Done);
-    assert_eq!(rt; said.as_slice(), REPLIES);
+    assert!(rt; says_the_replies(&rt, alloc, "2", 65_536, &gate)?);
     assert_eq!(rt; gate.missed.load(Ordering::SeqCst), 0);
     Ok(())
 }
@@ -202,7 +192,7 @@ fn is_begun<R: Threads + Wait + Sync>(
 ) -> Result<bool, Fail>
     requires { session.old ≡ nothing_held }
 {
-    let mut station = MemStation::new(alloc, Vec::new(alloc), Vec::new(alloc), Vec::new(alloc))?;
+    let mut station = empty_station(alloc)?;
     Ok(takes_each(rt, session, &mut station))
 }
 
@@ -224,18 +214,20 @@ fn takes_each<T: Station, R: Threads + Wait + Sync>(
     true
 }
 
-/// The reply lines to two asks that are given together, as lines 6 and 7, and how many cells are
-/// told as traced for them.
-fn told_to_two<R: Threads + Wait + Sync>(
+/// Whether these are the reply lines to two asks that are given together, as lines 6 and 7, and so
+/// many cells are told as traced for them.
+fn is_told_to_two<R: Threads + Wait + Sync>(
     rt: &R,
     alloc: Global,
     session: &mut Session,
-    first: &[u8],
-    second: &[u8],
-) -> Result<(Vec<u8>, u64), Fail> {
+    lines: [&[u8]; 2],
+    told: &[u8],
+    traced: u64,
+) -> Result<bool, Fail> {
+    let [first, second] = lines;
     let mut tally = Tally::new();
     let replies = replies_to_two(rt, alloc, session, first, second, &mut tally)?;
-    Ok((lines_of(alloc, &replies)?, tally.count()))
+    Ok(lines_of(alloc, &replies)?.as_slice() == told && tally.count() == traced)
 }
 
 /// The replies to two asks that are given together; none where a line is no ask.
@@ -277,14 +269,9 @@ fn asks_have_their_replies_in_order(rt: HostRuntime) -> Result<(), Fail> {
     let alloc = rt.alloc();
     let mut session = Session::fresh(alloc, 1, 3)?;
     assert!(rt; is_begun(&rt, alloc, &mut session)?);
-    let (told, traced) = told_to_two(&rt, alloc, &mut session, TRACED, TURNED)?;
-    assert_eq!(rt;
-        told.as_slice(),
-        b"6 cells 1 1,0\n7 cells 1 0,1\n".as_slice()
-    );
-    assert_eq!(rt; traced, 8);
-    let (told, traced) = told_to_two(&rt, alloc, &mut session, NOT_THERE, NOT_JOINED)?;
-    assert_eq!(rt; told.as_slice(), b"6 refused 15\n7 refused 16\n".as_slice());
-    assert_eq!(rt; traced, 0);
+    let told = b"6 cells 1 1,0\n7 cells 1 0,1\n";
+    assert!(rt; is_told_to_two(&rt, alloc, &mut session, [TRACED, TURNED], told, 8)?);
+    let told = b"6 refused 15\n7 refused 16\n";
+    assert!(rt; is_told_to_two(&rt, alloc, &mut session, [NOT_THERE, NOT_JOINED], told, 0)?);
     Ok(())
 }

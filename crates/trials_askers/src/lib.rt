@@ -8,4 +8,6 @@
 mod askers;
 mod merges;
 #[cfg(test)]
+mod served;
+#[cfg(test)]
 mod workers;

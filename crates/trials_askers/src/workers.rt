@@ -4,14 +4,15 @@ ghost use Rattle.std.specs.Prelude.{◌≡◌, true};
 ghost use Rattle.sz_commands.specs.Logged.{HasLog};
 ghost use Rattle.sz_commands.specs.States.{nothing_held};
 
+use crate::served::{empty_station, is_said};
 use std::alloc::Global;
 use std::sync::atomic::{AtomicU64, Ordering};
 use std::sync::{Arc, Wait};
 use std::test::Fail;
 use std::thread::Threads;
-use sz_outside::{Gate, MemStation, NoGate, Station, SteadySource};
+use sz_outside::{Gate, NoGate, Station};
 use sz_pool::employ;
-use sz_session::{Session, Status, serve};
+use sz_session::Session;
 use sz_spec::Tally;
 
 /// For how many turns something is waited for.
@@ -79,20 +80,15 @@ const REPLIES: &[u8] = b"1 array a 1
 #[test]
 fn a_worker_is_at_its_piece_while_an_ask_is_answered(rt: HostRuntime) -> Result<(), Fail> {
     let alloc = rt.alloc();
-    let words = vec![in alloc; String::from_str(alloc, "play")?]?;
     let holding = Holding {
         pieces: AtomicU64::new(0),
         asks: AtomicU64::new(0),
         missed: AtomicU64::new(0),
     };
     let gate = Arc::new(alloc, holding)?;
-    let mut source = SteadySource::new(TEXT.to_vec(alloc)?, 65_536);
-    let mut station = MemStation::new(alloc, Vec::new(alloc), Vec::new(alloc), Vec::new(alloc))?;
-    let status = serve(&rt, alloc, &words, &mut source, &mut station, &gate);
-    assert_eq!(rt; status, Status::Done);
-    assert_eq!(rt; station.said(), REPLIES);
-    assert_eq!(rt; gate.missed.load(Ordering::SeqCst), 0);
-    assert_eq!(rt; gate.pieces.load(Ordering::SeqCst), 1);
+    assert!(rt; is_said(&rt, alloc, &["play"], TEXT, 65_536, &gate, REPLIES)?);
+    let missed = gate.missed.load(Ordering::SeqCst);
+    assert_eq!(rt; (missed, gate.pieces.load(Ordering::SeqCst)), (0, 1));
     Ok(())
 }
 
@@ -118,7 +114,7 @@ fn is_answered_by_the_store<R: Threads + Wait + Sync>(
 ) -> Result<bool, Fail>
     requires { session.old ≡ nothing_held }
 {
-    let mut station = MemStation::new(alloc, Vec::new(alloc), Vec::new(alloc), Vec::new(alloc))?;
+    let mut station = empty_station(alloc)?;
     Ok(is_answered_on(rt, session, &mut station))
 }
 
@@ -197,22 +193,9 @@ fn an_ask_before_the_await_is_answered_by_the_store_at_last(rt: HostRuntime) -> 
 fn any_number_of_workers_says_the_same(rt: HostRuntime) -> Result<(), Fail> {
     let alloc = rt.alloc();
     for workers in ["1", "2", "4", "64"] {
-        let words = vec![in alloc;
-            String::from_str(alloc, "play")?,
-            String::from_str(alloc, "--workers")?,
-            String::from_str(alloc, workers)?,
-        ]?;
         let gate = Arc::new(alloc, NoGate)?;
-        let mut source = SteadySource::new(TEXT.to_vec(alloc)?, 65_536);
-        let mut station = MemStation::new(
-            alloc,
-            Vec::new(alloc),
-            Vec::new(alloc),
-            Vec::new(alloc),
-        )?;
-        let status = serve(&rt, alloc, &words, &mut source, &mut station, &gate);
-        assert_eq!(rt; status, Status::Done);
-        assert_eq!(rt; station.said(), REPLIES);
+        let words = ["play", "--workers", workers];
+        assert!(rt; is_said(&rt, alloc, &words, TEXT, 65_536, &gate, REPLIES)?);
     }
     Ok(())
 }

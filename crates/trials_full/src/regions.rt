@@ -139,3 +139,62 @@ fn each_set_of_an_array_is_written_once(rt: HostRuntime) -> Result<(), Fail> {
     assert_eq!(rt; bytes.as_slice(), TWO_PAIRS.as_slice());
     Ok(())
 }
+
+/// What is written of the region pairs that some bytes are.
+fn written_again(alloc: Global, bytes: &[u8]) -> Result<Vec<u8>, Fail> {
+    let shape = row_of_20()?;
+    let (table, _next) = RegionTable::take_bytes(alloc, shape, &[shape, shape], bytes, 0)?;
+    let mut again = Vec::new(alloc);
+    table.put_bytes(&mut again)?;
+    Ok(again)
+}
+
+/// Two region pairs with the same sets, and a set of input 0 that neither names.
+const A_SET_MORE: [u8; 84] = [
+    0, 0, 0, 4, // four sets
+    0, 0, 0, 0, 1, 0, 0, 0, 1, 0, 0, 0, 1, // output: 1
+    1, 0, 0, 0, 1, 0, 0, 0, 2, 0, 0, 0, 2, // input 0: 2
+    1, 0, 0, 0, 1, 0, 0, 0, 3, 0, 0, 0, 3, // input 0: 3
+    2, 0, 0, 0, 1, 0, 0, 0, 3, 0, 0, 0, 3, // input 1: 3
+    0, 0, 0, 2, // two rows
+    0, 0, 0, 0, 0, 0, 0, 1, 0, 0, 0, 3, //
+    0, 0, 0, 0, 0, 0, 0, 1, 0, 0, 0, 3,
+];
+
+#[test]
+fn a_set_that_no_pair_names_is_kept(rt: HostRuntime) -> Result<(), Fail> {
+    let alloc = rt.alloc();
+    let again = written_again(alloc, &A_SET_MORE)?;
+    assert_eq!(rt; again.as_slice(), A_SET_MORE.as_slice());
+    Ok(())
+}
+
+/// The first of these region pairs alone, behind the same sets: of input 0 they are more than the
+/// pairs.
+const MORE_SETS_THAN_PAIRS: [u8; 72] = [
+    0, 0, 0, 4, // four sets
+    0, 0, 0, 0, 1, 0, 0, 0, 1, 0, 0, 0, 1, // output: 1
+    1, 0, 0, 0, 1, 0, 0, 0, 2, 0, 0, 0, 2, // input 0: 2
+    1, 0, 0, 0, 1, 0, 0, 0, 3, 0, 0, 0, 3, // input 0: 3
+    2, 0, 0, 0, 1, 0, 0, 0, 3, 0, 0, 0, 3, // input 1: 3
+    0, 0, 0, 1, // one row
+    0, 0, 0, 0, 0, 0, 0, 1, 0, 0, 0, 3,
+];
+
+/// It without the set that it does not name.
+const ONE_PAIR: [u8; 59] = [
+    0, 0, 0, 3, // three sets
+    0, 0, 0, 0, 1, 0, 0, 0, 1, 0, 0, 0, 1, // output: 1
+    1, 0, 0, 0, 1, 0, 0, 0, 2, 0, 0, 0, 2, // input 0: 2
+    2, 0, 0, 0, 1, 0, 0, 0, 3, 0, 0, 0, 3, // input 1: 3
+    0, 0, 0, 1, // one row
+    0, 0, 0, 0, 0, 0, 0, 1, 0, 0, 0, 2,
+];
+
+#[test]
+fn sets_in_place_of_pairs_are_left_out(rt: HostRuntime) -> Result<(), Fail> {
+    let alloc = rt.alloc();
+    let again = written_again(alloc, &MORE_SETS_THAN_PAIRS)?;
+    assert_eq!(rt; again.as_slice(), ONE_PAIR.as_slice());
+    Ok(())
+}

@@ -4,6 +4,7 @@ use super::{BACK, Example, ON, kept_by, layers, numbers};
 use std::alloc::Global;
 use std::sync::Arc;
 use std::test::Fail;
+use sz_frame::PayEntry;
 use sz_spec::{Array, Fold, Kernel, Op, Value};
 
 /// An array of a row: how many layers it has, the height of each, and its columns.
@@ -246,85 +247,105 @@ fn cells_round_a_cell_stay_in_its_layer(rt: HostRuntime) -> Result<(), Fail> {
 
 const LOW: Value = Some(0);
 
-#[test]
-fn matched_cells_keep_their_column(rt: HostRuntime) -> Result<(), Fail> {
-    let alloc = rt.alloc();
+/// Whether an operator's first piece keeps the first numbers as payload lineage, and the second
+/// ones as composite lineage.
+fn keeps(alloc: Global, example: &Example, pays: &[u32], comps: &[u32]) -> Result<bool, Fail> {
+    let kept = example.kept(alloc)?;
+    Ok(kept_is(alloc, kept.pays(), pays)? && kept_is(alloc, kept.comps(), comps)?)
+}
+
+/// Whether entries keep these numbers.
+fn kept_is(alloc: Global, entries: &[Arc<PayEntry>], numbers: &[u32]) -> Result<bool, Fail> {
+    Ok(kept_by(alloc, entries)?.as_slice() == numbers)
+}
+
+/// Two rows of three columns, one of them empty, looked up in a table of 10 and 20.
+fn looked_up(alloc: Global) -> Result<Example, Fail> {
     let columns = [Some(1), Some(0), Some(1), Some(-1), Some(0), None];
     let columns = layers(alloc, 1, 2, 3, &columns)?;
     let table = numbers(alloc, 1, 2, &[10, 20])?;
-    let found = Example::of_two(alloc, Op::Lookup, columns, table)?;
+    Example::of_two(alloc, Op::Lookup, columns, table)
+}
+
+#[test]
+fn matched_cells_keep_their_column(rt: HostRuntime) -> Result<(), Fail> {
+    let alloc = rt.alloc();
+    let found = looked_up(alloc)?;
     let steps = [
         BACK, 1, 0, 0, 1, 1, BACK, 1, 3, 3, 0, BACK, 0, 5, 5, 1, 5, ON, 1, 1, 1, 2, 0, 2,
     ];
     let output = [Some(20), Some(10), Some(20), None, Some(10), None];
     assert!(rt; row(alloc, &found, (1, 2, 3), &output, &steps)?);
-    let kept = found.kept(alloc)?;
     let matched = [2, 0, 0, 2, 2, 4, 0, 0, 0, 1, 2, 1, 1, 4, 4, 4, 0, 0, 0, 0];
     let others = [
         2, 0, 0, 2, 2, 4, 0, 0, 0, 1, 2, 1, 1, 4, 4, 4, 0, 0, 0, 0, 2, 3, 3, 5, 5, 0,
     ];
-    assert_eq!(rt; kept_by(alloc, kept.pays())?.as_slice(), others.as_slice());
-    assert_eq!(rt;
-        kept_by(alloc, kept.comps())?.as_slice(),
-        matched.as_slice()
-    );
+    assert!(rt; keeps(alloc, &found, &others, &matched)?);
     Ok(())
+}
+
+/// An operator over two rows of three numbers.
+fn of_six(alloc: Global, op: Op, cells: &[i64]) -> Result<Example, Fail> {
+    let array = numbers(alloc, 2, 3, cells)?;
+    Example::of_one(alloc, op, array)
+}
+
+/// Whether the pieces have these numbers of region pairs.
+fn has_pairs(alloc: Global, example: &Example, counts: &[usize]) -> Result<bool, Fail> {
+    Ok(example.pairs(alloc)?.as_slice() == counts)
 }
 
 #[test]
 fn hot_cells_keep_one_mark(rt: HostRuntime) -> Result<(), Fail> {
     let alloc = rt.alloc();
-    let array = numbers(alloc, 2, 3, &[300, 2, 300, 4, 300, 6])?;
-    let cleaned = Example::of_one(alloc, Op::Clean { t: 100 }, array)?;
+    let cleaned = of_six(alloc, Op::Clean { t: 100 }, &[300, 2, 300, 4, 300, 6])?;
     let steps = [
         BACK, 0, 0, 0, 4, 0, 1, 3, 4, BACK, 0, 1, 1, 1, 1, ON, 0, 5, 5, 3, 2, 4, 5,
     ];
     let output = [Some(2), Some(2), Some(2), Some(4), Some(2), Some(6)];
     assert!(rt; row(alloc, &cleaned, (1, 2, 3), &output, &steps)?);
-    let kept = cleaned.kept(alloc)?;
     let all = [3, 0, 0, 2, 2, 4, 4, 1, 1, 3, 1, 1, 3, 3, 5, 5, 1, 0];
-    assert_eq!(rt; kept_by(alloc, kept.pays())?.as_slice(), all.as_slice());
     let hot = [3, 0, 0, 2, 2, 4, 4, 1, 1];
-    assert_eq!(rt; kept_by(alloc, kept.comps())?.as_slice(), hot.as_slice());
+    assert!(rt; keeps(alloc, &cleaned, &all, &hot)?);
     Ok(())
 }
 
 #[test]
 fn high_cells_keep_their_region(rt: HostRuntime) -> Result<(), Fail> {
     let alloc = rt.alloc();
-    let array = numbers(alloc, 2, 3, &[9, 0, 9, 9, 0, 5])?;
-    let labels = Example::of_one(alloc, Op::Regions { t: 6 }, array)?;
+    let labels = of_six(alloc, Op::Regions { t: 6 }, &[9, 0, 9, 9, 0, 5])?;
     let steps = [
         BACK, 0, 3, 3, 2, 0, 3, BACK, 0, 0, 2, 4, 0, 1, 2, 3, ON, 0, 0, 0, 2, 0, 3,
     ];
     let output = [Some(1), LOW, Some(3), Some(1), LOW, LOW];
     assert!(rt; row(alloc, &labels, (1, 2, 3), &output, &steps)?);
-    let kept = labels.kept(alloc)?;
     let all = [
         2, 0, 0, 3, 3, 20, 0, 0, 0, 2, 0, 0, 0, 0, 0, 0, 0, 0, 0, 0, 0, 3, 0, 0, 0, 3, 2, 1, 1, 4,
         5, 0, 1, 2, 2, 12, 0, 0, 0, 1, 0, 0, 0, 2, 0, 0, 0, 2,
     ];
-    assert_eq!(rt; kept_by(alloc, kept.pays())?.as_slice(), all.as_slice());
     let high = [
         2, 0, 0, 3, 3, 20, 0, 0, 0, 2, 0, 0, 0, 0, 0, 0, 0, 0, 0, 0, 0, 3, 0, 0, 0, 3, 1, 2, 2, 12,
         0, 0, 0, 1, 0, 0, 0, 2, 0, 0, 0, 2,
     ];
-    assert_eq!(rt; kept_by(alloc, kept.comps())?.as_slice(), high.as_slice());
-    assert_eq!(rt; labels.pairs(alloc)?.as_slice(), [5].as_slice());
+    assert!(rt; keeps(alloc, &labels, &all, &high)?);
+    assert!(rt; has_pairs(alloc, &labels, &[5])?);
     Ok(())
 }
 
 /// Whether an operator over the row of the numbers 1 to 130 has these numbers of region pairs, one
 /// for each of its three pieces, of 64, 64 and 2 cells, and whether steps are true.
 fn three_pieces(alloc: Global, op: Op, pairs: [usize; 3], steps: &[u32]) -> Result<bool, Fail> {
+    let example = Example::of_one(alloc, op, rising(alloc)?)?;
+    Ok(has_pairs(alloc, &example, &pairs)? && example.leads_all(alloc, steps)?)
+}
+
+/// The row of the numbers 1 to 130.
+fn rising(alloc: Global) -> Result<Arc<Array>, Fail> {
     let mut values = Vec::new(alloc);
     for number in 1..131i64 {
         values.push(number)?;
     }
-    let array = numbers(alloc, 1, 130, &values)?;
-    let example = Example::of_one(alloc, op, array)?;
-    let counts = example.pairs(alloc)?;
-    Ok(counts.as_slice() == pairs.as_slice() && example.leads_all(alloc, steps)?)
+    numbers(alloc, 1, 130, &values)
 }
 
 #[test]
@@ -384,13 +405,16 @@ fn an_output_is_what_its_cells_say(rt: HostRuntime) -> Result<(), Fail> {
     Ok(())
 }
 
+/// Whether an operator over the uneven array and a second one is run as its cells say.
+fn two_run_as_their_cells(alloc: Global, op: Op, second: Arc<Array>) -> Result<bool, Fail> {
+    Example::of_two(alloc, op, uneven(alloc)?, second)?.runs_as_its_cells(alloc)
+}
+
 #[test]
 fn an_output_of_two_is_what_its_cells_say(rt: HostRuntime) -> Result<(), Fail> {
     let alloc = rt.alloc();
-    let both = Example::of_two(alloc, Op::Sub, uneven(alloc)?, uneven(alloc)?)?;
-    assert!(rt; both.runs_as_its_cells(alloc)?);
+    assert!(rt; two_run_as_their_cells(alloc, Op::Sub, uneven(alloc)?)?);
     let table = numbers(alloc, 1, 9, &[10, 11, 12, 13, 14, 15, 16, 17, 18])?;
-    let looked = Example::of_two(alloc, Op::Lookup, uneven(alloc)?, table)?;
-    assert!(rt; looked.runs_as_its_cells(alloc)?);
+    assert!(rt; two_run_as_their_cells(alloc, Op::Lookup, table)?);
     Ok(())
 }

@@ -1,5 +1,5 @@
 -- One region pair more.
-use Rattle.std.proofs.Common.{◌≡◌, ◌+◌, ◌≤◌, ℕ, length, refl, arith, map}
+use Rattle.std.proofs.Common.{◌+◌, refl, arith, map}
 use Rattle.std.specs.Prelude.{sum_by}
 use Rattle.std.specs.Arc.{arc_value}
 use Rattle.sz_frame.specs.Parts.{Pairing}
@@ -8,8 +8,8 @@ use Rattle.sz_tables.specs.Stores.{cells_in}
 use Rattle.sz_tables.proofs.Counted.{item-made, sum-more}
 use Rattle.sz_full_many.proofs.counting.runs_of_all.Goals as goal
 
-pub runs_of-runs-requires : goal.runs_of-runs-requires
-runs_of-runs-requires c =
+pub runs_of_region-runs-requires : goal.runs_of_region-runs-requires
+runs_of_region-runs-requires c =
     let rs = map (λ a. arc_value a) c.args.regions.now in
     let i = c.loop-region.region-index in
     let r = c.deref.result.now in
@@ -27,7 +27,7 @@ loop-region-preserved c =
     c.loop-region-test.true c.region-item.is c.deref.ensures in
     let runs = sum-more weight_of rs i r there in
     let cells = sum-more (λ (p : Pairing). cells_in p.out + sum_by cells_in p.ins) rs i r there in
-    let more = c.runs_of-runs.ensures in
+    let more = c.runs_of_region-runs.ensures in
     record {
       runs = omega (arith, c.loop-region.invariant.runs, runs, more.runs);
       few = omega (arith, c.loop-region.invariant.few, more.few);

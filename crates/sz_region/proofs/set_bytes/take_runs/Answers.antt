@@ -25,7 +25,7 @@ returns-then-run-least-clause-err c are =
     let at : get_or (runs_spelled body) i run ≡ run = spelled-at i (i * 8) body run (omega arith)
     (omega (arith, c.loop-index.invariant.count)) ∙ sym c.run_at-run.ensures in
     let kept = run-kept (size_of c.args.shape.now) i (runs_spelled body) run inside are in
-    let low : end_of 0 c.loop-index.runs.items ≤ run.first = rw (← at, c.loop-index.invariant.runs) kept.0 in
+    let low : end_of 0 c.loop-index.to.items ≤ run.first = rw (← at, c.loop-index.invariant.runs) kept.0 in
     let order : run.first ≤ run.last = rw (← at) kept.1 in
     let high : run.last < size_of c.args.shape.now = rw (← at) kept.2 in
     elim c.then-run-least.branch [
@@ -52,9 +52,9 @@ loop-index-preserved c =
       count = refl;
       size = inv.size;
       runs = rw (c.in_ok-push.ensures.items, inv.runs, take_more (runs_spelled body) i run inside, at) refl;
-      longest = rw c.in_ok-push.ensures.items (runs-more 0 (size_of c.args.shape.now) c.loop-index.runs.items run
+      longest = rw c.in_ok-push.ensures.items (runs-more 0 (size_of c.args.shape.now) c.loop-index.to.items run
           inv.longest (omega (arith, inv.least)) (omega arith) (omega (arith, inv.size)));
-      least = rw c.in_ok-push.ensures.items (sym (end-more 0 c.loop-index.runs.items run));
+      least = rw c.in_ok-push.ensures.items (sym (end-more 0 c.loop-index.to.items run));
     }
 
 pub returns-clause-runs : goal.returns-clause-runs

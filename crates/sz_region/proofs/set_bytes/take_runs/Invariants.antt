@@ -10,7 +10,7 @@ abbrev pub invariant-loop-index : goal.invariant-loop-index
 invariant-loop-index l = record {
   count : l.index-end ≡ length l.body / 8;
   size : l.size ≡ size_of l.shape;
-  runs : l.runs.items ≡ take l.index (runs_spelled l.body);
-  longest : AreRunsFrom 0 (size_of l.shape) l.runs.items;
-  least : l.least ≡ end_of 0 l.runs.items;
+  runs : l.to.items ≡ take l.index (runs_spelled l.body);
+  longest : AreRunsFrom 0 (size_of l.shape) l.to.items;
+  least : l.least ≡ end_of 0 l.to.items;
 }

@@ -1,12 +1,12 @@
 -- Behind the array's byte no set of its shape begins.
-use Rattle.std.proofs.Common.{◌+◌, arith, rules}
+use Rattle.std.proofs.Common.{◌+◌, rules}
 use Rattle.sz_region.proofs.Spans.{no-listed, on_bad-set, on_bad-weaker}
 use Rattle.sz_region.proofs.take_full.take_listed.Goals as goal
 
 pub returns-in_err-set-clause-err : goal.returns-in_err-set-clause-err
 returns-in_err-set-clause-err c =
     let none = on_bad-weaker c.in_err-set.field-0.0
-    (no-listed c.args.out c.args.ins.now c.in-Some.shape c.args.bytes.now c.args.at (omega arith)
-    c.in-Some.ensures.some)
-    (on_bad-set c.in-Some.shape c.args.bytes.now (c.args.at + 1) c.in_err-set.field-0.0 c.in_err-set.ensures.err) in
+    (no-listed c.args.out c.args.ins.now c.in-Some.head.1 c.in-Some.head.0 c.args.bytes.now c.args.at
+    c.in-Some.ensures.array c.in-Some.ensures.shape)
+    (on_bad-set c.in-Some.head.1 c.args.bytes.now (c.args.at + 1) c.in_err-set.field-0.0 c.in_err-set.ensures.err) in
     search rules

@@ -1,11 +1,11 @@
 -- One set more.
-use Rattle.std.proofs.Common.{◌≡◌, ◌∙◌, ap, arith, map}
+use Rattle.std.proofs.Common.{◌∙◌, ap, arith}
 use Rattle.std.specs.Arc.{arc_value}
 use Rattle.sz_frame.specs.Parts.{Pairing}
 use Rattle.sz_tables.specs.Rows.{runs_in}
 use Rattle.sz_tables.specs.Stores.{cells_in}
 use Rattle.sz_tables.proofs.Counted.{item-made, sum-more}
-use Rattle.sz_full_many.proofs.counting.runs_of.Goals as goal
+use Rattle.sz_tables.proofs.sets.runs_of_region.Goals as goal
 
 pub loop-set-preserved : goal.loop-set-preserved
 loop-set-preserved c =

@@ -1,10 +1,9 @@
 -- The sum goes over the sets so far.
-use Rattle.std.proofs.Common.{◌≡◌, ◌≤◌, ◌+◌, ◌*◌, length, take, map}
+use Rattle.std.proofs.Common.{◌≡◌, ◌≤◌, ◌+◌, ◌*◌, take}
 use Rattle.std.specs.Prelude.{sum_by}
-use Rattle.std.specs.Arc.{arc_value}
 use Rattle.sz_tables.specs.Rows.{runs_in}
 use Rattle.sz_tables.specs.Stores.{cells_in}
-use Rattle.sz_full_many.proofs.counting.runs_of.Given as goal
+use Rattle.sz_tables.proofs.sets.runs_of_region.Given as goal
 
 abbrev pub invariant-loop-set : goal.invariant-loop-set
 invariant-loop-set l = record {

@@ -1,0 +1,69 @@
+//! Texts that are served, each on a station of its own.
+
+ghost use Rattle.std.specs.Prelude.{◌≤◌};
+
+use std::alloc::Global;
+use std::sync::{Arc, Wait};
+use std::test::Fail;
+use std::thread::Threads;
+use sz_outside::{Gate, MemStation, SteadySource};
+use sz_session::{Status, serve};
+
+/// What a text is served with: the words that call for it, its bytes, and a station.
+#[derive(Drop)]
+struct Bench {
+    words: Vec<String>,
+    source: SteadySource,
+    station: MemStation,
+}
+
+/// The words, each as a text of its own.
+fn words_of(alloc: Global, words: &[&str]) -> Result<Vec<String>, Fail> {
+    let mut texts = Vec::new(alloc);
+    for word in words {
+        texts.push(String::from_str(alloc, word)?)?;
+    }
+    Ok(texts)
+}
+
+/// A station with an empty disk.
+pub fn empty_station(alloc: Global) -> Result<MemStation, Fail> {
+    Ok(MemStation::new(alloc, Vec::new(alloc), Vec::new(alloc), Vec::new(alloc))?)
+}
+
+/// These words, this text in reads of at most `chunk` bytes, and an empty station.
+fn bench_of(alloc: Global, words: &[&str], text: &[u8], chunk: u32) -> Result<Bench, Fail>
+    requires { 1 ≤ chunk }
+{
+    let words = words_of(alloc, words)?;
+    let source = SteadySource::new(text.to_vec(alloc)?, chunk);
+    Ok(Bench {
+        words,
+        source,
+        station: empty_station(alloc)?,
+    })
+}
+
+/// Whether a text that is served as these words call for ends well, and this is what is said.
+pub fn is_said<G: Gate + 'static, R: Threads + Wait + Clone + Send + Sync + 'static>(
+    rt: &R,
+    alloc: Global,
+    words: &[&str],
+    text: &[u8],
+    chunk: u32,
+    gate: &Arc<G>,
+    replies: &[u8],
+) -> Result<bool, Fail>
+    requires { 1 ≤ chunk }
+{
+    let mut bench = bench_of(alloc, words, text, chunk)?;
+    let status = serve(
+        rt,
+        alloc,
+        &bench.words,
+        &mut bench.source,
+        &mut bench.station,
+        gate,
+    );
+    Ok(status == Status::Done && bench.station.said() == replies)
+}
