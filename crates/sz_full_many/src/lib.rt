@@ -9,6 +9,7 @@
 //! - [`FullMany::reserve_piece`] takes the memory for the region pairs of a lineage.
 //! - [`FullMany::add_piece`] adds them, and takes none.
 //! - [`FullMany::image`] adds the image of a set of cells, backward or forward.
+//! - [`FullMany::checklist`] tells whether region pairs are those of the store.
 //! - [`FullMany::put_bytes`] writes its region pairs, and [`FullMany::take_bytes`] reads them
 //!   again, for looks of either direction.
 //!
@@ -51,7 +52,7 @@ use sz_frame::{PieceLineage, Region};
 use sz_region::Take;
 use sz_rtree::RTree;
 use sz_spec::{Dir, OpAt};
-use sz_tables::RegionTable;
+use sz_tables::{PairChecklist, RegionTable};
 
 /// Region pairs of one operator, indexed by the bounds of the sets from which `dir` starts.
 #[derive(Drop)]
@@ -205,6 +206,14 @@ impl FullMany {
         } else {
             self.table.scan(dir, input, from, to);
         }
+    }
+
+    /// A checklist of the region pairs, of which none is ticked.
+    pub fn checklist(&self, alloc: Global) -> PairChecklist<'_>
+        ensures { result ≡ record { kept = self.now.given; ticked = [] } }
+    {
+        self.at.ins(); // there are at most two inputs
+        PairChecklist::new(alloc, &self.table)
     }
 
     /// Appends the bytes of the region pairs: a table of their sets, each once, and the rows of the

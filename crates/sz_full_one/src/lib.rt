@@ -50,7 +50,7 @@ use sz_cells::{CellBits, NoMemory};
 use sz_frame::{PieceLineage, Region};
 use sz_region::{Take, take_regions};
 use sz_spec::{Dir, OpAt};
-use sz_tables::RegionTable;
+use sz_tables::{PairChecklist, RegionTable};
 
 /// Region pairs of one operator, indexed by the single cells of the sets from which looks in one
 /// direction start.
@@ -195,6 +195,14 @@ impl FullOne {
         } else {
             self.table.scan(dir, input, from, to);
         }
+    }
+
+    /// A checklist of the region pairs, of which none is ticked.
+    pub fn checklist(&self, alloc: Global) -> PairChecklist<'_>
+        ensures { result ≡ record { kept = self.now.given; ticked = [] } }
+    {
+        self.at.ins(); // there are at most two inputs
+        PairChecklist::new(alloc, &self.table)
     }
 
     /// Appends the bytes of the region pairs: a table of their sets, each once, and the rows of the

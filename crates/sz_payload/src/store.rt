@@ -26,7 +26,7 @@ use sz_cells::{CellBits, NoMemory};
 use sz_frame::{PayEntry, PieceLineage};
 use sz_region::Take;
 use sz_spec::{Dir, Mapper, OpAt};
-use sz_tables::EntryTable;
+use sz_tables::{EntryChecklist, EntryTable};
 
 /// Entries of one operator that has payloads, and the index of their output cells.
 #[derive(Drop)]
@@ -246,6 +246,20 @@ impl<M: Mapper + Drop> PayStore<M> {
             Dir::Back => look.back(&self.map, self.comp, input, from, to),
             Dir::Forward => look.forward(self.comp, input, from, to),
         }
+    }
+
+    /// A checklist of the entries, of which none is ticked.
+    pub fn checklist(&self, alloc: Global) -> EntryChecklist<'_>
+        ensures { result ≡ record { kept = self.now.store.given; ticked = [] } }
+    {
+        EntryChecklist::new(alloc, &self.table)
+    }
+
+    /// Whether the entries are composite lineage.
+    pub fn is_composite(&self) -> bool
+        ensures { result ≡ self.now.comp }
+    {
+        self.comp
     }
 
     /// Appends the bytes of the entries: tables of their payloads and sets, each once, and the rows

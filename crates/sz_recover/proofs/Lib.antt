@@ -22,3 +22,4 @@ pub mod Telling
 pub mod HeldBodies
 pub mod RowsSound
 mod RowsGrowing
+pub mod Ticked

@@ -142,6 +142,11 @@ one-stored t kept = ap (λ (b : Bool). cond b (t ∷ []) []) kept
 pub one-listed : (t : Strategy) → is_listed (t ∷ []) t ≡ true
 one-listed t = let same : (number_of t == number_of t) ≡ true = eq-eqb (number_of t) (number_of t) refl in rw same refl
 
+-- what it keeps
+pub front-holding : (t : Strategy) (h : Holding)
+    → holding_for t ((let f : Keep = record { strategy = t; holding = h } in f) ∷ []) ≡ h
+front-holding t h = let same : (number_of t == number_of t) ≡ true = eq-eqb (number_of t) (number_of t) refl in rw same refl
+
 -- Made of all pieces, the store is exact.
 pub made-exact : PlacedPiecesMakeTheRelation → (e : Execution) (t : Strategy) (k : ℕ) (made : NodeLineage)
     → is_stored t ≡ true → pieces_of e.site.out ≤ k → IsMadeOf e.site e.inputs t k made

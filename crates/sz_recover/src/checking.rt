@@ -16,7 +16,8 @@ ghost use Rattle.sz_frame.specs.Fits.{Fits};
 ghost use Rattle.sz_frame.specs.Images.{measure_of};
 ghost use Rattle.sz_ops.specs.Aids.{aid_of};
 ghost use Rattle.sz_flow.specs.Executions.{execution_of};
-ghost use Rattle.sz_store.specs.Kept.{holding_for, with_lineage};
+ghost use Rattle.sz_store.specs.Kept.{holding_for, with_lineage, with_part};
+ghost use Rattle.sz_store.specs.Checklists.{listed_in, ticked_in};
 ghost use Rattle.sz_catalogue.specs.Holdings.{arrays_of};
 ghost use Rattle.sz_catalogue.specs.Kept.{IsRun};
 ghost use Rattle.sz_bodies.specs.Fitting.{FitsNode, FitNodes, Fit, lineages};
@@ -34,10 +35,11 @@ use std::thread::Threads;
 use sz_catalogue::{BaseArray, Catalogue, HeldVersion};
 use sz_cells::{CellBits, NoMemory, Shape};
 use sz_flow::{NodeRun, run_all};
+use sz_frame::PieceLineage;
 use sz_ops::{Aid, piece, prepare_lineage};
 use sz_script::StrategyList;
 use sz_spec::{Array, Dir, OpAt, Strategy, Tally, pieces_of};
-use sz_store::NodeStore;
+use sz_store::{NodeStore, StoreChecklist};
 
 /// A store that does not stand for what its strategy is to keep: its version, from 1, its node,
 /// from 0, and its strategy.
@@ -219,34 +221,96 @@ fn is_wrong(alloc: Global, run: &NodeRun, store: &NodeStore, s: Strategy) -> Res
 }
 
 /// Whether the store of a strategy stands for exactly the relation of the operator that was run.
+/// What its lineage needs is prepared once. A store that does not keep what its pieces have is made
+/// again, and compared by images.
 fn is_exact(alloc: Global, run: &NodeRun, store: &NodeStore, s: Strategy) -> Result<bool, NoMemory>
     requires store { IsOneOf s (execution_of run.now).site store.now }
     ensures { IfOk result
         (λ b. Decides b (IsExact (execution_of run.now) (holding_for s store.now.stores))) }
 {
-    let made = store_made(alloc, run, s)?;
+    let aid = prepared_for(alloc, run)?;
+    if keeps_each_piece(alloc, run, &aid, store, s)? {
+        return Ok(true);
+    }
+    let made = store_made(alloc, run, &aid, s)?;
     are_one(alloc, &run.at, &made, store, s)
 }
 
-/// The store of a strategy, made of all pieces of the operator that was run. What its lineage needs
-/// is prepared once.
-fn store_made(alloc: Global, run: &NodeRun, s: Strategy) -> Result<NodeStore, NoMemory>
-    requires supported { supports (execution_of run.now).site.op s ≡ true }
-    requires stored { is_stored s ≡ true }
-    ensures store { IfOk result (λ m. IsOneOf s (execution_of run.now).site m) }
-    ensures exact { IfOk result (λ m. IsExact (execution_of run.now) (holding_for s m.stores)) }
+/// Whether the store of a strategy keeps what the lineages of all pieces have for it, and nothing
+/// else: it is exact then. One that does not may be exact as well, as one that was merged is.
+fn keeps_each_piece(
+    alloc: Global,
+    run: &NodeRun,
+    aid: &Aid,
+    store: &NodeStore,
+    s: Strategy,
+) -> Result<bool, NoMemory>
+    requires aid { let e = execution_of run.now in aid.now ≡ aid_of e.site.op e.inputs }
+    requires store { IsOneOf s (execution_of run.now).site store.now }
+    ensures { IfOk result (λ b. b ≡ true
+        → IsExact (execution_of run.now) (holding_for s store.now.stores)) }
 {
-    let aid = prepared_for(alloc, run)?;
-    store_made_by(alloc, run, &aid, s)
+    sz_store::laws::placed_pieces_make_the_relation();
+    sz_store::laws::other_orders_stand_for_the_same();
+    let mut list = store.checklist(alloc, s);
+    for k in 0..pieces_of(run.at.out()) {
+        if !tick_piece(alloc, run, aid, s, k, &mut list)? {
+            return Ok(false);
+        }
+    }
+    list.is_done()
 }
 
-/// The same, by what was prepared for the lineage of the operator.
-fn store_made_by(
+/// Ticks what the lineage of a piece has for a strategy. False where the list does not have it.
+fn tick_piece(
     alloc: Global,
     run: &NodeRun,
     aid: &Aid,
     s: Strategy,
-) -> Result<NodeStore, NoMemory>
+    k: u32,
+    list: &mut StoreChecklist,
+) -> Result<bool, NoMemory>
+    requires aid { let e = execution_of run.now in aid.now ≡ aid_of e.site.op e.inputs }
+    requires supported { supports (execution_of run.now).site.op s ≡ true }
+    requires piece { k < pieces_of (execution_of run.now).site.out }
+    ensures listed { listed_in list.new ≡ listed_in list.old }
+    ensures ticked { let e = execution_of run.now in IfOk result (λ b. b ≡ true
+        → (p : Parts) × (p.piece ≡ k) × Fits (measure_of e.site e.inputs) (s ∷ []) k p
+        × (ticked_in list.new ≡ with_part p (ticked_in list.old))) }
+{
+    let lineage = lineage_of(alloc, run, aid, s, k)?;
+    list.tick(&lineage)
+}
+
+/// The lineage of a piece, as a strategy needs it.
+fn lineage_of(
+    alloc: Global,
+    run: &NodeRun,
+    aid: &Aid,
+    s: Strategy,
+    k: u32,
+) -> Result<PieceLineage, NoMemory>
+    requires aid { let e = execution_of run.now in aid.now ≡ aid_of e.site.op e.inputs }
+    requires supported { supports (execution_of run.now).site.op s ≡ true }
+    requires piece { k < pieces_of (execution_of run.now).site.out }
+    ensures { let e = execution_of run.now in IfOk result (λ p. (p.piece ≡ k)
+        × Fits (measure_of e.site e.inputs) (s ∷ []) k p) }
+{
+    let mut tally = Tally::new();
+    piece(
+        alloc,
+        &run.at,
+        run.inputs.as_slice(),
+        aid,
+        k,
+        &[s],
+        &mut tally,
+    )
+}
+
+/// The store of a strategy, made of all pieces of the operator that was run, by what was prepared
+/// for its lineage.
+fn store_made(alloc: Global, run: &NodeRun, aid: &Aid, s: Strategy) -> Result<NodeStore, NoMemory>
     requires aid { let e = execution_of run.now in aid.now ≡ aid_of e.site.op e.inputs }
     requires supported { supports (execution_of run.now).site.op s ≡ true }
     requires stored { is_stored s ≡ true }
@@ -286,16 +350,7 @@ fn add_piece(
         × Fits (measure_of e.site e.inputs) (s ∷ []) k p × (made.new ≡ with_lineage made.old p)) }
 {
     sz_store::laws::fitting_lineages_can_be_placed();
-    let mut tally = Tally::new();
-    let lineage = piece(
-        alloc,
-        &run.at,
-        run.inputs.as_slice(),
-        aid,
-        k,
-        &[s],
-        &mut tally,
-    )?;
+    let lineage = lineage_of(alloc, run, aid, s, k)?;
     made.place(&lineage)?;
     Ok(())
 }

@@ -12,10 +12,12 @@ ghost use Rattle.sz_spec.specs.Modes.{is_stored, supports, mode_of, has_mapping}
 ghost use Rattle.sz_spec.specs.declared.modes.Mode.TheVariants as mode;
 ghost use Rattle.sz_spec.specs.Sides.{near_side, far_side, image_in};
 ghost use Rattle.sz_tables.specs.Stores.{no_room};
-ghost use Rattle.sz_store.specs.Kept.{entries, holding_stands, with_part};
+ghost use Rattle.sz_store.specs.Kept.{entries, holding_stands, nothing_for, with_part};
+ghost use Rattle.sz_store.specs.Checklists.{listed_in, ticked_in};
 ghost use Rattle.sz_store.specs.Stocks.{stock_of, mode_in, empty_stock, CanGrow, HasRoomFor};
 ghost use Rattle.sz_store.specs.Words.{IsWordOf, Begins, NoneBegins, SaysNone};
 
+use crate::checklist::StoreChecklist;
 use std::alloc::Global;
 use std::sync::Arc;
 use sz_cells::{CellBits, NoMemory};
@@ -99,6 +101,25 @@ impl KeptStore {
             KeptStore::One(store) => store.image(dir, input, from, to),
             KeptStore::Many(store) => store.image(dir, input, from, to),
             KeptStore::Pay(store) => store.image(dir, input, from, to),
+        }
+    }
+
+    /// A checklist of what the store keeps, of which nothing is ticked.
+    pub fn checklist(&self, alloc: Global) -> StoreChecklist<'_>
+        ensures listed { listed_in result ≡ (stock_of self.now).holding }
+        ensures none { ticked_in result ≡ nothing_for (mode_in (stock_of self.now).holding) }
+    {
+        match self {
+            KeptStore::One(store) => StoreChecklist::Pairs(store.checklist(alloc)),
+            KeptStore::Many(store) => StoreChecklist::Pairs(store.checklist(alloc)),
+            KeptStore::Pay(store) => {
+                let list = store.checklist(alloc);
+                if store.is_composite() {
+                    StoreChecklist::Comps(list)
+                } else {
+                    StoreChecklist::Pays(list)
+                }
+            }
         }
     }
 

@@ -3,6 +3,7 @@
 
 ghost use Rattle.sz_store.specs.Laws.{FittingLineagesCanBePlaced, PlacedPiecesMakeTheRelation};
 ghost use Rattle.sz_store.specs.Laws.{OneListOfStoresBegins, WrittenStoresAreRead};
+ghost use Rattle.sz_store.specs.Checklists.{OtherOrdersStandForTheSame};
 
 /// A lineage that fits its piece can be placed.
 pub fn fitting_lineages_can_be_placed()
@@ -19,4 +20,9 @@ pub fn placed_pieces_make_the_relation()
 pub fn written_stores_are_read()
     ensures one { OneListOfStoresBegins }
     ensures read { WrittenStoresAreRead }
+{}
+
+/// Stores that keep the same in another order stand for the same.
+pub fn other_orders_stand_for_the_same()
+    ensures { OtherOrdersStandForTheSame }
 {}

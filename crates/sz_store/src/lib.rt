@@ -8,6 +8,7 @@
 //! - [`NodeStore::is_whole`] and [`NodeStore::missing`] tell whether every piece is placed, and the
 //!   least one that is not.
 //! - [`NodeStore::image`] adds the image of a set of cells by the store of a strategy.
+//! - [`NodeStore::checklist`] tells whether lineages are those that the store of a strategy keeps.
 //! - [`NodeStore::put_bytes`] writes the stores, and [`NodeStore::take_bytes`] reads them again.
 //!
 //! ```
@@ -32,13 +33,16 @@ ghost use Rattle.std.specs.Prelude.{OnOk, OnErr, IfOk, IfErr};
 ghost use Rattle.std.specs.List.{position_or_len};
 ghost use Rattle.std.specs.Arc.{arc_value};
 ghost use Rattle.sz_cells.specs.Cells.{has, with_those};
-ghost use Rattle.sz_spec.specs.Modes.{supports, is_listed, is_stored};
+ghost use Rattle.sz_spec.specs.Modes.{supports, is_listed, is_stored, mode_of};
 ghost use Rattle.sz_spec.specs.Pieces.{pieces_of};
 ghost use Rattle.sz_spec.specs.Sides.{near_side, far_side, image_in};
 ghost use Rattle.sz_store.specs.Kept.{no_lineage, with_lineage, is_placed, is_whole};
 ghost use Rattle.sz_store.specs.Kept.{AreParts, missing, holding_for, holding_stands, stored_in};
+ghost use Rattle.sz_store.specs.Kept.{nothing_for};
+ghost use Rattle.sz_store.specs.Checklists.{listed_in, ticked_in};
 ghost use Rattle.sz_store.specs.Words.{AreWordsOf, BeginEach, NoneBegin, SaysNone};
 
+mod checklist;
 mod kept;
 pub mod laws;
 mod stores;
@@ -47,6 +51,7 @@ use crate::stores::{
     ListedStore, add_all, empty_stores, place_of, put_all, reserve_all, shapes_are_within_limits,
     take_all,
 };
+pub use checklist::StoreChecklist;
 use std::alloc::Global;
 use std::marker::Model;
 use std::sync::Arc;
@@ -193,6 +198,17 @@ impl NodeStore {
     {
         let place = place_of(&self.stores, strategy);
         self.stores[place].kept.image(dir, input, from, to);
+    }
+
+    /// A checklist of what the store of a strategy keeps, of which nothing is ticked.
+    pub fn checklist(&self, alloc: Global, strategy: Strategy) -> StoreChecklist<'_>
+        requires listed { is_listed self.now.list strategy ≡ true }
+        requires stored { is_stored strategy ≡ true }
+        ensures listed { listed_in result ≡ holding_for strategy self.now.stores }
+        ensures none { ticked_in result ≡ nothing_for (mode_of strategy) }
+    {
+        let place = place_of(&self.stores, strategy);
+        self.stores[place].kept.checklist(alloc)
     }
 
     /// Appends the bytes of each store, in the list's order: whatever follows them, they are read

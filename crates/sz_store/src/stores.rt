@@ -124,6 +124,8 @@ pub fn place_of(stores: &[ListedStore], strategy: Strategy) -> usize
     ensures within { result < length stores.now }
     ensures store { (d : ListedStore) → (stock_of (slice_index_or stores.now result d).kept).holding
         ≡ holding_for strategy (map keep_of stores.now) }
+    ensures strategy { (d : ListedStore)
+        → (slice_index_or stores.now result d).strategy ≡ strategy }
 {
     for (place, store) in stores.iter().enumerate() {
         if store.strategy == strategy {

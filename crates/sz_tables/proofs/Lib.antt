@@ -1,5 +1,6 @@
 -- The lemmas on entries under keys, sets and payloads by number, region pairs and payload entries as rows of these,
--- looks, counts of runs and cells, rectangles round sets, and region pairs that are read.
+-- looks, counts of runs and cells, rectangles round sets, region pairs that are read, and
+-- names of region pairs.
 pub mod Chained
 pub mod Slices
 pub mod Numbered
@@ -16,3 +17,4 @@ pub mod Counted
 pub mod Rounding
 pub mod ReadPairs
 pub mod Placing
+pub mod Ticking

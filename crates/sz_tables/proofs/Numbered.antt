@@ -2,7 +2,7 @@
 --
 -- The key idea: the runs of a further set stand behind all others, so each old span gives the runs that it gave, and
 -- the new one gives those that were added.
-use Rattle.std.proofs.Common.{◌≡◌, ◌≢◌, ℕ, ◌+◌, ◌%◌, ◌<◌, List, [], ◌∷◌, ◌++◌, length, map, get_or}
+use Rattle.std.proofs.Common.{◌≡◌, ◌≢◌, ℕ, zero, suc, ◌+◌, ◌%◌, ◌<◌, List, [], ◌∷◌, ◌++◌, length, map, get_or}
 use Rattle.std.proofs.Common.{slice_range, refl, sym, ap, ap₂, subst, ◌∙◌, inl, inr, arith}
 use Rattle.std.proofs.Common.{length-append, Option, Some, None, unwrap_or}
 use Rattle.std.specs.List.{slice_get, HoldsAt, flat_map}
@@ -199,3 +199,10 @@ numbered-widened e runs spans index after was wide = record {
         ∙ map-map (rest_under after.keys) (filed_by index.keys) (runs_by_number runs spans)
   ];
 }
+
+-- each set of a table has the table's shape
+pub shape-of : (e : Extent) (runs : List (List Run)) (n : ℕ) (s : Cells)
+    → slice_get (map (spelled e) runs) n ≡ Some s → s.extent ≡ e
+shape-of e [] n s there = cc
+shape-of e (r ∷ runs) zero s there = cc
+shape-of e (r ∷ runs) (suc n) s there = shape-of e runs n s there

@@ -1,5 +1,6 @@
 -- Entries under keys, sets and payloads by number, region pairs and payload entries by the numbers
--- of these, what a store is seen as, and rectangles round sets.
+-- of these, what a store is seen as, rectangles round sets, and which region pairs or entries of a
+-- table were ticked.
 pub mod Filed
 pub mod Tables
 pub mod Payloads
@@ -10,3 +11,4 @@ pub mod Listing
 pub mod Stores
 pub mod Scans
 pub mod Sets
+pub mod Checklists

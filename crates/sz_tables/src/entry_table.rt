@@ -1,7 +1,7 @@
 //! Payload entries as rows of the numbers of their output sets and payloads.
 
 ghost use Rattle.std.specs.Prelude.{◌≡◌, ◌<◌, ◌≤◌, ◌+◌, ◌∷◌, ◌++◌, [], length, max, OnOk, OnErr};
-ghost use Rattle.std.specs.Prelude.{IfOk, All, ℕ, List, flat_map};
+ghost use Rattle.std.specs.Prelude.{IfOk, IfSome, All, ℕ, List, flat_map};
 ghost use Rattle.sz_cells.specs.Cells.{Cells};
 ghost use Rattle.sz_cells.specs.Runs.{runs_of};
 ghost use Rattle.sz_cells.specs.SetBytes.{IsSetOf};
@@ -12,6 +12,7 @@ ghost use Rattle.sz_tables.specs.Rows.{set_at, runs_in};
 ghost use Rattle.sz_tables.specs.Payloads.{payload_at};
 ghost use Rattle.sz_tables.specs.Stores.{most_given};
 ghost use Rattle.sz_tables.specs.Entries.{entries, entry_at, entry_row_at, no_rows, numbers_of};
+ghost use Rattle.sz_tables.specs.Entries.{entry_named};
 ghost use Rattle.sz_tables.specs.Entries.{NamesBoth, KeepsEntries};
 
 use crate::payload_table::PayloadTable;
@@ -36,7 +37,7 @@ pub struct EntryTable {
 }
 
 /// An entry: the number of its output set, and that of its payload.
-#[derive(Clone, Copy)]
+#[derive(Clone, Copy, PartialEq, Eq)]
 pub struct EntryRow {
     pub set: u32,
     pub payload: u32,
@@ -146,6 +147,24 @@ impl EntryTable {
         ensures named { All (NamesBoth self.now.sets self.now.payloads) self.now.rows }
     {
         self.rows.len() as u32
+    }
+
+    /// The rows, in their order.
+    pub(crate) fn rows(&self) -> &[EntryRow]
+        ensures { result.now ≡ self.now.rows }
+    {
+        &self.rows
+    }
+
+    /// The row of an entry: the numbers of its set and of its payload. `None` where the table does
+    /// not have one of them.
+    pub(crate) fn row_of(&self, entry: &PayEntry) -> Option<EntryRow>
+        ensures { IfSome result
+            (λ r. entry_named self.now.sets self.now.payloads r ≡ entry.now) }
+    {
+        let set = self.sets.number_of(&entry.out)?;
+        let payload = self.payloads.number_of(entry.payload.bytes())?;
+        Some(EntryRow { set, payload })
     }
 
     /// How many different output sets there are. No two of them are equal.

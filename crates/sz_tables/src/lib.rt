@@ -6,6 +6,8 @@
 //! - [`PayloadTable`] gives each different payload a number.
 //! - [`RegionTable`] keeps region pairs as rows of the numbers of their sets.
 //! - [`EntryTable`] keeps payload entries as rows of the numbers of their sets and payloads.
+//! - [`PairChecklist`] and [`EntryChecklist`] tell whether region pairs, or entries, are those of a
+//!   table, by their numbers.
 //! - [`Chains`] files entries under keys, and finds those of a key one after another.
 //! - [`runs_of_set`] and [`runs_of_region`] count the runs of a set and of a region pair's sets, and
 //!   [`bounds_of_set`] puts a rectangle round a set.
@@ -14,6 +16,7 @@
 #![tactic(auto)]
 
 mod chains;
+mod checklists;
 mod entry_table;
 mod looks;
 mod payload_table;
@@ -25,6 +28,7 @@ mod sets;
 mod spans;
 
 pub use chains::Chains;
+pub use checklists::{EntryChecklist, PairChecklist};
 pub use entry_table::{EntryRow, EntryTable};
 pub use payload_table::PayloadTable;
 pub use region_table::RegionTable;

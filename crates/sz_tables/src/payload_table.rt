@@ -148,6 +148,17 @@ impl PayloadTable {
         }
     }
 
+    /// The number of the payload of these bytes. `None` exactly where there is none.
+    ///
+    /// Costs as [`PayloadTable::add`] of a payload that was added before.
+    pub fn number_of(&self, bytes: &[u8]) -> Option<u32>
+        ensures { MatchOption result
+            ((n : ℕ) → slice_get self.now.payloads n ≢ Some bytes.now)
+            (λ n. slice_get self.now.payloads n ≡ Some bytes.now) }
+    {
+        self.find(bytes, mix_of(bytes))
+    }
+
     /// The number of the payload of these bytes, which are mixed to this.
     fn find(&self, bytes: &[u8], mix: u32) -> Option<u32>
         requires { mix ≡ payload_mix bytes.now }

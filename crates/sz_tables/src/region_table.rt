@@ -3,8 +3,8 @@
 ghost use Rattle.std.specs.Prelude.{◌≡◌, ◌<◌, ◌≤◌, ◌+◌, ◌-◌, ◌^◌, [], ◌∷◌, ◌++◌};
 ghost use Rattle.std.specs.Prelude.{length, map, max, OnOk, OnErr, IfOk, Some, All, ℕ, take, drop};
 ghost use Rattle.std.specs.Prelude.{sum_by, vec_len, vec_capacity, ◌*◌, List, slice_index_or};
-ghost use Rattle.std.specs.Prelude.{flat_map, IfSome, true};
-ghost use Rattle.std.specs.List.{range_with_len};
+ghost use Rattle.std.specs.Prelude.{flat_map, IfSome, MatchOption, ◌≢◌, true};
+ghost use Rattle.std.specs.List.{range_with_len, slice_get};
 ghost use Rattle.std.specs.Arc.{arc_value};
 ghost use Rattle.sz_cells.specs.Runs.{runs_of};
 ghost use Rattle.sz_spec.specs.Values.{extent_at};
@@ -197,6 +197,33 @@ impl RegionTable {
         ensures named { All (IsRowOf self.now) self.now.rows }
     {
         self.count
+    }
+
+    /// How many inputs there are.
+    pub(crate) fn inputs(&self) -> u32
+        requires { length self.now.ins ≤ 2 }
+        ensures inputs { result ≡ length self.now.ins }
+        ensures tables { length self.now.sets ≡ length self.now.ins }
+    {
+        self.ins.len() as u32
+    }
+
+    /// The number of a set of the output. `None` exactly where there is none.
+    pub(crate) fn find_out(&self, set: &CellSet) -> Option<u32>
+        ensures { MatchOption result ((n : ℕ) → slice_get self.now.outs n ≢ Some set.now)
+            (λ n. slice_get self.now.outs n ≡ Some set.now) }
+    {
+        self.outs.number_of(set)
+    }
+
+    /// The number of a set of an input. `None` exactly where there is none.
+    pub(crate) fn find_in(&self, input: u32, set: &CellSet) -> Option<u32>
+        requires { input < length self.now.ins }
+        ensures { let sets = sets_of self.now.sets input in
+            MatchOption result ((n : ℕ) → slice_get sets n ≢ Some set.now)
+            (λ n. slice_get sets n ≡ Some set.now) }
+    {
+        self.ins[input as usize].number_of(set)
     }
 
     /// How many different sets of the output there are.

@@ -167,6 +167,20 @@ impl SetTable {
         }
     }
 
+    /// The number of this set. `None` exactly where there is none.
+    ///
+    /// Costs as [`SetTable::add`] of a set that was added before.
+    pub fn number_of(&self, set: &CellSet) -> Option<u32>
+        ensures { MatchOption result ((n : ℕ) → slice_get self.now.sets n ≢ Some set.now)
+            (λ n. slice_get self.now.sets n ≡ Some set.now) }
+    {
+        if set.shape() != self.shape {
+            return None;
+        }
+        let runs = set.runs();
+        self.find(runs, mix_of(runs))
+    }
+
     /// The number of the set that has these runs, which are mixed to this.
     fn find(&self, runs: &[Run], mix: u32) -> Option<u32>
         requires longest { AreRunsFrom 0 (size_of self.now.extent) runs.now }

@@ -9,7 +9,7 @@ use std::sync::Arc;
 use std::test::Fail;
 use sz_cells::{Cell, CellSet, NoMemory, Run, Shape};
 use sz_frame::{Region, SetList};
-use sz_tables::RegionTable;
+use sz_tables::{PairChecklist, RegionTable};
 
 /// A shape of one row of 20 columns.
 fn row_of_20() -> Result<Shape, Fail>
@@ -111,7 +111,9 @@ fn no_row_is_two_empty_lists(rt: HostRuntime) -> Result<(), Fail> {
 }
 
 /// A table of two region pairs, which share the sets of the output and of input 1.
-fn two_pairs(alloc: Global) -> Result<RegionTable, Fail> {
+fn two_pairs(alloc: Global) -> Result<RegionTable, Fail>
+    ensures { IfOk result (λ t. length t.ins ≡ 2) }
+{
     let shape = row_of_20()?;
     let mut table = RegionTable::new(alloc, shape, &[shape, shape])?;
     add_cells(alloc, &mut table, [1, 2, 3])?;
@@ -196,5 +198,45 @@ fn sets_in_place_of_pairs_are_left_out(rt: HostRuntime) -> Result<(), Fail> {
     let alloc = rt.alloc();
     let again = written_again(alloc, &MORE_SETS_THAN_PAIRS)?;
     assert_eq!(rt; again.as_slice(), ONE_PAIR.as_slice());
+    Ok(())
+}
+
+/// A region pair of one cell of the output, and one of each of two inputs.
+fn pair_of(alloc: Global, cols: [u32; 3]) -> Result<Arc<Region>, Fail>
+    requires { All (λ c. c < 20) cols }
+{
+    let shape = row_of_20()?;
+    let out = one_cell(alloc, shape, cols[0])?;
+    let first = one_cell(alloc, shape, cols[1])?;
+    let second = one_cell(alloc, shape, cols[2])?;
+    let ins = SetList::of(vec![in alloc; first, second]?);
+    Ok(Arc::new(alloc, Region { out, ins })?)
+}
+
+/// Whether these are the region pairs of a table of two.
+fn are_two_pairs(alloc: Global, pairs: &[Arc<Region>]) -> Result<bool, Fail> {
+    let table = two_pairs(alloc)?;
+    let mut list = PairChecklist::new(alloc, &table);
+    Ok(list.tick_all(pairs)? && list.is_done()?)
+}
+
+#[test]
+fn a_checklist_is_done_where_each_pair_is_ticked(rt: HostRuntime) -> Result<(), Fail> {
+    let alloc = rt.alloc();
+    let first = pair_of(alloc, [1, 2, 3])?;
+    let second = pair_of(alloc, [1, 3, 3])?;
+    let both = vec![in alloc; second, first]?;
+    assert!(rt; are_two_pairs(alloc, &both)?);
+    assert!(rt; !are_two_pairs(alloc, &both[..1])?);
+    Ok(())
+}
+
+#[test]
+fn a_pair_that_is_not_kept_is_not_ticked(rt: HostRuntime) -> Result<(), Fail> {
+    let alloc = rt.alloc();
+    let known_sets = vec![in alloc; pair_of(alloc, [1, 2, 3])?, pair_of(alloc, [1, 2, 3])?]?;
+    assert!(rt; !are_two_pairs(alloc, &known_sets)?);
+    let other_set = vec![in alloc; pair_of(alloc, [1, 2, 3])?, pair_of(alloc, [2, 3, 3])?]?;
+    assert!(rt; !are_two_pairs(alloc, &other_set)?);
     Ok(())
 }

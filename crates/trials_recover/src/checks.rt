@@ -27,6 +27,12 @@ const TRUE_STORE: [u8; 42] = [
     0, 1, 0, 0, 0, 0, 0, 0, 0, 1,
 ];
 
+/// A store that has it twice.
+const STORE_OF_TWO: [u8; 50] = [
+    0, 0, 0, 2, 0, 0, 0, 0, 1, 0, 0, 0, 0, 0, 0, 0, 0, 1, 0, 0, 0, 1, 0, 0, 0, 0, 0, 0, 0, 0, 0, 0,
+    0, 2, 0, 0, 0, 0, 0, 0, 0, 1, 0, 0, 0, 0, 0, 0, 0, 1,
+];
+
 /// A store with no region pair.
 const EMPTY_STORE: [u8; 8] = [0; 8];
 
@@ -65,6 +71,14 @@ fn opened(alloc: Global, store: &[u8]) -> Result<Recovered, Fail> {
 fn a_store_of_the_relation_is_sound(rt: HostRuntime) -> Result<(), Fail> {
     let alloc = rt.alloc();
     let recovered = opened(alloc, &TRUE_STORE)?;
+    assert_eq!(rt; unsound(&rt, alloc, &recovered)?, None);
+    Ok(())
+}
+
+#[test]
+fn a_store_that_keeps_more_pairs_of_the_relation_is_sound(rt: HostRuntime) -> Result<(), Fail> {
+    let alloc = rt.alloc();
+    let recovered = opened(alloc, &STORE_OF_TWO)?;
     assert_eq!(rt; unsound(&rt, alloc, &recovered)?, None);
     Ok(())
 }

@@ -10,6 +10,10 @@ use Rattle.sz_claims.specs.Changes.{IsExchangeOnly}
 abbrev seat : Own
 seat = (empty_view 0, [])
 
+-- the kind of the calls that put 1 in place of 0
+put-one : IsExchangeOnly (λ st m n found. (st.first ≡ 0) × (st.second ≡ 1))
+put-one st m n found is = is
+
 -- a kind that every call is of has calls with other operands
 any-call : IsExchangeOnly (λ st m n found. Unit {0}) → ⊥
 any-call only = let (first, second) = only (step 0 0 1 1 none) seat seat 0 tt in absurd (omega (arith, first))

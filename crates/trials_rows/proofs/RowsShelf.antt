@@ -3,6 +3,7 @@
 -- The key idea: on written-out tags each field is a computation, or two lengths that differ.
 use Rattle.std.specs.Prelude.{◌≡◌, ℕ, List, [], ◌∷◌, Some, length, true, false, All}
 use Rattle.std.proofs.Common.{refl, sym, ap, arith, true≢false, pos, zero, suc}
+use Rattle.std.proofs.lemmas.List.Elements.{All-nil}
 use Rattle.sz_cells.specs.Extent.{flat}
 use Rattle.sz_spec.specs.declared.op.Op.TheVariants.{Neg}
 use Rattle.sz_spec.specs.Modes.{supports}
@@ -51,6 +52,22 @@ one = tag_of (FullOneB ∷ [])
 
 abbrev two : Tag
 two = tag_of (FullOneB ∷ FullOneF ∷ [])
+
+-- a seat took the store of its tag, of which no piece is placed
+taken-own : HasTaken (first_view one) (after_take (contents one [] false) (first_view one), (0, contents one [] false) ∷ [])
+taken-own = (
+  contents one [] false,
+  0,
+  record {
+    tag = refl;
+    begins = ([], refl);
+    pieces = (tt, All-nil _);
+    last = refl;
+    whole = λ sealed. absurd (true≢false (sym sealed));
+    saw = λ saw. absurd (true≢false (sym saw));
+  },
+  refl,
+)
 
 -- no seat took the store of another tag, and none has a store that it did not take
 taken-of-another-tag : HasTaken (first_view one)

@@ -21,6 +21,13 @@ returns-then-eq-clause-store c d =
     (ap (λ (x : ListedStore). number_of x.strategy) item ∙ ap number_of same) in
     held-first c.args.strategy stores i d c.loop-place-test.true (λ k below. c.loop-place.invariant k d below) found
 
+pub returns-then-eq-clause-strategy : goal.returns-then-eq-clause-strategy
+returns-then-eq-clause-strategy c d =
+    let same = same_true the_type (search rules) _ _ (sym c.if-eq.ensures) in
+    let item = get_or_default c.args.stores.now c.loop-place.place d c.index-stores-place.result c.loop-place-test.true
+    ∙ sym c.index-stores-place.is in
+    ap (λ (x : ListedStore). x.strategy) item ∙ same
+
 pub unreachable-requires : goal.unreachable-requires
 unreachable-requires c =
     true≢false

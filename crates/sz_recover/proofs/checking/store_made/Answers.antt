@@ -4,7 +4,7 @@ use Rattle.sz_spec.specs.Pieces.{pieces_of}
 use Rattle.sz_spec.specs.Shapes.{Site}
 use Rattle.sz_flow.specs.Executions.{execution_of}
 use Rattle.sz_recover.proofs.Made.{made-more, made-exact}
-use Rattle.sz_recover.proofs.checking.store_made_by.Goals as goal
+use Rattle.sz_recover.proofs.checking.store_made.Goals as goal
 
 pub loop-k-preserved : goal.loop-k-preserved
 loop-k-preserved c =
