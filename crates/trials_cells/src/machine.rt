@@ -5,6 +5,7 @@ ghost use Rattle.sz_cells.specs.Extent.{flat, holds};
 ghost use Rattle.sz_cells.specs.Cells.{named_in};
 ghost use Rattle.sz_core.specs.Steps.{step_of};
 ghost use Rattle.sz_core.specs.Examples.{sum_flow, first_pairs, second_pairs};
+ghost use Rattle.trials_cells.specs.Asks.{queries};
 
 use std::alloc::Global;
 use std::test::Fail;
@@ -16,6 +17,13 @@ fn pair(out: u32, input: u32, cell: u32) -> Pair
     ensures { result ≡ record { out = out; input = input; cell = cell } }
 {
     Pair { out, input, cell }
+}
+
+/// A cell of the one row.
+const fn at(col: u32) -> Cell
+    ensures { result ≡ record { row = 0; col = col } }
+{
+    Cell { row: 0, col }
 }
 
 /// An ask that starts from one cell of a shape of one layer.
@@ -82,73 +90,109 @@ fn pairs_of_second(alloc: Global) -> Result<ShelfPairs, NoMemory>
     })
 }
 
-/// The machine of these two nodes over a row of 70 cells, with an ask backward over both, one
-/// backward over the second input, and one forward over both.
+/// The pairs of both nodes.
+fn shelves_of(alloc: Global) -> Result<Vec<ShelfPairs>, NoMemory>
+    ensures { IfOk result (λ v. v.items ≡ first_pairs ∷ second_pairs ∷ []) }
+{
+    let first = pairs_of_first(alloc)?;
+    let second = pairs_of_second(alloc)?;
+    Ok(vec![in alloc; first, second]?)
+}
+
+/// An ask backward over both nodes, one backward over the second input, and one forward over both.
+fn asks_of(alloc: Global, shape: Shape) -> Result<Vec<CoreAsk>, NoMemory>
+    requires { shape ≡ flat 1 70 }
+    ensures { IfOk result (λ v. v.items ≡ queries shape) }
+{
+    let both = ask_from(alloc, Dir::Back, &[(1, 0), (0, 0)], shape, at(69))?;
+    let other = ask_from(alloc, Dir::Back, &[(1, 1)], shape, at(7))?;
+    let onward = ask_from(alloc, Dir::Forward, &[(0, 0), (1, 0)], shape, at(65))?;
+    Ok(vec![in alloc; both, other, onward]?)
+}
+
+/// The machine of these two nodes over a row of 70 cells, with these asks.
 fn sum_machine(alloc: Global) -> Result<Machine, Fail> {
     let shape = shape_of(1, 70)?;
     let flow = flow_of_sum(alloc)?;
     let base = vec![in alloc; shape]?;
-    let shelves = vec![in alloc; pairs_of_first(alloc)?, pairs_of_second(alloc)?]?;
-    let last = Cell { row: 0, col: 69 };
-    let both = ask_from(alloc, Dir::Back, &[(1, 0), (0, 0)], shape, last)?;
-    let seventh = Cell { row: 0, col: 7 };
-    let other = ask_from(alloc, Dir::Back, &[(1, 1)], shape, seventh)?;
-    let late = Cell { row: 0, col: 65 };
-    let onward = ask_from(alloc, Dir::Forward, &[(0, 0), (1, 0)], shape, late)?;
-    let asks = vec![in alloc; both, other, onward]?;
+    let shelves = shelves_of(alloc)?;
+    let asks = asks_of(alloc, shape)?;
     Ok(Machine::new(alloc, flow, base, shelves, asks)?)
 }
 
 /// Whether an ask holds exactly these cells.
-fn has_only(machine: &Machine, ask: u32, cells: &[Cell]) -> Result<bool, Fail> {
-    let held = machine.cells(ask).ok_or("the ask is there")?;
-    Ok(held.count() as usize == cells.len() && cells.iter().all(|cell| held.has(*cell)))
+fn has_only(machine: &Machine, ask: u32, cells: &[Cell]) -> bool {
+    match machine.cells(ask) {
+        Some(held) => {
+            held.count() as usize == cells.len() && cells.iter().all(|cell| held.has(*cell))
+        }
+        None => false,
+    }
 }
 
-/// A cell of the one row.
-fn at(col: u32) -> Cell {
-    Cell { row: 0, col }
+const EVENTS: [Event; 12] = [
+    Event::Place { shelf: 0, piece: 1 },
+    Event::Seal { shelf: 0 },
+    Event::Place { shelf: 0, piece: 0 },
+    Event::Seal { shelf: 0 },
+    Event::Look { ask: 0 },
+    Event::Look { ask: 0 },
+    Event::Look { ask: 2 },
+    Event::Place { shelf: 1, piece: 0 },
+    Event::Seal { shelf: 1 },
+    Event::Look { ask: 2 },
+    Event::Look { ask: 1 },
+    Event::Place { shelf: 1, piece: 2 },
+];
+
+/// What the events are told.
+const TOLD: [Told; 12] = [
+    Told::Placed,
+    Told::Missing { piece: 0 },
+    Told::Placed,
+    Told::Sealed,
+    Told::FromStore,
+    Told::Ended,
+    Told::FromStore,
+    Told::Placed,
+    Told::Missing { piece: 1 },
+    Told::FromTrace,
+    Told::FromTrace,
+    Told::NoSuch,
+];
+
+/// Whether events are told this, one after the other.
+fn are_told(
+    alloc: Global,
+    machine: &mut Machine,
+    events: &[Event],
+    told: &[Told],
+) -> Result<bool, NoMemory> {
+    let found = machine.run(alloc, events)?;
+    Ok(found.as_slice() == told)
+}
+
+/// Whether the asks hold these cells in the end.
+fn are_answered(machine: &Machine) -> bool {
+    has_only(machine, 0, &[at(1), at(2), at(65)])
+        && has_only(machine, 1, &[at(9)])
+        && has_only(machine, 2, &[at(7), at(69)])
+}
+
+/// Whether a first look, then the events and then the asks are answered so.
+fn goes_both_ways(alloc: Global, machine: &mut Machine) -> Result<bool, NoMemory> {
+    let first = machine.step(alloc, Event::Look { ask: 0 })?;
+    Ok(
+        first == Told::FromTrace
+            && are_told(alloc, machine, &EVENTS, &TOLD)?
+            && are_answered(machine),
+    )
 }
 
 // What the events are told and what the asks hold are rows of the definitions too, by hand.
 #[test]
 fn asks_go_both_ways_through_two_shelves(rt: HostRuntime) -> Result<(), Fail> {
-    let alloc = rt.alloc();
-    let mut machine = sum_machine(alloc)?;
-    let first = machine.step(alloc, Event::Look { ask: 0 })?;
-    assert!(rt; first == Told::FromTrace);
-    let events = [
-        Event::Place { shelf: 0, piece: 1 },
-        Event::Seal { shelf: 0 },
-        Event::Place { shelf: 0, piece: 0 },
-        Event::Seal { shelf: 0 },
-        Event::Look { ask: 0 },
-        Event::Look { ask: 0 },
-        Event::Look { ask: 2 },
-        Event::Place { shelf: 1, piece: 0 },
-        Event::Seal { shelf: 1 },
-        Event::Look { ask: 2 },
-        Event::Look { ask: 1 },
-        Event::Place { shelf: 1, piece: 2 },
-    ];
-    let told = machine.run(alloc, &events)?;
-    let expected = [
-        Told::Placed,
-        Told::Missing { piece: 0 },
-        Told::Placed,
-        Told::Sealed,
-        Told::FromStore,
-        Told::Ended,
-        Told::FromStore,
-        Told::Placed,
-        Told::Missing { piece: 1 },
-        Told::FromTrace,
-        Told::FromTrace,
-        Told::NoSuch,
-    ];
-    assert!(rt; told.as_slice() == expected.as_slice());
-    assert!(rt; has_only(&machine, 0, &[at(1), at(2), at(65)])?);
-    assert!(rt; has_only(&machine, 1, &[at(9)])?);
-    assert!(rt; has_only(&machine, 2, &[at(7), at(69)])?);
+    let mut machine = sum_machine(rt.alloc())?;
+    assert!(rt; goes_both_ways(rt.alloc(), &mut machine) == Ok(true));
     Ok(())
 }

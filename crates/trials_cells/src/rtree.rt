@@ -29,20 +29,35 @@ fn tree_of(alloc: Global, rectangles: &[Bounds]) -> Result<RTree, NoMemory>
     Ok(tree)
 }
 
+/// A rectangle to look for, the number from which on, and the next that has cells of it.
+type Look = ([u32; 4], u32, Option<u32>);
+
+/// Whether a look in a tree finds its number.
+fn is_found(tree: &RTree, look: &Look) -> bool {
+    let [top, left, bottom, right] = look.0;
+    tree.next_hit(bounds(top, left, bottom, right), look.1) == look.2
+}
+
+/// Whether each look in a tree finds its number.
+fn finds(tree: &RTree, looks: &[Look]) -> bool {
+    looks.iter().all(|look| is_found(tree, look))
+}
+
+/// Looks in the tree of the three.
+const IN_THREE: [Look; 6] = [
+    ([1, 1, 1, 1], 0, Some(0)),
+    ([1, 1, 1, 1], 1, Some(2)),
+    ([1, 1, 1, 1], 2, Some(2)),
+    ([1, 1, 1, 1], 3, None),
+    ([3, 0, 3, 0], 0, None),
+    ([5, 5, 5, 5], 0, Some(1)),
+];
+
 #[test]
 fn finds_the_three_in_turn(rt: HostRuntime) -> Result<(), Fail> {
-    let tree = tree_of(
-        rt.alloc(),
-        &[bounds(0, 0, 1, 1), bounds(5, 5, 6, 6), bounds(1, 1, 5, 5)],
-    )?;
-    assert_eq!(rt; tree.len(), 3);
-    let corner = bounds(1, 1, 1, 1);
-    assert_eq!(rt; tree.next_hit(corner, 0), Some(0));
-    assert_eq!(rt; tree.next_hit(corner, 1), Some(2));
-    assert_eq!(rt; tree.next_hit(corner, 2), Some(2));
-    assert_eq!(rt; tree.next_hit(corner, 3), None);
-    assert_eq!(rt; tree.next_hit(bounds(3, 0, 3, 0), 0), None);
-    assert_eq!(rt; tree.next_hit(bounds(5, 5, 5, 5), 0), Some(1));
+    let three = [bounds(0, 0, 1, 1), bounds(5, 5, 6, 6), bounds(1, 1, 5, 5)];
+    let tree = tree_of(rt.alloc(), &three)?;
+    assert!(rt; tree.len() == 3 && finds(&tree, &IN_THREE));
     Ok(())
 }
 
@@ -57,22 +72,29 @@ fn unit_squares(alloc: Global, side: u32) -> Result<Vec<Bounds>, AllocError> {
     Ok(rectangles)
 }
 
+/// Looks in the tree of the cells of a square of side 512.
+const IN_SQUARE: [Look; 7] = [
+    ([511, 511, 511, 511], 0, Some(262143)),
+    ([511, 511, 511, 511], 262143, Some(262143)),
+    ([511, 511, 511, 511], 262144, None),
+    ([510, 511, 511, 511], 0, Some(261631)),
+    ([510, 511, 511, 511], 261632, Some(262143)),
+    ([0, 0, 511, 511], 262142, Some(262142)),
+    ([512, 0, 600, 511], 0, None),
+];
+
+/// A tree of the cells of a square, where there are so many.
+fn tree_of_square(alloc: Global, side: u32, count: u32) -> Result<RTree, Fail> {
+    let rectangles = unit_squares(alloc, side)?;
+    if rectangles.len() != count as usize {
+        return Err(Fail::from("another number of cells"));
+    }
+    Ok(tree_of(alloc, &rectangles)?)
+}
+
 #[test]
 fn finds_the_last_of_262144(rt: HostRuntime) -> Result<(), Fail> {
-    let rectangles = unit_squares(rt.alloc(), 512)?;
-    assert!(rt; rectangles.len() == 262144);
-    let tree = tree_of(rt.alloc(), &rectangles)?;
-    assert_eq!(rt; tree.len(), 262144);
-    let corner = bounds(511, 511, 511, 511);
-    assert_eq!(rt; tree.next_hit(corner, 0), Some(262143));
-    assert_eq!(rt; tree.next_hit(corner, 262143), Some(262143));
-    assert_eq!(rt; tree.next_hit(corner, 262144), None);
-    assert_eq!(rt; tree.next_hit(bounds(510, 511, 511, 511), 0), Some(261631));
-    assert_eq!(rt;
-        tree.next_hit(bounds(510, 511, 511, 511), 261632),
-        Some(262143)
-    );
-    assert_eq!(rt; tree.next_hit(bounds(0, 0, 511, 511), 262142), Some(262142));
-    assert_eq!(rt; tree.next_hit(bounds(512, 0, 600, 511), 0), None);
+    let tree = tree_of_square(rt.alloc(), 512, 262144)?;
+    assert!(rt; tree.len() == 262144 && finds(&tree, &IN_SQUARE));
     Ok(())
 }

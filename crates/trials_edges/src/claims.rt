@@ -3,11 +3,12 @@ ghost use Rattle.std.specs.Prelude.{◌≡◌, ◌+◌, ◌<◌, ◌≤◌, ◌�
 ghost use Rattle.std.specs.Prelude.{length};
 ghost use Rattle.sz_claims.specs.Claims.{AreDisjoint};
 
+use std::alloc::Global;
 use std::mem::size_of;
 use std::sync::Arc;
 use std::test::Fail;
 use std::thread::{self, Threads};
-use sz_claims::{ClaimPass, Claims};
+use sz_claims::{ClaimPass, Claims, NoMemory};
 
 const PIECES: u32 = 1_000;
 
@@ -51,12 +52,16 @@ fn claim_by_two<R: Threads + Sync>(rt: &R, claims: &Claims, pass: &mut ClaimPass
     won
 }
 
+// How many pieces two threads win together.
+fn won_by_two<R: Threads + Sync>(rt: &R, alloc: Global) -> Result<u32, NoMemory> {
+    let (claims, mut pass) = Claims::new(alloc, PIECES)?;
+    let (here, there) = claim_by_two(rt, &claims, &mut pass);
+    Ok(here + there)
+}
+
 #[test]
-fn two_threads_share_out_all_pieces(rt: HostRuntime) -> Result<(), Fail> {
-    let (claims, mut pass) = Claims::new(rt.alloc(), PIECES)?;
-    let (here, there) = claim_by_two(&rt, &claims, &mut pass);
-    assert_eq!(rt; here + there, PIECES);
-    Ok(())
+fn two_threads_share_out_all_pieces(rt: HostRuntime) {
+    assert!(rt; won_by_two(&rt, rt.alloc()) == Ok(PIECES));
 }
 
 #[test]
@@ -71,17 +76,23 @@ fn claims_and_passes_move_into_threads(rt: HostRuntime) -> Result<(), Fail> {
     Ok(())
 }
 
-#[test]
-fn a_piece_is_won_once_by_passes_without_bytes(rt: HostRuntime) -> Result<(), Fail> {
-    assert_eq!(rt; size_of::<ClaimPass>(), 0);
-    let (claims, mut first) = Claims::new(rt.alloc(), 3)?;
+// Whether a pass wins a piece that is free, and neither it nor another wins the piece again, also
+// once they are joined.
+fn is_won_once(alloc: Global) -> Result<bool, NoMemory> {
+    let (claims, mut first) = Claims::new(alloc, 3)?;
     let mut second = claims.split(&mut first);
-    assert!(rt; claims.claim(&mut first, 0));
-    assert!(rt; !claims.claim(&mut second, 0));
-    assert!(rt; !claims.claim(&mut first, 0));
-    assert!(rt; claims.claim(&mut second, 2));
+    let zero = claims.claim(&mut first, 0);
+    let zero_by_second = claims.claim(&mut second, 0);
+    let zero_again = claims.claim(&mut first, 0);
+    let two = claims.claim(&mut second, 2);
     claims.join(&mut first, second);
-    assert!(rt; claims.claim(&mut first, 1));
-    assert!(rt; !claims.claim(&mut first, 2));
-    Ok(())
+    let one = claims.claim(&mut first, 1);
+    let two_again = claims.claim(&mut first, 2);
+    Ok(zero && !zero_by_second && !zero_again && two && one && !two_again)
+}
+
+#[test]
+fn a_piece_is_won_once_by_passes_without_bytes(rt: HostRuntime) {
+    assert!(rt; size_of::<ClaimPass>() == 0);
+    assert!(rt; is_won_once(rt.alloc()) == Ok(true));
 }

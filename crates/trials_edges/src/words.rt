@@ -5,16 +5,19 @@
 //! kind of answer is met here once.
 
 use std::alloc::{AllocError, Global};
-use std::test::Fail;
 use sz_words::{Job, JobMode, LogPlace, NoMemory, WordsFault, log_place, read_words};
 
-/// The words of a line, apart at each blank, where `_` stands for the empty word.
+/// A word of a line, where `_` stands for the empty word.
+fn word_of(alloc: Global, word: &str) -> Result<String, AllocError> {
+    String::from_str(alloc, if word == "_" { "" } else { word })
+}
+
+/// The words of a line, apart at each blank.
 fn words_of(alloc: Global, line: &str) -> Result<Vec<String>, AllocError> {
     let mut words = Vec::new(alloc);
     for word in line.split(' ') {
         if !word.is_empty() {
-            let text = if word == "_" { "" } else { word };
-            words.push(String::from_str(alloc, text)?)?;
+            words.push(word_of(alloc, word)?)?;
         }
     }
     Ok(words)
@@ -40,49 +43,71 @@ fn job(mode: JobMode, workers: u32, askers: u32, seed: u32, side: u32) -> Job {
     }
 }
 
-#[test]
-fn reads_the_words_of_each_mode(rt: HostRuntime) -> Result<(), Fail> {
-    let lines = [
-        "play",
-        "init dir/x",
-        "run _ --workers 2",
-        "--askers=5 check x",
-        "upgrade x",
-        "load --seed 7 --side 8",
-    ];
+/// Lines of the words of each mode.
+const READ: [&str; 6] = [
+    "play",
+    "init dir/x",
+    "run _ --workers 2",
+    "--askers=5 check x",
+    "upgrade x",
+    "load --seed 7 --side 8",
+];
+
+/// Whether the words of a line have a job, and a place or none.
+fn is_read(alloc: Global, line: &str) -> bool {
+    job_of(alloc, line).is_ok() && place_of(alloc, line).is_ok()
+}
+
+/// The first of some lines that is not read, if any.
+fn first_unread<'a>(alloc: Global, lines: &[&'a str]) -> Option<&'a str> {
     for line in lines {
-        assert!(rt; job_of(rt.alloc(), line).is_ok(), "at {line}");
-        assert!(rt; place_of(rt.alloc(), line).is_ok(), "at {line}");
+        if !is_read(alloc, line) {
+            return Some(*line);
+        }
     }
-    Ok(())
+    None
 }
 
 #[test]
-fn refuses_words(rt: HostRuntime) -> Result<(), Fail> {
-    let lines = [
-        "",
-        "fly",
-        "play x",
-        "run",
-        "run a b",
-        "upgrade",
-        "upgrade a b",
-        "play --workers 2 --workers 3",
-        "play --workers 65",
-        "play --workers",
-        "-x play",
-        "--help",
-        "--version",
-    ];
+fn reads_the_words_of_each_mode(rt: HostRuntime) {
+    assert_eq!(rt; first_unread(rt.alloc(), &READ), None);
+}
+
+/// Lines of words that are refused.
+const REFUSED: [&str; 13] = [
+    "",
+    "fly",
+    "play x",
+    "run",
+    "run a b",
+    "upgrade",
+    "upgrade a b",
+    "play --workers 2 --workers 3",
+    "play --workers 65",
+    "play --workers",
+    "-x play",
+    "--help",
+    "--version",
+];
+
+/// Whether the words of a line are refused, and have no place.
+fn is_refused(alloc: Global, line: &str) -> bool {
+    job_of(alloc, line) == Err(WordsFault::Usage) && matches!(place_of(alloc, line), Ok(None))
+}
+
+/// The first of some lines that is not refused, if any.
+fn first_unrefused<'a>(alloc: Global, lines: &[&'a str]) -> Option<&'a str> {
     for line in lines {
-        assert_eq!(rt;
-            job_of(rt.alloc(), line),
-            Err(WordsFault::Usage),
-            "at {line}"
-        );
-        assert!(rt; place_of(rt.alloc(), line) == Ok(None), "at {line}");
+        if !is_refused(alloc, line) {
+            return Some(*line);
+        }
     }
-    Ok(())
+    None
+}
+
+#[test]
+fn refuses_words(rt: HostRuntime) {
+    assert_eq!(rt; first_unrefused(rt.alloc(), &REFUSED), None);
 }
 
 /// A line that names a log by a path of so many bytes, with every option at its greatest number.
@@ -95,18 +120,29 @@ fn longest_line(alloc: Global, path_length: u32) -> Result<String, AllocError> {
     Ok(line)
 }
 
+/// Whether a place is one to make, at a path of so many bytes `x`.
+fn is_place(place: &LogPlace, length: usize) -> bool {
+    place.make && place.path.len() == length && place.path.bytes().all(|byte| byte == b'x')
+}
+
+/// Whether a line has a place to make, at a path of so many bytes `x`.
+fn has_place(alloc: Global, line: &str, length: usize) -> bool {
+    match place_of(alloc, line) {
+        Ok(Some(place)) => is_place(&place, length),
+        _ => false,
+    }
+}
+
+/// Whether the longest line of a path of so many bytes has its job and its place.
+fn is_longest_read(alloc: Global, length: u32) -> Result<bool, AllocError> {
+    let line = longest_line(alloc, length)?;
+    Ok(
+        job_of(alloc, line.as_str()) == Ok(job(JobMode::Init, 64, 64, 4294967295, 512))
+            && has_place(alloc, line.as_str(), length as usize),
+    )
+}
+
 #[test]
-fn reads_a_place_of_4096_bytes(rt: HostRuntime) -> Result<(), Fail> {
-    let line = longest_line(rt.alloc(), 4096)?;
-    assert_eq!(rt;
-        job_of(rt.alloc(), line.as_str()),
-        Ok(job(JobMode::Init, 64, 64, 4294967295, 512))
-    );
-    let Ok(Some(place)) = place_of(rt.alloc(), line.as_str()) else {
-        return Err(Fail::from("no place"));
-    };
-    assert!(rt; place.make);
-    assert_eq!(rt; place.path.len(), 4096);
-    assert!(rt; place.path.bytes().all(|byte| byte == b'x'));
-    Ok(())
+fn reads_a_place_of_4096_bytes(rt: HostRuntime) {
+    assert!(rt; is_longest_read(rt.alloc(), 4096) == Ok(true));
 }

@@ -1,11 +1,13 @@
 //! Sessions in short: each public call on its happy path, and the limits on how many things are
 //! held. Which rule comes first is worked out row by row in proofs/Rows*.antt.
-ghost use Rattle.std.specs.Prelude.{◌≡◌, ◌≤◌, [], ◌∷◌, true, length, None, IfOk, OnOk, codes};
+ghost use Rattle.std.specs.Prelude.{◌≡◌, ◌≤◌, [], ◌∷◌, true, length, None, Some, IfOk, OnOk, All};
+ghost use Rattle.std.specs.Prelude.{codes, option_map};
 ghost use Rattle.std.specs.Arc.{arc_value};
 ghost use Rattle.std.specs.Result.{result_err};
 ghost use Rattle.sz_spec.specs.declared.modes.Strategy.TheVariants as strategy;
 ghost use Rattle.sz_spec.specs.FlowShapes.{output_shapes};
 ghost use Rattle.sz_catalogue.specs.Holdings.{cells_of, shapes_of, output_cells};
+ghost use Rattle.sz_catalogue.specs.Holdings.{flow_named, array_version};
 ghost use Rattle.sz_script.specs.Right.{is_right};
 ghost use Rattle.sz_catalogue.specs.Rules.{are_lists_for, judged};
 
@@ -20,21 +22,25 @@ use sz_cells::{Cell, CellSet, NoMemory, Shape};
 use sz_script::{Command, LineFault, Name, StrategyList, read_line};
 use sz_spec::{Array, Flow, Node, Strategy, output_shapes};
 
+/// Reads a line, judges its command and takes it, where no rule refuses it.
+fn taken(alloc: Global, held: &mut Catalogue, line: &[u8]) -> Result<Reply, LineFault> {
+    sz_script::laws::commands_are_right();
+    let command = read_line(alloc, line)?;
+    held.judge(alloc, &command)?;
+    match accept(held, command) {
+        Ok(reply) => Ok(reply),
+        Err(_) => Err(LineFault::NoMemory),
+    }
+}
+
 /// Reads a line, judges its command and takes it. A reply to a line that changes nothing is that it
 /// is done; so is one to a refresh, which is not taken.
 fn take(alloc: Global, held: &mut Catalogue, line: &[u8]) -> Result<Reply, Fail> {
-    sz_script::laws::commands_are_right();
-    let command = match read_line(alloc, line) {
-        Ok(command) => command,
-        Err(LineFault::Refused(rule)) => return Ok(Reply::Refused(rule)),
-        Err(LineFault::NoMemory) => return Err(Fail::from("no memory")),
-    };
-    match held.judge(alloc, &command) {
-        Ok(()) => {}
-        Err(LineFault::Refused(rule)) => return Ok(Reply::Refused(rule)),
-        Err(LineFault::NoMemory) => return Err(Fail::from("no memory")),
+    match taken(alloc, held, line) {
+        Ok(reply) => Ok(reply),
+        Err(LineFault::Refused(rule)) => Ok(Reply::Refused(rule)),
+        Err(LineFault::NoMemory) => Err(Fail::from("no memory")),
     }
-    Ok(accept(held, command)?)
 }
 
 /// Takes a command that no rule refuses.
@@ -68,19 +74,33 @@ fn flow_line(alloc: Global, number: u32) -> Result<String, Fail> {
     Ok(line)
 }
 
-/// Holds one array, one flow and one version fewer than can be held.
-fn fill(alloc: Global, held: &mut Catalogue) -> Result<(), Fail> {
-    for _ in 0..4_095 {
-        let _array = take(alloc, held, br#"{"array":"a","cells":[[5]]}"#)?;
+/// Takes a line so many times.
+fn take_each_time(
+    alloc: Global,
+    held: &mut Catalogue,
+    times: u32,
+    line: &[u8],
+) -> Result<(), Fail> {
+    for _ in 0..times {
+        let _reply = take(alloc, held, line)?;
     }
-    for number in 0..1_023 {
+    Ok(())
+}
+
+/// Holds the flows of the numbers below another.
+fn fill_flows(alloc: Global, held: &mut Catalogue, end: u32) -> Result<(), Fail> {
+    for number in 0..end {
         let line = flow_line(alloc, number)?;
         let _flow = take(alloc, held, line.as_bytes())?;
     }
-    for _ in 0..4_095 {
-        let _version = take(alloc, held, br#"{"start":"f7","base":[["a",1]]}"#)?;
-    }
     Ok(())
+}
+
+/// Holds one array, one flow and one version fewer than can be held.
+fn fill(alloc: Global, held: &mut Catalogue) -> Result<(), Fail> {
+    take_each_time(alloc, held, 4_095, br#"{"array":"a","cells":[[5]]}"#)?;
+    fill_flows(alloc, held, 1_023)?;
+    take_each_time(alloc, held, 4_095, br#"{"start":"f7","base":[["a",1]]}"#)
 }
 
 /// A refresh of a version that is not awaited.
@@ -126,27 +146,54 @@ fn holds_the_last_flow(alloc: Global, held: &mut Catalogue) -> Result<bool, Fail
     Ok(last && next)
 }
 
+/// Whether the last array, flow and version that can be held are.
+fn holds_the_last(alloc: Global, held: &mut Catalogue) -> Result<bool, Fail> {
+    fill(alloc, held)?;
+    Ok(each_says(alloc, held, &LAST)? && holds_the_last_flow(alloc, held)?)
+}
+
+/// Whether the last array, flow and version of a new catalogue are held.
+fn last_is_held(alloc: Global) -> Result<bool, Fail> {
+    let mut held = Catalogue::new(alloc);
+    holds_the_last(alloc, &mut held)
+}
+
 #[test]
 fn the_last_array_flow_and_version_is_held(rt: HostRuntime) -> Result<(), Fail> {
-    let alloc = rt.alloc();
-    let mut held = Catalogue::new(alloc);
-    fill(alloc, &mut held)?;
-    assert!(rt; each_says(alloc, &mut held, &LAST)?);
-    assert!(rt; holds_the_last_flow(alloc, &mut held)?);
+    assert!(rt; last_is_held(rt.alloc())?);
     Ok(())
 }
 
-/// A catalogue with an array `a` of one cell, and a flow `f` of one negation.
-fn with_flow(alloc: Global) -> Result<Catalogue, Fail> {
-    let mut held = Catalogue::new(alloc);
+/// Holds an array `a` of one cell, and a flow `f` of one negation.
+fn hold_flow(alloc: Global, held: &mut Catalogue) -> Result<(), Fail> {
     let flow = br#"{"flow":"f","inputs":1,"nodes":[{"op":"neg","from":[{"i":0}]}]}"#;
-    let _array = take(alloc, &mut held, br#"{"array":"a","cells":[[5]]}"#)?;
-    let _flow = take(alloc, &mut held, flow)?;
-    Ok(held)
+    take_each_time(alloc, held, 1, br#"{"array":"a","cells":[[5]]}"#)?;
+    take_each_time(alloc, held, 1, flow)
+}
+
+/// The first array of `a` alone.
+fn base_of(alloc: Global, array: Arc<Array>) -> Result<BaseArrays, NoMemory>
+    ensures { IfOk result
+        (λ b. b ≡ record { name = codes "a"; version = 1; array = arc_value array } ∷ []) }
+{
+    let only = BaseArray {
+        name: Name::of(String::from_str(alloc, "a")?),
+        version: 1,
+        array,
+    };
+    Ok(BaseArrays::of(vec![in alloc; only]?))
+}
+
+/// Black box for one node.
+fn black_box(alloc: Global) -> Result<StrategyLists, NoMemory>
+    ensures { IfOk result (λ l. l ≡ (strategy.BlackBox ∷ []) ∷ []) }
+{
+    let list = StrategyList::of(vec![in alloc; Strategy::BlackBox]?);
+    Ok(StrategyLists::of(vec![in alloc; list]?))
 }
 
 /// The version of the flow `f` of one node on the first array of `a`, by black box and awaited.
-fn version_of(alloc: Global, flow: Arc<Flow>, array: Arc<Array>) -> Result<HeldVersion, Fail>
+fn version_of(alloc: Global, flow: Arc<Flow>, array: Arc<Array>) -> Result<HeldVersion, NoMemory>
     ensures name { IfOk result (λ v. v.flow_name ≡ codes "f") }
     ensures flow { IfOk result (λ v. v.flow ≡ arc_value flow) }
     ensures base { IfOk result
@@ -154,17 +201,14 @@ fn version_of(alloc: Global, flow: Arc<Flow>, array: Arc<Array>) -> Result<HeldV
     ensures awaited { IfOk result (λ v. v.awaited ≡ true) }
     ensures lists { IfOk result (λ v. v.lists ≡ (strategy.BlackBox ∷ []) ∷ []) }
 {
-    let array = BaseArray {
-        name: Name::of(String::from_str(alloc, "a")?),
-        version: 1,
-        array,
-    };
-    let list = StrategyList::of(vec![in alloc; Strategy::BlackBox]?);
+    let base = base_of(alloc, array)?;
+    let lists = black_box(alloc)?;
+    let flow_name = Name::of(String::from_str(alloc, "f")?);
     Ok(HeldVersion {
-        flow_name: Name::of(String::from_str(alloc, "f")?),
+        flow_name,
         flow,
-        base: BaseArrays::of(vec![in alloc; array]?),
-        lists: StrategyLists::of(vec![in alloc; list]?),
+        base,
+        lists,
         awaited: true,
     })
 }
@@ -225,11 +269,45 @@ fn output_cells(alloc: Global, version: &HeldVersion) -> Result<u64, Fail>
     }
 }
 
+/// The flow of `f`.
+fn flow_of(held: &Catalogue) -> Result<Arc<Flow>, Fail>
+    ensures { IfOk result (λ f.
+        option_map (λ w. w.graph) (flow_named held.now (codes "f")) ≡ Some (arc_value f)) }
+{
+    match held.flow("f") {
+        Some(flow) => Ok(Arc::try_clone(flow)?),
+        None => Err(Fail::from("the flow")),
+    }
+}
+
+/// The first array of `a`.
+fn array_of(held: &Catalogue) -> Result<Arc<Array>, Fail>
+    ensures { IfOk result (λ a. array_version held.now (codes "a") 1 ≡ Some (arc_value a)) }
+{
+    match held.array("a", 1) {
+        Some(array) => Ok(Arc::try_clone(array)?),
+        None => Err(Fail::from("the array")),
+    }
+}
+
+/// The version of `f` on the first array of `a`, as they are held.
+fn held_version(alloc: Global, held: &Catalogue) -> Result<HeldVersion, Fail>
+    ensures flow { IfOk result (λ v.
+        option_map (λ w. w.graph) (flow_named held.now v.flow_name) ≡ Some v.flow) }
+    ensures base { IfOk result
+        (λ v. All (λ b. array_version held.now b.name b.version ≡ Some b.array) v.base) }
+    ensures one { IfOk result (λ v. length v.base ≡ 1) }
+    ensures awaited { IfOk result (λ v. v.awaited ≡ true) }
+    ensures lists { IfOk result (λ v. v.lists ≡ (strategy.BlackBox ∷ []) ∷ []) }
+{
+    let flow = flow_of(held)?;
+    let array = array_of(held)?;
+    Ok(version_of(alloc, flow, array)?)
+}
+
 /// Adds a version of `f` on the first array of `a` under a number that is not held.
 fn add(alloc: Global, held: &mut Catalogue, number: u32) -> Result<(), Fail> {
-    let flow = Arc::try_clone(held.flow("f").ok_or("the flow")?)?;
-    let array = Arc::try_clone(held.array("a", 1).ok_or("the array")?)?;
-    let version = version_of(alloc, flow, array)?;
+    let version = held_version(alloc, held)?;
     let cells = output_cells(alloc, &version)?;
     if number == 0 || held.version(number).is_some() || !held.has_room(cells) {
         return Err(Fail::from("a new number, and room"));
@@ -255,17 +333,19 @@ fn is_added(version: Option<&HeldVersion>) -> bool {
     }
 }
 
-/// Whether strategies are set, a version is started and awaited, and a cell outside is refused.
-fn runs(alloc: Global, held: &mut Catalogue) -> Result<bool, Fail> {
-    let list = br#"{"strategy":"f","node":0,"list":["blackbox"]}"#;
-    let start = br#"{"start":"f","base":[["a",1]]}"#;
-    let outside = br#"{"ask":1,"dir":"back","path":[[0,0]],"cells":[[1,1]]}"#;
-    let set = says(alloc, held, list, "7 strategy f 0\n")?;
-    let started = says(alloc, held, start, "7 started 1\n")?;
-    let awaited = says(alloc, held, br#"{"await":1}"#, "7 done 1\n")?;
-    let refused = says(alloc, held, outside, "7 refused 17\n")?;
-    Ok(set && started && awaited && refused)
-}
+/// Strategies are set, a version is started and awaited, and a cell outside is refused.
+const RUN: [(&str, &str); 4] = [
+    (
+        r#"{"strategy":"f","node":0,"list":["blackbox"]}"#,
+        "7 strategy f 0\n",
+    ),
+    (r#"{"start":"f","base":[["a",1]]}"#, "7 started 1\n"),
+    (r#"{"await":1}"#, "7 done 1\n"),
+    (
+        r#"{"ask":1,"dir":"back","path":[[0,0]],"cells":[[1,1]]}"#,
+        "7 refused 17\n",
+    ),
+];
 
 /// Whether what is held is found, and nothing else.
 fn finds(held: &Catalogue) -> bool {
@@ -279,26 +359,52 @@ fn finds(held: &Catalogue) -> bool {
         && !held.has_room(4_194_303)
 }
 
-/// Whether the next number is behind the greatest.
-fn counts_on(alloc: Global, held: &mut Catalogue) -> Result<bool, Fail> {
-    let start = br#"{"start":"f","base":[["a",1]]}"#;
-    add(alloc, held, 7)?;
-    let is_held = is_added(held.version(7));
-    let is_next = held.next_number() == 8;
-    let next = says(alloc, held, start, "7 started 8\n")?;
-    add(alloc, held, 4_294_967_294)?;
-    let last = says(alloc, held, start, "7 started 4294967295\n")?;
-    let none = says(alloc, held, start, "7 refused 14\n")?;
-    Ok(is_held && is_next && next && last && none)
+/// The version behind number 7.
+const BEHIND: [(&str, &str); 1] = [(r#"{"start":"f","base":[["a",1]]}"#, "7 started 8\n")];
+
+/// The version behind the last number but one, and none behind it.
+const LAST_NUMBERS: [(&str, &str); 2] = [
+    (
+        r#"{"start":"f","base":[["a",1]]}"#,
+        "7 started 4294967295\n",
+    ),
+    (r#"{"start":"f","base":[["a",1]]}"#, "7 refused 14\n"),
+];
+
+/// Adds a version under a number, and says whether the next are those of these lines.
+fn is_followed(
+    alloc: Global,
+    held: &mut Catalogue,
+    number: u32,
+    rows: &[(&str, &str)],
+) -> Result<bool, Fail> {
+    add(alloc, held, number)?;
+    let is_held = is_added(held.version(number));
+    let is_next = held.next_number() == u64::from(number) + 1;
+    Ok(is_held && is_next && each_says(alloc, held, rows)?)
+}
+
+/// Whether a session is held, from its first array to the last number of a version: the next
+/// number is behind the greatest.
+fn is_held(alloc: Global, held: &mut Catalogue) -> Result<bool, Fail> {
+    hold_flow(alloc, held)?;
+    Ok(
+        each_says(alloc, held, &RUN)?
+            && finds(held)
+            && is_followed(alloc, held, 7, &BEHIND)?
+            && is_followed(alloc, held, 4_294_967_294, &LAST_NUMBERS)?,
+    )
+}
+
+/// Whether a session is held by a new catalogue.
+fn session_is_held(alloc: Global) -> Result<bool, Fail> {
+    let mut held = Catalogue::new(alloc);
+    is_held(alloc, &mut held)
 }
 
 #[test]
 fn a_session_is_held(rt: HostRuntime) -> Result<(), Fail> {
-    let alloc = rt.alloc();
-    let mut held = with_flow(alloc)?;
-    assert!(rt; runs(alloc, &mut held)?);
-    assert!(rt; finds(&held));
-    assert!(rt; counts_on(alloc, &mut held)?);
+    assert!(rt; session_is_held(rt.alloc())?);
     Ok(())
 }
 
@@ -342,75 +448,99 @@ const FURTHER: [(&str, &str); 17] = [
     (r#"{"refresh":1,"input":0,"set":[]}"#, "7 done 0\n"),
 ];
 
+/// Whether refreshes and merges are answered, and the merge of version 1 alone was asked.
+fn refreshes_and_merges(alloc: Global, held: &mut Catalogue) -> Result<bool, Fail> {
+    hold_flow(alloc, held)?;
+    Ok(each_says(alloc, held, &FURTHER)? && held.merge_asked(1) && !held.merge_asked(2))
+}
+
+/// Whether refreshes and merges are answered by a new catalogue.
+fn is_refreshed_and_merged(alloc: Global) -> Result<bool, Fail> {
+    let mut held = Catalogue::new(alloc);
+    refreshes_and_merges(alloc, &mut held)
+}
+
 #[test]
 fn versions_are_refreshed_and_merged(rt: HostRuntime) -> Result<(), Fail> {
-    let alloc = rt.alloc();
-    let mut held = with_flow(alloc)?;
-    assert!(rt; each_says(alloc, &mut held, &FURTHER)?);
-    assert!(rt; held.merge_asked(1) && !held.merge_asked(2));
+    assert!(rt; is_refreshed_and_merged(rt.alloc())?);
     Ok(())
 }
 
-/// Whether a plan of the flow on the first array of `m` is answered by this text.
-fn plans(
+/// The line of a plan of the flow on the first array of `m`.
+fn plan_line(
     alloc: Global,
-    held: &mut Catalogue,
     flow: &str,
     units: u32,
     back: u32,
     forward: u32,
-    text: &str,
-) -> Result<bool, Fail> {
+) -> Result<String, Fail> {
     let mut line = format!(in alloc; "{{\"plan\":\"{flow}\",\"base\":[[\"m\",1]],")?;
     write!(
         line,
         "\"units\":{units},\"back\":{back},\"forward\":{forward}}}"
     )?;
-    says(alloc, held, line.as_bytes(), text)
+    Ok(line)
 }
 
-/// Whether the flow `one`, of one node that cleans 2 by 2 cells, is planned for few units.
-fn plans_one(alloc: Global, held: &mut Catalogue) -> Result<bool, Fail> {
-    let no_unit = plans(alloc, held, "one", 0, 1, 0, "7 plan 16 0 blackbox\n")?;
-    let back = plans(alloc, held, "one", 1, 1, 0, "7 plan 1 1 full_one_b\n")?;
-    let forward = plans(alloc, held, "one", 1, 0, 1, "7 plan 1 1 full_one_f\n")?;
-    let both = plans(alloc, held, "one", 1, 1, 1, "7 plan 5 1 full_one_b\n")?;
-    Ok(no_unit && back && forward && both)
+/// A flow, the units and weights of a plan of it, and the text by which it is answered.
+type Plan = (&'static str, [u32; 3], &'static str);
+
+/// Plans of the flow `one`, of one node that cleans 2 by 2 cells, for few units, and of `two`, of
+/// two such nodes. The units are at most 65,536, and the flow is looked for first.
+const PLANS: [Plan; 8] = [
+    ("one", [0, 1, 0], "7 plan 16 0 blackbox\n"),
+    ("one", [1, 1, 0], "7 plan 1 1 full_one_b\n"),
+    ("one", [1, 0, 1], "7 plan 1 1 full_one_f\n"),
+    ("one", [1, 1, 1], "7 plan 5 1 full_one_b\n"),
+    ("one", [65_536, 1, 0], "7 plan 1 1 full_one_b\n"),
+    ("one", [65_537, 1, 0], "7 refused 24\n"),
+    ("none", [65_537, 1, 0], "7 refused 10\n"),
+    ("two", [1, 1, 0], "7 plan 17 1 full_one_b blackbox\n"),
+];
+
+/// Whether a plan on the first array of `m` is answered by its text.
+fn is_planned(alloc: Global, held: &mut Catalogue, plan: &Plan) -> Result<bool, Fail> {
+    let [units, back, forward] = plan.1;
+    let line = plan_line(alloc, plan.0, units, back, forward)?;
+    says(alloc, held, line.as_bytes(), plan.2)
 }
 
-/// Whether the units of a plan are at most 65,536, and the flow is looked for first.
-fn plans_within_limits(alloc: Global, held: &mut Catalogue) -> Result<bool, Fail> {
-    let most = plans(alloc, held, "one", 65_536, 1, 0, "7 plan 1 1 full_one_b\n")?;
-    let more = plans(alloc, held, "one", 65_537, 1, 0, "7 refused 24\n")?;
-    let no_flow = plans(alloc, held, "none", 65_537, 1, 0, "7 refused 10\n")?;
-    Ok(most && more && no_flow)
+/// Whether each plan is answered by its text.
+fn are_planned(alloc: Global, held: &mut Catalogue, plans: &[Plan]) -> Result<bool, Fail> {
+    for plan in plans {
+        if !is_planned(alloc, held, plan)? {
+            return Ok(false);
+        }
+    }
+    Ok(true)
+}
+
+/// Holds an array `m` of 2 by 2 cells, and the flows `one` and `two` of so many nodes.
+fn hold_flows(alloc: Global, held: &mut Catalogue) -> Result<(), Fail> {
+    let one = br#"{"flow":"one","inputs":1,"nodes":[{"op":"clean","t":10,"from":[{"i":0}]}]}"#;
+    let two = br#"{"flow":"two","inputs":1,"nodes":[{"op":"clean","t":10,"from":[{"i":0}]},
+        {"op":"clean","t":10,"from":[{"n":0}]}]}"#;
+    let array = br#"{"array":"m","cells":[[1,2],[3,40]]}"#;
+    take_each_time(alloc, held, 1, array)?;
+    take_each_time(alloc, held, 1, one)?;
+    take_each_time(alloc, held, 1, two)
+}
+
+/// Whether strategies are planned, and nothing is started.
+fn plans_all(alloc: Global, held: &mut Catalogue) -> Result<bool, Fail> {
+    hold_flows(alloc, held)?;
+    Ok(are_planned(alloc, held, &PLANS)? && held.next_number() == 1)
+}
+
+/// Whether strategies are planned by a new catalogue.
+fn are_all_planned(alloc: Global) -> Result<bool, Fail> {
+    let mut held = Catalogue::new(alloc);
+    plans_all(alloc, &mut held)
 }
 
 #[test]
 fn strategies_are_planned(rt: HostRuntime) -> Result<(), Fail> {
-    let alloc = rt.alloc();
-    let mut held = Catalogue::new(alloc);
-    let one = br#"{"flow":"one","inputs":1,"nodes":[{"op":"clean","t":10,"from":[{"i":0}]}]}"#;
-    let two = br#"{"flow":"two","inputs":1,"nodes":[{"op":"clean","t":10,"from":[{"i":0}]},
-        {"op":"clean","t":10,"from":[{"n":0}]}]}"#;
-    let _array = take(alloc, &mut held, br#"{"array":"m","cells":[[1,2],[3,40]]}"#)?;
-    let _flow = take(alloc, &mut held, one)?;
-    let _flow = take(alloc, &mut held, two)?;
-    assert!(rt; plans_one(alloc, &mut held)?);
-    assert!(rt; plans_within_limits(alloc, &mut held)?);
-    assert!(rt;
-        plans(
-            alloc,
-            &mut held,
-            "two",
-            1,
-            1,
-            0,
-            "7 plan 17 1 full_one_b blackbox\n"
-        )?
-    );
-    // nothing was started
-    assert!(rt; held.next_number() == 1);
+    assert!(rt; are_all_planned(rt.alloc())?);
     Ok(())
 }
 
@@ -425,12 +555,13 @@ fn two_cells(alloc: Global) -> Result<CellSet, Fail> {
 }
 
 /// Whether a reply to the line of a number has this text.
-fn is_written(alloc: Global, number: u64, reply: &Reply, text: &str) -> Result<bool, Fail> {
-    Ok(reply_text(alloc, number, reply)?.as_slice() == text.as_bytes())
+fn is_written(alloc: Global, number: u64, reply: &Reply, text: &str) -> Result<bool, NoMemory> {
+    let written = reply_text(alloc, number, reply)?;
+    Ok(written.as_slice() == text.as_bytes())
 }
 
 /// Whether the number of kinds of each store of version 7 is written so.
-fn kinds_are_written(alloc: Global, kinds: &[u32], text: &str) -> Result<bool, Fail> {
+fn kinds_are_written(alloc: Global, kinds: &[u32], text: &str) -> Result<bool, NoMemory> {
     let kinds = kinds.to_vec(alloc)?;
     is_written(alloc, 4, &Reply::Merged { version: 7, kinds }, text)
 }
@@ -443,47 +574,50 @@ fn three_values(alloc: Global) -> Result<Arc<Array>, Fail> {
     Ok(Arc::new(alloc, array)?)
 }
 
-#[test]
-fn answers_are_written(rt: HostRuntime) -> Result<(), Fail> {
-    let alloc = rt.alloc();
+/// Whether cells of two layers are written.
+fn cells_are_written(alloc: Global) -> Result<bool, Fail> {
     let cells = two_cells(alloc)?;
-    assert!(rt; is_written(alloc, 1, &Reply::Cells { cells }, "1 cells 2 0,0,1 1,0,0\n")?);
-    let used = StrategyList::of(vec![in alloc; Strategy::PayMany, Strategy::BlackBox]?);
-    let explained = Reply::Explain { used, traced: 9 };
-    assert!(rt;
-        is_written(
-            alloc,
-            2,
-            &explained,
-            "2 explain pay_many blackbox traced 9\n"
-        )?
-    );
-    Ok(())
+    Ok(is_written(alloc, 1, &Reply::Cells { cells }, "1 cells 2 0,0,1 1,0,0\n")?)
 }
 
-#[test]
-fn values_are_written(rt: HostRuntime) -> Result<(), Fail> {
-    let alloc = rt.alloc();
+/// The answer of an ask that went by two strategies.
+fn explained(alloc: Global) -> Result<Reply, NoMemory> {
+    let used = StrategyList::of(vec![in alloc; Strategy::PayMany, Strategy::BlackBox]?);
+    Ok(Reply::Explain { used, traced: 9 })
+}
+
+/// Whether two strategies are written.
+fn strategies_are_written(alloc: Global) -> Result<bool, NoMemory> {
+    let reply = explained(alloc)?;
+    is_written(alloc, 2, &reply, "2 explain pay_many blackbox traced 9\n")
+}
+
+/// Whether three values are written, by the greatest number of a line.
+fn values_are_written(alloc: Global) -> Result<bool, Fail> {
     let array = three_values(alloc)?;
     let text = "18446744073709551615 values 1 3 -5 - 0\n";
-    assert!(rt;
-        is_written(
-            alloc,
-            18_446_744_073_709_551_615,
-            &Reply::Values { array },
-            text
-        )?
-    );
-    Ok(())
+    Ok(is_written(alloc, u64::MAX, &Reply::Values { array }, text)?)
 }
 
 #[test]
-fn numbers_are_written(rt: HostRuntime) -> Result<(), Fail> {
-    let alloc = rt.alloc();
-    let cells = 10_000_000_000;
-    let refreshed = Reply::Refreshed { version: 7, cells };
-    assert!(rt; is_written(alloc, 3, &refreshed, "3 refreshed 7 cells 10000000000\n")?);
-    assert!(rt; kinds_are_written(alloc, &[], "4 merged 7\n")?);
-    assert!(rt; kinds_are_written(alloc, &[0, 4_294_967_295], "4 merged 7 0 4294967295\n")?);
+fn answers_are_written(rt: HostRuntime) -> Result<(), Fail> {
+    assert!(rt; cells_are_written(rt.alloc())?);
+    assert!(rt; strategies_are_written(rt.alloc()) == Ok(true));
+    assert!(rt; values_are_written(rt.alloc())?);
     Ok(())
+}
+
+/// Whether a reply to a refresh of a version has this number of cells.
+fn cells_are_counted(alloc: Global, cells: u64, text: &str) -> Result<bool, NoMemory> {
+    is_written(alloc, 3, &Reply::Refreshed { version: 7, cells }, text)
+}
+
+#[test]
+fn numbers_are_written(rt: HostRuntime) {
+    let alloc = rt.alloc();
+    let text = "3 refreshed 7 cells 10000000000\n";
+    assert!(rt; cells_are_counted(alloc, 10_000_000_000, text) == Ok(true));
+    assert!(rt; kinds_are_written(alloc, &[], "4 merged 7\n") == Ok(true));
+    let text = "4 merged 7 0 4294967295\n";
+    assert!(rt; kinds_are_written(alloc, &[0, 4_294_967_295], text) == Ok(true));
 }

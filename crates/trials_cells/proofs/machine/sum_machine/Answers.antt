@@ -2,35 +2,14 @@
 use Rattle.std.proofs.Common.{◌≡◌, List, [], ◌∷◌, true, length, ap, ap₂, ◌∙◌}
 use Rattle.std.proofs.Common.{arith, None}
 use Rattle.sz_cells.specs.Extent.{Extent, flat}
-use Rattle.sz_cells.specs.Cells.{named_in}
-use Rattle.sz_spec.specs.declared.modes.Dir.TheVariants.{Back, Forward}
 use Rattle.sz_spec.specs.Flows.{Graph, flow_fault}
 use Rattle.sz_core.specs.declared.pairs.Pair.{Pair}
 use Rattle.sz_core.specs.Examples.{sum_flow, first_pairs, second_pairs}
 use Rattle.sz_core.specs.Starts.{shapes_fit}
 use Rattle.sz_core.specs.Starts.{first_shelves, are_shelves, are_queries}
 use Rattle.sz_core.specs.States.{Query}
+use Rattle.trials_cells.specs.Asks.{queries}
 use Rattle.trials_cells.proofs.machine.sum_machine.Goals as goal
-
--- the queries over a shape
-abbrev queries : Extent → List Query
-queries e =
-    record {
-      dir = Back;
-      path = record { node = 1; input = 0 } ∷ record { node = 0; input = 0 } ∷ [];
-      cells = named_in e (record { row = 0; col = 69 } ∷ []);
-    }
-    ∷ record {
-      dir = Back;
-      path = record { node = 1; input = 1 } ∷ [];
-      cells = named_in e (record { row = 0; col = 7 } ∷ []);
-    }
-    ∷ record {
-      dir = Forward;
-      path = record { node = 0; input = 0 } ∷ record { node = 1; input = 0 } ∷ [];
-      cells = named_in e (record { row = 0; col = 65 } ∷ []);
-    }
-    ∷ []
 
 fits : (g : Graph) (base : List Extent) → g ≡ sum_flow → base ≡ flat 1 70 ∷ []
     → (flow_fault g ≡ None) × (shapes_fit g base ≡ true)
@@ -57,14 +36,8 @@ new-requires c =
     let flow = c.in_ok-flow.ensures in
     let base : c.in_ok-base.base.items ≡ flat 1 70 ∷ [] =
     c.in_ok-base.ensures.items ∙ ap (λ (e : Extent). e ∷ []) c.in_ok-shape.ensures in
-    let two : List (List Pair) → List (List Pair) → List (List (List Pair)) = λ a b. a ∷ b ∷ [] in
-    let pairs : c.in_ok-shelves.shelves.items ≡ first_pairs ∷ second_pairs ∷ [] =
-    c.in_ok-shelves.ensures.items ∙ ap₂ two c.in_ok-pairs_of_first.ensures c.in_ok-pairs_of_second.ensures in
-    let behind : Query → List Query → List Query = λ q qs. q ∷ qs in
-    let asks : c.in_ok-asks.asks.items ≡ queries c.in_ok-shape.shape =
-    c.in_ok-asks.ensures.items
-    ∙ ap₂ behind c.in_ok-both.ensures
-    (ap₂ behind c.in_ok-other.ensures (ap (λ (q : Query). q ∷ []) c.in_ok-onward.ensures)) in
+    let pairs : c.in_ok-shelves.shelves.items ≡ first_pairs ∷ second_pairs ∷ [] = c.in_ok-shelves.ensures in
+    let asks : c.in_ok-asks.asks.items ≡ queries c.in_ok-shape.shape = c.in_ok-asks.ensures in
     let all = asks ∙ ap queries c.in_ok-shape.ensures in
     let both = fits c.in_ok-flow.flow c.in_ok-base.base.items flow base in
     record {
