@@ -4,3 +4,4 @@ pub mod Fitting
 pub mod Lawful
 pub mod Laws
 pub mod Taking
+pub mod Tries

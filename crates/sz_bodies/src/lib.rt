@@ -7,7 +7,7 @@
 //! ```
 //! let body = version_body(alloc, &catalogue, version, &stores, 2)?;
 //! // over a catalogue that holds its flow and its base arrays, and no version of its number
-//! let taken = take_version_body(alloc, &other, &body, 2)?; // taken.number == version
+//! let taken = take_version_body(rt, alloc, &other, &body, 2)?; // taken.number == version
 //! ```
 //!
 //! `IsBodyOf` of `specs/Bodies` is what a body is; `Fit` of `specs/Fitting` is which stores fit a
@@ -29,6 +29,8 @@ mod lists;
 mod nodes;
 mod parts;
 mod reading;
+mod skipping;
+mod tries;
 mod writing;
 
 pub use reading::{TakeFault, TakenVersion, take_version_body};

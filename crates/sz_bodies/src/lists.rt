@@ -48,7 +48,7 @@ fn strategies_of(alloc: Global, numbers: &[u8]) -> Result<Vec<Strategy>, TakeFau
 }
 
 /// The strategy of a number. `None` exactly where there is none.
-fn strategy_of(number: u8) -> Option<Strategy>
+pub(crate) fn strategy_of(number: u8) -> Option<Strategy>
     ensures some { IfSome result (λ s. number_of s ≡ number) }
     ensures none { IfNone result ((s : Strategy) → number_of s ≡ number → ⊥) }
 {

@@ -3,7 +3,6 @@
 ghost use Rattle.std.specs.Prelude.{◌≡◌, ℕ, ◌<◌, ◌≤◌, List, ◌∷◌, length, map, true, false, Ok, All};
 ghost use Rattle.std.specs.Prelude.{option_map, IfOk, IfErr};
 ghost use Rattle.std.specs.Arc.{arc_value};
-ghost use Rattle.sz_cells.specs.Extent.{is_extent};
 ghost use Rattle.sz_spec.specs.Modes.{supports};
 ghost use Rattle.sz_store.specs.Kept.{stored_in};
 ghost use Rattle.sz_formats.specs.Formats.{is_format};
@@ -17,13 +16,14 @@ ghost use Rattle.sz_bodies.specs.Taking.{NoNodeAt, NoNodesAt, IsOnlyNode, AreOnl
 
 use crate::lists::{is_list_for, names_a_store, take_list};
 use crate::reading::TakeFault;
+use crate::tries::{take_tried, try_nodes};
 use std::alloc::Global;
 use std::sync::Arc;
+use std::thread::Threads;
 use sz_catalogue::site_over;
-use sz_cells::laws::a_shape_is_within_limits;
 use sz_cells::{NoMemory, Shape};
 use sz_formats::take_stores;
-use sz_region::Take;
+use sz_region::{Take, shapes_are_within_limits};
 use sz_script::StrategyList;
 use sz_spec::{Node, OpAt, Strategy};
 use sz_store::NodeStore;
@@ -31,7 +31,8 @@ use sz_store::NodeStore;
 /// The lists and the stores of nodes that stand one behind the other in a format, the first one at
 /// a place, and the place behind the last one. The nodes work between shapes of these base arrays
 /// and outputs.
-pub(crate) fn take_nodes(
+pub(crate) fn take_nodes<R: Threads + Sync>(
+    rt: &R,
     alloc: Global,
     format: u8,
     nodes: &[Node],
@@ -53,18 +54,24 @@ pub(crate) fn take_nodes(
 {
     let mut lists = Vec::new(alloc);
     let mut stores = Vec::new(alloc);
+    let tries = try_nodes(rt, alloc, format, nodes, base, outputs, bytes, at)?;
     let mut place = at;
+    let mut index = 0;
     for node in nodes {
-        let (list, kept, next) = take_node(alloc, format, node, base, outputs, bytes, place)?;
+        let tried = &tries[index];
+        let (list, kept, next) = take_tried(
+            alloc, format, node, base, outputs, bytes, place, tried,
+        )?;
         lists.push(list)?;
         stores.push(kept)?;
         place = next;
+        index += 1;
     }
     Ok((lists, stores, place))
 }
 
 /// The list and the stores of the node that stands at a place, and the place behind it.
-fn take_node(
+pub(crate) fn take_node(
     alloc: Global,
     format: u8,
     node: &Node,
@@ -142,14 +149,4 @@ fn op_at(
 {
     let site = site_over(alloc, node, base, outputs)?;
     Ok(Arc::new(alloc, site)?)
-}
-
-/// Every shape is within the limits.
-fn shapes_are_within_limits(out: &Shape, ins: &[Shape])
-    ensures { All (λ e. is_extent e ≡ true) (out.now ∷ ins.now) }
-{
-    a_shape_is_within_limits(out);
-    for shape in ins {
-        a_shape_is_within_limits(shape);
-    }
 }

@@ -14,6 +14,7 @@ use crate::nodes::take_nodes;
 use std::alloc::{AllocError, AllocFailed, Global};
 use std::marker::Model;
 use std::sync::Arc;
+use std::thread::Threads;
 use sz_catalogue::{BaseArray, BaseArrays, Catalogue, StrategyLists};
 use sz_cells::{NoMemory, Shape};
 use sz_script::Name;
@@ -100,9 +101,11 @@ impl From<NoMemory> for TakeFault {
 /// `Bad` exactly where the bytes are no lawful body in that format. What is read can be added to
 /// the catalogue.
 ///
-/// Takes time and memory in the number of bytes, of which each is read once, and in the flow, and
-/// for each name time in the logarithm of what is held.
-pub fn take_version_body(
+/// Takes time and memory in the number of bytes, and in the flow, and for each name time in the
+/// logarithm of what is held. The stores of the nodes of a long body in format 1 are read side by
+/// side.
+pub fn take_version_body<R: Threads + Sync>(
+    rt: &R,
     alloc: Global,
     catalogue: &Catalogue,
     body: &[u8],
@@ -120,7 +123,7 @@ pub fn take_version_body(
     let (head, place) = take_head(alloc, catalogue, body)?;
     let (base, outputs) = fit_shapes(alloc, catalogue, &head)?;
     let nodes = head.flow.nodes();
-    let (lists, stores, end) = take_nodes(alloc, format, nodes, &base, &outputs, body, place)?;
+    let (lists, stores, end) = take_nodes(rt, alloc, format, nodes, &base, &outputs, body, place)?;
     if end != body.len() as u64 {
         return Err(TakeFault::Bad);
     }

@@ -13,9 +13,8 @@ ghost use Rattle.sz_formats.specs.Words.{BeginEachIn, NoneBeginIn};
 use crate::respelling::respell_each;
 use std::alloc::Global;
 use std::sync::Arc;
-use sz_cells::laws::a_shape_is_within_limits;
 use sz_cells::{NoMemory, Shape};
-use sz_region::Take;
+use sz_region::{Take, shapes_are_within_limits};
 use sz_spec::{OpAt, Strategy};
 use sz_store::NodeStore;
 
@@ -130,14 +129,4 @@ fn within_limits(op: &OpAt)
     ensures { AreRight (op.now.out ∷ op.now.ins) }
 {
     shapes_are_within_limits(&op.out(), op.ins());
-}
-
-/// Every shape is within the limits.
-fn shapes_are_within_limits(out: &Shape, ins: &[Shape])
-    ensures { AreRight (out.now ∷ ins.now) }
-{
-    a_shape_is_within_limits(out);
-    for shape in ins {
-        a_shape_is_within_limits(shape);
-    }
 }

@@ -64,12 +64,11 @@ fn tree_of(alloc: Global, dir: Dir, table: &RegionTable, input: u32) -> Result<R
     requires { input < trees_for dir (length table.now.ins) }
     ensures { IfOk result (λ t. AreRound dir input (pairings table.now) t.rectangles) }
 {
-    let mut tree = RTree::new(alloc)?;
-    tree.reserve(table.len())?;
+    let mut rectangles = Vec::with_capacity(alloc, table.len() as usize)?;
     for row in 0..table.len() {
-        tree.insert(row_bounds(dir, table, input, row));
+        rectangles.push_reserved(row_bounds(dir, table, input, row));
     }
-    Ok(tree)
+    RTree::of(alloc, rectangles)
 }
 
 /// A rectangle round the set of a row from which a look over an input starts.

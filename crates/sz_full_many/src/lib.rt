@@ -210,7 +210,8 @@ impl FullMany {
 
     /// A checklist of the region pairs, of which none is ticked.
     pub fn checklist(&self, alloc: Global) -> PairChecklist<'_>
-        ensures { result ≡ record { kept = self.now.given; ticked = [] } }
+        ensures kept { pairings result.table ≡ self.now.given }
+        ensures none { result.ticked ≡ [] }
     {
         self.at.ins(); // there are at most two inputs
         PairChecklist::new(alloc, &self.table)

@@ -30,6 +30,7 @@ ghost use Rattle.sz_spec.specs.Sides.{near_side, far_side, image_in};
 ghost use Rattle.sz_region.specs.FullBytes.{Listed, IsFullWord, BeginsRegions};
 ghost use Rattle.sz_frame.specs.Stands.{full_stands};
 ghost use Rattle.sz_region.specs.Stores.{SaysNoRegions};
+ghost use Rattle.sz_tables.specs.Rows.{pairings};
 ghost use Rattle.sz_tables.specs.Stores.{IsPairOf, IsWithin, room_for_pairs, no_room, most_given};
 ghost use Rattle.sz_tables.specs.Tables.{AreDifferent};
 
@@ -199,7 +200,8 @@ impl FullOne {
 
     /// A checklist of the region pairs, of which none is ticked.
     pub fn checklist(&self, alloc: Global) -> PairChecklist<'_>
-        ensures { result ≡ record { kept = self.now.given; ticked = [] } }
+        ensures kept { pairings result.table ≡ self.now.given }
+        ensures none { result.ticked ≡ [] }
     {
         self.at.ins(); // there are at most two inputs
         PairChecklist::new(alloc, &self.table)

@@ -114,7 +114,7 @@ pub record IsPairOver (out : Extent) (ins : List Extent) (r : Pairing) : Type 0 
   pub own : IsSetOf out r.out
   pub each : (i : ℕ) → i < length ins → IsSetOf (extent_at ins i) (set_of r i)
 
-pub sets-named : (out : Extent) (ins : List Extent) (table : List Listed) (ns : List ℕ) (a : ℕ) (sets : List Cells)
+sets-named : (out : Extent) (ins : List Extent) (table : List Listed) (ns : List ℕ) (a : ℕ) (sets : List Cells)
     (i : ℕ) (x : Cells) → All (IsListed out ins) table → AreNumbersOf table ns (listed_from a sets)
     → slice_get sets i ≡ Some x → IsSetOf (extent_at (out ∷ ins) (a + i)) x
 sets-named out ins table ns a [] i x all named at = absurd (omega (arith, slice_get_within [] i x at))
@@ -129,7 +129,7 @@ sets-named out ins table (n ∷ ns) a (s ∷ sets) (suc i) x all named at =
     subst (λ (k : ℕ). IsSetOf (extent_at (out ∷ ins) k) x) same
     (sets-named out ins table ns (a + 1) sets i x all named.1 at)
 
-pub set-at : (sets : List Cells) (i : ℕ) → i < length sets
+set-at : (sets : List Cells) (i : ℕ) → i < length sets
     → slice_get sets i ≡ Some (get_or sets i (no_cells no_extent))
 set-at [] i inside = absurd (omega arith)
 set-at (s ∷ sets) zero inside = refl

@@ -2,33 +2,32 @@
 --
 -- The key idea: an output cell of a pair before is seen, and those of a further pair are not; and the sets of one input
 -- are different, so the lists of the sets of all inputs are.
-use Rattle.std.proofs.Common.{◌≡◌, ◌≢◌, ℕ, zero, suc, ◌+◌, ◌<◌, Bool, true, false, ◌&&◌, ◌||◌, ◌==◌}
-use Rattle.std.proofs.Common.{◌⊎◌, inl, inr, List, [], ◌∷◌, ◌++◌, map, length, get_or, take, refl, sym, ap, subst, ◌∙◌}
-use Rattle.std.proofs.Common.{arith, All, Some, true≢false, eqb-true}
+use Rattle.std.proofs.Common.{◌≡◌, ◌≢◌, ℕ, zero, suc, ◌<◌, Bool, true, false, ◌&&◌, ◌||◌, ◌==◌}
+use Rattle.std.proofs.Common.{◌⊎◌, inl, inr, List, [], ◌∷◌, ◌++◌, map, length, get_or, refl, sym, ap, ◌∙◌}
+use Rattle.std.proofs.Common.{arith, All, Option, Some, unwrap_or, true≢false, eqb-true}
 use Rattle.std.specs.List.{slice_get, list_any}
 use Rattle.std.proofs.lemmas.Bool.{cases_Bool, or_cases, or_left, or_right, and_parts, and_from}
-use Rattle.std.proofs.lemmas.List.{map_push, length-map}
+use Rattle.std.proofs.lemmas.List.{map_push, length-map, get_or-map}
 use Rattle.std.proofs.lemmas.List.Elements.{All-nil, All-push}
 use Rattle.std.proofs.lemmas.List.Folds.{list_any-append}
-use Rattle.std.proofs.lemmas.Option.{slice_get_within, same_Some, unwrap_or-slice_get}
+use Rattle.std.proofs.lemmas.Option.{slice_get_within, slice_get-get_or, same_Some, unwrap_or-slice_get}
 use Rattle.sz_cells.specs.declared.Cell.{Cell}
 use Rattle.sz_cells.specs.declared.Run.{Run}
-use Rattle.sz_cells.specs.Extent.{Extent, holds, size_of, index_of}
-use Rattle.sz_cells.specs.Cells.{Cells, has, no_cells, union_of}
-use Rattle.sz_cells.specs.Runs.{is_in, covers, Spells}
-use Rattle.sz_cells.specs.SetBytes.{IsSetOf}
-use Rattle.sz_cells.proofs.Runs.{any-covers}
-use Rattle.sz_cells.proofs.Sets.{has-cells_where_any}
-use Rattle.sz_spec.specs.Values.{extent_at, no_extent}
+use Rattle.sz_cells.specs.Extent.{Extent, holds, index_of, cell_of}
+use Rattle.sz_cells.specs.Cells.{Cells, has, any_cell, no_cells, union_of}
+use Rattle.sz_cells.specs.Runs.{runs_of}
+use Rattle.sz_cells.proofs.Sets.{cell-index, has-cells_where_any}
+use Rattle.sz_spec.specs.declared.modes.Dir.TheVariants.{Forward}
+use Rattle.sz_spec.specs.Values.{no_extent}
 use Rattle.sz_frame.specs.Parts.{Pairing}
 use Rattle.sz_frame.specs.Stands.{set_of}
-use Rattle.sz_region.specs.FullBytes.{Listed, IsListed, AreNamesOf}
-use Rattle.sz_tables.specs.Tables.{AreDifferent, HasAtMostOneMore}
+use Rattle.sz_tables.specs.Rows.{RowTable, Row, IsRowOf, pairing_of, pairings, row_at, number_in, sets_of}
+use Rattle.sz_tables.specs.Tables.{AreDifferent}
+use Rattle.sz_tables.proofs.Scanned.{near-is, row-named}
 use Rattle.sz_merge.specs.Lineages.{is_nothing}
 use Rattle.sz_merge.specs.Distinct.{AreKinds, HasBothSides}
 use Rattle.sz_merge.proofs.Sets.{or-false}
-use Rattle.sz_merge.proofs.Marked.{covers-more}
-use Rattle.sz_merge.proofs.Counted.{any-at, sets-named, set-at}
+use Rattle.sz_merge.proofs.Counted.{any-at}
 use Rattle.sz_merge.specs.Apart.{IsFurther, AreSeen, ArePairsApart}
 
 and-false : (b : Bool) → (b && false) ≡ false
@@ -152,30 +151,29 @@ seen-kinds i rs seen known are different = record {
 
 -- ---- seen cells
 
--- no cell of some runs is among the indexes
-abbrev pub AreUnmet : List Run → List ℕ → Type 0
-AreUnmet runs indexes = (k : ℕ) → covers runs k ≡ true → list_any (λ j. j == k) indexes ≡ false
-
-pub unmet-more : (runs : List Run) (i : ℕ) (run : Run) (indexes : List ℕ) → i < length runs → run ≡ get_or runs i run
-    → AreUnmet (take i runs) indexes
-    → ((k : ℕ) → is_in run k ≡ true → list_any (λ j. j == k) indexes ≡ false) → AreUnmet (take (i + 1) runs) indexes
-unmet-more runs i run indexes inside read was more k covered =
-    elim (or_cases (covers (take i runs) k) (is_in run k) (covers-more runs i k run inside read ∙ covered)) [
-      | inl old ↦ was k old
-      | inr new ↦ more k new
+-- what is so of an index is so of some of a list that has it
+met : (e : Extent) (out : Cells) (o : Cell) (ks : List ℕ) → holds e o ≡ true → has out o ≡ true
+    → list_any (λ k. k == index_of e o) ks ≡ true → list_any (λ k. has out (cell_of e k)) ks ≡ true
+met e out o [] held here any = absurd (true≢false (sym any))
+met e out o (k ∷ ks) held here any =
+    elim (or_cases (k == index_of e o) (list_any (λ j. j == index_of e o) ks) any) [
+      | inl one ↦
+          let same : cell_of e k ≡ o = ap (cell_of e) (eqb-true k (index_of e o) one) ∙ cell-index e o held in
+          or_left (has out (cell_of e k)) (list_any (λ j. has out (cell_of e j)) ks) (ap (has out) same ∙ here)
+      | inr later ↦
+          or_right (has out (cell_of e k)) (list_any (λ j. has out (cell_of e j)) ks) (met e out o ks held here later)
     ]
 
-pub unmet-set : (runs : List Run) (set seen : Cells) → Spells runs set → set.extent ≡ seen.extent
-    → AreUnmet runs seen.indexes → (o : Cell) → has set o ≡ true → has seen o ≡ false
-unmet-set runs set seen spells same unmet o here =
-    let k = index_of set.extent o in
-    let parts = and_parts (holds set.extent o) (list_any (λ j. j == k) set.indexes) here in
-    let covered : covers runs k ≡ true =
-    sym (any-covers 0 (size_of set.extent) k runs spells.longest)
-    ∙ ap (λ (ks : List ℕ). list_any (λ j. j == k) ks) spells.spelled ∙ parts.1 in
-    let none : list_any (λ j. j == index_of seen.extent o) seen.indexes ≡ false =
-    ap (λ (e : Extent). list_any (λ j. j == index_of e o) seen.indexes) (sym same) ∙ unmet k covered in
-    rw none (and-false (holds seen.extent o))
+-- where no seen cell is one of a set, no cell of the set is seen
+unmet : (out seen : Cells) → any_cell (has out) seen ≡ false → (o : Cell) → has out o ≡ true → has seen o ≡ false
+unmet out seen none o here =
+    elim (cases_Bool (has seen o)) [
+      | inl there ↦
+          let e = seen.extent in
+          let parts = and_parts (holds e o) (list_any (λ k. k == index_of e o) seen.indexes) there in
+          absurd (true≢false (sym (met e out o seen.indexes parts.0 here parts.1) ∙ none))
+      | inr not ↦ not
+    ]
 
 union-left : (a b : Cells) (o : Cell) → has a o ≡ true → has (union_of a b) o ≡ true
 union-left a b o here =
@@ -192,42 +190,63 @@ union-right a b o same here =
     ∙ (and_parts (holds b.extent o) (list_any (λ k. k == index_of b.extent o) b.indexes) here).0)
     (or_right (has a o) (has b o) here)
 
--- one more set is seen, and one more known
-pub further : (out set before after : Cells) (known more : List Cells) (c n : ℕ) → out.extent ≡ before.extent
-    → length out.indexes ≢ 0 → length set.indexes ≢ 0 → ((o : Cell) → has out o ≡ true → has before o ≡ false)
-    → after ≡ union_of before out → HasAtMostOneMore known more set → length known < length more
-    → IsFurther out set before after known more
-further out set before after known more c n same some other apart joined one_more longer = record {
-  some_out = λ empty. some (ap length empty);
-  some_set = λ empty. other (ap length empty);
-  apart = apart;
+-- a set that has a run is not empty
+pub some-cell : (set : Cells) (runs : List Run) (b : Bool) → runs ≡ runs_of set.indexes → b ≡ (length runs == 0)
+    → b ≡ false → set.indexes ≢ []
+some-cell set runs b are is some none =
+    true≢false
+    (sym (is ∙ ap (λ (rs : List Run). length rs == 0) are
+    ∙ ap (λ (ks : List ℕ). length (runs_of ks) == 0) none) ∙ some)
+
+-- one more set is seen
+pub further : (out set before after : Cells) (sets : List Cells) → out.extent ≡ before.extent → out.indexes ≢ []
+    → set.indexes ≢ [] → any_cell (has out) before ≡ false → after ≡ union_of before out
+    → IsFurther out set before after sets (sets ++ set ∷ [])
+further out set before after sets same some other none joined = record {
+  some_out = some;
+  some_set = other;
+  apart = unmet out before none;
   shape = ap (λ (s : Cells). s.extent) joined;
   seen = λ o here. ap (λ (s : Cells). has s o) joined ∙ union-left before out o here;
   added = λ o here. ap (λ (s : Cells). has s o) joined ∙ union-right before out o same here;
-  named =
-      elim one_more [
-        | inl still ↦ absurd (omega (arith, ap length still, longer))
-        | inr more_now ↦ more_now
-      ];
+  named = refl;
 }
 
--- ---- named sets
+-- ---- numbers of sets
 
--- the sets of a named region pair have their shapes
-pub out-shape : (out : Extent) (ins : List Extent) (table : List Listed) (ns : List ℕ) (p : Pairing) (k : ℕ)
-    → All (IsListed out ins) table → AreNamesOf table k ns p → p.out.extent ≡ out
-out-shape out ins table ns p k all names =
-    (sets-named out ins table ns 0 (p.out ∷ p.ins) 0 p.out all names.named refl).extent
-
-pub in-shape : (out : Extent) (ins : List Extent) (table : List Listed) (ns : List ℕ) (p : Pairing) (i : ℕ)
-    → All (IsListed out ins) table → AreNamesOf table (length ins) ns p → i < length ins
-    → (set_of p i).extent ≡ extent_at ins i
-in-shape out ins table ns p i all names inside =
-    let there = set-at p.ins i (omega (arith, names.whole)) in
-    let same : 0 + suc i ≡ suc i = omega arith in
-    let own : IsSetOf (extent_at ins i) (set_of p i) =
-    subst (IsSetOf (extent_at ins i)) (sym (unwrap_or-slice_get p.ins i (no_cells no_extent)))
-    (subst (λ (k : ℕ). IsSetOf (extent_at (out ∷ ins) k) (get_or p.ins i (no_cells no_extent))) same
-    (sets-named out ins table ns 0 (p.out ∷ p.ins) (suc i)
-    (get_or p.ins i (no_cells no_extent)) all names.named there)) in
-    own.extent
+-- sets of numbers that are different are different
+pub numbered-different : (t : RowTable) (i : ℕ) → All (IsRowOf t) t.rows → i < length t.ins
+    → AreDifferent (sets_of t.sets i)
+    → ((m n : ℕ) → m < length t.rows → n < length t.rows
+    → number_in (row_at t.rows m) i ≡ number_in (row_at t.rows n) i → m ≡ n)
+    → AreDifferent (map (λ (r : Pairing). set_of r i) (pairings t))
+numbered-different t i named inside different fresh m n x at too =
+    let long : length (map (λ (r : Pairing). set_of r i) (pairings t)) ≡ length t.rows =
+    length-map (pairings t) (λ (r : Pairing). set_of r i) ∙ length-map t.rows (pairing_of t.outs t.sets) in
+    let below : m < length t.rows = omega (arith, slice_get_within _ m x at, long) in
+    let under : n < length t.rows = omega (arith, slice_get_within _ n x too, long) in
+    fresh m n below under
+    (different (number_in (row_at t.rows m) i) (number_in (row_at t.rows n) i) x
+    (numbered t i m x named inside below at) (numbered t i n x named inside under too)) where
+      numbered : (t : RowTable) (i m : ℕ) (x : Cells) → All (IsRowOf t) t.rows → i < length t.ins → m < length t.rows
+          → slice_get (map (λ (r : Pairing). set_of r i) (pairings t)) m ≡ Some x
+          → slice_get (sets_of t.sets i) (number_in (row_at t.rows m) i) ≡ Some x
+      numbered t i m x named inside below at =
+          let f : Pairing → Cells = λ r. set_of r i in
+          let g = pairing_of t.outs t.sets in
+          let row = row_at t.rows m in
+          let own = row-named t m named below in
+          let sets = sets_of t.sets i in
+          let n = number_in row i in
+          let none = no_cells no_extent in
+          let r : Row = record { out = 0; ins = [] } in
+          let here : g (get_or t.rows m r) ≡ g row = ap g (sym (unwrap_or-slice_get t.rows m r)) in
+          let long : m < length (pairings t) = omega (arith, below, length-map t.rows g) in
+          let read : x ≡ set_of (g row) i =
+          sym (ap (λ (o : Option Cells). unwrap_or o none) at)
+          ∙ unwrap_or-slice_get (map f (pairings t)) m none
+          ∙ get_or-map f (pairings t) m (g r) none long
+          ∙ ap f (get_or-map g t.rows m r (g r) below ∙ here) in
+          slice_get-get_or sets n none (own.ins i inside)
+          ∙ ap (λ (s : Cells). Some s)
+          (sym (unwrap_or-slice_get sets n none) ∙ sym (near-is Forward t row i own inside) ∙ sym read)

@@ -1,5 +1,5 @@
 -- What stands behind an output cell: of each input a set of its cells.
-use Rattle.std.specs.Prelude.{◌≡◌, ℕ, ◌==◌, List, [], map, length, Bool, false, unwrap_or, Some}
+use Rattle.std.specs.Prelude.{◌≡◌, ℕ, ◌==◌, List, [], ◌∷◌, map, length, Bool, false, unwrap_or, Some}
 use Rattle.std.specs.List.{range_with_len, list_all, flat_map, slice_get}
 use Rattle.sz_cells.specs.declared.Cell.{Cell}
 use Rattle.sz_cells.specs.Extent.{Extent}
@@ -47,3 +47,7 @@ list_at lists n = unwrap_or (slice_get lists n) []
 -- what has a number keeps it
 abbrev pub KeepsNumbers : {X : Type 0} → List X → List X → Type 0
 KeepsNumbers {X} old new = (n : ℕ) (x : X) → slice_get old n ≡ Some x → slice_get new n ≡ Some x
+
+-- the lineages of one input: that of no cell, and behind it one of each of these sets alone
+abbrev pub lists_of : List Extent → List Cells → List (List Cells)
+lists_of ins sets = nothing ins ∷ map (λ s. s ∷ []) sets

@@ -5,8 +5,10 @@ use Rattle.std.specs.List.{AllZip}
 use Rattle.sz_cells.specs.declared.Cell.{Cell}
 use Rattle.sz_spec.specs.declared.modes.Strategy.{Strategy}
 use Rattle.sz_spec.specs.Shapes.{Site}
-use Rattle.sz_frame.specs.Parts.{Entry}
+use Rattle.sz_frame.specs.Parts.{Entry, Pairing}
+use Rattle.sz_frame.specs.Stands.{full_stands}
 use Rattle.sz_payload.specs.Begins.{BeginsPayloads}
+use Rattle.sz_region.specs.FullBytes.{BeginsRegions}
 use Rattle.sz_region.specs.Putting.{HasShapes}
 use Rattle.sz_store.specs.Kept.{Holding, regions, entries, Keep, NodeLineage, holding_stands}
 use Rattle.sz_store.specs.Kept.{is_whole, stored_in}
@@ -96,3 +98,12 @@ pub record AreMerged (s : Site) (list : List Strategy) (before : List Keep) (aft
   pub read : BeginEach s (stored_in list) bytes 0 (length bytes) after.stores
   pub each : AllZip (IsMergedKeep s) before after.stores
   pub counted : kinds ≡ kinds_in after.stores
+
+-- region pairs that are the kinds of those of a store that begins at a place of some bytes
+pub record AreKindsOf (s : Site) (bytes : List ℕ) (at next : ℕ) (ms : List Pairing) : Type 0 where
+  pub before : List Pairing
+  pub begins : BeginsRegions s.out s.ins bytes at next before
+  pub kinds : AreKinds ms
+  pub shapes : All (HasShapes s.out s.ins) ms
+  pub same : (i : ℕ) (o x : Cell) → i < length s.ins
+      → full_stands ms i o x ≡ full_stands before i o x

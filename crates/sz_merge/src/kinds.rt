@@ -39,28 +39,28 @@ pub fn kinds_of(
     let mut lineages = LineageTable::new(alloc, ins)?;
     let labels = label_cells(alloc, out, regions, &mut lineages)?;
     let groups = group_cells(alloc, lineages.len(), &labels)?;
-    let kinds = regions_of(alloc, out, groups, &lineages)?;
+    let kinds = regions_of(alloc, out, groups, lineages.lists())?;
     Ok(kinds)
 }
 
 /// For each number of a lineage of some cell, but that of nothing, the region pair of the cells
 /// that have it.
-fn regions_of(
+pub fn regions_of(
     alloc: Global,
     out: Shape,
     groups: Vec<Vec<Run>>,
-    lineages: &LineageTable,
+    lists: &[SetList],
 ) -> Result<Vec<Arc<Region>>, NoMemory>
     requires groups { All (AreRunsFrom 0 (size_of out)) (map (λ g. g.items) groups.items) }
-    requires many { length groups.items ≡ length lineages.now.lists }
+    requires many { length groups.items ≡ length lists.now }
     ensures { IfOk result (λ v. map (λ a. arc_value a) v.items ≡ kinds_below out
-        (map (λ g. g.items) groups.items) lineages.now.lists (length lineages.now.lists)) }
+        (map (λ g. g.items) groups.items) lists.now (length lists.now)) }
 {
     let mut regions = Vec::new(alloc);
     let mut groups = groups;
-    for number in 0..lineages.len() {
-        let group = std::mem::replace(&mut groups[number as usize], Vec::new(alloc));
-        add_kind(alloc, out, group, lineages, number, &mut regions)?;
+    for number in 0..lists.len() {
+        let group = std::mem::replace(&mut groups[number], Vec::new(alloc));
+        add_kind(alloc, out, group, lists, number, &mut regions)?;
     }
     Ok(regions)
 }
@@ -70,23 +70,23 @@ fn add_kind(
     alloc: Global,
     out: Shape,
     runs: Vec<Run>,
-    lineages: &LineageTable,
-    number: u32,
+    lists: &[SetList],
+    number: usize,
     regions: &mut Vec<Arc<Region>>,
 ) -> Result<(), NoMemory>
     requires runs { AreRunsFrom 0 (size_of out) runs.items }
-    requires there { number < length lineages.now.lists }
+    requires there { number < length lists.now }
     ensures { OnOk result (map (λ a. arc_value a) regions.new.items
         ≡ map (λ a. arc_value a) regions.old.items ++ (if nat_lt 0 number
         && not (length runs.items == 0) then record {
           out = spelled out runs.items;
-          ins = list_at lineages.now.lists number;
+          ins = list_at lists.now number;
         } ∷ [] else [])) }
 {
     if number == 0 || runs.is_empty() {
         return Ok(());
     }
-    let region = region_of(alloc, out, runs, lineages, number)?;
+    let region = region_of(alloc, out, runs, lists, number)?;
     regions.push(region)?;
     Ok(())
 }
@@ -96,18 +96,18 @@ fn region_of(
     alloc: Global,
     out: Shape,
     runs: Vec<Run>,
-    lineages: &LineageTable,
-    number: u32,
+    lists: &[SetList],
+    number: usize,
 ) -> Result<Arc<Region>, NoMemory>
     requires runs { AreRunsFrom 0 (size_of out) runs.items }
-    requires there { number < length lineages.now.lists }
+    requires there { number < length lists.now }
     ensures { IfOk result (λ r. arc_value r ≡ record {
       out = spelled out runs.items;
-      ins = list_at lineages.now.lists number;
+      ins = list_at lists.now number;
     }) }
 {
     let out = Arc::new(alloc, CellSet::from_runs(out, runs))?;
-    let ins = SetList::of(share(alloc, lineages.sets(number))?);
+    let ins = SetList::of(share(alloc, lists[number].as_slice())?);
     Ok(Arc::new(alloc, Region { out, ins })?)
 }
 

@@ -43,6 +43,7 @@ mod lineages;
 mod marking;
 mod parts;
 mod reading;
+mod tabled;
 mod task;
 
 pub use crate::gate::{MergeGate, NoMergeGate};

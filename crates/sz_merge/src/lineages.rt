@@ -86,6 +86,13 @@ impl LineageTable {
         self.words.len()
     }
 
+    /// The lineages, in the order of their numbers.
+    pub fn lists(&self) -> &[SetList]
+        ensures { result.now ≡ self.now.lists }
+    {
+        &self.lists
+    }
+
     /// The sets of the lineage of a number.
     pub fn sets(&self, number: u32) -> &[Arc<CellSet>]
         requires { number < length self.now.lists }
@@ -106,7 +113,7 @@ fn shapes_are_within_limits(ins: &[Shape])
 }
 
 /// Of each input the set of no cell.
-fn no_sets(alloc: Global, ins: &[Shape]) -> Result<Vec<Arc<CellSet>>, NoMemory>
+pub fn no_sets(alloc: Global, ins: &[Shape]) -> Result<Vec<Arc<CellSet>>, NoMemory>
     ensures { IfOk result (λ v. map (λ a. arc_value a) v.items ≡ nothing ins.now) }
 {
     let mut sets = Vec::new(alloc);

@@ -15,16 +15,18 @@ ghost use Rattle.sz_store.specs.Kept.{Keep, stored_in};
 ghost use Rattle.sz_store.specs.Words.{BeginEach};
 ghost use Rattle.sz_merge.specs.Distinct.{AreKinds};
 ghost use Rattle.sz_merge.specs.Merged.{IsPartMerged, HasPart, ArePartsMerged, AreCopied};
+ghost use Rattle.sz_merge.specs.Merged.{AreKindsOf};
 
 use crate::kinds::kinds_of;
-use crate::reading::kinds_end;
+use crate::reading::{are_kinds, read_table};
+use crate::tabled::kinds_of_rows;
 use std::alloc::Global;
 use std::sync::Arc;
-use sz_cells::laws::a_shape_is_within_limits;
 use sz_cells::{NoMemory, Shape};
 use sz_frame::Region;
-use sz_region::{put_regions, take_entries, take_regions};
+use sz_region::{put_regions, shapes_are_within_limits, take_entries, take_regions};
 use sz_spec::{Mode, OpAt, Strategy};
+use sz_tables::RegionTable;
 
 /// Merges the stores of a list of strategies, whose bytes begin one after another: their words are
 /// put, and the number of kinds of each that has region pairs.
@@ -57,16 +59,6 @@ pub fn within_limits(at: &OpAt)
     ensures few { length at.now.ins ≤ 2 }
 {
     shapes_are_within_limits(&at.out(), at.ins());
-}
-
-/// Every shape is within the limits.
-fn shapes_are_within_limits(out: &Shape, ins: &[Shape])
-    ensures { AreRight (out.now ∷ ins.now) }
-{
-    a_shape_is_within_limits(out);
-    for shape in ins {
-        a_shape_is_within_limits(shape);
-    }
 }
 
 /// Merges the store of a strategy, if it has one. Gives the place behind its bytes.
@@ -108,8 +100,10 @@ fn merge_next(
     }
 }
 
-/// Merges a store of region pairs. Its bytes are copied where its region pairs are kinds as they
-/// are.
+/// Merges a store of region pairs. Its bytes are read into a table, and copied where its region
+/// pairs are kinds as they are. The table tells also the kinds of region pairs of one input of
+/// which no two have an output cell. Only for the other ones the bytes are read again, into region
+/// pairs whose sets can be joined.
 fn merge_full(
     alloc: Global,
     at: &OpAt,
@@ -123,16 +117,17 @@ fn merge_full(
         to.new.items kinds.old.items kinds.new.items) }
 {
     within_limits(at);
-    match kinds_end(alloc, at.out(), at.ins(), bytes, place)? {
-        Some((count, next)) => {
-            keep_pairs(at, bytes, place, next, count, to, kinds)?;
-            Ok(next)
-        }
-        None => {
-            let next = merge_pairs(alloc, at, bytes, place, to, kinds)?;
-            Ok(next)
-        }
+    let (table, next) = read_table(alloc, at.out(), at.ins(), bytes, place)?;
+    if are_kinds(alloc, at.out(), at.ins().len() as u32, &table)? {
+        keep_pairs(at, bytes, place, next, table.len(), to, kinds)?;
+        return Ok(next);
     }
+    if let Some(merged) = kinds_of_rows(alloc, at.out(), at.ins(), &table)? {
+        put_kinds(at, bytes, place, next, &merged, to, kinds)?;
+        return Ok(next);
+    }
+    drop(table);
+    merge_pairs(alloc, at, bytes, place, to, kinds)
 }
 
 /// Copies the bytes of a store whose region pairs are kinds as they are, so many.
@@ -159,6 +154,30 @@ fn keep_pairs(
     Ok(())
 }
 
+/// Puts the kinds of a store, and how many they are.
+fn put_kinds(
+    at: &OpAt,
+    bytes: &[u8],
+    place: u64,
+    next: u64,
+    merged: &[Arc<Region>],
+    to: &mut Vec<u8>,
+    kinds: &mut Vec<u32>,
+) -> Result<(), NoMemory>
+    requires next { next ≤ length bytes.now }
+    requires kinds { AreKindsOf at.now bytes.now place next (map (λ a. arc_value a) merged.now) }
+    ensures { OnOk result (IsPartMerged at.now mode.Full bytes.now place next to.old.items
+        to.new.items kinds.old.items kinds.new.items) }
+{
+    within_limits(at);
+    if merged.len() > 1_048_576 {
+        return Err(NoMemory); // there are no more of them than output cells
+    }
+    put_regions(merged, to)?;
+    kinds.push(merged.len() as u32)?;
+    Ok(())
+}
+
 /// Merges the region pairs of a store.
 fn merge_pairs(
     alloc: Global,
@@ -171,14 +190,9 @@ fn merge_pairs(
     ensures { IfOk result (λ next. IsPartMerged at.now mode.Full bytes.now place next to.old.items
         to.new.items kinds.old.items kinds.new.items) }
 {
-    within_limits(at);
     let (regions, next) = take_pairs(alloc, at, bytes, place)?;
     let merged = kinds_of(alloc, at.out(), at.ins(), &regions)?;
-    if merged.len() > 1_048_576 {
-        return Err(NoMemory); // there are no more of them than output cells
-    }
-    put_regions(&merged, to)?;
-    kinds.push(merged.len() as u32)?;
+    put_kinds(at, bytes, place, next, &merged, to, kinds)?;
     Ok(next)
 }
 

@@ -8,6 +8,7 @@ ghost use Rattle.sz_spec.specs.Modes.{has_mapping};
 ghost use Rattle.sz_spec.specs.Sides.{near_side, far_side, image_in};
 ghost use Rattle.sz_frame.specs.Fits.{AreApart};
 ghost use Rattle.sz_region.specs.PayBytes.{IsPayWord};
+ghost use Rattle.sz_tables.specs.Entries.{entries};
 ghost use Rattle.sz_tables.specs.Rows.{runs_in};
 ghost use Rattle.sz_tables.specs.Stores.{IsWithin, room_for_entries, no_room, most_given};
 ghost use Rattle.sz_tables.specs.Stores.{cells_in};
@@ -250,7 +251,8 @@ impl<M: Mapper + Drop> PayStore<M> {
 
     /// A checklist of the entries, of which none is ticked.
     pub fn checklist(&self, alloc: Global) -> EntryChecklist<'_>
-        ensures { result ≡ record { kept = self.now.store.given; ticked = [] } }
+        ensures kept { entries result.table ≡ self.now.store.given }
+        ensures none { result.ticked ≡ [] }
     {
         EntryChecklist::new(alloc, &self.table)
     }

@@ -145,7 +145,8 @@ one-listed t = let same : (number_of t == number_of t) ≡ true = eq-eqb (number
 -- what it keeps
 pub front-holding : (t : Strategy) (h : Holding)
     → holding_for t ((let f : Keep = record { strategy = t; holding = h } in f) ∷ []) ≡ h
-front-holding t h = let same : (number_of t == number_of t) ≡ true = eq-eqb (number_of t) (number_of t) refl in rw same refl
+front-holding t h = let same : (number_of t == number_of t) ≡ true =
+    eq-eqb (number_of t) (number_of t) refl in rw same refl
 
 -- Made of all pieces, the store is exact.
 pub made-exact : PlacedPiecesMakeTheRelation → (e : Execution) (t : Strategy) (k : ℕ) (made : NodeLineage)

@@ -6,3 +6,4 @@ pub mod Opened
 pub mod Props
 pub mod Comparing
 pub mod Soundness
+pub mod Ticking

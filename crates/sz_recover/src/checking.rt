@@ -17,7 +17,6 @@ ghost use Rattle.sz_frame.specs.Images.{measure_of};
 ghost use Rattle.sz_ops.specs.Aids.{aid_of};
 ghost use Rattle.sz_flow.specs.Executions.{execution_of};
 ghost use Rattle.sz_store.specs.Kept.{holding_for, with_lineage, with_part};
-ghost use Rattle.sz_store.specs.Checklists.{listed_in, ticked_in};
 ghost use Rattle.sz_catalogue.specs.Holdings.{arrays_of};
 ghost use Rattle.sz_catalogue.specs.Kept.{IsRun};
 ghost use Rattle.sz_bodies.specs.Fitting.{FitsNode, FitNodes, Fit, lineages};
@@ -29,6 +28,7 @@ ghost use Rattle.sz_recover.specs.Comparing.{AgreeOnEach, AreSides};
 
 use crate::groups::KeptVersion;
 use crate::opening::Recovered;
+use crate::ticking::{keeps_each_piece, lineage_of};
 use std::alloc::Global;
 use std::sync::Arc;
 use std::thread::Threads;
@@ -39,7 +39,7 @@ use sz_frame::PieceLineage;
 use sz_ops::{Aid, piece, prepare_lineage};
 use sz_script::StrategyList;
 use sz_spec::{Array, Dir, OpAt, Strategy, Tally, pieces_of};
-use sz_store::{NodeStore, StoreChecklist};
+use sz_store::NodeStore;
 
 /// A store that does not stand for what its strategy is to keep: its version, from 1, its node,
 /// from 0, and its strategy.
@@ -54,9 +54,11 @@ pub struct WrongStore {
 /// operator, in the order of the log, of the nodes and of the lists. `None` exactly where there is
 /// none.
 ///
-/// Runs each version again, and makes each store again: takes time and memory as both take, and for
-/// each cell of each array, the output's or the inputs' as the store is asked from, that of two
-/// images of one cell. It keeps one version and one store at a time, and waits for nobody.
+/// Runs each version again, and makes the lineage of each piece again, side by side: takes time and
+/// memory as both take, and some numbers for each region pair or entry. A store that is not what its
+/// pieces have is made again, which takes for each cell of each array, the output's or the inputs' as
+/// the store is asked from, the time of two images of one cell. It keeps one version and one store at
+/// a time.
 pub fn unsound<R: Threads + Sync>(
     rt: &R,
     alloc: Global,
@@ -112,7 +114,7 @@ fn wrong_of_version<R: Threads + Sync>(
 {
     sz_flow::laws::executions_are_those_of_their_nodes();
     let runs = run_again(rt, alloc, version)?;
-    wrong_of_nodes(alloc, &runs, version.lists.as_slice(), nodes)
+    wrong_of_nodes(rt, alloc, &runs, version.lists.as_slice(), nodes)
 }
 
 /// The runs of a version's nodes.
@@ -140,7 +142,8 @@ fn arrays_of(alloc: Global, base: &[BaseArray]) -> Result<Vec<Arc<Array>>, NoMem
 }
 
 /// The first node that has a wrong store, and that store's strategy.
-fn wrong_of_nodes(
+fn wrong_of_nodes<R: Threads + Sync>(
+    rt: &R,
     alloc: Global,
     runs: &[NodeRun],
     lists: &[StrategyList],
@@ -155,7 +158,7 @@ fn wrong_of_nodes(
         (λ w. TellsOfNodes (map execution_of runs.now) (lineages nodes.now) w) }
 {
     for node in 0..nodes.len() {
-        let found = wrong_of_node(alloc, &runs[node], &lists[node], &nodes[node])?;
+        let found = wrong_of_node(rt, alloc, &runs[node], &lists[node], &nodes[node])?;
         if let Some(s) = found {
             return Ok(Some((node as u32, s)));
         }
@@ -164,7 +167,8 @@ fn wrong_of_nodes(
 }
 
 /// The strategy of the first wrong store of a node, in the order of its list.
-fn wrong_of_node(
+fn wrong_of_node<R: Threads + Sync>(
+    rt: &R,
     alloc: Global,
     run: &NodeRun,
     list: &StrategyList,
@@ -178,13 +182,14 @@ fn wrong_of_node(
         TellsOfNode (execution_of run.now) (option_map (λ a. arc_value a) node.now) w) }
 {
     match node {
-        Some(store) => wrong_of_stores(alloc, run, list.as_slice(), store),
+        Some(store) => wrong_of_stores(rt, alloc, run, list.as_slice(), store),
         None => Ok(None),
     }
 }
 
 /// The same of the stores of a node.
-fn wrong_of_stores(
+fn wrong_of_stores<R: Threads + Sync>(
+    rt: &R,
     alloc: Global,
     run: &NodeRun,
     list: &[Strategy],
@@ -197,7 +202,7 @@ fn wrong_of_stores(
     ensures { IfOk result (λ w. TellsOfNode (execution_of run.now) (Some store.now) w) }
 {
     for s in list {
-        if is_wrong(alloc, run, store, *s)? {
+        if is_wrong(rt, alloc, run, store, *s)? {
             return Ok(Some(*s));
         }
     }
@@ -205,7 +210,13 @@ fn wrong_of_stores(
 }
 
 /// Whether a strategy has a store, and that is wrong.
-fn is_wrong(alloc: Global, run: &NodeRun, store: &NodeStore, s: Strategy) -> Result<bool, NoMemory>
+fn is_wrong<R: Threads + Sync>(
+    rt: &R,
+    alloc: Global,
+    run: &NodeRun,
+    store: &NodeStore,
+    s: Strategy,
+) -> Result<bool, NoMemory>
     requires site { store.now.site ≡ (execution_of run.now).site }
     requires listed { is_listed store.now.list s ≡ true }
     requires supported { supports (execution_of run.now).site.op s ≡ true }
@@ -214,7 +225,7 @@ fn is_wrong(alloc: Global, run: &NodeRun, store: &NodeStore, s: Strategy) -> Res
     if !s.is_stored() {
         return Ok(false);
     }
-    match is_exact(alloc, run, store, s)? {
+    match is_exact(rt, alloc, run, store, s)? {
         true => Ok(false),
         false => Ok(true),
     }
@@ -223,89 +234,23 @@ fn is_wrong(alloc: Global, run: &NodeRun, store: &NodeStore, s: Strategy) -> Res
 /// Whether the store of a strategy stands for exactly the relation of the operator that was run.
 /// What its lineage needs is prepared once. A store that does not keep what its pieces have is made
 /// again, and compared by images.
-fn is_exact(alloc: Global, run: &NodeRun, store: &NodeStore, s: Strategy) -> Result<bool, NoMemory>
+fn is_exact<R: Threads + Sync>(
+    rt: &R,
+    alloc: Global,
+    run: &NodeRun,
+    store: &NodeStore,
+    s: Strategy,
+) -> Result<bool, NoMemory>
     requires store { IsOneOf s (execution_of run.now).site store.now }
     ensures { IfOk result
         (λ b. Decides b (IsExact (execution_of run.now) (holding_for s store.now.stores))) }
 {
     let aid = prepared_for(alloc, run)?;
-    if keeps_each_piece(alloc, run, &aid, store, s)? {
+    if keeps_each_piece(rt, alloc, run, &aid, store, s)? {
         return Ok(true);
     }
     let made = store_made(alloc, run, &aid, s)?;
     are_one(alloc, &run.at, &made, store, s)
-}
-
-/// Whether the store of a strategy keeps what the lineages of all pieces have for it, and nothing
-/// else: it is exact then. One that does not may be exact as well, as one that was merged is.
-fn keeps_each_piece(
-    alloc: Global,
-    run: &NodeRun,
-    aid: &Aid,
-    store: &NodeStore,
-    s: Strategy,
-) -> Result<bool, NoMemory>
-    requires aid { let e = execution_of run.now in aid.now ≡ aid_of e.site.op e.inputs }
-    requires store { IsOneOf s (execution_of run.now).site store.now }
-    ensures { IfOk result (λ b. b ≡ true
-        → IsExact (execution_of run.now) (holding_for s store.now.stores)) }
-{
-    sz_store::laws::placed_pieces_make_the_relation();
-    sz_store::laws::other_orders_stand_for_the_same();
-    let mut list = store.checklist(alloc, s);
-    for k in 0..pieces_of(run.at.out()) {
-        if !tick_piece(alloc, run, aid, s, k, &mut list)? {
-            return Ok(false);
-        }
-    }
-    list.is_done()
-}
-
-/// Ticks what the lineage of a piece has for a strategy. False where the list does not have it.
-fn tick_piece(
-    alloc: Global,
-    run: &NodeRun,
-    aid: &Aid,
-    s: Strategy,
-    k: u32,
-    list: &mut StoreChecklist,
-) -> Result<bool, NoMemory>
-    requires aid { let e = execution_of run.now in aid.now ≡ aid_of e.site.op e.inputs }
-    requires supported { supports (execution_of run.now).site.op s ≡ true }
-    requires piece { k < pieces_of (execution_of run.now).site.out }
-    ensures listed { listed_in list.new ≡ listed_in list.old }
-    ensures ticked { let e = execution_of run.now in IfOk result (λ b. b ≡ true
-        → (p : Parts) × (p.piece ≡ k) × Fits (measure_of e.site e.inputs) (s ∷ []) k p
-        × (ticked_in list.new ≡ with_part p (ticked_in list.old))) }
-{
-    let lineage = lineage_of(alloc, run, aid, s, k)?;
-    list.tick(&lineage)
-}
-
-/// The lineage of a piece, as a strategy needs it.
-fn lineage_of(
-    alloc: Global,
-    run: &NodeRun,
-    aid: &Aid,
-    s: Strategy,
-    k: u32,
-) -> Result<PieceLineage, NoMemory>
-    requires aid { let e = execution_of run.now in aid.now ≡ aid_of e.site.op e.inputs }
-    requires supported { supports (execution_of run.now).site.op s ≡ true }
-    requires piece { k < pieces_of (execution_of run.now).site.out }
-    ensures { let e = execution_of run.now in IfOk result (λ p. (p.piece ≡ k)
-        × Fits (measure_of e.site e.inputs) (s ∷ []) k p) }
-{
-    let mut tally = Tally::new();
-    piece(
-        alloc,
-        &run.at,
-        run.inputs.as_slice(),
-        aid,
-        k,
-        &[s],
-        &mut tally,
-    )
 }
 
 /// The store of a strategy, made of all pieces of the operator that was run, by what was prepared

@@ -11,6 +11,7 @@ ghost use Rattle.sz_bodies.specs.Taking.{IfBad, NoneIsLawful};
 use std::alloc::Global;
 use std::marker::Model;
 use std::sync::Arc;
+use std::thread::Threads;
 use sz_bodies::{TakeFault, take_version_body};
 use sz_catalogue::{Catalogue, HeldVersion};
 use sz_script::laws::commands_are_right;
@@ -46,7 +47,8 @@ pub fn version_kind(format: u8) -> u8
 
 /// Takes a group of a kind with a body in a format over what is held, and keeps the stores of a
 /// version. `Bad` exactly where the group is bad there.
-pub(crate) fn act(
+pub(crate) fn act<R: Threads + Sync>(
+    rt: &R,
     alloc: Global,
     catalogue: &mut Catalogue,
     kept: &mut Vec<KeptVersion>,
@@ -64,7 +66,7 @@ pub(crate) fn act(
 {
     let own = version_kind(*format);
     if kind == own {
-        return act_as_version(alloc, catalogue, kept, *format, body);
+        return act_as_version(rt, alloc, catalogue, kept, *format, body);
     }
     if kind == UPGRADE_KIND {
         return act_as_upgrade(format, body);
@@ -129,7 +131,8 @@ fn is_of_kind(kind: u8, command: &Command) -> bool
 }
 
 /// Adds the version of a body in a format, and keeps its stores.
-fn act_as_version(
+fn act_as_version<R: Threads + Sync>(
+    rt: &R,
     alloc: Global,
     catalogue: &mut Catalogue,
     kept: &mut Vec<KeptVersion>,
@@ -143,7 +146,7 @@ fn act_as_version(
         × (kept.new.items ≡ kept.old.items ++ more)) }
     ensures err { IfErr result (λ f. IfBad f (NoneIsLawful format catalogue.old body.now)) }
 {
-    let taken = take_version_body(alloc, catalogue, body, format)?;
+    let taken = take_version_body(rt, alloc, catalogue, body, format)?;
     let version = HeldVersion {
         flow_name: taken.flow_name,
         flow: taken.flow,

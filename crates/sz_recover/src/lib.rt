@@ -13,8 +13,8 @@
 //! ```
 //! let body = version_body(alloc, &catalogue, version, &stores, 2)?;
 //! // over a catalogue that holds its flow and its base arrays, and no version of its number
-//! let taken = take_version_body(alloc, &other, &body, 2)?; // taken.number == version
-//! let opened: Recovered = catalogue_of(alloc, &mut station)?;
+//! let taken = take_version_body(rt, alloc, &other, &body, 2)?; // taken.number == version
+//! let opened: Recovered = catalogue_of(rt, alloc, &mut station)?;
 //! let wrong = unsound(rt, alloc, &opened)?;   // None: each store is sound
 //! ```
 //!
@@ -47,6 +47,7 @@ mod checking;
 mod groups;
 pub mod laws;
 mod opening;
+mod ticking;
 
 pub use checking::{WrongStore, unsound};
 pub use groups::{KeptVersion, version_kind};

@@ -12,6 +12,7 @@ ghost use Rattle.sz_recover.specs.Props.{own-prop};
 
 use crate::groups::{KeptVersion, act};
 use std::alloc::{AllocError, AllocFailed, Global};
+use std::thread::Threads;
 use sz_bodies::TakeFault;
 use sz_catalogue::Catalogue;
 use sz_log::{Group, LogEnd, group_at, is_log};
@@ -77,11 +78,16 @@ impl<T: Drop> From<AllocFailed<T>> for RecoverFault {
 }
 
 /// The catalogue that the groups of a well-made log make, with the log's format, where its first
-/// closed gate stands and the stores of its versions. Each byte of the log is read once.
+/// closed gate stands and the stores of its versions, which are read side by side where a version
+/// is long.
 ///
 /// Takes time in the bytes of the log, and for each group time in the logarithm of what is held;
 /// and memory in what is held, in the stores, and in the longest group.
-pub fn catalogue_of<T: Station>(alloc: Global, station: &mut T) -> Result<Recovered, RecoverFault>
+pub fn catalogue_of<T: Station, R: Threads + Sync>(
+    rt: &R,
+    alloc: Global,
+    station: &mut T,
+) -> Result<Recovered, RecoverFault>
     ensures made { IfOk result
         (λ r. IsMade (T.disk station.old) r.end.at r.format r.catalogue r.stores.items) }
     ensures why { IfErr result (λ e. SaysWhy (T.disk station.old) e) }
@@ -98,7 +104,7 @@ pub fn catalogue_of<T: Station>(alloc: Global, station: &mut T) -> Result<Recove
     let mut catalogue = Catalogue::new(alloc);
     let mut stores = Vec::new(alloc);
     let mut format = 1;
-    match act_each(alloc, station, &mut catalogue, &mut stores, &mut format) {
+    match act_each(rt, alloc, station, &mut catalogue, &mut stores, &mut format) {
         Ok(at) => Ok(Recovered {
             format,
             catalogue,
@@ -112,7 +118,8 @@ pub fn catalogue_of<T: Station>(alloc: Global, station: &mut T) -> Result<Recove
 /// Takes the groups of a log, from format 1 and nothing on, and gives the place of the first closed
 /// gate.
 #[tactic(auto, using(crate::proofs::Entries::nothing_kept))]
-fn act_each<T: Station>(
+fn act_each<T: Station, R: Threads + Sync>(
+    rt: &R,
     alloc: Global,
     station: &mut T,
     catalogue: &mut Catalogue,
@@ -141,7 +148,7 @@ fn act_each<T: Station>(
         return Err(RecoverFault::NotALog);
     }
     let mut at = 16;
-    while let Some(next) = take_next(alloc, station, catalogue, kept, format, at)? {
+    while let Some(next) = take_next(rt, alloc, station, catalogue, kept, format, at)? {
         at = next;
     }
     Ok(at)
@@ -149,7 +156,8 @@ fn act_each<T: Station>(
 
 /// Takes the group that stands at a place, and gives the place of the next gate; nothing at a
 /// closed gate.
-fn take_next<T: Station>(
+fn take_next<T: Station, R: Threads + Sync>(
+    rt: &R,
     alloc: Global,
     station: &mut T,
     catalogue: &mut Catalogue,
@@ -179,7 +187,7 @@ fn take_next<T: Station>(
         Ok(Next::End) => Ok(None),
         Ok(Next::Bad) => Err(RecoverFault::BadLog { at }),
         Ok(Next::Entry { kind, body, next }) => {
-            match act(alloc, catalogue, kept, format, kind, &body) {
+            match act(rt, alloc, catalogue, kept, format, kind, &body) {
                 Ok(()) => Ok(Some(next)),
                 Err(TakeFault::Bad) => Err(RecoverFault::BadLog { at }),
                 Err(TakeFault::NoMemory) => Err(RecoverFault::NoMemory),

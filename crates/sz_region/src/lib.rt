@@ -21,6 +21,7 @@
 
 mod apart;
 pub mod laws;
+mod limits;
 mod numbers;
 mod put_full;
 mod put_pay;
@@ -29,6 +30,7 @@ mod tables;
 mod take_full;
 mod take_pay;
 
+pub use limits::shapes_are_within_limits;
 pub use numbers::take_number;
 pub use put_full::put_regions;
 pub use put_pay::put_entries;

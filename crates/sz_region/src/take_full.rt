@@ -14,12 +14,12 @@ ghost use Rattle.sz_region.specs.FullBytes.{AreNamesOf, BeginsRegions, listed_by
 ghost use Rattle.sz_region.specs.Stores.{OnBad, NoRegionsBegin, SaysNoRegions, NoneAt, AreFew};
 ghost use Rattle.sz_region.specs.Stores.{IsNameFor, AreNamesFor, ArePairNames, AreStoreNames};
 
+use crate::limits::shapes_are_within_limits;
 use crate::numbers::take_number;
 use crate::set_bytes::{Take, take_set, take_set_runs};
 use std::alloc::Global;
 use std::marker::Model;
 use std::sync::Arc;
-use sz_cells::laws::a_shape_is_within_limits;
 use sz_cells::{CellSet, Run, Shape};
 use sz_frame::{Region, SetList};
 
@@ -60,16 +60,6 @@ pub fn take_regions(
     match take_full(alloc, out, ins, bytes, at) {
         Err(Take::Bad { .. }) => Err(Take::Bad { at }),
         taken => taken,
-    }
-}
-
-/// Every shape is within the limits.
-fn shapes_are_within_limits(out: &Shape, ins: &[Shape])
-    ensures { All (λ e. is_extent e ≡ true) (out.now ∷ ins.now) }
-{
-    a_shape_is_within_limits(out);
-    for shape in ins {
-        a_shape_is_within_limits(shape);
     }
 }
 

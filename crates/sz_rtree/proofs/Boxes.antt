@@ -1,9 +1,9 @@
 -- The key idea: a level says where it keeps rectangle n by n / span alone. So a look at one box tells of
 -- every number with the same quotient, and a new rectangle touches one box, whatever the others are.
-use Rattle.std.proofs.Common.{ℕ, ◌+◌, ◌*◌, ◌/◌, ◌<◌, ◌≤◌, ◌≡◌, List, [], ◌∷◌}
+use Rattle.std.proofs.Common.{ℕ, ◌+◌, ◌*◌, ◌/◌, ◌<◌, ◌≤◌, ◌≡◌, ◌^◌, List, [], ◌∷◌}
 use Rattle.std.proofs.Common.{◌++◌, length, get_or, arith, ⊎_elim, refl, sym, ap, ◌∙◌}
 use Rattle.std.proofs.Math.Nat.{lt-div-mul-add, div-lt_iff_lt-mul, div-mul-le_self, le-div_iff_mul-le}
-use Rattle.std.proofs.Math.Nat.{mul-le-mul_right, mul-div_cancel}
+use Rattle.std.proofs.Math.Nat.{mul-le-mul_right, mul-div_cancel, div-div-eq-div-mul}
 use Rattle.std.proofs.lemmas.Bool.{cases_lt}
 use Rattle.std.proofs.lemmas.List.{get_or_default, get_or_append_left, get_or_push, length_push}
 use Rattle.sz_cells.specs.declared.Bounds.{Bounds}
@@ -99,3 +99,29 @@ clears rectangles boxes span number bounds held has inside read clear n d ge lt 
     let its_box : get_or boxes (n / span) d ≡ held = ap (λ k. get_or boxes k d) same
     ∙ get_or_default boxes (number / span) d held inside ∙ sym read in
     clear (Overlaps-wider bounds (rw its_box at (has.each n d there)) o)
+
+IsInside-trans : (a b c : Bounds) → IsInside a b → IsInside b c → IsInside a c
+IsInside-trans a b c first second = record {
+  top = omega (arith, first.top, second.top);
+  bottom = omega (arith, first.bottom, second.bottom);
+  left = omega (arith, first.left, second.left);
+  right = omega (arith, first.right, second.right);
+}
+
+-- boxes round four boxes each are round the rectangles of these
+pub HasBoxes-over : (rectangles below boxes : List Bounds) (span : ℕ) → span * 4 < 2 ^ 32
+    → HasBoxes rectangles span below → HasBoxes below 4 boxes → HasBoxes rectangles (span * 4) boxes
+HasBoxes-over rectangles below boxes span fits has over =
+    let wide : length below * span ≤ length boxes * 4 * span = mul-le-mul_right span over.enough in
+    let regrouped : length boxes * 4 * span ≡ length boxes * (span * 4) = grind arith in record {
+      positive = omega (arith, has.positive);
+      small = fits;
+      enough = omega (arith, has.enough, wide, regrouped);
+      each =
+          λ n d inside.
+          let place : n / span < length below =
+          place_below n span (length below) has.positive (omega (arith, inside, has.enough)) in
+          IsInside-trans (get_or rectangles n d) (get_or below (n / span) d) (get_or boxes (n / (span * 4)) d)
+          (has.each n d inside)
+          (rw (div-div-eq-div-mul n span 4) at (over.each (n / span) d place));
+    }

@@ -47,6 +47,45 @@ pub(crate) fn empty_levels(alloc: Global) -> Result<Vec<Level>, NoMemory>
     Ok(levels)
 }
 
+/// The levels over these rectangles: the boxes of each are made of those of the level below, so they
+/// cost a third of a visit to each rectangle.
+pub(crate) fn levels_over(alloc: Global, rectangles: &[Bounds]) -> Result<Vec<Level>, NoMemory>
+    requires { length rectangles.now < 2 ^ 32 }
+    ensures { IfOk result (λ levels. All (Covers rectangles.now) levels.items) }
+{
+    let mut levels = Vec::new(alloc);
+    let mut level = level_over(alloc, rectangles)?;
+    while level.span < GREATEST_SPAN {
+        let above = level_over(alloc, &level.boxes)?;
+        let span = level.span * FAN;
+        levels.push(level)?;
+        level = Level {
+            span,
+            boxes: above.boxes,
+        };
+    }
+    levels.push(level)?;
+    Ok(levels)
+}
+
+/// The lowest level over these rectangles.
+fn level_over(alloc: Global, rectangles: &[Bounds]) -> Result<Level, NoMemory>
+    requires { length rectangles.now < 2 ^ 32 }
+    ensures span { IfOk result (λ level. level.span ≡ 4) }
+    ensures few { IfOk result (λ level. length level.boxes.items ≤ length rectangles.now) }
+    ensures covers { IfOk result (Covers rectangles.now) }
+{
+    let mut level = Level {
+        span: FAN,
+        boxes: Vec::new(alloc),
+    };
+    level.reserve(rectangles.len())?;
+    for number in 0..rectangles.len() {
+        level.add(number, rectangles[number]);
+    }
+    Ok(level)
+}
+
 /// Takes room for the boxes of `count` rectangles on every level.
 pub(crate) fn reserve_all(levels: &mut [Level], count: usize) -> Result<(), NoMemory>
     requires positive { All (λ level. 0 < level.span) levels.old }
@@ -85,6 +124,7 @@ impl Level {
         requires positive { 0 < self.old.span }
         requires count_fits { count < 2 ^ 32 }
         ensures span { self.new.span ≡ self.old.span }
+        ensures boxes { self.new.boxes.items ≡ self.old.boxes.items }
         ensures covers { (rectangles : List Bounds)
             → Covers rectangles self.old → Covers rectangles self.new }
         ensures kept { (room : ℕ) → HasRoom room self.old → HasRoom room self.new }
@@ -102,6 +142,7 @@ impl Level {
         ensures span { self.new.span ≡ self.old.span }
         ensures covers { (rectangles : List Bounds) → length rectangles ≡ number
             → Covers rectangles self.old → Covers (rectangles ++ bounds ∷ []) self.new }
+        ensures few { length self.new.boxes.items ≤ length self.old.boxes.items + 1 }
         ensures kept { (room : ℕ) → HasRoom room self.old → HasRoom room self.new }
         ensures capacity { vec_capacity self.new.boxes ≡ vec_capacity self.old.boxes }
     {

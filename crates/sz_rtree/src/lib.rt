@@ -5,6 +5,7 @@
 //! the order of their numbers, and leaves all others alone.
 //!
 //! - [`RTree::new`] makes a tree without rectangles.
+//! - [`RTree::of`] makes a tree of rectangles that are all there.
 //! - [`RTree::reserve`] takes the memory for rectangles to come, and for all that is above them.
 //! - [`RTree::insert`] adds a rectangle. Its number is the count of those before it.
 //! - [`RTree::len`] is that count.
@@ -50,7 +51,7 @@ pub mod laws;
 mod levels;
 mod search;
 
-use crate::levels::{Level, add_to_all, empty_levels, reserve_all, reserve_bounds};
+use crate::levels::{Level, add_to_all, empty_levels, levels_over, reserve_all, reserve_bounds};
 use crate::search::first_hit;
 use std::alloc::Global;
 use std::marker::Model;
@@ -89,6 +90,22 @@ impl RTree {
         Ok(RTree {
             rectangles: Vec::new(alloc),
             levels: empty_levels(alloc)?,
+            spare: 0,
+        })
+    }
+
+    /// The tree of these rectangles, numbered in their order, without room for more.
+    ///
+    /// Costs a visit to each rectangle and a third of one more: less than adding them one by one.
+    pub fn of(alloc: Global, rectangles: Vec<Bounds>) -> Result<RTree, NoMemory>
+        requires { length rectangles.items < 2 ^ 32 }
+        ensures rectangles { IfOk result (λ tree. tree.rectangles ≡ rectangles.items) }
+        ensures spare { IfOk result (λ tree. tree.spare ≡ 0) }
+    {
+        let levels = levels_over(alloc, &rectangles)?;
+        Ok(RTree {
+            rectangles,
+            levels,
             spare: 0,
         })
     }

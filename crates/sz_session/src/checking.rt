@@ -29,7 +29,7 @@ pub(crate) fn check_log<T: Station, R: Threads + Sync>(
     ensures counted { AreCounted T.Station result 0 0 station.old station.new }
     ensures stops { StopsChecking T.Station station.old station.new }
 {
-    match catalogue_of(alloc, station) {
+    match catalogue_of(rt, alloc, station) {
         Ok(log) => check_opened(rt, alloc, &log, station),
         Err(fault) => Status::from(fault),
     }

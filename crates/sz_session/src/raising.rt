@@ -11,13 +11,18 @@ ghost use Rattle.sz_session.specs.Raising.{RaisesOrStays, StopsRaising};
 
 use crate::serving::Status;
 use std::alloc::Global;
+use std::thread::Threads;
 use sz_log::append;
 use sz_outside::{Failed, Station};
 use sz_recover::{Recovered, catalogue_of};
 
 /// Opens the log, once what is pending of its disk is put where a stop leaves it, raises it, and
 /// says its line.
-pub(crate) fn raise_log<T: Station>(alloc: Global, station: &mut T) -> Status
+pub(crate) fn raise_log<T: Station, R: Threads + Sync>(
+    rt: &R,
+    alloc: Global,
+    station: &mut T,
+) -> Status
     ensures ends { RaisesLog T.Station result station.old station.new }
     ensures counted { AreCounted T.Station result 0 0 station.old station.new }
     ensures stops { StopsRaising T.Station station.old station.new }
@@ -25,7 +30,7 @@ pub(crate) fn raise_log<T: Station>(alloc: Global, station: &mut T) -> Status
     if station.sync().is_err() {
         return Status::DiskFault;
     }
-    let log = match catalogue_of(alloc, station) {
+    let log = match catalogue_of(rt, alloc, station) {
         Ok(log) => log,
         Err(fault) => return Status::from(fault),
     };

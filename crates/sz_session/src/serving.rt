@@ -221,7 +221,7 @@ fn run_job<
         JobMode::Init => make_log(station),
         JobMode::Run => run_log(rt, alloc, job, source, station, gate, LIMIT),
         JobMode::Check => check_log(rt, alloc, station),
-        JobMode::Upgrade => raise_log(alloc, station),
+        JobMode::Upgrade => raise_log(rt, alloc, station),
         JobMode::Load => load(rt, alloc, job, station, gate),
     }
 }
@@ -289,7 +289,7 @@ fn run_log<
     if station.sync().is_err() {
         return Status::DiskFault;
     }
-    match catalogue_of(alloc, station) {
+    match catalogue_of(rt, alloc, station) {
         Ok(recovered) => run_on(rt, alloc, recovered, job, source, station, gate, limit),
         Err(fault) => Status::from(fault),
     }

@@ -19,8 +19,7 @@ use crate::parts::{copy_part, copy_rows, take_number};
 use crate::ways::{Way, respell_set};
 use std::alloc::Global;
 use sz_cells::Shape;
-use sz_cells::laws::a_shape_is_within_limits;
-use sz_region::{Take, take_regions};
+use sz_region::{Take, shapes_are_within_limits, take_regions};
 
 /// Appends the short form of the store of full lineage that begins at a place of some bytes, for an
 /// operator with an output and inputs of these shapes, and gives the place behind the store. The
@@ -142,16 +141,6 @@ fn find_store(alloc: Global, out: Shape, ins: &[Shape], bytes: &[u8], at: u64) -
     match take_regions(alloc, out, ins, bytes, at) {
         Ok(_) => Ok(()),
         Err(fault) => Err(fault),
-    }
-}
-
-/// Every shape is within the limits.
-fn shapes_are_within_limits(out: &Shape, ins: &[Shape])
-    ensures { All (λ e. is_extent e ≡ true) (out.now ∷ ins.now) }
-{
-    a_shape_is_within_limits(out);
-    for shape in ins {
-        a_shape_is_within_limits(shape);
     }
 }
 

@@ -1,8 +1,9 @@
 //! Whether lineages are those that one store keeps.
 
-ghost use Rattle.std.specs.Prelude.{◌≡◌, true, IfOk};
+ghost use Rattle.std.specs.Prelude.{◌≡◌, true, IfOk, OnOk};
 ghost use Rattle.sz_store.specs.Kept.{with_part};
-ghost use Rattle.sz_store.specs.Checklists.{listed_in, ticked_in, AreOneList};
+ghost use Rattle.sz_store.specs.Checklists.{table_in, kept_in, ticked_in, emptied, joined};
+ghost use Rattle.sz_store.specs.Checklists.{AreOneList};
 
 use sz_cells::NoMemory;
 use sz_frame::PieceLineage;
@@ -18,12 +19,39 @@ pub enum StoreChecklist<'a> {
 }
 
 impl<'a> StoreChecklist<'a> {
+    /// Another checklist of the same store, of which nothing is ticked.
+    pub fn fork(&self) -> StoreChecklist<'a>
+        ensures table { table_in result ≡ table_in self.now }
+        ensures none { ticked_in result ≡ emptied (kept_in self.now) }
+    {
+        match self {
+            StoreChecklist::Pairs(list) => StoreChecklist::Pairs(list.fork()),
+            StoreChecklist::Pays(list) => StoreChecklist::Pays(list.fork()),
+            StoreChecklist::Comps(list) => StoreChecklist::Comps(list.fork()),
+        }
+    }
+
+    /// Ticks what another checklist of the same store has ticked.
+    pub fn join(&mut self, other: &StoreChecklist) -> Result<(), NoMemory>
+        requires { table_in other.now ≡ table_in self.old }
+        ensures table { table_in self.new ≡ table_in self.old }
+        ensures ticked { OnOk result
+            (ticked_in self.new ≡ joined (ticked_in self.old) (ticked_in other.now)) }
+    {
+        match (self, other) {
+            (StoreChecklist::Pairs(list), StoreChecklist::Pairs(more)) => list.join(more),
+            (StoreChecklist::Pays(list), StoreChecklist::Pays(more)) => list.join(more),
+            (StoreChecklist::Comps(list), StoreChecklist::Comps(more)) => list.join(more),
+            _ => unreachable!(),
+        }
+    }
+
     /// Ticks the store's part of a lineage, and answers true. False, with a part of it ticked, where
     /// the store cannot keep it.
     ///
     /// Costs a look at the runs of the part's sets, and at its payloads.
     pub fn tick(&mut self, lineage: &PieceLineage) -> Result<bool, NoMemory>
-        ensures listed { listed_in self.new ≡ listed_in self.old }
+        ensures table { table_in self.new ≡ table_in self.old }
         ensures ticked { IfOk result (λ b. b ≡ true
             → ticked_in self.new ≡ with_part lineage.now (ticked_in self.old)) }
     {
@@ -40,7 +68,7 @@ impl<'a> StoreChecklist<'a> {
     /// Takes time by a sort of the region pairs or entries, and memory for their numbers.
     pub fn is_done(&mut self) -> Result<bool, NoMemory>
         ensures { IfOk result (λ b. b ≡ true
-            → AreOneList (listed_in self.old) (ticked_in self.old)) }
+            → AreOneList (kept_in self.old) (ticked_in self.old)) }
     {
         match self {
             StoreChecklist::Pairs(list) => list.is_done(),

@@ -13,7 +13,7 @@ ghost use Rattle.sz_spec.specs.declared.modes.Mode.TheVariants as mode;
 ghost use Rattle.sz_spec.specs.Sides.{near_side, far_side, image_in};
 ghost use Rattle.sz_tables.specs.Stores.{no_room};
 ghost use Rattle.sz_store.specs.Kept.{entries, holding_stands, nothing_for, with_part};
-ghost use Rattle.sz_store.specs.Checklists.{listed_in, ticked_in};
+ghost use Rattle.sz_store.specs.Checklists.{kept_in, ticked_in};
 ghost use Rattle.sz_store.specs.Stocks.{stock_of, mode_in, empty_stock, CanGrow, HasRoomFor};
 ghost use Rattle.sz_store.specs.Words.{IsWordOf, Begins, NoneBegins, SaysNone};
 
@@ -106,7 +106,7 @@ impl KeptStore {
 
     /// A checklist of what the store keeps, of which nothing is ticked.
     pub fn checklist(&self, alloc: Global) -> StoreChecklist<'_>
-        ensures listed { listed_in result ≡ (stock_of self.now).holding }
+        ensures kept { kept_in result ≡ (stock_of self.now).holding }
         ensures none { ticked_in result ≡ nothing_for (mode_in (stock_of self.now).holding) }
     {
         match self {

@@ -39,7 +39,7 @@ ghost use Rattle.sz_spec.specs.Sides.{near_side, far_side, image_in};
 ghost use Rattle.sz_store.specs.Kept.{no_lineage, with_lineage, is_placed, is_whole};
 ghost use Rattle.sz_store.specs.Kept.{AreParts, missing, holding_for, holding_stands, stored_in};
 ghost use Rattle.sz_store.specs.Kept.{nothing_for};
-ghost use Rattle.sz_store.specs.Checklists.{listed_in, ticked_in};
+ghost use Rattle.sz_store.specs.Checklists.{kept_in, ticked_in};
 ghost use Rattle.sz_store.specs.Words.{AreWordsOf, BeginEach, NoneBegin, SaysNone};
 
 mod checklist;
@@ -47,17 +47,14 @@ mod kept;
 pub mod laws;
 mod stores;
 
-use crate::stores::{
-    ListedStore, add_all, empty_stores, place_of, put_all, reserve_all, shapes_are_within_limits,
-    take_all,
-};
+use crate::stores::{ListedStore, add_all, empty_stores, place_of, put_all, reserve_all, take_all};
 pub use checklist::StoreChecklist;
 use std::alloc::Global;
 use std::marker::Model;
 use std::sync::Arc;
 use sz_cells::{CellBits, NoMemory};
 use sz_frame::PieceLineage;
-use sz_region::Take;
+use sz_region::{Take, shapes_are_within_limits};
 use sz_spec::{Dir, OpAt, Strategy, pieces_of};
 
 /// The most region pairs or entries of a store.
@@ -204,7 +201,7 @@ impl NodeStore {
     pub fn checklist(&self, alloc: Global, strategy: Strategy) -> StoreChecklist<'_>
         requires listed { is_listed self.now.list strategy ≡ true }
         requires stored { is_stored strategy ≡ true }
-        ensures listed { listed_in result ≡ holding_for strategy self.now.stores }
+        ensures kept { kept_in result ≡ holding_for strategy self.now.stores }
         ensures none { ticked_in result ≡ nothing_for (mode_of strategy) }
     {
         let place = place_of(&self.stores, strategy);

@@ -4,7 +4,6 @@ ghost use Rattle.std.specs.Prelude.{◌≡◌, ℕ, ◌<◌, ◌≤◌, ◌==◌
 ghost use Rattle.std.specs.Prelude.{All, OnOk, OnErr, IfOk, IfErr, take, slice_index_or};
 ghost use Rattle.std.specs.List.{list_any};
 ghost use Rattle.std.specs.Arc.{arc_value};
-ghost use Rattle.sz_cells.specs.Extent.{is_extent};
 ghost use Rattle.sz_spec.specs.Shapes.{Site};
 ghost use Rattle.sz_spec.specs.Modes.{supports, is_stored, number_of, mode_of};
 ghost use Rattle.sz_store.specs.Kept.{Keep, empty_keep, stored_in, keep_with, holding_for};
@@ -15,10 +14,9 @@ ghost use Rattle.sz_store.specs.Words.{AreWordsOf, BeginEach, NoneBegin, SaysNon
 use crate::kept::KeptStore;
 use std::alloc::Global;
 use std::sync::Arc;
-use sz_cells::laws::a_shape_is_within_limits;
 use sz_cells::{NoMemory, Shape};
 use sz_frame::PieceLineage;
-use sz_region::Take;
+use sz_region::{Take, shapes_are_within_limits};
 use sz_spec::{OpAt, Strategy};
 
 /// A store, and the strategy of the list that it is for.
@@ -176,16 +174,6 @@ pub fn take_all(
         }
     }
     Ok((stores, place))
-}
-
-/// Every shape is within the limits.
-pub fn shapes_are_within_limits(out: &Shape, ins: &[Shape])
-    ensures { All (λ e. is_extent e ≡ true) (out.now ∷ ins.now) }
-{
-    a_shape_is_within_limits(out);
-    for shape in ins {
-        a_shape_is_within_limits(shape);
-    }
 }
 
 /// Adds the store of a strategy whose bytes begin at a place, if the strategy has one, and gives

@@ -253,7 +253,8 @@ gets-few old new array s n most gets many few k d below =
     let inside : k < length old = omega (arith, many) in
     let sets = λ (t : SetsByNumber). t.sets in
     let more = more-length (sets_of (map sets old) k) (sets_of (map sets new) k) s (gets.each k) in
-    let before : length (sets_of (map sets old) k) ≡ length (get_or old k d).sets = ap length (sets-at old k d inside) in
+    let before : length (sets_of (map sets old) k) ≡ length (get_or old k d).sets =
+    ap length (sets-at old k d inside) in
     let after : length (sets_of (map sets new) k) ≡ length (get_or new k d).sets = ap length (sets-at new k d below) in
     omega (arith, few k d inside, more.1, before, after)
 
@@ -283,7 +284,8 @@ gets-at outs tables j d new runs n inside number more =
     (sym (map-set sets tables j new)) gets)
 
 -- tables that have no set yet, of these shapes
-pub none-there : (out : Extent) (ins : List Extent) → All (λ (t : SetsByNumber). t.sets ≡ []) (map empty_sets (out ∷ ins))
+pub none-there : (out : Extent) (ins : List Extent) → All (λ (t : SetsByNumber). t.sets ≡ []) (map empty_sets
+    (out ∷ ins))
 none-there out ins = All-map (λ (t : SetsByNumber). t.sets ≡ []) empty_sets (out ∷ ins) (λ k d below. refl)
 
 pub shapes-there : (es : List Extent) → map (λ (t : SetsByNumber). t.extent) (map empty_sets es) ≡ es
@@ -308,7 +310,8 @@ pub rows-names : (t : RowTable) (places : List Place) (listed : List Listed) (ro
     → AllZip (IsRowNamed places (length t.sets)) rows t.rows
     → AllZip (AreNamesOf listed (length t.sets)) rows (pairings t)
 rows-names t places listed rows placed named =
-    zip-map (IsRowNamed places (length t.sets)) (AreNamesOf listed (length t.sets)) (pairing_of t.outs t.sets) rows t.rows
+    zip-map (IsRowNamed places (length t.sets)) (AreNamesOf listed (length t.sets))
+    (pairing_of t.outs t.sets) rows t.rows
     (λ ns row is. row-names t.outs t.sets places listed placed ns row is) named
 
 -- so a table with the sets that stand at the places has the region pairs that were read

@@ -4,9 +4,9 @@ use Rattle.sz_frame.specs.Parts.{Pairing}
 use Rattle.sz_tables.specs.Rows.{RowTable, set_at, sets_of}
 use Rattle.sz_tables.specs.declared.checklists.PairName.{PairName}
 
--- what is seen of a checklist: what the table keeps, and what was ticked, each in its order
-pub record Checklist (X : Type 0) : Type 0 where
-  pub kept : List X
+-- what is seen of a checklist: its table, and what was ticked, in order
+pub record Checklist (T X : Type 0) : Type 0 where
+  pub table : T
   pub ticked : List X
 
 -- the region pair that a name says

@@ -1,5 +1,6 @@
 //! Checklists: which of the region pairs, or of the entries, that a table keeps were ticked. Each is
-//! known by the numbers of its sets, so that none of them is looked at cell by cell.
+//! known by the numbers of its sets, so that none of them is looked at cell by cell. Several lists of
+//! one table can be ticked side by side, and are joined then.
 
 ghost use Rattle.std.specs.Prelude.{◌≡◌, ◌<◌, ◌≤◌, [], ◌∷◌, ◌++◌, length, map, true, Some};
 ghost use Rattle.std.specs.Prelude.{IsPermutation, IfOk, IfSome, OnOk};
@@ -38,13 +39,13 @@ pub struct PairName {
 impl<'a> Model for PairChecklist<'a> {
     ghost use Rattle.std.specs.Prelude.{◌≤◌, length, map};
     ghost use Rattle.sz_frame.specs.Parts.{Pairing};
-    ghost use Rattle.sz_tables.specs.Rows.{pairings};
+    ghost use Rattle.sz_tables.specs.Rows.{RowTable};
     ghost use Rattle.sz_tables.specs.Checklists.{Checklist, pair_named};
 
-    ghost Value = { Checklist Pairing };
+    ghost Value = { Checklist RowTable Pairing };
 
     ghost view = { λ c. record {
-      kept = pairings c.table.now;
+      table = c.table.now;
       ticked = map (pair_named c.table.now) c.names.items;
     } };
 
@@ -55,7 +56,7 @@ impl<'a> PairChecklist<'a> {
     /// A checklist of the region pairs of a table, of which none is ticked.
     pub fn new(alloc: Global, table: &'a RegionTable) -> PairChecklist<'a>
         requires { length table.now.ins ≤ 2 }
-        ensures { result ≡ record { kept = pairings table.now; ticked = [] } }
+        ensures { result ≡ record { table = table.now; ticked = [] } }
     {
         PairChecklist {
             table,
@@ -63,12 +64,32 @@ impl<'a> PairChecklist<'a> {
         }
     }
 
+    /// Another checklist of the same table, of which none is ticked.
+    pub fn fork(&self) -> PairChecklist<'a>
+        ensures { result ≡ record { table = self.now.table; ticked = [] } }
+    {
+        PairChecklist {
+            table: self.table,
+            names: Vec::new(*self.names.allocator()),
+        }
+    }
+
+    /// Ticks what another checklist of the same table has ticked.
+    pub fn join(&mut self, other: &PairChecklist) -> Result<(), NoMemory>
+        requires { other.now.table ≡ self.old.table }
+        ensures table { self.new.table ≡ self.old.table }
+        ensures ticked { OnOk result (self.new.ticked ≡ self.old.ticked ++ other.now.ticked) }
+    {
+        self.names.extend_from_slice(&other.names)?;
+        Ok(())
+    }
+
     /// Ticks region pairs one after another, and answers true. False, with some of them ticked, at
     /// one that the table cannot have.
     ///
     /// Costs a look at the runs of their sets.
     pub fn tick_all(&mut self, regions: &[Arc<Region>]) -> Result<bool, NoMemory>
-        ensures kept { self.new.kept ≡ self.old.kept }
+        ensures table { self.new.table ≡ self.old.table }
         ensures ticked { IfOk result (λ b. b ≡ true → self.new.ticked
             ≡ self.old.ticked ++ map (λ a. arc_value a) regions.now) }
     {
@@ -85,7 +106,7 @@ impl<'a> PairChecklist<'a> {
     ///
     /// Costs a look at the runs of its sets.
     fn tick(&mut self, region: &Region) -> Result<bool, NoMemory>
-        ensures kept { self.new.kept ≡ self.old.kept }
+        ensures table { self.new.table ≡ self.old.table }
         ensures ticked { IfOk result (λ b. b ≡ true
             → self.new.ticked ≡ self.old.ticked ++ region.now ∷ []) }
     {
@@ -103,7 +124,8 @@ impl<'a> PairChecklist<'a> {
     ///
     /// Takes time by a sort of the region pairs, and memory for their numbers.
     pub fn is_done(&mut self) -> Result<bool, NoMemory>
-        ensures { IfOk result (λ b. b ≡ true → IsPermutation self.old.kept self.old.ticked) }
+        ensures { IfOk result (λ b. b ≡ true
+            → IsPermutation (pairings self.old.table) self.old.ticked) }
     {
         let mut kept = Vec::new(*self.names.allocator());
         put_names(self.table, &mut kept)?;
@@ -207,13 +229,13 @@ pub struct EntryChecklist<'a> {
 impl<'a> Model for EntryChecklist<'a> {
     ghost use Rattle.std.specs.Prelude.{map};
     ghost use Rattle.sz_frame.specs.Parts.{Entry};
-    ghost use Rattle.sz_tables.specs.Entries.{entries, entry_named};
+    ghost use Rattle.sz_tables.specs.Entries.{EntryRows, entry_named};
     ghost use Rattle.sz_tables.specs.Checklists.{Checklist};
 
-    ghost Value = { Checklist Entry };
+    ghost Value = { Checklist EntryRows Entry };
 
     ghost view = { λ c. record {
-      kept = entries c.table.now;
+      table = c.table.now;
       ticked = map (entry_named c.table.now.sets c.table.now.payloads) c.rows.items;
     } };
 }
@@ -221,7 +243,7 @@ impl<'a> Model for EntryChecklist<'a> {
 impl<'a> EntryChecklist<'a> {
     /// A checklist of the entries of a table, of which none is ticked.
     pub fn new(alloc: Global, table: &'a EntryTable) -> EntryChecklist<'a>
-        ensures { result ≡ record { kept = entries table.now; ticked = [] } }
+        ensures { result ≡ record { table = table.now; ticked = [] } }
     {
         EntryChecklist {
             table,
@@ -229,12 +251,32 @@ impl<'a> EntryChecklist<'a> {
         }
     }
 
+    /// Another checklist of the same table, of which none is ticked.
+    pub fn fork(&self) -> EntryChecklist<'a>
+        ensures { result ≡ record { table = self.now.table; ticked = [] } }
+    {
+        EntryChecklist {
+            table: self.table,
+            rows: Vec::new(*self.rows.allocator()),
+        }
+    }
+
+    /// Ticks what another checklist of the same table has ticked.
+    pub fn join(&mut self, other: &EntryChecklist) -> Result<(), NoMemory>
+        requires { other.now.table ≡ self.old.table }
+        ensures table { self.new.table ≡ self.old.table }
+        ensures ticked { OnOk result (self.new.ticked ≡ self.old.ticked ++ other.now.ticked) }
+    {
+        self.rows.extend_from_slice(&other.rows)?;
+        Ok(())
+    }
+
     /// Ticks entries one after another, and answers true. False, with some of them ticked, at one
     /// that the table cannot have.
     ///
     /// Costs a look at the runs of their sets and at their payloads.
     pub fn tick_all(&mut self, entries: &[Arc<PayEntry>]) -> Result<bool, NoMemory>
-        ensures kept { self.new.kept ≡ self.old.kept }
+        ensures table { self.new.table ≡ self.old.table }
         ensures ticked { IfOk result (λ b. b ≡ true → self.new.ticked
             ≡ self.old.ticked ++ map (λ a. arc_value a) entries.now) }
     {
@@ -251,7 +293,7 @@ impl<'a> EntryChecklist<'a> {
     ///
     /// Costs a look at the runs of its set and at its payload.
     fn tick(&mut self, entry: &PayEntry) -> Result<bool, NoMemory>
-        ensures kept { self.new.kept ≡ self.old.kept }
+        ensures table { self.new.table ≡ self.old.table }
         ensures ticked { IfOk result (λ b. b ≡ true
             → self.new.ticked ≡ self.old.ticked ++ entry.now ∷ []) }
     {
@@ -269,7 +311,8 @@ impl<'a> EntryChecklist<'a> {
     ///
     /// Takes time by a sort of the entries, and memory for their numbers.
     pub fn is_done(&mut self) -> Result<bool, NoMemory>
-        ensures { IfOk result (λ b. b ≡ true → IsPermutation self.old.kept self.old.ticked) }
+        ensures { IfOk result (λ b. b ≡ true
+            → IsPermutation (entries self.old.table) self.old.ticked) }
     {
         let mut kept = self.table.rows().to_vec(*self.rows.allocator())?;
         Ok(are_one_rows(&mut kept, &mut self.rows))

@@ -20,9 +20,10 @@ ghost use Rattle.sz_tables.specs.Placing.{IsPlaced, IsOfArray, Gets, IsRowNamed,
 use crate::region_table::{RegionTable, tables_for};
 use crate::set_table::SetTable;
 use std::alloc::Global;
-use sz_cells::laws::a_shape_is_within_limits;
 use sz_cells::{NoMemory, Run, Shape};
-use sz_region::{MOST_ROWS, Take, take_listed_runs, take_number, take_regions};
+use sz_region::{
+    MOST_ROWS, Take, shapes_are_within_limits, take_listed_runs, take_number, take_regions,
+};
 
 /// The array of a listed set, 0 for the output and i + 1 for input i, and the number that the set
 /// has in the table of that array.
@@ -37,8 +38,8 @@ impl RegionTable {
     /// operator with an output and inputs of these shapes, and the place behind it. `Bad` exactly
     /// where none begins there.
     ///
-    /// Takes time in the number of bytes that it reads, memory for each different set once and for
-    /// four bytes a name, and none for what is not there.
+    /// Takes time in the number of bytes that it reads, memory for each different set once, for four
+    /// bytes a name and while it reads for eight a listed set, and none for what is not there.
     pub fn take_bytes(
         alloc: Global,
         out: Shape,
@@ -60,16 +61,6 @@ impl RegionTable {
             Err(Take::Bad { .. }) => Err(Take::Bad { at }),
             Err(Take::NoMemory) => Err(Take::NoMemory),
         }
-    }
-}
-
-/// Every shape is within the limits.
-fn shapes_are_within_limits(out: &Shape, ins: &[Shape])
-    ensures { All (λ e. is_extent e ≡ true) (out.now ∷ ins.now) }
-{
-    a_shape_is_within_limits(out);
-    for shape in ins {
-        a_shape_is_within_limits(shape);
     }
 }
 

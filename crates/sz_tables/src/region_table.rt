@@ -233,10 +233,11 @@ impl RegionTable {
         self.outs.len()
     }
 
-    /// How many different sets of an input there are.
+    /// How many different sets of an input there are. No two of them are equal.
     pub fn sets_of(&self, input: u32) -> u32
         requires { input < length self.now.ins }
-        ensures { result ≡ length (sets_of self.now.sets input) }
+        ensures count { result ≡ length (sets_of self.now.sets input) }
+        ensures different { AreDifferent (sets_of self.now.sets input) }
     {
         self.ins[input as usize].len()
     }

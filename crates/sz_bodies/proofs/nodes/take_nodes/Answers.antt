@@ -1,6 +1,6 @@
 -- One more node stands behind those before it.
 use Rattle.std.proofs.Common.{◌≡◌, ℕ, ◌+◌, List, [], ◌∷◌, ◌++◌, map, take, drop, ap, ap₂, sym, subst, ◌∙◌}
-use Rattle.std.proofs.Common.{Option, option_map}
+use Rattle.std.proofs.Common.{Option, option_map, arith}
 use Rattle.std.specs.Arc.{arc_value}
 use Rattle.std.proofs.lemmas.List.{map-append, drop_all}
 use Rattle.std.proofs.lemmas.Result.{err_from_is_err_and}
@@ -17,7 +17,7 @@ use Rattle.sz_bodies.proofs.Sequence.{AreRead, left-is, read-stops, read-more, r
 use Rattle.sz_bodies.proofs.nodes.take_nodes.Goals as goal
 
 pub returns-in_err-list-clause-err : goal.returns-in_err-list-clause-err
-returns-in_err-list-clause-err c =
+returns-in_err-list-clause-err g c =
     let base = c.args.base.now in
     let outs = c.args.outputs.now in
     let nodes = c.args.nodes.now in
@@ -34,11 +34,11 @@ returns-in_err-list-clause-err c =
     (λ missing. read-stops c.args.format base outs nodes n (drop (i + 1) nodes) c.args.bytes.now c.args.at
     c.loop-node.place done read
     missing) c.in_err-list.ensures.err in
-    let p = err_from_is_err_and c.from_residual.result c.from_residual.ensures.1 in
+    let p = err_from_is_err_and c.from_residual-in_err-list.result c.from_residual-in_err-list.ensures.1 in
     rw (p.1, p.2) none
 
 pub loop-node-preserved : goal.loop-node-preserved
-loop-node-preserved c =
+loop-node-preserved g c =
     let base = c.args.base.now in
     let outs = c.args.outputs.now in
     let nodes = c.args.nodes.now in
@@ -84,10 +84,11 @@ loop-node-preserved c =
           (subst (λ (ks : List (Option NodeLineage)). FitNodes (sites ++ s ∷ []) (lists ++ list ∷ []) ks)
           (sym more_stores)
           (fit-more sites lists stores s list kept inv.fit c.in_ok-list.ensures.fits)));
+      index = omega (arith, inv.index);
     }
 
 pub returns-clause-nodes : goal.returns-clause-nodes
-returns-clause-nodes c =
+returns-clause-nodes g c =
     let nodes = c.args.nodes.now in
     let done = parts_of c.loop-node.lists.items (lineages c.loop-node.stores.items) in
     (read-all c.args.format c.args.base.now c.args.outputs.now nodes c.args.bytes.now c.args.at c.loop-node.place done
@@ -97,7 +98,7 @@ returns-clause-nodes c =
     c.loop-node.invariant.read)).0
 
 pub returns-clause-only : goal.returns-clause-only
-returns-clause-only c =
+returns-clause-only g c =
     let nodes = c.args.nodes.now in
     let done = parts_of c.loop-node.lists.items (lineages c.loop-node.stores.items) in
     (read-all c.args.format c.args.base.now c.args.outputs.now nodes c.args.bytes.now c.args.at c.loop-node.place done

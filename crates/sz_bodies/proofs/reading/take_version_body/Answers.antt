@@ -12,17 +12,18 @@ use Rattle.sz_bodies.specs.Taking.{Begun, site_over, AreNodesAt, NoNodesAt, AreO
 use Rattle.sz_bodies.proofs.HeadParts.{if_bad-weaker}
 use Rattle.sz_bodies.proofs.Whole.{HeadIs, IsRead, version_read, carried, body-read}
 use Rattle.sz_bodies.proofs.Whole.{no-body-head, no-body-shapes, no-body-nodes, no-body-end}
+use Rattle.sz_bodies.proofs.reading.take_version_body.Given.{Over}
 use Rattle.sz_bodies.proofs.reading.take_version_body.Goals as goal
 
 pub returns-in_err-head-clause-bad : goal.returns-in_err-head-clause-bad
-returns-in_err-head-clause-bad c =
+returns-in_err-head-clause-bad g c =
     let none = if_bad-weaker c.in_err-head.field-0.0 (no-body-head c.args.format c.args.catalogue.now c.args.body.now)
     c.in_err-head.ensures.err in
     let p = err_from_is_err_and c.from_residual.result c.from_residual.ensures.1 in
     rw (p.1, p.2) none
 
 pub returns-in_err-base-clause-bad : goal.returns-in_err-base-clause-bad
-returns-in_err-base-clause-bad c =
+returns-in_err-base-clause-bad g c =
     let held = c.args.catalogue.now in
     let h : Begun = c.in_ok-head.head in
     let read : HeadIs held c.args.body.now h c.in_ok-head.place =
@@ -33,7 +34,7 @@ returns-in_err-base-clause-bad c =
     rw (p.1, p.2) none
 
 pub returns-in_err-lists-clause-bad : goal.returns-in_err-lists-clause-bad
-returns-in_err-lists-clause-bad c =
+returns-in_err-lists-clause-bad g c =
     let held = c.args.catalogue.now in
     let body = c.args.body.now in
     let h : Begun = c.in_ok-head.head in
@@ -55,7 +56,7 @@ returns-in_err-lists-clause-bad c =
     rw (p.1, p.2) none
 
 pub returns-then-end-body-clause-bad : goal.returns-then-end-body-clause-bad
-returns-then-end-body-clause-bad c =
+returns-then-end-body-clause-bad g c =
     let held = c.args.catalogue.now in
     let body = c.args.body.now in
     let h : Begun = c.in_ok-head.head in
@@ -76,7 +77,7 @@ returns-then-end-body-clause-bad c =
     c.deref-3.result.now outs c.nodes-nodes.result.now h.flow.nodes c.deref-2.ensures.value c.deref-3.ensures.value
     nodes c.in_ok-lists.ensures.only) c.if-end-body.true
 
-whole : (c : goal.After-drop-base-2) → IsRead c.args.format c.args.catalogue.now c.args.body.now c.head.inside.number
+whole : (g : Over) (c : goal.After-drop-base-2 g) → IsRead c.args.format c.args.catalogue.now c.args.body.now c.head.inside.number
     (record {
       flow_name = c.head.inside.flow_name;
       flow = arc_value c.head.inside.flow;
@@ -84,7 +85,7 @@ whole : (c : goal.After-drop-base-2) → IsRead c.args.format c.args.catalogue.n
       lists = c.of-2.result;
       awaited = true;
     }) (lineages c.in_ok-lists.stores.items)
-whole c =
+whole g c =
     let held = c.args.catalogue.now in
     let body = c.args.body.now in
     let h : Begun = c.in_ok-head.head in
@@ -127,13 +128,13 @@ whole c =
     (sym (ap (λ (b : Begun). b.number) c.head.view_is)) own)
 
 pub returns-clause-lawful : goal.returns-clause-lawful
-returns-clause-lawful c = (whole c).lawful
+returns-clause-lawful g c = (whole g c).lawful
 
 pub returns-clause-said : goal.returns-clause-said
-returns-clause-said c = (whole c).said
+returns-clause-said g c = (whole g c).said
 
 pub returns-clause-fit : goal.returns-clause-fit
-returns-clause-fit c = (whole c).fit
+returns-clause-fit g c = (whole g c).fit
 
 pub returns-clause-added : goal.returns-clause-added
-returns-clause-added c = (whole c).added
+returns-clause-added g c = (whole g c).added

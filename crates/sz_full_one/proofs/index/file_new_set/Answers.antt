@@ -30,7 +30,7 @@ returns-then-known-sets_of-clause-sets c =
     c.deref.ensures in
     let known = c.keys-known.ensures in
     sets-more old c.args.table.now c.args.region.now c.args.input c.args.files.now _ c.requires.grown.1
-    c.requires.input c.requires.grown.2 (omega (arith, known, c.sets_of.ensures, c.if-known-sets_of.true))
+    c.requires.input c.requires.grown.2 (omega (arith, known, c.sets_of.ensures.count, c.if-known-sets_of.true))
     (c.file_set.ensures
     ∙ ap (λ (s : Cells). with_filed c.args.files.now.cells s.indexes c.keys-known.result) is
     ∙ ap (with_filed c.args.files.now.cells (set_of c.args.region.now c.args.input).indexes) known)

@@ -1,12 +1,13 @@
 -- What stands behind the cells is numbered, and the cells are sorted by their numbers.
-use Rattle.std.proofs.Common.{◌∙◌, List, map, sym, ap, subst, All}
+use Rattle.std.proofs.Common.{◌≡◌, ◌∙◌, List, map, length, sym, ap, subst, All}
 use Rattle.std.specs.Arc.{arc_value}
 use Rattle.sz_cells.specs.Extent.{Extent}
+use Rattle.sz_cells.specs.Cells.{Cells}
 use Rattle.sz_frame.specs.Parts.{Pairing}
 use Rattle.sz_region.specs.Putting.{HasShapes}
 use Rattle.sz_frame.specs.Stands.{full_stands}
 use Rattle.sz_merge.specs.Distinct.{AreKinds}
-use Rattle.sz_merge.specs.Marks.{AreLabels}
+use Rattle.sz_merge.specs.Marks.{AreLabels, kinds_below}
 use Rattle.sz_merge.proofs.Sorting.{sorted-from, sorted-longest, kinds-are, kinds-shapes, kinds-same}
 use Rattle.sz_merge.proofs.kinds.kinds_of.Goals as goal
 
@@ -34,7 +35,10 @@ returns-clause-kinds c =
     c.in_ok-labels.ensures.ok in
     let sorted = sorted-from c.args.out c.args.ins.now rs labels c.deref.result.now groups lists c.len.result numbers
     c.deref.ensures.value c.len.ensures.count c.in_ok-groups.ensures c.len.ensures.different c.requires in
-    subst AreKinds (sym c.in_ok-kinds.ensures) (kinds-are c.args.out c.args.ins.now rs labels groups lists sorted)
+    let made : map (λ a. arc_value a) c.in_ok-kinds.kinds.items ≡ kinds_below c.args.out groups lists (length lists) =
+    c.in_ok-kinds.ensures
+    ∙ ap (λ (ls : List (List Cells)). kinds_below c.args.out groups ls (length ls)) c.lists.ensures in
+    subst AreKinds (sym made) (kinds-are c.args.out c.args.ins.now rs labels groups lists sorted)
 
 pub returns-clause-shapes : goal.returns-clause-shapes
 returns-clause-shapes c =
@@ -47,7 +51,10 @@ returns-clause-shapes c =
     c.in_ok-labels.ensures.ok in
     let sorted = sorted-from c.args.out c.args.ins.now rs labels c.deref.result.now groups lists c.len.result numbers
     c.deref.ensures.value c.len.ensures.count c.in_ok-groups.ensures c.len.ensures.different c.requires in
-    subst (λ (ms : List Pairing). All (HasShapes c.args.out c.args.ins.now) ms) (sym c.in_ok-kinds.ensures)
+    let made : map (λ a. arc_value a) c.in_ok-kinds.kinds.items ≡ kinds_below c.args.out groups lists (length lists) =
+    c.in_ok-kinds.ensures
+    ∙ ap (λ (ls : List (List Cells)). kinds_below c.args.out groups ls (length ls)) c.lists.ensures in
+    subst (λ (ms : List Pairing). All (HasShapes c.args.out c.args.ins.now) ms) (sym made)
     (kinds-shapes c.args.out c.args.ins.now rs labels groups lists sorted)
 
 pub returns-clause-same : goal.returns-clause-same
@@ -61,5 +68,8 @@ returns-clause-same c i o x inside =
     c.in_ok-labels.ensures.ok in
     let sorted = sorted-from c.args.out c.args.ins.now rs labels c.deref.result.now groups lists c.len.result numbers
     c.deref.ensures.value c.len.ensures.count c.in_ok-groups.ensures c.len.ensures.different c.requires in
-    ap (λ (ms : List Pairing). full_stands ms i o x) c.in_ok-kinds.ensures
+    let made : map (λ a. arc_value a) c.in_ok-kinds.kinds.items ≡ kinds_below c.args.out groups lists (length lists) =
+    c.in_ok-kinds.ensures
+    ∙ ap (λ (ls : List (List Cells)). kinds_below c.args.out groups ls (length ls)) c.lists.ensures in
+    ap (λ (ms : List Pairing). full_stands ms i o x) made
     ∙ kinds-same c.args.out c.args.ins.now rs labels groups lists i o x sorted inside

@@ -19,7 +19,6 @@ add_kind-requires-clause-runs c =
     omega (
       arith,
       c.loop-number-test.true,
-      c.len-number-end.ensures.count,
       c.requires.many,
       c.loop-number.invariant.many,
     ) in
@@ -36,9 +35,9 @@ loop-number-preserved c =
     let n = c.loop-number.number in
     let groups = c.loop-number.groups.items in
     let all = map (λ g. g.items) c.args.groups.items in
-    let lists = c.args.lineages.now.lists in
+    let lists = c.args.lists.now in
     let inside : n < length groups =
-    omega (arith, c.loop-number-test.true, c.len-number-end.ensures.count, c.requires.many, inv.many) in
+    omega (arith, c.loop-number-test.true, c.requires.many, inv.many) in
     let here : get_or (map (λ g. g.items) groups) n [] ≡ c.replace-group.result.items =
     read-map (λ g. g.items) groups n c.index_mut.result.now c.replace-group.result.items [] inside
     c.index_mut.ensures.value (ap (λ g. g.items) c.replace-group.ensures.value) in

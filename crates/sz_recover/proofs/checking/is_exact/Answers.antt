@@ -12,7 +12,7 @@ use Rattle.sz_recover.proofs.Made.{exact-where}
 use Rattle.sz_recover.proofs.checking.is_exact.Goals as goal
 
 pub returns : goal.returns
-returns c =
+returns g c =
     let e = execution_of c.args.run.now in
     let made = holding_for c.args.s c.in_ok-made.made.stores in
     let held = holding_for c.args.s c.args.store.now.stores in

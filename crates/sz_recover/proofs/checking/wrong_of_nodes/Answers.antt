@@ -16,7 +16,7 @@ use Rattle.sz_recover.proofs.WrongNodes.{fits-at, zip-at, all-of, nodes-more, no
 use Rattle.sz_recover.proofs.checking.wrong_of_nodes.Goals as goal
 
 pub bounds-runs-node : goal.bounds-runs-node
-bounds-runs-node c =
+bounds-runs-node g c =
     let runs = c.args.runs.now in
     let stores = c.args.nodes.now in
     let es = map execution_of runs in
@@ -27,14 +27,14 @@ bounds-runs-node c =
     omega (arith, c.loop-node-test.true, fit.1, one, two, three)
 
 pub bounds-lists-node : goal.bounds-lists-node
-bounds-lists-node c =
+bounds-lists-node g c =
     let stores = c.args.nodes.now in
     let es = map execution_of c.args.runs.now in
     let fit = fit-length (map (λ (e : Execution). e.site) es) c.args.lists.now (lineages stores) c.requires.fit in
     omega (arith, c.loop-node-test.true, fit.0, length-map stores (option_map (λ a. arc_value a)))
 
 pub wrong_of_node-requires-clause-fits : goal.wrong_of_node-requires-clause-fits
-wrong_of_node-requires-clause-fits c =
+wrong_of_node-requires-clause-fits g c κs within =
     let runs = c.args.runs.now in
     let lists = c.args.lists.now in
     let stores = c.args.nodes.now in
@@ -59,7 +59,7 @@ wrong_of_node-requires-clause-fits c =
     here own there
 
 pub wrong_of_node-requires-clause-stored : goal.wrong_of_node-requires-clause-stored
-wrong_of_node-requires-clause-stored c =
+wrong_of_node-requires-clause-stored g c κs within =
     let stores = c.args.nodes.now in
     let n = c.loop-node.node in
     let node = c.index-nodes-node.result in
@@ -69,7 +69,7 @@ wrong_of_node-requires-clause-stored c =
     all-of HasItsStores (lineages stores) n (option_map (λ a. arc_value a) node) c.requires.stored there
 
 pub wrong_of_node-requires-clause-list : goal.wrong_of_node-requires-clause-list
-wrong_of_node-requires-clause-list c =
+wrong_of_node-requires-clause-list g c κs within =
     let runs = c.args.runs.now in
     let lists = c.args.lists.now in
     let stores = c.args.nodes.now in
@@ -89,7 +89,7 @@ wrong_of_node-requires-clause-list c =
     zip-at IsListAt n es lists (execution_of run) list c.requires.lists here own
 
 pub returns-in-Some : goal.returns-in-Some
-returns-in-Some c =
+returns-in-Some g c =
     let runs = c.args.runs.now in
     let stores = c.args.nodes.now in
     let n = c.loop-node.node in
@@ -112,7 +112,7 @@ returns-in-Some c =
     node-wrong n es (lineages stores) (execution_of run) kept c.in-Some.s here there c.loop-node.invariant told
 
 pub loop-node-preserved : goal.loop-node-preserved
-loop-node-preserved c =
+loop-node-preserved g c =
     let runs = c.args.runs.now in
     let stores = c.args.nodes.now in
     let n = c.loop-node.node in
@@ -135,7 +135,7 @@ loop-node-preserved c =
     nodes-more n es (lineages stores) (execution_of run) kept here there c.loop-node.invariant told
 
 pub returns : goal.returns
-returns c =
+returns g c =
     let runs = c.args.runs.now in
     let stores = c.args.nodes.now in
     let n = c.loop-node.node in

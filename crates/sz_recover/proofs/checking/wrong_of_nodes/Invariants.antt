@@ -6,4 +6,4 @@ use Rattle.sz_recover.specs.Soundness.{AreSoundNodes}
 use Rattle.sz_recover.proofs.checking.wrong_of_nodes.Given as goal
 
 abbrev pub invariant-loop-node : goal.invariant-loop-node
-invariant-loop-node l = AreSoundNodes (take l.node (map execution_of l.runs)) (take l.node (lineages l.nodes))
+invariant-loop-node g l = AreSoundNodes (take l.node (map execution_of l.runs)) (take l.node (lineages l.nodes))

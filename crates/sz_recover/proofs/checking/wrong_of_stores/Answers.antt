@@ -11,7 +11,7 @@ use Rattle.sz_recover.proofs.Wrong.{ExactIn, listed-right, wrong-at, none-at}
 use Rattle.sz_recover.proofs.checking.wrong_of_stores.Goals as goal
 
 pub is_wrong-requires-clause-supported : goal.is_wrong-requires-clause-supported
-is_wrong-requires-clause-supported c =
+is_wrong-requires-clause-supported g c κs within =
     let list = c.args.list.now in
     let i = c.loop-s.s-index in
     let t = get_or list i Map in
@@ -19,7 +19,7 @@ is_wrong-requires-clause-supported c =
     (get_or_default list i Map t c.loop-s-test.true) c.requires.own c.requires.list).1
 
 pub is_wrong-requires-clause-listed : goal.is_wrong-requires-clause-listed
-is_wrong-requires-clause-listed c =
+is_wrong-requires-clause-listed g c κs within =
     let list = c.args.list.now in
     let i = c.loop-s.s-index in
     let t = get_or list i Map in
@@ -27,7 +27,7 @@ is_wrong-requires-clause-listed c =
     (get_or_default list i Map t c.loop-s-test.true) c.requires.own c.requires.list).0
 
 pub returns-then-branch : goal.returns-then-branch
-returns-then-branch c =
+returns-then-branch g c =
     let e = execution_of c.args.run.now in
     let kept = c.args.store.now in
     let list = c.args.list.now in
@@ -39,7 +39,7 @@ returns-then-branch c =
     c.requires.stored c.requires.list c.loop-s.invariant wrong
 
 pub loop-s-preserved : goal.loop-s-preserved
-loop-s-preserved c =
+loop-s-preserved g c =
     let e = execution_of c.args.run.now in
     let kept = c.args.store.now in
     let list = c.args.list.now in
@@ -50,7 +50,7 @@ loop-s-preserved c =
     All-more (ExactIn e kept.stores) list i Map c.loop-s-test.true c.loop-s.invariant right
 
 pub returns : goal.returns
-returns c =
+returns g c =
     let e = execution_of c.args.run.now in
     let kept = c.args.store.now in
     let list = c.args.list.now in

@@ -6,4 +6,4 @@ use Rattle.sz_recover.proofs.Wrong.{ExactIn}
 use Rattle.sz_recover.proofs.checking.wrong_of_stores.Given as goal
 
 abbrev pub invariant-loop-s : goal.invariant-loop-s
-invariant-loop-s l = All (ExactIn (execution_of l.run) l.store.stores) (take l.s-index l.list)
+invariant-loop-s g l = All (ExactIn (execution_of l.run) l.store.stores) (take l.s-index l.list)

@@ -13,7 +13,7 @@ use Rattle.sz_recover.proofs.WrongNodes.{lists-executed}
 use Rattle.sz_recover.proofs.checking.wrong_of_version.Goals as goal
 
 pub wrong_of_nodes-requires-clause-fit : goal.wrong_of_nodes-requires-clause-fit
-wrong_of_nodes-requires-clause-fit g c =
+wrong_of_nodes-requires-clause-fit g c κs within =
     let v = c.args.version.now in
     let law = c.executions_are_those_of_their_nodes.ensures in
     let run = c.requires.run in
@@ -27,7 +27,7 @@ wrong_of_nodes-requires-clause-fit g c =
     (subst (λ (ls : List (List Strategy)). FitNodes (sites_of v) ls kept) (sym lists) c.requires.fit)
 
 pub wrong_of_nodes-requires-clause-lists : goal.wrong_of_nodes-requires-clause-lists
-wrong_of_nodes-requires-clause-lists g c =
+wrong_of_nodes-requires-clause-lists g c κs within =
     let v = c.args.version.now in
     let law = c.executions_are_those_of_their_nodes.ensures in
     let run = c.requires.run in

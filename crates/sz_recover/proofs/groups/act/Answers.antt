@@ -10,7 +10,7 @@ use Rattle.sz_bodies.proofs.HeadParts.{if_bad-weaker}
 use Rattle.sz_recover.proofs.groups.act.Goals as goal
 
 pub returns-then-kind-own-clause-ok : goal.returns-then-kind-own-clause-ok
-returns-then-kind-own-clause-ok c =
+returns-then-kind-own-clause-ok g c =
     let f = c.args.format.now in
     let held = c.args.catalogue.now in
     let body = c.args.body.now in
@@ -22,7 +22,7 @@ returns-then-kind-own-clause-ok c =
     (done.0, version-acts f c.args.kind held new body done.0 kind done.1, done.2)) c.act_as_version.ensures.ok
 
 pub returns-then-kind-own-clause-err : goal.returns-then-kind-own-clause-err
-returns-then-kind-own-clause-err c =
+returns-then-kind-own-clause-err g c =
     let f = c.args.format.now in
     let held = c.args.catalogue.now in
     let body = c.args.body.now in
@@ -35,7 +35,7 @@ returns-then-kind-own-clause-err c =
     c.act_as_version.ensures.err
 
 pub returns-then-kind-eq-UPGRADE_KIND-clause-ok : goal.returns-then-kind-eq-UPGRADE_KIND-clause-ok
-returns-then-kind-eq-UPGRADE_KIND-clause-ok c =
+returns-then-kind-eq-UPGRADE_KIND-clause-ok g c =
     on_ok_weaker c.act_as_upgrade.result
     (λ own. (
       [],
@@ -46,7 +46,7 @@ returns-then-kind-eq-UPGRADE_KIND-clause-ok c =
     c.act_as_upgrade.ensures.ok
 
 pub returns-then-kind-eq-UPGRADE_KIND-clause-err : goal.returns-then-kind-eq-UPGRADE_KIND-clause-err
-returns-then-kind-eq-UPGRADE_KIND-clause-err c =
+returns-then-kind-eq-UPGRADE_KIND-clause-err g c =
     let f = c.args.format.now in
     let held = c.args.catalogue.now in
     let body = c.args.body.now in
@@ -58,7 +58,7 @@ returns-then-kind-eq-UPGRADE_KIND-clause-err c =
     c.act_as_upgrade.ensures.err
 
 pub returns-clause-ok : goal.returns-clause-ok
-returns-clause-ok c =
+returns-clause-ok g c =
     let f = c.args.format.now in
     let held = c.args.catalogue.now in
     let new = c.act_as_line.new.catalogue in
@@ -73,7 +73,7 @@ returns-clause-ok c =
     )) c.act_as_line.ensures.ok
 
 pub returns-clause-err : goal.returns-clause-err
-returns-clause-err c =
+returns-clause-err g c =
     let f = c.args.format.now in
     let held = c.args.catalogue.now in
     let e = entry_of c.args.kind c.args.body.now in

@@ -17,10 +17,10 @@ place_of-place-requires c =
     c.requires.stored
     (subst (λ (x : NodeLineage). is_listed x.list c.args.strategy ≡ true) (sym c.self.view_is) c.requires.listed))
 
-pub returns-clause-listed : goal.returns-clause-listed
-returns-clause-listed c =
+pub returns-clause-kept : goal.returns-clause-kept
+returns-clause-kept c =
     let l = c.index.result.now in
-    c.checklist.ensures.listed
+    c.checklist.ensures.kept
     ∙ ap (λ (x : ListedStore). (stock_of x.kept).holding) c.index.ensures
     ∙ subst (λ (ls : List ListedStore). (stock_of (get_or ls c.place_of-place.result l).kept).holding
     ≡ holding_for c.args.strategy (map keep_of ls)) c.deref.ensures.value (c.place_of-place.ensures.store l)

@@ -11,7 +11,8 @@ loop-row-preserved c =
     let t = c.args.table.now in
     let i = c.loop-row.row in
     ap (map (pair_named t)) c.in_ok-push.ensures.items
-    ∙ names-more t c.loop-row.to.items c.name_at.result i (omega (arith, c.len-row-end.ensures.count, c.loop-row-test.true))
+    ∙ names-more t c.loop-row.to.items c.name_at.result i (omega
+    (arith, c.len-row-end.ensures.count, c.loop-row-test.true))
     c.loop-row.invariant c.name_at.ensures
 
 pub returns : goal.returns

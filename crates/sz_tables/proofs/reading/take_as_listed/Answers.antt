@@ -48,10 +48,12 @@ many c =
     let extent = λ (t : SetsByNumber). t.extent in
     omega (arith, ap length c.in_ok-place.ensures.extents, length-map c.take_sets.new.tables extent)
 
-read : (c : In_ok-count) → All (IsRowOf (table_of c.take_sets.new.outs c.take_sets.new.tables c.take_rows.new.names.items
+read : (c : In_ok-count) → All (IsRowOf (table_of c.take_sets.new.outs c.take_sets.new.tables
+    c.take_rows.new.names.items
     c.in_ok-count.count 0 0)) (rows_of (length c.take_sets.new.tables) c.in_ok-count.count c.take_rows.new.names.items)
     × AllZip (AreNamesOf c.in_ok-place.ensures.ok.0 (length c.args.ins.now)) c.in_ok-count.ensures.ok.0
-    (pairings (table_of c.take_sets.new.outs c.take_sets.new.tables c.take_rows.new.names.items c.in_ok-count.count 0 0))
+    (pairings (table_of c.take_sets.new.outs c.take_sets.new.tables c.take_rows.new.names.items
+    c.in_ok-count.count 0 0))
 read c =
     let ok = c.in_ok-place.ensures.ok in
     let rows = c.in_ok-count.ensures.ok in

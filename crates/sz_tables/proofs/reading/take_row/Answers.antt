@@ -29,7 +29,8 @@ returns-in_err-number-clause-err c =
     let places = c.args.places.now in
     let bytes = c.args.bytes.now in
     let none : (listed : List Listed) → AllZip IsOfArray places listed
-    → OnBad c.in_err-number.field-0.0 (NoneAt (ArePairNames listed c.args.inputs) (flat_map four_bytes) bytes c.args.at) =
+    → OnBad c.in_err-number.field-0.0 (NoneAt (ArePairNames listed c.args.inputs)
+    (flat_map four_bytes) bytes c.args.at) =
     λ listed same.
     let sets = sets-named places listed 0 inv.ns inv.ks same inv.named in
     let long = zip-length IsOfArray places listed same in

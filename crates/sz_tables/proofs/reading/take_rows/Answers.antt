@@ -40,7 +40,8 @@ returns-in_err-place-clause-err c =
     let made = rows_of c.args.inputs c.loop-index._index c.loop-index.names.items in
     let many = rows-length c.args.inputs c.loop-index._index c.loop-index.names.items in
     let none : (listed : List Listed) → AllZip IsOfArray places listed
-    → OnBad c.in_err-place.field-0.0 (NoneAt (AreStoreNames listed c.args.inputs) rows_bytes c.args.bytes.now c.args.at) =
+    → OnBad c.in_err-place.field-0.0 (NoneAt (AreStoreNames listed c.args.inputs) rows_bytes c.args.bytes.now
+    c.args.at) =
     λ listed same.
     let long = zip-length IsOfArray places listed same in
     let pairs = pairs-named places listed c.args.inputs same inv.rows made inv.named in

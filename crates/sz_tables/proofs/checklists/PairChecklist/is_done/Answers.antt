@@ -3,7 +3,7 @@ use Rattle.std.proofs.Common.{◌≡◌, ◌∙◌, map, subst, ap, List}
 use Rattle.std.specs.Prelude.{IsPermutation}
 use Rattle.std.proofs.lemmas.List.Sorted.{IsPermutation-map}
 use Rattle.sz_frame.specs.Parts.{Pairing}
-use Rattle.sz_tables.specs.Rows.{pairings}
+use Rattle.sz_tables.specs.Rows.{RowTable, pairings}
 use Rattle.sz_tables.specs.Checklists.{Checklist, pair_named}
 use Rattle.sz_tables.proofs.checklists.PairChecklist.is_done.Goals as goal
 
@@ -16,6 +16,6 @@ returns c done =
     let right : map f c.deref_mut-2.result.now ≡ map f c.self.inside.names.items =
     ap (map f) c.deref_mut-2.ensures.value in
     let one = IsPermutation-map f _ _ (c.are_one.ensures done) in
-    subst (λ (s : Checklist Pairing). IsPermutation s.kept s.ticked) c.self.view_is
+    subst (λ (s : Checklist RowTable Pairing). IsPermutation (pairings s.table) s.ticked) c.self.view_is
     (subst (λ (xs : List Pairing). IsPermutation xs (map f c.self.inside.names.items)) left
     (subst (λ (xs : List Pairing). IsPermutation (map f c.deref_mut.result.now) xs) right one))

@@ -17,7 +17,8 @@ runs_of_region-requires c =
     let r = c.deref.result.now in
     let there = item-made (λ a. arc_value a) c.args.regions.now rs i c.region-item.result r refl
     c.loop-region-test.true c.region-item.is c.deref.ensures in
-    let has : HasShapes c.args.out c.args.ins.now r = subst (HasShapes c.args.out c.args.ins.now) there.1 (c.requires.shapes i r there.0) in
+    let has : HasShapes c.args.out c.args.ins.now r =
+    subst (HasShapes c.args.out c.args.ins.now) there.1 (c.requires.shapes i r there.0) in
     omega (arith, length-map r.ins (λ (s : Cells). s.extent), ap length has.ins, c.requires.inputs)
 
 pub reserve-requires-clause-few : goal.reserve-requires-clause-few
@@ -42,7 +43,8 @@ add-requires-clause-out c =
     let r = c.deref-in-loop-region.result.now in
     let there = item-made (λ a. arc_value a) c.args.regions.now rs i c.region-item.result r refl
     c.loop-region-test.true c.region-item.is c.deref-in-loop-region.ensures in
-    let has : HasShapes c.args.out c.args.ins.now r = subst (HasShapes c.args.out c.args.ins.now) there.1 (c.requires.shapes i r there.0) in
+    let has : HasShapes c.args.out c.args.ins.now r =
+    subst (HasShapes c.args.out c.args.ins.now) there.1 (c.requires.shapes i r there.0) in
     let out = λ (t : RowTable). t.out in
     has.out ∙ sym (ap out c.reserve.ensures.kept ∙ c.loop-region.invariant.out ∙ ap out c.in_ok-table.ensures)
 
@@ -53,7 +55,8 @@ add-requires-clause-ins c =
     let r = c.deref-in-loop-region.result.now in
     let there = item-made (λ a. arc_value a) c.args.regions.now rs i c.region-item.result r refl
     c.loop-region-test.true c.region-item.is c.deref-in-loop-region.ensures in
-    let has : HasShapes c.args.out c.args.ins.now r = subst (HasShapes c.args.out c.args.ins.now) there.1 (c.requires.shapes i r there.0) in
+    let has : HasShapes c.args.out c.args.ins.now r =
+    subst (HasShapes c.args.out c.args.ins.now) there.1 (c.requires.shapes i r there.0) in
     let ins = λ (t : RowTable). t.ins in
     has.ins ∙ sym (ap ins c.reserve.ensures.kept ∙ c.loop-region.invariant.ins ∙ ap ins c.in_ok-table.ensures)
 
