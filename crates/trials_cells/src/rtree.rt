@@ -1,7 +1,7 @@
 //! Looks in a tree of three rectangles, and in one of the greatest array. What a look answers is
 //! proved; that there is memory for a tree is met here.
 
-ghost use Rattle.std.specs.Prelude.{◌<◌, ◌^◌, length};
+ghost use Rattle.std.specs.Prelude.{◌≡◌, ◌<◌, ◌^◌, length, IfOk};
 
 use std::alloc::{AllocError, Global};
 use std::test::Fail;
@@ -83,18 +83,40 @@ const IN_SQUARE: [Look; 7] = [
     ([512, 0, 600, 511], 0, None),
 ];
 
-/// A tree of the cells of a square, where there are so many.
-fn tree_of_square(alloc: Global, side: u32, count: u32) -> Result<RTree, Fail> {
+/// The cells of a square, where there are so many.
+fn square_of(alloc: Global, side: u32, count: u32) -> Result<Vec<Bounds>, Fail>
+    ensures { IfOk result (λ v. length v.items ≡ count) }
+{
     let rectangles = unit_squares(alloc, side)?;
     if rectangles.len() != count as usize {
         return Err(Fail::from("another number of cells"));
     }
-    Ok(tree_of(alloc, &rectangles)?)
+    Ok(rectangles)
 }
 
 #[test]
 fn finds_the_last_of_262144(rt: HostRuntime) -> Result<(), Fail> {
-    let tree = tree_of_square(rt.alloc(), 512, 262144)?;
+    let alloc = rt.alloc();
+    let tree = tree_of(alloc, &square_of(alloc, 512, 262144)?)?;
     assert!(rt; tree.len() == 262144 && finds(&tree, &IN_SQUARE));
+    Ok(())
+}
+
+#[test]
+fn a_tree_of_all_at_once_finds_the_last_of_262144(rt: HostRuntime) -> Result<(), Fail> {
+    let alloc = rt.alloc();
+    let tree = RTree::of(alloc, square_of(alloc, 512, 262144)?)?;
+    assert!(rt; tree.len() == 262144 && finds(&tree, &IN_SQUARE));
+    Ok(())
+}
+
+#[test]
+fn a_tree_of_all_at_once_takes_one_more(rt: HostRuntime) -> Result<(), Fail> {
+    let alloc = rt.alloc();
+    let two = vec![in alloc; bounds(0, 0, 1, 1), bounds(5, 5, 6, 6)]?;
+    let mut tree = RTree::of(alloc, two)?;
+    tree.reserve(1)?;
+    tree.insert(bounds(1, 1, 5, 5));
+    assert!(rt; tree.len() == 3 && finds(&tree, &IN_THREE));
     Ok(())
 }

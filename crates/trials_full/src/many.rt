@@ -13,9 +13,11 @@
 //! e   0 to 1   2         1
 //! ```
 
-ghost use Rattle.std.specs.Prelude.{◌≡◌, ◌<◌, ◌≤◌, ◌+◌, [], ◌∷◌, length, IfOk, OnOk, IfSome};
+ghost use Rattle.std.specs.Prelude.{◌≡◌, ◌<◌, ◌≤◌, ◌+◌, [], ◌∷◌, length, map, IfOk, OnOk};
 ghost use Rattle.std.specs.Arc.{arc_value};
 ghost use Rattle.sz_cells.specs.Extent.{flat, size_of};
+ghost use Rattle.sz_spec.specs.Sides.{near_side, far_side};
+ghost use Rattle.sz_tables.specs.Stores.{IsPairOf};
 
 use std::alloc::Global;
 use std::sync::Arc;
@@ -53,51 +55,91 @@ fn sample(alloc: Global) -> Result<Arc<OpAt>, Fail>
 }
 
 /// The set of one run, or of no cell.
-fn set_of(alloc: Global, shape: Shape, run: Option<Run>) -> Result<Arc<CellSet>, NoMemory>
-    requires { IfSome run (λ r. (r.first ≤ r.last) × (r.last < size_of shape)) }
+fn set_of(alloc: Global, shape: Shape, run: Option<[u32; 2]>) -> Result<Arc<CellSet>, Fail>
     ensures { IfOk result (λ s. (arc_value s).extent ≡ shape) }
 {
     let mut bits = CellBits::new(alloc, shape)?;
     if let Some(run) = run {
-        bits.add_run(run);
+        let [first, last] = run;
+        if first > last || last >= shape.size() {
+            return Err("this is no run of the shape".into());
+        }
+        bits.add_run(Run { first, last });
     }
-    Ok(Arc::new(alloc, bits.to_set(alloc)?)?)
+    let set = bits.to_set(alloc)?;
+    Ok(Arc::new(alloc, set)?)
 }
 
-/// Adds the region pair of these sets.
-fn add_pair(
-    alloc: Global,
-    store: &mut FullMany,
-    out: Option<Run>,
-    first: Option<Run>,
-    second: Option<Run>,
-) -> Result<(), Fail>
-    requires to { store.old.site.out ≡ flat 2 3 }
-    requires ins { store.old.site.ins ≡ flat 2 3 ∷ flat 1 4 ∷ [] }
+/// The sets of these runs of the inputs.
+fn ins_of(alloc: Global, first: Option<[u32; 2]>, second: Option<[u32; 2]>) -> Result<SetList, Fail>
+    ensures { IfOk result (λ l. map (λ s. s.extent) l ≡ flat 2 3 ∷ flat 1 4 ∷ []) }
+{
+    let first = set_of(alloc, picture()?, first)?;
+    let second = set_of(alloc, table()?, second)?;
+    Ok(SetList::of(vec![in alloc; first, second]?))
+}
+
+/// Runs of the output and of each input, or no cell of it.
+type Runs = [Option<[u32; 2]>; 3];
+
+/// The region pair of these sets.
+fn pair_of(alloc: Global, runs: Runs) -> Result<Region, Fail>
+    ensures out { IfOk result (λ r. r.out.extent ≡ flat 2 3) }
+    ensures ins { IfOk result (λ r. map (λ s. s.extent) r.ins ≡ flat 2 3 ∷ flat 1 4 ∷ []) }
+{
+    let ins = ins_of(alloc, runs[1], runs[2])?;
+    let out = set_of(alloc, picture()?, runs[0])?;
+    Ok(Region { out, ins })
+}
+
+/// Gives a store one region pair.
+fn give(alloc: Global, store: &mut FullMany, region: Region) -> Result<(), Fail>
+    requires pair { IsPairOf store.old.site region }
     requires few { length store.old.given < 100 }
-    requires out { IfSome out (λ r. (r.first ≤ r.last) × (r.last < 6)) }
-    requires first { IfSome first (λ r. (r.first ≤ r.last) × (r.last < 6)) }
-    requires second { IfSome second (λ r. (r.first ≤ r.last) × (r.last < 4)) }
     ensures site { store.new.site ≡ store.old.site }
     ensures one { OnOk result (length store.new.given ≡ length store.old.given + 1) }
 {
-    let out = set_of(alloc, picture()?, out)?;
-    let first = set_of(alloc, picture()?, first)?;
-    let second = set_of(alloc, table()?, second)?;
-    let ins = SetList::of(vec![in alloc; first, second]?);
     let mut lineage = PieceLineage::new(alloc, 0);
-    lineage.lwrite(Region { out, ins })?;
+    lineage.lwrite(region)?;
     store.reserve_piece(&lineage)?;
     store.add_piece(&lineage);
     Ok(())
 }
 
-/// The run from one index to another.
-fn run(first: u32, last: u32) -> Run
-    ensures { result ≡ record { first = first; last = last } }
+/// Gives a store the region pair of these runs.
+fn give_runs(alloc: Global, store: &mut FullMany, runs: Runs) -> Result<(), Fail>
+    requires to { store.old.site.out ≡ flat 2 3 }
+    requires ins { store.old.site.ins ≡ flat 2 3 ∷ flat 1 4 ∷ [] }
+    requires few { length store.old.given < 100 }
+    ensures site { store.new.site ≡ store.old.site }
+    ensures one { OnOk result (length store.new.given ≡ length store.old.given + 1) }
 {
-    Run { first, last }
+    let region = pair_of(alloc, runs)?;
+    give(alloc, store, region)
 }
+
+/// Gives a store the region pairs of these runs.
+fn give_all(alloc: Global, store: &mut FullMany, pairs: &[Runs]) -> Result<(), Fail>
+    requires to { store.old.site.out ≡ flat 2 3 }
+    requires ins { store.old.site.ins ≡ flat 2 3 ∷ flat 1 4 ∷ [] }
+    requires few { length store.old.given + length pairs.now < 100 }
+    ensures { store.new.site ≡ store.old.site }
+{
+    let [runs, others @ ..] = pairs else {
+        return Ok(());
+    };
+    give_runs(alloc, store, *runs)?;
+    give_all(alloc, store, others)
+}
+
+/// The five region pairs.
+const PAIRS: [Runs; 5] = [
+    [Some([0, 1]), Some([4, 5]), Some([1, 1])],
+    [Some([1, 3]), Some([0, 0]), Some([3, 3])],
+    [None, Some([2, 2]), Some([0, 0])],
+    [Some([3, 3]), None, Some([1, 2])],
+    [Some([0, 1]), Some([2, 2]), Some([1, 1])],
+];
 
 /// The store of the five region pairs, indexed for looks in a direction.
 fn store(alloc: Global, dir: Dir) -> Result<FullMany, Fail>
@@ -105,143 +147,177 @@ fn store(alloc: Global, dir: Dir) -> Result<FullMany, Fail>
     ensures ins { IfOk result (λ s. s.site.ins ≡ flat 2 3 ∷ flat 1 4 ∷ []) }
 {
     let mut store = FullMany::new(alloc, sample(alloc)?, dir)?;
-    add_pair(
-        alloc,
-        &mut store,
-        Some(run(0, 1)),
-        Some(run(4, 5)),
-        Some(run(1, 1)),
-    )?;
-    add_pair(
-        alloc,
-        &mut store,
-        Some(run(1, 3)),
-        Some(run(0, 0)),
-        Some(run(3, 3)),
-    )?;
-    add_pair(alloc, &mut store, None, Some(run(2, 2)), Some(run(0, 0)))?;
-    add_pair(alloc, &mut store, Some(run(3, 3)), None, Some(run(1, 2)))?;
-    add_pair(
-        alloc,
-        &mut store,
-        Some(run(0, 1)),
-        Some(run(2, 2)),
-        Some(run(1, 1)),
-    )?;
+    give_all(alloc, &mut store, &PAIRS)?;
     Ok(store)
 }
 
-/// Whether a look from the cells of a run finds those of these runs.
-fn finds(
+/// Whether the image of the cells of a run has these runs.
+fn leads_to(
     alloc: Global,
     store: &FullMany,
     dir: Dir,
     input: u32,
+    near: Shape,
+    far: Shape,
     from: Run,
-    want: &[Run],
-) -> Result<bool, Fail>
-    requires out { store.now.site.out ≡ flat 2 3 }
-    requires ins { store.now.site.ins ≡ flat 2 3 ∷ flat 1 4 ∷ [] }
-    requires input { input < 2 }
+    wanted: &[Run],
+) -> Result<bool, NoMemory>
+    requires input { input < length store.now.site.ins }
+    requires near { near ≡ near_side dir store.now.site input }
+    requires far { far ≡ far_side dir store.now.site input }
     requires order { from.first ≤ from.last }
-    requires within { from.last < 4 }
+    requires within { from.last < size_of near }
 {
-    let side = if input == 0 { picture()? } else { table()? };
-    let (near, far) = match dir {
-        Dir::Back => (picture()?, side),
-        Dir::Forward => (side, picture()?),
-    };
     let mut asked = CellBits::new(alloc, near)?;
     asked.add_run(from);
     let mut to = CellBits::new(alloc, far)?;
     store.image(dir, input, &asked, &mut to);
-    Ok(to.to_set(alloc)?.runs() == want)
+    let found = to.to_set(alloc)?;
+    Ok(found.runs() == wanted)
 }
 
-/// Whether looks backward find what they are to find.
-fn is_right_backward(alloc: Global, store: &FullMany) -> Result<bool, Fail>
+/// The number of an input, a run of cells that is asked for, and the runs that are found.
+type Found = (u32, [u32; 2], &'static [Run]);
+
+/// Whether a look finds what it is to find.
+fn finds(alloc: Global, store: &FullMany, dir: Dir, row: Found) -> Result<bool, Fail>
+    requires out { store.now.site.out ≡ flat 2 3 }
+    requires ins { store.now.site.ins ≡ flat 2 3 ∷ flat 1 4 ∷ [] }
+{
+    let (input, [first, last], wanted) = row;
+    if input > 1 || first > last || last >= 4 {
+        return Err("these are no cells of an input".into());
+    }
+    let own = picture()?;
+    let side = if input == 0 { own } else { table()? };
+    let (near, far) = match dir {
+        Dir::Back => (own, side),
+        Dir::Forward => (side, own),
+    };
+    Ok(leads_to(
+        alloc,
+        store,
+        dir,
+        input,
+        near,
+        far,
+        Run { first, last },
+        wanted,
+    )?)
+}
+
+/// Whether each of these looks does.
+fn finds_all(alloc: Global, store: &FullMany, dir: Dir, rows: &[Found]) -> Result<bool, Fail>
+    requires out { store.now.site.out ≡ flat 2 3 }
+    requires ins { store.now.site.ins ≡ flat 2 3 ∷ flat 1 4 ∷ [] }
+{
+    let [row, others @ ..] = rows else {
+        return Ok(true);
+    };
+    Ok(finds(alloc, store, dir, *row)? && finds_all(alloc, store, dir, others)?)
+}
+
+/// What looks backward find.
+const BACKWARD: [Found; 5] = [
+    (
+        0,
+        [1, 1],
+        &[
+            Run { first: 0, last: 0 },
+            Run { first: 2, last: 2 },
+            Run { first: 4, last: 5 },
+        ],
+    ),
+    (
+        0,
+        [0, 0],
+        &[Run { first: 2, last: 2 }, Run { first: 4, last: 5 }],
+    ),
+    (0, [3, 3], &[Run { first: 0, last: 0 }]),
+    (1, [3, 3], &[Run { first: 1, last: 3 }]),
+    (1, [2, 2], &[Run { first: 3, last: 3 }]),
+];
+
+/// What looks forward find.
+const FORWARD: [Found; 6] = [
+    (0, [2, 2], &[Run { first: 0, last: 1 }]),
+    (0, [0, 0], &[Run { first: 1, last: 3 }]),
+    (0, [1, 1], &[]),
+    (
+        1,
+        [1, 1],
+        &[Run { first: 0, last: 1 }, Run { first: 3, last: 3 }],
+    ),
+    (1, [2, 3], &[Run { first: 1, last: 3 }]),
+    (1, [0, 0], &[]),
+];
+
+/// Whether looks both ways find what they are to find.
+fn is_right(alloc: Global, store: &FullMany) -> Result<bool, Fail>
     requires out { store.now.site.out ≡ flat 2 3 }
     requires ins { store.now.site.ins ≡ flat 2 3 ∷ flat 1 4 ∷ [] }
 {
     Ok(
-        finds(
-            alloc,
-            store,
-            Dir::Back,
-            0,
-            run(1, 1),
-            &[run(0, 0), run(2, 2), run(4, 5)],
-        )? && finds(
-            alloc,
-            store,
-            Dir::Back,
-            0,
-            run(0, 0),
-            &[run(2, 2), run(4, 5)],
-        )? && finds(alloc, store, Dir::Back, 0, run(3, 3), &[run(0, 0)])?
-            && finds(alloc, store, Dir::Back, 1, run(3, 3), &[run(1, 3)])?
-            && finds(alloc, store, Dir::Back, 1, run(2, 2), &[run(3, 3)])?,
+        finds_all(alloc, store, Dir::Back, &BACKWARD)?
+            && finds_all(alloc, store, Dir::Forward, &FORWARD)?,
     )
 }
 
-/// Whether looks forward do.
-fn is_right_forward(alloc: Global, store: &FullMany) -> Result<bool, Fail>
-    requires out { store.now.site.out ≡ flat 2 3 }
-    requires ins { store.now.site.ins ≡ flat 2 3 ∷ flat 1 4 ∷ [] }
-{
-    Ok(
-        finds(alloc, store, Dir::Forward, 0, run(2, 2), &[run(0, 1)])?
-            && finds(alloc, store, Dir::Forward, 0, run(0, 0), &[run(1, 3)])?
-            && finds(alloc, store, Dir::Forward, 0, run(1, 1), &[])?
-            && finds(
-                alloc,
-                store,
-                Dir::Forward,
-                1,
-                run(1, 1),
-                &[run(0, 1), run(3, 3)],
-            )?
-            && finds(alloc, store, Dir::Forward, 1, run(2, 3), &[run(1, 3)])?
-            && finds(alloc, store, Dir::Forward, 1, run(0, 0), &[])?,
-    )
+/// Whether they do in the store that is indexed for looks in a direction.
+fn is_right_indexed(alloc: Global, dir: Dir) -> Result<bool, Fail> {
+    let store = store(alloc, dir)?;
+    is_right(alloc, &store)
 }
 
 #[test]
 fn a_store_indexed_backward_answers_both_ways(rt: HostRuntime) -> Result<(), Fail> {
-    let alloc = rt.alloc();
-    let store = store(alloc, Dir::Back)?;
-    assert!(rt; is_right_backward(alloc, &store)?);
-    assert!(rt; is_right_forward(alloc, &store)?);
+    assert!(rt; is_right_indexed(rt.alloc(), Dir::Back)?);
     Ok(())
 }
 
 #[test]
 fn a_store_indexed_forward_answers_both_ways(rt: HostRuntime) -> Result<(), Fail> {
-    let alloc = rt.alloc();
-    let store = store(alloc, Dir::Forward)?;
-    assert!(rt; is_right_backward(alloc, &store)?);
-    assert!(rt; is_right_forward(alloc, &store)?);
+    assert!(rt; is_right_indexed(rt.alloc(), Dir::Forward)?);
     Ok(())
+}
+
+/// Adds the bytes of the store to others.
+fn put(alloc: Global, bytes: &mut Vec<u8>) -> Result<(), Fail> {
+    let store = store(alloc, Dir::Back)?;
+    store.put_bytes(bytes)?;
+    Ok(())
+}
+
+/// The bytes of the store, between a 7 and a 9.
+fn written(alloc: Global) -> Result<Vec<u8>, Fail> {
+    let mut bytes = vec![in alloc; 7u8]?;
+    put(alloc, &mut bytes)?;
+    bytes.push(9)?;
+    Ok(bytes)
+}
+
+/// Whether a store is read up to the last byte, and looks both ways find what they are to find.
+fn is_read(alloc: Global, bytes: &[u8]) -> Result<bool, Fail> {
+    let (again, next) = FullMany::take_bytes(alloc, sample(alloc)?, Dir::Forward, bytes, 1)?;
+    Ok(next.checked_add(1) == Some(bytes.len() as u64) && is_right(alloc, &again)?)
 }
 
 #[test]
 fn what_is_written_is_read_again(rt: HostRuntime) -> Result<(), Fail> {
     let alloc = rt.alloc();
-    let mut bytes = vec![in alloc; 7u8]?;
-    store(alloc, Dir::Back)?.put_bytes(&mut bytes)?;
-    let end = bytes.len() as u64;
-    bytes.push(9)?;
-    let (again, next) = FullMany::take_bytes(alloc, sample(alloc)?, Dir::Forward, &bytes, 1)?;
-    assert_eq!(rt; next, end);
-    assert!(rt; is_right_backward(alloc, &again)?);
-    assert!(rt; is_right_forward(alloc, &again)?);
+    let bytes = written(alloc)?;
+    assert!(rt; is_read(alloc, &bytes)?);
     Ok(())
+}
+
+/// Why some bytes are no store.
+fn fault_of(alloc: Global, bytes: &[u8]) -> Result<Option<Take>, Fail> {
+    let at = sample(alloc)?;
+    Ok(FullMany::take_bytes(alloc, at, Dir::Back, bytes, 0).err())
 }
 
 #[test]
 fn bytes_of_no_store_are_refused(rt: HostRuntime) -> Result<(), Fail> {
-    let alloc = rt.alloc();
-    let fault = FullMany::take_bytes(alloc, sample(alloc)?, Dir::Back, &[0, 0, 0], 0).err();
-    assert_eq!(rt; fault, Some(Take::Bad { at: 0 }));
+    assert!(rt; fault_of(rt.alloc(), &[0, 0, 0])? == Some(Take::Bad { at: 0 }));
     Ok(())
 }

@@ -19,13 +19,49 @@ fn row_of_20() -> Result<Shape, Fail>
 }
 
 /// The set of one cell of such a row.
-fn one_cell(alloc: Global, shape: Shape, col: u32) -> Result<Arc<CellSet>, NoMemory>
-    requires shape { shape ≡ flat 1 20 }
-    requires col { col < 20 }
+fn one_cell(alloc: Global, col: u32) -> Result<Arc<CellSet>, Fail>
+    requires { col < 20 }
     ensures { IfOk result (λ s. (arc_value s).extent ≡ flat 1 20) }
 {
-    let set = CellSet::from_cells(alloc, shape, &[Cell { row: 0, col }])?;
+    let set = CellSet::from_cells(alloc, row_of_20()?, &[Cell { row: 0, col }])?;
     Ok(Arc::new(alloc, set)?)
+}
+
+/// A table of no region pair, of an output and two inputs.
+fn no_pairs(alloc: Global) -> Result<RegionTable, Fail>
+    ensures out { IfOk result (λ t. t.out ≡ flat 1 20) }
+    ensures ins { IfOk result (λ t. t.ins ≡ flat 1 20 ∷ flat 1 20 ∷ []) }
+    ensures none { IfOk result (λ t. t.rows ≡ []) }
+{
+    let shape = row_of_20()?;
+    Ok(RegionTable::new(alloc, shape, &[shape, shape])?)
+}
+
+/// Adds the region pair of a set of the output, and one of each of two inputs.
+fn add_sets(
+    alloc: Global,
+    table: &mut RegionTable,
+    out: Arc<CellSet>,
+    first: Arc<CellSet>,
+    second: Arc<CellSet>,
+) -> Result<(), NoMemory>
+    requires out { table.old.out ≡ flat 1 20 }
+    requires ins { table.old.ins ≡ flat 1 20 ∷ flat 1 20 ∷ [] }
+    requires few { length table.old.rows < 100 }
+    requires own { (arc_value out).extent ≡ flat 1 20 }
+    requires one { (arc_value first).extent ≡ flat 1 20 }
+    requires other { (arc_value second).extent ≡ flat 1 20 }
+    ensures out { table.new.out ≡ table.old.out }
+    ensures ins { table.new.ins ≡ table.old.ins }
+    ensures one { OnOk result (length table.new.rows ≡ length table.old.rows + 1) }
+{
+    table.reserve(
+        1,
+        out.runs().len() + first.runs().len() + second.runs().len(),
+    )?;
+    let ins = SetList::of(vec![in alloc; first, second]?);
+    table.add(&Region { out, ins });
+    Ok(())
 }
 
 /// Adds the region pair of one cell of the output, and one of each of two inputs.
@@ -38,38 +74,44 @@ fn add_cells(alloc: Global, table: &mut RegionTable, cols: [u32; 3]) -> Result<(
     ensures ins { table.new.ins ≡ table.old.ins }
     ensures one { OnOk result (length table.new.rows ≡ length table.old.rows + 1) }
 {
-    let shape = row_of_20()?;
-    let out = one_cell(alloc, shape, cols[0])?;
-    let first = one_cell(alloc, shape, cols[1])?;
-    let second = one_cell(alloc, shape, cols[2])?;
-    table.reserve(
-        1,
-        out.runs().len() + first.runs().len() + second.runs().len(),
-    )?;
-    let ins = SetList::of(vec![in alloc; first, second]?);
-    table.add(&Region { out, ins });
-    Ok(())
+    let out = one_cell(alloc, cols[0])?;
+    let first = one_cell(alloc, cols[1])?;
+    let second = one_cell(alloc, cols[2])?;
+    Ok(add_sets(alloc, table, out, first, second)?)
 }
 
-/// A table of three region pairs, of which each set but one stands in two.
+/// Adds three region pairs, of which each set but one stands in two.
+fn add_three(alloc: Global, table: &mut RegionTable) -> Result<(), Fail>
+    requires out { table.old.out ≡ flat 1 20 }
+    requires ins { table.old.ins ≡ flat 1 20 ∷ flat 1 20 ∷ [] }
+    requires none { table.old.rows ≡ [] }
+    ensures ins { table.new.ins ≡ table.old.ins }
+    ensures rows { OnOk result (length table.new.rows ≡ 3) }
+{
+    add_cells(alloc, table, [1, 2, 3])?;
+    add_cells(alloc, table, [1, 3, 2])?;
+    add_cells(alloc, table, [4, 2, 3])
+}
+
+/// A table of these.
 fn three_pairs(alloc: Global) -> Result<RegionTable, Fail>
     ensures rows { IfOk result (λ t. length t.rows ≡ 3) }
     ensures ins { IfOk result (λ t. length t.ins ≡ 2) }
 {
-    let shape = row_of_20()?;
-    let mut table = RegionTable::new(alloc, shape, &[shape, shape])?;
-    add_cells(alloc, &mut table, [1, 2, 3])?;
-    add_cells(alloc, &mut table, [1, 3, 2])?;
-    add_cells(alloc, &mut table, [4, 2, 3])?;
+    let mut table = no_pairs(alloc)?;
+    add_three(alloc, &mut table)?;
     Ok(table)
 }
 
-/// Whether the rows of three region pairs have these numbers.
+/// Whether three region pairs are counted so, and their rows have these numbers.
 fn are_numbered(table: &RegionTable) -> bool
     requires rows { length table.now.rows ≡ 3 }
     requires ins { length table.now.ins ≡ 2 }
 {
-    table.out_number(1) == 0
+    table.len() == 3
+        && table.out_sets() == 2
+        && table.sets_of(0) == 2
+        && table.out_number(1) == 0
         && table.out_number(2) == 1
         && table.number_of(1, 0) == 1
         && table.number_of(2, 0) == 0
@@ -79,45 +121,59 @@ fn are_numbered(table: &RegionTable) -> bool
 #[test]
 fn equal_sets_of_an_array_stand_once(rt: HostRuntime) -> Result<(), Fail> {
     let table = three_pairs(rt.alloc())?;
-    assert_eq!(rt;
-        (table.len(), table.out_sets(), table.sets_of(0)),
-        (3, 2, 2)
-    );
     assert!(rt; are_numbered(&table));
     Ok(())
+}
+
+/// Whether the last sets of the output and of input 1 are kept so.
+fn are_kept(table: &RegionTable) -> bool
+    requires { length table.now.ins ≡ 2 }
+{
+    1 < table.out_sets()
+        && table.out_runs(1) == [Run { first: 4, last: 4 }].as_slice()
+        && 1 < table.sets_of(1)
+        && table.in_runs(1, 1) == [Run { first: 2, last: 2 }].as_slice()
 }
 
 #[test]
 fn sets_are_kept_as_runs(rt: HostRuntime) -> Result<(), Fail> {
     let table = three_pairs(rt.alloc())?;
-    if 1 < table.out_sets() {
-        assert_eq!(rt; table.out_runs(1), [Run { first: 4, last: 4 }].as_slice());
-    }
-    if 1 < table.sets_of(1) {
-        assert_eq!(rt; table.in_runs(1, 1), [Run { first: 2, last: 2 }].as_slice());
-    }
+    assert!(rt; are_kept(&table));
     Ok(())
+}
+
+/// The bytes of no row, behind a 9.
+fn bytes_of_none(alloc: Global) -> Result<Vec<u8>, Fail> {
+    let table = no_pairs(alloc)?;
+    let mut bytes = vec![in alloc; 9u8]?;
+    table.put_bytes(&mut bytes)?;
+    Ok(bytes)
 }
 
 #[test]
 fn no_row_is_two_empty_lists(rt: HostRuntime) -> Result<(), Fail> {
-    let alloc = rt.alloc();
-    let shape = row_of_20()?;
-    let table = RegionTable::new(alloc, shape, &[shape, shape])?;
-    let mut bytes = vec![in alloc; 9u8]?;
-    table.put_bytes(&mut bytes)?;
-    assert_eq!(rt; bytes.as_slice(), b"\x09\0\0\0\0\0\0\0\0".as_slice());
+    let bytes = bytes_of_none(rt.alloc())?;
+    assert!(rt; bytes.as_slice() == b"\x09\0\0\0\0\0\0\0\0".as_slice());
     Ok(())
 }
 
-/// A table of two region pairs, which share the sets of the output and of input 1.
+/// Adds two region pairs, which share the sets of the output and of input 1.
+fn add_two(alloc: Global, table: &mut RegionTable) -> Result<(), Fail>
+    requires out { table.old.out ≡ flat 1 20 }
+    requires ins { table.old.ins ≡ flat 1 20 ∷ flat 1 20 ∷ [] }
+    requires none { table.old.rows ≡ [] }
+    ensures { table.new.ins ≡ table.old.ins }
+{
+    add_cells(alloc, table, [1, 2, 3])?;
+    add_cells(alloc, table, [1, 3, 3])
+}
+
+/// A table of these.
 fn two_pairs(alloc: Global) -> Result<RegionTable, Fail>
     ensures { IfOk result (λ t. length t.ins ≡ 2) }
 {
-    let shape = row_of_20()?;
-    let mut table = RegionTable::new(alloc, shape, &[shape, shape])?;
-    add_cells(alloc, &mut table, [1, 2, 3])?;
-    add_cells(alloc, &mut table, [1, 3, 3])?;
+    let mut table = no_pairs(alloc)?;
+    add_two(alloc, &mut table)?;
     Ok(table)
 }
 
@@ -133,12 +189,19 @@ const TWO_PAIRS: [u8; 84] = [
     0, 0, 0, 0, 0, 0, 0, 2, 0, 0, 0, 3,
 ];
 
+/// What is written of some region pairs.
+fn bytes_of(alloc: Global, table: &RegionTable) -> Result<Vec<u8>, NoMemory> {
+    let mut bytes = Vec::new(alloc);
+    table.put_bytes(&mut bytes)?;
+    Ok(bytes)
+}
+
 #[test]
 fn each_set_of_an_array_is_written_once(rt: HostRuntime) -> Result<(), Fail> {
     let alloc = rt.alloc();
-    let mut bytes = Vec::new(alloc);
-    two_pairs(alloc)?.put_bytes(&mut bytes)?;
-    assert_eq!(rt; bytes.as_slice(), TWO_PAIRS.as_slice());
+    let table = two_pairs(alloc)?;
+    let bytes = bytes_of(alloc, &table)?;
+    assert!(rt; bytes.as_slice() == TWO_PAIRS.as_slice());
     Ok(())
 }
 
@@ -146,9 +209,7 @@ fn each_set_of_an_array_is_written_once(rt: HostRuntime) -> Result<(), Fail> {
 fn written_again(alloc: Global, bytes: &[u8]) -> Result<Vec<u8>, Fail> {
     let shape = row_of_20()?;
     let (table, _next) = RegionTable::take_bytes(alloc, shape, &[shape, shape], bytes, 0)?;
-    let mut again = Vec::new(alloc);
-    table.put_bytes(&mut again)?;
-    Ok(again)
+    Ok(bytes_of(alloc, &table)?)
 }
 
 /// Two region pairs with the same sets, and a set of input 0 that neither names.
@@ -165,9 +226,8 @@ const A_SET_MORE: [u8; 84] = [
 
 #[test]
 fn a_set_that_no_pair_names_is_kept(rt: HostRuntime) -> Result<(), Fail> {
-    let alloc = rt.alloc();
-    let again = written_again(alloc, &A_SET_MORE)?;
-    assert_eq!(rt; again.as_slice(), A_SET_MORE.as_slice());
+    let again = written_again(rt.alloc(), &A_SET_MORE)?;
+    assert!(rt; again.as_slice() == A_SET_MORE.as_slice());
     Ok(())
 }
 
@@ -195,48 +255,122 @@ const ONE_PAIR: [u8; 59] = [
 
 #[test]
 fn sets_in_place_of_pairs_are_left_out(rt: HostRuntime) -> Result<(), Fail> {
-    let alloc = rt.alloc();
-    let again = written_again(alloc, &MORE_SETS_THAN_PAIRS)?;
-    assert_eq!(rt; again.as_slice(), ONE_PAIR.as_slice());
+    let again = written_again(rt.alloc(), &MORE_SETS_THAN_PAIRS)?;
+    assert!(rt; again.as_slice() == ONE_PAIR.as_slice());
     Ok(())
 }
 
-/// A region pair of one cell of the output, and one of each of two inputs.
-fn pair_of(alloc: Global, cols: [u32; 3]) -> Result<Arc<Region>, Fail>
+/// The sets of one cell of each of two inputs.
+fn ins_of(alloc: Global, first: u32, second: u32) -> Result<SetList, Fail>
+    requires first { first < 20 }
+    requires second { second < 20 }
+{
+    let first = one_cell(alloc, first)?;
+    let second = one_cell(alloc, second)?;
+    Ok(SetList::of(vec![in alloc; first, second]?))
+}
+
+/// Adds a region pair of one cell of the output, and one of each of two inputs, to others.
+fn push_pair(alloc: Global, pairs: &mut Vec<Arc<Region>>, cols: [u32; 3]) -> Result<(), Fail>
     requires { All (λ c. c < 20) cols }
 {
-    let shape = row_of_20()?;
-    let out = one_cell(alloc, shape, cols[0])?;
-    let first = one_cell(alloc, shape, cols[1])?;
-    let second = one_cell(alloc, shape, cols[2])?;
-    let ins = SetList::of(vec![in alloc; first, second]?);
-    Ok(Arc::new(alloc, Region { out, ins })?)
+    let ins = ins_of(alloc, cols[1], cols[2])?;
+    let out = one_cell(alloc, cols[0])?;
+    pairs.push(Arc::new(alloc, Region { out, ins })?)?;
+    Ok(())
+}
+
+/// Whether these are the region pairs of a table.
+fn are_pairs_of(alloc: Global, table: &RegionTable, pairs: &[Arc<Region>]) -> Result<bool, NoMemory>
+    requires { length table.now.ins ≡ 2 }
+{
+    let mut list = PairChecklist::new(alloc, table);
+    Ok(list.tick_all(pairs)? && list.is_done()?)
 }
 
 /// Whether these are the region pairs of a table of two.
 fn are_two_pairs(alloc: Global, pairs: &[Arc<Region>]) -> Result<bool, Fail> {
     let table = two_pairs(alloc)?;
-    let mut list = PairChecklist::new(alloc, &table);
-    Ok(list.tick_all(pairs)? && list.is_done()?)
+    Ok(are_pairs_of(alloc, &table, pairs)?)
+}
+
+/// Whether they are one of these cells.
+fn is_one(alloc: Global, cols: [u32; 3]) -> Result<bool, Fail>
+    requires { All (λ c. c < 20) cols }
+{
+    let mut pairs = Vec::new(alloc);
+    push_pair(alloc, &mut pairs, cols)?;
+    are_two_pairs(alloc, &pairs)
+}
+
+/// Whether they are two of these cells.
+fn are_both(alloc: Global, one: [u32; 3], other: [u32; 3]) -> Result<bool, Fail>
+    requires one { All (λ c. c < 20) one }
+    requires other { All (λ c. c < 20) other }
+{
+    let mut pairs = Vec::new(alloc);
+    push_pair(alloc, &mut pairs, one)?;
+    push_pair(alloc, &mut pairs, other)?;
+    are_two_pairs(alloc, &pairs)
 }
 
 #[test]
 fn a_checklist_is_done_where_each_pair_is_ticked(rt: HostRuntime) -> Result<(), Fail> {
+    assert!(rt; are_both(rt.alloc(), [1, 3, 3], [1, 2, 3])?);
+    assert!(rt; !is_one(rt.alloc(), [1, 3, 3])?);
+    Ok(())
+}
+
+/// A list of the one region pair of these cells.
+fn pair_alone(alloc: Global, cols: [u32; 3]) -> Result<Vec<Arc<Region>>, Fail>
+    requires { All (λ c. c < 20) cols }
+{
+    let mut pairs = Vec::new(alloc);
+    push_pair(alloc, &mut pairs, cols)?;
+    Ok(pairs)
+}
+
+/// Whether a checklist of a table is done where these region pairs were ticked on a list of their
+/// own, and joined behind those.
+fn are_done_joined(
+    alloc: Global,
+    table: &RegionTable,
+    first: &[Arc<Region>],
+    second: &[Arc<Region>],
+) -> Result<bool, NoMemory>
+    requires { length table.now.ins ≡ 2 }
+{
+    let mut list = PairChecklist::new(alloc, table);
+    let mut other = list.fork();
+    let both = list.tick_all(first)? && other.tick_all(second)?;
+    list.join(&other)?;
+    Ok(both && list.is_done()?)
+}
+
+/// Whether a checklist of the two region pairs is done where this one was ticked on a list of its
+/// own, and joined behind the first.
+fn is_done_joined(alloc: Global, cols: [u32; 3]) -> Result<bool, Fail>
+    requires { All (λ c. c < 20) cols }
+{
+    let first = pair_alone(alloc, [1, 2, 3])?;
+    let second = pair_alone(alloc, cols)?;
+    let table = two_pairs(alloc)?;
+    Ok(are_done_joined(alloc, &table, &first, &second)?)
+}
+
+#[test]
+fn what_another_list_has_ticked_is_joined(rt: HostRuntime) -> Result<(), Fail> {
     let alloc = rt.alloc();
-    let first = pair_of(alloc, [1, 2, 3])?;
-    let second = pair_of(alloc, [1, 3, 3])?;
-    let both = vec![in alloc; second, first]?;
-    assert!(rt; are_two_pairs(alloc, &both)?);
-    assert!(rt; !are_two_pairs(alloc, &both[..1])?);
+    assert!(rt; is_done_joined(alloc, [1, 3, 3])?);
+    assert!(rt; !is_done_joined(alloc, [1, 2, 3])?);
     Ok(())
 }
 
 #[test]
 fn a_pair_that_is_not_kept_is_not_ticked(rt: HostRuntime) -> Result<(), Fail> {
-    let alloc = rt.alloc();
-    let known_sets = vec![in alloc; pair_of(alloc, [1, 2, 3])?, pair_of(alloc, [1, 2, 3])?]?;
-    assert!(rt; !are_two_pairs(alloc, &known_sets)?);
-    let other_set = vec![in alloc; pair_of(alloc, [1, 2, 3])?, pair_of(alloc, [2, 3, 3])?]?;
-    assert!(rt; !are_two_pairs(alloc, &other_set)?);
+    // both sets are known
+    assert!(rt; !are_both(rt.alloc(), [1, 2, 3], [1, 2, 3])?);
+    // a set is another one
+    assert!(rt; !are_both(rt.alloc(), [1, 2, 3], [2, 3, 3])?);
     Ok(())
 }

@@ -23,15 +23,24 @@ fn three_entries(alloc: Global) -> Result<Chains, NoMemory>
     Ok(chains)
 }
 
+/// Whether the entries of each key are linked from the last to the first.
+fn are_linked(chains: &Chains) -> bool
+    requires keys { chains.now.keys ≡ 3 }
+    requires entries { chains.now.entries ≡ record { key = 0; item = 70 }
+        ∷ record { key = 2; item = 80 } ∷ record { key = 0; item = 90 } ∷ [] }
+{
+    chains.last(0) == Some(2)
+        && chains.last(1) == None
+        && chains.last(2) == Some(1)
+        && chains.before(2, 0) == Some(0)
+        && chains.before(0, 0) == None
+        && chains.item(2) == 90
+}
+
 #[test]
 fn walks_from_the_last_entry_of_a_key_to_its_first(rt: HostRuntime) -> Result<(), Fail> {
     let chains = three_entries(rt.alloc())?;
-    assert_eq!(rt;
-        (chains.last(0), chains.last(1), chains.last(2)),
-        (Some(2), None, Some(1))
-    );
-    assert_eq!(rt; (chains.before(2, 0), chains.before(0, 0)), (Some(0), None));
-    assert_eq!(rt; chains.item(2), 90);
+    assert!(rt; are_linked(&chains));
     Ok(())
 }
 
@@ -69,28 +78,41 @@ fn number_of(alloc: Global, table: &mut SetTable, cols: [u32; 3]) -> Result<u32,
     Ok(table.add(&set))
 }
 
-/// A table of two sets that are added four times, and the numbers that they get.
-fn two_sets(alloc: Global) -> Result<(SetTable, [u32; 4]), Fail> {
-    let mut table = SetTable::new(alloc, row_of_20()?)?;
-    let first = number_of(alloc, &mut table, [0, 5, 10])?;
-    let equal = number_of(alloc, &mut table, [0, 5, 10])?;
+/// The numbers of two sets that are added four times.
+fn numbers_of(alloc: Global, table: &mut SetTable) -> Result<[u32; 4], NoMemory>
+    requires extent { table.old.extent ≡ record { layers = 1; rows = 1; cols = 20 } }
+    requires none { table.old.sets ≡ [] }
+{
+    let first = number_of(alloc, table, [0, 5, 10])?;
+    let equal = number_of(alloc, table, [0, 5, 10])?;
     // The first run, the last one and the count are those of the set before.
-    let other = number_of(alloc, &mut table, [0, 6, 10])?;
-    let again = number_of(alloc, &mut table, [10, 0, 5])?;
-    Ok((table, [first, equal, other, again]))
+    let other = number_of(alloc, table, [0, 6, 10])?;
+    let again = number_of(alloc, table, [10, 0, 5])?;
+    Ok([first, equal, other, again])
+}
+
+/// Whether two sets are kept, of which the second has these runs.
+fn are_kept(table: &SetTable) -> bool {
+    if table.len() != 2 {
+        return false;
+    }
+    let runs = table.runs(1);
+    runs.len() == 3 && runs.get(1) == Some(&Run { first: 6, last: 6 })
+}
+
+/// Whether equal sets have one number, and are kept once.
+fn have_one_number(alloc: Global, table: &mut SetTable) -> Result<bool, NoMemory>
+    requires extent { table.old.extent ≡ record { layers = 1; rows = 1; cols = 20 } }
+    requires none { table.old.sets ≡ [] }
+{
+    let numbers = numbers_of(alloc, table)?;
+    Ok(numbers == [0, 0, 1, 0] && are_kept(table))
 }
 
 #[test]
 fn equal_sets_have_one_number(rt: HostRuntime) -> Result<(), Fail> {
-    let (table, numbers) = two_sets(rt.alloc())?;
-    assert_eq!(rt; numbers, [0, 0, 1, 0]);
-    assert_eq!(rt; table.len(), 2);
-    if 1 < table.len() {
-        let runs = table.runs(1);
-        assert_eq!(rt;
-            (runs.len(), runs.get(1)),
-            (3, Some(&Run { first: 6, last: 6 }))
-        );
-    }
+    let alloc = rt.alloc();
+    let mut table = SetTable::new(alloc, row_of_20()?)?;
+    assert!(rt; have_one_number(alloc, &mut table)?);
     Ok(())
 }

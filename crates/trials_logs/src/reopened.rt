@@ -97,7 +97,7 @@ fn opened<T: Station, R: Threads + Sync>(
     if station.sync().is_err() {
         return Err(Fail::from("not synced"));
     }
-    let recovered: Recovered = match catalogue_of(alloc, station) {
+    let recovered: Recovered = match catalogue_of(rt, alloc, station) {
         Ok(recovered) => recovered,
         Err(_) => return Err(Fail::from("not opened")),
     };

@@ -55,7 +55,7 @@ impl MergeGate for Holding {
 }
 
 /// Whether asks are answered by the stores as so many region pairs, in both directions.
-fn is_answered<R: Wait>(
+pub fn is_answered<R: Wait>(
     alloc: Global,
     rt: &R,
     bench: &Bench,
@@ -117,20 +117,66 @@ fn merge_beside_asks<R: Threads + Wait + Sync>(
     answered
 }
 
+/// The receiving end of a closed channel that has a task.
+fn sent<R: Wait>(alloc: Global, rt: &R, task: MergeTask) -> Result<Receiver<MergeTask>, Fail> {
+    let (to, from) = crossbeam_channel::unbounded::<MergeTask, Global>(alloc)?;
+    if to.send(rt, task).is_err() {
+        return Err("the task is not sent".into());
+    }
+    Ok(from)
+}
+
+/// Whether asks are answered before the merge, beside it and behind it.
+fn answers<R: Threads + Wait + Sync>(
+    rt: &R,
+    alloc: Global,
+    bench: &Bench,
+    other: &mut Pass,
+    tasks: Receiver<MergeTask>,
+    gate: &Holding,
+) -> Result<bool, Fail>
+    requires { place_of other.old ≡ bench.now }
+{
+    Ok(
+        is_answered(alloc, rt, bench, other, 3)?
+            && merge_beside_asks(rt, alloc, bench, other, tasks, gate)?
+            && is_answered(alloc, rt, bench, other, 1)?,
+    )
+}
+
+/// Whether one merge was held, and nothing was missed.
+fn held_one(gate: &Holding) -> bool {
+    gate.held.load(Ordering::SeqCst) == 1 && gate.missed.load(Ordering::SeqCst) == 0
+}
+
+/// Whether a pass's task is held so, while another pass asks.
+fn is_held<R: Threads + Wait + Sync>(
+    rt: &R,
+    alloc: Global,
+    bench: &Bench,
+    pass: Pass,
+    other: &mut Pass,
+) -> Result<bool, Fail>
+    requires pass { place_of pass ≡ bench.now }
+    requires saw { pass.saw ≡ true }
+    requires other { place_of other.old ≡ bench.now }
+{
+    let task = bench.task(alloc, pass)?;
+    let tasks = sent(alloc, rt, task)?;
+    let gate = Holding::new();
+    Ok(answers(rt, alloc, bench, other, tasks, &gate)? && held_one(&gate))
+}
+
+/// Whether that of a new shelf is.
+fn asks_are_answered<R: Threads + Wait + Sync>(rt: &R, alloc: Global) -> Result<bool, Fail> {
+    let (bench, mut pass) = Bench::new(alloc)?;
+    fill(alloc, rt, &bench, &mut pass)?;
+    let mut other = bench.split(&mut pass)?;
+    is_held(rt, alloc, &bench, pass, &mut other)
+}
+
 #[test]
 fn asks_are_answered_while_a_merge_is_held(rt: HostRuntime) -> Result<(), Fail> {
-    let alloc = rt.alloc();
-    let (bench, mut pass) = Bench::new(alloc)?;
-    fill(alloc, &rt, &bench, &mut pass)?;
-    let mut other = bench.split(&mut pass)?;
-    let (to, from) = crossbeam_channel::unbounded::<MergeTask, Global>(alloc)?;
-    assert!(rt; to.send(&rt, bench.task(alloc, pass)?).is_ok());
-    drop(to);
-    let gate = Holding::new();
-    assert!(rt; is_answered(alloc, &rt, &bench, &mut other, 3)?);
-    assert!(rt; merge_beside_asks(&rt, alloc, &bench, &mut other, from, &gate)?);
-    assert!(rt; is_answered(alloc, &rt, &bench, &mut other, 1)?);
-    assert_eq!(rt; gate.held.load(Ordering::SeqCst), 1);
-    assert_eq!(rt; gate.missed.load(Ordering::SeqCst), 0);
+    assert!(rt; asks_are_answered(&rt, rt.alloc())?);
     Ok(())
 }

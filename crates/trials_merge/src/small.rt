@@ -86,33 +86,46 @@ fn kinds_over(alloc: Global, at: &Arc<OpAt>, array: Arc<Array>) -> Result<Vec<u3
     Ok(merged.kinds)
 }
 
+/// Whether they have so many.
+fn are_kinds(alloc: Global, at: &Arc<OpAt>, numbers: [i64; 5], wanted: &[u32]) -> Result<bool, Fail>
+    requires ins { (arc_value at.now).ins ≡ flat 1 5 ∷ [] }
+    requires out { (arc_value at.now).out ≡ flat 1 5 }
+{
+    let found = kinds(alloc, at, numbers)?;
+    Ok(found.as_slice() == wanted)
+}
+
+/// Whether each region is a kind, and each low cell.
+fn regions_are_kinds(alloc: Global) -> Result<bool, Fail> {
+    let at = labels(alloc)?;
+    Ok(
+        are_kinds(alloc, &at, [9, 9, 0, 9, 9], &[3, 3])?
+            && are_kinds(alloc, &at, [9, 0, 9, 0, 9], &[5, 5])?
+            && are_kinds(alloc, &at, [9, 9, 9, 9, 9], &[1, 1])?,
+    )
+}
+
 #[test]
 fn a_region_is_a_kind_and_so_is_a_low_cell(rt: HostRuntime) -> Result<(), Fail> {
-    let alloc = rt.alloc();
-    let at = labels(alloc)?;
-    let found = kinds(alloc, &at, [9, 9, 0, 9, 9])?;
-    assert_eq!(rt; found.as_slice(), [3, 3].as_slice());
-    let found = kinds(alloc, &at, [9, 0, 9, 0, 9])?;
-    assert_eq!(rt; found.as_slice(), [5, 5].as_slice());
-    let found = kinds(alloc, &at, [9, 9, 9, 9, 9])?;
-    assert_eq!(rt; found.as_slice(), [1, 1].as_slice());
+    assert!(rt; regions_are_kinds(rt.alloc())?);
     Ok(())
+}
+
+/// Whether there is no kind where all weights are 0.
+fn nothing_is_of_no_kind(alloc: Global) -> Result<bool, Fail> {
+    let at = laid_on(alloc, vec![in alloc; 0, 0, 0]?)?;
+    are_kinds(alloc, &at, [1, 2, 3, 4, 5], &[0, 0])
+}
+
+/// Whether there are four where one cell has no neighbor of a weight.
+fn neighbors_are_kinds(alloc: Global) -> Result<bool, Fail> {
+    let at = laid_on(alloc, vec![in alloc; 1, 0, 0]?)?;
+    are_kinds(alloc, &at, [1, 2, 3, 4, 5], &[4, 4])
 }
 
 #[test]
 fn cells_without_lineage_are_of_no_kind(rt: HostRuntime) -> Result<(), Fail> {
-    let alloc = rt.alloc();
-    let found = kinds(
-        alloc,
-        &laid_on(alloc, vec![in alloc; 0, 0, 0]?)?,
-        [1, 2, 3, 4, 5],
-    )?;
-    assert_eq!(rt; found.as_slice(), [0, 0].as_slice());
-    let found = kinds(
-        alloc,
-        &laid_on(alloc, vec![in alloc; 1, 0, 0]?)?,
-        [1, 2, 3, 4, 5],
-    )?;
-    assert_eq!(rt; found.as_slice(), [4, 4].as_slice());
+    assert!(rt; nothing_is_of_no_kind(rt.alloc())?);
+    assert!(rt; neighbors_are_kinds(rt.alloc())?);
     Ok(())
 }

@@ -11,7 +11,7 @@ use std::alloc::Global;
 use std::sync::{Arc, Wait};
 use std::test::Fail;
 use sz_cells::{NoMemory, Run, Shape};
-use sz_merge::{MergeTask, NoMergeGate, attend_merges};
+use sz_merge::{MergeTask, Merged, NoMergeGate, attend_merges};
 use sz_region::take_regions;
 use sz_shelf::{Look, Pass, Placed, SealReply};
 use sz_spec::{Dir, Strategy};
@@ -111,35 +111,109 @@ fn attend<R: Wait>(alloc: Global, rt: &R, task: MergeTask) -> Result<bool, NoMem
     Ok(sent)
 }
 
+/// The stores of a shelf that is filled first.
+fn filled<R: Wait>(
+    alloc: Global,
+    rt: &R,
+    bench: &Bench,
+    pass: &mut Pass,
+) -> Result<Arc<NodeStore>, Fail>
+    requires { place_of pass.old ≡ bench.now }
+    ensures { IfOk result (λ a. StandsFor bench.now.tag (arc_value a)) }
+{
+    fill(alloc, rt, bench, pass)?;
+    given(alloc, rt, bench, pass)
+}
+
+/// Whether some stores have one region pair, with these bytes.
+fn is_one(alloc: Global, store: &NodeStore) -> Result<bool, Fail> {
+    let bytes = spelled(alloc, store)?;
+    Ok(bytes.as_slice() == ONE.as_slice() && pairs(alloc, store)? == 1)
+}
+
+/// Whether merged stores do, and are told so.
+fn is_told_as_one(alloc: Global, merged: &Merged) -> Result<bool, Fail> {
+    Ok(
+        merged.bytes.as_slice() == ONE.as_slice()
+            && merged.kinds.as_slice() == [1].as_slice()
+            && is_one(alloc, &merged.store)?,
+    )
+}
+
+/// Whether stores of three region pairs are merged so.
+fn three_become_one(alloc: Global, bench: &Bench, store: &NodeStore) -> Result<bool, Fail>
+    requires { StandsFor bench.now.tag store.now }
+{
+    let merged = bench.merged(alloc, store)?;
+    Ok(pairs(alloc, store)? == 3 && is_told_as_one(alloc, &merged)?)
+}
+
+/// Whether those of a new shelf are.
+fn is_merged<R: Wait>(alloc: Global, rt: &R) -> Result<bool, Fail> {
+    let (bench, mut pass) = Bench::new(alloc)?;
+    let store = filled(alloc, rt, &bench, &mut pass)?;
+    three_become_one(alloc, &bench, &store)
+}
+
 #[test]
 fn three_pairs_of_one_region_become_one(rt: HostRuntime) -> Result<(), Fail> {
-    let alloc = rt.alloc();
-    let (bench, mut pass) = Bench::new(alloc)?;
-    fill(alloc, &rt, &bench, &mut pass)?;
-    let store = given(alloc, &rt, &bench, &mut pass)?;
-    let merged = bench.merged(alloc, &store)?;
-    assert_eq!(rt; pairs(alloc, &store)?, 3);
-    assert_eq!(rt; pairs(alloc, &merged.store)?, 1);
-    assert_eq!(rt; spelled(alloc, &merged.store)?.as_slice(), ONE.as_slice());
-    assert_eq!(rt; merged.bytes.as_slice(), ONE.as_slice());
-    assert_eq!(rt; merged.kinds.as_slice(), [1].as_slice());
+    assert!(rt; is_merged(rt.alloc(), &rt)?);
     Ok(())
+}
+
+/// Whether a shelf's task is sent and attended to, and the stores have one region pair then.
+fn merges<R: Wait>(
+    alloc: Global,
+    rt: &R,
+    bench: &Bench,
+    pass: Pass,
+    other: &mut Pass,
+) -> Result<bool, Fail>
+    requires pass { place_of pass ≡ bench.now }
+    requires saw { pass.saw ≡ true }
+    requires other { place_of other.old ≡ bench.now }
+{
+    let task = bench.task(alloc, pass)?;
+    if !attend(alloc, rt, task)? || !finds_all(alloc, rt, bench, other)? {
+        return Ok(false);
+    }
+    let after = given(alloc, rt, bench, other)?;
+    is_one(alloc, &after)
+}
+
+/// Whether stores that were handed out before stay as they were.
+fn merges_beside<R: Wait>(
+    alloc: Global,
+    rt: &R,
+    bench: &Bench,
+    pass: Pass,
+    other: &mut Pass,
+) -> Result<bool, Fail>
+    requires pass { place_of pass ≡ bench.now }
+    requires saw { pass.saw ≡ true }
+    requires other { place_of other.old ≡ bench.now }
+{
+    let before = given(alloc, rt, bench, other)?;
+    Ok(
+        pairs(alloc, &before)? == 3
+            && merges(alloc, rt, bench, pass, other)?
+            && pairs(alloc, &before)? == 3,
+    )
+}
+
+/// Whether the stores of a new shelf are merged by its task, beside another pass.
+fn is_merged_by_task<R: Wait>(alloc: Global, rt: &R) -> Result<bool, Fail> {
+    let (bench, mut pass) = Bench::new(alloc)?;
+    fill(alloc, rt, &bench, &mut pass)?;
+    let mut other = bench.split(&mut pass)?;
+    Ok(
+        finds_all(alloc, rt, &bench, &mut other)?
+            && merges_beside(alloc, rt, &bench, pass, &mut other)?,
+    )
 }
 
 #[test]
 fn a_task_puts_the_merged_stores_in_their_place(rt: HostRuntime) -> Result<(), Fail> {
-    let alloc = rt.alloc();
-    let (bench, mut pass) = Bench::new(alloc)?;
-    fill(alloc, &rt, &bench, &mut pass)?;
-    let mut other = bench.split(&mut pass)?;
-    assert!(rt; finds_all(alloc, &rt, &bench, &mut other)?);
-    let before = given(alloc, &rt, &bench, &mut other)?;
-    assert_eq!(rt; pairs(alloc, &before)?, 3);
-    assert!(rt; attend(alloc, &rt, bench.task(alloc, pass)?)?);
-    assert!(rt; finds_all(alloc, &rt, &bench, &mut other)?);
-    let after = given(alloc, &rt, &bench, &mut other)?;
-    assert_eq!(rt; pairs(alloc, &after)?, 1);
-    assert_eq!(rt; spelled(alloc, &after)?.as_slice(), ONE.as_slice());
-    assert_eq!(rt; pairs(alloc, &before)?, 3);
+    assert!(rt; is_merged_by_task(rt.alloc(), &rt)?);
     Ok(())
 }

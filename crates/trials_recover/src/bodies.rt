@@ -1,6 +1,6 @@
 //! A body worked out byte by byte, in either format: it is read, it is written again, and where one
 //! of its conditions is broken, or it is read in the other format, it is bad.
-ghost use Rattle.std.specs.Prelude.{◌≡◌, ◌<◌, true, false, None, IfOk, OnOk};
+ghost use Rattle.std.specs.Prelude.{◌≡◌, true, false, None, IfOk, OnOk};
 ghost use Rattle.sz_script.specs.Right.{is_right};
 ghost use Rattle.sz_catalogue.specs.Rules.{judged, has_no_version, version_of};
 ghost use Rattle.sz_bodies.specs.Fitting.{Fit, lineages};
@@ -9,6 +9,7 @@ ghost use Rattle.sz_bodies.specs.Lawful.{CanBeAdded};
 use std::alloc::Global;
 use std::sync::Arc;
 use std::test::Fail;
+use std::thread::Threads;
 use sz_bodies::{TakeFault, TakenVersion, take_version_body, version_body};
 use sz_catalogue::{Catalogue, HeldVersion};
 use sz_cells::NoMemory;
@@ -62,27 +63,47 @@ fn accept(held: &mut Catalogue, command: Command) -> Result<(), Fail>
     }
 }
 
-/// A catalogue that holds what the body names.
+/// Holds what the body names.
+fn hold_both(alloc: Global, held: &mut Catalogue) -> Result<(), Fail> {
+    take(alloc, held, br#"{"array":"a","cells":[[5]]}"#)?;
+    let flow = br#"{"flow":"f","inputs":1,"nodes":[{"op":"neg","from":[{"i":0}]}]}"#;
+    take(alloc, held, flow)
+}
+
+/// A catalogue that holds it.
 fn holds_both(alloc: Global) -> Result<Catalogue, Fail> {
     let mut held = Catalogue::new(alloc);
-    take(alloc, &mut held, br#"{"array":"a","cells":[[5]]}"#)?;
-    let flow = br#"{"flow":"f","inputs":1,"nodes":[{"op":"neg","from":[{"i":0}]}]}"#;
-    take(alloc, &mut held, flow)?;
+    hold_both(alloc, &mut held)?;
     Ok(held)
 }
 
-/// Whether a body is bad in format 1.
-fn is_bad(alloc: Global, held: &Catalogue, body: &[u8]) -> Result<bool, Fail> {
-    match take_version_body(alloc, held, body, 1) {
-        Ok(_) => Ok(false),
-        Err(TakeFault::Bad) => Ok(true),
-        Err(TakeFault::NoMemory) => Err(Fail::from("no memory")),
+/// What a body says, in format 2 where it is short and else in format 1.
+fn taken(
+    rt: &(impl Threads + Sync),
+    alloc: Global,
+    held: &Catalogue,
+    body: &[u8],
+    is_short: bool,
+) -> Result<TakenVersion, TakeFault>
+    ensures added { IfOk result (λ t. CanBeAdded held.now t.number t.version) }
+    ensures fit { IfOk result (λ t. Fit t.version t.stores) }
+{
+    if is_short {
+        take_version_body(rt, alloc, held, body, 2)
+    } else {
+        take_version_body(rt, alloc, held, body, 1)
     }
 }
 
-/// Whether a body is bad in format 2.
-fn is_bad_short(alloc: Global, held: &Catalogue, body: &[u8]) -> Result<bool, Fail> {
-    match take_version_body(alloc, held, body, 2) {
+/// Whether a body is bad in its format.
+fn is_bad(
+    rt: &(impl Threads + Sync),
+    alloc: Global,
+    held: &Catalogue,
+    body: &[u8],
+    is_short: bool,
+) -> Result<bool, Fail> {
+    match taken(rt, alloc, held, body, is_short) {
         Ok(_) => Ok(false),
         Err(TakeFault::Bad) => Ok(true),
         Err(TakeFault::NoMemory) => Err(Fail::from("no memory")),
@@ -90,31 +111,48 @@ fn is_bad_short(alloc: Global, held: &Catalogue, body: &[u8]) -> Result<bool, Fa
 }
 
 /// Whether the body is bad with another byte at a place.
-fn breaks(alloc: Global, held: &Catalogue, place: usize, byte: u8) -> Result<bool, Fail>
-    requires { place < 64 }
-{
+fn breaks(
+    rt: &(impl Threads + Sync),
+    alloc: Global,
+    held: &Catalogue,
+    place: usize,
+    byte: u8,
+) -> Result<bool, Fail> {
+    if place >= 64 {
+        return Err(Fail::from("no such place"));
+    }
     let mut body = BODY;
     body[place] = byte;
-    is_bad(alloc, held, &body)
+    is_bad(rt, alloc, held, &body, false)
 }
 
-/// The version that the body says.
-fn read(alloc: Global, held: &Catalogue) -> Result<TakenVersion, Fail>
-    ensures added { IfOk result (λ t. CanBeAdded held.now t.number t.version) }
-    ensures fit { IfOk result (λ t. Fit t.version t.stores) }
-{
-    match take_version_body(alloc, held, &BODY, 1) {
-        Ok(taken) => Ok(taken),
-        Err(_) => Err(Fail::from("not read")),
+/// Whether it is bad with each of these bytes at its place.
+fn each_breaks(
+    rt: &(impl Threads + Sync),
+    alloc: Global,
+    held: &Catalogue,
+    rows: &[(usize, u8)],
+) -> Result<bool, Fail> {
+    for row in rows {
+        if !breaks(rt, alloc, held, row.0, row.1)? {
+            return Ok(false);
+        }
     }
+    Ok(true)
 }
 
-/// The version that the body in format 2 says.
-fn read_short(alloc: Global, held: &Catalogue) -> Result<TakenVersion, Fail>
+/// The version that a body says in its format.
+fn read(
+    rt: &(impl Threads + Sync),
+    alloc: Global,
+    held: &Catalogue,
+    body: &[u8],
+    is_short: bool,
+) -> Result<TakenVersion, Fail>
     ensures added { IfOk result (λ t. CanBeAdded held.now t.number t.version) }
     ensures fit { IfOk result (λ t. Fit t.version t.stores) }
 {
-    match take_version_body(alloc, held, &SHORT_BODY, 2) {
+    match taken(rt, alloc, held, body, is_short) {
         Ok(taken) => Ok(taken),
         Err(_) => Err(Fail::from("not read")),
     }
@@ -157,98 +195,217 @@ fn add(held: &mut Catalogue, taken: TakenVersion) -> Result<Vec<Option<Arc<NodeS
     Ok(taken.stores)
 }
 
-/// Whether the body is bad where one of its bytes is another: a number that no version can have,
-/// the names of a flow and of arrays that are not held and one that is no name, an array's version
-/// that is not held, no base array, too many nodes, a strategy that is none and one that is not the
-/// operator's, a set that is not in the table, and a set with a cell outside the shape.
-fn each_breaks(alloc: Global, held: &Catalogue) -> Result<bool, Fail> {
-    let number = breaks(alloc, held, 3, 0)?;
-    let flow = breaks(alloc, held, 5, b'g')?;
-    let name = breaks(alloc, held, 5, 0x80)?;
-    let array = breaks(alloc, held, 11, b'b')?;
-    let version = breaks(alloc, held, 15, 2)?;
-    let base = breaks(alloc, held, 9, 0)?;
-    let nodes = breaks(alloc, held, 19, 2)?;
-    Ok(number && flow && name && array && version && base && nodes)
+/// The bytes with which the body is bad: a number that no version can have, the name of a flow that
+/// is not held and one that is no name, the name of an array that is not held, an array's version
+/// that is not held, no base array, and too many nodes.
+const BROKEN: [(usize, u8); 7] = [
+    (3, 0),
+    (5, b'g'),
+    (5, 0x80),
+    (11, b'b'),
+    (15, 2),
+    (9, 0),
+    (19, 2),
+];
+
+/// Those of the node: no strategy, one that is none and one that is not the operator's, a set that
+/// is not in the table, and a set with a cell outside the shape.
+const BROKEN_NODE: [(usize, u8); 5] = [(20, 0), (21, 11), (21, 6), (63, 2), (38, 1)];
+
+/// The body with a byte more.
+fn longer(alloc: Global) -> Result<Vec<u8>, NoMemory> {
+    let mut body = Vec::from_slice(alloc, &BODY)?;
+    body.push(0)?;
+    Ok(body)
 }
 
-/// The same of the node.
-fn each_breaks_of_node(alloc: Global, held: &Catalogue) -> Result<bool, Fail> {
-    let empty = breaks(alloc, held, 20, 0)?;
-    let none = breaks(alloc, held, 21, 11)?;
-    let other = breaks(alloc, held, 21, 6)?;
-    let set = breaks(alloc, held, 63, 2)?;
-    let outside = breaks(alloc, held, 38, 1)?;
-    Ok(empty && none && other && set && outside)
+/// Whether it is bad with a byte more.
+fn breaks_with_more(
+    rt: &(impl Threads + Sync),
+    alloc: Global,
+    held: &Catalogue,
+) -> Result<bool, Fail> {
+    let body = longer(alloc)?;
+    is_bad(rt, alloc, held, &body, false)
 }
 
-/// Whether a byte more, and a byte fewer, is bad.
-fn breaks_at_the_end(alloc: Global, held: &Catalogue) -> Result<bool, Fail> {
-    let mut longer = Vec::from_slice(alloc, &BODY)?;
-    longer.push(0)?;
-    let more = is_bad(alloc, held, &longer)?;
-    let fewer = is_bad(alloc, held, &BODY[..63])?;
-    let none = is_bad(alloc, held, &[])?;
-    Ok(more && fewer && none)
+/// Whether a byte more, a byte fewer, and no byte, is bad.
+fn breaks_at_the_end(
+    rt: &(impl Threads + Sync),
+    alloc: Global,
+    held: &Catalogue,
+) -> Result<bool, Fail> {
+    Ok(
+        breaks_with_more(rt, alloc, held)?
+            && is_bad(rt, alloc, held, &BODY[..63], false)?
+            && is_bad(rt, alloc, held, &[], false)?,
+    )
+}
+
+/// Whether the body is read as the version that it says.
+fn is_read(rt: &(impl Threads + Sync), alloc: Global, held: &Catalogue) -> Result<bool, Fail> {
+    let taken = read(rt, alloc, held, &BODY, false)?;
+    Ok(is_right(&taken))
+}
+
+/// Whether it is by a catalogue that holds what it names.
+fn body_is_read(rt: &(impl Threads + Sync), alloc: Global) -> Result<bool, Fail> {
+    let held = holds_both(alloc)?;
+    is_read(rt, alloc, &held)
 }
 
 #[test]
 fn a_body_is_read(rt: HostRuntime) -> Result<(), Fail> {
-    let alloc = rt.alloc();
-    let held = holds_both(alloc)?;
-    let taken = read(alloc, &held)?;
-    assert!(rt; is_right(&taken));
+    assert!(rt; body_is_read(&rt, rt.alloc())?);
     Ok(())
+}
+
+/// Whether the body is bad where a condition is broken. Version 9 in place of 1 is lawful.
+fn is_bad_where_broken(
+    rt: &(impl Threads + Sync),
+    alloc: Global,
+    held: &Catalogue,
+) -> Result<bool, Fail> {
+    Ok(
+        !breaks(rt, alloc, held, 3, 9)?
+            && each_breaks(rt, alloc, held, &BROKEN)?
+            && each_breaks(rt, alloc, held, &BROKEN_NODE)?
+            && breaks_at_the_end(rt, alloc, held)?,
+    )
+}
+
+/// Whether it is for a catalogue that holds what it names.
+fn broken_body_is_bad(rt: &(impl Threads + Sync), alloc: Global) -> Result<bool, Fail> {
+    let held = holds_both(alloc)?;
+    is_bad_where_broken(rt, alloc, &held)
 }
 
 #[test]
 fn a_body_with_a_broken_condition_is_bad(rt: HostRuntime) -> Result<(), Fail> {
-    let alloc = rt.alloc();
-    let held = holds_both(alloc)?;
-    let other = breaks(alloc, &held, 3, 9)?;
-    assert!(rt; !other); // version 9 in place of 1 is lawful
-    assert!(rt; each_breaks(alloc, &held)?);
-    assert!(rt; each_breaks_of_node(alloc, &held)?);
-    assert!(rt; breaks_at_the_end(alloc, &held)?);
+    assert!(rt; broken_body_is_bad(&rt, rt.alloc())?);
     Ok(())
+}
+
+/// Whether a version that is held, with these stores, is written as the body.
+fn is_written(
+    alloc: Global,
+    held: &Catalogue,
+    number: u32,
+    stores: &[Option<Arc<NodeStore>>],
+) -> Result<bool, NoMemory>
+    requires held { has_no_version held.now number ≡ false }
+    requires fit { Fit (version_of held.now number) (lineages stores.now) }
+{
+    let written = version_body(alloc, held, number, stores, 1)?;
+    Ok(written.as_slice() == BODY.as_slice())
+}
+
+/// Whether it is written in format 2 as the short one.
+fn is_written_short(
+    alloc: Global,
+    held: &Catalogue,
+    number: u32,
+    stores: &[Option<Arc<NodeStore>>],
+) -> Result<bool, NoMemory>
+    requires held { has_no_version held.now number ≡ false }
+    requires fit { Fit (version_of held.now number) (lineages stores.now) }
+{
+    let written = version_body(alloc, held, number, stores, 2)?;
+    Ok(written.as_slice() == SHORT_BODY.as_slice())
+}
+
+/// Whether it is written as both.
+fn is_written_as_both(
+    alloc: Global,
+    held: &Catalogue,
+    number: u32,
+    stores: &[Option<Arc<NodeStore>>],
+) -> Result<bool, NoMemory>
+    requires held { has_no_version held.now number ≡ false }
+    requires fit { Fit (version_of held.now number) (lineages stores.now) }
+{
+    Ok(is_written(alloc, held, number, stores)? && is_written_short(alloc, held, number, stores)?)
+}
+
+/// Whether a version that was read is added, and written as both bodies.
+fn is_added(alloc: Global, held: &mut Catalogue, taken: TakenVersion) -> Result<bool, NoMemory>
+    requires added { CanBeAdded held.old taken.number taken.version }
+    requires fit { Fit taken.version taken.stores }
+{
+    let number = taken.number;
+    let stores = add(held, taken)?;
+    is_written_as_both(alloc, held, number, &stores)
+}
+
+/// Whether the body is read, added and written. Then its number is held: it is bad, and lawful with
+/// another number.
+fn is_taken(rt: &(impl Threads + Sync), alloc: Global, held: &mut Catalogue) -> Result<bool, Fail> {
+    let taken = read(rt, alloc, held, &BODY, false)?;
+    Ok(
+        is_added(alloc, held, taken)?
+            && is_bad(rt, alloc, held, &BODY, false)?
+            && !breaks(rt, alloc, held, 3, 2)?,
+    )
+}
+
+/// Whether it is by a catalogue that holds what it names.
+fn body_is_taken(rt: &(impl Threads + Sync), alloc: Global) -> Result<bool, Fail> {
+    let mut held = holds_both(alloc)?;
+    is_taken(rt, alloc, &mut held)
 }
 
 #[test]
 fn a_version_that_was_read_is_added_and_written(rt: HostRuntime) -> Result<(), Fail> {
-    let alloc = rt.alloc();
-    let mut held = holds_both(alloc)?;
-    let taken = read(alloc, &held)?;
-    let number = taken.number;
-    let stores = add(&mut held, taken)?;
-    assert!(rt; is_bad(alloc, &held, &BODY)?); // the number is held
-    let other = breaks(alloc, &held, 3, 2)?;
-    assert!(rt; !other);
-    let written = version_body(alloc, &held, number, &stores, 1)?;
-    assert!(rt; written.as_slice() == BODY.as_slice());
+    assert!(rt; body_is_taken(&rt, rt.alloc())?);
     Ok(())
+}
+
+/// Whether the body in format 2 is read as the version that it says, added and written.
+fn is_taken_short(
+    rt: &(impl Threads + Sync),
+    alloc: Global,
+    held: &mut Catalogue,
+) -> Result<bool, Fail> {
+    let taken = read(rt, alloc, held, &SHORT_BODY, true)?;
+    if !is_right(&taken) {
+        return Ok(false);
+    }
+    Ok(is_added(alloc, held, taken)?)
+}
+
+/// Whether it is by a catalogue that holds what it names.
+fn short_body_is_taken(rt: &(impl Threads + Sync), alloc: Global) -> Result<bool, Fail> {
+    let mut held = holds_both(alloc)?;
+    is_taken_short(rt, alloc, &mut held)
 }
 
 #[test]
 fn a_body_of_format_2_is_read_added_and_written(rt: HostRuntime) -> Result<(), Fail> {
-    let alloc = rt.alloc();
-    let mut held = holds_both(alloc)?;
-    let taken = read_short(alloc, &held)?;
-    assert!(rt; is_right(&taken));
-    let number = taken.number;
-    let stores = add(&mut held, taken)?;
-    let written = version_body(alloc, &held, number, &stores, 2)?;
-    assert!(rt; written.as_slice() == SHORT_BODY.as_slice());
-    let long = version_body(alloc, &held, number, &stores, 1)?;
-    assert!(rt; long.as_slice() == BODY.as_slice());
+    assert!(rt; short_body_is_taken(&rt, rt.alloc())?);
     Ok(())
+}
+
+/// Whether each body is bad in the other format, and the short one without its last byte.
+fn is_bad_in_the_other(
+    rt: &(impl Threads + Sync),
+    alloc: Global,
+    held: &Catalogue,
+) -> Result<bool, Fail> {
+    Ok(
+        is_bad(rt, alloc, held, &SHORT_BODY, false)?
+            && is_bad(rt, alloc, held, &BODY, true)?
+            && is_bad(rt, alloc, held, &SHORT_BODY[..45], true)?,
+    )
+}
+
+/// Whether they are for a catalogue that holds what they name.
+fn bodies_are_bad_in_the_other(rt: &(impl Threads + Sync), alloc: Global) -> Result<bool, Fail> {
+    let held = holds_both(alloc)?;
+    is_bad_in_the_other(rt, alloc, &held)
 }
 
 #[test]
 fn a_body_is_bad_in_the_other_format(rt: HostRuntime) -> Result<(), Fail> {
-    let alloc = rt.alloc();
-    let held = holds_both(alloc)?;
-    assert!(rt; is_bad(alloc, &held, &SHORT_BODY)?);
-    assert!(rt; is_bad_short(alloc, &held, &BODY)?);
-    assert!(rt; is_bad_short(alloc, &held, &SHORT_BODY[..45])?);
+    assert!(rt; bodies_are_bad_in_the_other(&rt, rt.alloc())?);
     Ok(())
 }

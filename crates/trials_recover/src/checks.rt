@@ -2,12 +2,14 @@
 //! second is found.
 use std::alloc::Global;
 use std::test::Fail;
+use std::thread::Threads;
+use sz_cells::NoMemory;
 use sz_outside::MemStation;
 use sz_recover::{Recovered, WrongStore, catalogue_of, unsound};
 use sz_spec::Strategy;
 
 /// The first bytes of a log.
-pub(crate) const HEADER: [u8; 16] = *b"\x01SubZero log 1\r\n";
+const HEADER: [u8; 16] = *b"\x01SubZero log 1\r\n";
 
 /// An array of one cell.
 pub(crate) const ARRAY: &[u8] = br#"{"array":"a","cells":[[5]]}"#;
@@ -36,8 +38,11 @@ const STORE_OF_TWO: [u8; 50] = [
 /// A store with no region pair.
 const EMPTY_STORE: [u8; 8] = [0; 8];
 
+/// A group: its kind, and its body.
+pub(crate) type Group<'a> = (u8, &'a [u8]);
+
 /// Appends a group with its gate open.
-pub(crate) fn put_group(disk: &mut Vec<u8>, kind: u8, body: &[u8]) -> Result<(), Fail> {
+fn put_group(disk: &mut Vec<u8>, kind: u8, body: &[u8]) -> Result<(), NoMemory> {
     disk.push(1)?;
     disk.push(kind)?;
     disk.extend_from_slice(&(body.len() as u64).to_be_bytes())?;
@@ -45,53 +50,84 @@ pub(crate) fn put_group(disk: &mut Vec<u8>, kind: u8, body: &[u8]) -> Result<(),
     Ok(())
 }
 
-/// A log that holds the array, the flow and the version with a store.
-fn log_with(alloc: Global, store: &[u8]) -> Result<Vec<u8>, Fail> {
-    let mut body = Vec::from_slice(alloc, &HEAD)?;
-    body.extend_from_slice(store)?;
-    let mut disk = Vec::from_slice(alloc, &HEADER)?;
-    put_group(&mut disk, 1, ARRAY)?;
-    put_group(&mut disk, 2, FLOW)?;
-    put_group(&mut disk, 4, &body)?;
+/// Appends the header, groups with their gates open, and a closed gate.
+fn put_groups(disk: &mut Vec<u8>, groups: &[Group<'_>]) -> Result<(), NoMemory> {
+    disk.extend_from_slice(&HEADER)?;
+    for group in groups {
+        put_group(disk, group.0, group.1)?;
+    }
     disk.push(0)?;
+    Ok(())
+}
+
+/// A log of some groups.
+fn log_of(alloc: Global, groups: &[Group<'_>]) -> Result<Vec<u8>, NoMemory> {
+    let mut disk = Vec::new(alloc);
+    put_groups(&mut disk, groups)?;
     Ok(disk)
 }
 
-/// What the log opens to.
-fn opened(alloc: Global, store: &[u8]) -> Result<Recovered, Fail> {
-    let disk = log_with(alloc, store)?;
-    let mut station = MemStation::new(alloc, disk, Vec::new(alloc), Vec::new(alloc))?;
-    match catalogue_of(alloc, &mut station) {
+/// A station with a log of some groups.
+pub(crate) fn station_of(alloc: Global, groups: &[Group<'_>]) -> Result<MemStation, Fail> {
+    let disk = log_of(alloc, groups)?;
+    Ok(MemStation::new(alloc, disk, Vec::new(alloc), Vec::new(alloc))?)
+}
+
+/// What a log of some groups opens to.
+pub(crate) fn opened(
+    rt: &(impl Threads + Sync),
+    alloc: Global,
+    groups: &[Group<'_>],
+) -> Result<Recovered, Fail> {
+    let mut station = station_of(alloc, groups)?;
+    match catalogue_of(rt, alloc, &mut station) {
         Ok(recovered) => Ok(recovered),
         Err(_) => Err(Fail::from("not opened")),
     }
 }
 
+/// The body of the version with a store.
+fn body_with(alloc: Global, store: &[u8]) -> Result<Vec<u8>, NoMemory> {
+    let mut body = Vec::from_slice(alloc, &HEAD)?;
+    body.extend_from_slice(store)?;
+    Ok(body)
+}
+
+/// What a log opens to that holds the array, the flow and the version with a store.
+fn opened_with(rt: &(impl Threads + Sync), alloc: Global, store: &[u8]) -> Result<Recovered, Fail> {
+    let body = body_with(alloc, store)?;
+    opened(rt, alloc, &[(1, ARRAY), (2, FLOW), (4, body.as_slice())])
+}
+
+/// What is found of the version with a store.
+fn found(
+    rt: &(impl Threads + Sync),
+    alloc: Global,
+    store: &[u8],
+) -> Result<Option<WrongStore>, Fail> {
+    let recovered = opened_with(rt, alloc, store)?;
+    Ok(unsound(rt, alloc, &recovered)?)
+}
+
 #[test]
 fn a_store_of_the_relation_is_sound(rt: HostRuntime) -> Result<(), Fail> {
-    let alloc = rt.alloc();
-    let recovered = opened(alloc, &TRUE_STORE)?;
-    assert_eq!(rt; unsound(&rt, alloc, &recovered)?, None);
+    assert_eq!(rt; found(&rt, rt.alloc(), &TRUE_STORE)?, None);
     Ok(())
 }
 
 #[test]
 fn a_store_that_keeps_more_pairs_of_the_relation_is_sound(rt: HostRuntime) -> Result<(), Fail> {
-    let alloc = rt.alloc();
-    let recovered = opened(alloc, &STORE_OF_TWO)?;
-    assert_eq!(rt; unsound(&rt, alloc, &recovered)?, None);
+    assert_eq!(rt; found(&rt, rt.alloc(), &STORE_OF_TWO)?, None);
     Ok(())
 }
 
 #[test]
 fn a_store_of_nothing_is_found(rt: HostRuntime) -> Result<(), Fail> {
-    let alloc = rt.alloc();
-    let recovered = opened(alloc, &EMPTY_STORE)?;
     let wrong = WrongStore {
         version: 1,
         node: 0,
         s: Strategy::FullOneB,
     };
-    assert_eq!(rt; unsound(&rt, alloc, &recovered)?, Some(wrong));
+    assert_eq!(rt; found(&rt, rt.alloc(), &EMPTY_STORE)?, Some(wrong));
     Ok(())
 }

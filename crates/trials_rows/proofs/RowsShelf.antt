@@ -54,7 +54,10 @@ abbrev two : Tag
 two = tag_of (FullOneB ∷ FullOneF ∷ [])
 
 -- a seat took the store of its tag, of which no piece is placed
-taken-own : HasTaken (first_view one) (after_take (contents one [] false) (first_view one), (0, contents one [] false) ∷ [])
+taken-own : HasTaken (first_view one) (
+  after_take (contents one [] false) (first_view one),
+  (0, contents one [] false) ∷ [],
+)
 taken-own = (
   contents one [] false,
   0,

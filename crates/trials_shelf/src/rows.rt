@@ -65,15 +65,35 @@ fn seals<R: Wait>(alloc: Global, rt: &R, bench: &Bench, pass: &mut Pass) -> Resu
     Ok(open && none && sealed && closed && late)
 }
 
-#[test]
-fn pieces_are_placed_and_then_sealed(rt: HostRuntime) -> Result<(), Fail> {
-    let alloc = rt.alloc();
+/// Whether a shelf is filled and sealed, and another pass sees the seal from then on.
+fn fills_and_seals<R: Wait>(
+    alloc: Global,
+    rt: &R,
+    bench: &Bench,
+    pass: &mut Pass,
+    other: &mut Pass,
+) -> Result<bool, Fail>
+    requires pass { place_of pass.old ≡ bench.now }
+    requires other { place_of other.old ≡ bench.now }
+{
+    Ok(
+        fills(alloc, rt, bench, pass)?
+            && !bench.sealed_now(other)
+            && seals(alloc, rt, bench, pass)?
+            && bench.sealed_now(other),
+    )
+}
+
+/// Whether a new shelf is, beside another pass of it.
+fn is_filled_and_sealed<R: Wait>(alloc: Global, rt: &R) -> Result<bool, Fail> {
     let (bench, mut pass) = Bench::new(alloc)?;
     let mut other = bench.split(&mut pass)?;
-    assert!(rt; fills(alloc, &rt, &bench, &mut pass)?);
-    assert!(rt; !bench.sealed_now(&mut other));
-    assert!(rt; seals(alloc, &rt, &bench, &mut pass)?);
-    assert!(rt; bench.sealed_now(&mut other));
+    fills_and_seals(alloc, rt, &bench, &mut pass, &mut other)
+}
+
+#[test]
+fn pieces_are_placed_and_then_sealed(rt: HostRuntime) -> Result<(), Fail> {
+    assert!(rt; is_filled_and_sealed(rt.alloc(), &rt)?);
     Ok(())
 }
 
@@ -106,14 +126,31 @@ fn hands_on<R: Wait>(
     Ok(kept && looked && before.kept().is_some())
 }
 
+/// Whether a sealed shelf hands out its stores, and a pass keeps them and hands them on.
+fn keeps_and_hands_on<R: Wait>(
+    alloc: Global,
+    rt: &R,
+    bench: &Bench,
+    pass: &mut Pass,
+) -> Result<bool, Fail>
+    requires { place_of pass.old ≡ bench.now }
+{
+    let mut before = bench.split(pass)?;
+    Ok(keeps(alloc, rt, bench, pass)? && hands_on(alloc, rt, bench, pass, &mut before)?)
+}
+
+/// Whether a new shelf does, once it is filled and sealed.
+fn is_kept<R: Wait>(alloc: Global, rt: &R) -> Result<bool, Fail> {
+    let (bench, mut pass) = Bench::new(alloc)?;
+    Ok(
+        fills(alloc, rt, &bench, &mut pass)?
+            && bench.seal(rt, &mut pass) == SealReply::Sealed
+            && keeps_and_hands_on(alloc, rt, &bench, &mut pass)?,
+    )
+}
+
 #[test]
 fn what_is_handed_out_is_kept(rt: HostRuntime) -> Result<(), Fail> {
-    let alloc = rt.alloc();
-    let (bench, mut pass) = Bench::new(alloc)?;
-    assert!(rt; fills(alloc, &rt, &bench, &mut pass)?);
-    assert_eq!(rt; bench.seal(&rt, &mut pass), SealReply::Sealed);
-    let mut before = bench.split(&mut pass)?;
-    assert!(rt; keeps(alloc, &rt, &bench, &mut pass)?);
-    assert!(rt; hands_on(alloc, &rt, &bench, &mut pass, &mut before)?);
+    assert!(rt; is_kept(rt.alloc(), &rt)?);
     Ok(())
 }

@@ -120,32 +120,75 @@ fn place_in_two<R: Threads + Wait + Sync>(
     Ok(told)
 }
 
+/// Whether a pass of a shelf that another thread filled sees all.
+fn is_seen_filled<R: Threads + Wait + Sync>(
+    rt: &R,
+    alloc: Global,
+    bench: &Bench,
+    pass: &mut Pass,
+) -> Result<bool, Fail>
+    requires { place_of pass.old ≡ bench.now }
+    ensures { place_of pass.new ≡ place_of pass.old }
+{
+    let (looked, filled) = fill_beside_looks(rt, alloc, bench, pass)?;
+    match filled {
+        Ok(true) => Ok(looked && sees_all(alloc, rt, bench, pass)?),
+        _ => Err("the shelf is not filled".into()),
+    }
+}
+
+/// Whether a shelf is sealed to a pass, which keeps its stores once they are handed out.
+fn is_sealed<R: Wait>(alloc: Global, rt: &R, bench: &Bench, pass: &mut Pass) -> Result<bool, Fail>
+    requires { place_of pass.old ≡ bench.now }
+{
+    Ok(
+        bench.sealed_now(pass)
+            && bench.seal(rt, pass) == SealReply::Sealed
+            && bench.place(alloc, rt, pass, 1)? == Placed::Sealed
+            && pass.kept().is_none()
+            && bench.store_of(alloc, rt, pass)?.is_some()
+            && pass.kept().is_some(),
+    )
+}
+
+/// Whether a new shelf is filled so, and sealed.
+fn is_filled_beside_looks<R: Threads + Wait + Sync>(rt: &R, alloc: Global) -> Result<bool, Fail> {
+    let (bench, mut pass) = Bench::new(alloc)?;
+    Ok(is_seen_filled(rt, alloc, &bench, &mut pass)? && is_sealed(alloc, rt, &bench, &mut pass)?)
+}
+
 #[test]
 fn a_thread_places_while_another_looks(rt: HostRuntime) -> Result<(), Fail> {
-    let alloc = rt.alloc();
-    let (bench, mut pass) = Bench::new(alloc)?;
-    let (looked, filled) = fill_beside_looks(&rt, alloc, &bench, &mut pass)?;
-    assert!(rt; looked);
-    match filled {
-        Ok(true) => assert!(rt; sees_all(alloc, &rt, &bench, &mut pass)?),
-        _ => return Err("the shelf is not filled".into()),
-    }
-    assert!(rt; bench.sealed_now(&mut pass));
-    assert_eq!(rt; bench.seal(&rt, &mut pass), SealReply::Sealed);
-    assert_eq!(rt; bench.place(alloc, &rt, &mut pass, 1)?, Placed::Sealed);
-    assert!(rt; pass.kept().is_none());
-    assert!(rt; bench.store_of(alloc, &rt, &mut pass)?.is_some());
-    assert!(rt; pass.kept().is_some());
+    assert!(rt; is_filled_beside_looks(&rt, rt.alloc())?);
     Ok(())
+}
+
+/// Whether two threads place one piece each, and the shelf is full then.
+fn is_filled_in_two<R: Threads + Wait + Sync>(
+    rt: &R,
+    alloc: Global,
+    bench: &Bench,
+    pass: &mut Pass,
+) -> Result<bool, Fail>
+    requires { place_of pass.old ≡ bench.now }
+{
+    let told = place_in_two(rt, alloc, bench, pass)?;
+    Ok(
+        told.0
+            && told.1
+            && bench.place(alloc, rt, pass, 1)? == Placed::Already
+            && bench.seal(rt, pass) == SealReply::Sealed,
+    )
+}
+
+/// Whether they do so with a new shelf.
+fn two_fill_it<R: Threads + Wait + Sync>(rt: &R, alloc: Global) -> Result<bool, Fail> {
+    let (bench, mut pass) = Bench::new(alloc)?;
+    is_filled_in_two(rt, alloc, &bench, &mut pass)
 }
 
 #[test]
 fn two_threads_place_one_piece_each(rt: HostRuntime) -> Result<(), Fail> {
-    let alloc = rt.alloc();
-    let (bench, mut pass) = Bench::new(alloc)?;
-    let told = place_in_two(&rt, alloc, &bench, &mut pass)?;
-    assert_eq!(rt; told, (true, true));
-    assert_eq!(rt; bench.place(alloc, &rt, &mut pass, 1)?, Placed::Already);
-    assert_eq!(rt; bench.seal(&rt, &mut pass), SealReply::Sealed);
+    assert!(rt; two_fill_it(&rt, rt.alloc())?);
     Ok(())
 }
