@@ -22,6 +22,7 @@ mod looks;
 mod payload_table;
 mod reading;
 mod region_table;
+mod room;
 mod scans;
 mod set_table;
 mod sets;

@@ -18,6 +18,7 @@ ghost use Rattle.sz_tables.specs.Rows.{Row, pairings, rows_of};
 ghost use Rattle.sz_tables.specs.Placing.{IsPlaced, IsOfArray, Gets, IsRowNamed, place_for};
 
 use crate::region_table::{RegionTable, tables_for};
+use crate::room::make_room;
 use crate::set_table::SetTable;
 use std::alloc::Global;
 use sz_cells::{NoMemory, Run, Shape};
@@ -38,8 +39,8 @@ impl RegionTable {
     /// operator with an output and inputs of these shapes, and the place behind it. `Bad` exactly
     /// where none begins there.
     ///
-    /// Takes time in the number of bytes that it reads, memory for each different set once, for four
-    /// bytes a name and while it reads for eight a listed set, and none for what is not there.
+    /// Takes time in the number of bytes that it reads, memory for each listed set, for four bytes a
+    /// name and while it reads for eight a listed set, and none for what is not there.
     pub fn take_bytes(
         alloc: Global,
         out: Shape,
@@ -141,6 +142,7 @@ fn take_sets(
     let Some(count) = take_number(bytes, at) else {
         return Err(Take::Bad { at });
     };
+    make_room(bytes, count, at + 4, outs, tables)?;
     let mut runs = Vec::new(*places.allocator());
     let mut place = at + 4;
     for _index in 0..count {

@@ -22,16 +22,17 @@ returns-in_default-clause-err c sets rest few is =
 
 pub loop-index-init : goal.loop-index-init
 loop-index-init c =
-    let all = map (λ (t : SetsByNumber). t.sets) (c.args.outs.now ∷ c.args.tables.now) in
+    let tables = c.make_room.new.outs ∷ c.make_room.new.tables in
+    let all = map (λ (t : SetsByNumber). t.sets) tables in
     record {
       listed = [];
       count = refl;
       each = All-nil (IsListed c.args.out c.args.ins.now);
       bytes = at-nothing c.args.bytes.now (c.args.at + 4) c.in-Some.ensures.some.within;
       placed = subst (λ (ps : List Place). AllZip (IsPlaced all) ps []) (sym c.requires.places) tt;
-      extents = c.requires.extents;
+      extents = c.make_room.ensures.extents ∙ c.requires.extents;
       few = All-weaker (λ (t : SetsByNumber). t.sets ≡ []) (λ (t : SetsByNumber). length t.sets ≤ 0)
-          (λ t none. omega (arith, ap length none)) (c.args.outs.now ∷ c.args.tables.now) c.requires.none;
+          (λ t none. omega (arith, ap length none)) tables c.make_room.ensures.none;
     }
 
 pub returns-in_err-array-clause-err : goal.returns-in_err-array-clause-err

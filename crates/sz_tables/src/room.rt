@@ -1,0 +1,86 @@
+//! Room for listed sets, made before they are read: how many there are of each array, and how many
+//! runs they have, is told by the counts alone. Nothing rests on what is told: a table that has less
+//! room makes more as it is read.
+
+ghost use Rattle.std.specs.Prelude.{◌≡◌, ◌∷◌, [], map, All};
+
+use crate::set_table::SetTable;
+use sz_cells::NoMemory;
+use sz_region::take_number;
+
+/// How many sets of an array are found, and how many runs they have together.
+#[derive(Clone, Copy)]
+struct Found {
+    sets: u32,
+    runs: usize,
+}
+
+/// Makes room in each table for the sets of its array among so many that are listed from a place
+/// on, as far as the bytes go.
+///
+/// Costs a look at the count of each listed set, for each array.
+pub(crate) fn make_room(
+    bytes: &[u8],
+    count: u32,
+    at: u64,
+    outs: &mut SetTable,
+    tables: &mut [SetTable],
+) -> Result<(), NoMemory>
+    requires none { All (λ t. t.sets ≡ []) (outs.old ∷ tables.old) }
+    ensures extents { map (λ t. t.extent) (outs.new ∷ tables.new)
+        ≡ map (λ t. t.extent) (outs.old ∷ tables.old) }
+    ensures none { All (λ t. t.sets ≡ []) (outs.new ∷ tables.new) }
+{
+    let found = find_sets(bytes, count, at, 0);
+    outs.reserve(found.sets, found.runs)?;
+    make_room_in_each(bytes, count, at, tables)
+}
+
+/// As [`make_room`], in the tables of the inputs.
+fn make_room_in_each(
+    bytes: &[u8],
+    count: u32,
+    at: u64,
+    tables: &mut [SetTable],
+) -> Result<(), NoMemory>
+    requires none { All (λ t. t.sets ≡ []) tables.old }
+    ensures extents { map (λ t. t.extent) tables.new ≡ map (λ t. t.extent) tables.old }
+    ensures none { All (λ t. t.sets ≡ []) tables.new }
+{
+    let mut array = 0u8;
+    for table in tables.iter_mut() {
+        array = array.saturating_add(1);
+        let found = find_sets(bytes, count, at, array);
+        table.reserve(found.sets, found.runs)?;
+    }
+    Ok(())
+}
+
+/// The sets of an array among so many that are listed from a place on.
+fn find_sets(bytes: &[u8], count: u32, at: u64, array: u8) -> Found {
+    let mut found = Found { sets: 0, runs: 0 };
+    let mut place = at;
+    for _index in 0..count {
+        let Some(next) = find_set(bytes, place, array, &mut found) else {
+            return found;
+        };
+        place = next;
+    }
+    found
+}
+
+/// Counts the listed set at a place, if it is one of the array, and answers the place behind it.
+/// `None` where the bytes do not go so far.
+fn find_set(bytes: &[u8], at: u64, array: u8, found: &mut Found) -> Option<u64> {
+    let own = bytes.get(at as usize)?;
+    let runs = take_number(bytes, at.saturating_add(1))?;
+    let next = at.saturating_add(5).saturating_add(u64::from(runs) * 8);
+    if (bytes.len() as u64) < next {
+        return None;
+    }
+    if *own == array {
+        found.sets = found.sets.saturating_add(1);
+        found.runs = found.runs.saturating_add(runs as usize);
+    }
+    Some(next)
+}
