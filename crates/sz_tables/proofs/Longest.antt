@@ -1,10 +1,13 @@
 -- The key idea: an index that stands before others begins a run or makes the next run longer. So where the runs rise
 -- with gaps, the indexes rise.
-use Rattle.std.proofs.Common.{ℕ, ◌+◌, ◌<◌, ◌≤◌, ◌==◌, List, [], ◌∷◌, arith}
+use Rattle.std.proofs.Common.{◌≡◌, ℕ, ◌+◌, ◌<◌, ◌≤◌, ◌==◌, List, [], ◌∷◌, subst, arith}
 use Rattle.std.proofs.lemmas.Bool.{cond_both, eqb-true}
 use Rattle.sz_cells.specs.declared.Run.{Run}
+use Rattle.sz_cells.specs.Cells.{Cells}
+use Rattle.sz_cells.specs.Extent.{Extent, size_of}
 use Rattle.sz_cells.specs.Rising.{AreRising}
 use Rattle.sz_cells.specs.Runs.{runs_of, before_runs, AreRunsFrom}
+use Rattle.sz_cells.specs.SetBytes.{IsSetOf}
 
 -- the first run does not end before it begins
 abbrev IsForward : List Run → Type 0
@@ -42,3 +45,11 @@ rising-from_runs least bound [] h = tt
 rising-from_runs least bound (k ∷ ks) h =
     let parts = runs-behind k least bound (runs_of ks) (runs-forward ks) h in
     (parts.0, parts.1, rising-from_runs (k + 1) bound ks parts.2)
+
+-- a set whose longest runs rise with gaps within its shape is a set of the shape
+pub set-of_runs : (e : Extent) (set : Cells) (runs : List Run) → set.extent ≡ e → runs ≡ runs_of set.indexes
+    → AreRunsFrom 0 (size_of e) runs → IsSetOf e set
+set-of_runs e set runs shape is longest = record {
+  extent = shape;
+  rising = rising-from_runs 0 (size_of e) set.indexes (subst (AreRunsFrom 0 (size_of e)) is longest);
+}

@@ -3,12 +3,11 @@
 -- The key idea: the runs of a further set stand behind all others, so each old span gives the runs that it gave, and
 -- the new one gives those that were added.
 use Rattle.std.proofs.Common.{◌≡◌, ◌≢◌, ℕ, zero, suc, ◌+◌, ◌%◌, ◌<◌, List, [], ◌∷◌, ◌++◌, length, map, get_or}
-use Rattle.std.proofs.Common.{slice_range, refl, sym, ap, ap₂, subst, ◌∙◌, inl, inr, arith}
-use Rattle.std.proofs.Common.{length-append, Option, Some, None, unwrap_or}
+use Rattle.std.proofs.Common.{slice_range, sym, ap, ap₂, subst, ◌∙◌, inl, inr, arith}
+use Rattle.std.proofs.Common.{Option, Some, None, unwrap_or}
 use Rattle.std.specs.List.{slice_get, HoldsAt, flat_map}
 use Rattle.std.specs.Option.{IfSome}
 use Rattle.std.proofs.lemmas.List.{map-append, length-map, get_or-map}
-use Rattle.std.proofs.lemmas.Simd.{map-map}
 use Rattle.std.proofs.lemmas.Option.{slice_get_within, slice_get-get_or, unwrap_or-slice_get}
 use Rattle.std.proofs.lemmas.Option.{get_or_from_slice_get}
 use Rattle.std.proofs.lemmas.Bool.{cases_lt}
@@ -20,10 +19,11 @@ use Rattle.sz_cells.specs.Cells.{Cells, no_cells}
 use Rattle.sz_cells.specs.Runs.{AreRunsFrom, runs_of, indexes_of}
 use Rattle.sz_cells.proofs.Runs.{runs_of-spelled}
 use Rattle.sz_tables.specs.declared.spans.Span.{Span}
-use Rattle.sz_tables.specs.Filed.{Filed, Files, IsLastBelow, IsWidened, rest_under}
+use Rattle.sz_tables.specs.Filed.{Filed, Files, IsLastBelow, IsWidened}
 use Rattle.sz_tables.specs.Rows.{set_at}
 use Rattle.sz_tables.specs.Tables.{AreNumbered, spelled, runs_by_number, filed_by, mix_of}
-use Rattle.sz_tables.proofs.Slices.{IsWithin, cut, cuts-push, different-push}
+use Rattle.sz_tables.proofs.Filing.{filed-push, filed-key, widened-keys, widened-filed}
+use Rattle.sz_tables.proofs.Slices.{cut, cuts-push, within-push, different-push}
 
 -- ---- one more set
 
@@ -39,22 +39,12 @@ numbered-push e runs more spans s index after key mix was long new start end mix
     let pieces = runs_by_number runs spans in
     let grown = cuts-push runs more spans s was.within start end in
     record {
-      within = All-push (IsWithin (runs ++ more)) spans s
-          (λ k d lt. let at = was.within k d lt in (omega arith, omega (arith, length-append runs more)))
-          (omega arith, omega (arith, length-append runs more));
+      within = within-push runs more spans s was.within start end;
       longest = rw grown (All-push (AreRunsFrom 0 (size_of e)) pieces more was.longest long);
       different = rw (grown, map-append (spelled e) pieces (more ∷ []))
           (different-push (map (spelled e) pieces) (spelled e more) was.different new);
       keys = omega (arith, keys, was.keys);
-      filed = rw (
-        grown,
-        entries,
-        keys,
-        map-append (filed_by index.keys) pieces (more ∷ []),
-        was.filed,
-        under,
-        mixed,
-      ) refl;
+      filed = rw grown (filed-push mix_of index after pieces more key mix was.filed mixed under keys entries);
     }
 
 -- ---- the set of a number
@@ -65,11 +55,14 @@ pub sets-count : (e : Extent) (runs : List Run) (spans : List Span)
 sets-count e runs spans = length-map (runs_by_number runs spans) (spelled e) ∙ length-map spans (cut runs)
 
 -- a span gives the longest runs of the set of its number
+abbrev pub IsSetAt : Extent → List Run → List Span → ℕ → Span → Type 0
+IsSetAt e runs spans n s =
+    (set_at (map (spelled e) (runs_by_number runs spans)) n ≡ spelled e (slice_range runs s.start s.end))
+    × AreRunsFrom 0 (size_of e) (slice_range runs s.start s.end)
+
 pub set-at : (e : Extent) (runs : List Run) (spans : List Span) (index : Files) (n : ℕ) (s : Span)
     → AreNumbered e runs spans index → n < length (map (spelled e) (runs_by_number runs spans))
-    → s ≡ get_or spans n s
-    → (set_at (map (spelled e) (runs_by_number runs spans)) n ≡ spelled e (slice_range runs s.start s.end))
-    × AreRunsFrom 0 (size_of e) (slice_range runs s.start s.end)
+    → s ≡ get_or spans n s → IsSetAt e runs spans n s
 set-at e runs spans index n s was within read =
     let pieces = runs_by_number runs spans in
     let sets = map (spelled e) pieces in
@@ -157,14 +150,7 @@ pub key-at : (e : Extent) (runs more : List Run) (spans : List Span) (index : Fi
 key-at e runs more spans index key n was long under same =
     let pieces = runs_by_number runs spans in
     let piece = piece-at e runs more spans index n was long same in
-    let filed : n < length index.entries =
-    omega (arith, piece.0, length-map pieces (spelled e), entries-count e runs spans index was) in (
-      λ d. ap (λ (es : List Filed). (get_or es n d).key) was.filed
-          ∙ ap (λ (f : Filed). f.key) (get_or-map (filed_by index.keys) pieces n [] d piece.0)
-          ∙ ap (λ (rs : List Run). mix_of rs % index.keys) piece.1
-          ∙ sym under,
-      filed,
-    )
+    filed-key mix_of index pieces n [] more key was.filed piece.0 piece.1 under
 
 -- and its entry has what they are mixed to
 pub item-at : (e : Extent) (runs more : List Run) (spans : List Span) (index : Files) (n : ℕ)
@@ -187,17 +173,8 @@ numbered-widened e runs spans index after was wide = record {
   within = was.within;
   longest = was.longest;
   different = was.different;
-  keys = elim wide [
-    | inl same ↦ omega (arith, same.0, was.keys)
-    | inr anew ↦ anew.0
-  ];
-  filed = elim wide [
-    | inl same ↦ rw (same.0, same.1) was.filed
-    | inr anew ↦
-        anew.1
-        ∙ ap (map (rest_under after.keys)) was.filed
-        ∙ map-map (rest_under after.keys) (filed_by index.keys) (runs_by_number runs spans)
-  ];
+  keys = widened-keys index after was.keys wide;
+  filed = widened-filed mix_of index after (runs_by_number runs spans) was.filed wide;
 }
 
 -- each set of a table has the table's shape

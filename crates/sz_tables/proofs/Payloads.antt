@@ -2,19 +2,18 @@
 --
 -- The key idea: the bytes of a further payload stand behind all others, so each old span gives the payload that it
 -- gave; and an equal payload has the same key, so the walk over the entries of that key meets it.
-use Rattle.std.proofs.Common.{◌≡◌, ◌≢◌, ℕ, ◌+◌, ◌%◌, ◌<◌, List, [], ◌∷◌, ◌++◌, length, map, get_or}
-use Rattle.std.proofs.Common.{slice_range, refl, sym, ap, ◌∙◌, arith, inl, inr, length-append, Option, Some, unwrap_or}
+use Rattle.std.proofs.Common.{◌≡◌, ◌≢◌, ℕ, ◌+◌, ◌%◌, ◌<◌, List, [], ◌∷◌, ◌++◌, length, get_or}
+use Rattle.std.proofs.Common.{slice_range, sym, ap, ◌∙◌, arith, Option, Some, unwrap_or}
 use Rattle.std.specs.List.{slice_get, HoldsAt}
-use Rattle.std.proofs.lemmas.List.{map-append, length-map, get_or-map}
-use Rattle.std.proofs.lemmas.Simd.{map-map}
+use Rattle.std.proofs.lemmas.List.{length-map, get_or-map}
 use Rattle.std.proofs.lemmas.Option.{slice_get_within, slice_get-get_or, unwrap_or-slice_get}
 use Rattle.std.proofs.lemmas.Option.{get_or_from_slice_get}
-use Rattle.std.proofs.lemmas.List.Elements.{All-push}
 use Rattle.sz_tables.specs.declared.spans.Span.{Span}
-use Rattle.sz_tables.specs.Filed.{Filed, Files, IsWidened, rest_under}
+use Rattle.sz_tables.specs.Filed.{Files, IsWidened}
 use Rattle.sz_tables.specs.Tables.{slices_by_number}
 use Rattle.sz_tables.specs.Payloads.{AreKept, payload_at, payload_mix, payload_filed}
-use Rattle.sz_tables.proofs.Slices.{IsWithin, cut, cuts-push, different-push}
+use Rattle.sz_tables.proofs.Filing.{filed-push, filed-key, widened-keys, widened-filed}
+use Rattle.sz_tables.proofs.Slices.{cut, cuts-push, within-push, different-push}
 
 -- ---- one more payload
 
@@ -29,20 +28,10 @@ kept-push bytes more spans s index after key mix was new start end mixed under k
     let pieces = slices_by_number bytes spans in
     let grown = cuts-push bytes more spans s was.within start end in
     record {
-      within = All-push (IsWithin (bytes ++ more)) spans s
-          (λ k d lt. let at = was.within k d lt in (omega arith, omega (arith, length-append bytes more)))
-          (omega arith, omega (arith, length-append bytes more));
+      within = within-push bytes more spans s was.within start end;
       different = rw grown (different-push pieces more was.different new);
       keys = omega (arith, keys, was.keys);
-      filed = rw (
-        grown,
-        entries,
-        keys,
-        map-append (payload_filed index.keys) pieces (more ∷ []),
-        was.filed,
-        under,
-        mixed,
-      ) refl;
+      filed = rw grown (filed-push payload_mix index after pieces more key mix was.filed mixed under keys entries);
     }
 
 -- ---- the payload of a number
@@ -84,14 +73,8 @@ pub filed-at : (bytes more : List ℕ) (spans : List Span) (index : Files) (key 
     → HoldsAt (λ f. f.key ≡ key) index.entries n × (n < length index.entries)
 filed-at bytes more spans index key n was under same =
     let pieces = slices_by_number bytes spans in
-    let many : n < length pieces = slice_get_within pieces n more same in
-    let filed : n < length index.entries = omega (arith, filed-count bytes spans index was) in (
-      λ d. ap (λ (es : List Filed). (get_or es n d).key) was.filed
-          ∙ ap (λ (f : Filed). f.key) (get_or-map (payload_filed index.keys) pieces n [] d many)
-          ∙ ap (λ (p : List ℕ). payload_mix p % index.keys) (get_or_from_slice_get pieces n more [] same)
-          ∙ sym under,
-      filed,
-    )
+    filed-key payload_mix index pieces n [] more key was.filed (slice_get_within pieces n more same)
+    (get_or_from_slice_get pieces n more [] same) under
 
 -- ---- more keys
 
@@ -101,15 +84,6 @@ pub kept-widened : (bytes : List ℕ) (spans : List Span) (index after : Files) 
 kept-widened bytes spans index after was wide = record {
   within = was.within;
   different = was.different;
-  keys = elim wide [
-    | inl same ↦ omega (arith, same.0, was.keys)
-    | inr anew ↦ anew.0
-  ];
-  filed = elim wide [
-    | inl same ↦ rw (same.0, same.1) was.filed
-    | inr anew ↦
-        anew.1
-        ∙ ap (map (rest_under after.keys)) was.filed
-        ∙ map-map (rest_under after.keys) (payload_filed index.keys) (slices_by_number bytes spans)
-  ];
+  keys = widened-keys index after was.keys wide;
+  filed = widened-filed payload_mix index after (slices_by_number bytes spans) was.filed wide;
 }

@@ -2,15 +2,15 @@
 --
 -- The key idea: what is added stands behind all that there was, so each old span gives the slice that it gave, and the
 -- new one gives what was added.
-use Rattle.std.proofs.Common.{◌≡◌, ◌≢◌, ℕ, zero, suc, min, ◌+◌, ◌-◌, ◌<◌, ◌≤◌, List, [], ◌∷◌, ◌++◌, length, All}
-use Rattle.std.proofs.Common.{take, drop, slice_range, refl, sym, ap, ap₂, ◌∙◌, inl, inr, arith}
+use Rattle.std.proofs.Common.{◌≡◌, ◌≢◌, ℕ, zero, suc, min, max, ◌+◌, ◌-◌, ◌%◌, ◌<◌, ◌≤◌, List, [], ◌∷◌, ◌++◌, length}
+use Rattle.std.proofs.Common.{All, take, drop, fold, slice_range, refl, sym, ap, ap₂, ◌∙◌, inl, inr, arith}
 use Rattle.std.proofs.Common.{length-append, Some}
 use Rattle.std.specs.List.{slice_get}
 use Rattle.std.proofs.Math.Seq.{drop-append_seam}
 use Rattle.std.proofs.lemmas.List.{map-append, length-drop, take_all, take-append-le, drop-append-le}
 use Rattle.std.proofs.lemmas.Option.{slice_get_within}
 use Rattle.std.proofs.lemmas.Bool.{cases_lt}
-use Rattle.std.proofs.lemmas.List.Elements.{All-head, All-tail}
+use Rattle.std.proofs.lemmas.List.Elements.{All-head, All-tail, All-push}
 use Rattle.sz_spec.proofs.FlowOutputs.{slice_get-left, slice_get-seam}
 use Rattle.sz_tables.specs.declared.spans.Span.{Span}
 use Rattle.sz_tables.specs.Tables.{AreDifferent, slices_by_number}
@@ -50,6 +50,14 @@ pub cuts-push : {X : Type 0} (xs more : List X) (spans : List Span) (s : Span) �
 cuts-push xs more spans s within start end =
     map-append (cut (xs ++ more)) spans (s ∷ [])
     ∙ ap₂ (λ ys y. ys ++ y ∷ []) (cuts-kept xs more spans within) (cut-new xs more s start end)
+
+-- and all spans are within the longer list
+pub within-push : {X : Type 0} (xs more : List X) (spans : List Span) (s : Span) → All (IsWithin xs) spans
+    → s.start ≡ length xs → s.end ≡ length xs + length more → All (IsWithin (xs ++ more)) (spans ++ s ∷ [])
+within-push xs more spans s within start end =
+    All-push (IsWithin (xs ++ more)) spans s
+    (λ k d lt. let at = within k d lt in (omega arith, omega (arith, length-append xs more)))
+    (omega arith, omega (arith, length-append xs more))
 
 -- ---- one more of different ones
 
@@ -100,3 +108,18 @@ drop-short n xs =
       | inl inside ↦ ap (λ (k : ℕ). drop k xs) (omega arith)
       | inr past ↦ drop-all (min n (length xs)) xs (omega arith) ∙ sym (drop-all n xs past)
     ]
+
+-- what is mixed of the first and of the last elements of a list, or of all of them
+pub mixed-ends : {X : Type 0} (f : ℕ → X → ℕ) (n : ℕ) (xs : List X) (end least start first mix : ℕ)
+    → end ≡ min (length xs) n → first ≡ fold f (length xs % 4294967296) (take end xs)
+    → least ≡ max n (length xs - n) → start ≡ min least (length xs)
+    → mix ≡ fold f first (take (length xs - start) (drop start xs))
+    → mix ≡ fold f (fold f (length xs % 4294967296) (take n xs)) (drop (max n (length xs - n)) xs)
+mixed-ends {X} f n xs end least start first mix short begins far from ends =
+    let front : first ≡ fold f (length xs % 4294967296) (take n xs) =
+    begins ∙ ap (fold f (length xs % 4294967296)) (ap (λ (k : ℕ). take k xs) short ∙ take-short n xs) in
+    let rest : drop start xs ≡ drop (max n (length xs - n)) xs =
+    ap (λ (k : ℕ). drop k xs) from ∙ drop-short least xs ∙ ap (λ (k : ℕ). drop k xs) far in
+    ends
+    ∙ ap (fold f first) (take_all (length xs - start) (drop start xs) (omega (arith, length-drop start xs)) ∙ rest)
+    ∙ ap (λ (h : ℕ). fold f h (drop (max n (length xs - n)) xs)) front

@@ -1,17 +1,8 @@
 -- Both were sorted to one list.
-use Rattle.std.proofs.Common.{◌≡◌, List, subst}
-use Rattle.std.specs.Prelude.{IsPermutation}
-use Rattle.std.proofs.lemmas.List.Sorted.{IsPermutation-sym, IsPermutation-trans}
-use Rattle.sz_tables.specs.declared.entry_table.EntryRow.{EntryRow}
+use Rattle.sz_tables.proofs.Same.{sorted-alike}
 use Rattle.sz_tables.proofs.checklists.are_one_rows.Goals as goal
 
 pub returns : goal.returns
 returns c same =
-    let a = c.args.a.now in
-    let b = c.args.b.now in
-    let left = c.sort_unstable_by_key.new.self in
-    let right = c.sort_unstable_by_key-2.new.self in
-    let one : left ≡ right = c.are_same_rows.ensures.0 same in
-    IsPermutation-trans a right b
-    (subst (λ (xs : List EntryRow). IsPermutation a xs) one c.sort_unstable_by_key.ensures.permutation)
-    (IsPermutation-sym b right c.sort_unstable_by_key-2.ensures.permutation)
+    sorted-alike c.args.a.now c.args.b.now _ _ c.sort_unstable_by_key.ensures.permutation
+    c.sort_unstable_by_key-2.ensures.permutation (c.are_same_rows.ensures.0 same)

@@ -1,22 +1,11 @@
 -- What is read is the first and the last of the list, or all of it.
-use Rattle.std.proofs.Common.{◌≡◌, ℕ, ◌-◌, ◌%◌, length, take, drop, fold, max, ap, ◌∙◌, arith}
-use Rattle.std.proofs.lemmas.List.{take_all, length-drop}
+use Rattle.std.proofs.Common.{arith}
 use Rattle.sz_tables.specs.Tables.{mixed}
-use Rattle.sz_tables.proofs.Slices.{take-short, drop-short}
+use Rattle.sz_tables.proofs.Slices.{mixed-ends}
 use Rattle.sz_tables.proofs.set_table.mix_of.Goals as goal
 
 pub returns : goal.returns
 returns c =
-    let xs = c.args.runs.now in
-    let short : take c.min.result xs ≡ take 16 xs = ap (λ (k : ℕ). take k xs) c.min.ensures ∙ take-short 16 xs in
-    let first : c.mix_more-first.result ≡ fold mixed (length xs % 4294967296) (take 16 xs) =
-    c.mix_more-first.ensures.mix
-    ∙ ap (fold mixed (length xs % 4294967296)) short in
-    let rest : drop c.min-start.result xs ≡ drop (max 16 (length xs - 16)) xs =
-    ap (λ (k : ℕ). drop k xs) c.min-start.ensures ∙ drop-short c.max.result xs
-    ∙ ap (λ (k : ℕ). drop k xs) (omega (arith, c.max.ensures, c.saturating_sub.ensures)) in
-    c.mix_more.ensures.mix
-    ∙ ap (fold mixed c.mix_more-first.result)
-    (take_all (length xs - c.min-start.result) (drop c.min-start.result xs)
-    (omega (arith, length-drop c.min-start.result xs)) ∙ rest)
-    ∙ ap (λ (h : ℕ). fold mixed h (drop (max 16 (length xs - 16)) xs)) first
+    mixed-ends mixed 16 c.args.runs.now c.min.result c.max.result c.min-start.result c.mix_more-first.result
+    c.mix_more.result c.min.ensures c.mix_more-first.ensures.mix (omega (arith, c.max.ensures, c.saturating_sub.ensures))
+    c.min-start.ensures c.mix_more.ensures.mix

@@ -1,9 +1,8 @@
 -- The key idea: runs that rise with gaps are those of rising indexes.
 use Rattle.std.proofs.Common.{◌<◌, length, arith}
 use Rattle.std.proofs.lemmas.List.{length-map}
-use Rattle.sz_cells.specs.Extent.{size_of}
 use Rattle.sz_tables.specs.Tables.{SetsByNumber}
-use Rattle.sz_tables.proofs.Longest.{rising-from_runs}
+use Rattle.sz_tables.proofs.Longest.{set-of_runs}
 use Rattle.sz_tables.proofs.Taking.{read-extent, read-sets}
 use Rattle.sz_tables.proofs.region_table.RegionTable.in_runs.Goals as goal
 
@@ -16,8 +15,4 @@ returns-clause-set c =
     omega (arith, rw (← c.self.view_is, length-map ts (λ (s : SetsByNumber). s.extent)) at c.requires.input) in
     rw (← c.self.view_is)
     (rw (read-extent ts i t inside c.index.ensures, read-sets ts i t inside c.index.ensures)
-    (record {
-      extent = c.runs.ensures.extent;
-      rising =
-          rising-from_runs 0 (size_of t.extent) _ (rw c.runs.ensures.runs at c.runs.ensures.longest);
-    }))
+    (set-of_runs t.extent _ _ c.runs.ensures.extent c.runs.ensures.runs c.runs.ensures.longest))

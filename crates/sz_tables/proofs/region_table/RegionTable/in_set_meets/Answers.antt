@@ -1,25 +1,13 @@
 -- The runs are the longest ones of the set.
 use Rattle.std.proofs.Common.{◌∙◌}
-use Rattle.sz_cells.specs.Cells.{Cells}
-use Rattle.sz_cells.specs.Extent.{Extent}
-use Rattle.sz_spec.specs.Values.{extent_at}
-use Rattle.sz_tables.specs.Rows.{set_at, sets_of}
 use Rattle.sz_tables.proofs.MetRuns.{runs-fit, runs-met}
 use Rattle.sz_tables.proofs.region_table.RegionTable.in_set_meets.Goals as goal
 
 pub runs_meet-requires : goal.runs_meet-requires
-runs_meet-requires c =
-    let set : Cells = set_at (sets_of c.args.self.now.sets c.args.input) c.args.number in
-    let shape : Extent = extent_at c.args.self.now.ins c.args.input in
-    let runs = c.in_runs.result.now in
-    let is = c.in_runs.ensures.set in
-    runs-fit shape c.args.from.now.extent set runs is c.requires.from c.in_runs.ensures.runs
+runs_meet-requires c = runs-fit _ _ _ _ c.in_runs.ensures.set c.requires.from c.in_runs.ensures.runs
 
 pub returns : goal.returns
 returns c =
-    let set : Cells = set_at (sets_of c.args.self.now.sets c.args.input) c.args.number in
-    let shape : Extent = extent_at c.args.self.now.ins c.args.input in
-    let runs = c.in_runs.result.now in
-    let is = c.in_runs.ensures.set in
     c.runs_meet.ensures.met
-    ∙ runs-met shape set c.args.from.now runs is c.requires.from c.runs_meet.ensures.rising c.in_runs.ensures.runs
+    ∙ runs-met _ _ c.args.from.now _ c.in_runs.ensures.set c.requires.from c.runs_meet.ensures.rising
+    c.in_runs.ensures.runs

@@ -1,20 +1,21 @@
 -- The key idea: entries that are filed anew are under the rests of the same items.
 use Rattle.std.proofs.Common.{ap, length, arith}
 use Rattle.sz_tables.specs.Tables.{SetsByNumber}
+use Rattle.sz_tables.proofs.Filing.{room-kept}
 use Rattle.sz_tables.proofs.Numbered.{numbered-widened, sets-count}
 use Rattle.sz_tables.proofs.set_table.SetTable.reserve_sets.Goals as goal
 
 pub invariant_of-self-in_err-widen : goal.invariant_of-self-in_err-widen
-invariant_of-self-in_err-widen c = (
-  (rw c.reserve.ensures.items (numbered-widened c.self.inside.shape c.self.inside.runs.items c.self.inside.spans.items
-      c.self.inside.index c.widen.new.self c.self.invariant.0 c.widen.ensures.kept)),
-  rw c.reserve.ensures.items (record {
-    few = c.self.invariant.1.few;
-    room = omega (arith, c.self.invariant.1.room, c.reserve.ensures.capacity);
-  }),
-  omega (arith, c.self.invariant.2, c.in_err-widen.ensures.err),
-  c.self.invariant.3,
-)
+invariant_of-self-in_err-widen c =
+    let kept = room-kept c.self.inside.spans.items _ _ _ _ _ _ c.reserve.ensures.items c.self.invariant.1
+    (omega (arith, c.reserve.ensures.capacity)) c.self.invariant.2 (omega (arith, c.in_err-widen.ensures.err))
+    c.self.invariant.3 in (
+      (rw c.reserve.ensures.items (numbered-widened c.self.inside.shape c.self.inside.runs.items c.self.inside.spans.items
+          c.self.inside.index c.widen.new.self c.self.invariant.0 c.widen.ensures.kept)),
+      kept.0,
+      kept.1,
+      kept.2,
+    )
 
 pub invariant_of-self-2 : goal.invariant_of-self-2
 invariant_of-self-2 c =
