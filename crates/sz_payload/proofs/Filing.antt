@@ -2,13 +2,12 @@
 --
 -- The key idea: a cell of an entry is an index of its set, so its number stands behind the files at the index's place.
 use Rattle.std.proofs.Common.{◌≡◌, ◌≢◌, ℕ, zero, suc, ◌+◌, ◌-◌, ◌%◌, ◌<◌, ◌≤◌, ◌==◌, Bool, true, false, true≢false}
-use Rattle.std.proofs.Common.{List, [], ◌∷◌, ◌++◌, map, length, take, get_or, All, Option, Some, None}
-use Rattle.std.proofs.Common.{refl, sym, ap, ap₂, subst, ◌∙◌, arith, inl, inr}
-use Rattle.std.proofs.Common.{append-nil, append_assoc, length-append, eqb-true}
+use Rattle.std.proofs.Common.{List, [], ◌∷◌, ◌++◌, length, take, get_or, All, Option, Some, None}
+use Rattle.std.proofs.Common.{refl, sym, ap, subst, ◌∙◌, arith, inl, inr}
+use Rattle.std.proofs.Common.{length-append, eqb-true}
 use Rattle.std.specs.List.{list_any, range_with_len, flat_map, HoldsAt}
 use Rattle.std.proofs.lemmas.Bool.{cases_lt, or_cases}
-use Rattle.std.proofs.lemmas.List.{take_more, map-append, get_or-append-add, length-map, get_or-map}
-use Rattle.std.proofs.lemmas.List.Concat.{flat_map-append}
+use Rattle.std.proofs.lemmas.List.{get_or-append-add, length-map, get_or-map}
 use Rattle.std.proofs.Math.ListN.{get_or-append}
 use Rattle.sz_cells.specs.declared.Cell.{Cell}
 use Rattle.sz_cells.specs.declared.Run.{Run}
@@ -20,51 +19,29 @@ use Rattle.sz_frame.specs.Parts.{Entry}
 use Rattle.sz_tables.specs.Entries.{entry_at}
 use Rattle.sz_tables.specs.Filed.{Filed, Files}
 use Rattle.sz_tables.proofs.Chained.{entry-within}
+use Rattle.sz_tables.proofs.Filing.{each-none, each-next, each-room, each-run}
 use Rattle.sz_payload.specs.Owned.{AreFilesOf, IsFiledAt, rests, with_cells}
 use Rattle.sz_payload.proofs.Owning.{entry-kept, entry-last, long-more}
 
 -- ---- cells filed one after another
 
-abbrev made : Files → List Filed → ℕ → Files
-made f es room = record f { entries = es; spare = room }
+-- the entry of an index: a number under its rest
+abbrev rest_of : ℕ → ℕ → ℕ → Filed
+rest_of n = λ keys k. record { key = k % keys; item = n }
 
 -- no cell more changes nothing
 pub cells-none : (f : Files) (n : ℕ) → f ≡ with_cells f [] n
-cells-none f n =
-    let same : f.spare ≡ f.spare - 0 = omega arith in
-    ap₂ (made f) (sym (append-nil f.entries)) same
-
-cells-more : (f : Files) (ks more : List ℕ) (n : ℕ)
-    → with_cells (with_cells f ks n) more n ≡ with_cells f (ks ++ more) n
-cells-more f ks more n =
-    let room : f.spare - length ks - length more ≡ f.spare - length (ks ++ more) =
-    omega (arith, length-append ks more) in
-    ap₂ (made f)
-    (append_assoc f.entries (rests f.keys ks n) (rests f.keys more n)
-    ∙ ap (λ (es : List Filed). f.entries ++ es)
-    (sym (map-append (λ (k : ℕ). record { key = k % f.keys; item = n }) ks more)))
-    room
-
--- a range with one number more
-range-more : (a n j : ℕ) → a + n ≡ j → range_with_len a (n + 1) ≡ range_with_len a n ++ j ∷ []
-range-more a zero j at = let same : a ≡ j = omega arith in ap (λ (k : ℕ). k ∷ []) same
-range-more a (suc n) j at =
-    let more : suc n + 1 ≡ suc (n + 1) = omega arith in
-    rw more (ap (λ (ks : List ℕ). a ∷ ks) (range-more (a + 1) n j (omega arith)))
+cells-none f n = each-none (rest_of n) f
 
 -- one cell more
 pub cells-next : (f so_far new : Files) (a n k item : ℕ) → so_far ≡ with_cells f (range_with_len a n) item
     → new ≡ with_cells so_far (k ∷ []) item → a + n ≡ k → new ≡ with_cells f (range_with_len a (n + 1)) item
-cells-next f so_far new a n k item before more at =
-    more
-    ∙ ap (λ (g : Files). with_cells g (k ∷ []) item) before
-    ∙ cells-more f (range_with_len a n) (k ∷ []) item
-    ∙ ap (λ (ks : List ℕ). with_cells f ks item) (sym (range-more a n k at))
+cells-next f so_far new a n k item before more at = each-next (rest_of item) f so_far new a n k before more at
 
 -- room is left while fewer cells are filed than there was room for
 pub cells-room : (f so_far : Files) (ks : List ℕ) (item n : ℕ) → so_far ≡ with_cells f ks item
     → length ks + n ≤ f.spare → n ≤ so_far.spare
-cells-room f so_far ks item n before room = let spare = ap (λ (g : Files). g.spare) before in omega arith
+cells-room f so_far ks item n before room = each-room (rest_of item) f so_far ks n before room
 
 -- one run more
 pub cells-run : (f so_far new : Files) (runs : List Run) (i item : ℕ) (d : Run) → i < length runs
@@ -72,14 +49,7 @@ pub cells-run : (f so_far new : Files) (runs : List Run) (i item : ℕ) (d : Run
     → new ≡ with_cells so_far (indexes_of (get_or runs i d)) item
     → new ≡ with_cells f (flat_map indexes_of (take (i + 1) runs)) item
 cells-run f so_far new runs i item d inside before more =
-    let all : flat_map indexes_of (take (i + 1) runs) ≡ flat_map indexes_of (take i runs) ++ indexes_of
-    (get_or runs i d) =
-    rw (take_more runs i d inside, flat_map-append indexes_of (take i runs) (get_or runs i d ∷ []))
-    (ap (λ (ks : List ℕ). flat_map indexes_of (take i runs) ++ ks) (append-nil (indexes_of (get_or runs i d)))) in
-    more
-    ∙ ap (λ (g : Files). with_cells g (indexes_of (get_or runs i d)) item) before
-    ∙ cells-more f (flat_map indexes_of (take i runs)) (indexes_of (get_or runs i d)) item
-    ∙ ap (λ (ks : List ℕ). with_cells f ks item) (sym all)
+    each-run (rest_of item) f so_far new runs i d inside before more
 
 -- ---- one entry more
 

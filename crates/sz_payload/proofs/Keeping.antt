@@ -1,8 +1,9 @@
 -- A store's entries, index and room, when an entry more comes behind the others.
 use Rattle.std.proofs.Common.{◌≡◌, ℕ, zero, suc, ◌*◌, ◌<◌, ◌≤◌, Bool, true, false, true≢false}
-use Rattle.std.proofs.Common.{List, [], ◌∷◌, ◌++◌, length, take, drop}
-use Rattle.std.proofs.Common.{refl, sym, subst, ◌∙◌, arith, inl, inr}
+use Rattle.std.proofs.Common.{List, [], ◌∷◌, ◌++◌, length, take, drop, ◌+◌, get_or, append_assoc, length-append}
+use Rattle.std.proofs.Common.{refl, sym, ap, subst, ◌∙◌, arith, inl, inr}
 use Rattle.std.specs.Prelude.{All, sum_by}
+use Rattle.std.proofs.lemmas.List.{take_more, take-append-drop}
 use Rattle.std.proofs.lemmas.List.Elements.{All-nil, All-cons, All-head, All-tail}
 use Rattle.std.proofs.lemmas.Bool.{false_from_ne_true, or_cases, or_left, or_right}
 use Rattle.sz_cells.specs.declared.Cell.{Cell}
@@ -10,12 +11,14 @@ use Rattle.sz_cells.specs.Cells.{has}
 use Rattle.sz_frame.specs.Fits.{AreApart}
 use Rattle.sz_frame.specs.Parts.{Entry}
 use Rattle.sz_frame.specs.Stands.{has_entry}
+use Rattle.sz_spec.specs.Shapes.{Site}
 use Rattle.sz_tables.specs.Tables.{HasAtMostOneMore}
 use Rattle.sz_tables.proofs.Counted.{rest-more}
 use Rattle.sz_payload.specs.declared.owner.Owner.{Owner}
 use Rattle.sz_payload.specs.declared.owner.Owner.TheVariants.{One, Few, Many}
 use Rattle.sz_tables.specs.Rows.{runs_in}
-use Rattle.sz_tables.specs.Stores.{cells_in}
+use Rattle.sz_tables.specs.Stores.{cells_in, most_given}
+use Rattle.sz_payload.specs.Kept.{IsEntryOf}
 use Rattle.sz_payload.specs.Owned.{HasCellRoom, cell_room, room_in}
 
 -- ---- one payload more at most
@@ -105,3 +108,32 @@ pub front-long : {X : Type 0} (n : ℕ) (xs : List X) → length (take n xs) ≤
 front-long zero xs = omega arith
 front-long (suc n) [] = omega arith
 front-long (suc n) (x ∷ xs) = omega (arith, front-long n xs)
+
+-- ---- one entry after another
+
+-- an entry that comes next behind those given so far
+pub record IsNext (s : Site) (front es given : List Entry) (i : ℕ) (e : Entry) : Type 0 where
+  pub few : length given < most_given
+  pub entry : IsEntryOf s e
+  pub apart : AreApart (given ++ e ∷ [])
+  pub onward : given ++ e ∷ [] ≡ front ++ take (i + 1) es
+
+pub next-entry : (s now : Site) (front es given : List Entry) (i : ℕ) (e : Entry)
+    → (i < length es) × (get_or es i e ≡ e) → length front + length es ≤ most_given → All (IsEntryOf s) es
+    → AreApart (front ++ es) → now ≡ s → given ≡ front ++ take i es → IsNext now front es given i e
+next-entry s now front es given i e there few entries apart site so_far =
+    let more : take (i + 1) es ≡ take i es ++ e ∷ [] =
+    take_more es i e there.0 ∙ ap (λ (x : Entry). take i es ++ x ∷ []) there.1 in
+    let onward : given ++ e ∷ [] ≡ front ++ take (i + 1) es =
+    ap (λ (xs : List Entry). xs ++ e ∷ []) so_far ∙ append_assoc front (take i es) (e ∷ [])
+    ∙ ap (λ (xs : List Entry). front ++ xs) (sym more) in
+    let whole : front ++ es ≡ (front ++ take (i + 1) es) ++ drop (i + 1) es =
+    ap (λ (xs : List Entry). front ++ xs) (sym (take-append-drop (i + 1) es))
+    ∙ sym (append_assoc front (take (i + 1) es) (drop (i + 1) es)) in
+    record {
+      few = omega (arith, there.0, few, ap length so_far, length-append front (take i es), front-long i es);
+      entry = subst (λ (t : Site). IsEntryOf t e) (sym site) (subst (IsEntryOf s) there.1 (entries i e there.0));
+      apart = subst AreApart (sym onward)
+          (apart-front (front ++ take (i + 1) es) (drop (i + 1) es) (subst AreApart whole apart));
+      onward = onward;
+    }

@@ -1,7 +1,7 @@
 -- Payloads are short: none of them has more bytes than the largest set.
-use Rattle.std.proofs.Common.{◌≡◌, ℕ, ◌<◌, ◌≤◌, true, true≢false, List, [], ◌∷◌, length, get_or}
-use Rattle.std.proofs.Common.{sym, subst, arith}
-use Rattle.std.specs.Prelude.{All}
+use Rattle.std.proofs.Common.{◌≡◌, ℕ, ◌<◌, ◌≤◌, true, false, true≢false, List, [], ◌∷◌, length, get_or}
+use Rattle.std.proofs.Common.{sym, ap, subst, arith}
+use Rattle.std.specs.Prelude.{All, Ok}
 use Rattle.sz_cells.specs.Extent.{Extent, size_of}
 use Rattle.sz_cells.specs.Runs.{runs_of}
 use Rattle.sz_cells.specs.SetWords.{is_set_word, set_spelled}
@@ -9,13 +9,15 @@ use Rattle.sz_cells.proofs.Runs.{runs_of-longest, runs-length}
 use Rattle.sz_spec.specs.declared.op.Op.{Op}
 use Rattle.sz_spec.specs.declared.op.Op.TheVariants.{Lookup, Regions, Clean}
 use Rattle.sz_spec.specs.Payloads.{is_payload, is_none_or, is_column, is_flag}
-use Rattle.sz_spec.specs.Shapes.{Site}
+use Rattle.sz_spec.specs.Modes.{has_mapping}
+use Rattle.sz_spec.specs.Shapes.{Site, shape_of}
 use Rattle.sz_spec.specs.Values.{extent_at}
 use Rattle.sz_region.specs.PayBytes.{IsShort}
 use Rattle.sz_frame.specs.Parts.{Entry}
 use Rattle.sz_region.specs.Taking.{runs_bytes}
 use Rattle.sz_region.proofs.Spelling.{runs-long}
 use Rattle.sz_payload.specs.Kept.{IsEntryOf}
+use Rattle.sz_payload.proofs.Operators.{own-shape}
 use Rattle.sz_payload.proofs.SetWords.{word-set}
 
 column-short : (e : Extent) (p : List ℕ) → is_none_or (is_column e) p ≡ true → IsShort p
@@ -47,6 +49,14 @@ short-of Lookup ins p few lawful = column-short (extent_at ins 1) p lawful
 short-of (Regions t) ins p few lawful = set-short (extent_at ins 0) p few lawful
 short-of (Clean t) ins p few lawful = flag-short p lawful
 short-of _ ins p few lawful = absurd (true≢false (sym lawful))
+
+-- the first input of a site of payloads has the shape of the output, so it is small where that is
+pub first-small : (s t : Site) (shape : Extent) (size : ℕ) → has_mapping t.op ≡ false → s ≡ t
+    → shape_of s.op s.ins ≡ Ok s.out → shape ≡ s.out → size ≡ size_of shape → size ≤ 1048576
+    → size_of (extent_at s.ins 0) ≤ 1048576
+first-small s t shape size none same rule is count few =
+    let own : has_mapping s.op ≡ false = subst (λ (u : Site). has_mapping u.op ≡ false) (sym same) none in
+    omega (arith, few, count, ap size_of is, ap size_of (own-shape s.op s.ins s.out own rule))
 
 pub payloads-short : (s : Site) (ps : List (List ℕ)) → size_of (extent_at s.ins 0) ≤ 1048576
     → All (λ p. is_payload s.op s.ins p ≡ true) ps → All IsShort ps

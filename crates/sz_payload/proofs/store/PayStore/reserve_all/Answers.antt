@@ -1,20 +1,17 @@
 -- The entries stay as they were, and so does their index.
-use Rattle.std.proofs.Common.{◌≡◌, ℕ, ◌≤◌, true, false, List, map, ap, sym, subst, ◌∙◌, arith}
+use Rattle.std.proofs.Common.{◌≡◌, ℕ, true, List, map, ap, sym, subst, ◌∙◌}
 use Rattle.std.specs.Prelude.{All}
 use Rattle.std.specs.Arc.{arc_value}
-use Rattle.sz_cells.specs.Extent.{Extent, size_of}
-use Rattle.sz_spec.specs.Modes.{has_mapping}
+use Rattle.sz_cells.specs.Extent.{Extent}
 use Rattle.sz_spec.specs.Payloads.{is_payload}
 use Rattle.sz_spec.specs.Shapes.{Site}
-use Rattle.sz_spec.specs.Values.{extent_at}
 use Rattle.sz_frame.specs.Fits.{AreApart}
 use Rattle.sz_frame.specs.Parts.{Entry}
 use Rattle.sz_tables.specs.Entries.{EntryRows, entries}
 use Rattle.sz_payload.specs.Kept.{PayContents, IsEntryOf}
 use Rattle.sz_payload.specs.declared.owner.Owner.{Owner}
 use Rattle.sz_payload.specs.Owned.{IsIndexOf}
-use Rattle.sz_payload.proofs.Operators.{own-shape}
-use Rattle.sz_payload.proofs.Short.{entries-short}
+use Rattle.sz_payload.proofs.Short.{entries-short, first-small}
 use Rattle.sz_payload.proofs.store.PayStore.reserve_all.Goals as goal
 
 -- the index of entries of a table between these shapes, when it is made wider
@@ -27,16 +24,8 @@ widened e d es old new same index onward =
 pub bytes_of_all-bytes-requires-clause-short : goal.bytes_of_all-bytes-requires-clause-short
 bytes_of_all-bytes-requires-clause-short g c =
     let s = c.deref.result.now in
-    let none : has_mapping s.op ≡ false =
-    subst (λ (t : Site). has_mapping t.op ≡ false) (sym c.deref.ensures) c.self.invariant.0.none in
-    let first = own-shape s.op s.ins s.out none c.out.ensures.rule in
-    let few : size_of (extent_at s.ins 0) ≤ 1048576 = omega (
-      arith,
-      c.size.ensures.few,
-      c.size.ensures.value,
-      ap size_of c.out.ensures.value,
-      ap size_of first,
-    ) in
+    let few = first-small s (arc_value c.self.inside.at) c.out.result c.size.result c.self.invariant.0.none
+    c.deref.ensures c.out.ensures.rule c.out.ensures.value c.size.ensures.value c.size.ensures.few in
     let es : List Entry = map (λ a. arc_value a) c.args.entries.now in
     let own : c.args.self.now.store.site ≡ s =
     sym (ap (λ (k : PayContents). k.store.site) c.self.view_is) ∙ sym c.deref.ensures in
