@@ -1,5 +1,5 @@
--- Entries that are filed: of what a list is cut into, under the rests of what each is mixed to; and of indexes one after
--- another, with so much less room.
+-- Entries that are filed: of what a list is cut into, under the rests of what each is mixed to; and of indexes one
+-- after another, with so much less room.
 use Rattle.std.proofs.Common.{◌≡◌, ℕ, zero, suc, ◌+◌, ◌-◌, ◌%◌, ◌<◌, ◌≤◌, List, [], ◌∷◌, ◌++◌, length, map, get_or}
 use Rattle.std.proofs.Common.{take, refl, sym, ap, ap₂, ◌∙◌, arith, inl, inr, append-nil, append_assoc, length-append}
 use Rattle.std.specs.List.{HoldsAt, range_with_len, flat_map}

@@ -1,6 +1,6 @@
--- The lemmas on entries under keys, what is filed and what is one, sets and payloads by number, region pairs and payload entries as rows of these,
--- looks, counts of runs and cells, rectangles round sets, region pairs that are read, and
--- names of region pairs.
+-- The lemmas on entries under keys, what is filed and what is one, sets and payloads by number, region pairs and
+-- payload entries as rows of these, looks, counts of runs and cells, rectangles round sets, region pairs that are read,
+-- and names of region pairs.
 pub mod Chained
 pub mod Slices
 pub mod Filing

@@ -55,7 +55,8 @@ loop-i-preserved c =
           rw c.push_reserved.ensures.items
           (taken-more c.args.tables.now c.loop-i.tables (map (λ a. arc_value a) c.args.sets.now)
           c.args.names.now.items c.loop-i.names.items c.loop-i.i c.add_one-number.result c.add_one-number.new.table
-          c.index-tables-i.result c.loop-i.invariant.taken (omega (arith, on.many)) (rw on.is c.add_one-number.ensures));
+          c.index-tables-i.result c.loop-i.invariant.taken (omega (arith, on.many))
+          (rw on.is c.add_one-number.ensures));
       capacity = c.push_reserved.ensures.capacity ∙ c.loop-i.invariant.capacity;
     }
 

@@ -7,5 +7,5 @@ use Rattle.sz_tables.proofs.set_table.mix_of.Goals as goal
 pub returns : goal.returns
 returns c =
     mixed-ends mixed 16 c.args.runs.now c.min.result c.max.result c.min-start.result c.mix_more-first.result
-    c.mix_more.result c.min.ensures c.mix_more-first.ensures.mix (omega (arith, c.max.ensures, c.saturating_sub.ensures))
-    c.min-start.ensures c.mix_more.ensures.mix
+    c.mix_more.result c.min.ensures c.mix_more-first.ensures.mix
+    (omega (arith, c.max.ensures, c.saturating_sub.ensures)) c.min-start.ensures c.mix_more.ensures.mix

@@ -22,7 +22,8 @@ record IsOn (g : Over) (c : After-deref g) : Type 0 where
   pub next : IsNext c.loop-entry.self.store.site c.args.self.now.store.given (given_to g c)
       c.loop-entry.self.store.given c.loop-entry.entry-index c.deref.result.now
   pub runs : sum_by (λ x. runs_in x.out) (drop c.loop-entry.entry-index (given_to g c))
-      ≡ runs_in c.deref.result.now.out + sum_by (λ x. runs_in x.out) (drop (c.loop-entry.entry-index + 1) (given_to g c))
+      ≡ runs_in c.deref.result.now.out
+      + sum_by (λ x. runs_in x.out) (drop (c.loop-entry.entry-index + 1) (given_to g c))
   pub cells : sum_by (λ x. cells_in x.out) (drop c.loop-entry.entry-index (given_to g c))
       ≡ cells_in c.deref.result.now.out
       + sum_by (λ x. cells_in x.out) (drop (c.loop-entry.entry-index + 1) (given_to g c))

@@ -10,8 +10,8 @@ invariant_of-self-in_err-widen c =
     let kept = room-kept c.self.inside.spans.items _ _ _ _ _ _ c.reserve.ensures.items c.self.invariant.1
     (omega (arith, c.reserve.ensures.capacity)) c.self.invariant.2 (omega (arith, c.in_err-widen.ensures.err))
     c.self.invariant.3 in (
-      (rw c.reserve.ensures.items (numbered-widened c.self.inside.shape c.self.inside.runs.items c.self.inside.spans.items
-          c.self.inside.index c.widen.new.self c.self.invariant.0 c.widen.ensures.kept)),
+      (rw c.reserve.ensures.items (numbered-widened c.self.inside.shape c.self.inside.runs.items
+          c.self.inside.spans.items c.self.inside.index c.widen.new.self c.self.invariant.0 c.widen.ensures.kept)),
       kept.0,
       kept.1,
       kept.2,
