@@ -2,9 +2,9 @@
 --
 -- The key idea: what is open is made of lineages that fit, one of each placed piece; so it stands for the relation on
 -- these pieces, and where none is missing, on all. What is shared stands for the relation from the start.
-use Rattle.std.proofs.Common.{◌≡◌, ℕ, ◌/◌, ◌<◌, ◌==◌, Bool, true, false, not, ◌||◌, List, [], ◌∷◌, length, map}
+use Rattle.std.proofs.Common.{◌≡◌, ℕ, ◌/◌, ◌<◌, ◌==◌, Bool, true, false, List, [], ◌∷◌, length, map}
 use Rattle.std.proofs.Common.{get_or, ◌++◌, Some, None}
-use Rattle.std.proofs.Common.{refl, sym, ap, subst, ◌∙◌, true≢false, eqb-true, inl, inr}
+use Rattle.std.proofs.Common.{refl, sym, ap, subst, ◌∙◌, true≢false, inl, inr}
 use Rattle.std.specs.List.{All, list_any}
 use Rattle.std.specs.Arc.{arc_value}
 use Rattle.std.proofs.lemmas.Bool.{cases_Bool, and_parts}
@@ -16,7 +16,6 @@ use Rattle.sz_cells.proofs.Sets.{cells_where-ext, any_cell-ext}
 use Rattle.sz_spec.specs.declared.modes.Dir.{Dir}
 use Rattle.sz_spec.specs.declared.modes.Dir.TheVariants.{Back, Forward}
 use Rattle.sz_spec.specs.declared.modes.Strategy.{Strategy}
-use Rattle.sz_spec.specs.declared.modes.Strategy.TheVariants as strategy
 use Rattle.sz_spec.specs.Values.{extent_at}
 use Rattle.sz_spec.specs.Shapes.{Site}
 use Rattle.sz_spec.specs.Modes.{number_of, is_stored, is_listed}
@@ -29,7 +28,8 @@ use Rattle.sz_frame.specs.Laws.{IsTheRelation}
 use Rattle.sz_frame.proofs.Passing.{any-map}
 use Rattle.sz_store.specs.Kept.{Holding, regions, entries, Keep, NodeLineage, keep_with, with_lineage, with_lineages}
 use Rattle.sz_store.specs.Kept.{empty_keep, no_lineage, stored_in, is_placed, holding_for, holding_stands}
-use Rattle.sz_store.proofs.Parting.{holding_has, or-cases, stands-old}
+use Rattle.sz_store.proofs.Listed.{listed-stored}
+use Rattle.sz_store.proofs.Parting.{holding_has, stands-old}
 use Rattle.sz_store.proofs.Placed.{is-false, own-piece}
 use Rattle.sz_shelf.specs.Tags.{Tag, StandsFor, tag_pieces, tag_relation, tag_image}
 use Rattle.sz_shelf.specs.Contents.{is_in, missing_in}
@@ -242,43 +242,6 @@ made-none t = record {
 }
 
 -- ---- the store of a strategy
-
--- whether a strategy is stored is told by its number
-stored-number : (t : Strategy) → is_stored t ≡ not ((number_of t == 1) || (number_of t == 10))
-stored-number strategy.Map = refl
-stored-number strategy.FullOneB = refl
-stored-number strategy.FullOneF = refl
-stored-number strategy.FullManyB = refl
-stored-number strategy.FullManyF = refl
-stored-number strategy.PayOne = refl
-stored-number strategy.PayMany = refl
-stored-number strategy.CompOne = refl
-stored-number strategy.CompMany = refl
-stored-number strategy.BlackBox = refl
-
-same-stored : (t u : Strategy) → is_stored t ≡ true → (number_of u == number_of t) ≡ true → is_stored u ≡ true
-same-stored t u stored same =
-    let numbers : number_of u ≡ number_of t = eqb-true (number_of u) (number_of t) same in
-    stored-number u ∙ ap (λ (n : ℕ). not ((n == 1) || (n == 10))) numbers ∙ sym (stored-number t) ∙ stored
-
-or-second : (b c : Bool) → c ≡ true → (b || c) ≡ true
-or-second true c second = refl
-or-second false c second = second
-
--- a stored strategy of a list is among its stored ones
-listed-stored : (t : Strategy) (list : List Strategy) → is_stored t ≡ true → is_listed list t ≡ true
-    → is_listed (stored_in list) t ≡ true
-listed-stored t [] stored listed = listed
-listed-stored t (u ∷ list) stored listed =
-    elim (or-cases (number_of u == number_of t) (is_listed list t) listed) [
-      | inl here ↦ rw (same-stored t u stored here) (rw here refl)
-      | inr later ↦
-          let rest = listed-stored t list stored later in
-          elim (cases_Bool (is_stored u)) [
-            | inl own ↦ rw own (or-second (number_of u == number_of t) (is_listed (stored_in list) t) rest)
-            | inr none ↦ rw none rest
-          ]
-    ]
 
 -- what is so of each store is so of that of a strategy
 for-found : (P : Holding → Type 0) (t : Strategy) (fs : List Keep) → All (λ f. P f.holding) fs

@@ -6,5 +6,5 @@ pub mod Placed
 pub mod Lineages
 pub mod Placing
 pub mod Reading
-mod Listed
+pub mod Listed
 pub mod Orders

@@ -132,7 +132,7 @@ same-stored t u stored same =
     stored-number u ∙ ap (λ (n : ℕ). not ((n == 1) || (n == 10))) numbers ∙ sym (stored-number t) ∙ stored
 
 -- a stored strategy of a list is among its stored ones
-listed-stored : (t : Strategy) (list : List Strategy) → is_stored t ≡ true → is_listed list t ≡ true
+pub listed-stored : (t : Strategy) (list : List Strategy) → is_stored t ≡ true → is_listed list t ≡ true
     → is_listed (stored_in list) t ≡ true
 listed-stored t [] stored listed = listed
 listed-stored t (u ∷ list) stored listed =

@@ -34,10 +34,10 @@ use Rattle.sz_store.specs.Kept.{Holding, regions, entries, Keep, with_part, keep
 use Rattle.sz_store.specs.Kept.{empty_keep, stored_in, nothing_for, shapes_of, AreEntriesOf, AreParts, IsPartFor}
 use Rattle.sz_store.specs.Stocks.{stock_of, keep_of, site_of, mode_in, count_in, more_in, CanGrow, IsPartOf}
 use Rattle.sz_payload.specs.Kept.{IsEntryOf, part_of}
-use Rattle.sz_frame.specs.Fits.{Fits}
 use Rattle.sz_frame.specs.Images.{measure_of}
 use Rattle.sz_spec.specs.Values.{Grid}
 use Rattle.sz_store.specs.Laws.{FittingLineagesCanBePlaced}
+use Rattle.sz_store.specs.Needed.{FitsAsNeeded}
 use Rattle.sz_store.specs.Stocked.{AreOfPlaced, IsStocked, AreStocked}
 use Rattle.sz_store.specs.Words.{Begins, BeginEach}
 use Rattle.sz_store.specs.declared.stores.ListedStore.{ListedStore}
@@ -67,28 +67,29 @@ entry-shapes s inputs k e is = record {
   payload = is.payload;
 }
 
-fits-part : (s : Site) (inputs : List Grid) (list : List Strategy) (p : Parts) (m : Mode)
-    → Fits (measure_of s inputs) list p.piece p → needs list m ≡ true → IsPartFor s p m
-fits-part s inputs list p mode.Full fits need =
+pub needed-part : (s : Site) (inputs : List Grid) (list : List Strategy) (p : Parts) (m : Mode)
+    → FitsAsNeeded (measure_of s inputs) list p.piece p → needs list m ≡ true → IsPartFor s p m
+needed-part s inputs list p mode.Full fits need =
     All-weaker (IsRegion (measure_of s inputs) p.piece) (IsRegion (shapes_of s) p.piece)
     (region-shapes s inputs p.piece) p.regions (fits.full need).each
-fits-part s inputs list p mode.Pay fits need = record {
+needed-part s inputs list p mode.Pay fits need = record {
   each =
       All-weaker (IsEntry (measure_of s inputs) p.piece) (IsEntry (shapes_of s) p.piece)
       (entry-shapes s inputs p.piece) p.pays (fits.pay need).each;
   apart = (fits.pay need).apart;
 }
-fits-part s inputs list p mode.Comp fits need = record {
+needed-part s inputs list p mode.Comp fits need = record {
   each =
       All-weaker (IsEntry (measure_of s inputs) p.piece) (IsEntry (shapes_of s) p.piece)
       (entry-shapes s inputs p.piece) p.comps (fits.comp need).each;
   apart = (fits.comp need).apart;
 }
-fits-part s inputs list p mode.Map fits need = tt
-fits-part s inputs list p mode.BlackBox fits need = tt
+needed-part s inputs list p mode.Map fits need = tt
+needed-part s inputs list p mode.BlackBox fits need = tt
 
 pub fitting-placed : FittingLineagesCanBePlaced
-fitting-placed s inputs list p fits m need = fits-part s inputs list p m fits need
+fitting-placed s inputs list p fits m need =
+    needed-part s inputs list p m (record { full = fits.full; pay = fits.pay; comp = fits.comp }) need
 
 pairs-of : (s : Site) (k : ℕ) (rs : List Pairing) → All (IsRegion (shapes_of s) k) rs → All (IsPairOf s) rs
 pairs-of s k rs all =
