@@ -224,21 +224,10 @@ below-rest to test n fails =
           ap (λ (b : Bool). nat_lt i n && b) none ∙ and-false (nat_lt i n) ∙ sym none
     ])
 
--- one index more that passes
-pub one-more : (test : ℕ → Bool) (start n : ℕ) → ((k : ℕ) → start ≤ k → k < n → test k ≡ true) → test n ≡ true
-    → (k : ℕ) → start ≤ k → k < n + 1 → test k ≡ true
-one-more test start n before here k low high =
-    elim (cases_Bool (k == n)) [
-      | inl same ↦ ap test (eqb-true k n same) ∙ here
-      | inr other ↦
-          let apart : k ≡ n → ⊥ = λ same. true≢false (sym (eq-eqb k n same) ∙ other) in
-          before k low (omega (arith, high, apart))
-    ]
-
--- and one that fails
-pub one-idle : (test : ℕ → Bool) (idle n : ℕ) → ((k : ℕ) → idle ≤ k → k < n → test k ≡ false) → test n ≡ false
-    → (k : ℕ) → idle ≤ k → k < n + 1 → test k ≡ false
-one-idle test idle n before here k low high =
+-- one index more that is told as those before it
+pub one-more : (test : ℕ → Bool) (told : Bool) (start n : ℕ) → ((k : ℕ) → start ≤ k → k < n → test k ≡ told)
+    → test n ≡ told → (k : ℕ) → start ≤ k → k < n + 1 → test k ≡ told
+one-more test told start n before here k low high =
     elim (cases_Bool (k == n)) [
       | inl same ↦ ap test (eqb-true k n same) ∙ here
       | inr other ↦

@@ -17,6 +17,7 @@ ghost use Rattle.sz_ops_region.specs.Regions.{is_regions};
 ghost use Rattle.sz_refresh.specs.Changes.{reaches};
 ghost use Rattle.sz_refresh.specs.Names.{first_of};
 
+use crate::each::{Adder, add_each};
 use crate::named::{add_named, least_of, named};
 use std::alloc::Global;
 use std::sync::Arc;
@@ -77,29 +78,25 @@ fn firsts_of(alloc: Global, labels: &Array, from: &CellBits) -> Result<CellBits,
         (λ o. any_cell (λ x. is_cell (first_of labels.now x) o) from.now)) }
 {
     let mut firsts = CellBits::new(alloc, labels.shape())?;
-    add_firsts(labels, from, &mut firsts);
+    add_each(&Firsts { labels }, from, &mut firsts);
     Ok(firsts)
 }
 
-/// Adds them.
-fn add_firsts(labels: &Array, from: &CellBits, to: &mut CellBits)
-    requires from { from.now.extent ≡ labels.now.extent }
-    requires to { to.old.extent ≡ labels.now.extent }
-    ensures { to.new ≡ with_those to.old
-        (λ o. any_cell (λ x. is_cell (first_of labels.now x) o) from.now) }
-{
-    to.shape(); // the set as it was is that of its cells
-    let shape = from.shape();
-    let end = shape.size();
-    let mut start = 0;
-    while start < end {
-        match from.next_after(start) {
-            Some(index) => {
-                add_cell(to, first_of(labels, shape.cell_at(index)));
-                start = index + 1;
-            }
-            None => start = end,
-        }
+/// What a cell adds to them: the cell that its label names.
+#[derive(Drop)]
+struct Firsts<'a> {
+    labels: &'a Array,
+}
+
+impl<'a> Adder for Firsts<'a> {
+    ghost of = { λ f. f.labels.now.extent };
+
+    ghost into = { λ f. f.labels.now.extent };
+
+    ghost adds = { λ f o x. is_cell (first_of f.labels.now x) o };
+
+    fn add(&self, cell: Cell, to: &mut CellBits) {
+        add_cell(to, first_of(self.labels, cell));
     }
 }
 

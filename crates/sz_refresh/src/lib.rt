@@ -19,9 +19,11 @@
 //!
 //! What is affected is found in `reached`: by a mapping's image; of a cleaning near the changed
 //! cells (`near`); of regions by their labels (`labels`) and of a lookup by its keys, which are
-//! numbers that name cells (`named`); and of a set of all cells without a search (`whole`).
+//! numbers that name cells (`named`); and of a set of all cells without a search (`whole`). What
+//! each cell of a set adds to another set is added in `each`.
 #![tactic(auto)]
 
+mod each;
 mod flow;
 mod labels;
 pub mod laws;

@@ -58,77 +58,129 @@ pub(crate) fn output_after<R: Threads + Sync>(
         old.cells();
         Ok(Arc::try_clone(old)?)
     } else {
-        let out = made_after(rt, alloc, at, inputs, aid, old, labels, cells, count)?;
+        let renewal = Renewal {
+            at,
+            inputs,
+            aid,
+            old,
+            cells,
+        };
+        let out = renewal.made(rt, alloc, labels, count)?;
         Ok(Arc::new(alloc, out)?)
     }
 }
 
-/// The same, as an array of its own.
-fn made_after<R: Threads + Sync>(
-    rt: &R,
-    alloc: Global,
-    at: &OpAt,
-    inputs: &[Arc<Array>],
-    aid: &Aid,
-    old: &Array,
-    labels: Option<Array>,
-    cells: &CellSet,
-    count: &mut Tally,
-) -> Result<Array, NoMemory>
-    requires inputs { extents_of (map (λ a. arc_value a) inputs.now) ≡ at.now.ins }
-    requires aid { aid.now ≡ aid_of at.now.op (map (λ a. arc_value a) inputs.now) }
-    requires labels { IfSome labels
-        (λ out. out ≡ output_of at.now.op (map (λ a. arc_value a) inputs.now)) }
-    requires shape { old.now.extent ≡ at.now.out }
-    requires cells { cells.now.extent ≡ at.now.out }
-    requires others { KeepsOthers at.now (map (λ a. arc_value a) inputs.now) old.now cells.now }
-    requires room { count.old + size_of at.now.out < 2 ^ 63 }
-    ensures output { IfOk result (λ a. a
-        ≡ output_of at.now.op (map (λ a. arc_value a) inputs.now)) }
-    ensures ticks { OnOk result (count.new ≡ count.old + length cells.now.indexes) }
-{
-    at_work(at, inputs);
-    match labels {
-        Some(labels) => {
-            cells.shape(); // no more cells than the shape has
-            count_all(cells.count(), count);
-            Ok(labels)
-        }
-        None => made_anew(rt, alloc, at, inputs, aid, old, cells, count),
-    }
+/// What an output is made from: an operator, its inputs and what was prepared for them, and an
+/// array that holds all values of the output but those of some cells, which are to be computed.
+#[derive(Drop)]
+struct Renewal<'a> {
+    at: &'a OpAt,
+    inputs: &'a [Arc<Array>],
+    aid: &'a Aid,
+    old: &'a Array,
+    cells: &'a CellSet,
+    ghost right: { extents_of (map (λ a. arc_value a) inputs.now) ≡ at.now.ins },
+    ghost prepared: { aid.now ≡ aid_of at.now.op (map (λ a. arc_value a) inputs.now) },
+    ghost shape: { old.now.extent ≡ at.now.out },
+    ghost within: { cells.now.extent ≡ at.now.out },
+    ghost others: { KeepsOthers at.now (map (λ a. arc_value a) inputs.now) old.now cells.now },
 }
 
-/// The same where there are no labels: made as a run makes it, where that pays, or from the old
-/// output.
-fn made_anew<R: Threads + Sync>(
-    rt: &R,
-    alloc: Global,
-    at: &OpAt,
-    inputs: &[Arc<Array>],
-    aid: &Aid,
-    old: &Array,
-    cells: &CellSet,
-    count: &mut Tally,
-) -> Result<Array, NoMemory>
-    requires inputs { extents_of (map (λ a. arc_value a) inputs.now) ≡ at.now.ins }
-    requires aid { aid.now ≡ aid_of at.now.op (map (λ a. arc_value a) inputs.now) }
-    requires shape { old.now.extent ≡ at.now.out }
-    requires cells { cells.now.extent ≡ at.now.out }
-    requires others { KeepsOthers at.now (map (λ a. arc_value a) inputs.now) old.now cells.now }
-    requires room { count.old + size_of at.now.out < 2 ^ 63 }
-    ensures output { IfOk result (λ a. a
-        ≡ output_of at.now.op (map (λ a. arc_value a) inputs.now)) }
-    ensures ticks { OnOk result (count.new ≡ count.old + length cells.now.indexes) }
-{
-    at_work(at, inputs);
-    if is_made_whole(at.op(), cells) {
-        let out = run_prepared(alloc, at, inputs, aid)?;
-        cells.shape(); // no more cells than the shape has
-        count_all(cells.count(), count);
-        Ok(out)
-    } else {
-        let values = values_after(rt, alloc, at, inputs, aid, old, cells, count)?;
-        Ok(output_with(at, inputs, values))
+impl<'a> Renewal<'a> {
+    /// The output, as an array of its own: the labels where they are given, else made as a run
+    /// makes it, where that pays, or from the old output.
+    fn made<R: Threads + Sync>(
+        &self,
+        rt: &R,
+        alloc: Global,
+        labels: Option<Array>,
+        count: &mut Tally,
+    ) -> Result<Array, NoMemory>
+        requires labels { IfSome labels (λ out. out
+            ≡ output_of self.now.at.now.op (map (λ a. arc_value a) self.now.inputs.now)) }
+        requires room { count.old + size_of self.now.at.now.out < 2 ^ 63 }
+        ensures output { IfOk result (λ a. a
+            ≡ output_of self.now.at.now.op (map (λ a. arc_value a) self.now.inputs.now)) }
+        ensures ticks { OnOk result (count.new ≡ count.old + length self.now.cells.now.indexes) }
+    {
+        at_work(self.at, self.inputs);
+        match labels {
+            Some(labels) => {
+                self.count_cells(count);
+                Ok(labels)
+            }
+            None => {
+                if is_made_whole(self.at.op(), self.cells) {
+                    let out = run_prepared(alloc, self.at, self.inputs, self.aid)?;
+                    self.count_cells(count);
+                    Ok(out)
+                } else {
+                    let values = self.values(rt, alloc, count)?;
+                    Ok(output_with(self.at, self.inputs, values))
+                }
+            }
+        }
+    }
+
+    /// The values of all cells, of which some are computed and counted, and the others copied.
+    fn values<R: Threads + Sync>(
+        &self,
+        rt: &R,
+        alloc: Global,
+        count: &mut Tally,
+    ) -> Result<Vec<Value>, NoMemory>
+        requires room { count.old + size_of self.now.at.now.out < 2 ^ 63 }
+        ensures values { IfOk result (λ v. v.items ≡ values_before self.now.at.now
+            (map (λ a. arc_value a) self.now.inputs.now) (size_of self.now.at.now.out)) }
+        ensures ticks { OnOk result (count.new ≡ count.old + length self.now.cells.now.indexes) }
+    {
+        if is_side_by_side(self.at.op(), self.cells.count()) {
+            let values = self.values_side_by_side(rt, alloc)?;
+            self.count_cells(count);
+            Ok(values)
+        } else {
+            self.values_in_turn(alloc, count)
+        }
+    }
+
+    /// The same, the values computed side by side, and not counted: each place holds the old value,
+    /// and gets a new one where it is among the cells.
+    fn values_side_by_side<R: Threads + Sync>(
+        &self,
+        rt: &R,
+        alloc: Global,
+    ) -> Result<Vec<Value>, NoMemory>
+        ensures { IfOk result (λ v. v.items ≡ values_before self.now.at.now
+            (map (λ a. arc_value a) self.now.inputs.now) (size_of self.now.at.now.out)) }
+    {
+        let mut among = CellBits::new(alloc, self.cells.shape())?;
+        among.add_set(self.cells);
+        let mut values = copied(alloc, self.old)?;
+        renew_all(rt, self.at, self.inputs, self.aid, &among, &mut values);
+        Ok(values)
+    }
+
+    /// The same, the values computed and counted one after another.
+    fn values_in_turn(&self, alloc: Global, count: &mut Tally) -> Result<Vec<Value>, NoMemory>
+        requires room { count.old + size_of self.now.at.now.out < 2 ^ 63 }
+        ensures values { IfOk result (λ v. v.items ≡ values_before self.now.at.now
+            (map (λ a. arc_value a) self.now.inputs.now) (size_of self.now.at.now.out)) }
+        ensures ticks { OnOk result (count.new ≡ count.old + length self.now.cells.now.indexes) }
+    {
+        let mut values = Vec::from_slice(alloc, self.old.cells())?;
+        for run in self.cells.runs() {
+            compute(self.at, self.inputs, self.aid, *run, &mut values, count);
+        }
+        Ok(values)
+    }
+
+    /// Counts the cells that are to be computed, one after another.
+    fn count_cells(&self, tally: &mut Tally)
+        requires { tally.old + size_of self.now.at.now.out < 2 ^ 63 }
+        ensures { tally.new ≡ tally.old + length self.now.cells.now.indexes }
+    {
+        self.cells.shape(); // no more cells than the shape has
+        count_all(self.cells.count(), tally);
     }
 }
 
@@ -138,68 +190,10 @@ fn is_made_whole(op: &Op, cells: &CellSet) -> bool {
     is_whole(cells) && !matches!(op, Op::Clean { .. })
 }
 
-/// The values of all cells, of which some are computed and counted, and the others copied.
-fn values_after<R: Threads + Sync>(
-    rt: &R,
-    alloc: Global,
-    at: &OpAt,
-    inputs: &[Arc<Array>],
-    aid: &Aid,
-    old: &Array,
-    cells: &CellSet,
-    count: &mut Tally,
-) -> Result<Vec<Value>, NoMemory>
-    requires inputs { extents_of (map (λ a. arc_value a) inputs.now) ≡ at.now.ins }
-    requires aid { aid.now ≡ aid_of at.now.op (map (λ a. arc_value a) inputs.now) }
-    requires shape { old.now.extent ≡ at.now.out }
-    requires cells { cells.now.extent ≡ at.now.out }
-    requires others { KeepsOthers at.now (map (λ a. arc_value a) inputs.now) old.now cells.now }
-    requires room { count.old + size_of at.now.out < 2 ^ 63 }
-    ensures values { IfOk result (λ v. v.items
-        ≡ values_before at.now (map (λ a. arc_value a) inputs.now) (size_of at.now.out)) }
-    ensures ticks { OnOk result (count.new ≡ count.old + length cells.now.indexes) }
-{
-    if is_side_by_side(at.op(), cells.count()) {
-        values_side_by_side(rt, alloc, at, inputs, aid, old, cells, count)
-    } else {
-        values_in_turn(alloc, at, inputs, aid, old, cells, count)
-    }
-}
-
 /// Whether so many values of an operator are computed side by side. It settles the cost alone: it
 /// pays for an operator that reads many cells for each value.
 fn is_side_by_side(op: &Op, count: u32) -> bool {
     count >= SIDE_BY_SIDE_FROM && matches!(op, Op::Clean { .. } | Op::Convolve { .. })
-}
-
-/// The same, the values computed side by side: each place holds the old value, and gets a new one
-/// where it is among the cells.
-fn values_side_by_side<R: Threads + Sync>(
-    rt: &R,
-    alloc: Global,
-    at: &OpAt,
-    inputs: &[Arc<Array>],
-    aid: &Aid,
-    old: &Array,
-    cells: &CellSet,
-    count: &mut Tally,
-) -> Result<Vec<Value>, NoMemory>
-    requires inputs { extents_of (map (λ a. arc_value a) inputs.now) ≡ at.now.ins }
-    requires aid { aid.now ≡ aid_of at.now.op (map (λ a. arc_value a) inputs.now) }
-    requires shape { old.now.extent ≡ at.now.out }
-    requires cells { cells.now.extent ≡ at.now.out }
-    requires others { KeepsOthers at.now (map (λ a. arc_value a) inputs.now) old.now cells.now }
-    requires room { count.old + size_of at.now.out < 2 ^ 63 }
-    ensures values { IfOk result (λ v. v.items
-        ≡ values_before at.now (map (λ a. arc_value a) inputs.now) (size_of at.now.out)) }
-    ensures ticks { OnOk result (count.new ≡ count.old + length cells.now.indexes) }
-{
-    let mut among = CellBits::new(alloc, cells.shape())?;
-    among.add_set(cells);
-    let mut values = copied(alloc, old)?;
-    renew_all(rt, at, inputs, aid, &among, &mut values);
-    count_all(cells.count(), count);
-    Ok(values)
 }
 
 /// The values of an array.
@@ -276,33 +270,6 @@ fn renewed(
     } else {
         old
     }
-}
-
-/// The same, the values computed one after another.
-fn values_in_turn(
-    alloc: Global,
-    at: &OpAt,
-    inputs: &[Arc<Array>],
-    aid: &Aid,
-    old: &Array,
-    cells: &CellSet,
-    count: &mut Tally,
-) -> Result<Vec<Value>, NoMemory>
-    requires inputs { extents_of (map (λ a. arc_value a) inputs.now) ≡ at.now.ins }
-    requires aid { aid.now ≡ aid_of at.now.op (map (λ a. arc_value a) inputs.now) }
-    requires shape { old.now.extent ≡ at.now.out }
-    requires cells { cells.now.extent ≡ at.now.out }
-    requires others { KeepsOthers at.now (map (λ a. arc_value a) inputs.now) old.now cells.now }
-    requires room { count.old + size_of at.now.out < 2 ^ 63 }
-    ensures values { IfOk result (λ v. v.items
-        ≡ values_before at.now (map (λ a. arc_value a) inputs.now) (size_of at.now.out)) }
-    ensures ticks { OnOk result (count.new ≡ count.old + length cells.now.indexes) }
-{
-    let mut values = Vec::from_slice(alloc, old.cells())?;
-    for run in cells.runs() {
-        compute(at, inputs, aid, *run, &mut values, count);
-    }
-    Ok(values)
 }
 
 /// Computes the values of the cells of a run of indexes, and counts them.

@@ -7,7 +7,7 @@ use Rattle.sz_refresh.proofs.labels.firsts_of.Goals as goal
 
 pub returns : goal.returns
 returns c =
-    c.add_firsts.ensures
+    c.add_each.ensures
     ∙ ap (λ (set : Cells). with_those set
     (λ o. any_cell (λ x. is_cell (first_of c.args.labels.now x) o) c.args.from.now))
     (c.in_ok-firsts.ensures ∙ ap no_cells c.shape.ensures)

@@ -8,7 +8,7 @@ use Rattle.sz_cells.specs.Cells.{with_those}
 use Rattle.sz_frame.proofs.Added.{own-at}
 use Rattle.sz_refresh.specs.Names.{has_named, is_named}
 use Rattle.sz_refresh.proofs.Names.{is_below, below-none, below-more, below-skip, below-all, below-rest}
-use Rattle.sz_refresh.proofs.Names.{one-more, one-idle}
+use Rattle.sz_refresh.proofs.Names.{one-more}
 use Rattle.sz_refresh.proofs.named.add_named.Goals as goal
 use Rattle.sz_refresh.proofs.named.add_named.Goals.{then-has_named, else-has_named}
 use Rattle.sz_refresh.proofs.named.add_named.Goals.{then-is_named, else-is_named}
@@ -75,7 +75,7 @@ loop-index-preserved c =
           let past : i + 1 ≤ c.if-is_named.idle = grind (arith, nat_tests, w.idle-is, more) in (
             inv.0,
             omega (arith, w.start-is, inv.1),
-            λ k from high. one-more test c.loop-index.start i inv.2 passes k (omega (arith, from, w.start-is)) high,
+            λ k from high. one-more test true c.loop-index.start i inv.2 passes k (omega (arith, from, w.start-is)) high,
             w.to-is
                 ∙ inv.3
                 ∙ ap (λ (n : ℕ). with_those to (is_below test n to.extent)) (sym w.start-is),
@@ -93,7 +93,7 @@ loop-index-preserved c =
             w.to-is
                 ∙ below-skip to w.add_between-else-is_named.new.to test i fails added
                 ∙ ap (λ (n : ℕ). with_those to (is_below test n to.extent)) (sym w.start-is),
-            λ k low high. one-idle test c.loop-index.idle i inv.4 fails k (omega (arith, low, w.idle-is)) high,
+            λ k low high. one-more test false c.loop-index.idle i inv.4 fails k (omega (arith, low, w.idle-is)) high,
             λ j there. omega (arith, inv.5 j there, w.idle-is),
             λ j there. omega (arith, inv.6 j there, w.idle-is),
           )

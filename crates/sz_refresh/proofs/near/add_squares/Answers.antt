@@ -1,77 +1,12 @@
--- The cells of the set are met in rising order, and the numbers between them add nothing.
-use Rattle.std.proofs.Common.{◌≡◌, ℕ, ◌<◌, refl, sym, ap, subst, ◌∙◌, arith}
-use Rattle.sz_cells.specs.Extent.{Extent, size_of, cell_of}
+-- The shape of the squares is that of the set.
+use Rattle.std.proofs.Common.{ap, ◌∙◌}
+use Rattle.sz_cells.specs.Extent.{Extent}
 use Rattle.sz_cells.specs.Cells.{any_cell, with_those}
-use Rattle.sz_spec.specs.declared.modes.Dir.TheVariants.{Forward}
 use Rattle.sz_spec.specs.Operators.Clean.{is_in_square}
-use Rattle.sz_frame.specs.Walks.{stepped, added}
-use Rattle.sz_frame.proofs.Added.{with-none, with-ext, own-at, next-is, next-none, stepped-next}
-use Rattle.sz_frame.proofs.Added.{stepped-skip, any_cell-added}
 use Rattle.sz_refresh.proofs.near.add_squares.Goals as goal
-
-pub loop-start-init : goal.loop-start-init
-loop-start-init c =
-    let e = c.args.from.now.extent in
-    let to = c.args.to.now in
-    let shape : c.shape-shape-2.result ≡ e = c.shape-shape-2.ensures.value in (
-      shape,
-      c.size-end.ensures.value ∙ ap size_of shape,
-      omega arith,
-      with-none to (added e (stepped Forward (λ o x. is_in_square e x o) c.args.from.now) 0) (own-at to to.extent refl
-          c.shape-shape.ensures.rising) (λ x held. refl),
-    )
-
-pub cell_at-requires : goal.cell_at-requires
-cell_at-requires c =
-    let e = c.args.from.now.extent in
-    let next = next-is c.args.from.now e c.loop-start.start c.in-Some.index refl c.shape-shape-2.ensures.rising
-    (sym c.next_after.ensures ∙ c.in-Some.is) in
-    subst (λ (f : Extent). c.in-Some.index < size_of f) (sym c.loop-start.invariant.0) next.high
-
-pub loop-start-smaller-in-Some : goal.loop-start-smaller-in-Some
-loop-start-smaller-in-Some c =
-    let e = c.args.from.now.extent in
-    let next = next-is c.args.from.now e c.loop-start.start c.in-Some.index refl c.shape-shape-2.ensures.rising
-    (sym c.next_after.ensures ∙ c.in-Some.is) in
-    omega (arith, next.low, next.high, c.loop-start.invariant.1)
-
-pub loop-start-preserved-in-Some : goal.loop-start-preserved-in-Some
-loop-start-preserved-in-Some c =
-    let e = c.args.from.now.extent in
-    let inv = c.loop-start.invariant in
-    let next = next-is c.args.from.now e c.loop-start.start c.in-Some.index refl c.shape-shape-2.ensures.rising
-    (sym c.next_after.ensures ∙ c.in-Some.is) in
-    let at = c.cell_at.ensures.value ∙ ap (λ (f : Extent). cell_of f c.in-Some.index) inv.0 in (
-      inv.0,
-      inv.1,
-      omega (arith, next.high),
-      stepped-next Forward e (λ o x. is_in_square e x o) c.args.from.now c.args.to.now c.loop-start.to c.square.new.to
-          c.loop-start.start c.in-Some.index c.cell_at.result next inv.3 at
-          (c.square.ensures
-          ∙ ap (λ (f : Extent). with_those c.loop-start.to (is_in_square f c.cell_at.result)) inv.0),
-    )
-
-pub loop-start-preserved : goal.loop-start-preserved
-loop-start-preserved c =
-    let e = c.args.from.now.extent in
-    let inv = c.loop-start.invariant in
-    let none = next-none c.args.from.now e c.loop-start.start refl (sym c.next_after.ensures ∙ c.in-None.is) in (
-      inv.0,
-      inv.1,
-      omega (arith, inv.1),
-      stepped-skip Forward e (λ o x. is_in_square e x o) c.args.from.now c.args.to.now c.loop-start.to
-          c.loop-start.start
-          c.size-end.result (omega (arith, inv.1, inv.2)) (λ k low high. none k low (omega (arith, inv.1))) inv.3,
-    )
 
 pub returns : goal.returns
 returns c =
-    let e = c.args.from.now.extent in
-    let from = c.args.from.now in
-    let adds = stepped Forward (λ o x. is_in_square e x o) from in
-    let inv = c.loop-start.invariant in
-    let all : c.loop-start.start ≡ size_of e = omega (arith, inv.1, inv.2) in
-    inv.3
-    ∙ ap (λ (n : ℕ). with_those c.args.to.now (added e adds n)) all
-    ∙ with-ext c.args.to.now (added e adds (size_of e)) (λ o. any_cell (λ x. is_in_square e x o) from)
-    (λ o held. any_cell-added e from (λ x. is_in_square e x o) (own-at from e refl c.shape-shape-2.ensures.rising))
+    c.add_each.ensures
+    ∙ ap (λ (e : Extent). with_those c.args.to.now (λ o. any_cell (λ x. is_in_square e x o) c.args.from.now))
+    c.shape.ensures.value

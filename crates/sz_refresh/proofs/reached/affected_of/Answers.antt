@@ -13,7 +13,7 @@ use Rattle.sz_refresh.proofs.Changes.{reached_by, reached-none, reached-next, re
 use Rattle.sz_refresh.proofs.Changes.{given-some, given-none, given-shape}
 use Rattle.sz_refresh.proofs.Runs.{out-over}
 use Rattle.sz_refresh.proofs.reached.affected_of.Goals as goal
-use Rattle.sz_refresh.proofs.reached.affected_of.Goals.{in-Some+in_ok-add_reached-in-Some, in-None}
+use Rattle.sz_refresh.proofs.reached.affected_of.Goals.{At-loop-number, in-Some+in_ok-add_reached-in-Some, in-None}
 
 pub loop-number-init : goal.loop-number-init
 loop-number-init c =
@@ -22,17 +22,15 @@ loop-number-init c =
     ∙ reached-none c.args.at.now.op (map (λ a. arc_value a) c.args.old.now) (map (λ a. arc_value a) c.args.new.now)
     (map (changed_from c.args.input c.args.changed.now c.args.sets.now) c.args.from.now) c.args.at.now.out
 
+-- the numbers end with the sources
+ends : (c : At-loop-number) → c.arity-number-end.result ≡ length c.args.from.now
+ends c =
+    omega (arith, c.arity-number-end.ensures, ap arity c.op.ensures.value, c.ins.ensures.arity, c.requires.count)
+
 pub add_reached-requires-clause-set : goal.add_reached-requires-clause-set
 add_reached-requires-clause-set c =
     let inside : c.loop-number.number < length c.args.from.now =
-    omega (
-      arith,
-      c.loop-number-test.true,
-      c.arity-number-end.ensures,
-      ap arity c.op.ensures.value,
-      c.ins.ensures.arity,
-      c.requires.count,
-    ) in
+    omega (arith, c.loop-number-test.true, ends (goal.at.add_reached-requires-clause-set c).At-loop-number) in
     given-shape c.args.input c.args.changed.now c.args.sets.now c.args.at.now.ins c.args.from.now c.loop-number.number _
     c.in-Some.set.now c.requires.shapes inside c.in-Some.ensures.0 c.in-Some.ensures.1
 
@@ -46,14 +44,7 @@ loop-number-preserved c =
     let f = changed_from c.args.input c.args.changed.now c.args.sets.now in
     let changes : List Cells = map f from in
     let inside : n < length from =
-    omega (
-      arith,
-      c.loop-number-test.true,
-      c.arity-number-end.ensures,
-      ap arity c.op.ensures.value,
-      c.ins.ensures.arity,
-      c.requires.count,
-    ) in
+    omega (arith, c.loop-number-test.true, ends (goal.at.loop-number-preserved c).At-loop-number) in
     let so_far = c.loop-number.invariant in
     elim c.match-changed_from.branch [
       | in-Some+in_ok-add_reached-in-Some w ↦
@@ -80,10 +71,7 @@ returns c =
       arith,
       c.loop-number-test.false,
       c.loop-number.auto.number-end,
-      c.arity-number-end.ensures,
-      ap arity c.op.ensures.value,
-      c.ins.ensures.arity,
-      c.requires.count,
+      ends (goal.at.returns c).At-loop-number,
       length-map from (changed_from c.args.input c.args.changed.now c.args.sets.now),
     ) in
     IfOk-weaker c.to_set.result _ _

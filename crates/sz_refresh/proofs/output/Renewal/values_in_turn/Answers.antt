@@ -9,7 +9,7 @@ use Rattle.sz_cells.specs.Extent.{Extent, size_of}
 use Rattle.sz_cells.proofs.Runs.{runs-at, spelled-more}
 use Rattle.sz_spec.specs.Values.{Grid}
 use Rattle.sz_refresh.proofs.Outputs.{IsComputed, computed-next, computed-all, room-left}
-use Rattle.sz_refresh.proofs.output.values_in_turn.Goals as goal
+use Rattle.sz_refresh.proofs.output.Renewal.values_in_turn.Goals as goal
 
 -- what stands where no run does
 abbrev zero : Run
@@ -17,20 +17,20 @@ zero = record { first = 0; last = 0 }
 
 pub compute-requires-clause-order : goal.compute-requires-clause-order
 compute-requires-clause-order c =
-    (runs-at 0 (size_of c.args.cells.now.extent) c.runs-run-items.result.now c.loop-run.run-index zero
+    (runs-at 0 (size_of c.args.self.now.cells.now.extent) c.runs-run-items.result.now c.loop-run.run-index zero
     c.runs-run-items.ensures.spelled.longest c.loop-run-test.true).1
 
 pub compute-requires-clause-within : goal.compute-requires-clause-within
 compute-requires-clause-within c =
     let r = get_or c.runs-run-items.result.now c.loop-run.run-index zero in
-    subst (λ (e : Extent). r.last < size_of e) c.requires.cells
-    (runs-at 0 (size_of c.args.cells.now.extent) c.runs-run-items.result.now c.loop-run.run-index zero
+    subst (λ (e : Extent). r.last < size_of e) c.args.self.now.within
+    (runs-at 0 (size_of c.args.self.now.cells.now.extent) c.runs-run-items.result.now c.loop-run.run-index zero
     c.runs-run-items.ensures.spelled.longest c.loop-run-test.true).2
 
 pub compute-requires-clause-room : goal.compute-requires-clause-room
 compute-requires-clause-room c =
-    let set = c.args.cells.now in
-    let same : size_of set.extent ≡ size_of c.args.at.now.out = ap size_of c.requires.cells in
+    let set = c.args.self.now.cells.now in
+    let same : size_of set.extent ≡ size_of c.args.self.now.at.now.out = ap size_of c.args.self.now.within in
     omega (
       arith,
       c.requires.room,
@@ -43,8 +43,8 @@ compute-requires-clause-room c =
 
 pub loop-run-preserved : goal.loop-run-preserved
 loop-run-preserved c =
-    let s = c.args.at.now in
-    let inputs : List Grid = map (λ a. arc_value a) c.args.inputs.now in
+    let s = c.args.self.now.at.now in
+    let inputs : List Grid = map (λ a. arc_value a) c.args.self.now.inputs.now in
     let runs = c.runs-run-items.result.now in
     let n = c.loop-run.run-index in
     let inv = c.loop-run.invariant in
@@ -56,22 +56,22 @@ loop-run-preserved c =
     ∙ take-append_seam new (drop (length new) c.loop-run.values.items) in
     let same : length new ≡ length c.loop-run.values.items =
     c.compute.auto.values ∙ ap (λ (vs : List (Option ℤ)). length vs) c.deref_mut.ensures.value in
-    let next = computed-next s inputs c.args.old.now.values c.loop-run.values.items new runs n zero inv.0
+    let next = computed-next s inputs c.args.self.now.old.now.values c.loop-run.values.items new runs n zero inv.0
     c.loop-run-test.true same c.compute.ensures.inside
     (λ k out.
     c.compute.ensures.outside k out
     ∙ ap (λ (vs : List (Option ℤ)). get_or vs k None) c.deref_mut.ensures.value) in (
-      subst (λ (vs : List (Option ℤ)). IsComputed s inputs c.args.old.now.values vs runs (n + 1)) (sym items) next,
+      subst (λ (vs : List (Option ℤ)). IsComputed s inputs c.args.self.now.old.now.values vs runs (n + 1)) (sym items) next,
       omega (arith, c.compute.ensures.ticks, inv.1, spelled-more runs n zero c.loop-run-test.true),
     )
 
 pub returns-clause-values : goal.returns-clause-values
 returns-clause-values c =
-    let s = c.args.at.now in
-    let inputs : List Grid = map (λ a. arc_value a) c.args.inputs.now in
+    let s = c.args.self.now.at.now in
+    let inputs : List Grid = map (λ a. arc_value a) c.args.self.now.inputs.now in
     let runs = c.runs-run-items.result.now in
     let all : c.loop-run.run-index ≡ length runs =
     omega (arith, c.loop-run-test.false, c.loop-run.auto.run-index-end) in
-    computed-all s inputs c.args.old.now c.loop-run.values.items runs c.args.cells.now
-    (subst (λ (m : ℕ). IsComputed s inputs c.args.old.now.values c.loop-run.values.items runs m) all
-    c.loop-run.invariant.0) c.runs-run-items.ensures.spelled c.requires.cells c.requires.others
+    computed-all s inputs c.args.self.now.old.now c.loop-run.values.items runs c.args.self.now.cells.now
+    (subst (λ (m : ℕ). IsComputed s inputs c.args.self.now.old.now.values c.loop-run.values.items runs m) all
+    c.loop-run.invariant.0) c.runs-run-items.ensures.spelled c.args.self.now.within c.args.self.now.others
