@@ -6,7 +6,7 @@ use Rattle.std.proofs.Common.{◌≡◌, ℕ, zero, suc, ◌-◌, ◌^◌, true,
 use Rattle.std.proofs.Common.{Some, None, refl, arith, subst, inl, inr}
 use Rattle.sz_outside.specs.Counts.{faults_after}
 use Rattle.sz_outside.specs.Disk.{bytes_at, written, HasSize, HasPlace, GivesAt, Holds, Writes, Cuts, Torn, Cut}
-use Rattle.sz_outside.specs.Disk.{SaidPart, WritesPart, CutsOrNot}
+use Rattle.sz_outside.specs.Disk.{SaidPart, WritesPart, CutsOrNot, Follows}
 use Rattle.sz_outside.specs.History.{Event, Scene, scene_before, scene_at, with_ones, MayLeave, LeftSince}
 use Rattle.sz_outside.specs.Memory.{ledger_before, is_stopped, is_next_done, is_write_done, image_by}
 use Rattle.sz_outside.specs.declared.history.Act.{Act}
@@ -190,6 +190,14 @@ after disk calls = scene_at (scene_before disk) calls
 abbrev one_write : Bool → Scene
 one_write is_done = after (5 ∷ 6 ∷ 7 ∷ []) (call (act.Write 1) (9 ∷ []) is_done ∷ [])
 
+-- the second of three bytes is torn
+torn_middle : Follows (Torn 1 1) (λ image. image ≡ 5 ∷ 6 ∷ 7 ∷ []) (5 ∷ 77 ∷ 7 ∷ [])
+torn_middle = (
+  5 ∷ 6 ∷ 7 ∷ [],
+  refl,
+  record { before = refl; after = refl; no_shorter = omega arith; no_longer = omega arith },
+)
+
 pub write-new : image_by torn.New (one_write true) ≡ 5 ∷ 9 ∷ 7 ∷ []
 write-new = refl
 
@@ -200,11 +208,7 @@ pub write-ones : image_by torn.Ones (one_write true) ≡ 5 ∷ 1 ∷ 7 ∷ []
 write-ones = refl
 
 pub write-any : MayLeave (one_write true) (5 ∷ 77 ∷ 7 ∷ [])
-write-any = inr (
-  5 ∷ 6 ∷ 7 ∷ [],
-  refl,
-  record { before = refl; after = refl; no_shorter = omega arith; no_longer = omega arith },
-)
+write-any = inr torn_middle
 
 pub write-outside : MayLeave (one_write true) (5 ∷ 9 ∷ 8 ∷ []) → ⊥
 write-outside (inl e) = let f = e in cc
@@ -224,11 +228,7 @@ pub failed_write-ones : image_by torn.Ones (one_write false) ≡ 5 ∷ 1 ∷ 7 �
 failed_write-ones = refl
 
 pub failed_write-any : MayLeave (one_write false) (5 ∷ 77 ∷ 7 ∷ [])
-failed_write-any = inr (
-  5 ∷ 6 ∷ 7 ∷ [],
-  refl,
-  record { before = refl; after = refl; no_shorter = omega arith; no_longer = omega arith },
-)
+failed_write-any = inr torn_middle
 
 -- behind a sync there is only what is read, and behind one that failed also what was before
 abbrev write_and_sync : Bool → Scene

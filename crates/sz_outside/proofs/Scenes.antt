@@ -12,7 +12,7 @@ use Rattle.std.proofs.lemmas.Bool.{cases_lt}
 use Rattle.sz_outside.specs.Disk.{Passes, Follows, Torn, written}
 use Rattle.sz_outside.specs.History.{Event, Scene, Shows, scene_before, scene_at, scene_after, with_ones, step_of}
 use Rattle.sz_outside.specs.History.{MayLeave, images_after, LeavesNow, LeavesIn, LeftSince, left_now}
-use Rattle.sz_outside.specs.Memory.{Past, now, noted}
+use Rattle.sz_outside.specs.Memory.{Past, now, noted, past_after}
 use Rattle.sz_outside.specs.declared.history.Act.{Act}
 use Rattle.sz_outside.specs.declared.history.Act.TheVariants as act
 
@@ -278,12 +278,11 @@ from_same p a bytes d =
     }
 
 -- so in each call of a history
-pub from_call : {T E : Type 0} (r : Result T E) (p q : Past) (a : Act) (bytes : List ℕ) (d : Bool)
-    → Fits a (now p) → OnOk r (q ≡ noted p a bytes d) → OnErr r (q ≡ p) → From p q a bytes d
-from_call (Ok x) p q a bytes d fits ok err =
-    subst (λ (t : Past). From p t a bytes d) (sym ok) (from_noted p a bytes d fits)
-from_call (Err x) p q a bytes d fits ok err =
-    subst (λ (t : Past). From p t a bytes d) (sym err) (from_same p a bytes d)
+pub from_call : (p q : Past) (a : Act) (bytes : List ℕ) (d k : Bool) → Fits a (now p) → q ≡ past_after p a bytes d k
+    → From p q a bytes d
+from_call p q a bytes d true fits is =
+    subst (λ (t : Past). From p t a bytes d) (sym is) (from_noted p a bytes d fits)
+from_call p q a bytes d false fits is = subst (λ (t : Past). From p t a bytes d) (sym is) (from_same p a bytes d)
 
 -- ---- what is read and said after a call
 
@@ -320,28 +319,17 @@ disk_after s act.Say bytes false same = refl
 disk_after s (act.Write at) bytes d same = absurd same
 disk_after s (act.Cut size) bytes d same = absurd same
 
--- what is said stays in a call that is no say
-pub said_stays : {T E : Type 0} (r : Result T E) (p q : Past) (a : Act) (bytes : List ℕ) (d : Bool) → same_said a
-    → OnOk r (q ≡ noted p a bytes d) → OnErr r (q ≡ p) → (now q).said ≡ (now p).said
-said_stays (Ok x) p q a bytes d not_say ok err =
-    ap (λ (t : Past). (now t).said) ok ∙ ap (λ (t : Scene). t.said)
-    (scene_last (scene_before p.start) p.events (event a bytes d))
-    ∙ said_after (now p) a bytes d not_say
-said_stays (Err x) p q a bytes d not_say ok err = ap (λ (t : Past). (now t).said) err
-
--- the disk stays in a call that changes none
-pub disk_stays : {T E : Type 0} (r : Result T E) (p q : Past) (a : Act) (bytes : List ℕ) (d : Bool) → same_disk a
-    → OnOk r (q ≡ noted p a bytes d) → OnErr r (q ≡ p) → (now q).disk ≡ (now p).disk
-disk_stays (Ok x) p q a bytes d same ok err =
-    ap (λ (t : Past). (now t).disk) ok ∙ ap (λ (t : Scene). t.disk)
-    (scene_last (scene_before p.start) p.events (event a bytes d))
-    ∙ disk_after (now p) a bytes d same
-disk_stays (Err x) p q a bytes d same ok err = ap (λ (t : Past). (now t).disk) err
-
 -- what there is after a call that was noted
 pub now_noted : (p q : Past) (a : Act) (bytes : List ℕ) (d : Bool) → q ≡ noted p a bytes d
     → now q ≡ scene_after (now p) (event a bytes d)
 now_noted p q a bytes d is = ap now is ∙ scene_last (scene_before p.start) p.events (event a bytes d)
+
+-- what such a call leaves stays, whether it was noted or not
+pub stays : {T : Type 0} (part : Scene → T) (p q : Past) (a : Act) (bytes : List ℕ) (d k : Bool)
+    → part (scene_after (now p) (event a bytes d)) ≡ part (now p) → q ≡ past_after p a bytes d k
+    → part (now q) ≡ part (now p)
+stays part p q a bytes d true same is = ap part (now_noted p q a bytes d is) ∙ same
+stays part p q a bytes d false same is = ap (λ (t : Past). part (now t)) is
 
 even_written : (ones disk : List ℕ) (at : ℕ) (marks bytes : List ℕ) → length ones ≡ length disk
     → length marks ≡ length bytes → length (written ones at marks) ≡ length (written disk at bytes)

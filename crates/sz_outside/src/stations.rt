@@ -305,6 +305,22 @@ impl MemStation {
         Err(Failed)
     }
 
+    /// Makes a disk call that changes nothing.
+    fn look(&mut self) -> Result<(), Failed>
+        ensures counted { self.new.disk_faults ≡ faults_after self.old.disk_faults (is_ok result) }
+        ensures disk { Some (disk_of self.new) ≡ Some (disk_of self.old) }
+        ensures output { (Some (said_of self.new) ≡ Some (said_of self.old))
+            × (self.new.say_faults ≡ self.old.say_faults) }
+        ensures stops { PassesIn self.old self.new Same (Said (Some (said_of self.old))) }
+        ensures after { (is_kept : Bool)
+            × (self.new ≡ after_disk_call self.old act.Look [] (is_next_done self.old) is_kept)
+            × (is_ok result ≡ (is_next_done self.old && is_kept)) }
+    {
+        let is_done = self.next_disk_call();
+        let kept = self.history.note_look(is_done);
+        self.end_disk_call(is_done, kept)
+    }
+
     /// Counts what became of a say, and answers it.
     fn end_say(&mut self, is_done: bool, kept: Result<(), NoMemory>) -> Result<(), Failed>
         ensures answer { is_ok result ≡ (is_done && is_ok kept) }
@@ -362,9 +378,7 @@ impl Station for MemStation {
             × (self.new ≡ after_disk_call self.old act.Look [] (is_next_done self.old) is_kept)
             × (is_ok result ≡ (is_next_done self.old && is_kept)) }
     {
-        let is_done = self.next_disk_call();
-        let kept = self.history.note_look(is_done);
-        self.end_disk_call(is_done, kept)?;
+        self.look()?;
         Ok(self.history.disk().len() as u64)
     }
 
@@ -382,9 +396,7 @@ impl Station for MemStation {
             × (self.new ≡ after_disk_call self.old act.Look [] (is_next_done self.old) is_kept)
             × (is_ok result ≡ (is_next_done self.old && is_kept)) }
     {
-        let is_done = self.next_disk_call();
-        let kept = self.history.note_look(is_done);
-        self.end_disk_call(is_done, kept)?;
+        self.look()?;
         Ok(give_at(self.history.disk(), at, into))
     }
 

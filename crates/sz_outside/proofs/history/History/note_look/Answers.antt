@@ -9,12 +9,10 @@ pub invariant_of-self : goal.invariant_of-self
 invariant_of-self c =
     shows_call c.push_call.result (scene_before c.self.inside.start.items) c.self.inside.calls.items _
     (record { act = act.Look; bytes = []; is_done = true }) c.push_call.ensures.ok c.push_call.ensures.err
-    c.self.invariant
-    (c.self.invariant)
+    c.self.invariant c.self.invariant
 
 pub invariant_of-self-else-is_done : goal.invariant_of-self-else-is_done
 invariant_of-self-else-is_done c =
     shows_call c.push_call-else-is_done.result (scene_before c.self.inside.start.items) c.self.inside.calls.items _
     (record { act = act.Look; bytes = []; is_done = false }) c.push_call-else-is_done.ensures.ok
-    c.push_call-else-is_done.ensures.err c.self.invariant
-    (c.self.invariant)
+    c.push_call-else-is_done.ensures.err c.self.invariant c.self.invariant

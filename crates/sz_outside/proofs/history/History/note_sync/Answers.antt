@@ -9,14 +9,7 @@ pub invariant_of-self : goal.invariant_of-self
 invariant_of-self c =
     shows_call c.push_call.result (scene_before c.self.inside.start.items) c.self.inside.calls.items _
     (record { act = act.Sync; bytes = []; is_done = false }) c.push_call.ensures.ok c.push_call.ensures.err
-    c.self.invariant
-    (record {
-      disk = c.self.invariant.disk;
-      said = c.self.invariant.said;
-      synced = c.self.invariant.synced;
-      ones = c.self.invariant.ones;
-      torn = c.self.invariant.torn;
-    })
+    c.self.invariant c.self.invariant
 
 pub invariant_of-self-2 : goal.invariant_of-self-2
 invariant_of-self-2 c =
