@@ -1,5 +1,4 @@
-//! Plans that were worked out by hand, and plans of small flows against a plain twin that looks at
-//! every choice.
+//! Plans of small flows against a plain twin that looks at every choice.
 
 use crate::offers::{Asks, offer_of};
 use crate::planning::{Planned, plan};
@@ -96,36 +95,6 @@ fn planned(
         return Err("at most 32 nodes and 65,536 units".into());
     }
     Ok(in_digits(&plan(alloc, nodes, units, back, forward)?))
-}
-
-#[test]
-fn plans_worked_out_by_hand(rt: HostRuntime) -> Result<(), Fail> {
-    let alloc = rt.alloc();
-    let clean = vec![in alloc; node(alloc, Op::Clean { t: 10 }, 2, 2)?]?;
-    // black box, full_one_b, and where full_one_f costs the same
-    assert_eq!(rt; planned(alloc, &clean, 0, 1, 0)?, (16, 0, 9));
-    assert_eq!(rt; planned(alloc, &clean, 1, 1, 0)?, (1, 1, 1));
-    assert_eq!(rt; planned(alloc, &clean, 1, 1, 1)?, (5, 1, 1));
-    assert_eq!(rt; planned(alloc, &clean, 1, 0, 1)?, (1, 1, 2));
-    let two = vec![in alloc;
-        node(alloc, Op::Clean { t: 10 }, 2, 2)?,
-        node(alloc, Op::Clean { t: 10 }, 2, 2)?,
-    ]?;
-    assert_eq!(rt; planned(alloc, &two, 1, 1, 0)?, (17, 1, 19));
-    let neg = vec![in alloc; node(alloc, Op::Neg, 1, 3)?]?;
-    assert_eq!(rt; planned(alloc, &neg, 0, 1, 0)?, (1, 0, 0));
-    Ok(())
-}
-
-#[test]
-fn a_unit_goes_where_it_is_worth_most(rt: HostRuntime) -> Result<(), Fail> {
-    let alloc = rt.alloc();
-    let two = vec![in alloc;
-        node(alloc, Op::Clean { t: 10 }, 2, 2)?,
-        node(alloc, Op::Clean { t: 10 }, 4, 4)?,
-    ]?;
-    assert_eq!(rt; planned(alloc, &two, 1, 1, 0)?, (17, 1, 91));
-    Ok(())
 }
 
 #[test]

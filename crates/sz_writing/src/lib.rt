@@ -13,7 +13,5 @@
 
 mod cells;
 mod line;
-#[cfg(test)]
-mod tests;
 
 pub use line::line_of_array;

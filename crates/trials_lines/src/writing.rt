@@ -1,10 +1,10 @@
 //! The bytes of lines. That they are read as the array again is proved.
 
-use crate::line_of_array;
 use std::alloc::Global;
 use std::test::Fail;
 use sz_cells::Shape;
 use sz_spec::{Array, Value};
+use sz_writing::line_of_array;
 
 /// An array of these layers, with these cells.
 fn array(
