@@ -1,8 +1,10 @@
-//! Tests of the log, of the words of a call, of claims and of what is generated.
+//! Tests of sources and stations, of the log, of the words of a call, of claims and of what is
+//! generated.
 //!
 //! A crate is proved once for those above it and once more with its tests. So tests that call
-//! public functions alone stand in a crate that has nothing else. The module `groups` tests
-//! `sz_log`, `generated` tests `sz_gen`, and the others the crates that they are named for.
+//! public functions alone stand in a crate that has nothing else. The modules `sources`
+//! and `stations` test `sz_outside`, `groups` tests `sz_log`, `generated` tests `sz_gen`, and the
+//! others the crates that they are named for.
 #![tactic(auto)]
 
 #[cfg(test)]
@@ -11,5 +13,9 @@ mod claims;
 mod generated;
 #[cfg(test)]
 mod groups;
+#[cfg(test)]
+mod sources;
+#[cfg(test)]
+mod stations;
 #[cfg(test)]
 mod words;

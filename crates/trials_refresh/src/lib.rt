@@ -1,4 +1,4 @@
-//! Tests of refreshed flows, beside flows that are started anew.
+//! Tests of flows that are started, and of refreshed ones beside flows that are started anew.
 #![tactic(auto)]
 
 #[cfg(test)]
@@ -7,3 +7,5 @@ mod agreed;
 mod asked;
 #[cfg(test)]
 mod refreshed;
+#[cfg(test)]
+mod started;

@@ -16,7 +16,7 @@ use sz_refresh::Refreshed;
 use sz_spec::{Array, Flow, Fold, Kernel, Node, Op, SourceList, SourceRef, Tally, Value};
 
 /// An array of so many layers.
-fn layers(
+pub(crate) fn layers(
     alloc: Global,
     layers: u32,
     height: u32,
@@ -40,7 +40,7 @@ fn numbers(alloc: Global, numbers: &[i64]) -> Result<Vec<Value>, NoMemory> {
 }
 
 /// An array of one row of numbers.
-fn row(alloc: Global, cells: &[i64]) -> Result<Arc<Array>, Fail> {
+pub(crate) fn row(alloc: Global, cells: &[i64]) -> Result<Arc<Array>, Fail> {
     let Ok(cols) = u32::try_from(cells.len()) else {
         return Err("the row is too long".into())
     };
@@ -59,13 +59,18 @@ fn mixed(alloc: Global, rows: u32, cols: u32, at: u32, other: i64) -> Result<Arc
 }
 
 /// A node of one source.
-fn over(alloc: Global, op: Op, first: SourceRef) -> Result<Node, NoMemory> {
+pub(crate) fn over(alloc: Global, op: Op, first: SourceRef) -> Result<Node, NoMemory> {
     let from = SourceList::of(vec![in alloc; first]?);
     Ok(Node { op, from })
 }
 
 /// A node of two sources.
-fn over_two(alloc: Global, op: Op, first: SourceRef, second: SourceRef) -> Result<Node, NoMemory> {
+pub(crate) fn over_two(
+    alloc: Global,
+    op: Op,
+    first: SourceRef,
+    second: SourceRef,
+) -> Result<Node, NoMemory> {
     let from = SourceList::of(vec![in alloc; first, second]?);
     Ok(Node { op, from })
 }
@@ -107,7 +112,7 @@ fn are_same(one: &[NodeRun], other: &[NodeRun]) -> bool {
 }
 
 /// The runs of a flow over arrays, where it can be run over them.
-fn run_over<R: Threads + Sync>(
+pub(crate) fn run_over<R: Threads + Sync>(
     rt: &R,
     alloc: Global,
     flow: &Flow,

@@ -11,23 +11,28 @@ use sz_frame::{add_cell, has_cell, set_of_cell};
 use sz_region::{Take, put_set, take_set};
 
 /// The shape of four rows and five columns.
-fn four_by_five() -> Result<Shape, Fail>
+pub(crate) fn four_by_five() -> Result<Shape, Fail>
     ensures { IfOk result (λ s. s ≡ flat 4 5) }
 {
     Ok(Shape::make(4, 5).ok_or("four rows of five columns are a shape")?)
 }
 
-#[test]
-fn a_set_is_written_and_read_again(rt: HostRuntime) -> Result<(), Fail> {
-    let alloc = rt.alloc();
-    let shape = four_by_five()?;
+/// The set of three cells of the second row and one of the third.
+pub(crate) fn set_of_four(alloc: Global) -> Result<CellSet, Fail> {
     let cells = [
         Cell { row: 2, col: 0 },
         Cell { row: 1, col: 1 },
         Cell { row: 1, col: 0 },
         Cell { row: 1, col: 2 },
     ];
-    let set = CellSet::from_cells(alloc, shape, &cells)?;
+    Ok(CellSet::from_cells(alloc, four_by_five()?, &cells)?)
+}
+
+#[test]
+fn a_set_is_written_and_read_again(rt: HostRuntime) -> Result<(), Fail> {
+    let alloc = rt.alloc();
+    let shape = four_by_five()?;
+    let set = set_of_four(alloc)?;
     let mut bytes = vec![in alloc; 9u8]?;
     put_set(&set, &mut bytes)?;
     assert_eq!(rt;

@@ -67,7 +67,7 @@ fn entries_are_read_and_those_of_one_cell_refused(rt: HostRuntime) -> Result<(),
 }
 
 /// The shape of one cell.
-fn one_cell() -> Result<Shape, Fail>
+pub(crate) fn one_cell() -> Result<Shape, Fail>
     ensures { IfOk result (λ s. s ≡ flat 1 1) }
 {
     Ok(Shape::make(1, 1).ok_or("one row of one column is a shape")?)
