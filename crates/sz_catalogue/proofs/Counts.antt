@@ -3,7 +3,7 @@
 -- The key idea: one entry more or one entry changed is one term of the sum, and what no rule refuses is within the
 -- limits that the rules name.
 use Rattle.std.proofs.Common.{◌≡◌, ℕ, ◌+◌, ◌<◌, ◌≤◌, Bool, true, false, not, ◌&&◌, ◌||◌, nat_lt, nat_le, List, [], ◌∷◌}
-use Rattle.std.proofs.Common.{length, Option, Some, None, is_none, refl, ap, ◌∙◌, arith}
+use Rattle.std.proofs.Common.{length, Option, Some, None, is_none, refl, sym, ap, subst, ◌∙◌, arith}
 use Rattle.std.proofs.Common.{unwrap_or, option_map, ◌==◌}
 use Rattle.std.specs.Ordering.{nat_cmp}
 use Rattle.std.specs.Cmp.{nat_cmp_total}
@@ -12,6 +12,7 @@ use Rattle.std.specs.Map.{keys_of, set_value}
 use Rattle.std.specs.BTreeMap.{is_at}
 use Rattle.std.proofs.lemmas.List.Sums.{sum_by-append}
 use Rattle.std.proofs.lemmas.Map.Entries.{sum_by-set_value, sum_by-insert_entry}
+use Rattle.std.proofs.lemmas.Bool.{not-false}
 use Rattle.std.proofs.lemmas.Bool.Decides.{nat_tests}
 use Rattle.sz_cells.specs.Extent.{size_of}
 use Rattle.sz_spec.specs.Values.{Grid}
@@ -23,10 +24,11 @@ use Rattle.sz_catalogue.specs.Holdings.{Version, Holdings, version_numbered, hel
 use Rattle.sz_catalogue.specs.Rules.{first_of, judged, has_room, has_no_room_for_array, most_arrays}
 use Rattle.sz_catalogue.specs.Rules.{most_cells, most_versions}
 use Rattle.sz_catalogue.specs.Rules.{has_no_flow, has_no_array, has_wrong_base, has_broken_shapes, first_broken}
-use Rattle.sz_catalogue.specs.Rules.{has_no_room_for_version, greatest_number, has_too_many_units, most_units}
+use Rattle.sz_catalogue.specs.Rules.{has_no_room_for_version, greatest_number}
 use Rattle.sz_catalogue.specs.Holdings.{Named, next_number}
 use Rattle.sz_catalogue.specs.Starts.{version_started, workflow_of}
 use Rattle.sz_catalogue.specs.Changes.{with_array, with_version, with_await}
+use Rattle.sz_catalogue.specs.Kept.{KeepsLimits}
 
 -- where nothing refuses, the first rule does not hold, and no later one refuses
 pub first-passed : (b : Bool) (r : Refusal) (rest : List (Bool × Refusal)) → first_of ((b, r) ∷ rest) ≡ None
@@ -41,6 +43,15 @@ neither false b h = (refl, h)
 pub both : (a b : Bool) → (a && b) ≡ true → (a ≡ true) × (b ≡ true)
 both true b h = (refl, h)
 both false b h = (cc)
+
+-- no limit is passed where as many cells and the same arrays are held
+pub limits-kept : {n : ℕ} {c d : Holdings} → held_cells d ≡ held_cells c → d.arrays ≡ c.arrays → KeepsLimits n c
+    → KeepsLimits n d
+limits-kept cells arrays h = record {
+  counted = h.counted ∙ sym cells;
+  few_cells = h.few_cells;
+  few_arrays = subst (λ (xs : List (Named Grid)). length xs ≤ most_arrays) (sym arrays) h.few_arrays;
+}
 
 -- a version that is awaited
 await-from : (c : Holdings) (n : ℕ) (o : Option Version) → version_numbered c n ≡ o → is_none o ≡ false
@@ -121,35 +132,6 @@ start-known c name base h =
     let e = first-passed (has_broken_shapes c name base) (rule.ShapesDoNotFit (first_broken c name base)) last d.1 in
     let f = first-passed (has_no_room_for_version c name base) rule.NoRoomForVersion [] e.1 in
     record { flow = a.0; arrays = b.0; count = d.0; fits = e.0; room = f.0 }
-
--- what is known of a plan that nothing refuses
-pub record IsPlan (c : Holdings) (name : List ℕ) (base : List BaseName) (units : ℕ) : Type 0 where
-  pub flow : has_no_flow c name ≡ false
-  pub arrays : has_no_array c base ≡ false
-  pub count : has_wrong_base c name base ≡ false
-  pub fits : has_broken_shapes c name base ≡ false
-  pub few : units ≤ most_units
-
-pub plan-known : (c : Holdings) (name : List ℕ) (base : List BaseName) (units back forward : ℕ)
-    → judged c (command.Plan name base units back forward) ≡ None → IsPlan c name base units
-plan-known c name base units back forward h =
-    let last : List (Bool × Refusal) = (has_too_many_units units, rule.TooManyUnits) ∷ [] in
-    let fourth : List (Bool × Refusal) =
-    (has_broken_shapes c name base, rule.ShapesDoNotFit (first_broken c name base)) ∷ last in
-    let third : List (Bool × Refusal) = (has_wrong_base c name base, rule.WrongBase) ∷ fourth in
-    let second : List (Bool × Refusal) = (has_no_array c base, rule.NoSuchArray) ∷ third in
-    let a = first-passed (has_no_flow c name) rule.NoSuchFlow second h in
-    let b = first-passed (has_no_array c base) rule.NoSuchArray third a.1 in
-    let d = first-passed (has_wrong_base c name base) rule.WrongBase fourth b.1 in
-    let e = first-passed (has_broken_shapes c name base) (rule.ShapesDoNotFit (first_broken c name base)) last d.1 in
-    let f = first-passed (has_too_many_units units) rule.TooManyUnits [] e.1 in
-    record { flow = a.0; arrays = b.0; count = d.0; fits = e.0; few = within units f.0 } where
-      within : (n : ℕ) → nat_lt most_units n ≡ false → n ≤ most_units
-      within n f = grind (arith, nat_tests)
-
-not-false : (b : Bool) → not b ≡ false → b ≡ true
-not-false true h = refl
-not-false false h = (cc)
 
 -- its count, and the room for its outputs and for its number
 pub right-count : (c : Holdings) (name : List ℕ) (base : List BaseName) → has_wrong_base c name base ≡ false

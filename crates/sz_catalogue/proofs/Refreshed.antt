@@ -2,7 +2,7 @@
 --
 -- The key idea: the array has the shape of the one in whose place it comes, so all shapes are as they were, and what
 -- ran over the old arrays runs over the new ones; and it is the last of its name.
-use Rattle.std.proofs.Common.{◌≡◌, ℕ, zero, suc, ◌+◌, ◌-◌, ◌<◌, ◌≤◌, Bool, true, false, not, ◌&&◌, ◌||◌, List, [], ◌∷◌}
+use Rattle.std.proofs.Common.{◌≡◌, ℕ, zero, suc, ◌+◌, ◌-◌, ◌<◌, ◌≤◌, Bool, true, false, ◌&&◌, ◌||◌, List, [], ◌∷◌}
 use Rattle.std.proofs.Common.{◌++◌}
 use Rattle.std.proofs.Common.{map, length, get_or, Option, Some, None, unwrap_or, refl, sym, ap, subst, ◌∙◌, arith}
 use Rattle.std.proofs.Common.{if◌then◌else◌, slice_set}
@@ -10,6 +10,7 @@ use Rattle.std.specs.Prelude.{All, nat_lt, nat_le, option_map, Result, Ok}
 use Rattle.std.specs.List.{slice_get}
 use Rattle.std.specs.Result.{result_unwrap_or, result_err}
 use Rattle.std.specs.Str.{bytes_eq}
+use Rattle.std.proofs.lemmas.Bool.{not-false}
 use Rattle.std.proofs.lemmas.Bool.Decides.{nat_tests}
 use Rattle.std.proofs.lemmas.List.{length-set, length-append}
 use Rattle.std.proofs.lemmas.List.Elements.{All-set}
@@ -201,11 +202,8 @@ refresh-known c n i set free =
       versions = b.0;
       there = d.0;
       awaited = f.0;
-      input = on (has_input (version_of c n) i) g.0;
-    } where
-      on : (b : Bool) → not b ≡ false → b ≡ true
-      on true h = refl
-      on false h = (cc)
+      input = not-false (has_input (version_of c n) i) g.0;
+    }
 
 -- ---- all that is asked of it
 

@@ -1,7 +1,8 @@
 -- Rows of the limits on what is held: on both sides of each of them, by catalogues that are written out.
 --
 -- The key idea: a catalogue is its lists, so one with thousands of things is written as such a list, and no command has
--- to be followed through. Expected texts by hand.
+-- to be followed through. A row is what is held, a command, and the text that it is answered by. Expected texts by
+-- hand.
 use Rattle.std.proofs.Common.{◌≡◌, ℕ, ◌+◌, List, [], ◌∷◌, map, refl}
 use Rattle.std.specs.Prelude.{codes}
 use Rattle.std.specs.List.{range_with_len}
@@ -16,7 +17,7 @@ use Rattle.sz_planner.specs.Costs.{cheapest, cost_over, least_cost, offer_over, 
 use Rattle.sz_script.specs.declared.command.Command.{Command}
 use Rattle.sz_script.specs.declared.command.Command.TheVariants as command
 use Rattle.sz_catalogue.specs.Holdings.{Holdings, no_holdings}
-use Rattle.sz_catalogue.proofs.RowsSaid.{after, says, base, five, negation, a, f, hold_five}
+use Rattle.sz_catalogue.proofs.RowsSaid.{after, AreSaid, base, five, negation, a, f, hold_five}
 use Rattle.sz_catalogue.proofs.RowsSaid.{two_shapes, version}
 
 -- ---- how many things are held
@@ -27,22 +28,6 @@ arrays n = record no_holdings {
   arrays = map (λ k. record { name = f; thing = five }) (range_with_len 0 n);
 }
 
-array-4096 : says (arrays 4095) hold_five ≡ codes "array a 1"
-unfolding digits
-array-4096 = refl
-
-array-4097 : says (arrays 4096) hold_five ≡ codes "refused 7"
-unfolding digits
-array-4097 = refl
-
-layers-4096 : says (arrays 4095) (command.Layers f five) ≡ codes "array f 4096"
-unfolding digits
-layers-4096 = refl
-
-layers-4097 : says (arrays 4096) (command.Layers a five) ≡ codes "refused 7"
-unfolding digits
-layers-4097 = refl
-
 -- so many flows, each named by one number
 abbrev flows : ℕ → Holdings
 flows n = record no_holdings {
@@ -50,34 +35,29 @@ flows n = record no_holdings {
       map (λ k. (k ∷ [], record { graph = negation; lists = (strategy.Map ∷ []) ∷ [] })) (range_with_len 0 n);
 }
 
-flow-1024 : says (flows 1023) (command.Flow (codes "ff") negation) ≡ codes "flow ff"
-flow-1024 = refl
-
-flow-1025 : says (flows 1024) (command.Flow (codes "ff") negation) ≡ codes "refused 9"
-unfolding digits
-flow-1025 = refl
-
 -- so many versions, from 1
 abbrev versions : ℕ → Holdings
 versions n = record two_shapes {
   versions = map (λ k. (k + 1, version)) (range_with_len 0 n);
 }
 
-start-4096 : says (versions 4095) (command.Start f (base a 1 ∷ base a 1 ∷ [])) ≡ codes "started 4096"
+counts : AreSaid (
+    (arrays 4095, hold_five, codes "array a 1")
+    ∷ (arrays 4096, hold_five, codes "refused 7")
+    ∷ (arrays 4095, command.Layers f five, codes "array f 4096")
+    ∷ (arrays 4096, command.Layers a five, codes "refused 7")
+    ∷ (flows 1023, command.Flow (codes "ff") negation, codes "flow ff")
+    ∷ (flows 1024, command.Flow (codes "ff") negation, codes "refused 9")
+    ∷ (versions 4095, command.Start f (base a 1 ∷ base a 1 ∷ []), codes "started 4096")
+    ∷ (versions 4096, command.Start f (base a 1 ∷ base a 1 ∷ []), codes "refused 14")
+    -- as many versions as may be, and shapes that do not fit
+    ∷ (versions 4096, command.Start f (base a 1 ∷ base f 1 ∷ []), codes "refused 13 0")
+    ∷ [])
 unfolding digits
-start-4096 = refl
-
-start-4097 : says (versions 4096) (command.Start f (base a 1 ∷ base a 1 ∷ [])) ≡ codes "refused 14"
-unfolding digits
-start-4097 = refl
-
--- as many versions as may be, and shapes that do not fit
-start-4097_unequal : says (versions 4096) (command.Start f (base a 1 ∷ base f 1 ∷ [])) ≡ codes "refused 13 0"
-unfolding digits
-start-4097_unequal = refl
+counts = refl
 
 -- a plan holds nothing, so it is not refused there
-plan-4097 : says (versions 4096) (command.Plan f (base a 1 ∷ base a 1 ∷ []) 0 1 2) ≡ codes "plan 6 0 map"
+plan-4097 : AreSaid ((versions 4096, command.Plan f (base a 1 ∷ base a 1 ∷ []) 0 1 2, codes "plan 6 0 map") ∷ [])
 unfolding digits offer_of others offers_among offers_of black_box_of cheapest cost_over least_cost offer_over
     list_within
 plan-4097 = refl
@@ -88,22 +68,14 @@ plan-4097 = refl
 abbrev numbered : ℕ → Holdings
 numbered n = record two_shapes { versions = (n, version) ∷ [] }
 
-start-behind_7 : says (numbered 7) (command.Start f (base a 1 ∷ base a 1 ∷ [])) ≡ codes "started 8"
+numbers : AreSaid (
+    (numbered 7, command.Start f (base a 1 ∷ base a 1 ∷ []), codes "started 8")
+    ∷ (numbered 4294967294, command.Start f (base a 1 ∷ base a 1 ∷ []), codes "started 4294967295")
+    ∷ (numbered 4294967295, command.Start f (base a 1 ∷ base a 1 ∷ []), codes "refused 14")
+    ∷ (numbered 4294967295, command.Start f (base a 1 ∷ base f 1 ∷ []), codes "refused 13 0")
+    ∷ [])
 unfolding digits
-start-behind_7 = refl
-
-start-greatest : says (numbered 4294967294) (command.Start f (base a 1 ∷ base a 1 ∷ [])) ≡ codes "started 4294967295"
-unfolding digits
-start-greatest = refl
-
-start-past_greatest : says (numbered 4294967295) (command.Start f (base a 1 ∷ base a 1 ∷ [])) ≡ codes "refused 14"
-unfolding digits
-start-past_greatest = refl
-
-start-past_greatest_unequal : says (numbered 4294967295) (command.Start f (base a 1 ∷ base f 1 ∷ []))
-    ≡ codes "refused 13 0"
-unfolding digits
-start-past_greatest_unequal = refl
+numbers = refl
 
 -- ---- cells
 
@@ -120,44 +92,26 @@ full = after no_holdings (
     shaped a (flat 1024 1024) ∷ shaped a (flat 1024 1024) ∷ shaped a (flat 1024 1024) ∷ shaped a (flat 1023 1024)
     ∷ command.Flow f (first_cols 511) ∷ command.Flow (codes "g") (first_cols 512) ∷ [])
 
-array-last : says full (shaped f (flat 1 1024)) ≡ codes "array f 1"
-unfolding digits
-array-last = refl
+-- an array of 513 cells more
+abbrev nearly : Holdings
+nearly = after full (shaped f (flat 1 513) ∷ [])
 
-array-past : says full (shaped f (flat 1 1025)) ≡ codes "refused 7"
-unfolding digits
-array-past = refl
-
-layers-last : says full (command.Layers a (record { extent = layered 16 1 64; values = [] })) ≡ codes "array a 5"
-unfolding digits
-layers-last = refl
-
-layers-past : says full (command.Layers a (record { extent = layered 5 5 41; values = [] })) ≡ codes "refused 7"
-unfolding digits
-layers-past = refl
-
--- an array of 513 cells, and an output of 511 and of 512
-start-last : says (after full (shaped f (flat 1 513) ∷ [])) (command.Start f (base f 1 ∷ [])) ≡ codes "started 1"
-unfolding digits
-start-last = refl
-
-start-past : says (after full (shaped f (flat 1 513) ∷ [])) (command.Start (codes "g") (base f 1 ∷ []))
-    ≡ codes "refused 14"
-unfolding digits
-start-past = refl
-
--- outputs are counted for an array too, and for the next version: 512 cells and 511 are held behind the others
+-- 512 cells and 511 are held behind the others
 abbrev fuller : Holdings
 fuller = after full (shaped f (flat 1 512) ∷ command.Start f (base f 1 ∷ []) ∷ [])
 
-array-behind_outputs : says fuller (shaped a (flat 1 1)) ≡ codes "array a 5"
+cells : AreSaid (
+    (full, shaped f (flat 1 1024), codes "array f 1")
+    ∷ (full, shaped f (flat 1 1025), codes "refused 7")
+    ∷ (full, command.Layers a (record { extent = layered 16 1 64; values = [] }), codes "array a 5")
+    ∷ (full, command.Layers a (record { extent = layered 5 5 41; values = [] }), codes "refused 7")
+    -- an output of 511 cells and of 512
+    ∷ (nearly, command.Start f (base f 1 ∷ []), codes "started 1")
+    ∷ (nearly, command.Start (codes "g") (base f 1 ∷ []), codes "refused 14")
+    -- outputs are counted for an array too, and for the next version
+    ∷ (fuller, shaped a (flat 1 1), codes "array a 5")
+    ∷ (fuller, shaped a (flat 1 2), codes "refused 7")
+    ∷ (fuller, command.Start f (base f 1 ∷ []), codes "refused 14")
+    ∷ [])
 unfolding digits
-array-behind_outputs = refl
-
-array-past_outputs : says fuller (shaped a (flat 1 2)) ≡ codes "refused 7"
-unfolding digits
-array-past_outputs = refl
-
-start-past_outputs : says fuller (command.Start f (base f 1 ∷ [])) ≡ codes "refused 14"
-unfolding digits
-start-past_outputs = refl
+cells = refl

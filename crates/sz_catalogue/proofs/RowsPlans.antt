@@ -1,8 +1,8 @@
 -- Rows of plans: what a plan is answered, at the edge of each rule and for small flows.
 --
--- The key idea: at written-out flows and shapes the list that is read off is a computation, so each row is its own
--- proof. Expected texts by hand: a node that cleans 2 by 2 cells costs 16 back by black box, and 1 by full_one_b, whose
--- store of 16 * 4 * 9 bytes takes one unit.
+-- The key idea: at written-out flows and shapes the list that is read off is a computation, so a table of rows is its own
+-- proof. A row is what is held, a command, and the text that it is answered by. Expected texts by hand: a node that
+-- cleans 2 by 2 cells costs 16 back by black box, and 1 by full_one_b, whose store of 16 * 4 * 9 bytes takes one unit.
 use Rattle.std.proofs.Common.{◌≡◌, List, ℕ, [], ◌∷◌, pos, refl}
 use Rattle.std.specs.Prelude.{codes}
 use Rattle.std.specs.Fmt.{digits}
@@ -15,7 +15,7 @@ use Rattle.sz_planner.specs.Costs.{cheapest, cost_over, least_cost, offer_over, 
 use Rattle.sz_script.specs.declared.command.Command.TheVariants as command
 use Rattle.sz_catalogue.specs.Holdings.{Holdings}
 use Rattle.sz_catalogue.specs.Changes.{after_command}
-use Rattle.sz_catalogue.proofs.RowsSaid.{after, says, grid, base, a, f, held, two_shapes}
+use Rattle.sz_catalogue.proofs.RowsSaid.{after, AreSaid, grid, base, a, f, held, two_shapes}
 
 -- an array of 2 by 2 cells, a flow of one node that cleans it, and one that cleans that once more
 abbrev m : List ℕ
@@ -39,49 +39,24 @@ cleaned = after held
 
 -- ---- what is planned
 
-plan-no_unit : says cleaned (command.Plan (codes "one") (base m 1 ∷ []) 0 1 0) ≡ codes "plan 16 0 blackbox"
+planned : AreSaid (
+    (cleaned, command.Plan (codes "one") (base m 1 ∷ []) 0 1 0, codes "plan 16 0 blackbox")
+    ∷ (cleaned, command.Plan (codes "one") (base m 1 ∷ []) 1 1 0, codes "plan 1 1 full_one_b")
+    ∷ (cleaned, command.Plan (codes "one") (base m 1 ∷ []) 1 0 1, codes "plan 1 1 full_one_f")
+    -- full_one_f costs the same
+    ∷ (cleaned, command.Plan (codes "one") (base m 1 ∷ []) 1 1 1, codes "plan 5 1 full_one_b")
+    ∷ (cleaned, command.Plan (codes "two") (base m 1 ∷ []) 1 1 0, codes "plan 17 1 full_one_b blackbox")
+    -- 3 asks back and 2 forward, at each of two nodes: 3 and 2 * 4
+    ∷ (cleaned, command.Plan (codes "two") (base m 1 ∷ []) 2 3 2, codes "plan 22 2 full_one_b full_one_b")
+    -- no ask: each list costs nothing, and the first by number stands
+    ∷ (cleaned, command.Plan (codes "two") (base m 1 ∷ []) 9 0 0, codes "plan 0 2 full_one_b full_one_b")
+    ∷ (held, command.Plan f (base a 1 ∷ []) 0 1 0, codes "plan 1 0 map")
+    -- as many units as may be
+    ∷ (cleaned, command.Plan (codes "one") (base m 1 ∷ []) 65536 1 0, codes "plan 1 1 full_one_b")
+    ∷ [])
 unfolding digits offer_of others offers_among offers_of black_box_of cheapest cost_over least_cost offer_over
     list_within
-plan-no_unit = refl
-
-plan-one_unit : says cleaned (command.Plan (codes "one") (base m 1 ∷ []) 1 1 0) ≡ codes "plan 1 1 full_one_b"
-unfolding digits offer_of others offers_among offers_of black_box_of cheapest cost_over least_cost offer_over
-    list_within
-plan-one_unit = refl
-
-plan-forward : says cleaned (command.Plan (codes "one") (base m 1 ∷ []) 1 0 1) ≡ codes "plan 1 1 full_one_f"
-unfolding digits offer_of others offers_among offers_of black_box_of cheapest cost_over least_cost offer_over
-    list_within
-plan-forward = refl
-
--- full_one_f costs the same
-plan-both_ways : says cleaned (command.Plan (codes "one") (base m 1 ∷ []) 1 1 1) ≡ codes "plan 5 1 full_one_b"
-unfolding digits offer_of others offers_among offers_of black_box_of cheapest cost_over least_cost offer_over
-    list_within
-plan-both_ways = refl
-
-plan-two_nodes : says cleaned (command.Plan (codes "two") (base m 1 ∷ []) 1 1 0) ≡ codes "plan 17 1 full_one_b blackbox"
-unfolding digits offer_of others offers_among offers_of black_box_of cheapest cost_over least_cost offer_over
-    list_within
-plan-two_nodes = refl
-
--- 3 asks back and 2 forward, at each of two nodes: 3 and 2 * 4
-plan-two_units : says cleaned (command.Plan (codes "two") (base m 1 ∷ []) 2 3 2)
-    ≡ codes "plan 22 2 full_one_b full_one_b"
-unfolding digits offer_of others offers_among offers_of black_box_of cheapest cost_over least_cost offer_over
-    list_within
-plan-two_units = refl
-
--- no ask: each list costs nothing, and the first by number stands
-plan-no_ask : says cleaned (command.Plan (codes "two") (base m 1 ∷ []) 9 0 0) ≡ codes "plan 0 2 full_one_b full_one_b"
-unfolding digits offer_of others offers_among offers_of black_box_of cheapest cost_over least_cost offer_over
-    list_within
-plan-no_ask = refl
-
-plan-mapped : says held (command.Plan f (base a 1 ∷ []) 0 1 0) ≡ codes "plan 1 0 map"
-unfolding digits offer_of others offers_among offers_of black_box_of cheapest cost_over least_cost offer_over
-    list_within
-plan-mapped = refl
+planned = refl
 
 -- nothing is changed by it
 plan-changes_nothing : (after_command cleaned (command.Plan (codes "one") (base m 1 ∷ []) 1 1 1)).0 ≡ cleaned
@@ -89,32 +64,14 @@ plan-changes_nothing = refl
 
 -- ---- what is refused
 
-plan-most_units : says cleaned (command.Plan (codes "one") (base m 1 ∷ []) 65536 1 0) ≡ codes "plan 1 1 full_one_b"
-unfolding digits offer_of others offers_among offers_of black_box_of cheapest cost_over least_cost offer_over
-    list_within
-plan-most_units = refl
-
-plan-past_most : says cleaned (command.Plan (codes "one") (base m 1 ∷ []) 65537 1 0) ≡ codes "refused 24"
+refused : AreSaid (
+    (cleaned, command.Plan (codes "one") (base m 1 ∷ []) 65537 1 0, codes "refused 24")
+    -- each of the others comes first
+    ∷ (cleaned, command.Plan m (base m 1 ∷ []) 65537 1 0, codes "refused 10")
+    ∷ (cleaned, command.Plan (codes "one") (base m 2 ∷ []) 65537 1 0, codes "refused 11")
+    ∷ (cleaned, command.Plan (codes "one") (base m 1 ∷ base m 1 ∷ []) 65537 1 0, codes "refused 12")
+    ∷ (two_shapes, command.Plan f (base a 1 ∷ []) 0 1 0, codes "refused 12")
+    ∷ (two_shapes, command.Plan f (base a 1 ∷ base f 1 ∷ []) 65537 1 0, codes "refused 13 0")
+    ∷ [])
 unfolding digits
-plan-past_most = refl
-
--- each of the others comes first
-plan-no_flow : says cleaned (command.Plan m (base m 1 ∷ []) 65537 1 0) ≡ codes "refused 10"
-unfolding digits
-plan-no_flow = refl
-
-plan-no_array : says cleaned (command.Plan (codes "one") (base m 2 ∷ []) 65537 1 0) ≡ codes "refused 11"
-unfolding digits
-plan-no_array = refl
-
-plan-two_arrays : says cleaned (command.Plan (codes "one") (base m 1 ∷ base m 1 ∷ []) 65537 1 0) ≡ codes "refused 12"
-unfolding digits
-plan-two_arrays = refl
-
-plan-one_of_two : says two_shapes (command.Plan f (base a 1 ∷ []) 0 1 0) ≡ codes "refused 12"
-unfolding digits
-plan-one_of_two = refl
-
-plan-unequal : says two_shapes (command.Plan f (base a 1 ∷ base f 1 ∷ []) 65537 1 0) ≡ codes "refused 13 0"
-unfolding digits
-plan-unequal = refl
+refused = refl

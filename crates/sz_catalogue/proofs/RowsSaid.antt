@@ -1,5 +1,5 @@
 -- What the rows compare: the text that a command is answered by, after others; and the things that they speak of.
-use Rattle.std.proofs.Common.{ℕ, pos, List, [], ◌∷◌, map, Some, false}
+use Rattle.std.proofs.Common.{◌≡◌, ℕ, pos, List, [], ◌∷◌, map, Some, false}
 use Rattle.std.specs.Prelude.{codes, fold}
 use Rattle.sz_cells.specs.Extent.{Extent, flat}
 use Rattle.sz_spec.specs.declared.op.Op.TheVariants as op
@@ -22,6 +22,14 @@ after c orders = fold (λ c order. (after_command c order).0) c orders
 
 abbrev pub says : Holdings → Command → List ℕ
 says c order = reply_text (after_command c order).1
+
+-- what is held, a command, and the text that it is answered by
+abbrev pub Row : Type 0
+Row = Holdings × Command × List ℕ
+
+-- each row's command is answered so
+abbrev pub AreSaid : List Row → Type 0
+AreSaid rows = map (λ (r : Row). says r.0 r.1) rows ≡ map (λ (r : Row). r.2) rows
 
 abbrev pub grid : Extent → List ℕ → Grid
 grid e ns = record { extent = e; values = map (λ n. Some (pos n)) ns }

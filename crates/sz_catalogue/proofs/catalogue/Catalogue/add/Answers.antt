@@ -1,6 +1,7 @@
 -- The outputs of one version more are counted, there was room for them, and the version is one of what is held.
 use Rattle.std.proofs.Common.{◌≡◌, ◌<◌, ◌≤◌, ◌^◌, Some, All, ap, sym, subst, ◌∙◌, arith}
 use Rattle.std.specs.Option.{option_map}
+use Rattle.sz_catalogue.specs.declared.catalogue.Catalogue.TheView.{view}
 use Rattle.sz_catalogue.specs.Holdings.{Holdings, Version, Base, Workflow, version_numbered, array_version, flow_named}
 use Rattle.sz_catalogue.specs.Holdings.{held_cells, cells_of, output_cells}
 use Rattle.sz_catalogue.specs.Rules.{has_room, most_cells}
@@ -12,12 +13,7 @@ use Rattle.sz_catalogue.proofs.catalogue.Catalogue.add.Goals as goal
 
 pub invariant_of-self-2 : goal.invariant_of-self-2
 invariant_of-self-2 c =
-    let held : Holdings = record {
-      arrays = c.self.inside.arrays;
-      flows = c.self.inside.flows;
-      versions = c.self.inside.versions;
-      merges = c.self.inside.merges.items;
-    } in
+    let held : Holdings = view c.self.inside in
     let new = ap (λ (h : Holdings). version_numbered h c.args.number) c.self.view_is ∙ c.requires.new in
     let room = ap (λ (h : Holdings). has_room h (output_cells c.args.version)) c.self.view_is ∙ c.requires.room in
     let cells = c.cells_of-cells.ensures.value ∙ ap cells_of c.outputs.ensures.value

@@ -4,6 +4,7 @@ use Rattle.std.specs.Arc.{arc_value}
 use Rattle.std.proofs.lemmas.List.{length-append}
 use Rattle.sz_cells.specs.Extent.{size_of}
 use Rattle.sz_spec.specs.Values.{Grid}
+use Rattle.sz_catalogue.specs.declared.catalogue.Catalogue.TheView.{view}
 use Rattle.sz_catalogue.specs.Holdings.{Holdings}
 use Rattle.sz_catalogue.specs.Rules.{has_no_room_for_array}
 use Rattle.sz_catalogue.proofs.Names.{length-things_named}
@@ -13,12 +14,7 @@ use Rattle.sz_catalogue.proofs.catalogue.Catalogue.hold.Goals as goal
 
 pub returns-clause-few : goal.returns-clause-few
 returns-clause-few c =
-    let held : Holdings = record {
-      arrays = c.self.inside.arrays;
-      flows = c.self.inside.flows;
-      versions = c.self.inside.versions;
-      merges = c.self.inside.merges.items;
-    } in
+    let held : Holdings = view c.self.inside in
     let free = ap (λ (h : Holdings). has_no_room_for_array h (arc_value c.args.owner)) c.self.view_is
     ∙ c.requires.room in
     omega (
@@ -30,12 +26,7 @@ returns-clause-few c =
 
 pub invariant_of-self-2 : goal.invariant_of-self-2
 invariant_of-self-2 c =
-    let held : Holdings = record {
-      arrays = c.self.inside.arrays;
-      flows = c.self.inside.flows;
-      versions = c.self.inside.versions;
-      merges = c.self.inside.merges.items;
-    } in
+    let held : Holdings = view c.self.inside in
     let array = arc_value c.args.owner in
     let free = ap (λ (h : Holdings). has_no_room_for_array h array) c.self.view_is ∙ c.requires.room in
     let cells = array-cells held c.args.name.now array in

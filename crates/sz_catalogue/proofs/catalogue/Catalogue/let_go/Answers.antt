@@ -3,6 +3,7 @@ use Rattle.std.proofs.Common.{◌≡◌, ◌≤◌, length, List, [], ◌∷◌,
 use Rattle.std.proofs.lemmas.List.{length-append}
 use Rattle.sz_cells.specs.Extent.{size_of}
 use Rattle.sz_spec.specs.Values.{Grid}
+use Rattle.sz_catalogue.specs.declared.catalogue.Catalogue.TheView.{view}
 use Rattle.sz_catalogue.specs.Holdings.{Named, Holdings, held_cells}
 use Rattle.sz_catalogue.specs.Changes.{with_array}
 use Rattle.sz_catalogue.proofs.Counts.{array-cells}
@@ -10,12 +11,7 @@ use Rattle.sz_catalogue.proofs.catalogue.Catalogue.let_go.Goals as goal
 
 pub invariant_of-self : goal.invariant_of-self
 invariant_of-self c =
-    let held : Holdings = record {
-      arrays = c.self.inside.arrays;
-      flows = c.self.inside.flows;
-      versions = c.self.inside.versions;
-      merges = c.self.inside.merges.items;
-    } in
+    let held : Holdings = view c.self.inside in
     let old = c.requires.last.0 in
     let g = c.requires.last.1 in
     let name = c.args.name.now in
