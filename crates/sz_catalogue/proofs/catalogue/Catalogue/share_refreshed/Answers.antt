@@ -1,15 +1,11 @@
 -- The array has the shape of the one in whose place it comes, and there is room for it and for the version.
-use Rattle.std.proofs.Common.{◌≡◌, ℕ, List, ap, sym, subst, ◌∙◌, arith}
+use Rattle.std.proofs.Common.{◌≡◌, ℕ, List, ap, subst, ◌∙◌}
 use Rattle.std.specs.Arc.{arc_value}
-use Rattle.sz_cells.specs.Extent.{Extent}
-use Rattle.sz_spec.specs.Values.{Grid}
 use Rattle.sz_script.specs.Names.{is_name}
-use Rattle.sz_catalogue.specs.Holdings.{Holdings, next_number}
-use Rattle.sz_catalogue.specs.Rules.{version_of, has_no_room_for_array}
-use Rattle.sz_catalogue.specs.Refreshes.{base_at}
+use Rattle.sz_catalogue.specs.Holdings.{next_number}
 use Rattle.sz_catalogue.specs.Changes.{with_array}
 use Rattle.sz_catalogue.specs.Order.{IsInOrder}
-use Rattle.sz_catalogue.proofs.Refreshed.{IsFurther, refreshed-further, input-named, set-room}
+use Rattle.sz_catalogue.proofs.Refreshed.{IsFurther, refreshed-further, input-named}
 use Rattle.sz_catalogue.proofs.catalogue.Catalogue.share_refreshed.Goals.{After-add-arg-1}
 use Rattle.sz_catalogue.proofs.catalogue.Catalogue.share_refreshed.Goals as goal
 
