@@ -5,16 +5,15 @@
 use Rattle.std.proofs.Common.{◌≡◌, ℕ, zero, suc, ◌+◌, ◌-◌, ◌<◌, ◌≤◌, Bool, true, false, ◌&&◌, ◌||◌, List, [], ◌∷◌}
 use Rattle.std.proofs.Common.{◌++◌}
 use Rattle.std.proofs.Common.{map, length, get_or, Option, Some, None, unwrap_or, refl, sym, ap, subst, ◌∙◌, arith}
-use Rattle.std.proofs.Common.{if◌then◌else◌, slice_set}
-use Rattle.std.specs.Prelude.{All, nat_lt, nat_le, option_map, Result, Ok}
+use Rattle.std.proofs.Common.{if◌then◌else◌}
+use Rattle.std.specs.Prelude.{All, nat_lt, nat_le, option_map}
 use Rattle.std.specs.List.{slice_get}
 use Rattle.std.specs.Result.{result_unwrap_or, result_err}
-use Rattle.std.specs.Str.{bytes_eq}
 use Rattle.std.proofs.lemmas.Bool.{not-false}
 use Rattle.std.proofs.lemmas.Bool.Decides.{nat_tests}
-use Rattle.std.proofs.lemmas.List.{length-set, length-append}
+use Rattle.std.proofs.lemmas.List.{length-set}
 use Rattle.std.proofs.lemmas.List.Elements.{All-set}
-use Rattle.std.proofs.lemmas.Option.{unwrap_or-slice_get, slice_get_within}
+use Rattle.std.proofs.lemmas.Option.{unwrap_or-slice_get}
 use Rattle.std.proofs.lemmas.Slice.Eq.{bytes_eq-Decides}
 use Rattle.std.proofs.Math.Seq.{map-set_same}
 use Rattle.sz_cells.specs.Extent.{Extent, size_of}
@@ -26,16 +25,15 @@ use Rattle.sz_script.specs.declared.command.Command.TheVariants as command
 use Rattle.sz_script.specs.declared.command.NewCell.{NewCell}
 use Rattle.sz_script.specs.declared.refusal.Refusal.{Refusal}
 use Rattle.sz_script.specs.declared.refusal.Refusal.TheVariants as refusal
-use Rattle.sz_catalogue.specs.Holdings.{Named, Workflow, Base, Version, Holdings, things_named, thing_numbered}
+use Rattle.sz_catalogue.specs.Holdings.{Workflow, Base, Version, Holdings, things_named, thing_numbered}
 use Rattle.sz_catalogue.specs.Holdings.{array_version, flow_named, version_numbered, no_version, next_number}
-use Rattle.sz_catalogue.specs.Holdings.{held_cells, output_cells, cells_of, shapes_of, outputs_over}
+use Rattle.sz_catalogue.specs.Holdings.{held_cells, output_cells, cells_of, shapes_of}
 use Rattle.sz_catalogue.specs.Rules.{version_of, has_no_version, has_no_room_for_array, has_no_room_to_set}
 use Rattle.sz_catalogue.specs.Rules.{has_no_room_to_refresh, has_room, most_arrays, most_cells, most_versions}
 use Rattle.sz_catalogue.specs.Rules.{input_cells, names_an_input, greatest_number, are_lists_for}
 use Rattle.sz_catalogue.specs.Rules.{judged, is_not_awaited, has_no_input, sets_out_of_range}
 use Rattle.sz_catalogue.specs.Refreshes.{has_input, base_at, no_base, base_on, version_on, with_cell, with_cells}
 use Rattle.sz_catalogue.specs.Changes.{with_array}
-use Rattle.sz_catalogue.specs.Kept.{IsRun}
 use Rattle.sz_catalogue.specs.Order.{IsInOrder, IsVersionIn}
 use Rattle.sz_catalogue.proofs.Counts.{neither, first-passed, array-cells}
 use Rattle.sz_catalogue.proofs.Names.{things_named-push}

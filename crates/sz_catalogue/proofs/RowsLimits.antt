@@ -3,7 +3,7 @@
 -- The key idea: a catalogue is its lists, so one with thousands of things is written as such a list, and no command has
 -- to be followed through. A row is what is held, a command, and the text that it is answered by. Expected texts by
 -- hand.
-use Rattle.std.proofs.Common.{◌≡◌, ℕ, ◌+◌, List, [], ◌∷◌, map, refl}
+use Rattle.std.proofs.Common.{ℕ, ◌+◌, List, [], ◌∷◌, map, refl}
 use Rattle.std.specs.Prelude.{codes}
 use Rattle.std.specs.List.{range_with_len}
 use Rattle.std.specs.Fmt.{digits}

@@ -1,7 +1,6 @@
 -- What is left is what was held before the array came, which was in order.
-use Rattle.std.proofs.Common.{◌≡◌, ◌≤◌, length, List, [], ◌∷◌, ◌++◌, ap, sym, ◌∙◌, arith}
+use Rattle.std.proofs.Common.{◌≡◌, length, List, [], ◌∷◌, ap, ◌∙◌, arith}
 use Rattle.std.proofs.lemmas.List.{length-append}
-use Rattle.sz_cells.specs.Extent.{size_of}
 use Rattle.sz_spec.specs.Values.{Grid}
 use Rattle.sz_catalogue.specs.declared.catalogue.Catalogue.TheView.{view}
 use Rattle.sz_catalogue.specs.Holdings.{Named, Holdings, held_cells}
