@@ -60,8 +60,9 @@ pub(crate) fn try_nodes<R: Threads + Sync>(
         → IsTried format (site_over base.now outputs.now (get_or nodes.now k n)) bytes.now
         (get_or v.items k d)) }
 {
-    let mut tries = guess_places(alloc, nodes, bytes, at)?;
-    if format == 1 && bytes.len() >= SIDE_BY_SIDE_FROM {
+    let guess = format == 1 && bytes.len() >= SIDE_BY_SIDE_FROM;
+    let mut tries = untried_nodes(alloc, nodes, guess, bytes, at)?;
+    if guess {
         par_for_each_mut(
             rt,
             &mut tries,
@@ -80,10 +81,11 @@ pub(crate) fn try_nodes<R: Threads + Sync>(
     Ok(tries)
 }
 
-/// Where each node may begin, and nothing read of it.
-fn guess_places(
+/// Where each node may begin, if that is to be guessed, and nothing read of it.
+fn untried_nodes(
     alloc: Global,
     nodes: &[Node],
+    guess: bool,
     bytes: &[u8],
     at: u64,
 ) -> Result<Vec<TriedNode>, NoMemory>
@@ -94,7 +96,7 @@ fn guess_places(
     let mut place = at;
     for node in nodes {
         tries.push(untried(place))?;
-        place = end_or_none(node, bytes, place);
+        place = end_or_none(node, guess, bytes, place);
     }
     Ok(tries)
 }
@@ -106,9 +108,10 @@ fn untried(at: u64) -> TriedNode
     TriedNode { at, taken: None }
 }
 
-/// The place behind the node that may stand at a place, and one behind all bytes where none does.
-fn end_or_none(node: &Node, bytes: &[u8], at: u64) -> u64 {
-    if bytes.len() < SIDE_BY_SIDE_FROM {
+/// The place behind the node that may stand at a place. One behind all bytes where none does, and
+/// where it is not to be guessed.
+fn end_or_none(node: &Node, guess: bool, bytes: &[u8], at: u64) -> u64 {
+    if !guess {
         return u64::MAX;
     }
     let inputs = node.from.as_slice().len() as u64;

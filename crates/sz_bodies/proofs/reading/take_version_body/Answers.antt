@@ -77,8 +77,8 @@ returns-then-end-body-clause-bad g c =
     c.deref-3.result.now outs c.nodes-nodes.result.now h.flow.nodes c.deref-2.ensures.value c.deref-3.ensures.value
     nodes c.in_ok-lists.ensures.only) c.if-end-body.true
 
-whole : (g : Over) (c : goal.After-drop-base-2 g) → IsRead c.args.format c.args.catalogue.now c.args.body.now c.head.inside.number
-    (record {
+whole : (g : Over) (c : goal.After-drop-base-2 g)
+    → IsRead c.args.format c.args.catalogue.now c.args.body.now c.head.inside.number (record {
       flow_name = c.head.inside.flow_name;
       flow = arc_value c.head.inside.flow;
       base = c.of.result;

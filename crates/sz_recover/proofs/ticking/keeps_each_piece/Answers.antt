@@ -14,8 +14,9 @@ use Rattle.sz_recover.proofs.Ticked.{ticked-none, joined-more, ticked-exact}
 use Rattle.sz_recover.proofs.ticking.keeps_each_piece.Goals as goal
 
 -- the ticks that are read are those of the piece of their place
-own-ticks : (e : Execution) (t : Strategy) (list : StoreChecklist) (items read : List PieceTicks) (k : ℕ) (p : PieceTicks)
-    → read ≡ items → ((j : ℕ) (d : PieceTicks) → j < length items → AreTicksOf e t list j (get_or items j d))
+own-ticks : (e : Execution) (t : Strategy) (list : StoreChecklist) (items read : List PieceTicks) (k : ℕ)
+    (p : PieceTicks) → read ≡ items
+    → ((j : ℕ) (d : PieceTicks) → j < length items → AreTicksOf e t list j (get_or items j d))
     → k < length read → p ≡ get_or read k p → AreTicksOf e t list k p
 own-ticks e t list items read k p same each inside is =
     let here : p ≡ get_or items k p = subst (λ (xs : List PieceTicks). p ≡ get_or xs k p) same is in
