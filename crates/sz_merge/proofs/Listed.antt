@@ -2,12 +2,13 @@
 --
 -- The key idea: no cell joined with a set is the set, so the lineage of a set's number is the next after that of
 -- nothing by each region pair that has the set.
-use Rattle.std.proofs.Common.{◌≡◌, ◌≢◌, ◌∙◌, ℕ, zero, suc, ◌+◌, ◌<◌, ◌++◌, take, false, Some, unwrap_or}
+use Rattle.std.proofs.Common.{◌≡◌, ◌≢◌, ◌∙◌, ℕ, zero, suc, ◌+◌, ◌<◌, false, Some, unwrap_or}
 use Rattle.std.proofs.Common.{List, [], ◌∷◌, map, length, get_or, refl, sym, ap, ap₂, subst, arith, All, add-one}
 use Rattle.std.specs.List.{slice_get, range_with_len, flat_map}
 use Rattle.std.specs.Option.{option_map}
 use Rattle.std.proofs.lemmas.Option.{slice_get-map, slice_get_within, slice_get-get_or, same_Some, unwrap_or-slice_get}
-use Rattle.std.proofs.lemmas.List.{length-map, map_push, take_more}
+use Rattle.std.proofs.lemmas.Option.{get_or_from_slice_get}
+use Rattle.std.proofs.lemmas.List.{length-map}
 use Rattle.sz_cells.specs.Extent.{Extent, size_of}
 use Rattle.sz_cells.specs.Rising.{AreRising}
 use Rattle.sz_cells.specs.Cells.{Cells, cells_where, has, no_cells}
@@ -24,7 +25,7 @@ use Rattle.sz_tables.specs.Rows.{RowTable, IsRowOf, pairings, row_at, number_in,
 use Rattle.sz_tables.specs.Scans.{pairing_at}
 use Rattle.sz_tables.specs.Tables.{AreDifferent, spelled}
 use Rattle.sz_tables.proofs.Scanned.{near-is, row-named}
-use Rattle.sz_merge.specs.Lineages.{nothing, joined, lists_of}
+use Rattle.sz_merge.specs.Lineages.{nothing, joined, list_at, lists_of}
 use Rattle.sz_merge.specs.Marks.{IsNext, AreLabels, AreGroups}
 use Rattle.sz_merge.proofs.Sets.{set-where, joined-where}
 use Rattle.sz_merge.proofs.Marked.{next-joined}
@@ -98,16 +99,13 @@ pub runs-own : (e : Extent) (set : Cells) (runs : List Run) → IsSetOf e set �
 runs-own e set runs is are =
     subst (AreRunsFrom 0 (size_of e)) (sym are) (runs_of-longest 0 (size_of e) set.indexes is.rising)
 
--- the lineage of one set more
-pub lists-more : (ins : List Extent) (sets : List Cells) (k : ℕ) (s : Cells) (old new : List (List Cells))
-    (l : List Cells) → k < length sets → get_or sets k s ≡ s → old ≡ lists_of ins (take k sets) → new ≡ old ++ l ∷ []
-    → l ≡ s ∷ [] → new ≡ lists_of ins (take (k + 1) sets)
-lists-more ins sets k s old new l inside here was more is =
-    let list : Cells → List Cells = λ s. s ∷ [] in
-    let lists = lists_of ins (take k sets) in
-    more ∙ ap₂ (λ (ls : List (List Cells)) (x : List Cells). ls ++ x ∷ []) was is
-    ∙ ap (λ (ls : List (List Cells)). nothing ins ∷ ls) (sym (map_push list (take k sets) s))
-    ∙ ap (lists_of ins) (sym (take_more sets k s inside ∙ ap (λ (x : Cells). take k sets ++ x ∷ []) here))
+-- the lineage of a set's number is the set alone
+pub list-of-set : (ins : List Extent) (sets : List Cells) (k : ℕ) → k < length sets
+    → list_at (lists_of ins sets) (k + 1) ≡ set_at sets k ∷ []
+list-of-set ins sets k inside =
+    let lists = lists_of ins sets in
+    unwrap_or-slice_get lists (k + 1) []
+    ∙ get_or_from_slice_get lists (k + 1) (set_at sets k ∷ []) [] (at-set ins sets k inside)
 
 -- ---- all sets
 

@@ -1,5 +1,6 @@
 -- Output cells with the numbers of their lineages, and the cells of each number.
-use Rattle.std.specs.Prelude.{◌≡◌, ℕ, ◌<◌, ◌≤◌, ◌==◌, List, [], length, map, Bool, ◌&&◌, ◌||◌, not}
+use Rattle.std.specs.Prelude.{◌≡◌, ℕ, ◌<◌, ◌≤◌, ◌==◌, List, [], ◌∷◌, length, map}
+use Rattle.std.specs.Prelude.{Bool, ◌&&◌, ◌||◌, not, true, false}
 use Rattle.std.specs.Prelude.{Some, nat_lt, slice_index, slice_index_or, All}
 use Rattle.std.specs.List.{slice_get, filter, range_with_len}
 use Rattle.sz_cells.specs.declared.Cell.{Cell}
@@ -8,6 +9,8 @@ use Rattle.sz_cells.specs.Extent.{Extent, size_of, cell_of}
 use Rattle.sz_cells.specs.Cells.{Cells, has}
 use Rattle.sz_cells.specs.Runs.{AreRunsFrom, covers}
 use Rattle.sz_frame.specs.Parts.{Pairing}
+use Rattle.sz_region.specs.FullBytes.{Listed, listed_of}
+use Rattle.sz_region.specs.Putting.{AreNumbered}
 use Rattle.sz_frame.specs.Stands.{set_of}
 use Rattle.sz_tables.specs.Tables.{spelled}
 use Rattle.sz_merge.specs.Lineages.{sets_where, nothing, behind, list_at, KeepsNumbers}
@@ -84,3 +87,12 @@ is_kind groups n = nat_lt 0 n && not (length (slice_index_or groups n []) == 0)
 abbrev pub kinds_below : Extent → List (List Run) → List (List Cells) → ℕ → List Pairing
 kinds_below out groups lists count =
     map (region_at out groups lists) (filter (is_kind groups) (range_with_len 0 count))
+
+-- the region pair of the cells of some runs and one set behind them
+abbrev pub kind_of : Extent → List Run → Cells → Pairing
+kind_of out runs set = record { out = spelled out runs; ins = set ∷ [] }
+
+-- where it is one of a kind, the sets of a region pair were numbered, and else nothing was
+abbrev pub IsKindNumbered : Bool → List Listed → List Listed → List ℕ → List ℕ → Pairing → Type 0
+IsKindNumbered true table after names now r = AreNumbered table after names now (listed_of r)
+IsKindNumbered false table after names now r = (after ≡ table) × (now ≡ names)

@@ -8,7 +8,8 @@ use Rattle.sz_spec.specs.Shapes.{Site}
 use Rattle.sz_frame.specs.Parts.{Entry, Pairing}
 use Rattle.sz_frame.specs.Stands.{full_stands}
 use Rattle.sz_payload.specs.Begins.{BeginsPayloads}
-use Rattle.sz_region.specs.FullBytes.{BeginsRegions}
+use Rattle.sz_cells.specs.Extent.{Extent}
+use Rattle.sz_region.specs.FullBytes.{BeginsRegions, Listed, IsFullWord}
 use Rattle.sz_region.specs.Putting.{HasShapes}
 use Rattle.sz_store.specs.Kept.{Holding, regions, entries, Keep, NodeLineage, holding_stands}
 use Rattle.sz_store.specs.Kept.{is_whole, stored_in}
@@ -107,3 +108,17 @@ pub record AreKindsOf (s : Site) (bytes : List ℕ) (at next : ℕ) (ms : List P
   pub shapes : All (HasShapes s.out s.ins) ms
   pub same : (i : ℕ) (o x : Cell) → i < length s.ins
       → full_stands ms i o x ≡ full_stands before i o x
+
+-- region pairs that are the kinds of some, so many, were put behind other bytes in one word
+pub record AreKindsPut (out : Extent) (ins : List Extent) (before : List Pairing) (count : ℕ)
+    (old new : List ℕ) : Type 0 where
+  pub put : List Pairing
+  pub kinds : AreKinds put
+  pub shapes : All (HasShapes out ins) put
+  pub same : (i : ℕ) (o x : Cell) → i < length ins
+      → full_stands put i o x ≡ full_stands before i o x
+  pub many : length put ≡ count
+  pub table : List Listed
+  pub word : List ℕ
+  pub is_word : IsFullWord out ins table put word
+  pub added : new ≡ old ++ word

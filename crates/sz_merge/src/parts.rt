@@ -19,7 +19,7 @@ ghost use Rattle.sz_merge.specs.Merged.{AreKindsOf};
 
 use crate::kinds::kinds_of;
 use crate::reading::{are_kinds, read_table};
-use crate::tabled::kinds_of_rows;
+use crate::tabled::put_kinds_of_rows;
 use std::alloc::Global;
 use std::sync::Arc;
 use sz_cells::{NoMemory, Shape};
@@ -101,9 +101,9 @@ fn merge_next(
 }
 
 /// Merges a store of region pairs. Its bytes are read into a table, and copied where its region
-/// pairs are kinds as they are. The table tells also the kinds of region pairs of one input of
-/// which no two have an output cell. Only for the other ones the bytes are read again, into region
-/// pairs whose sets can be joined.
+/// pairs are kinds as they are. The kinds of region pairs of one input of which no two have an
+/// output cell are put from the table. Only for the other ones the bytes are read again, into
+/// region pairs whose sets can be joined.
 fn merge_full(
     alloc: Global,
     at: &OpAt,
@@ -119,11 +119,13 @@ fn merge_full(
     within_limits(at);
     let (table, next) = read_table(alloc, at.out(), at.ins(), bytes, place)?;
     if are_kinds(alloc, at.out(), at.ins().len() as u32, &table)? {
-        keep_pairs(at, bytes, place, next, table.len(), to, kinds)?;
+        let count = table.len();
+        drop(table);
+        keep_pairs(at, bytes, place, next, count, to, kinds)?;
         return Ok(next);
     }
-    if let Some(merged) = kinds_of_rows(alloc, at.out(), at.ins(), &table)? {
-        put_kinds(at, bytes, place, next, &merged, to, kinds)?;
+    if let Some(count) = put_kinds_of_rows(alloc, at.out(), at.ins(), &table, to)? {
+        kinds.push(count)?;
         return Ok(next);
     }
     drop(table);

@@ -1,108 +1,158 @@
 //! Region pairs of one input that are rows of a table, no output cell in two of them: their kinds
-//! are told by the numbers of their sets, and no set is joined with another.
+//! are told by the numbers of their sets and put as they are told, and no set is made or joined with
+//! another.
 
-ghost use Rattle.std.specs.Prelude.{◌≡◌, ◌≢◌, ◌<◌, ◌≤◌, ◌+◌, [], ◌∷◌, ℕ, List, length, map, true};
-ghost use Rattle.std.specs.Prelude.{All, IfOk, IfSome};
-ghost use Rattle.std.specs.Arc.{arc_value};
-ghost use Rattle.sz_cells.specs.declared.Cell.{Cell};
+ghost use Rattle.std.specs.Prelude.{◌≡◌, ◌≢◌, ◌<◌, ◌≤◌, ◌+◌, ◌==◌, ◌^◌, [], ◌∷◌, ℕ, List, length};
+ghost use Rattle.std.specs.Prelude.{map, true, not, All, IfOk, OnOk, IfSome, IfNone};
 ghost use Rattle.sz_cells.specs.Cells.{Cells};
 ghost use Rattle.sz_cells.specs.Extent.{Extent, size_of};
 ghost use Rattle.sz_cells.specs.Runs.{AreRunsFrom, is_in};
 ghost use Rattle.sz_cells.specs.SetBytes.{IsSetOf};
 ghost use Rattle.sz_spec.specs.Values.{extent_at};
-ghost use Rattle.sz_region.specs.Putting.{HasShapes};
+ghost use Rattle.sz_region.specs.Putting.{HasShapes, AreNumbered, AreRegionsNumbered};
 ghost use Rattle.sz_frame.specs.Parts.{Pairing};
-ghost use Rattle.sz_frame.specs.Stands.{full_stands};
-ghost use Rattle.sz_tables.specs.Rows.{pairings, row_at, number_in, sets_of};
+ghost use Rattle.sz_tables.specs.Rows.{pairings, row_at, number_in, set_at, sets_of};
 ghost use Rattle.sz_tables.specs.Scans.{pairing_at};
-ghost use Rattle.sz_tables.specs.Tables.{spelled};
-ghost use Rattle.sz_merge.specs.Distinct.{AreKinds};
 ghost use Rattle.sz_merge.specs.Lineages.{lists_of};
-ghost use Rattle.sz_merge.specs.Marks.{AreLabels, AreMarked, IsNext, has_index};
+ghost use Rattle.sz_merge.specs.Marks.{AreLabels, AreMarked, IsNext, has_index, kinds_below};
+ghost use Rattle.sz_merge.specs.Marks.{IsKindNumbered, kind_of};
+ghost use Rattle.sz_merge.specs.Merged.{AreKindsPut};
 
 use crate::grouping::group_cells;
-use crate::kinds::regions_of;
-use crate::lineages::no_sets;
 use std::alloc::Global;
-use std::sync::Arc;
-use sz_cells::{CellSet, NoMemory, Run, Shape};
-use sz_frame::{Region, SetList};
+use sz_cells::{NoMemory, Run, Shape};
+use sz_region::{ListedSet, put_numbered};
 use sz_tables::RegionTable;
 
-/// Region pairs that stand for the same as those of a table, one for each kind of lineage. `None`
-/// where there is not one input, where a set of the input has no cell, and where an output cell is
-/// in the output sets of two rows.
+/// Appends a store of region pairs that stand for the same as those of a table, one for each kind
+/// of lineage, and answers how many. `None`, and nothing appended, where there is not one input,
+/// where a set of the input has no cell, and where an output cell is in the output sets of two rows.
 ///
-/// Costs a look at each cell of the rows' output sets, the runs of the sets of the input, and for
-/// each output cell what [`group_cells`] does. No two sets are joined or compared.
-pub fn kinds_of_rows(
+/// Costs a look at each cell of the rows' output sets, for each output cell what [`group_cells`]
+/// does, and what [`put_numbered`] does. The sets that are put are lent by the table and by the
+/// groups of cells.
+pub fn put_kinds_of_rows(
     alloc: Global,
     out: Shape,
     ins: &[Shape],
     table: &RegionTable,
-) -> Result<Option<Vec<Arc<Region>>>, NoMemory>
+    to: &mut Vec<u8>,
+) -> Result<Option<u32>, NoMemory>
     requires out { table.now.out ≡ out }
     requires ins { table.now.ins ≡ ins.now }
     requires shapes { All (HasShapes out ins.now) (pairings table.now) }
-    ensures kinds { IfOk result
-        (λ o. IfSome o (λ v. AreKinds (map (λ a. arc_value a) v.items))) }
-    ensures shapes { IfOk result (λ o. IfSome o
-        (λ v. All (HasShapes out ins.now) (map (λ a. arc_value a) v.items))) }
-    ensures same { IfOk result (λ o. IfSome o (λ v. (i : ℕ) (o x : Cell) → i < length ins.now
-        → full_stands (map (λ a. arc_value a) v.items) i o x
-        ≡ full_stands (pairings table.now) i o x)) }
+    ensures put { IfOk result (λ o. IfSome o
+        (λ n. AreKindsPut out ins.now (pairings table.now) n to.old.items to.new.items)) }
+    ensures none { IfOk result (λ o. IfNone o (to.new.items ≡ to.old.items)) }
 {
-    if ins.len() != 1 || table.sets_of(0) > table.len() {
+    if ins.len() != 1 || table.sets_of(0) > table.len() || !have_cells(table) {
         return Ok(None); // no table has more sets than rows
     }
-    let Some(lists) = lists_of_sets(alloc, ins, table)? else {
-        return Ok(None);
-    };
     let Some(labels) = label_rows(alloc, out, table)? else {
         return Ok(None);
     };
-    let groups = group_cells(alloc, lists.len() as u32, &labels)?;
-    let kinds = regions_of(alloc, out, groups, &lists)?;
-    Ok(Some(kinds))
-}
-
-/// The lineage of no cell, and behind it one of each set of the input alone. `None` where one of
-/// the sets has no cell.
-fn lists_of_sets(
-    alloc: Global,
-    ins: &[Shape],
-    table: &RegionTable,
-) -> Result<Option<Vec<SetList>>, NoMemory>
-    requires one { length ins.now ≡ 1 }
-    requires ins { table.now.ins ≡ ins.now }
-    ensures lists { IfOk result (λ o. IfSome o
-        (λ v. v.items ≡ lists_of ins.now (sets_of table.now.sets 0))) }
-    ensures sets { IfOk result (λ o. IfSome o (λ v.
-        All (IsSetOf (extent_at ins.now 0)) (sets_of table.now.sets 0))) }
-    ensures some { IfOk result (λ o. IfSome o
-        (λ v. All (λ s. s.indexes ≢ []) (sets_of table.now.sets 0))) }
-{
-    let mut lists = Vec::new(alloc);
-    lists.push(SetList::of(no_sets(alloc, ins)?))?;
-    for number in 0..table.sets_of(0) {
-        let runs = table.in_runs(0, number);
-        if runs.is_empty() {
-            return Ok(None);
-        }
-        lists.push(list_of_runs(alloc, ins[0], runs)?)?;
-    }
-    Ok(Some(lists))
-}
-
-/// The one set that these runs spell.
-fn list_of_runs(alloc: Global, shape: Shape, runs: &[Run]) -> Result<SetList, NoMemory>
-    requires { AreRunsFrom 0 (size_of shape) runs.now }
-    ensures { IfOk result (λ l. l ≡ spelled shape runs.now ∷ []) }
-{
-    let set = CellSet::from_runs(shape, runs.to_vec(alloc)?);
+    let groups = group_cells(alloc, table.sets_of(0) + 1, &labels)?;
+    drop(labels);
     let mut sets = Vec::new(alloc);
-    sets.push(Arc::new(alloc, set)?)?;
-    Ok(SetList::of(sets))
+    let mut names = Vec::new(alloc);
+    number_kinds(out, ins[0], table, &groups, &mut sets, &mut names)?;
+    put_numbered(&sets, 2, &names, to)?;
+    Ok(Some(names.len() as u32 / 2))
+}
+
+/// Whether each set of the input has a cell.
+fn have_cells(table: &RegionTable) -> bool
+    requires { 0 < length table.now.ins }
+    ensures some { result ≡ true → All (λ s. s.indexes ≢ []) (sets_of table.now.sets 0) }
+    ensures sets { result ≡ true
+        → All (IsSetOf (extent_at table.now.ins 0)) (sets_of table.now.sets 0) }
+{
+    for number in 0..table.sets_of(0) {
+        if table.in_runs(0, number).is_empty() {
+            return false;
+        }
+    }
+    true
+}
+
+/// Numbers the sets of the kinds: for each set of the input that stands behind some cell, the cells
+/// that it stands behind, and the set.
+fn number_kinds<'a>(
+    out: Shape,
+    input: Shape,
+    table: &'a RegionTable,
+    groups: &'a [Vec<Run>],
+    sets: &mut Vec<ListedSet<'a>>,
+    names: &mut Vec<u32>,
+) -> Result<(), NoMemory>
+    requires one { table.now.ins ≡ input ∷ [] }
+    requires many { length groups.now ≡ length (sets_of table.now.sets 0) + 1 }
+    requires few { length groups.now ≤ 2 ^ 30 + 1 }
+    requires groups { All (AreRunsFrom 0 (size_of out)) (map (λ g. g.items) groups.now) }
+    requires sets { sets.old.items ≡ [] }
+    requires names { names.old.items ≡ [] }
+    ensures numbered { OnOk result (AreRegionsNumbered sets.new.items names.new.items
+        (kinds_below out (map (λ g. g.items) groups.now)
+        (lists_of table.now.ins (sets_of table.now.sets 0)) (length groups.now))) }
+    ensures few { OnOk result (length names.new.items ≤ 2 ^ 31) }
+{
+    for number in 0..table.sets_of(0) {
+        let group = &groups[number as usize + 1];
+        number_kind(out, input, table, number, group, sets, names)?;
+    }
+    Ok(())
+}
+
+/// Numbers the sets of the kind of a set of the input, if it stands behind some cell: the cells of
+/// these runs.
+fn number_kind<'a>(
+    out: Shape,
+    input: Shape,
+    table: &'a RegionTable,
+    number: u32,
+    group: &'a [Run],
+    sets: &mut Vec<ListedSet<'a>>,
+    names: &mut Vec<u32>,
+) -> Result<(), NoMemory>
+    requires one { table.now.ins ≡ input ∷ [] }
+    requires number { number < length (sets_of table.now.sets 0) }
+    requires group { AreRunsFrom 0 (size_of out) group.now }
+    requires few { length sets.old.items ≤ 2 ^ 31 }
+    ensures { OnOk result (IsKindNumbered (not (length group.now == 0)) sets.old.items
+        sets.new.items names.old.items names.new.items
+        (kind_of out group.now (set_at (sets_of table.now.sets 0) number))) }
+{
+    if group.is_empty() {
+        return Ok(());
+    }
+    let own = ListedSet {
+        array: 0,
+        shape: out,
+        runs: group,
+    };
+    let behind = ListedSet {
+        array: 1,
+        shape: input,
+        runs: table.in_runs(0, number),
+    };
+    number_set(own, sets, names)?;
+    number_set(behind, sets, names)
+}
+
+/// Adds a set to a list, and its number there to the names.
+fn number_set<'a>(
+    set: ListedSet<'a>,
+    sets: &mut Vec<ListedSet<'a>>,
+    names: &mut Vec<u32>,
+) -> Result<(), NoMemory>
+    requires few { length sets.old.items < 2 ^ 32 }
+    requires set { IsSetOf set.set.extent set.set }
+    ensures { OnOk result (AreNumbered sets.old.items sets.new.items names.old.items
+        names.new.items (set.entry ∷ [])) }
+{
+    names.push(sets.len() as u32)?;
+    sets.push(set)?;
+    Ok(())
 }
 
 /// For each output cell the number of what stands behind it by the rows of a table. `None` where
