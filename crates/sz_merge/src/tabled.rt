@@ -1,6 +1,6 @@
 //! Region pairs of one input that are rows of a table, no output cell in two of them: their kinds
-//! are told by the numbers of their sets and put as they are told, and no set is made or joined with
-//! another.
+//! are told by the numbers of their sets and put as they are told, and no set is made or joined
+//! with another.
 
 ghost use Rattle.std.specs.Prelude.{◌≡◌, ◌≢◌, ◌<◌, ◌≤◌, ◌+◌, ◌==◌, ◌^◌, [], ◌∷◌, ℕ, List, length};
 ghost use Rattle.std.specs.Prelude.{map, true, not, All, IfOk, OnOk, IfSome, IfNone};
@@ -26,7 +26,8 @@ use sz_tables::RegionTable;
 
 /// Appends a store of region pairs that stand for the same as those of a table, one for each kind
 /// of lineage, and answers how many. `None`, and nothing appended, where there is not one input,
-/// where a set of the input has no cell, and where an output cell is in the output sets of two rows.
+/// where a set of the input has no cell, and where an output cell is in the output sets of two
+/// rows.
 ///
 /// Costs a look at each cell of the rows' output sets, for each output cell what [`group_cells`]
 /// does, and what [`put_numbered`] does. The sets that are put are lent by the table and by the

@@ -6,6 +6,7 @@ use Rattle.std.proofs.lemmas.List.{length-map}
 use Rattle.sz_cells.specs.Cells.{Cells}
 use Rattle.sz_cells.specs.Extent.{Extent, size_of}
 use Rattle.sz_cells.specs.Runs.{AreRunsFrom}
+use Rattle.sz_frame.specs.Parts.{Pairing}
 use Rattle.sz_region.specs.Counted.{counted, rows_bytes}
 use Rattle.sz_region.specs.FullBytes.{Listed, listed_bytes}
 use Rattle.sz_region.specs.Putting.{AreRegionsNumbered, AreRows}
@@ -50,22 +51,24 @@ sorted c =
     (c.if-not-have_cells.ensures.some refl) refl numbers c.deref.ensures.value
     (omega (arith, c.sets_of-2.ensures.count, length-map sets (λ (s : Cells). s ∷ []))) c.in_ok-groups.ensures
 
--- the kinds, whose sets were numbered
-listed : (r : After-deref-2) (c : After-deref-4) → AreRegionsNumbered c.number_kinds.new.sets.items c.number_kinds.new.names.items
-    (kinds_below r.args.out (map (λ g. g.items) r.in_ok-groups.groups.items)
-    (lists_of r.args.ins.now (sets_of r.args.table.now.sets 0))
-    (length (lists_of r.args.ins.now (sets_of r.args.table.now.sets 0)))) → length c.number_kinds.new.names.items ≤ 2 ^ 31
-    → AreListedKinds r.args.out r.args.ins.now (kinds_below r.args.out
-    (map (λ g. g.items) r.in_ok-groups.groups.items) (lists_of r.args.ins.now (sets_of r.args.table.now.sets 0))
-    (length (lists_of r.args.ins.now (sets_of r.args.table.now.sets 0)))) c.number_kinds.new.sets.items
-    c.number_kinds.new.names.items
+-- the kinds of the table
+abbrev kinds : (c : After-deref-2) → List Pairing
+kinds c =
+    let lists = lists_of c.args.ins.now (sets_of c.args.table.now.sets 0) in
+    kinds_below c.args.out (map (λ g. g.items) c.in_ok-groups.groups.items) lists (length lists)
+
+-- their sets, which were numbered
+listed : (r : After-deref-2) (c : After-deref-4)
+    → AreRegionsNumbered c.number_kinds.new.sets.items c.number_kinds.new.names.items (kinds r)
+    → length c.number_kinds.new.names.items ≤ 2 ^ 31
+    → AreListedKinds r.args.out r.args.ins.now (kinds r) c.number_kinds.new.sets.items c.number_kinds.new.names.items
 listed r c done few =
     let t = r.args.table.now in
     let ins = r.args.ins.now in
     let groups = map (λ g. g.items) r.in_ok-groups.groups.items in
     let lists = lists_of ins (sets_of t.sets 0) in
-    kinds-listed r.args.out ins (kinds_below r.args.out groups lists (length lists)) c.number_kinds.new.sets.items
-    c.number_kinds.new.names.items (omega (arith, r.if-ins-ne1.false))
+    kinds-listed r.args.out ins (kinds r) c.number_kinds.new.sets.items c.number_kinds.new.names.items
+    (omega (arith, r.if-ins-ne1.false))
     (kinds-shapes r.args.out ins (pairings t) r.in-Some.labels.items groups lists (sorted r)) few done
 
 pub number_kinds-requires-clause-one : goal.number_kinds-requires-clause-one
@@ -106,13 +109,10 @@ put_numbered-requires-clause-few_sets c =
       c.in_ok-number_kinds.ensures.few,
     )
 
--- the kinds of a table, as they were put
-made : (r : After-deref-2) (c : After-deref-4) → kinds_below r.args.out (map (λ g. g.items) r.deref-2.result.now)
-    (lists_of r.args.table.now.ins (sets_of r.args.table.now.sets 0)) (length r.deref-2.result.now)
-    ≡ kinds_below r.args.out (map (λ g. g.items) r.in_ok-groups.groups.items)
-    (lists_of r.args.ins.now (sets_of r.args.table.now.sets 0))
-    (length (lists_of r.args.ins.now (sets_of r.args.table.now.sets 0)))
-made r c =
+-- the same, as they were numbered
+made : (r : After-deref-2) → kinds_below r.args.out (map (λ g. g.items) r.deref-2.result.now)
+    (lists_of r.args.table.now.ins (sets_of r.args.table.now.sets 0)) (length r.deref-2.result.now) ≡ kinds r
+made r =
     let t = r.args.table.now in
     let sets = sets_of t.sets 0 in
     let groups = r.in_ok-groups.groups.items in
@@ -129,7 +129,7 @@ put_numbered-requires-clause-whole c =
     let r = (goal.at.put_numbered-requires-clause-whole c).After-deref-2 in
     let s = (goal.at.put_numbered-requires-clause-whole c).After-deref-4 in
     let all = listed r s (subst (AreRegionsNumbered c.number_kinds.new.sets.items c.number_kinds.new.names.items)
-    (made r s) c.in_ok-number_kinds.ensures.numbered) c.in_ok-number_kinds.ensures.few in
+    (made r) c.in_ok-number_kinds.ensures.numbered) c.in_ok-number_kinds.ensures.few in
     (all.done.rows, subst (λ (ns : List ℕ). AreRows 2 ns all.done.rows) (sym c.deref-4.ensures.value) all.rows, all.few)
 
 pub returns-clause-put : goal.returns-clause-put
@@ -142,10 +142,10 @@ returns-clause-put c =
     let groups = map (λ g. g.items) c.in_ok-groups.groups.items in
     let lists = lists_of ins (sets_of t.sets 0) in
     let sets = c.number_kinds.new.sets.items in
-    let all = listed r s (subst (AreRegionsNumbered sets c.number_kinds.new.names.items) (made r s)
+    let all = listed r s (subst (AreRegionsNumbered sets c.number_kinds.new.names.items) (made r)
     c.in_ok-number_kinds.ensures.numbered) c.in_ok-number_kinds.ensures.few in
     record {
-      put = kinds_below c.args.out groups lists (length lists);
+      put = kinds r;
       kinds = kinds-are c.args.out ins (pairings t) labels groups lists (sorted r);
       shapes = kinds-shapes c.args.out ins (pairings t) labels groups lists (sorted r);
       same = λ i o x inside.

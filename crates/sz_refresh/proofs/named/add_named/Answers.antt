@@ -75,7 +75,8 @@ loop-index-preserved c =
           let past : i + 1 ≤ c.if-is_named.idle = grind (arith, nat_tests, w.idle-is, more) in (
             inv.0,
             omega (arith, w.start-is, inv.1),
-            λ k from high. one-more test true c.loop-index.start i inv.2 passes k (omega (arith, from, w.start-is)) high,
+            λ k from high.
+                one-more test true c.loop-index.start i inv.2 passes k (omega (arith, from, w.start-is)) high,
             w.to-is
                 ∙ inv.3
                 ∙ ap (λ (n : ℕ). with_those to (is_below test n to.extent)) (sym w.start-is),

@@ -61,7 +61,8 @@ loop-run-preserved c =
     (λ k out.
     c.compute.ensures.outside k out
     ∙ ap (λ (vs : List (Option ℤ)). get_or vs k None) c.deref_mut.ensures.value) in (
-      subst (λ (vs : List (Option ℤ)). IsComputed s inputs c.args.self.now.old.now.values vs runs (n + 1)) (sym items) next,
+      subst (λ (vs : List (Option ℤ)). IsComputed s inputs c.args.self.now.old.now.values vs runs (n + 1)) (sym items)
+          next,
       omega (arith, c.compute.ensures.ticks, inv.1, spelled-more runs n zero c.loop-run-test.true),
     )
 
