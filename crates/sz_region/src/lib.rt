@@ -5,7 +5,9 @@
 //! [`put_set`] and [`take_set`] write and read the bytes of a cell set, [`put_regions`] and
 //! [`take_regions`] those of a store of region pairs, [`put_entries`] and [`take_entries`] those of
 //! a store of payload entries. A store that has its sets by number already writes them by
-//! [`put_numbered`] or [`put_numbered_entries`].
+//! [`put_numbered`] or [`put_numbered_entries`]; one whose sets are told one after another writes
+//! their number by [`put_number`], each by [`put_listed`], and the rows of their names by
+//! [`put_rows`].
 //!
 //! ```
 //! let mut bytes = Vec::new(alloc);
@@ -31,7 +33,7 @@ mod take_full;
 mod take_pay;
 
 pub use limits::shapes_are_within_limits;
-pub use numbers::take_number;
+pub use numbers::{put_number, put_rows, take_number};
 pub use put_full::put_regions;
 pub use put_pay::put_entries;
 pub use set_bytes::{Take, put_set, take_set, take_set_runs};
@@ -40,6 +42,8 @@ pub use sz_frame::{
     add_cell, at_work, has_cell, image_by, input_of, output_with, piece_by, right_shapes, run_by,
     set_of_cell, trace_by,
 };
-pub use tables::{ListedPayload, ListedSet, put_numbered, put_numbered_entries};
+pub use tables::{
+    ListedPayload, ListedSet, put_listed, put_numbered, put_numbered_entries,
+};
 pub use take_full::{MOST_ROWS, take_listed_runs, take_regions};
 pub use take_pay::take_entries;

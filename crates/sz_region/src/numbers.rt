@@ -10,7 +10,7 @@ use sz_cells::NoMemory;
 use sz_numbers::{four_at, four_bytes};
 
 /// Appends a number. After `NoMemory` the bytes are as before.
-pub(crate) fn put_number(number: u32, to: &mut Vec<u8>) -> Result<(), NoMemory>
+pub fn put_number(number: u32, to: &mut Vec<u8>) -> Result<(), NoMemory>
     ensures ok { OnOk result (to.new.items ≡ to.old.items ++ four_bytes number) }
     ensures err { OnErr result (to.new.items ≡ to.old.items) }
 {
@@ -20,7 +20,7 @@ pub(crate) fn put_number(number: u32, to: &mut Vec<u8>) -> Result<(), NoMemory>
 
 /// Appends how many rows of `width` numbers there are, and the numbers, row by row. After
 /// `NoMemory` some of the bytes may be there.
-pub(crate) fn put_rows(width: u32, numbers: &[u32], to: &mut Vec<u8>) -> Result<(), NoMemory>
+pub fn put_rows(width: u32, numbers: &[u32], to: &mut Vec<u8>) -> Result<(), NoMemory>
     requires width { 0 < width }
     requires whole { MakeRows width numbers.now }
     ensures ok { OnOk result ((rows : List (List ℕ)) → AreRows width numbers.now rows

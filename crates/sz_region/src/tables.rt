@@ -92,7 +92,7 @@ fn put_sets(sets: &[ListedSet], to: &mut Vec<u8>) -> Result<(), NoMemory>
 }
 
 /// Appends a set with its array. After `NoMemory` some of the bytes may be there.
-fn put_listed(set: &ListedSet, to: &mut Vec<u8>) -> Result<(), NoMemory>
+pub fn put_listed(set: &ListedSet, to: &mut Vec<u8>) -> Result<(), NoMemory>
     ensures ok { OnOk result (to.new.items ≡ to.old.items ++ listed_bytes set.now) }
     ensures err { OnErr result (take (length to.old.items) to.new.items ≡ to.old.items) }
 {
