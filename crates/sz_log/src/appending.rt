@@ -2,6 +2,7 @@
 ghost use Rattle.std.specs.Prelude.{◌≡◌, ◌≤◌, ◌<◌, ◌+◌, ◌^◌, ◌++◌, ◌∷◌, [], List, ℕ, Some, true};
 ghost use Rattle.std.specs.Prelude.{IfOk, OnOk, is_ok, length, None};
 ghost use Rattle.std.specs.Int.{w64, to_be_bytes};
+ghost use Rattle.sz_outside.specs.Calls.{KeepsOutput, Steps};
 ghost use Rattle.sz_outside.specs.Counts.{faults_after};
 ghost use Rattle.sz_outside.specs.Disk.{Told, Passes, Said, Only, HasPlace, Writes, written};
 ghost use Rattle.sz_log.specs.Log.{LogGroup, EndsAt, is_kind, bytes_behind_gate, group_bytes};
@@ -68,13 +69,9 @@ fn stage<T: Station>(station: &mut T, at: u64, kind: u8, body: &[u8]) -> Result<
     ensures synced { OnOk result (Only (T.disk station.new) (T.may_leave station.new)) }
     ensures counted { T.disk_faults station.new
         ≡ faults_after (T.disk_faults station.old) (is_ok result) }
-    ensures output { (T.said station.new ≡ T.said station.old)
-        × (T.say_faults station.new ≡ T.say_faults station.old) }
+    ensures output { KeepsOutput T.said T.say_faults station.old station.new }
     ensures stops { (d : List ℕ) → T.disk station.old ≡ Some d → at ≤ length d
-        → Passes (T.moment station.old) (T.moment station.new)
-        (T.left_since station.old) (T.left_since station.new)
-        (T.may_leave station.old) (T.may_leave station.new)
-        (KeepsFront at) (Said (T.said station.old)) }
+        → Steps T.moment T.left_since T.may_leave T.said station.old station.new (KeepsFront at) }
 {
     station.write_at(at, &head_of(kind, body.len() as u64))?;
     let gate = write(station, at + 9, body)?;

@@ -1,5 +1,6 @@
 //! Making a disk the empty log.
 ghost use Rattle.std.specs.Prelude.{◌≡◌, List, ℕ, Some, [], IfOk, OnOk, is_ok, length};
+ghost use Rattle.sz_outside.specs.Calls.{KeepsOutput, Steps};
 ghost use Rattle.sz_outside.specs.Counts.{faults_after};
 ghost use Rattle.sz_outside.specs.Disk.{Told, Passes, Said, Only, Cut, Same};
 ghost use Rattle.sz_log.specs.Log.{empty_log};
@@ -59,13 +60,9 @@ fn make<T: Station>(station: &mut T) -> Result<(), Failed>
     ensures synced { OnOk result (Only (T.disk station.new) (T.may_leave station.new)) }
     ensures counted { T.disk_faults station.new
         ≡ faults_after (T.disk_faults station.old) (is_ok result) }
-    ensures output { (T.said station.new ≡ T.said station.old)
-        × (T.say_faults station.new ≡ T.say_faults station.old) }
+    ensures output { KeepsOutput T.said T.say_faults station.old station.new }
     ensures stops { (d : List ℕ) → T.disk station.old ≡ Some d
-        → Passes (T.moment station.old) (T.moment station.new)
-        (T.left_since station.old) (T.left_since station.new)
-        (T.may_leave station.old) (T.may_leave station.new)
-        Makes (Said (T.said station.old)) }
+        → Steps T.moment T.left_since T.may_leave T.said station.old station.new Makes }
 {
     clear(station)?;
     put(station, 0, &[0])?;
@@ -80,13 +77,9 @@ fn clear<T: Station>(station: &mut T) -> Result<(), Failed>
     ensures synced { OnOk result (Only (T.disk station.new) (T.may_leave station.new)) }
     ensures counted { T.disk_faults station.new
         ≡ faults_after (T.disk_faults station.old) (is_ok result) }
-    ensures output { (T.said station.new ≡ T.said station.old)
-        × (T.say_faults station.new ≡ T.say_faults station.old) }
+    ensures output { KeepsOutput T.said T.say_faults station.old station.new }
     ensures stops { (d : List ℕ) → T.disk station.old ≡ Some d
-        → Passes (T.moment station.old) (T.moment station.new)
-        (T.left_since station.old) (T.left_since station.new)
-        (T.may_leave station.old) (T.may_leave station.new)
-        (Cut 0) (Said (T.said station.old)) }
+        → Steps T.moment T.left_since T.may_leave T.said station.old station.new (Cut 0) }
 {
     station.cut(0)?;
     station.sync()

@@ -1,8 +1,9 @@
 //! Writing at a place of the disk, and putting it where a stop leaves it.
 ghost use Rattle.std.specs.Prelude.{◌≡◌, ◌≤◌, ◌<◌, ◌+◌, ◌^◌, List, ℕ, Some, IfOk, OnOk, is_ok};
 ghost use Rattle.std.specs.Prelude.{length, None};
+ghost use Rattle.sz_outside.specs.Calls.{KeepsOutput, Steps};
 ghost use Rattle.sz_outside.specs.Counts.{faults_after};
-ghost use Rattle.sz_outside.specs.Disk.{Passes, Torn, Said, Only, written};
+ghost use Rattle.sz_outside.specs.Disk.{Torn, Only, written};
 
 use sz_outside::{Failed, Station};
 
@@ -17,13 +18,9 @@ pub fn write<T: Station>(station: &mut T, at: u64, bytes: &[u8]) -> Result<u64, 
     ensures limit { OnOk result (length bytes.now < 2 ^ 62) }
     ensures counted { T.disk_faults station.new
         ≡ faults_after (T.disk_faults station.old) (is_ok result) }
-    ensures output { (T.said station.new ≡ T.said station.old)
-        × (T.say_faults station.new ≡ T.say_faults station.old) }
-    ensures stops { (d : List ℕ) → T.disk station.old ≡ Some d → at ≤ length d
-        → Passes (T.moment station.old) (T.moment station.new)
-        (T.left_since station.old) (T.left_since station.new)
-        (T.may_leave station.old) (T.may_leave station.new)
-        (Torn at (length bytes.now)) (Said (T.said station.old)) }
+    ensures output { KeepsOutput T.said T.say_faults station.old station.new }
+    ensures stops { (d : List ℕ) → T.disk station.old ≡ Some d → at ≤ length d → Steps T.moment
+        T.left_since T.may_leave T.said station.old station.new (Torn at (length bytes.now)) }
 {
     let place = station.size()?.min(at);
     station.write_at(place, bytes)?;
@@ -38,13 +35,9 @@ pub fn put<T: Station>(station: &mut T, at: u64, bytes: &[u8]) -> Result<(), Fai
     ensures synced { OnOk result (Only (T.disk station.new) (T.may_leave station.new)) }
     ensures counted { T.disk_faults station.new
         ≡ faults_after (T.disk_faults station.old) (is_ok result) }
-    ensures output { (T.said station.new ≡ T.said station.old)
-        × (T.say_faults station.new ≡ T.say_faults station.old) }
-    ensures stops { (d : List ℕ) → T.disk station.old ≡ Some d → at ≤ length d
-        → Passes (T.moment station.old) (T.moment station.new)
-        (T.left_since station.old) (T.left_since station.new)
-        (T.may_leave station.old) (T.may_leave station.new)
-        (Torn at (length bytes.now)) (Said (T.said station.old)) }
+    ensures output { KeepsOutput T.said T.say_faults station.old station.new }
+    ensures stops { (d : List ℕ) → T.disk station.old ≡ Some d → at ≤ length d → Steps T.moment
+        T.left_since T.may_leave T.said station.old station.new (Torn at (length bytes.now)) }
 {
     write(station, at, bytes)?;
     station.sync()

@@ -1,107 +1,130 @@
 -- The front stays in each of the writes, and the three together are one.
-use Rattle.std.proofs.Common.{◌≡◌, ◌≤◌, ◌+◌, ◌++◌, ◌∷◌, [], List, ℕ, Some, length, sym, ap, ◌∙◌, arith, length-append}
+use Rattle.std.proofs.Common.{◌≡◌, ◌≤◌, ◌+◌, ◌++◌, ◌∷◌, [], List, ℕ, Option, Some, length, sym, ap, ◌∙◌, arith, length-append}
+use Rattle.sz_outside.specs.Calls.{Steps}
 use Rattle.sz_outside.specs.Disk.{written}
+use Rattle.sz_log.specs.Steps.{KeepsFront}
 use Rattle.sz_log.proofs.Moments.{keeps_first, keeps_write, told, writes_of}
 use Rattle.sz_log.proofs.Tears.{length-written, written-both}
+use Rattle.sz_log.proofs.appending.stage.Given.{Over}
+use Rattle.sz_log.proofs.appending.stage.Goals.{After-write_at, In_ok-write_at, After-write, In_ok-gate, After-put}
 use Rattle.sz_log.proofs.appending.stage.Goals as goal
 
-pub returns-in_err-write_at-clause-stops : goal.returns-in_err-write_at-clause-stops
-returns-in_err-write_at-clause-stops g c = λ d is le.
+-- the head stands at its place, and has nine bytes
+record IsHeaded (disk : Option (List ℕ)) (d head : List ℕ) (at : ℕ) : Type 0 where
+  pub nine : length head ≡ 9
+  pub is : disk ≡ Some (written d at head)
+  pub place : at + 9 ≤ length (written d at head)
+
+is-headed : (g : Over) (c : In_ok-write_at g) (d : List ℕ) → g.T.Station.disk c.args.station.now ≡ Some d
+    → c.args.at ≤ length d → IsHeaded (g.T.Station.disk c.write_at.new.self) d c.head_of.result c.args.at
+is-headed g c d is le =
+    let nine : length c.head_of.result ≡ 9 = ap length c.head_of.ensures in
+    record {
+      nine = nine;
+      is =
+          writes_of (g.T.Station.disk c.args.station.now) (g.T.Station.disk c.write_at.new.self) d c.args.at
+          c.head_of.result is c.in_ok-write_at.ensures.written;
+      place = omega (arith, nine, length-written d c.args.at c.head_of.result le);
+    }
+
+-- the body stands behind it
+record IsFilled (disk : Option (List ℕ)) (one body : List ℕ) (at gate : ℕ) : Type 0 where
+  pub is : disk ≡ Some (written one (at + 9) body)
+  pub behind : gate ≡ at + 9 + length body
+  pub place : gate ≤ length (written one (at + 9) body)
+
+is-filled : (g : Over) (c : In_ok-gate g) (d : List ℕ)
+    → IsHeaded (g.T.Station.disk c.write_at.new.self) d c.head_of.result c.args.at
+    → IsFilled (g.T.Station.disk c.write.new.station) (written d c.args.at c.head_of.result) c.args.body.now c.args.at
+    c.in_ok-gate.gate
+is-filled g c d headed =
+    let one = written d c.args.at c.head_of.result in
+    let behind : c.in_ok-gate.gate ≡ c.args.at + 9 + length c.args.body.now =
+    c.in_ok-gate.ensures.behind one headed.is headed.place in
+    record {
+      is = c.in_ok-gate.ensures.written one headed.is headed.place;
+      behind = behind;
+      place = omega (arith, behind, length-written one (c.args.at + 9) c.args.body.now headed.place);
+    }
+
+-- what a stop leaves has the old front
+abbrev Keeps : (g : Over) → ℕ → g.row.T.Denot → g.row.T.Denot → Type 0
+Keeps g at old new =
+    Steps g.T.Station.moment g.T.Station.left_since g.T.Station.may_leave g.T.Station.said old new (KeepsFront at)
+
+-- so it is within the first write or behind it
+first : (g : Over) (c : After-write_at g) (d : List ℕ) → g.T.Station.disk c.args.station.now ≡ Some d
+    → Keeps g c.args.at c.args.station.now c.write_at.new.self
+first g c d is =
     keeps_first c.args.at c.args.at (length c.head_of.result)
     (told (g.T.Station.disk c.args.station.now) d _ is c.write_at.ensures.stops) (omega arith)
 
+-- within the second or behind it
+second : (g : Over) (c : After-write g) (d : List ℕ)
+    → IsHeaded (g.T.Station.disk c.write_at.new.self) d c.head_of.result c.args.at
+    → Keeps g c.args.at c.args.station.now c.write_at.new.self → Keeps g c.args.at c.args.station.now c.write.new.station
+second g c d headed one =
+    keeps_write (g.T.Station.said c.args.station.now) (g.T.Station.said c.write_at.new.self) c.args.at (c.args.at + 9)
+    (length c.args.body.now) one
+    (c.write.ensures.stops (written d c.args.at c.head_of.result) headed.is headed.place)
+    c.write_at.ensures.output.0 (omega arith)
+
+-- and within the third or behind it
+third : (g : Over) (c : After-put g) (d : List ℕ)
+    → IsFilled (g.T.Station.disk c.write.new.station) (written d c.args.at c.head_of.result) c.args.body.now c.args.at
+    c.in_ok-gate.gate
+    → Keeps g c.args.at c.args.station.now c.write.new.station → Keeps g c.args.at c.args.station.now c.put.new.station
+third g c d filled two =
+    keeps_write (g.T.Station.said c.args.station.now) (g.T.Station.said c.write.new.station) c.args.at
+    c.in_ok-gate.gate 1 two
+    (c.put.ensures.stops (written (written d c.args.at c.head_of.result) (c.args.at + 9) c.args.body.now) filled.is
+    filled.place)
+    (c.write.ensures.output.0 ∙ c.write_at.ensures.output.0) (omega (arith, filled.behind))
+
+pub returns-in_err-write_at-clause-stops : goal.returns-in_err-write_at-clause-stops
+returns-in_err-write_at-clause-stops g c = λ d is le.
+    first g (goal.at.returns-in_err-write_at-clause-stops g c).After-write_at d is
+
 pub returns-in_err-gate-clause-stops : goal.returns-in_err-gate-clause-stops
 returns-in_err-gate-clause-stops g c = λ d is le.
-    let at = c.args.at in
-    let head = c.head_of.result in
-    let nine : length head ≡ 9 = ap length c.head_of.ensures in
-    let found = g.T.Station.said c.args.station.now in
-    let here = g.T.Station.disk c.args.station.now in
-    let disk_1 = writes_of here (g.T.Station.disk c.write_at.new.self) d at head is c.in_ok-write_at.ensures.written in
-    let place_1 : at + 9 ≤ length (written d at head) = omega (arith, nine, length-written d at head le) in
-    let first = keeps_first at at (length head) (told here d _ is c.write_at.ensures.stops) (omega arith) in
-    let both = keeps_write found (g.T.Station.said c.write_at.new.self) at (at + 9) (length c.args.body.now) first
-    (c.write.ensures.stops (written d at head) disk_1 place_1) c.write_at.ensures.output.0 (omega arith) in
-    both
+    let s = goal.at.returns-in_err-gate-clause-stops g c in
+    second g s.After-write d (is-headed g s.In_ok-write_at d is le) (first g s.After-write_at d is)
 
 pub returns-in_err-put-clause-stops : goal.returns-in_err-put-clause-stops
 returns-in_err-put-clause-stops g c = λ d is le.
-    let at = c.args.at in
-    let head = c.head_of.result in
-    let nine : length head ≡ 9 = ap length c.head_of.ensures in
-    let found = g.T.Station.said c.args.station.now in
-    let here = g.T.Station.disk c.args.station.now in
-    let disk_1 = writes_of here (g.T.Station.disk c.write_at.new.self) d at head is c.in_ok-write_at.ensures.written in
-    let place_1 : at + 9 ≤ length (written d at head) = omega (arith, nine, length-written d at head le) in
-    let first = keeps_first at at (length head) (told here d _ is c.write_at.ensures.stops) (omega arith) in
-    let both = keeps_write found (g.T.Station.said c.write_at.new.self) at (at + 9) (length c.args.body.now) first
-    (c.write.ensures.stops (written d at head) disk_1 place_1) c.write_at.ensures.output.0 (omega arith) in
-    let mid = written (written d at head) (at + 9) c.args.body.now in
-    let disk_2 = c.in_ok-gate.ensures.written (written d at head) disk_1 place_1 in
-    let behind_2 : c.in_ok-gate.gate ≡ at + 9 + length c.args.body.now =
-    c.in_ok-gate.ensures.behind (written d at head) disk_1 place_1 in
-    let place_2 : c.in_ok-gate.gate ≤ length mid =
-    omega (arith, behind_2, length-written (written d at head) (at + 9) c.args.body.now place_1) in
-    keeps_write found (g.T.Station.said c.write.new.station) at c.in_ok-gate.gate 1 both
-    (c.put.ensures.stops mid disk_2 place_2) (c.write.ensures.output.0 ∙ c.write_at.ensures.output.0)
-    (omega (arith, behind_2))
+    let s = goal.at.returns-in_err-put-clause-stops g c in
+    let headed = is-headed g s.In_ok-write_at d is le in
+    third g s.After-put d (is-filled g s.In_ok-gate d headed)
+    (second g s.After-write d headed (first g s.After-write_at d is))
 
 pub returns-clause-stops : goal.returns-clause-stops
 returns-clause-stops g c = λ d is le.
-    let at = c.args.at in
-    let head = c.head_of.result in
-    let nine : length head ≡ 9 = ap length c.head_of.ensures in
-    let found = g.T.Station.said c.args.station.now in
-    let here = g.T.Station.disk c.args.station.now in
-    let disk_1 = writes_of here (g.T.Station.disk c.write_at.new.self) d at head is c.in_ok-write_at.ensures.written in
-    let place_1 : at + 9 ≤ length (written d at head) = omega (arith, nine, length-written d at head le) in
-    let first = keeps_first at at (length head) (told here d _ is c.write_at.ensures.stops) (omega arith) in
-    let both = keeps_write found (g.T.Station.said c.write_at.new.self) at (at + 9) (length c.args.body.now) first
-    (c.write.ensures.stops (written d at head) disk_1 place_1) c.write_at.ensures.output.0 (omega arith) in
-    let mid = written (written d at head) (at + 9) c.args.body.now in
-    let disk_2 = c.in_ok-gate.ensures.written (written d at head) disk_1 place_1 in
-    let behind_2 : c.in_ok-gate.gate ≡ at + 9 + length c.args.body.now =
-    c.in_ok-gate.ensures.behind (written d at head) disk_1 place_1 in
-    let place_2 : c.in_ok-gate.gate ≤ length mid =
-    omega (arith, behind_2, length-written (written d at head) (at + 9) c.args.body.now place_1) in
-    keeps_write found (g.T.Station.said c.write.new.station) at c.in_ok-gate.gate 1 both
-    (c.put.ensures.stops mid disk_2 place_2) (c.write.ensures.output.0 ∙ c.write_at.ensures.output.0)
-    (omega (arith, behind_2))
+    let s = goal.at.returns-clause-stops g c in
+    let headed = is-headed g s.In_ok-write_at d is le in
+    third g s.After-put d (is-filled g s.In_ok-gate d headed)
+    (second g s.After-write d headed (first g s.After-write_at d is))
 
 pub returns-clause-gate : goal.returns-clause-gate
 returns-clause-gate g c = λ d is le.
-    let at = c.args.at in
-    let head = c.head_of.result in
-    let nine : length head ≡ 9 = ap length c.head_of.ensures in
-    let found = g.T.Station.said c.args.station.now in
-    let here = g.T.Station.disk c.args.station.now in
-    let disk_1 = writes_of here (g.T.Station.disk c.write_at.new.self) d at head is c.in_ok-write_at.ensures.written in
-    let place_1 : at + 9 ≤ length (written d at head) = omega (arith, nine, length-written d at head le) in
-    c.in_ok-gate.ensures.behind (written d at head) disk_1 place_1
+    let s = goal.at.returns-clause-gate g c in
+    (is-filled g s.In_ok-gate d (is-headed g s.In_ok-write_at d is le)).behind
 
 pub returns-clause-written : goal.returns-clause-written
 returns-clause-written g c = λ d is le.
+    let s = goal.at.returns-clause-written g c in
     let at = c.args.at in
     let head = c.head_of.result in
-    let nine : length head ≡ 9 = ap length c.head_of.ensures in
-    let found = g.T.Station.said c.args.station.now in
-    let here = g.T.Station.disk c.args.station.now in
-    let disk_1 = writes_of here (g.T.Station.disk c.write_at.new.self) d at head is c.in_ok-write_at.ensures.written in
-    let place_1 : at + 9 ≤ length (written d at head) = omega (arith, nine, length-written d at head le) in
-    let mid = written (written d at head) (at + 9) c.args.body.now in
-    let disk_2 = c.in_ok-gate.ensures.written (written d at head) disk_1 place_1 in
-    let behind_2 : c.in_ok-gate.gate ≡ at + 9 + length c.args.body.now =
-    c.in_ok-gate.ensures.behind (written d at head) disk_1 place_1 in
-    let place_2 : c.in_ok-gate.gate ≤ length mid =
-    omega (arith, behind_2, length-written (written d at head) (at + 9) c.args.body.now place_1) in
-    let bytes_2 : mid ≡ written d at (head ++ c.args.body.now) =
-    ap (λ (n : ℕ). written (written d at head) (at + n) c.args.body.now) (sym nine) ∙ written-both d at head
-    c.args.body.now le in
-    let gate : c.in_ok-gate.gate ≡ at + length (head ++ c.args.body.now) =
-    omega (arith, nine, behind_2, length-append head c.args.body.now) in
-    let bytes_3 : written mid c.in_ok-gate.gate (0 ∷ []) ≡ written d at (head ++ c.args.body.now ++ 0 ∷ []) =
-    ap (λ (l : List ℕ). written l c.in_ok-gate.gate (0 ∷ [])) bytes_2
-    ∙ ap (λ (n : ℕ). written (written d at (head ++ c.args.body.now)) n (0 ∷ [])) gate
-    ∙ written-both d at (head ++ c.args.body.now) (0 ∷ []) le in
-    c.in_ok-put.ensures.written mid disk_2 place_2 ∙ ap (λ (l : List ℕ). Some l) bytes_3
-    ∙ ap (λ (l : List ℕ). Some (written d at (l ++ c.args.body.now ++ 0 ∷ []))) c.head_of.ensures
+    let body = c.args.body.now in
+    let headed = is-headed g s.In_ok-write_at d is le in
+    let filled = is-filled g s.In_ok-gate d headed in
+    let mid = written (written d at head) (at + 9) body in
+    let both : mid ≡ written d at (head ++ body) =
+    ap (λ (n : ℕ). written (written d at head) (at + n) body) (sym headed.nine) ∙ written-both d at head body le in
+    let gate : c.in_ok-gate.gate ≡ at + length (head ++ body) =
+    omega (arith, headed.nine, filled.behind, length-append head body) in
+    let all : written mid c.in_ok-gate.gate (0 ∷ []) ≡ written d at (head ++ body ++ 0 ∷ []) =
+    ap (λ (l : List ℕ). written l c.in_ok-gate.gate (0 ∷ [])) both
+    ∙ ap (λ (n : ℕ). written (written d at (head ++ body)) n (0 ∷ [])) gate
+    ∙ written-both d at (head ++ body) (0 ∷ []) le in
+    c.in_ok-put.ensures.written mid filled.is filled.place ∙ ap (λ (l : List ℕ). Some l) all
+    ∙ ap (λ (l : List ℕ). Some (written d at (l ++ body ++ 0 ∷ []))) c.head_of.ensures
