@@ -89,6 +89,11 @@ forward-same r t e s lies same =
     s.indexes lies
     (λ k within. same o (cell_of s.extent k) held (cell-held s.extent k within)))
 
+-- the inputs of a node are the arrays of its sources
+ins-are : (g : Graph) (base : List Grid) (n : ℕ) (x : Node) → slice_get g.nodes n ≡ Some x
+    → inputs_of g base (evaluations g base) n ≡ map (array_of base (evaluations g base)) x.from
+ins-are g base n x at = rw at refl
+
 -- the image by all pairs of a node's shelf is the image under its operator's relation
 image-related : (dir : Dir) (g : Graph) (base : List Grid) (pairs : List (List (List Pair))) (s : Step)
     (set : Cells) (x : Node)
@@ -106,19 +111,14 @@ image-related Back g base pairs s set x fits says at within lies shape =
     let same : e ≡ extent_of ins s.input =
     ap (λ (es : List Extent). extent_at es s.input) (ins-extents g base s.node x fits at)
     ∙ sym (extent-got ins s.input) in
-    let taken : List Grid = map (array_of base (evaluations g base)) x.from in
-    let named : ins ≡ taken = rw at refl in
-    let unfolded : image Back g base (evaluations g base) s set ≡ back (related x.op taken s.input)
-    (extent_of taken s.input) set =
-    rw at (ap (λ (arrays : List Grid). back (related x.op arrays s.input) (extent_of arrays s.input) set)
-    named) in
-    let composed : image Back g base (evaluations g base) s set ≡ back (related x.op ins s.input)
-    (extent_of ins s.input) set =
-    unfolded ∙ ap (λ (arrays : List Grid). back (related x.op arrays s.input) (extent_of arrays s.input) set)
-    (sym named) in
+    let lead : List Grid → Cells = λ arrays. back (related x.op arrays s.input) (extent_of arrays s.input) set in
+    let unfolded : image Back g base (evaluations g base) s set
+    ≡ lead (map (array_of base (evaluations g base)) x.from) =
+    rw at (ap lead (ins-are g base s.node x at)) in
     back-same (say f.out e (whole_pairs f) s.input) (related x.op ins s.input) e set lies
     (λ o c there held. says s.node s.input x o c at within (rw shape at there) held)
-    ∙ ap (λ (d : Extent). back (related x.op ins s.input) d set) same ∙ sym composed
+    ∙ ap (λ (d : Extent). back (related x.op ins s.input) d set) same
+    ∙ sym (unfolded ∙ ap lead (sym (ins-are g base s.node x at)))
 image-related Forward g base pairs s set x fits says at within lies shape =
     let f = first_shelf g (extents_of base) pairs s.node in
     let ins = inputs_of g base (evaluations g base) s.node in
@@ -126,20 +126,14 @@ image-related Forward g base pairs s set x fits says at within lies shape =
     let same : f.out ≡ extent_of outs s.node =
     ap (λ (es : List Extent). extent_at es s.node) (sym (outs-extents g base fits))
     ∙ sym (extent-got outs s.node) in
-    let taken : List Grid = map (array_of base (evaluations g base)) x.from in
-    let named : ins ≡ taken = rw at refl in
-    let unfolded : image Forward g base (evaluations g base) s set ≡ forward (related x.op taken s.input)
-    (extent_of outs s.node) set =
-    rw at (ap (λ (arrays : List Grid). forward (related x.op arrays s.input) (extent_of outs s.node) set)
-    named) in
-    let composed : image Forward g base (evaluations g base) s set ≡ forward (related x.op ins s.input)
-    (extent_of outs s.node) set =
-    unfolded ∙ ap (λ (arrays : List Grid). forward (related x.op arrays s.input) (extent_of outs s.node) set)
-    (sym named) in
+    let lead : List Grid → Cells = λ arrays. forward (related x.op arrays s.input) (extent_of outs s.node) set in
+    let unfolded : image Forward g base outs s set ≡ lead (map (array_of base outs) x.from) =
+    rw at (ap lead (ins-are g base s.node x at)) in
     forward-same (say f.out (extent_at f.ins s.input) (whole_pairs f) s.input) (related x.op ins s.input) f.out set
     lies
     (λ o c held there. says s.node s.input x o c at within held (rw shape at there))
-    ∙ ap (λ (d : Extent). forward (related x.op ins s.input) d set) same ∙ sym composed
+    ∙ ap (λ (d : Extent). forward (related x.op ins s.input) d set) same
+    ∙ sym (unfolded ∙ ap lead (sym (ins-are g base s.node x at)))
 
 -- an image lies in its shape
 image-lies : (pairs : List Pair) (dir : Dir) (out : Extent) (ins : List Extent) (i : ℕ) (set : Cells)

@@ -24,7 +24,7 @@ use Rattle.sz_spec.specs.Values.{extent_at, no_extent}
 use Rattle.sz_core.specs.declared.pairs.Pair.{Pair}
 use Rattle.sz_spec.specs.Sides.{extent_before, extent_after}
 use Rattle.sz_core.specs.Images.{image_by}
-use Rattle.sz_core.specs.Links.{Links, Relation, cells_linked, pair_leads, no_links}
+use Rattle.sz_core.specs.Links.{Links, Relation, leads, cells_linked, pair_leads, no_links}
 use Rattle.sz_core.specs.Links.{HasPairs}
 use Rattle.sz_core.specs.Links.{AreIndexesOf}
 
@@ -63,6 +63,21 @@ after-at Forward out taken ins i at = refl
 by_test : Extent → (ℕ → ℕ → Bool) → List ℕ → Cells
 by_test e lead ks = cells_where e (λ x. list_any (λ k. lead k (index_of e x)) ks)
 
+-- an index whose leads are tests on pairs leads to the same as other tests that agree with them
+tested : (to : Extent) (pairs : List Pair) (links : Links) (s : Cells) (test other : ℕ → ℕ → Pair → Bool)
+    → links.to ≡ to → ((k t : ℕ) → leads links k t ≡ list_any (test k t) pairs)
+    → ((k t : ℕ) (p : Pair) → test k t p ≡ other k t p)
+    → cells_linked links s ≡ by_test to (λ k t. list_any (other k t) pairs) s.indexes
+unfolding by_test
+tested to pairs links s test other is led same =
+    let read : (ℕ → ℕ → Pair → Bool) → Cells = λ t. by_test to (λ k x. list_any (t k x) pairs) s.indexes in
+    ap₂ (λ (e : Extent) (lead : ℕ → ℕ → Bool). by_test e lead s.indexes) is (fun_ext (λ k. fun_ext (λ t. led k t)))
+    ∙ ap read (fun_ext (λ k. fun_ext (λ t. fun_ext (λ p. same k t p))))
+
+-- the row-major index of a set's cell is its place
+index-held : (e : Extent) (s : Cells) (k : ℕ) → s.extent ≡ e → k ≡ index_of e (cell_of s.extent k)
+index-held e s k shape = sym (ap (λ (f : Extent). index_of f (cell_of s.extent k)) (sym shape) ∙ index-cell s.extent k)
+
 -- an index of an input's pairs leads to the image under what they say
 pub linked-image : (dir : Dir) (out : Extent) (ins : List Extent) (i : ℕ) (pairs : List Pair) (links : Links)
     (s : Cells)
@@ -71,33 +86,16 @@ pub linked-image : (dir : Dir) (out : Extent) (ins : List Extent) (i : ℕ) (pai
     → cells_linked links s ≡ image_by pairs dir out ins i s
 unfolding by_test
 linked-image Back out ins i pairs links s has shape =
-    let e = extent_at ins i in
-    let read : (ℕ → ℕ → Pair → Bool)
-    → Cells = λ test. by_test e (λ k t. list_any (test k t) pairs) s.indexes in
-    let turned : (k t : ℕ) (p : Pair)
-    → pair_leads Back i k t p ≡ ((p.out == index_of out (cell_of s.extent k)) &&
-    ((p.input == i) && (p.cell == t))) =
-    λ k t p.
-    and-turn (p.input == i) (p.out == k) (p.cell == t)
-    ∙ ap (λ (n : ℕ). (p.out == n) && ((p.input == i) && (p.cell == t)))
-    (sym (ap (λ (f : Extent). index_of f (cell_of s.extent k)) (sym shape) ∙ index-cell s.extent k)) in
-    ap₂ (λ (to : Extent) (lead : ℕ → ℕ → Bool). by_test to lead s.indexes) has.to
-    (fun_ext (λ k. fun_ext (λ t. has.led k t)))
-    ∙ ap read (fun_ext (λ k. fun_ext (λ t. fun_ext (λ p. turned k t p))))
+    tested (extent_at ins i) pairs links s (pair_leads Back i)
+    (λ k t p. (p.out == index_of out (cell_of s.extent k)) && ((p.input == i) && (p.cell == t))) has.to has.led
+    (λ k t p. and-turn (p.input == i) (p.out == k) (p.cell == t)
+    ∙ ap (λ (n : ℕ). (p.out == n) && ((p.input == i) && (p.cell == t))) (index-held out s k shape))
 linked-image Forward out ins i pairs links s has shape =
     let e = extent_at ins i in
-    let read : (ℕ → ℕ → Pair → Bool)
-    → Cells = λ test. by_test out (λ k t. list_any (test k t) pairs) s.indexes in
-    let turned : (k t : ℕ) (p : Pair)
-    → pair_leads Forward i k t p ≡ ((p.out == t) &&
-    ((p.input == i) && (p.cell == index_of e (cell_of s.extent k)))) =
-    λ k t p.
-    and-roll (p.input == i) (p.cell == k) (p.out == t)
-    ∙ ap (λ (n : ℕ). (p.out == t) && ((p.input == i) && (p.cell == n)))
-    (sym (ap (λ (f : Extent). index_of f (cell_of s.extent k)) (sym shape) ∙ index-cell s.extent k)) in
-    ap₂ (λ (to : Extent) (lead : ℕ → ℕ → Bool). by_test to lead s.indexes) has.to
-    (fun_ext (λ k. fun_ext (λ t. has.led k t)))
-    ∙ ap read (fun_ext (λ k. fun_ext (λ t. fun_ext (λ p. turned k t p))))
+    tested out pairs links s (pair_leads Forward i)
+    (λ k t p. (p.out == t) && ((p.input == i) && (p.cell == index_of e (cell_of s.extent k)))) has.to has.led
+    (λ k t p. and-roll (p.input == i) (p.cell == k) (p.out == t)
+    ∙ ap (λ (n : ℕ). (p.out == t) && ((p.input == i) && (p.cell == n))) (index-held e s k shape))
 
 -- the shape of an input that is there
 pub extent-at : (ins : List Extent) (i : ℕ) (taken : Extent) → i < length ins → taken ≡ get_or ins i taken

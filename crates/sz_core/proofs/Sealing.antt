@@ -19,7 +19,7 @@ use Rattle.sz_core.specs.declared.events.Event.{Event}
 use Rattle.sz_core.specs.declared.events.Event.TheVariants.{Place, Seal, Look}
 use Rattle.sz_core.specs.declared.events.Told.{Told}
 use Rattle.sz_core.specs.declared.events.Told.TheVariants.{FromStore, FromTrace}
-use Rattle.sz_core.specs.declared.events.Told.TheVariants.{NoSuch}
+use Rattle.sz_core.specs.declared.events.Told.TheVariants.{NoSuch, Ended}
 use Rattle.sz_core.specs.declared.pairs.Pair.{Pair}
 use Rattle.sz_core.specs.Events.{change_at, after_place, after_seal, seal_reply, after_look}
 use Rattle.sz_core.specs.Events.{look_reply, next_step, reply, next_state, last_state}
@@ -38,27 +38,33 @@ use Rattle.sz_core.proofs.Groups.{or-false, or-assoc}
 abbrev read_of : Shelf → Extent × List Extent × List Pair × Bool
 read_of s = (s.out, s.ins, pairs_taken s, s.sealed)
 
--- shelves of which it reads the same lead to one reply and one ask
+-- shelves of which it reads the same lead to the same, where that is told by the step and by what is read
+look-same : {T : Type 0} (look : List Shelf → T) (ended : T) (step : Step → Extent × List Extent × List Pair × Bool → T)
+    (shelves others : List Shelf) (a : Ask)
+    → ((l : List Shelf) → next_step a ≡ None → look l ≡ ended)
+    → ((l : List Shelf) (p : Step) → next_step a ≡ Some p → look l ≡ step p (read_of (shelf_at l p.node)))
+    → ((k : ℕ) → read_of (shelf_at others k) ≡ read_of (shelf_at shelves k))
+    → look others ≡ look shelves
+look-same {T} look ended step shelves others a ends steps same = at (next_step a) refl where
+  at : (o : Option Step) → next_step a ≡ o → look others ≡ look shelves
+  at None none = ends others none ∙ sym (ends shelves none)
+  at (Some p) some = steps others p some ∙ ap (step p) (same p.node) ∙ sym (steps shelves p some)
+
+-- so to one reply and to one ask
 reply-same : (shelves others : List Shelf) (a : Ask)
     → ((k : ℕ) → read_of (shelf_at others k) ≡ read_of (shelf_at shelves k))
     → look_reply others a ≡ look_reply shelves a
-reply-same shelves others a same = at (next_step a) refl where
-  at : (o : Option Step) → next_step a ≡ o → look_reply others a ≡ look_reply shelves a
-  at None none = (look-none others a none).0 ∙ sym (look-none shelves a none).0
-  at (Some p) some =
-      let told : Extent × List Extent × List Pair × Bool → Told = λ r. if r.3 then FromStore else FromTrace in
-      look-told others a p some ∙ ap told (same p.node) ∙ sym (look-told shelves a p some)
+reply-same shelves others a =
+    look-same (λ l. look_reply l a) Ended (λ p r. if r.3 then FromStore else FromTrace) shelves others a
+    (λ l none. (look-none l a none).0) (λ l p some. look-told l a p some)
 
 after-same : (shelves others : List Shelf) (a : Ask)
     → ((k : ℕ) → read_of (shelf_at others k) ≡ read_of (shelf_at shelves k))
     → after_look others a ≡ after_look shelves a
-after-same shelves others a same = at (next_step a) refl where
-  at : (o : Option Step) → next_step a ≡ o → after_look others a ≡ after_look shelves a
-  at None none = (look-none others a none).1 ∙ sym (look-none shelves a none).1
-  at (Some p) some =
-      let step : Extent × List Extent × List Pair × Bool
-      → Ask = λ r. record a { made = a.made + 1; cells = image_by r.2 a.dir r.0 r.1 p.input a.cells } in
-      look-after others a p some ∙ ap step (same p.node) ∙ sym (look-after shelves a p some)
+after-same shelves others a =
+    look-same (λ l. after_look l a) a
+    (λ p r. record a { made = a.made + 1; cells = image_by r.2 a.dir r.0 r.1 p.input a.cells }) shelves others a
+    (λ l none. (look-none l a none).1) (λ l p some. look-after l a p some)
 
 pub placed_lemma : PlacedPiecesAreNotReadBeforeTheSeal
 placed_lemma s m n placed unsealed =

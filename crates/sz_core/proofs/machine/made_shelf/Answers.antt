@@ -8,14 +8,34 @@ use Rattle.sz_spec.specs.FlowShapes.{source_shape}
 use Rattle.sz_core.specs.Starts.{shelf_of, shapes_made, shapes_taken}
 use Rattle.sz_core.proofs.Starting.{node-at, arity-few, fit-parts, count-made, taken-found, out-found}
 use Rattle.sz_core.proofs.Starting.{pairs-within, pieces-few}
+use Rattle.sz_core.proofs.machine.made_shelf.Goals.{After-index-nodes-node, In_ok-ins, After-index-outs-node}
 use Rattle.sz_core.proofs.machine.made_shelf.Goals as goal
+
+node : (c : After-index-nodes-node)
+    → c.index-nodes-node.result ≡ get_or c.args.flow.now.nodes c.args.node c.index-nodes-node.result
+node c = rw c.nodes.ensures at c.index-nodes-node.is
+
+ins : (c : In_ok-ins)
+    → c.index-nodes-node.result ≡ get_or c.args.flow.now.nodes c.args.node c.index-nodes-node.result
+    → c.in_ok-ins.ins.items ≡ shapes_taken c.args.flow.now c.args.base.now c.args.node
+ins c at =
+    taken-found c.args.flow.now c.args.base.now c.args.outs.now c.in_ok-ins.ins.items c.args.node
+    c.index-nodes-node.result c.as_slice.result.now c.requires.node at
+    c.requires.shapes (c.as_slice.ensures ∙ ap (λ (y : Node). y.from) (sym c.index-nodes-node.is))
+    c.in_ok-ins.ensures
+
+out : (c : After-index-outs-node)
+    → c.index-outs-node.result ≡ extent_at (shapes_made c.args.flow.now c.args.base.now) c.args.node
+out c =
+    out-found c.args.flow.now c.args.base.now c.args.outs.now c.args.node c.index-outs-node.result c.requires.fits
+    c.requires.node c.requires.shapes c.index-outs-node.is
 
 pub input_shapes-requires : goal.input_shapes-requires
 input_shapes-requires c =
     let flow = c.args.flow.now in
     let base = c.args.base.now in
     let x = c.index-nodes-node.result in
-    let at : x ≡ get_or flow.nodes c.args.node x = rw c.nodes.ensures at c.index-nodes-node.is in
+    let at = node (goal.at.input_shapes-requires c).After-index-nodes-node in
     let long : length c.args.outs.now ≡ length flow.nodes =
     ap length c.requires.shapes ∙ count-made flow base c.requires.fits in
     rw (
@@ -37,14 +57,10 @@ new-requires c =
     let base = c.args.base.now in
     let s = shelf_of flow base c.args.node c.args.pairs in
     let x = c.index-nodes-node.result in
-    let at : x ≡ get_or flow.nodes c.args.node x = rw c.nodes.ensures at c.index-nodes-node.is in
-    let ins : c.in_ok-ins.ins.items ≡ shapes_taken flow base c.args.node =
-    taken-found flow base c.args.outs.now c.in_ok-ins.ins.items c.args.node x c.as_slice.result.now c.requires.node at
-    c.requires.shapes (c.as_slice.ensures ∙ ap (λ (y : Node). y.from) (sym c.index-nodes-node.is))
-    c.in_ok-ins.ensures in
-    let out : c.index-outs-node.result ≡ extent_at (shapes_made flow base) c.args.node =
-    out-found flow base c.args.outs.now c.args.node c.index-outs-node.result c.requires.fits c.requires.node
-    c.requires.shapes c.index-outs-node.is in
+    let here = goal.at.new-requires c in
+    let at = node here.After-index-nodes-node in
+    let taken = ins here.In_ok-ins at in
+    let made = out here.After-index-outs-node in
     let right = node-at flow c.args.node c.args.node x c.requires.checked c.requires.node at (omega arith) in
     let pieces : length c.pairs.inside.pieces.items ≡ length c.args.pairs =
     sym (length-map c.pairs.inside.pieces.items (λ v. v.items)) ∙ ap length c.pairs.view_is in
@@ -57,21 +73,13 @@ new-requires c =
         right.0,
         arity-few x.op,
       );
-      count = rw (pieces, out) (pieces-few s c.requires.shelf);
-      within = rw (out, ins, c.pairs.view_is) (pairs-within s c.requires.shelf);
+      count = rw (pieces, made) (pieces-few s c.requires.shelf);
+      within = rw (made, taken, c.pairs.view_is) (pairs-within s c.requires.shelf);
     }
 
 pub returns : goal.returns
 returns c =
-    let flow = c.args.flow.now in
-    let base = c.args.base.now in
-    let x = c.index-nodes-node.result in
-    let at : x ≡ get_or flow.nodes c.args.node x = rw c.nodes.ensures at c.index-nodes-node.is in
-    let ins : c.in_ok-ins.ins.items ≡ shapes_taken flow base c.args.node =
-    taken-found flow base c.args.outs.now c.in_ok-ins.ins.items c.args.node x c.as_slice.result.now c.requires.node at
-    c.requires.shapes (c.as_slice.ensures ∙ ap (λ (y : Node). y.from) (sym c.index-nodes-node.is))
-    c.in_ok-ins.ensures in
-    let out : c.index-outs-node.result ≡ extent_at (shapes_made flow base) c.args.node =
-    out-found flow base c.args.outs.now c.args.node c.index-outs-node.result c.requires.fits c.requires.node
-    c.requires.shapes c.index-outs-node.is in
-    rw (out, ins, c.pairs.view_is) at c.new.ensures
+    let here = goal.at.returns c in
+    let taken = ins here.In_ok-ins (node here.After-index-nodes-node) in
+    let made = out here.After-index-outs-node in
+    rw (made, taken, c.pairs.view_is) at c.new.ensures

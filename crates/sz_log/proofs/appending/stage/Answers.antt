@@ -1,12 +1,13 @@
 -- The front stays in each of the writes, and the three together are one.
-use Rattle.std.proofs.Common.{◌≡◌, ◌≤◌, ◌+◌, ◌++◌, ◌∷◌, [], List, ℕ, Option, Some, length, sym, ap, ◌∙◌, arith, length-append}
+use Rattle.std.proofs.Common.{◌≡◌, ◌≤◌, ◌+◌, ◌++◌, ◌∷◌, [], List, ℕ, Option, Some, length, sym, ap}
+use Rattle.std.proofs.Common.{◌∙◌, arith, length-append}
 use Rattle.sz_outside.specs.Calls.{Steps}
 use Rattle.sz_outside.specs.Disk.{written}
 use Rattle.sz_log.specs.Steps.{KeepsFront}
 use Rattle.sz_log.proofs.Moments.{keeps_first, keeps_write, told, writes_of}
 use Rattle.sz_log.proofs.Tears.{length-written, written-both}
 use Rattle.sz_log.proofs.appending.stage.Given.{Over}
-use Rattle.sz_log.proofs.appending.stage.Goals.{After-write_at, In_ok-write_at, After-write, In_ok-gate, After-put}
+use Rattle.sz_log.proofs.appending.stage.Goals.{After-write_at, In_ok-write_at, After-put}
 use Rattle.sz_log.proofs.appending.stage.Goals as goal
 
 -- the head stands at its place, and has nine bytes
@@ -33,19 +34,16 @@ record IsFilled (disk : Option (List ℕ)) (one body : List ℕ) (at gate : ℕ)
   pub behind : gate ≡ at + 9 + length body
   pub place : gate ≤ length (written one (at + 9) body)
 
-is-filled : (g : Over) (c : In_ok-gate g) (d : List ℕ)
-    → IsHeaded (g.T.Station.disk c.write_at.new.self) d c.head_of.result c.args.at
-    → IsFilled (g.T.Station.disk c.write.new.station) (written d c.args.at c.head_of.result) c.args.body.now c.args.at
-    c.in_ok-gate.gate
-is-filled g c d headed =
-    let one = written d c.args.at c.head_of.result in
-    let behind : c.in_ok-gate.gate ≡ c.args.at + 9 + length c.args.body.now =
-    c.in_ok-gate.ensures.behind one headed.is headed.place in
-    record {
-      is = c.in_ok-gate.ensures.written one headed.is headed.place;
-      behind = behind;
-      place = omega (arith, behind, length-written one (c.args.at + 9) c.args.body.now headed.place);
-    }
+is-filled : {disk new : Option (List ℕ)} {one : List ℕ} (body : List ℕ) (at gate : ℕ) → disk ≡ Some one
+    → at + 9 ≤ length one
+    → ((d : List ℕ) → disk ≡ Some d → at + 9 ≤ length d → new ≡ Some (written d (at + 9) body))
+    → ((d : List ℕ) → disk ≡ Some d → at + 9 ≤ length d → gate ≡ at + 9 + length body)
+    → IsFilled new one body at gate
+is-filled {disk} {new} {one} body at gate is place wrote behind = record {
+  is = wrote one is place;
+  behind = behind one is place;
+  place = omega (arith, behind one is place, length-written one (at + 9) body place);
+}
 
 -- what a stop leaves has the old front
 abbrev Keeps : (g : Over) → ℕ → g.row.T.Denot → g.row.T.Denot → Type 0
@@ -59,22 +57,17 @@ first g c d is =
     keeps_first c.args.at c.args.at (length c.head_of.result)
     (told (g.T.Station.disk c.args.station.now) d _ is c.write_at.ensures.stops) (omega arith)
 
--- within the second or behind it
-second : (g : Over) (c : After-write g) (d : List ℕ)
-    → IsHeaded (g.T.Station.disk c.write_at.new.self) d c.head_of.result c.args.at
-    → Keeps g c.args.at c.args.station.now c.write_at.new.self → Keeps g c.args.at c.args.station.now c.write.new.station
-second g c d headed one =
-    keeps_write (g.T.Station.said c.args.station.now) (g.T.Station.said c.write_at.new.self) c.args.at (c.args.at + 9)
-    (length c.args.body.now) one
-    (c.write.ensures.stops (written d c.args.at c.head_of.result) headed.is headed.place)
-    c.write_at.ensures.output.0 (omega arith)
-
--- and within the third or behind it
+-- and it is at the end of all three, and within the last
 third : (g : Over) (c : After-put g) (d : List ℕ)
-    → IsFilled (g.T.Station.disk c.write.new.station) (written d c.args.at c.head_of.result) c.args.body.now c.args.at
-    c.in_ok-gate.gate
-    → Keeps g c.args.at c.args.station.now c.write.new.station → Keeps g c.args.at c.args.station.now c.put.new.station
-third g c d filled two =
+    → IsHeaded (g.T.Station.disk c.write_at.new.self) d c.head_of.result c.args.at
+    → Keeps g c.args.at c.args.station.now c.write_at.new.self → Keeps g c.args.at c.args.station.now c.put.new.station
+third g c d headed one =
+    let filled = is-filled c.args.body.now c.args.at c.in_ok-gate.gate headed.is headed.place
+    c.in_ok-gate.ensures.written c.in_ok-gate.ensures.behind in
+    let two = keeps_write (g.T.Station.said c.args.station.now) (g.T.Station.said c.write_at.new.self) c.args.at
+    (c.args.at + 9) (length c.args.body.now) one
+    (c.write.ensures.stops (written d c.args.at c.head_of.result) headed.is headed.place)
+    c.write_at.ensures.output.0 (omega arith) in
     keeps_write (g.T.Station.said c.args.station.now) (g.T.Station.said c.write.new.station) c.args.at
     c.in_ok-gate.gate 1 two
     (c.put.ensures.stops (written (written d c.args.at c.head_of.result) (c.args.at + 9) c.args.body.now) filled.is
@@ -88,26 +81,27 @@ returns-in_err-write_at-clause-stops g c = λ d is le.
 pub returns-in_err-gate-clause-stops : goal.returns-in_err-gate-clause-stops
 returns-in_err-gate-clause-stops g c = λ d is le.
     let s = goal.at.returns-in_err-gate-clause-stops g c in
-    second g s.After-write d (is-headed g s.In_ok-write_at d is le) (first g s.After-write_at d is)
+    let headed = is-headed g s.In_ok-write_at d is le in
+    keeps_write (g.T.Station.said c.args.station.now) (g.T.Station.said c.write_at.new.self) c.args.at (c.args.at + 9)
+    (length c.args.body.now) (first g s.After-write_at d is)
+    (c.write.ensures.stops (written d c.args.at c.head_of.result) headed.is headed.place)
+    c.write_at.ensures.output.0 (omega arith)
 
 pub returns-in_err-put-clause-stops : goal.returns-in_err-put-clause-stops
 returns-in_err-put-clause-stops g c = λ d is le.
     let s = goal.at.returns-in_err-put-clause-stops g c in
-    let headed = is-headed g s.In_ok-write_at d is le in
-    third g s.After-put d (is-filled g s.In_ok-gate d headed)
-    (second g s.After-write d headed (first g s.After-write_at d is))
+    third g s.After-put d (is-headed g s.In_ok-write_at d is le) (first g s.After-write_at d is)
 
 pub returns-clause-stops : goal.returns-clause-stops
 returns-clause-stops g c = λ d is le.
     let s = goal.at.returns-clause-stops g c in
-    let headed = is-headed g s.In_ok-write_at d is le in
-    third g s.After-put d (is-filled g s.In_ok-gate d headed)
-    (second g s.After-write d headed (first g s.After-write_at d is))
+    third g s.After-put d (is-headed g s.In_ok-write_at d is le) (first g s.After-write_at d is)
 
 pub returns-clause-gate : goal.returns-clause-gate
 returns-clause-gate g c = λ d is le.
     let s = goal.at.returns-clause-gate g c in
-    (is-filled g s.In_ok-gate d (is-headed g s.In_ok-write_at d is le)).behind
+    let headed = is-headed g s.In_ok-write_at d is le in
+    c.in_ok-gate.ensures.behind (written d c.args.at c.head_of.result) headed.is headed.place
 
 pub returns-clause-written : goal.returns-clause-written
 returns-clause-written g c = λ d is le.
@@ -116,7 +110,8 @@ returns-clause-written g c = λ d is le.
     let head = c.head_of.result in
     let body = c.args.body.now in
     let headed = is-headed g s.In_ok-write_at d is le in
-    let filled = is-filled g s.In_ok-gate d headed in
+    let filled = is-filled body at c.in_ok-gate.gate headed.is headed.place c.in_ok-gate.ensures.written
+    c.in_ok-gate.ensures.behind in
     let mid = written (written d at head) (at + 9) body in
     let both : mid ≡ written d at (head ++ body) =
     ap (λ (n : ℕ). written (written d at head) (at + n) body) (sym headed.nine) ∙ written-both d at head body le in

@@ -2,6 +2,7 @@
 use Rattle.std.proofs.Common.{◌≡◌, ℕ, ◌<◌, ◌≤◌, Bool, true, false, List, length, get_or, refl, sym}
 use Rattle.std.proofs.Common.{◌∙◌, arith, Some, None}
 use Rattle.sz_core.proofs.Placing.{missing-some, missing-none}
+use Rattle.sz_core.proofs.shelf.IndexedShelf.seal.Goals.{After-first_unmarked-self-inside}
 use Rattle.sz_core.proofs.shelf.IndexedShelf.seal.Goals as goal
 use Rattle.sz_core.specs.contracts.shelf.IndexedShelf.{the_view}
 use Rattle.sz_core.specs.Invariants.{AreMarks}
@@ -24,42 +25,30 @@ none-missing s marks least found count are below past =
     missing-none s (λ k h. let inside : k < length marks = rw count h in sym (are.marked k inside)
     ∙ below k (omega arith))
 
-pub returns-then-self-len-clause-told : goal.returns-then-self-len-clause-told
-returns-then-self-len-clause-told c =
-    let s = the_view c.self.inside in
+missing : (c : After-first_unmarked-self-inside)
+    → c.first_unmarked-self-inside.result < length c.self.inside.marks.items
+    → missing_piece (the_view c.self.inside) ≡ Some c.first_unmarked-self-inside.result
+missing c within =
     let f = c.first_unmarked-self-inside in
-    let least = least-missing s c.self.inside.marks.items c.self.inside.least f.result c.self.invariant.0
-    c.self.invariant.1
-    (rw c.deref.ensures.value at f.ensures.below) (rw c.deref.ensures.value at f.ensures.here)
+    least-missing (the_view c.self.inside) c.self.inside.marks.items c.self.inside.least f.result c.self.invariant.0
+    c.self.invariant.1 (rw c.deref.ensures.value at f.ensures.below) (rw c.deref.ensures.value at f.ensures.here) within
+
+complete : (c : After-first_unmarked-self-inside)
+    → length c.self.inside.marks.items ≤ c.first_unmarked-self-inside.result
+    → missing_piece (the_view c.self.inside) ≡ None
+complete c past =
+    let f = c.first_unmarked-self-inside in
+    none-missing (the_view c.self.inside) c.self.inside.marks.items c.self.inside.least f.result c.self.invariant.0
+    c.self.invariant.1 (rw c.deref.ensures.value at f.ensures.below) past
+
+pub returns-then-self-len : goal.returns-then-self-len
+returns-then-self-len c =
+    let is = missing (goal.at.returns-then-self-len c).After-first_unmarked-self-inside
     (omega (arith, c.len.ensures, c.if-self-len.true, c.self.inside.marks.ok)) in
-    rw (← c.self.view_is, least) refl
+    record { told = rw (← c.self.view_is, is) refl; after = rw (← c.self.view_is, is) refl }
 
-pub returns-then-self-len-clause-after : goal.returns-then-self-len-clause-after
-returns-then-self-len-clause-after c =
-    let s = the_view c.self.inside in
-    let f = c.first_unmarked-self-inside in
-    let least = least-missing s c.self.inside.marks.items c.self.inside.least f.result c.self.invariant.0
-    c.self.invariant.1
-    (rw c.deref.ensures.value at f.ensures.below) (rw c.deref.ensures.value at f.ensures.here)
-    (omega (arith, c.len.ensures, c.if-self-len.true, c.self.inside.marks.ok)) in
-    rw (← c.self.view_is, least) refl
-
-pub returns-else-self-len-clause-told : goal.returns-else-self-len-clause-told
-returns-else-self-len-clause-told c =
-    let s = the_view c.self.inside in
-    let f = c.first_unmarked-self-inside in
-    let none = none-missing s c.self.inside.marks.items c.self.inside.least f.result c.self.invariant.0
-    c.self.invariant.1
-    (rw c.deref.ensures.value at f.ensures.below)
+pub returns-else-self-len : goal.returns-else-self-len
+returns-else-self-len c =
+    let is = complete (goal.at.returns-else-self-len c).After-first_unmarked-self-inside
     (omega (arith, c.len.ensures, c.if-self-len.false, c.self.inside.marks.ok)) in
-    rw (← c.self.view_is, none) refl
-
-pub returns-else-self-len-clause-after : goal.returns-else-self-len-clause-after
-returns-else-self-len-clause-after c =
-    let s = the_view c.self.inside in
-    let f = c.first_unmarked-self-inside in
-    let none = none-missing s c.self.inside.marks.items c.self.inside.least f.result c.self.invariant.0
-    c.self.invariant.1
-    (rw c.deref.ensures.value at f.ensures.below)
-    (omega (arith, c.len.ensures, c.if-self-len.false, c.self.inside.marks.ok)) in
-    rw (← c.self.view_is, none) refl
+    record { told = rw (← c.self.view_is, is) refl; after = rw (← c.self.view_is, is) refl }
