@@ -5,7 +5,7 @@ use Rattle.std.proofs.lemmas.List.{length-map}
 use Rattle.std.specs.Arc.{arc_value}
 use Rattle.sz_cells.specs.Extent.{Extent, holds, index_of}
 use Rattle.sz_spec.specs.Values.{Grid, input_at}
-use Rattle.sz_spec.specs.Shapes.{Site, arity}
+use Rattle.sz_spec.specs.Shapes.{Site}
 use Rattle.sz_spec.specs.Work.{IsAtWork}
 use Rattle.std.specs.Prelude.{List}
 use Rattle.sz_frame.proofs.Inputs.{input-extent}

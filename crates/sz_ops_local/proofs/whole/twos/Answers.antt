@@ -7,18 +7,6 @@ use Rattle.sz_spec.specs.Values.{with_numbers}
 use Rattle.sz_ops_local.proofs.Made.{made-next, made-all, zip-at, zip-below}
 use Rattle.sz_ops_local.proofs.whole.twos.Goals as goal
 
-pub loop-k-init : goal.loop-k-init
-loop-k-init g c = record {
-  made = c.reserve.ensures.items ∙ c.new-values.ensures.items;
-  count = c.reserve.ensures.len ∙ c.new-values.ensures.len;
-  room = omega (arith, c.in_ok-reserve.ensures.ok);
-}
-
-pub push_reserved-requires : goal.push_reserved-requires
-push_reserved-requires g c =
-    let inv = c.loop-k.invariant in
-    omega (arith, inv.count, inv.room, c.loop-k-test.true)
-
 pub loop-k-preserved : goal.loop-k-preserved
 loop-k-preserved g c =
     let inv = c.loop-k.invariant in
