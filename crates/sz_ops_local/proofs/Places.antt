@@ -87,6 +87,14 @@ mapped-same Min ins i o x h few = ap (λ b. b && is_same x o) (lt-ltb i 2 few)
 mapped-same Max ins i o x h few = ap (λ b. b && is_same x o) (lt-ltb i 2 few)
 mapped-same _ ins i o x h few = absurd (true≢false (sym h))
 
+-- at a site
+pub same-at : (s : Site) (i : ℕ) → is_elementwise s.op ≡ true → IsSite s → i < length s.ins → extent_at s.ins i ≡ s.out
+same-at s i h site few = same-shapes s.op s.ins s.out i h (omega (arith, few, site.arity)) site.shape
+
+pub mapped-at : (s : Site) (i : ℕ) (o x : Cell) → is_elementwise s.op ≡ true → IsSite s → i < length s.ins
+    → mapped s.op s.ins i o x ≡ is_same x o
+mapped-at s i o x h site few = mapped-same s.op s.ins i o x h (omega (arith, few, site.arity))
+
 -- some cell of a set is at the place of a cell exactly where the cell is in the set
 pub any-at_place : (e : Extent) (from : Cells) (q : Cell → Bool) (o : Cell) → from ≡ cells_where e (has from)
     → holds e o ≡ true
@@ -101,19 +109,17 @@ pub image-same : (dir : Dir) (s : Site) (i : ℕ) (from : Cells) (x : Cell) → 
     → from ≡ cells_where (near_side dir s i) (has from) → holds (far_side dir s i) x ≡ true
     → has from x ≡ has (image_in dir s i (mapped s.op s.ins i) from) x
 image-same Back s i from x h site few own held =
-    let few' : i < arity s.op = omega (arith, site.arity) in
-    let near : holds s.out x ≡ true = rw (← same-shapes s.op s.ins s.out i h few' site.shape) held in
+    let near : holds s.out x ≡ true = rw (← same-at s i h site few) held in
     sym
     (has-cells_where (extent_at s.ins i) (λ y. any_cell (λ o. mapped s.op s.ins i o y) from) x held
-    ∙ any-at_place s.out from (λ o. mapped s.op s.ins i o x) x own near (λ o. mapped-same s.op s.ins i o x h few'
+    ∙ any-at_place s.out from (λ o. mapped s.op s.ins i o x) x own near (λ o. mapped-at s i o x h site few
     ∙ is_same-flip x o))
 image-same Forward s i from x h site few own held =
-    let few' : i < arity s.op = omega (arith, site.arity) in
-    let near : holds (extent_at s.ins i) x ≡ true = rw (same-shapes s.op s.ins s.out i h few' site.shape) held in
+    let near : holds (extent_at s.ins i) x ≡ true = rw (same-at s i h site few) held in
     sym
     (has-cells_where s.out (λ o. any_cell (λ c. mapped s.op s.ins i o c) from) x held
-    ∙ any-at_place (extent_at s.ins i) from (λ c. mapped s.op s.ins i x c) x own near (λ c. mapped-same s.op
-    s.ins i x c h few'))
+    ∙ any-at_place (extent_at s.ins i) from (λ c. mapped s.op s.ins i x c) x own near
+    (λ c. mapped-at s i x c h site few))
 
 -- the two sides of a step have one shape
 pub same-sides : (dir : Dir) (s : Site) (i : ℕ) → ((j : ℕ) → j < length s.ins → extent_at s.ins j ≡
