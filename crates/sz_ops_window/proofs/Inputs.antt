@@ -6,6 +6,9 @@ use Rattle.std.specs.Prelude.{ℤ, Result, Ok}
 use Rattle.std.specs.Result.{result_unwrap_or}
 use Rattle.sz_cells.specs.declared.Cell.{Cell}
 use Rattle.sz_cells.specs.Extent.{Extent}
+use Rattle.sz_cells.specs.Cells.{Cells, with_those}
+use Rattle.sz_spec.specs.declared.modes.Dir.{Dir}
+use Rattle.sz_spec.specs.declared.modes.Dir.TheVariants.{Back, Forward}
 use Rattle.sz_spec.specs.declared.op.Op.{Op}
 use Rattle.sz_spec.specs.declared.op.Op.TheVariants.{Neg}
 use Rattle.sz_spec.specs.declared.op.Op.TheVariants.{Convolve}
@@ -18,6 +21,8 @@ use Rattle.sz_spec.specs.Operators.Convolve.{is_convolved}
 use Rattle.sz_spec.specs.Operators.Clean.{is_hot, is_in_square}
 use Rattle.sz_spec.specs.Lineage.{mapped, related}
 use Rattle.sz_spec.specs.Work.{IsAtWork}
+use Rattle.sz_frame.specs.Walks.{steps}
+use Rattle.sz_frame.proofs.Added.{with-ext}
 use Rattle.sz_frame.proofs.Inputs.{input-extent}
 use Rattle.sz_ops_window.specs.Windowed.{is_windowed}
 use Rattle.sz_ops_window.specs.Taps.{one, nine}
@@ -64,9 +69,29 @@ convolve-mapped s kernel i o x is ins few =
     rw (is, no-other_input s i ins few)
     (ap (λ (e : Extent). is_convolved e kernel o x) (sym (ap (λ (es : List Extent). extent_at es 0) ins)))
 
+-- what a step under the weights adds is what a step of the mapping adds
+pub steps-mapped : (dir : Dir) (s : Site) (kernel : Weights) (i : ℕ) (from : Cell) (to : Cells)
+    → s.op ≡ Convolve kernel → s.ins ≡ s.out ∷ [] → i < length s.ins
+    → with_those to (steps dir (is_convolved s.out kernel) from) ≡ with_those to (steps dir (mapped s.op s.ins i) from)
+steps-mapped Back s kernel i from to is ins few =
+    with-ext to (is_convolved s.out kernel from) (mapped s.op s.ins i from)
+    (λ x held. convolve-mapped s kernel i from x is ins few)
+steps-mapped Forward s kernel i from to is ins few =
+    with-ext to (λ o. is_convolved s.out kernel o from) (λ o. mapped s.op s.ins i o from)
+    (λ o held. convolve-mapped s kernel i o from is ins few)
+
 -- clean is one of these operators
 pub clean-windowed : (s : Site) (t : ℤ) → s.op ≡ Clean t → is_windowed s.op ≡ true
 clean-windowed s t is = rw is refl
+
+-- so its one input has the output's shape, and what it relates does not hang on which input is asked for
+pub clean-side : (s : Site) (t : ℤ) (i : ℕ) → s.op ≡ Clean t → IsSite s → i < length s.ins → extent_at s.ins i ≡ s.out
+clean-side s t i is site few = input-side s i (one-input s (clean-windowed s t is) site) few
+
+pub clean-related : (s : Site) (t : ℤ) (grids : List Grid) (i : ℕ) (o x : Cell) → s.op ≡ Clean t → IsSite s
+    → i < length s.ins → related s.op grids 0 o x ≡ related s.op grids i o x
+clean-related s t grids i o x is site few =
+    ap (λ (n : ℕ). related s.op grids n o x) (sym (no-other_input s i (one-input s (clean-windowed s t is) site) few))
 
 -- clean relates a hot cell to its square, and any other to itself
 pub hot-related : (s : Site) (inputs : List Grid) (t : ℤ) (o x : Cell) → s.op ≡ Clean t → is_windowed s.op ≡ true

@@ -113,21 +113,26 @@ part-out : (g : Grid) (w : Weights) (o : Cell) (n : ℕ) → is_in_range g.exten
 part-out g w o n out =
     elim (cases_Bool (is_zero (tap_at w n).weight)) [ inl t ↦ rw t refl | inr f ↦ rw (f, out) refl ]
 
+tap-out : (g : Grid) (w : Weights) (o : Cell) (row col : ℕ) → row < w.rows → col < w.cols
+    → ((nat_le (reach_of g.extent w o).top row && nat_lt row (reach_of g.extent w o).bottom)
+    && (nat_le (reach_of g.extent w o).left col && nat_lt col (reach_of g.extent w o).right)) ≡ false
+    → part_of g w o (row * w.cols + col) ≡ Some (pos 0)
+tap-out g w o row col tall wide out =
+    part-out g w o (row * w.cols + col)
+    (by-sides g.extent w o (row * w.cols + col) row col (tap-row w row col wide) (tap-col w row col wide) tall wide
+    ∙ out)
+
 pub row-out : (g : Grid) (w : Weights) (o : Cell) (row col : ℕ) → row < w.rows → col < w.cols
     → ((row < (reach_of g.extent w o).top) ⊎ ((reach_of g.extent w o).bottom ≤ row))
     → part_of g w o (row * w.cols + col) ≡ Some (pos 0)
-row-out g w o row col tall wide out =
-    part-out g w o (row * w.cols + col)
-    (by-sides g.extent w o (row * w.cols + col) row col (tap-row w row col wide) (tap-col w row col wide) tall wide
-    ∙ (elim out [ inl above ↦ grind (arith, nat_tests, above) | inr below ↦ grind (arith, nat_tests, below) ]))
+row-out g w o row col tall wide out = tap-out g w o row col tall wide
+    (elim out [ inl above ↦ grind (arith, nat_tests, above) | inr below ↦ grind (arith, nat_tests, below) ])
 
 pub col-out : (g : Grid) (w : Weights) (o : Cell) (row col : ℕ) → row < w.rows → col < w.cols
     → ((col < (reach_of g.extent w o).left) ⊎ ((reach_of g.extent w o).right ≤ col))
     → part_of g w o (row * w.cols + col) ≡ Some (pos 0)
-col-out g w o row col tall wide out =
-    part-out g w o (row * w.cols + col)
-    (by-sides g.extent w o (row * w.cols + col) row col (tap-row w row col wide) (tap-col w row col wide) tall wide
-    ∙ (elim out [ inl before ↦ grind (arith, nat_tests, before) | inr behind ↦ grind (arith, nat_tests, behind) ]))
+col-out g w o row col tall wide out = tap-out g w o row col tall wide
+    (elim out [ inl before ↦ grind (arith, nat_tests, before) | inr behind ↦ grind (arith, nat_tests, behind) ])
 
 -- whole rows that are out of reach
 -- a quotient is not below

@@ -436,26 +436,9 @@ fn mark_where(
     ensures behind { (k : ℕ) → first + count ≤ k
         → slice_index_or marks.new k false ≡ slice_index_or marks.old k false }
 {
-    if !whole {
-        mark_voids(voids, start, count, marks, first);
+    if whole {
+        return;
     }
-}
-
-/// The same, where each is looked at.
-fn mark_voids(voids: &[bool], start: usize, count: usize, marks: &mut [bool], first: usize)
-    requires within { start + count ≤ length voids.now }
-    requires few { length voids.now ≤ 1048576 }
-    requires room { first + count ≤ length marks.old }
-    requires short { length marks.old ≤ 1048576 }
-    ensures long { length marks.new ≡ length marks.old }
-    ensures added { (k : ℕ) → k < count → slice_index_or marks.new (first + k) false
-        ≡ (slice_index_or marks.old (first + k) false
-        || slice_index_or voids.now (start + k) false) }
-    ensures before { (k : ℕ) → k < first
-        → slice_index_or marks.new k false ≡ slice_index_or marks.old k false }
-    ensures behind { (k : ℕ) → first + count ≤ k
-        → slice_index_or marks.new k false ≡ slice_index_or marks.old k false }
-{
     for k in 0..count {
         marks[first + k] = marks[first + k] | voids[start + k];
     }

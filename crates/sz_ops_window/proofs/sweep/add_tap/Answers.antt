@@ -1,5 +1,6 @@
 -- A tap adds its weight times the number under it, and nothing where it lies on no cell.
-use Rattle.std.proofs.Common.{◌≡◌, ℕ, ◌+◌, ◌-◌, ◌*◌, ◌/◌, ◌%◌, ◌<◌, ◌≤◌, true, false, arith, rules, ap, ap₂, sym, subst}
+use Rattle.std.proofs.Common.{◌≡◌, ℕ, ◌+◌, ◌-◌, ◌*◌, ◌/◌, ◌%◌, ◌<◌, ◌≤◌, true, false, arith, rules, ap, ap₂, sym}
+use Rattle.std.proofs.Common.{subst}
 use Rattle.std.proofs.Common.{◌∙◌}
 use Rattle.std.proofs.Common.{get_or, length, inl, inr, None, refl, FitsSigned, to_z, of_z, w32}
 use Rattle.std.proofs.lemmas.Int.{to_z-of_z}
@@ -110,6 +111,23 @@ first : (c : After-reached-first) → c.reached-first.result.0 < c.reached-first
     (size_of c.args.array.now.extent)
 first c some = few c c.reached-first.result.0 (omega arith) some
 
+-- all the cells under the tap are cells of the array
+within : (c : After-reached-first) → c.reached-first.result.0 < c.reached-first.result.1
+    → (((c.args.row + c.args.number / c.mask.inside.cols) - c.mask.inside.rows / 2) * c.shape.inside.cols
+    + ((c.reached-first.result.0 + c.args.number % c.mask.inside.cols) - c.mask.inside.cols / 2))
+    + (c.reached-first.result.1 - c.reached-first.result.0) ≤ length c.args.array.now.values
+within c some =
+    let end = few c (c.reached-first.result.1 - 1) (omega (arith, some)) (omega (arith, some)) in
+    omega (arith, end.index, (first c some).before, some, (is-on c).size)
+
+-- and the array is not large
+sizes : (c : After-reached-first)
+    → (length c.args.array.now.values ≤ 1048576) × (c.args.array.now.extent.cols ≤ 1048576)
+sizes c =
+    let on = is-on c in
+    let small = are-small c.args.array.now.extent on.right in
+    (omega (arith, small.size, on.size), omega (arith, small.cols))
+
 pub reached-first-requires-clause-cols : goal.reached-first-requires-clause-cols
 reached-first-requires-clause-cols c =
     let right : is_extent c.args.array.now.extent ≡ true =
@@ -147,24 +165,16 @@ add_times-requires-clause-numbers c = λ k low.
 
 pub add_times-requires-clause-within : goal.add_times-requires-clause-within
 add_times-requires-clause-within c =
-    let here = (goal.at.add_times-requires-clause-within c).After-reached-first in
-    let on = is-on here in
-    let low = first here c.if-first-end.true in
-    let end = few here (c.reached-first.result.1 - 1) (omega (arith, c.if-first-end.true))
-    (omega (arith, c.if-first-end.true)) in
-    omega (arith, end.index, low.before, c.if-first-end.true, on.size, c.requires.numbers.0)
+    let all = within (goal.at.add_times-requires-clause-within c).After-reached-first c.if-first-end.true in
+    omega (arith, all, c.requires.numbers.0)
 
 pub add_times-requires-clause-few : goal.add_times-requires-clause-few
 add_times-requires-clause-few c =
-    let on = is-on (goal.at.add_times-requires-clause-few c).After-reached-first in
-    let small = are-small c.args.array.now.extent on.right in
-    omega (arith, small.size, on.size, c.requires.numbers.0)
+    omega (arith, (sizes (goal.at.add_times-requires-clause-few c).After-reached-first).0, c.requires.numbers.0)
 
 pub add_times-requires-clause-short : goal.add_times-requires-clause-short
 add_times-requires-clause-short c =
-    let on = is-on (goal.at.add_times-requires-clause-short c).After-reached-first in
-    let small = are-small c.args.array.now.extent on.right in
-    omega (arith, small.cols, c.requires.long)
+    omega (arith, (sizes (goal.at.add_times-requires-clause-short c).After-reached-first).1, c.requires.long)
 
 pub bounds-sheet-under : goal.bounds-sheet-under
 bounds-sheet-under c =
@@ -179,47 +189,32 @@ bounds-sheet-under c =
     let down : n / c.mask.inside.cols ≡ n / w.cols = ap (λ (m : ℕ). n / m) on.cols in
     omega (arith, lies.below, down, on.rows, c.requires.rows)
 
-pub mark_where-requires-clause-none : goal.mark_where-requires-clause-none
-mark_where-requires-clause-none c = λ is k low.
-    let here = (goal.at.mark_where-requires-clause-none c).After-reached-first in
+pub mark_where-requires : goal.mark_where-requires
+mark_where-requires c =
+    let here = (goal.at.mark_where-requires c).After-reached-first in
     let on = is-on here in
     let g = c.args.array.now in
-    let n = c.args.number in
-    let from = first here c.if-first-end.true in
-    let under = (c.args.row + n / c.mask.inside.cols) - c.mask.inside.rows / 2 in
-    let x = ((c.reached-first.result.0 + k) + n % c.mask.inside.cols) - c.mask.inside.cols / 2 in
-    let e = g.extent in
     let w = c.args.mask.now in
-    let lies : IsUnder e w (at c.args.row (c.reached-first.result.0 + k)) (n / w.cols) (n % w.cols) =
-    under-at e w c.args.row (c.reached-first.result.0 + k) n c.reached-first.result.0 c.reached-first.result.1 on.right
-    on.kernel c.requires.number c.requires.row on.starts on.ends (omega arith) (omega (arith, low, c.if-first-end.true))
-    on.top on.bottom in
-    let behind : x < g.extent.cols = rw on.cols lies.behind in
+    let n = c.args.number in
+    let under = (c.args.row + n / c.mask.inside.cols) - c.mask.inside.rows / 2 in
     let begin = (c.reached-first.result.0 + n % c.mask.inside.cols) - c.mask.inside.cols / 2 in
-    let along : (under * c.shape.inside.cols + begin) + k ≡ under * g.extent.cols + x =
-    ap (λ (m : ℕ). (under * m + begin) + k) on.wide ∙ omega (arith, from.before) in
-    ap (λ (i : ℕ). get_or c.args.sheet.voids.now i false) along ∙ c.requires.whole under is x behind
-
-pub mark_where-requires-clause-within : goal.mark_where-requires-clause-within
-mark_where-requires-clause-within c =
-    let here = (goal.at.mark_where-requires-clause-within c).After-reached-first in
-    let on = is-on here in
-    let low = first here c.if-first-end.true in
-    let end = few here (c.reached-first.result.1 - 1) (omega (arith, c.if-first-end.true))
-    (omega (arith, c.if-first-end.true)) in
-    omega (arith, end.index, low.before, c.if-first-end.true, on.size, c.requires.voids.0)
-
-pub mark_where-requires-clause-few : goal.mark_where-requires-clause-few
-mark_where-requires-clause-few c =
-    let on = is-on (goal.at.mark_where-requires-clause-few c).After-reached-first in
-    let small = are-small c.args.array.now.extent on.right in
-    omega (arith, small.size, on.size, c.requires.voids.0)
-
-pub mark_where-requires-clause-short : goal.mark_where-requires-clause-short
-mark_where-requires-clause-short c =
-    let on = is-on (goal.at.mark_where-requires-clause-short c).After-reached-first in
-    let small = are-small c.args.array.now.extent on.right in
-    omega (arith, small.cols, c.requires.wide)
+    record {
+      none = λ is k low.
+          let x = ((c.reached-first.result.0 + k) + n % c.mask.inside.cols) - c.mask.inside.cols / 2 in
+          let lies : IsUnder g.extent w (at c.args.row (c.reached-first.result.0 + k)) (n / w.cols) (n % w.cols) =
+          under-at g.extent w c.args.row (c.reached-first.result.0 + k) n c.reached-first.result.0
+          c.reached-first.result.1 on.right on.kernel c.requires.number c.requires.row on.starts on.ends (omega arith)
+          (omega (arith, low, c.if-first-end.true)) on.top on.bottom in
+          let behind : x < g.extent.cols = rw on.cols lies.behind in
+          let from = first here c.if-first-end.true in
+          let along : (under * c.shape.inside.cols + begin) + k ≡ under * g.extent.cols + x =
+          ap (λ (m : ℕ). (under * m + begin) + k) on.wide ∙ omega (arith, from.before) in
+          ap (λ (i : ℕ). get_or c.args.sheet.voids.now i false) along ∙ c.requires.whole under is x behind;
+      within = omega (arith, within here c.if-first-end.true, c.requires.voids.0);
+      few = omega (arith, (sizes here).0, c.requires.voids.0);
+      room = omega (arith, c.reached-first.ensures.end, on.wide, c.requires.wide);
+      short = omega (arith, (sizes here).1, c.requires.wide);
+    }
 
 pub returns-then-first-end-clause-sums : goal.returns-then-first-end-clause-sums
 returns-then-first-end-clause-sums c =
@@ -252,11 +247,9 @@ returns-then-first-end-clause-sums c =
 pub returns-else-first-end-clause-sums : goal.returns-else-first-end-clause-sums
 returns-else-first-end-clause-sums c =
     let on = is-on (goal.at.returns-else-first-end-clause-sums c).After-reached-first in
-    let g = c.args.array.now in
-    let w = c.args.mask.now in
     let n = c.args.number in
-    swept g w c.args.row n c.args.limits.number c.args.limits.weight c.reached-first.result.0 c.reached-first.result.1 0
-    c.args.sheet.numbers.now c.args.sums.now c.args.sums.now c.args.sheet.voids.now c.args.marks.now c.args.marks.now
+    swept c.args.array.now c.args.mask.now c.args.row n c.args.limits.number c.args.limits.weight
+    c.reached-first.result.0 c.reached-first.result.1 0 c.args.sheet.numbers.now c.args.sums.now c.args.sums.now c.args.sheet.voids.now c.args.marks.now c.args.marks.now
     on.right on.kernel c.requires.number c.requires.row on.starts on.ends
     (λ low. absurd (omega (arith, low, c.if-first-end.false))) on.top on.bottom on.some
     (c.requires.weights n c.requires.number) c.requires.smooth c.requires.numbers c.requires.voids on.size

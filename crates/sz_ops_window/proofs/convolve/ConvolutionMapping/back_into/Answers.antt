@@ -1,11 +1,7 @@
 -- Under the weights lie just the cells to which the mapping leads.
 use Rattle.std.proofs.Common.{◌∙◌}
 use Rattle.sz_spec.specs.declared.modes.Dir.TheVariants.{Back}
-use Rattle.sz_spec.specs.Lineage.{mapped}
-use Rattle.sz_spec.specs.Operators.Convolve.{is_convolved}
-use Rattle.sz_frame.specs.Walks.{steps}
-use Rattle.sz_frame.proofs.Added.{with-ext}
-use Rattle.sz_ops_window.proofs.Inputs.{convolve-mapped, input-side}
+use Rattle.sz_ops_window.proofs.Inputs.{steps-mapped, input-side}
 use Rattle.sz_ops_window.proofs.convolve.ConvolutionMapping.back_into.Goals as goal
 
 pub add_under-requires-clause-to : goal.add_under-requires-clause-to
@@ -15,11 +11,6 @@ add_under-requires-clause-to c =
 
 pub returns : goal.returns
 returns c =
-    let w = c.args.self.now in
-    let s = w.at.now in
-    let told = rw (c.same_shape-shape.ensures.out, c.mask.ensures) at c.add_under.ensures in
-    told
-    ∙ with-ext c.args.to.now (steps Back (is_convolved s.out w.kernel.now) c.args.out)
-    (λ x. mapped s.op s.ins c.args._input c.args.out x)
-    (λ x held. convolve-mapped s w.kernel.now c.args._input c.args.out x w.kind c.same_shape-shape.ensures.ins
-    c.requires.input)
+    (rw (c.same_shape-shape.ensures.out, c.mask.ensures) at c.add_under.ensures)
+    ∙ steps-mapped Back c.args.self.now.at.now c.args.self.now.kernel.now c.args._input c.args.out c.args.to.now
+    c.args.self.now.kind c.same_shape-shape.ensures.ins c.requires.input

@@ -1,7 +1,7 @@
 -- The marks so far have those of the cells, and no other has changed.
 use Rattle.std.proofs.Common.{◌≡◌, ℕ, ◌+◌, ◌<◌, ◌≤◌, get_or, false}
 use Rattle.std.specs.Prelude.{◌||◌}
-use Rattle.sz_ops_window.proofs.sweep.mark_voids.Given as goal
+use Rattle.sz_ops_window.proofs.sweep.mark_where.Given as goal
 
 abbrev pub invariant-loop-k : goal.invariant-loop-k
 invariant-loop-k l = record {

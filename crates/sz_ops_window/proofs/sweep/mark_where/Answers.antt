@@ -2,7 +2,7 @@
 use Rattle.std.proofs.Common.{◌+◌, ◌<◌, Bool, false, arith, ◌∙◌, ap, length}
 use Rattle.std.proofs.Common.{get_or, get_or-set_other, get_or-set_same, below_more}
 use Rattle.std.specs.Prelude.{◌||◌}
-use Rattle.sz_ops_window.proofs.sweep.mark_voids.Goals as goal
+use Rattle.sz_ops_window.proofs.sweep.mark_where.Goals as goal
 
 pub loop-k-preserved : goal.loop-k-preserved
 loop-k-preserved c =
