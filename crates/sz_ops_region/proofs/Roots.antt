@@ -37,22 +37,27 @@ set-kept words at w has some k =
     (λ here is. (λ h. omega (arith, is, some), λ h. subst (HasLink words) (sym here) has))
     (λ apart is. (λ h. omega (arith, is, h), λ h. omega (arith, is, h)))
 
+-- a cell that has a link is linked to a lesser one that has one
+links-set : (words : List ℕ) (at to : ℕ) → AreLinks words → HasLink words at → HasLink words to → to ≤ at
+    → AreLinks (set words at (1 + to))
+links-set words at to are has other low =
+    let inside = link-inside words at has in
+    let kept = set-kept words at (1 + to) has (omega arith) in
+    record {
+      down = λ k p is. set-cases words at (1 + to) k inside
+          (λ here now. omega (arith, here, now, is, low)) (λ apart now. are.down k p (sym now ∙ is));
+      linked = λ k p is. (kept p).0 (set-cases {P = HasLink words p} words at (1 + to) k inside
+          (λ here now. subst (HasLink words) (omega (arith, now, is)) other)
+          (λ apart now. are.linked k p (sym now ∙ is)));
+    }
+
 -- ---- the way to a root is shortened
 
 pub links-skip : (words : List ℕ) (at up over : ℕ) → AreLinks words → get_or words at 0 ≡ 1 + up
     → get_or words up 0 ≡ 1 + over → AreLinks (set words at (1 + over))
 links-skip words at up over are first second =
-    let has : HasLink words at = omega (arith, first) in
-    let inside = link-inside words at has in
-    let kept = set-kept words at (1 + over) has (omega arith) in
-    record {
-      down = λ k p is. set-cases words at (1 + over) k inside
-          (λ here now. omega (arith, here, now, is, are.down at up first, are.down up over second))
-          (λ apart now. are.down k p (sym now ∙ is));
-      linked = λ k p is. (kept p).0 (set-cases {P = HasLink words p} words at (1 + over) k inside
-          (λ here now. subst (HasLink words) (omega (arith, now, is)) (are.linked up over second))
-          (λ apart now. are.linked k p (sym now ∙ is)));
-    }
+    links-set words at over are (omega (arith, first)) (are.linked up over second)
+    (omega (arith, are.down at up first, are.down up over second))
 
 pub roots-skip : (words : List ℕ) (root : ℕ → ℕ) (at up over : ℕ) → AreLinks words → AreRoots words root
     → get_or words at 0 ≡ 1 + up → get_or words up 0 ≡ 1 + over → AreRoots (set words at (1 + over)) root
@@ -78,16 +83,7 @@ roots-skip words root at up over are roots first second =
 pub links-move : (words : List ℕ) (from to : ℕ) → AreLinks words → get_or words from 0 ≡ 1 + from
     → get_or words to 0 ≡ 1 + to → to ≤ from → AreLinks (set words from (1 + to))
 links-move words from to are first second low =
-    let has : HasLink words from = omega (arith, first) in
-    let inside = link-inside words from has in
-    let kept = set-kept words from (1 + to) has (omega arith) in
-    record {
-      down = λ k p is. set-cases words from (1 + to) k inside
-          (λ here now. omega (arith, here, now, is, low)) (λ apart now. are.down k p (sym now ∙ is));
-      linked = λ k p is. (kept p).0 (set-cases {P = HasLink words p} words from (1 + to) k inside
-          (λ here now. subst (HasLink words) (omega (arith, now, is)) (are.linked to to second))
-          (λ apart now. are.linked k p (sym now ∙ is)));
-    }
+    links-set words from to are (omega (arith, first)) (are.linked to to second) low
 
 -- a root that is moved, and one that is not
 moved-it : (from to r : ℕ) → r ≡ from → moved from to r ≡ to

@@ -14,7 +14,6 @@ ghost use Rattle.sz_ops_region.specs.Regions.{is_regions, aid_of};
 
 use crate::aid::{Aid, Kept};
 use crate::cell_labels::Labels;
-use crate::components::Components;
 use crate::output::value_of;
 use crate::work::{Labelling, components_over, threshold};
 use std::alloc::Global;
@@ -119,39 +118,14 @@ pub fn piece(
     ensures ticks { OnOk result (tally.new ≡ tally.old + cells_in_piece at.now.out k) }
     ensures kept { OnErr result (tally.new ≡ tally.old) }
 {
+    let t = threshold(at);
     match aid.kept() {
         Kept::Labels(_) => {
-            let components = components_over(alloc, at, inputs)?;
-            piece_over(alloc, at, inputs, &components, k, list, tally)
+            let aid = &components_over(alloc, at, inputs)?;
+            piece_by(alloc, &Labelling { at, inputs, aid, t }, k, list, tally)
         }
-        Kept::Components(components) => piece_over(alloc, at, inputs, components, k, list, tally),
+        Kept::Components(aid) => {
+            piece_by(alloc, &Labelling { at, inputs, aid, t }, k, list, tally)
+        }
     }
-}
-
-/// The lineage of a piece, by the components.
-fn piece_over(
-    alloc: Global,
-    at: &OpAt,
-    inputs: &[Arc<Array>],
-    aid: &Components,
-    k: u32,
-    list: &[Strategy],
-    tally: &mut Tally,
-) -> Result<PieceLineage, NoMemory>
-    requires regions { is_regions at.now.op ≡ true }
-    requires inputs { extents_of (map (λ a. arc_value a) inputs.now) ≡ at.now.ins }
-    requires aid { aid.now ≡ aid_of at.now.op (map (λ a. arc_value a) inputs.now) }
-    requires piece { k < pieces_of at.now.out }
-    requires supported { All (λ s. supports at.now.op s ≡ true) list.now }
-    requires room { tally.old + cells_in_piece at.now.out k < 2 ^ 63 }
-    ensures piece { IfOk result (λ p. p.piece ≡ k) }
-    ensures written { IfOk result
-        (λ p. p ≡ parts_by at.now (map (λ a. arc_value a) inputs.now) list.now k) }
-    ensures fits { IfOk result
-        (λ p. Fits (measure_of at.now (map (λ a. arc_value a) inputs.now)) list.now k p) }
-    ensures ticks { OnOk result (tally.new ≡ tally.old + cells_in_piece at.now.out k) }
-    ensures kept { OnErr result (tally.new ≡ tally.old) }
-{
-    let t = threshold(at);
-    piece_by(alloc, &Labelling { at, inputs, aid, t }, k, list, tally)
 }
