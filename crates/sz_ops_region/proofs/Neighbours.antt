@@ -40,33 +40,29 @@ some-side e a b near each =
     ]
 
 -- cells of one column and rows that follow, and cells of one row and columns that follow, are neighbours
-col-near : (e : Extent) (a b : Cell) → (a.col == b.col) ≡ true → ((a.row + 1 == b.row) || (b.row + 1 == a.row)) ≡ true
+col-near : (e : Extent) (a b : Cell) (x : Bool) → ((a.col == b.col) && x) ≡ true
+    → (x ≡ true → ((a.row + 1 == b.row) || (b.row + 1 == a.row)) ≡ true)
     → (layer_of e a == layer_of e b) ≡ true → are_neighbours e a b ≡ true
-col-near e a b col rows layer =
+col-near e a b x on rows layer =
+    let both = and_parts (a.col == b.col) x on in
     and_from _ _ layer (or_right ((a.row == b.row) && ((a.col + 1 == b.col) || (b.col + 1 == a.col)))
-    ((a.col == b.col) && ((a.row + 1 == b.row) || (b.row + 1 == a.row))) (and_from _ _ col rows))
+    ((a.col == b.col) && ((a.row + 1 == b.row) || (b.row + 1 == a.row))) (and_from _ _ both.0 (rows both.1)))
 
-row-near : (e : Extent) (a b : Cell) → (a.row == b.row) ≡ true → ((a.col + 1 == b.col) || (b.col + 1 == a.col)) ≡ true
+row-near : (e : Extent) (a b : Cell) (x : Bool) → ((a.row == b.row) && x) ≡ true
+    → (x ≡ true → ((a.col + 1 == b.col) || (b.col + 1 == a.col)) ≡ true)
     → (layer_of e a == layer_of e b) ≡ true → are_neighbours e a b ≡ true
-row-near e a b row cols layer =
+row-near e a b x on cols layer =
+    let both = and_parts (a.row == b.row) x on in
     and_from _ _ layer (or_left ((a.row == b.row) && ((a.col + 1 == b.col) || (b.col + 1 == a.col)))
-    ((a.col == b.col) && ((a.row + 1 == b.row) || (b.row + 1 == a.row))) (and_from _ _ row cols))
+    ((a.col == b.col) && ((a.row + 1 == b.row) || (b.row + 1 == a.row))) (and_from _ _ both.0 (cols both.1)))
 
 -- what is on a side, in the cell's layer, is a neighbour
 pub side-near : (e : Extent) (side : Side) (a b : Cell) → is_on side a b ≡ true
     → (layer_of e a == layer_of e b) ≡ true → are_neighbours e a b ≡ true
-side-near e Above a b on =
-    let both = and_parts (a.col == b.col) (b.row + 1 == a.row) on in
-    col-near e a b both.0 (or_right (a.row + 1 == b.row) (b.row + 1 == a.row) both.1)
-side-near e Below a b on =
-    let both = and_parts (a.col == b.col) (a.row + 1 == b.row) on in
-    col-near e a b both.0 (or_left (a.row + 1 == b.row) (b.row + 1 == a.row) both.1)
-side-near e Left a b on =
-    let both = and_parts (a.row == b.row) (b.col + 1 == a.col) on in
-    row-near e a b both.0 (or_right (a.col + 1 == b.col) (b.col + 1 == a.col) both.1)
-side-near e Right a b on =
-    let both = and_parts (a.row == b.row) (a.col + 1 == b.col) on in
-    row-near e a b both.0 (or_left (a.col + 1 == b.col) (b.col + 1 == a.col) both.1)
+side-near e Above a b on = col-near e a b (b.row + 1 == a.row) on (or_right (a.row + 1 == b.row) (b.row + 1 == a.row))
+side-near e Below a b on = col-near e a b (a.row + 1 == b.row) on (or_left (a.row + 1 == b.row) (b.row + 1 == a.row))
+side-near e Left a b on = row-near e a b (b.col + 1 == a.col) on (or_right (a.col + 1 == b.col) (b.col + 1 == a.col))
+side-near e Right a b on = row-near e a b (a.col + 1 == b.col) on (or_left (a.col + 1 == b.col) (b.col + 1 == a.col))
 
 -- and a neighbour is of the cell's layer
 pub near-layer : (e : Extent) (a b : Cell) → are_neighbours e a b ≡ true

@@ -5,6 +5,9 @@
 use Rattle.std.proofs.Common.{◌≡◌, ℕ, suc, ◌+◌, ◌*◌, ◌^◌, ◌<◌, ◌≤◌, List, [], ◌∷◌, ◌++◌, length, take, drop, true}
 use Rattle.std.proofs.Common.{get_or, refl, sym, ap, ap₂, subst, ◌∙◌, arith, append_assoc, length-append, length-drop}
 use Rattle.std.specs.List.{All, AllZip, flat_map}
+use Rattle.std.specs.Prelude.{Result}
+use Rattle.std.specs.Result.{IfErr, IsErrAnd}
+use Rattle.std.proofs.lemmas.Result.{err_from_is_err_and}
 use Rattle.std.proofs.Math.Seq.{drop-drop, drop-append_seam}
 use Rattle.std.proofs.lemmas.List.{append-nil, length-take-le, take-append-drop, take_at}
 use Rattle.std.proofs.lemmas.List.Concat.{flat_map-append}
@@ -24,7 +27,7 @@ use Rattle.sz_region.specs.Taking.{NoneBegins, SaysNoneBegins}
 use Rattle.sz_region.specs.Stores.{OnBad, NoneAt, AreFew, NoRegionsBegin, ArePairNames}
 use Rattle.sz_region.proofs.Numbering.{zip-length, listed-length}
 use Rattle.sz_region.proofs.Names.{rows-some}
-use Rattle.sz_region.proofs.Spans.{IsPrefixFree, at-byte, at-both, counted-free, number-free, number-read, first-read}
+use Rattle.sz_region.proofs.Spans.{on_bad-weaker, IsPrefixFree, at-byte, at-both, counted-free, number-free, number-read, first-read}
 use Rattle.sz_short.specs.declared.ways.Way.{Way}
 use Rattle.sz_short.specs.declared.ways.Way.TheVariants.{Shorten, Widen}
 use Rattle.sz_short.specs.ShortSets.{short_set_bytes, BeginsShortSet, NoShortSetBegins, SaysNoShortSet}
@@ -32,6 +35,11 @@ use Rattle.sz_short.specs.ShortStores.{listed_by, AreFullParts, full_word, Begin
 use Rattle.sz_short.specs.ShortStores.{AreRowsOf, IsBlock}
 use Rattle.sz_short.specs.Ways.{read_bytes}
 use Rattle.sz_short.proofs.ShortRuns.{sets-one}
+
+-- a refusal that is passed on tells what follows from what it told
+pub passed : {T P Q : Type 0} (r : Result T Take) (e : Take) → IsErrAnd r (λ f. f ≡ e) → (P → Q) → OnBad e P
+    → IfErr r (λ f. OnBad f Q)
+passed r e is so told = let p = err_from_is_err_and r is in rw (p.1, p.2) (on_bad-weaker e so told)
 
 -- ---- sets in either spelling
 

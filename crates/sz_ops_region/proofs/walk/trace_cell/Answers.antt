@@ -94,13 +94,11 @@ returns-then-not-has-2-clause-marked c =
 pub returns-else-not-has-2-clause-to : goal.returns-else-not-has-2-clause-to
 returns-else-not-has-2-clause-to c =
     let w = c.args.work.now in
-    let grids = map (λ a. arc_value a) w.inputs.now in
-    let g = input_at grids 0 in
+    let here = goal.at.returns-else-not-has-2-clause-to c in
     let marks = c.args.marks.now in
     let to = c.args.to.now in
-    let same = shape (goal.at.returns-else-not-has-2-clause-to c).After-has in
-    traced-marked w.at.now grids w.t c.args.from.now c.args.cell marks to w.labels
+    traced-marked w.at.now (map (λ a. arc_value a) w.inputs.now) w.t c.args.from.now c.args.cell marks to w.labels
     (sym c.has.ensures ∙ c.if-not-has.false) c.in-Some.ensures.high
     (own-at to to.extent refl c.shape.ensures.rising)
-    (subst (λ (e : Extent). holds e c.args.cell ≡ true) (sym same) c.requires.cell) c.requires.marked
-    (ap (has marks) (sym (first (goal.at.returns-else-not-has-2-clause-to c).After-cell_at-first)) ∙ sym c.has-in-Some.ensures ∙ c.if-not-has-2.false)
+    (subst (λ (e : Extent). holds e c.args.cell ≡ true) (sym (shape here.After-has)) c.requires.cell) c.requires.marked
+    (ap (has marks) (sym (first here.After-cell_at-first)) ∙ sym c.has-in-Some.ensures ∙ c.if-not-has-2.false)

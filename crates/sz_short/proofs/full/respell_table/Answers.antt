@@ -3,14 +3,13 @@ use Rattle.std.proofs.Common.{◌≡◌, ℕ, ◌+◌, List, [], ◌∷◌, ◌+
 use Rattle.std.specs.List.{flat_map}
 use Rattle.std.proofs.lemmas.List.{length_push}
 use Rattle.std.proofs.lemmas.List.Elements.{All-push}
-use Rattle.std.proofs.lemmas.Result.{err_from_is_err_and}
 use Rattle.sz_cells.specs.SetBytes.{four_bytes}
 use Rattle.sz_region.specs.FullBytes.{IsListed}
 use Rattle.sz_region.proofs.Appending.{kept-first}
-use Rattle.sz_region.proofs.Spans.{at-more, on_bad-weaker, no-number, no-table}
+use Rattle.sz_region.proofs.Spans.{at-more, no-number, no-table}
 use Rattle.sz_short.specs.ShortStores.{listed_by}
 use Rattle.sz_short.specs.Ways.{read_bytes, written_bytes}
-use Rattle.sz_short.proofs.Respelling.{read-known, listed-known, grows, whole-so-far, whole-table, at-table}
+use Rattle.sz_short.proofs.Respelling.{passed, read-known, listed-known, grows, whole-so-far, whole-table, at-table}
 use Rattle.sz_short.proofs.full.respell_table.Goals as goal
 
 pub returns-in_default-clause-err : goal.returns-in_default-clause-err
@@ -22,14 +21,12 @@ pub returns-in_err-place-clause-err : goal.returns-in_err-place-clause-err
 returns-in_err-place-clause-err c =
     let inv = c.loop-index.invariant in
     let spell = read_bytes c.args.way in
-    let none = on_bad-weaker c.in_err-place.field-0.0
+    passed c.from_residual-in_err-place.result c.in_err-place.field-0.0 c.from_residual-in_err-place.ensures.1
     (λ missing. no-table (IsListed c.args.out c.args.ins.now) (listed_by spell)
     (listed-known spell (read-known c.args.way) c.args.out c.args.ins.now c.requires) c.args.bytes.now c.args.at
     c.in-Some.count c.loop-index.place inv.table c.in-Some.ensures.some (omega arith) inv.each inv.bytes missing
     (omega (arith, inv.count)))
-    c.in_err-place.ensures.err in
-    let p = err_from_is_err_and c.from_residual-in_err-place.result c.from_residual-in_err-place.ensures.1 in
-    rw (p.1, p.2) none
+    c.in_err-place.ensures.err
 
 pub returns-in_err-place-clause-kept : goal.returns-in_err-place-clause-kept
 returns-in_err-place-clause-kept c =

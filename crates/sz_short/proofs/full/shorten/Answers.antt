@@ -1,23 +1,21 @@
 -- A store begins, so the parts that are read are its parts.
 use Rattle.std.proofs.Common.{◌≡◌, ℕ, ◌+◌, List, ◌++◌, length}
-use Rattle.std.proofs.lemmas.Result.{IfOk-weaker, IfErr-weaker, err_from_is_err_and}
+use Rattle.std.proofs.lemmas.Result.{IfOk-weaker, IfErr-weaker}
 use Rattle.sz_cells.specs.SetBytes.{set_bytes}
 use Rattle.sz_region.specs.Counted.{IsAt, rows_bytes}
 use Rattle.sz_region.specs.Stores.{OnBad, NoneAt, NoRegionsBegin}
 use Rattle.sz_region.proofs.Spans.{on_bad-weaker}
 use Rattle.sz_short.specs.ShortSets.{short_set_bytes}
 use Rattle.sz_short.specs.ShortStores.{AreRowsOf, IsBlock, RespellsFull}
-use Rattle.sz_short.proofs.Respelling.{long-known, no-long, no-full-table, no-full-rows, long-judged}
+use Rattle.sz_short.proofs.Respelling.{passed, long-known, no-long, no-full-table, no-full-rows, long-judged}
 use Rattle.sz_short.proofs.full.shorten.Goals as goal
 
 pub returns-in_err-place-clause-err : goal.returns-in_err-place-clause-err
 returns-in_err-place-clause-err c =
     let ins = c.args.ins.now in
-    let none = on_bad-weaker c.in_err-place.field-0.0
+    passed c.from_residual-in_err-place.result c.in_err-place.field-0.0 c.from_residual-in_err-place.ensures.1
     (λ missing. no-long c.args.out ins c.args.bytes.now c.args.at
-    (no-full-table set_bytes c.args.out ins c.args.bytes.now c.args.at missing)) c.in_err-place.ensures.err in
-    let p = err_from_is_err_and c.from_residual-in_err-place.result c.from_residual-in_err-place.ensures.1 in
-    rw (p.1, p.2) none
+    (no-full-table set_bytes c.args.out ins c.args.bytes.now c.args.at missing)) c.in_err-place.ensures.err
 
 pub returns-clause-ok : goal.returns-clause-ok
 returns-clause-ok c =

@@ -5,26 +5,22 @@ use Rattle.sz_region.specs.FullBytes.{BeginsRegions}
 use Rattle.sz_region.specs.Stores.{OnBad, NoRegionsBegin}
 use Rattle.sz_region.proofs.Spans.{on_bad-weaker}
 use Rattle.sz_short.specs.ShortSets.{short_set_bytes}
-use Rattle.sz_short.proofs.Respelling.{short-known, no-full-table, no-full-rows, no-short-judged, short-judged}
+use Rattle.sz_short.proofs.Respelling.{passed, short-known, no-full-table, no-full-rows, no-short-judged, short-judged}
 use Rattle.sz_short.proofs.full.widen.Goals as goal
 
 pub returns-in_err-place-clause-err : goal.returns-in_err-place-clause-err
 returns-in_err-place-clause-err c =
     let ins = c.args.ins.now in
-    let none = on_bad-weaker c.in_err-place.field-0.0
-    (no-full-table short_set_bytes c.args.out ins c.args.bytes.now c.args.at) c.in_err-place.ensures.err in
-    let p = err_from_is_err_and c.from_residual.result c.from_residual.ensures.1 in
-    rw (p.1, p.2) none
+    passed c.from_residual.result c.in_err-place.field-0.0 c.from_residual.ensures.1
+    (no-full-table short_set_bytes c.args.out ins c.args.bytes.now c.args.at) c.in_err-place.ensures.err
 
 pub returns-in_err-next-clause-err : goal.returns-in_err-next-clause-err
 returns-in_err-next-clause-err c =
     let ins = c.args.ins.now in
     let has = c.in_ok-place.ensures.ok in
-    let none = on_bad-weaker c.in_err-next.field-0.0
+    passed c.from_residual-in_err-next.result c.in_err-next.field-0.0 c.from_residual-in_err-next.ensures.1
     (no-full-rows short_set_bytes short-known c.args.out ins c.args.bytes.now c.args.at c.in_ok-place.place has.0
-    c.requires has.1 has.2) c.in_err-next.ensures.err in
-    let p = err_from_is_err_and c.from_residual-in_err-next.result c.from_residual-in_err-next.ensures.1 in
-    rw (p.1, p.2) none
+    c.requires has.1 has.2) c.in_err-next.ensures.err
 
 pub returns-in_err-find_store-clause-err : goal.returns-in_err-find_store-clause-err
 returns-in_err-find_store-clause-err c =

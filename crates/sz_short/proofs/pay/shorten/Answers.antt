@@ -1,6 +1,6 @@
 -- A store begins, so the parts that are read are its parts.
 use Rattle.std.proofs.Common.{◌≡◌, ℕ, List, ◌++◌, length, take, subst, rules}
-use Rattle.std.proofs.lemmas.Result.{IfOk-weaker, IfErr-weaker, err_from_is_err_and}
+use Rattle.std.proofs.lemmas.Result.{IfOk-weaker, IfErr-weaker}
 use Rattle.sz_cells.specs.SetBytes.{set_bytes}
 use Rattle.sz_region.specs.Counted.{IsAt, counted, rows_bytes}
 use Rattle.sz_region.specs.PayBytes.{payload_bytes}
@@ -9,19 +9,17 @@ use Rattle.sz_region.proofs.Appending.{kept-first}
 use Rattle.sz_region.proofs.Spans.{on_bad-weaker}
 use Rattle.sz_short.specs.ShortSets.{short_set_bytes}
 use Rattle.sz_short.specs.ShortStores.{AreRowsOf, IsBlock, RespellsPay}
-use Rattle.sz_short.proofs.Respelling.{long-known}
+use Rattle.sz_short.proofs.Respelling.{passed, long-known}
 use Rattle.sz_short.proofs.RespellingPay.{no-long-pay, no-pay-sets, no-pay-rows, long-pay-judged}
 use Rattle.sz_short.proofs.pay.shorten.Goals as goal
 
 pub returns-in_err-far-clause-err : goal.returns-in_err-far-clause-err
 returns-in_err-far-clause-err c =
     let ps = c.in_ok-place.ensures.ok in
-    let none = on_bad-weaker c.in_err-far.field-0.0
+    passed c.from_residual-in_err-far.result c.in_err-far.field-0.0 c.from_residual-in_err-far.ensures.1
     (λ missing. no-long-pay c.args.out c.args.bytes.now c.args.at
     (no-pay-sets set_bytes c.args.out c.args.bytes.now c.args.at c.in_ok-place.place ps.0 ps.1 ps.2 missing))
-    c.in_err-far.ensures.err in
-    let p = err_from_is_err_and c.from_residual-in_err-far.result c.from_residual-in_err-far.ensures.1 in
-    rw (p.1, p.2) none
+    c.in_err-far.ensures.err
 
 pub returns-in_err-far-clause-kept : goal.returns-in_err-far-clause-kept
 returns-in_err-far-clause-kept c =

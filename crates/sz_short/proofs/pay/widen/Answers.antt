@@ -7,18 +7,16 @@ use Rattle.sz_region.specs.Stores.{OnBad, NoEntriesBegin}
 use Rattle.sz_region.proofs.Appending.{kept-first}
 use Rattle.sz_region.proofs.Spans.{on_bad-weaker}
 use Rattle.sz_short.specs.ShortSets.{short_set_bytes}
-use Rattle.sz_short.proofs.Respelling.{short-known}
+use Rattle.sz_short.proofs.Respelling.{passed, short-known}
 use Rattle.sz_short.proofs.RespellingPay.{no-pay-sets, no-pay-rows, no-pay-judged, short-pay-judged}
 use Rattle.sz_short.proofs.pay.widen.Goals as goal
 
 pub returns-in_err-far-clause-err : goal.returns-in_err-far-clause-err
 returns-in_err-far-clause-err c =
     let ps = c.in_ok-place.ensures.ok in
-    let none = on_bad-weaker c.in_err-far.field-0.0
+    passed c.from_residual-in_err-far.result c.in_err-far.field-0.0 c.from_residual-in_err-far.ensures.1
     (no-pay-sets short_set_bytes c.args.out c.args.bytes.now c.args.at c.in_ok-place.place ps.0 ps.1 ps.2)
-    c.in_err-far.ensures.err in
-    let p = err_from_is_err_and c.from_residual-in_err-far.result c.from_residual-in_err-far.ensures.1 in
-    rw (p.1, p.2) none
+    c.in_err-far.ensures.err
 
 pub returns-in_err-far-clause-kept : goal.returns-in_err-far-clause-kept
 returns-in_err-far-clause-kept c =
@@ -31,11 +29,9 @@ pub returns-in_err-next-clause-err : goal.returns-in_err-next-clause-err
 returns-in_err-next-clause-err c =
     let ps = c.in_ok-place.ensures.ok in
     let ss = c.in_ok-far.ensures.ok in
-    let none = on_bad-weaker c.in_err-next.field-0.0
+    passed c.from_residual-in_err-next.result c.in_err-next.field-0.0 c.from_residual-in_err-next.ensures.1
     (no-pay-rows short_set_bytes short-known c.args.out c.args.bytes.now c.args.at c.in_ok-place.place c.in_ok-far.far
-    ps.0 ss.0 c.requires ps.1 ps.2 ss.1 ss.2) c.in_err-next.ensures.err in
-    let p = err_from_is_err_and c.from_residual-in_err-next.result c.from_residual-in_err-next.ensures.1 in
-    rw (p.1, p.2) none
+    ps.0 ss.0 c.requires ps.1 ps.2 ss.1 ss.2) c.in_err-next.ensures.err
 
 pub returns-in_err-find_store-clause-err : goal.returns-in_err-find_store-clause-err
 returns-in_err-find_store-clause-err c =
