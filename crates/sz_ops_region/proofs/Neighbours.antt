@@ -1,7 +1,7 @@
 -- A neighbour of a cell is on one of its sides, and what is on a side in its layer is a neighbour.
 --
 -- The key idea: the rows of a layer are those of which the quotient by the height is the layer.
-use Rattle.std.proofs.Common.{◌≡◌, ℕ, ◌+◌, ◌*◌, ◌/◌, ◌<◌, ◌≤◌, ◌==◌, true, ◌&&◌, ◌||◌, sym, ap, ◌∙◌, refl, ◌-◌}
+use Rattle.std.proofs.Common.{Bool, ◌≡◌, ℕ, ◌+◌, ◌*◌, ◌/◌, ◌<◌, ◌≤◌, ◌==◌, true, ◌&&◌, ◌||◌, sym, ap, ◌∙◌, refl, ◌-◌}
 use Rattle.std.proofs.Common.{nat_lt, nat_le, arith, inl, inr}
 use Rattle.std.proofs.Math.Nat.{div-mul-le_self, lt-div-mul-add}
 use Rattle.std.proofs.lemmas.Bool.{and_parts, and_from, or_cases, or_left, or_right, eq-eqb, ne_eqb}
