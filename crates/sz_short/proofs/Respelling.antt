@@ -27,7 +27,8 @@ use Rattle.sz_region.specs.Taking.{NoneBegins, SaysNoneBegins}
 use Rattle.sz_region.specs.Stores.{OnBad, NoneAt, AreFew, NoRegionsBegin, ArePairNames}
 use Rattle.sz_region.proofs.Numbering.{zip-length, listed-length}
 use Rattle.sz_region.proofs.Names.{rows-some}
-use Rattle.sz_region.proofs.Spans.{on_bad-weaker, IsPrefixFree, at-byte, at-both, counted-free, number-free, number-read, first-read}
+use Rattle.sz_region.proofs.Spans.{IsPrefixFree, at-byte, at-both, counted-free, number-free, number-read, first-read}
+use Rattle.sz_region.proofs.Spans.{on_bad-weaker}
 use Rattle.sz_short.specs.declared.ways.Way.{Way}
 use Rattle.sz_short.specs.declared.ways.Way.TheVariants.{Shorten, Widen}
 use Rattle.sz_short.specs.ShortSets.{short_set_bytes, BeginsShortSet, NoShortSetBegins, SaysNoShortSet}

@@ -15,6 +15,7 @@ use Rattle.sz_frame.specs.Parts.{Entry}
 use Rattle.sz_region.specs.Counted.{counted, rows_bytes, IsAt}
 use Rattle.sz_region.specs.PayBytes.{IsShort, payload_bytes, AreNamesOfEntry, BeginsEntries}
 use Rattle.sz_region.specs.Stores.{NoneAt, AreFew, NoEntriesBegin}
+use Rattle.sz_region.proofs.Appending.{kept-first}
 use Rattle.sz_region.proofs.Numbering.{zip-length}
 use Rattle.sz_region.proofs.PayStores.{payload-free}
 use Rattle.sz_region.proofs.Spans.{at-both, counted-free, number-read, first-read}
@@ -77,6 +78,12 @@ entries-rows sets payloads names entries named few = record {
 }
 
 -- ---- stores
+
+-- bytes that are kept behind others are kept with those before them
+pub kept-behind : (old word mid new : List ℕ) → mid ≡ old ++ word → take (length mid) new ≡ mid
+    → take (length old) new ≡ old
+kept-behind old word mid new is kept =
+    kept-first old word new (subst (λ (w : List ℕ). take (length w) new ≡ w) is kept)
 
 pub pay-begins : (spell : Cells → List ℕ) (out : Extent) (bytes : List ℕ) (at next : ℕ) (payloads : List (List ℕ))
     (sets : List Cells) (names : List (List ℕ)) (entries : List Entry) → ArePayParts out payloads sets names entries

@@ -1,9 +1,7 @@
 -- What is written is a store exactly where a short one was read.
 use Rattle.std.proofs.Common.{◌≡◌, ℕ, List, length, subst, arith, rules}
-use Rattle.std.proofs.lemmas.Result.{err_from_is_err_and}
 use Rattle.sz_region.specs.FullBytes.{BeginsRegions}
 use Rattle.sz_region.specs.Stores.{OnBad, NoRegionsBegin}
-use Rattle.sz_region.proofs.Spans.{on_bad-weaker}
 use Rattle.sz_short.specs.ShortSets.{short_set_bytes}
 use Rattle.sz_short.proofs.Respelling.{passed, short-known, no-full-table, no-full-rows, no-short-judged, short-judged}
 use Rattle.sz_short.proofs.full.widen.Goals as goal
@@ -25,21 +23,19 @@ returns-in_err-next-clause-err c =
 pub returns-in_err-find_store-clause-err : goal.returns-in_err-find_store-clause-err
 returns-in_err-find_store-clause-err c =
     let ins = c.args.ins.now in
-    let old = c.args.to.now.items in
-    let mid = c.respell_table.new.to.items in
-    let new = c.copy_rows.new.to.items in
     let has = c.in_ok-place.ensures.ok in
     let more = c.in_ok-next.ensures.ok in
     let fault = c.in_err-find_store.field-0.0 in
-    let begin : c.len-begin.result ≡ length old = first_of (omega arith, search rules) in
-    let judged : OnBad fault (NoRegionsBegin c.args.out ins new (length old)) =
-    subst (λ (xs : List ℕ). OnBad fault (NoRegionsBegin c.args.out ins xs (length old))) c.deref.ensures.value
+    let begin : c.len-begin.result ≡ length c.args.to.now.items = first_of (omega arith, search rules) in
+    let judged : OnBad fault (NoRegionsBegin c.args.out ins c.copy_rows.new.to.items (length c.args.to.now.items)) =
+    subst (λ (xs : List ℕ). OnBad fault (NoRegionsBegin c.args.out ins xs (length c.args.to.now.items)))
+    c.deref.ensures.value
     (subst (λ (k : ℕ). OnBad fault (NoRegionsBegin c.args.out ins c.deref.result.now k)) begin
     c.in_err-find_store.ensures.err) in
-    let none = on_bad-weaker fault (no-short-judged c.args.out ins c.args.bytes.now c.args.at c.in_ok-place.place
-    c.in_ok-next.next has.0 more.0 old mid new c.requires has.1 has.2 more.1 more.2 has.3 more.3) judged in
-    let p = err_from_is_err_and c.from_residual-in_err-find_store.result c.from_residual-in_err-find_store.ensures.1 in
-    rw (p.1, p.2) none
+    passed c.from_residual-in_err-find_store.result fault c.from_residual-in_err-find_store.ensures.1
+    (no-short-judged c.args.out ins c.args.bytes.now c.args.at c.in_ok-place.place c.in_ok-next.next has.0 more.0
+    c.args.to.now.items c.respell_table.new.to.items c.copy_rows.new.to.items c.requires has.1 has.2 more.1 more.2
+    has.3 more.3) judged
 
 pub returns-clause-ok : goal.returns-clause-ok
 returns-clause-ok c =

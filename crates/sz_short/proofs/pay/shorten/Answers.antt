@@ -1,16 +1,14 @@
 -- A store begins, so the parts that are read are its parts.
-use Rattle.std.proofs.Common.{◌≡◌, ℕ, List, ◌++◌, length, take, subst, rules}
+use Rattle.std.proofs.Common.{◌≡◌, ℕ, List, ◌++◌, rules}
 use Rattle.std.proofs.lemmas.Result.{IfOk-weaker, IfErr-weaker}
 use Rattle.sz_cells.specs.SetBytes.{set_bytes}
-use Rattle.sz_region.specs.Counted.{IsAt, counted, rows_bytes}
-use Rattle.sz_region.specs.PayBytes.{payload_bytes}
+use Rattle.sz_region.specs.Counted.{IsAt, rows_bytes}
 use Rattle.sz_region.specs.Stores.{OnBad, NoneAt, NoEntriesBegin}
-use Rattle.sz_region.proofs.Appending.{kept-first}
 use Rattle.sz_region.proofs.Spans.{on_bad-weaker}
 use Rattle.sz_short.specs.ShortSets.{short_set_bytes}
 use Rattle.sz_short.specs.ShortStores.{AreRowsOf, IsBlock, RespellsPay}
 use Rattle.sz_short.proofs.Respelling.{passed, long-known}
-use Rattle.sz_short.proofs.RespellingPay.{no-long-pay, no-pay-sets, no-pay-rows, long-pay-judged}
+use Rattle.sz_short.proofs.RespellingPay.{kept-behind, no-long-pay, no-pay-sets, no-pay-rows, long-pay-judged}
 use Rattle.sz_short.proofs.pay.shorten.Goals as goal
 
 pub returns-in_err-far-clause-err : goal.returns-in_err-far-clause-err
@@ -23,9 +21,8 @@ returns-in_err-far-clause-err c =
 
 pub returns-in_err-far-clause-kept : goal.returns-in_err-far-clause-kept
 returns-in_err-far-clause-kept c =
-    let ps = c.in_ok-place.ensures.ok in
-    let kept = kept-first c.args.to.now.items (counted payload_bytes ps.0) c.respell_sets.new.to.items
-    (subst (λ (w : List ℕ). take (length w) c.respell_sets.new.to.items ≡ w) ps.3 c.in_err-far.ensures.kept) in
+    let kept = kept-behind c.args.to.now.items _ c.copy_payloads.new.to.items c.respell_sets.new.to.items
+    c.in_ok-place.ensures.ok.3 c.in_err-far.ensures.kept in
     search rules
 
 pub returns-clause-ok : goal.returns-clause-ok

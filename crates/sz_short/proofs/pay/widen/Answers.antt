@@ -1,14 +1,10 @@
 -- What is written is a store exactly where a short one was read.
-use Rattle.std.proofs.Common.{◌≡◌, ℕ, List, length, take, subst, arith, rules}
-use Rattle.std.proofs.lemmas.Result.{err_from_is_err_and}
-use Rattle.sz_region.specs.Counted.{counted}
-use Rattle.sz_region.specs.PayBytes.{payload_bytes, BeginsEntries}
+use Rattle.std.proofs.Common.{◌≡◌, ℕ, List, length, subst, arith, rules}
+use Rattle.sz_region.specs.PayBytes.{BeginsEntries}
 use Rattle.sz_region.specs.Stores.{OnBad, NoEntriesBegin}
-use Rattle.sz_region.proofs.Appending.{kept-first}
-use Rattle.sz_region.proofs.Spans.{on_bad-weaker}
 use Rattle.sz_short.specs.ShortSets.{short_set_bytes}
 use Rattle.sz_short.proofs.Respelling.{passed, short-known}
-use Rattle.sz_short.proofs.RespellingPay.{no-pay-sets, no-pay-rows, no-pay-judged, short-pay-judged}
+use Rattle.sz_short.proofs.RespellingPay.{kept-behind, no-pay-sets, no-pay-rows, no-pay-judged, short-pay-judged}
 use Rattle.sz_short.proofs.pay.widen.Goals as goal
 
 pub returns-in_err-far-clause-err : goal.returns-in_err-far-clause-err
@@ -20,9 +16,8 @@ returns-in_err-far-clause-err c =
 
 pub returns-in_err-far-clause-kept : goal.returns-in_err-far-clause-kept
 returns-in_err-far-clause-kept c =
-    let ps = c.in_ok-place.ensures.ok in
-    let kept = kept-first c.args.to.now.items (counted payload_bytes ps.0) c.respell_sets.new.to.items
-    (subst (λ (w : List ℕ). take (length w) c.respell_sets.new.to.items ≡ w) ps.3 c.in_err-far.ensures.kept) in
+    let kept = kept-behind c.args.to.now.items _ c.copy_payloads.new.to.items c.respell_sets.new.to.items
+    c.in_ok-place.ensures.ok.3 c.in_err-far.ensures.kept in
     search rules
 
 pub returns-in_err-next-clause-err : goal.returns-in_err-next-clause-err
@@ -35,24 +30,19 @@ returns-in_err-next-clause-err c =
 
 pub returns-in_err-find_store-clause-err : goal.returns-in_err-find_store-clause-err
 returns-in_err-find_store-clause-err c =
-    let old = c.args.to.now.items in
-    let one = c.copy_payloads.new.to.items in
-    let two = c.respell_sets.new.to.items in
-    let new = c.copy_rows.new.to.items in
     let ps = c.in_ok-place.ensures.ok in
     let ss = c.in_ok-far.ensures.ok in
     let more = c.in_ok-next.ensures.ok in
     let fault = c.in_err-find_store.field-0.0 in
-    let begin : c.len-begin.result ≡ length old = first_of (omega arith, search rules) in
-    let judged : OnBad fault (NoEntriesBegin c.args.out new (length old)) =
-    subst (λ (xs : List ℕ). OnBad fault (NoEntriesBegin c.args.out xs (length old))) c.deref.ensures.value
+    let begin : c.len-begin.result ≡ length c.args.to.now.items = first_of (omega arith, search rules) in
+    passed c.from_residual-in_err-find_store.result fault c.from_residual-in_err-find_store.ensures.1
+    (no-pay-judged c.args.out c.args.bytes.now c.args.at c.in_ok-place.place c.in_ok-far.far c.in_ok-next.next ps.0 ss.0
+    more.0 c.args.to.now.items c.copy_payloads.new.to.items c.respell_sets.new.to.items c.copy_rows.new.to.items
+    c.requires ps.1 ps.2 ss.1 ss.2 more.1 more.2 ps.3 ss.3 more.3)
+    (subst (λ (xs : List ℕ). OnBad fault (NoEntriesBegin c.args.out xs (length c.args.to.now.items)))
+    c.deref.ensures.value
     (subst (λ (k : ℕ). OnBad fault (NoEntriesBegin c.args.out c.deref.result.now k)) begin
-    c.in_err-find_store.ensures.err) in
-    let none = on_bad-weaker fault (no-pay-judged c.args.out c.args.bytes.now c.args.at c.in_ok-place.place
-    c.in_ok-far.far c.in_ok-next.next ps.0 ss.0 more.0 old one two new c.requires ps.1 ps.2 ss.1 ss.2 more.1 more.2 ps.3
-    ss.3 more.3) judged in
-    let p = err_from_is_err_and c.from_residual-in_err-find_store.result c.from_residual-in_err-find_store.ensures.1 in
-    rw (p.1, p.2) none
+    c.in_err-find_store.ensures.err))
 
 pub returns-clause-ok : goal.returns-clause-ok
 returns-clause-ok c =

@@ -12,7 +12,8 @@ use Rattle.sz_short.proofs.ways.respell_set.Goals as goal
 
 -- what is said of one spelling is said of the way that reads it
 said : (shape : Extent) (bytes : List ℕ) (at : ℕ) (way other : Way) (e : Take) → way ≡ other
-    → OnBad e (NoneAt (IsSetOf shape) (read_bytes other) bytes at) → OnBad e (NoneAt (IsSetOf shape) (read_bytes way) bytes at)
+    → OnBad e (NoneAt (IsSetOf shape) (read_bytes other) bytes at)
+    → OnBad e (NoneAt (IsSetOf shape) (read_bytes way) bytes at)
 said shape bytes at way other e is =
     subst (λ (w : Way). OnBad e (NoneAt (IsSetOf shape) (read_bytes w) bytes at)) (sym is)
 
