@@ -7,12 +7,4 @@
 #![tactic(auto)]
 
 #[cfg(test)]
-mod entries;
-#[cfg(test)]
-mod many;
-#[cfg(test)]
-mod one;
-#[cfg(test)]
-mod regions;
-#[cfg(test)]
-mod tables;
+mod tests;

@@ -6,14 +6,4 @@
 #![tactic(auto)]
 
 #[cfg(test)]
-mod again;
-#[cfg(test)]
-mod changed;
-#[cfg(test)]
-mod ended;
-#[cfg(test)]
-mod refreshed;
-#[cfg(test)]
-mod rows;
-#[cfg(test)]
-mod stopped;
+mod tests;

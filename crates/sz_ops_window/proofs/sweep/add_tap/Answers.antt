@@ -250,7 +250,8 @@ returns-else-first-end-clause-sums c =
     let n = c.args.number in
     swept c.args.array.now c.args.mask.now c.args.row n c.args.limits.number c.args.limits.weight
     c.reached-first.result.0 c.reached-first.result.1 0 c.args.sheet.numbers.now c.args.sums.now c.args.sums.now
-    c.args.sheet.voids.now c.args.marks.now c.args.marks.now on.right on.kernel c.requires.number c.requires.row on.starts on.ends
+    c.args.sheet.voids.now c.args.marks.now c.args.marks.now on.right on.kernel c.requires.number c.requires.row
+    on.starts on.ends
     (λ low. absurd (omega (arith, low, c.if-first-end.false))) on.top on.bottom on.some
     (c.requires.weights n c.requires.number) c.requires.smooth c.requires.numbers c.requires.voids on.size
     c.requires.sums
