@@ -201,6 +201,11 @@ pub reads_fault : {X Y : Type 0} (part : Result X Refusal) (all : Result Y Refus
 reads_fault part all (line_fault.Refused r) e each = each r e
 reads_fault part all line_fault.NoMemory e each = tt
 
+-- what a look-up found, seen
+pub found : {A X : Type 0} (f : A → X) (o : Option A) (x : A) (l : Option X) → o ≡ Some x → option_map f o ≡ l
+    → Some (f x) ≡ l
+found f o x l there seen = ap (option_map f) (sym there) ∙ seen
+
 -- the draft of a name and cells that were found
 pub drafted : {X : Type 0} (make : List ℕ → X → Draft) (name : List ℕ) (cells : X) (o : Option (List ℕ))
     (l : Option X) → Some name ≡ o → Some cells ≡ l

@@ -1,239 +1,118 @@
 -- Tables of the fields of each form: all of them right; a further one; and each of them missing, wrongly typed, and
--- given twice, where the last stands. Each row is found by computing; expected numbers by hand. (A flow without nodes
--- is of its form: it has a fault.)
-use Rattle.std.specs.Prelude.{[], ◌∷◌, codes}
+-- given twice, where the last stands. Each is found by computing; expected numbers by hand. (A flow without nodes is of
+-- its form: it has a fault.)
+--
+-- The key idea: but for the forms with numbers at their edges, whose rows are written out, the rows follow from the
+-- fields, with a right value and a wrong one of each.
+use Rattle.std.specs.Prelude.{ℕ, List, [], ◌∷◌, ◌++◌, flat_map, codes}
 use Rattle.std.specs.Str.{is_utf8, chars}
 use Rattle.std.proofs.Common.{refl}
 use Rattle.serde_json.proofs.OnLiterals.{serde_json_on_literals}
-use Rattle.sz_script.proofs.RowsTold.{AreTold, row, read_as}
+use Rattle.sz_script.proofs.RowsTold.{AreTold, Row, row, each, read_as, object_read_as, Field, field, rows_of}
 
-of_array : AreTold read_as (
-    row (codes "{\"array\":\"a\",\"cells\":[[1]]}") []
-    ∷ row (codes "{\"array\":\"a\",\"cells\":[[1]],\"more\":1}") (3 ∷ [])
-    ∷ row (codes "{\"cells\":[[1]]}") (3 ∷ [])
-    ∷ row (codes "{\"array\":1,\"cells\":[[1]]}") (3 ∷ [])
-    ∷ row (codes "{\"array\":1,\"array\":\"a\",\"cells\":[[1]]}") []
-    ∷ row (codes "{\"array\":\"a\",\"cells\":[[1]],\"array\":1}") (3 ∷ [])
-    ∷ row (codes "{\"array\":\"a\"}") (3 ∷ [])
-    ∷ row (codes "{\"array\":\"a\",\"cells\":{}}") (3 ∷ [])
-    ∷ row (codes "{\"cells\":{},\"array\":\"a\",\"cells\":[[1]]}") []
-    ∷ row (codes "{\"array\":\"a\",\"cells\":[[1]],\"cells\":{}}") (3 ∷ [])
-    ∷ [])
+-- the rows of a form, whose line is a command, by its fields
+abbrev of_form : List Field → List Row
+of_form fs = rows_of [] [] [] fs
+
+of_arrays : AreTold object_read_as (
+    of_form (field (codes "array") (codes "\"a\"") (codes "1")
+    ∷ field (codes "cells") (codes "[[1]]") (codes "{}") ∷ [])
+    ++ of_form (field (codes "layers") (codes "\"a\"") (codes "null")
+    ∷ field (codes "cells") (codes "[[[1]]]") (codes "\"1\"") ∷ []))
 unfolding serde_json_on_literals is_utf8 chars
-of_array = refl
+of_arrays = refl
 
-of_layers : AreTold read_as (
-    row (codes "{\"layers\":\"a\",\"cells\":[[[1]]]}") []
-    ∷ row (codes "{\"layers\":\"a\",\"cells\":[[[1]]],\"more\":1}") (3 ∷ [])
-    ∷ row (codes "{\"cells\":[[[1]]]}") (3 ∷ [])
-    ∷ row (codes "{\"layers\":null,\"cells\":[[[1]]]}") (3 ∷ [])
-    ∷ row (codes "{\"layers\":null,\"layers\":\"a\",\"cells\":[[[1]]]}") []
-    ∷ row (codes "{\"layers\":\"a\",\"cells\":[[[1]]],\"layers\":null}") (3 ∷ [])
-    ∷ row (codes "{\"layers\":\"a\"}") (3 ∷ [])
-    ∷ row (codes "{\"layers\":\"a\",\"cells\":\"1\"}") (3 ∷ [])
-    ∷ row (codes "{\"cells\":\"1\",\"layers\":\"a\",\"cells\":[[[1]]]}") []
-    ∷ row (codes "{\"layers\":\"a\",\"cells\":[[[1]]],\"cells\":\"1\"}") (3 ∷ [])
+of_flows : AreTold object_read_as (
+    rows_of (8 ∷ 1 ∷ []) [] [] (field (codes "flow") (codes "\"f\"") (codes "[]")
+    ∷ field (codes "inputs") (codes "1") (codes "-1") ∷ field (codes "nodes") (codes "[]") (codes "{}") ∷ [])
+    ++ of_form (field (codes "strategy") (codes "\"f\"") (codes "0")
+    ∷ field (codes "node") (codes "0") (codes "\"0\"") ∷ field (codes "list") (codes "[\"map\"]") (codes "\"map\"")
     ∷ [])
+    ++ of_form (field (codes "start") (codes "\"f\"") (codes "true")
+    ∷ field (codes "base") (codes "[[\"a\",1]]") (codes "1") ∷ []))
 unfolding serde_json_on_literals is_utf8 chars
-of_layers = refl
+of_flows = refl
 
-of_flow : AreTold read_as (
-    row (codes "{\"flow\":\"f\",\"inputs\":1,\"nodes\":[]}") (8 ∷ 1 ∷ [])
-    ∷ row (codes "{\"flow\":\"f\",\"inputs\":1,\"nodes\":[],\"more\":1}") (3 ∷ [])
-    ∷ row (codes "{\"inputs\":1,\"nodes\":[]}") (3 ∷ [])
-    ∷ row (codes "{\"flow\":[],\"inputs\":1,\"nodes\":[]}") (3 ∷ [])
-    ∷ row (codes "{\"flow\":[],\"flow\":\"f\",\"inputs\":1,\"nodes\":[]}") (8 ∷ 1 ∷ [])
-    ∷ row (codes "{\"flow\":\"f\",\"inputs\":1,\"nodes\":[],\"flow\":[]}") (3 ∷ [])
-    ∷ row (codes "{\"flow\":\"f\",\"nodes\":[]}") (3 ∷ [])
-    ∷ row (codes "{\"flow\":\"f\",\"inputs\":-1,\"nodes\":[]}") (3 ∷ [])
-    ∷ row (codes "{\"inputs\":-1,\"flow\":\"f\",\"inputs\":1,\"nodes\":[]}") (8 ∷ 1 ∷ [])
-    ∷ row (codes "{\"flow\":\"f\",\"inputs\":1,\"nodes\":[],\"inputs\":-1}") (3 ∷ [])
-    ∷ row (codes "{\"flow\":\"f\",\"inputs\":1}") (3 ∷ [])
-    ∷ row (codes "{\"flow\":\"f\",\"inputs\":1,\"nodes\":{}}") (3 ∷ [])
-    ∷ row (codes "{\"nodes\":{},\"flow\":\"f\",\"inputs\":1,\"nodes\":[]}") (8 ∷ 1 ∷ [])
-    ∷ row (codes "{\"flow\":\"f\",\"inputs\":1,\"nodes\":[],\"nodes\":{}}") (3 ∷ [])
-    ∷ [])
+of_versions : AreTold object_read_as (
+    of_form (field (codes "await") (codes "1") (codes "\"x\"") ∷ [])
+    ++ of_form (field (codes "show") (codes "1") (codes "4294967296")
+    ∷ field (codes "node") (codes "0") (codes "null") ∷ []))
 unfolding serde_json_on_literals is_utf8 chars
-of_flow = refl
+of_versions = refl
 
-of_strategy : AreTold read_as (
-    row (codes "{\"strategy\":\"f\",\"node\":0,\"list\":[\"map\"]}") []
-    ∷ row (codes "{\"strategy\":\"f\",\"node\":0,\"list\":[\"map\"],\"more\":1}") (3 ∷ [])
-    ∷ row (codes "{\"node\":0,\"list\":[\"map\"]}") (3 ∷ [])
-    ∷ row (codes "{\"strategy\":0,\"node\":0,\"list\":[\"map\"]}") (3 ∷ [])
-    ∷ row (codes "{\"strategy\":0,\"strategy\":\"f\",\"node\":0,\"list\":[\"map\"]}") []
-    ∷ row (codes "{\"strategy\":\"f\",\"node\":0,\"list\":[\"map\"],\"strategy\":0}") (3 ∷ [])
-    ∷ row (codes "{\"strategy\":\"f\",\"list\":[\"map\"]}") (3 ∷ [])
-    ∷ row (codes "{\"strategy\":\"f\",\"node\":\"0\",\"list\":[\"map\"]}") (3 ∷ [])
-    ∷ row (codes "{\"node\":\"0\",\"strategy\":\"f\",\"node\":0,\"list\":[\"map\"]}") []
-    ∷ row (codes "{\"strategy\":\"f\",\"node\":0,\"list\":[\"map\"],\"node\":\"0\"}") (3 ∷ [])
-    ∷ row (codes "{\"strategy\":\"f\",\"node\":0}") (3 ∷ [])
-    ∷ row (codes "{\"strategy\":\"f\",\"node\":0,\"list\":\"map\"}") (3 ∷ [])
-    ∷ row (codes "{\"list\":\"map\",\"strategy\":\"f\",\"node\":0,\"list\":[\"map\"]}") []
-    ∷ row (codes "{\"strategy\":\"f\",\"node\":0,\"list\":[\"map\"],\"list\":\"map\"}") (3 ∷ [])
-    ∷ [])
-unfolding serde_json_on_literals is_utf8 chars
-of_strategy = refl
-
-of_start : AreTold read_as (
-    row (codes "{\"start\":\"f\",\"base\":[[\"a\",1]]}") []
-    ∷ row (codes "{\"start\":\"f\",\"base\":[[\"a\",1]],\"more\":1}") (3 ∷ [])
-    ∷ row (codes "{\"base\":[[\"a\",1]]}") (3 ∷ [])
-    ∷ row (codes "{\"start\":true,\"base\":[[\"a\",1]]}") (3 ∷ [])
-    ∷ row (codes "{\"start\":true,\"start\":\"f\",\"base\":[[\"a\",1]]}") []
-    ∷ row (codes "{\"start\":\"f\",\"base\":[[\"a\",1]],\"start\":true}") (3 ∷ [])
-    ∷ row (codes "{\"start\":\"f\"}") (3 ∷ [])
-    ∷ row (codes "{\"start\":\"f\",\"base\":1}") (3 ∷ [])
-    ∷ row (codes "{\"base\":1,\"start\":\"f\",\"base\":[[\"a\",1]]}") []
-    ∷ row (codes "{\"start\":\"f\",\"base\":[[\"a\",1]],\"base\":1}") (3 ∷ [])
-    ∷ [])
-unfolding serde_json_on_literals is_utf8 chars
-of_start = refl
-
-of_plan : AreTold read_as (
-    row (codes "{\"plan\":\"f\",\"base\":[[\"a\",1]],\"units\":1,\"back\":1,\"forward\":1}") []
-    ∷ row (codes "{\"plan\":\"f\",\"base\":[[\"a\",1]],\"units\":1,\"back\":1,\"forward\":1,\"more\":1}") (3 ∷ [])
-    ∷ row (codes "{\"base\":[[\"a\",1]],\"units\":1,\"back\":1,\"forward\":1}") (3 ∷ [])
-    ∷ row (codes "{\"plan\":1,\"base\":[[\"a\",1]],\"units\":1,\"back\":1,\"forward\":1}") (3 ∷ [])
-    ∷ row (codes "{\"plan\":1,\"plan\":\"f\",\"base\":[[\"a\",1]],\"units\":1,\"back\":1,\"forward\":1}") []
-    ∷ row (codes "{\"plan\":\"f\",\"units\":1,\"back\":1,\"forward\":1}") (3 ∷ [])
-    ∷ row (codes "{\"plan\":\"f\",\"base\":1,\"units\":1,\"back\":1,\"forward\":1}") (3 ∷ [])
-    ∷ row (codes "{\"plan\":\"f\",\"base\":[[\"a\"]],\"units\":1,\"back\":1,\"forward\":1}") (3 ∷ [])
-    ∷ row (codes "{\"plan\":\"f\",\"base\":[[\"a\",1]],\"back\":1,\"forward\":1}") (3 ∷ [])
-    ∷ row (codes "{\"plan\":\"f\",\"base\":[[\"a\",1]],\"units\":4294967296,\"back\":1,\"forward\":1}") (3 ∷ [])
-    ∷ row (codes "{\"plan\":\"f\",\"base\":[[\"a\",1]],\"units\":4294967295,\"back\":1,\"forward\":1}") []
-    ∷ row (codes "{\"plan\":\"f\",\"base\":[[\"a\",1]],\"units\":1,\"forward\":1}") (3 ∷ [])
-    ∷ row (codes "{\"plan\":\"f\",\"base\":[[\"a\",1]],\"units\":1,\"back\":-1,\"forward\":1}") (3 ∷ [])
-    ∷ row (codes "{\"plan\":\"f\",\"base\":[[\"a\",1]],\"units\":1,\"back\":1}") (3 ∷ [])
-    ∷ row (codes "{\"plan\":\"f\",\"base\":[[\"a\",1]],\"units\":1,\"back\":1,\"forward\":1.0}") (3 ∷ [])
-    ∷ row (codes "{\"plan\":\"f\",\"base\":[[\"a\",1]],\"units\":1,\"back\":1,\"forward\":1.0,\"forward\":0}") []
-    ∷ [])
-unfolding serde_json_on_literals is_utf8 chars
-of_plan = refl
-
-of_refresh : AreTold read_as (
-    row (codes "{\"refresh\":1,\"input\":0,\"set\":[]}") []
-    ∷ row (codes "{\"refresh\":1,\"input\":0,\"set\":[[0,0,7]]}") []
-    ∷ row (codes "{\"refresh\":1,\"input\":0,\"set\":[[0,0,null]]}") []
-    ∷ row (codes "{\"refresh\":1,\"input\":0,\"set\":[[0,0,-9223372036854775808],[1,0,0,7]]}") []
-    ∷ row (codes "{\"refresh\":1,\"input\":0,\"set\":[[0,0,9223372036854775808]]}") (3 ∷ [])
-    ∷ row (codes "{\"refresh\":1,\"input\":0,\"set\":[[0,0,1.0]]}") (3 ∷ [])
-    ∷ row (codes "{\"refresh\":1,\"input\":0,\"set\":[[0,0,\"7\"]]}") (3 ∷ [])
-    ∷ row (codes "{\"refresh\":1,\"input\":0,\"set\":[[0,0,true]]}") (3 ∷ [])
-    ∷ row (codes "{\"refresh\":1,\"input\":0,\"set\":[[0,0]]}") (3 ∷ [])
-    ∷ row (codes "{\"refresh\":1,\"input\":0,\"set\":[[0,0,0,0,7]]}") (3 ∷ [])
-    ∷ row (codes "{\"refresh\":1,\"input\":0,\"set\":[[-1,0,7]]}") (3 ∷ [])
-    ∷ row (codes "{\"refresh\":1,\"input\":0,\"set\":[[0,4294967296,7]]}") (3 ∷ [])
-    ∷ row (codes "{\"refresh\":1,\"input\":0,\"set\":[[0,-1,0,7]]}") (3 ∷ [])
-    ∷ row (codes "{\"refresh\":1,\"input\":0,\"set\":[7]}") (3 ∷ [])
-    ∷ row (codes "{\"refresh\":1,\"input\":0,\"set\":7}") (3 ∷ [])
-    ∷ row (codes "{\"refresh\":1,\"input\":0}") (3 ∷ [])
-    ∷ row (codes "{\"refresh\":1,\"set\":[]}") (3 ∷ [])
-    ∷ row (codes "{\"input\":0,\"set\":[]}") (3 ∷ [])
-    ∷ row (codes "{\"refresh\":\"1\",\"input\":0,\"set\":[]}") (3 ∷ [])
-    ∷ row (codes "{\"refresh\":1,\"input\":-1,\"set\":[]}") (3 ∷ [])
-    ∷ row (codes "{\"refresh\":1,\"input\":0,\"set\":[],\"more\":1}") (3 ∷ [])
-    ∷ row (codes "{\"refresh\":1,\"input\":0,\"set\":7,\"set\":[]}") []
-    ∷ [])
-unfolding serde_json_on_literals is_utf8 chars
-of_refresh = refl
-
-of_merge : AreTold read_as (
-    row (codes "{\"merge\":1}") []
-    ∷ row (codes "{\"merge\":4294967295}") []
-    ∷ row (codes "{\"merge\":4294967296}") (3 ∷ [])
-    ∷ row (codes "{\"merge\":\"1\"}") (3 ∷ [])
-    ∷ row (codes "{\"merge\":1,\"more\":1}") (3 ∷ [])
-    ∷ row (codes "{\"merge\":0,\"merge\":1}") []
-    ∷ [])
-unfolding serde_json_on_literals is_utf8 chars
-of_merge = refl
-
-of_merged : AreTold read_as (
-    row (codes "{\"merged\":1}") []
-    ∷ row (codes "{\"merged\":4294967295}") []
-    ∷ row (codes "{\"merged\":4294967296}") (3 ∷ [])
-    ∷ row (codes "{\"merged\":\"1\"}") (3 ∷ [])
-    ∷ row (codes "{\"merged\":1,\"more\":1}") (3 ∷ [])
-    ∷ row (codes "{\"merged\":0,\"merged\":1}") []
-    ∷ [])
-unfolding serde_json_on_literals is_utf8 chars
-of_merged = refl
-
-of_both : AreTold read_as (
-    row (codes "{\"merge\":1,\"merged\":1}") (3 ∷ [])
-    ∷ [])
-unfolding serde_json_on_literals is_utf8 chars
-of_both = refl
-
-of_await : AreTold read_as (
-    row (codes "{\"await\":1}") []
-    ∷ row (codes "{\"await\":1,\"more\":1}") (3 ∷ [])
-    ∷ row (codes "{}") (3 ∷ [])
-    ∷ row (codes "{\"await\":\"x\"}") (3 ∷ [])
-    ∷ row (codes "{\"await\":\"x\",\"await\":1}") []
-    ∷ row (codes "{\"await\":1,\"await\":\"x\"}") (3 ∷ [])
-    ∷ [])
-unfolding serde_json_on_literals is_utf8 chars
-of_await = refl
-
-of_ask : AreTold read_as (
-    row (codes "{\"ask\":1,\"dir\":\"back\",\"path\":[[0,0]],\"cells\":[[0,0]]}") []
-    ∷ row (codes "{\"ask\":1,\"dir\":\"back\",\"path\":[[0,0]],\"cells\":[[0,0]],\"more\":1}") (3 ∷ [])
-    ∷ row (codes "{\"dir\":\"back\",\"path\":[[0,0]],\"cells\":[[0,0]]}") (3 ∷ [])
-    ∷ row (codes "{\"ask\":\"1\",\"dir\":\"back\",\"path\":[[0,0]],\"cells\":[[0,0]]}") (3 ∷ [])
-    ∷ row (codes "{\"ask\":\"1\",\"ask\":1,\"dir\":\"back\",\"path\":[[0,0]],\"cells\":[[0,0]]}") []
-    ∷ row (codes "{\"ask\":1,\"dir\":\"back\",\"path\":[[0,0]],\"cells\":[[0,0]],\"ask\":\"1\"}") (3 ∷ [])
-    ∷ row (codes "{\"ask\":1,\"path\":[[0,0]],\"cells\":[[0,0]]}") (3 ∷ [])
-    ∷ row (codes "{\"ask\":1,\"dir\":0,\"path\":[[0,0]],\"cells\":[[0,0]]}") (3 ∷ [])
-    ∷ row (codes "{\"dir\":0,\"ask\":1,\"dir\":\"back\",\"path\":[[0,0]],\"cells\":[[0,0]]}") []
-    ∷ row (codes "{\"ask\":1,\"dir\":\"back\",\"path\":[[0,0]],\"cells\":[[0,0]],\"dir\":0}") (3 ∷ [])
-    ∷ row (codes "{\"ask\":1,\"dir\":\"back\",\"cells\":[[0,0]]}") (3 ∷ [])
-    ∷ row (codes "{\"ask\":1,\"dir\":\"back\",\"path\":{},\"cells\":[[0,0]]}") (3 ∷ [])
-    ∷ row (codes "{\"path\":{},\"ask\":1,\"dir\":\"back\",\"path\":[[0,0]],\"cells\":[[0,0]]}") []
-    ∷ row (codes "{\"ask\":1,\"dir\":\"back\",\"path\":[[0,0]],\"cells\":[[0,0]],\"path\":{}}") (3 ∷ [])
-    ∷ row (codes "{\"ask\":1,\"dir\":\"back\",\"path\":[[0,0]]}") (3 ∷ [])
-    ∷ row (codes "{\"ask\":1,\"dir\":\"back\",\"path\":[[0,0]],\"cells\":null}") (3 ∷ [])
-    ∷ row (codes "{\"cells\":null,\"ask\":1,\"dir\":\"back\",\"path\":[[0,0]],\"cells\":[[0,0]]}") []
-    ∷ row (codes "{\"ask\":1,\"dir\":\"back\",\"path\":[[0,0]],\"cells\":[[0,0]],\"cells\":null}") (3 ∷ [])
-    ∷ [])
+of_ask : AreTold object_read_as (of_form (
+    field (codes "ask") (codes "1") (codes "\"1\"") ∷ field (codes "dir") (codes "\"back\"") (codes "0")
+    ∷ field (codes "path") (codes "[[0,0]]") (codes "{}") ∷ field (codes "cells") (codes "[[0,0]]") (codes "null")
+    ∷ []))
 unfolding serde_json_on_literals is_utf8 chars
 of_ask = refl
 
-of_explain : AreTold read_as (
-    row (codes "{\"explain\":1,\"dir\":\"forward\",\"path\":[[0,0]],\"cells\":[[0,0]]}") []
-    ∷ row (codes "{\"explain\":1,\"dir\":\"forward\",\"path\":[[0,0]],\"cells\":[[0,0]],\"more\":1}") (3 ∷ [])
-    ∷ row (codes "{\"dir\":\"forward\",\"path\":[[0,0]],\"cells\":[[0,0]]}") (3 ∷ [])
-    ∷ row (codes "{\"explain\":1.0,\"dir\":\"forward\",\"path\":[[0,0]],\"cells\":[[0,0]]}") (3 ∷ [])
-    ∷ row (codes "{\"explain\":1.0,\"explain\":1,\"dir\":\"forward\",\"path\":[[0,0]],\"cells\":[[0,0]]}") []
-    ∷ row (codes "{\"explain\":1,\"dir\":\"forward\",\"path\":[[0,0]],\"cells\":[[0,0]],\"explain\":1.0}") (3 ∷ [])
-    ∷ row (codes "{\"explain\":1,\"path\":[[0,0]],\"cells\":[[0,0]]}") (3 ∷ [])
-    ∷ row (codes "{\"explain\":1,\"dir\":\"up\",\"path\":[[0,0]],\"cells\":[[0,0]]}") (3 ∷ [])
-    ∷ row (codes "{\"dir\":\"up\",\"explain\":1,\"dir\":\"forward\",\"path\":[[0,0]],\"cells\":[[0,0]]}") []
-    ∷ row (codes "{\"explain\":1,\"dir\":\"forward\",\"path\":[[0,0]],\"cells\":[[0,0]],\"dir\":\"up\"}") (3 ∷ [])
-    ∷ row (codes "{\"explain\":1,\"dir\":\"forward\",\"cells\":[[0,0]]}") (3 ∷ [])
-    ∷ row (codes "{\"explain\":1,\"dir\":\"forward\",\"path\":[0,0],\"cells\":[[0,0]]}") (3 ∷ [])
-    ∷ row (codes "{\"path\":[0,0],\"explain\":1,\"dir\":\"forward\",\"path\":[[0,0]],\"cells\":[[0,0]]}") []
-    ∷ row (codes "{\"explain\":1,\"dir\":\"forward\",\"path\":[[0,0]],\"cells\":[[0,0]],\"path\":[0,0]}") (3 ∷ [])
-    ∷ row (codes "{\"explain\":1,\"dir\":\"forward\",\"path\":[[0,0]]}") (3 ∷ [])
-    ∷ row (codes "{\"explain\":1,\"dir\":\"forward\",\"path\":[[0,0]],\"cells\":[0,0]}") (3 ∷ [])
-    ∷ row (codes "{\"cells\":[0,0],\"explain\":1,\"dir\":\"forward\",\"path\":[[0,0]],\"cells\":[[0,0]]}") []
-    ∷ row (codes "{\"explain\":1,\"dir\":\"forward\",\"path\":[[0,0]],\"cells\":[[0,0]],\"cells\":[0,0]}") (3 ∷ [])
-    ∷ [])
+of_explain : AreTold object_read_as (of_form (
+    field (codes "explain") (codes "1") (codes "1.0") ∷ field (codes "dir") (codes "\"forward\"") (codes "\"up\"")
+    ∷ field (codes "path") (codes "[[0,0]]") (codes "[0,0]") ∷ field (codes "cells") (codes "[[0,0]]") (codes "[0,0]")
+    ∷ []))
 unfolding serde_json_on_literals is_utf8 chars
 of_explain = refl
 
-of_show : AreTold read_as (
-    row (codes "{\"show\":1,\"node\":0}") []
-    ∷ row (codes "{\"show\":1,\"node\":0,\"more\":1}") (3 ∷ [])
-    ∷ row (codes "{\"node\":0}") (3 ∷ [])
-    ∷ row (codes "{\"show\":4294967296,\"node\":0}") (3 ∷ [])
-    ∷ row (codes "{\"show\":4294967296,\"show\":1,\"node\":0}") []
-    ∷ row (codes "{\"show\":1,\"node\":0,\"show\":4294967296}") (3 ∷ [])
-    ∷ row (codes "{\"show\":1}") (3 ∷ [])
-    ∷ row (codes "{\"show\":1,\"node\":null}") (3 ∷ [])
-    ∷ row (codes "{\"node\":null,\"show\":1,\"node\":0}") []
-    ∷ row (codes "{\"show\":1,\"node\":0,\"node\":null}") (3 ∷ [])
-    ∷ [])
+-- a plan of a flow, by what stands behind its name
+abbrev plan : List ℕ → List ℕ
+plan text = codes "{\"plan\":\"f\"," ++ text ++ codes "}"
+
+of_plan : AreTold read_as (
+    each [] (
+    plan (codes "\"base\":[[\"a\",1]],\"units\":1,\"back\":1,\"forward\":1")
+    ∷ plan (codes "\"base\":[[\"a\",1]],\"units\":4294967295,\"back\":1,\"forward\":1")
+    ∷ plan (codes "\"base\":[[\"a\",1]],\"units\":1,\"back\":1,\"forward\":1.0,\"forward\":0")
+    ∷ codes "{\"plan\":1,\"plan\":\"f\",\"base\":[[\"a\",1]],\"units\":1,\"back\":1,\"forward\":1}" ∷ [])
+    ++ each (3 ∷ []) (
+    -- a further field, and no name
+    plan (codes "\"base\":[[\"a\",1]],\"units\":1,\"back\":1,\"forward\":1,\"more\":1")
+    ∷ codes "{\"base\":[[\"a\",1]],\"units\":1,\"back\":1,\"forward\":1}"
+    ∷ codes "{\"plan\":1,\"base\":[[\"a\",1]],\"units\":1,\"back\":1,\"forward\":1}"
+    -- no base arrays, no units, and no asks
+    ∷ plan (codes "\"units\":1,\"back\":1,\"forward\":1")
+    ∷ plan (codes "\"base\":1,\"units\":1,\"back\":1,\"forward\":1")
+    ∷ plan (codes "\"base\":[[\"a\"]],\"units\":1,\"back\":1,\"forward\":1")
+    ∷ plan (codes "\"base\":[[\"a\",1]],\"back\":1,\"forward\":1")
+    ∷ plan (codes "\"base\":[[\"a\",1]],\"units\":4294967296,\"back\":1,\"forward\":1")
+    ∷ plan (codes "\"base\":[[\"a\",1]],\"units\":1,\"forward\":1")
+    ∷ plan (codes "\"base\":[[\"a\",1]],\"units\":1,\"back\":-1,\"forward\":1")
+    ∷ plan (codes "\"base\":[[\"a\",1]],\"units\":1,\"back\":1")
+    ∷ plan (codes "\"base\":[[\"a\",1]],\"units\":1,\"back\":1,\"forward\":1.0") ∷ []))
 unfolding serde_json_on_literals is_utf8 chars
-of_show = refl
+of_plan = refl
+
+-- a refresh of version 1, by what stands behind its number, and one of its first input, by the cells that it sets
+abbrev refresh : List ℕ → List ℕ
+refresh text = codes "{\"refresh\":1," ++ text ++ codes "}"
+
+abbrev set : List ℕ → List ℕ
+set cells = refresh (codes "\"input\":0,\"set\":" ++ cells)
+
+of_refresh : AreTold read_as (
+    each [] (set (codes "[]") ∷ set (codes "[[0,0,7]]") ∷ set (codes "[[0,0,null]]")
+    ∷ set (codes "[[0,0,-9223372036854775808],[1,0,0,7]]") ∷ set (codes "7,\"set\":[]") ∷ [])
+    ++ each (3 ∷ []) (set (codes "[[0,0,9223372036854775808]]") ∷ set (codes "[[0,0,1.0]]")
+    ∷ set (codes "[[0,0,\"7\"]]") ∷ set (codes "[[0,0,true]]") ∷ set (codes "[[0,0]]") ∷ set (codes "[[0,0,0,0,7]]")
+    ∷ set (codes "[[-1,0,7]]") ∷ set (codes "[[0,4294967296,7]]") ∷ set (codes "[[0,-1,0,7]]") ∷ set (codes "[7]")
+    ∷ set (codes "7") ∷ set (codes "[],\"more\":1")
+    -- the fields before the cells
+    ∷ refresh (codes "\"input\":0") ∷ refresh (codes "\"set\":[]") ∷ refresh (codes "\"input\":-1,\"set\":[]")
+    ∷ codes "{\"input\":0,\"set\":[]}" ∷ codes "{\"refresh\":\"1\",\"input\":0,\"set\":[]}" ∷ []))
+unfolding serde_json_on_literals is_utf8 chars
+of_refresh = refl
+
+-- the rows of a form that has the number of a version alone, by its word
+abbrev of_version : List ℕ → List Row
+of_version word =
+    let given : List ℕ → List ℕ = λ number. codes "{\"" ++ word ++ codes "\":" ++ number in
+    each [] (
+    given (codes "1}") ∷ given (codes "4294967295}")
+    ∷ given (codes "0,\"" ++ word ++ codes "\":1}") ∷ [])
+    ++ each (3 ∷ []) (given (codes "4294967296}") ∷ given (codes "\"1\"}") ∷ given (codes "1,\"more\":1}") ∷ [])
+
+of_merges : AreTold read_as (
+    flat_map of_version (codes "merge" ∷ codes "merged" ∷ [])
+    ++ row (codes "{\"merge\":1,\"merged\":1}") (3 ∷ []) ∷ [])
+unfolding serde_json_on_literals is_utf8 chars
+of_merges = refl

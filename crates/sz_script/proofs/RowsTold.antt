@@ -1,4 +1,5 @@
--- What the rows of refusals compare: the numbers that are printed of a line's refusal.
+-- What the rows of refusals compare: the numbers that are printed of a line's refusal. The key idea: the rows of an
+-- object with exactly some fields follow from the fields, with a right value and wrong ones of each.
 use Rattle.std.specs.Prelude.{◌≡◌, ℕ, List, [], ◌∷◌, ◌++◌, map, flat_map, codes, Result, Ok, Err}
 use Rattle.std.specs.List.{range_with_len}
 use Rattle.sz_script.specs.declared.command.Command.{Command}
@@ -13,6 +14,10 @@ told (Err r) = numbers_of r
 -- the numbers of the refusal of a line, and none where it is a command
 abbrev pub read_as : List ℕ → List ℕ
 read_as line = told (reading line)
+
+-- the same of an object, by what it holds
+abbrev pub object_read_as : List ℕ → List ℕ
+object_read_as text = read_as (codes "{" ++ text ++ codes "}")
 
 -- the same of a flow `f`, by what stands behind its name
 abbrev pub flow_read_as : List ℕ → List ℕ
@@ -52,6 +57,51 @@ pub record Row : Type 0 where
 abbrev pub row : List ℕ → List ℕ → Row
 row text numbers = record { text = text; numbers = numbers }
 
+-- rows of the same numbers
+abbrev pub each : List ℕ → List (List ℕ) → List Row
+each numbers texts = map (λ text. row text numbers) texts
+
 -- each text of a table is told these numbers
 abbrev pub AreTold : (List ℕ → List ℕ) → List Row → Type 0
 AreTold tell rows = map (λ (r : Row). tell r.text) rows ≡ map (λ (r : Row). r.numbers) rows
+
+-- ---- the rows of an object with exactly some fields
+
+-- a field: its key, a right value, wrong ones, and a wrong one that is given before the right one, and behind it
+pub record Field : Type 0 where
+  pub key : List ℕ
+  pub right : List ℕ
+  pub wrong : List (List ℕ)
+  pub before : List ℕ
+  pub behind : List ℕ
+
+-- a field with one wrong value
+abbrev pub field : List ℕ → List ℕ → List ℕ → Field
+field key right wrong =
+    record { key = key; right = right; wrong = wrong ∷ []; before = wrong; behind = wrong }
+
+abbrev with_value : Field → List ℕ → List ℕ
+with_value f value = codes "\"" ++ f.key ++ codes "\":" ++ value
+
+abbrev rights : List Field → List (List ℕ)
+rights fs = map (λ (f : Field). with_value f f.right) fs
+
+-- each of the fields missing, wrong, and given twice, where the last stands: behind those that are done, between the
+-- first texts of the object and its last ones
+abbrev field_rows : List ℕ → (first last : List (List ℕ)) → (done left : List Field) → List Row
+field_rows numbers first last done [] = []
+field_rows numbers first last done (f ∷ fs) =
+    each (3 ∷ []) (
+    joined (first ++ rights done ++ rights fs ++ last)
+    ∷ map (λ w. joined (first ++ rights done ++ with_value f w ∷ rights fs ++ last)) f.wrong)
+    ++ row (joined (first ++ with_value f f.before ∷ rights (done ++ f ∷ fs) ++ last)) numbers
+    ∷ row (joined (first ++ rights (done ++ f ∷ fs) ++ with_value f f.behind ∷ last)) (3 ∷ [])
+    ∷ field_rows numbers first last (done ++ f ∷ []) fs
+
+-- the rows of an object, by its numbers where its fields are right: all right; a further field; and each of them
+-- missing, wrong, and given twice
+abbrev pub rows_of : List ℕ → (first last : List (List ℕ)) → List Field → List Row
+rows_of numbers first last fs =
+    row (joined (first ++ rights fs ++ last)) numbers
+    ∷ row (joined (first ++ rights fs ++ codes "\"more\":1" ∷ last)) (3 ∷ [])
+    ∷ field_rows numbers first last [] fs

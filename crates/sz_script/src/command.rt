@@ -144,6 +144,12 @@ pub enum LineFault {
     NoMemory,
 }
 
+/// A line that has none of the forms.
+pub const NO_FORM: LineFault = LineFault::Refused(Refusal::NoForm);
+
+/// A line with a name that is none.
+pub const BAD_NAME: LineFault = LineFault::Refused(Refusal::BadName);
+
 impl From<AllocError> for LineFault {
     ghost use Rattle.std.specs.Prelude.{◌≡◌};
     ghost use Rattle.sz_script.specs.declared.command.LineFault.{LineFault};

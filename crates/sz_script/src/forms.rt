@@ -1,20 +1,10 @@
-//! The table of forms, with a file for each.
+//! The table of forms, with a file for those that speak of arrays, of flows, of versions, and for
+//! those that ask.
 
-mod array;
-mod ask;
-mod awaiting;
-mod csv_text;
-mod explain;
-mod flow;
-mod layers;
-mod merge;
-mod merged;
-mod plan;
+mod arrays;
+mod flows;
 mod question;
-mod refresh;
-mod show;
-mod start;
-mod strategy;
+mod versions;
 
 ghost use Rattle.std.specs.Prelude.{◌≡◌};
 ghost use Rattle.serde_json.specs.View.{view};
@@ -22,9 +12,8 @@ ghost use Rattle.sz_script.specs.Drafts.{reading_of_form};
 ghost use Rattle.sz_script.specs.Forms.{draft_of};
 ghost use Rattle.sz_script.specs.Reading.{Reads};
 
-use crate::command::{Command, LineFault};
+use crate::command::{Command, LineFault, NO_FORM};
 use crate::fields::has_fields;
-use crate::refusal::Refusal;
 use serde_json::Value;
 use std::alloc::Global;
 
@@ -33,46 +22,46 @@ pub fn command_of(alloc: Global, value: &Value) -> Result<Command, LineFault>
     ensures { Reads (reading_of_form (draft_of (view value.now))) result }
 {
     if has_fields(value, &["array", "cells"]) {
-        return array::read(alloc, value);
+        return arrays::array(alloc, value);
     }
     if has_fields(value, &["csv", "text"]) {
-        return csv_text::read(alloc, value);
+        return arrays::csv(alloc, value);
     }
     if has_fields(value, &["layers", "cells"]) {
-        return layers::read(alloc, value);
+        return arrays::layered(alloc, value);
     }
     if has_fields(value, &["flow", "inputs", "nodes"]) {
-        return flow::read(alloc, value);
+        return flows::flow(alloc, value);
     }
     if has_fields(value, &["strategy", "node", "list"]) {
-        return strategy::read(alloc, value);
+        return flows::strategy(alloc, value);
     }
     if has_fields(value, &["start", "base"]) {
-        return start::read(alloc, value);
+        return flows::start(alloc, value);
     }
     if has_fields(value, &["plan", "base", "units", "back", "forward"]) {
-        return plan::read(alloc, value);
+        return flows::plan(alloc, value);
     }
     if has_fields(value, &["refresh", "input", "set"]) {
-        return refresh::read(alloc, value);
+        return versions::refresh(alloc, value);
     }
     if has_fields(value, &["merge"]) {
-        return merge::read(value);
+        return versions::merge(value);
     }
     if has_fields(value, &["merged"]) {
-        return merged::read(value);
+        return versions::merged(value);
     }
     if has_fields(value, &["await"]) {
-        return awaiting::read(value);
+        return versions::awaiting(value);
     }
     if has_fields(value, &["ask", "dir", "path", "cells"]) {
-        return ask::read(alloc, value);
+        return question::ask(alloc, value);
     }
     if has_fields(value, &["explain", "dir", "path", "cells"]) {
-        return explain::read(alloc, value);
+        return question::explain(alloc, value);
     }
     if has_fields(value, &["show", "node"]) {
-        return show::read(value);
+        return versions::show(value);
     }
-    Err(LineFault::Refused(Refusal::NoForm))
+    Err(NO_FORM)
 }

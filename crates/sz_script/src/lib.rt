@@ -17,6 +17,7 @@
 #![tactic(auto)]
 
 mod command;
+mod each;
 mod fields;
 mod forms;
 mod kernels;

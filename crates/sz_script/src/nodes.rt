@@ -1,65 +1,43 @@
 //! Nodes of a flow: a table of operators by their words, and each one's parameters.
 
-ghost use Rattle.std.specs.Prelude.{◌≡◌, ◌∷◌, codes, map, option_map, IfOk};
+ghost use Rattle.std.specs.Prelude.{◌≡◌, ◌∷◌, codes, IfOk};
 ghost use Rattle.serde_json.specs.View.{view};
-ghost use Rattle.sz_script.specs.Fields.{each_of, at};
+ghost use Rattle.sz_script.specs.Fields.{at};
 ghost use Rattle.sz_script.specs.Words.{fold_in};
 ghost use Rattle.sz_script.specs.Nodes.{has_parameters, alone, one_whole, clip_in, sides_in};
 ghost use Rattle.sz_script.specs.Nodes.{slice_in, block_in, fold_layers_in, convolve_in, operators};
 ghost use Rattle.sz_script.specs.Nodes.{op_by, op_in, source_in, node_in};
 
+use crate::each::{Listed, each_at};
 use crate::{fields, kernels, words};
 use serde_json::Value;
 use std::alloc::{AllocError, Global};
 use sz_spec::{Fold, Node, Op, SourceList, SourceRef};
 
-/// [NODE,..]
-pub fn nodes_of(alloc: Global, list: &[Value]) -> Result<Option<Vec<Node>>, AllocError>
-    ensures { IfOk result (λ o. option_map (λ v. v.items) o
-        ≡ each_of node_in (map view list.now)) }
-{
-    let mut nodes = Vec::new(alloc);
-    for item in list {
-        let Some(node) = node_of(alloc, item)? else {
+impl Listed for Node {
+    ghost said = { node_in };
+
+    /// {"op":WORD,"from":[SOURCE,..]} and the operator's parameters
+    fn of_item(alloc: Global, value: &Value) -> Result<Option<Node>, AllocError> {
+        let Some(op) = op_of(alloc, value)? else {
             return Ok(None);
         };
-        nodes.push(node)?;
-    }
-    Ok(Some(nodes))
-}
-
-/// {"op":WORD,"from":[SOURCE,..]} and the operator's parameters
-fn node_of(alloc: Global, value: &Value) -> Result<Option<Node>, AllocError>
-    ensures { IfOk result (λ o. o ≡ node_in (view value.now)) }
-{
-    let Some(op) = op_of(alloc, value)? else {
-        return Ok(None);
-    };
-    let Some(list) = fields::list_at(value, "from") else {
-        return Ok(None);
-    };
-    let Some(from) = sources_of(alloc, list)? else {
-        return Ok(None);
-    };
-    Ok(Some(Node {
-        op,
-        from: SourceList::of(from),
-    }))
-}
-
-/// [SOURCE,..]
-fn sources_of(alloc: Global, list: &[Value]) -> Result<Option<Vec<SourceRef>>, AllocError>
-    ensures { IfOk result (λ o. option_map (λ v. v.items) o
-        ≡ each_of source_in (map view list.now)) }
-{
-    let mut from = Vec::new(alloc);
-    for item in list {
-        let Some(source) = source_of(item) else {
+        let Some(from) = each_at(alloc, value, "from")? else {
             return Ok(None);
         };
-        from.push(source)?;
+        Ok(Some(Node {
+            op,
+            from: SourceList::of(from),
+        }))
     }
-    Ok(Some(from))
+}
+
+impl Listed for SourceRef {
+    ghost said = { source_in };
+
+    fn of_item(_alloc: Global, value: &Value) -> Result<Option<SourceRef>, AllocError> {
+        Ok(source_of(value))
+    }
 }
 
 /// {"i":U} or {"n":U}

@@ -1,17 +1,49 @@
-//! What the forms that ask along a path have in common: a version, a direction, a path and cells.
+//! The forms that ask along a path, for its cells or for the ways of its steps: a version, a
+//! direction, a path and cells.
 
-ghost use Rattle.std.specs.Prelude.{◌≡◌, map, option_map, IfOk};
+ghost use Rattle.std.specs.Prelude.{◌≡◌, IfOk};
 ghost use Rattle.serde_json.specs.View.{view};
-ghost use Rattle.sz_script.specs.Fields.{each_of, at};
+ghost use Rattle.sz_script.specs.Fields.{at};
 ghost use Rattle.sz_script.specs.Words.{dir_in};
+ghost use Rattle.sz_script.specs.Drafts.{reading_of_form};
+ghost use Rattle.sz_script.specs.Forms.Ask.{ask_form};
+ghost use Rattle.sz_script.specs.Forms.Explain.{explain_form};
 ghost use Rattle.sz_script.specs.Questions.{question_in, step_in, named_cell_in, named_cell_at};
+ghost use Rattle.sz_script.specs.Reading.{Reads};
 
-use crate::command::{NamedCell, PathStep};
+use crate::command::{Command, LineFault, NO_FORM, NamedCell, PathStep};
+use crate::each::{Listed, each_at};
 use crate::lists::{NamedCells, Path};
 use crate::{fields, words};
 use serde_json::Value;
 use std::alloc::{AllocError, Global};
 use sz_spec::Dir;
+
+/// {"ask":U,"dir":DIR,"path":[[U,U],..],"cells":[CELL,..]}: ask where a path leads from cells.
+pub fn ask(alloc: Global, value: &Value) -> Result<Command, LineFault>
+    ensures { Reads (reading_of_form (ask_form.draft (view value.now))) result }
+{
+    let q = question_of(alloc, value, "ask")?.ok_or(NO_FORM)?;
+    Ok(Command::Ask {
+        version: q.version,
+        dir: q.dir,
+        path: q.path,
+        cells: q.cells,
+    })
+}
+
+/// {"explain":U,"dir":DIR,"path":[[U,U],..],"cells":[CELL,..]}: by which ways an ask goes.
+pub fn explain(alloc: Global, value: &Value) -> Result<Command, LineFault>
+    ensures { Reads (reading_of_form (explain_form.draft (view value.now))) result }
+{
+    let q = question_of(alloc, value, "explain")?.ok_or(NO_FORM)?;
+    Ok(Command::Explain {
+        version: q.version,
+        dir: q.dir,
+        path: q.path,
+        cells: q.cells,
+    })
+}
 
 /// A version, a direction, a path and cells.
 #[derive(Drop)]
@@ -23,7 +55,7 @@ pub struct Question {
 }
 
 /// The question of a value, whose first field is this and holds the version.
-pub fn question_of(alloc: Global, value: &Value, word: &str) -> Result<Option<Question>, AllocError>
+fn question_of(alloc: Global, value: &Value, word: &str) -> Result<Option<Question>, AllocError>
     ensures { IfOk result (λ o. o ≡ question_in word.now (view value.now)) }
 {
     let Some(version) = fields::number_at(value, word) else {
@@ -32,16 +64,10 @@ pub fn question_of(alloc: Global, value: &Value, word: &str) -> Result<Option<Qu
     let Some(dir) = dir_at(value, "dir") else {
         return Ok(None);
     };
-    let Some(path) = fields::list_at(value, "path") else {
+    let Some(path) = each_at(alloc, value, "path")? else {
         return Ok(None);
     };
-    let Some(path) = steps_of(alloc, path)? else {
-        return Ok(None);
-    };
-    let Some(cells) = fields::list_at(value, "cells") else {
-        return Ok(None);
-    };
-    let Some(cells) = named_cells_of(alloc, cells)? else {
+    let Some(cells) = each_at(alloc, value, "cells")? else {
         return Ok(None);
     };
     Ok(Some(Question {
@@ -62,34 +88,24 @@ fn dir_at(value: &Value, key: &str) -> Option<Dir>
     }
 }
 
-/// [[U,U],..]
-fn steps_of(alloc: Global, list: &[Value]) -> Result<Option<Vec<PathStep>>, AllocError>
-    ensures { IfOk result (λ o. option_map (λ v. v.items) o
-        ≡ each_of step_in (map view list.now)) }
-{
-    let mut path = Vec::with_capacity(alloc, list.len())?;
-    for item in list {
-        let Some((node, input)) = fields::numbers_of(item) else {
-            return Ok(None);
-        };
-        path.push(PathStep { node, input })?;
+impl Listed for PathStep {
+    ghost said = { step_in };
+
+    /// [U,U]
+    fn of_item(_alloc: Global, value: &Value) -> Result<Option<PathStep>, AllocError> {
+        match fields::numbers_of(value) {
+            Some((node, input)) => Ok(Some(PathStep { node, input })),
+            None => Ok(None),
+        }
     }
-    Ok(Some(path))
 }
 
-/// [CELL,..]
-fn named_cells_of(alloc: Global, list: &[Value]) -> Result<Option<Vec<NamedCell>>, AllocError>
-    ensures { IfOk result (λ o. option_map (λ v. v.items) o
-        ≡ each_of named_cell_in (map view list.now)) }
-{
-    let mut cells = Vec::with_capacity(alloc, list.len())?;
-    for item in list {
-        let Some(place) = named_cell_of(item) else {
-            return Ok(None);
-        };
-        cells.push(place)?;
+impl Listed for NamedCell {
+    ghost said = { named_cell_in };
+
+    fn of_item(_alloc: Global, value: &Value) -> Result<Option<NamedCell>, AllocError> {
+        Ok(named_cell_of(value))
     }
-    Ok(Some(cells))
 }
 
 /// [U,U], a row and a column of layer 0, or [U,U,U], a layer, a row in it and a column
