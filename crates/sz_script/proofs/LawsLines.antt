@@ -139,16 +139,20 @@ reading_by x n b m f name cells many fault =
 
 -- ---- results that come of no draft
 
-tests-reading_of_draft : (n b m : Bool) (f : Option FlowFault) (c : Command) → is_past_form (tests n b m f c) ≡ true
-tests-reading_of_draft true b m f c = refl
-tests-reading_of_draft false true m f c = refl
-tests-reading_of_draft false false true f c = refl
-tests-reading_of_draft false false false None c = refl
-tests-reading_of_draft false false false (Some g) c = refl
+-- what is so of each result of the tests is so of what they give
+each-tests : (p : Read → Bool) → p (Err refusal.BadName) ≡ true → p (Err refusal.BadCells) ≡ true
+    → p (Err refusal.TooManyCells) ≡ true → ((c : Command) → p (Ok c) ≡ true)
+    → ((g : FlowFault) → p (Err (refusal.BadFlow g)) ≡ true)
+    → (n b m : Bool) (f : Option FlowFault) (c : Command) → p (tests n b m f c) ≡ true
+each-tests p name cells many right fault true b m f c = name
+each-tests p name cells many right fault false true m f c = cells
+each-tests p name cells many right fault false false true f c = many
+each-tests p name cells many right fault false false false None c = right c
+each-tests p name cells many right fault false false false (Some g) c = fault g
 
 reading_of_draft-later : (x : Draft) → is_past_form (reading_of_draft x) ≡ true
-reading_of_draft-later x =
-    tests-reading_of_draft (has_bad_name x) (has_bad_cells x) (has_too_many_cells x) (fault_in x.command) x.command
+reading_of_draft-later x = each-tests is_past_form refl refl refl (λ c. refl) (λ g. refl)
+    (has_bad_name x) (has_bad_cells x) (has_too_many_cells x) (fault_in x.command) x.command
 
 drafted : (o : Option Draft) (v : Read) → is_past_form v ≡ false → reading_of_form o ≡ v
     → (o ≡ None) × (Err refusal.NoForm ≡ v)
@@ -264,17 +268,10 @@ abbrev is_of_reading : Read → Bool
 is_of_reading (Ok c) = true
 is_of_reading (Err r) = is_of_lines r
 
-tests-own : (n b m : Bool) (f : Option FlowFault) (c : Command) → is_of_reading (tests n b m f c) ≡ true
-tests-own true b m f c = refl
-tests-own false true m f c = refl
-tests-own false false true f c = refl
-tests-own false false false None c = refl
-tests-own false false false (Some g) c = refl
-
 drafts-own : (o : Option Draft) → is_of_reading (reading_of_form o) ≡ true
 drafts-own None = refl
-drafts-own (Some x) =
-    tests-own (has_bad_name x) (has_bad_cells x) (has_too_many_cells x) (fault_in x.command) x.command
+drafts-own (Some x) = each-tests is_of_reading refl refl refl (λ c. refl) (λ g. refl)
+    (has_bad_name x) (has_bad_cells x) (has_too_many_cells x) (fault_in x.command) x.command
 
 reads-own : (long : Bool) (j : Option Data) → is_of_reading (read_by long j) ≡ true
 reads-own true j = refl

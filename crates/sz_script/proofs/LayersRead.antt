@@ -1,14 +1,14 @@
 -- Layers of cells: how many values they give, when they are bad or too many, and that a line of bad or too many cells
 -- is refused for them.
-use Rattle.std.proofs.Common.{◌≡◌, ◌<◌, ◌≤◌, ◌+◌, ◌*◌, ℕ, ℤ, suc, List, [], ◌∷◌, ◌&&◌, ◌==◌, length, map}
+use Rattle.std.proofs.Common.{◌≡◌, ◌<◌, ◌≤◌, ◌*◌, ℕ, ℤ, List, [], ◌&&◌, ◌==◌, length, map}
 use Rattle.std.proofs.Common.{Bool, true, false, not, nat_lt, nat_le, if◌then◌else◌, Option, Some, None, option_map}
-use Rattle.std.proofs.Common.{option_and_then, ap, ◌∙◌, refl, sym, arith, length-append, eq-eqb}
+use Rattle.std.proofs.Common.{option_and_then, ap, ◌∙◌, refl, sym, arith, eq-eqb}
 use Rattle.std.proofs.Common.{unwrap_or, mul-le-mul_right}
 use Rattle.std.specs.Prelude.{Result, Ok, Err}
 use Rattle.std.specs.List.{list_all, flat_map}
 use Rattle.std.proofs.lemmas.Option.{none-some, same_Some}
 use Rattle.std.proofs.lemmas.Bool.{eqb-true, false≢true, ltb-true, lt-ltb, leb-false}
-use Rattle.std.proofs.Math.Nat.{add-mul}
+use Rattle.std.proofs.Math.Nat.{mul_assoc}
 use Rattle.std.proofs.lemmas.List.{length-map}
 use Rattle.serde_json.specs.Data.{Data}
 use Rattle.serde_json.specs.View.{view}
@@ -30,11 +30,7 @@ use Rattle.sz_script.specs.declared.command.LineFault.{LineFault}
 use Rattle.sz_script.specs.declared.command.LineFault.TheVariants as line_fault
 use Rattle.sz_script.specs.declared.refusal.Refusal.{Refusal}
 use Rattle.sz_script.specs.declared.refusal.Refusal.TheVariants.{BadName, BadCells, TooManyCells}
-use Rattle.sz_script.proofs.Walks.{all_seen}
-
-both_true : (b c : Bool) → (b && c) ≡ true → (b ≡ true) × (c ≡ true)
-both_true true c e = (refl, e)
-both_true false c e = absurd (false≢true e)
+use Rattle.sz_script.proofs.Walks.{all_seen, both_true, given_long}
 
 -- ---- tests of lists
 
@@ -68,13 +64,8 @@ row_long width (Some ds) e = length-map ds value_of
 
 rows_long : (width : ℕ) (rows : List Data) → list_all (is_row width) rows ≡ true
     → length (flat_map values_of_row rows) ≡ length rows * width
-rows_long width [] e = let none : 0 ≡ 0 * width = omega arith in none
-rows_long width (r ∷ rows) e =
-    let p = both_true (is_row width r) (list_all (is_row width) rows) e in
-    let here : length (values_of_row r) ≡ width = row_long width (list_in r) p.0 in
-    let rest : length (flat_map values_of_row rows) ≡ length rows * width = rows_long width rows p.1 in
-    let times : suc (length rows) * width ≡ width + length rows * width = omega arith in
-    length-append (values_of_row r) (flat_map values_of_row rows) ∙ omega arith
+rows_long width rows e =
+    given_long (is_row width) values_of_row width (λ r. row_long width (list_in r)) rows e
 
 layer_long : (height width : ℕ) (o : Option (List Data))
     → passes (λ rows. (length rows == height) && list_all (is_row width) rows) o ≡ true
@@ -84,23 +75,12 @@ layer_long height width (Some rows) e =
     let p = both_true (length rows == height) (list_all (is_row width) rows) e in
     rows_long width rows p.1 ∙ ap (λ n. n * width) (eqb-true (length rows) height p.0)
 
-more_layers : (n height width : ℕ)
-    → (suc n * height) * width ≡ height * width + (n * height) * width
-more_layers n height width =
-    let more : suc n * height ≡ height + n * height = omega arith in
-    ap (λ m. m * width) more ∙ add-mul height (n * height) width
-
 pub layers_long : (height width : ℕ) (layers : List Data) → list_all (is_layer height width) layers ≡ true
     → length (flat_map values_of_layer layers) ≡ (length layers * height) * width
-layers_long height width [] e = let none : 0 ≡ (0 * height) * width = omega arith in none
-layers_long height width (l ∷ layers) e =
-    let p = both_true (is_layer height width l) (list_all (is_layer height width) layers) e in
-    let here : length (values_of_layer l) ≡ height * width = layer_long height width (list_in l) p.0 in
-    let rest : length (flat_map values_of_layer layers) ≡ (length layers * height) * width =
-    layers_long height width layers p.1 in
-    let times : (suc (length layers) * height) * width ≡ height * width + (length layers * height) * width =
-    more_layers (length layers) height width in
-    length-append (values_of_layer l) (flat_map values_of_layer layers) ∙ omega arith
+layers_long height width layers e =
+    given_long (is_layer height width) values_of_layer (height * width)
+    (λ l. layer_long height width (list_in l)) layers e
+    ∙ sym (mul_assoc (length layers) height width)
 
 pub filled_bad : (e : Extent) (height width : ℕ) (layers : List Data)
     → list_all (is_layer height width) layers ≡ false → filled e height width layers ≡ Err BadCells

@@ -40,19 +40,18 @@ of_versions : AreTold object_read_as (
 unfolding serde_json_on_literals is_utf8 chars
 of_versions = refl
 
-of_ask : AreTold object_read_as (of_form (
-    field (codes "ask") (codes "1") (codes "\"1\"") ∷ field (codes "dir") (codes "\"back\"") (codes "0")
-    ∷ field (codes "path") (codes "[[0,0]]") (codes "{}") ∷ field (codes "cells") (codes "[[0,0]]") (codes "null")
-    ∷ []))
-unfolding serde_json_on_literals is_utf8 chars
-of_ask = refl
+-- the rows of a form that asks along a path, by its word, a direction, and a wrong version, direction, path and cells
+abbrev of_question : (word dir no_version no_dir no_path no_cells : List ℕ) → List Row
+of_question word dir no_version no_dir no_path no_cells = of_form (
+    field word (codes "1") no_version ∷ field (codes "dir") dir no_dir ∷ field (codes "path") (codes "[[0,0]]") no_path
+    ∷ field (codes "cells") (codes "[[0,0]]") no_cells ∷ [])
 
-of_explain : AreTold object_read_as (of_form (
-    field (codes "explain") (codes "1") (codes "1.0") ∷ field (codes "dir") (codes "\"forward\"") (codes "\"up\"")
-    ∷ field (codes "path") (codes "[[0,0]]") (codes "[0,0]") ∷ field (codes "cells") (codes "[[0,0]]") (codes "[0,0]")
-    ∷ []))
+of_questions : AreTold object_read_as (
+    of_question (codes "ask") (codes "\"back\"") (codes "\"1\"") (codes "0") (codes "{}") (codes "null")
+    ++ of_question (codes "explain") (codes "\"forward\"") (codes "1.0") (codes "\"up\"") (codes "[0,0]")
+    (codes "[0,0]"))
 unfolding serde_json_on_literals is_utf8 chars
-of_explain = refl
+of_questions = refl
 
 -- a plan of a flow, by what stands behind its name
 abbrev plan : List ℕ → List ℕ

@@ -2,12 +2,12 @@
 -- where the line is a command. Each is found by computing; expected numbers by hand.
 --
 -- The key idea: the lines of one rule differ in one place, so a table lists what stands there, under its numbers.
-use Rattle.std.specs.Prelude.{ℕ, List, [], ◌∷◌, ◌++◌, codes}
+use Rattle.std.specs.Prelude.{[], ◌∷◌, ◌++◌, codes}
 use Rattle.std.specs.Str.{is_utf8, chars}
 use Rattle.std.proofs.Common.{refl}
 use Rattle.csv.proofs.OnLiterals.{csv_on_literals}
 use Rattle.serde_json.proofs.OnLiterals.{serde_json_on_literals}
-use Rattle.sz_script.proofs.RowsTold.{read_as, flow_read_as, node_read_as, layers_of, nodes_of, lists_of}
+use Rattle.sz_script.proofs.RowsTold.{read_as, between, flow_read_as, node_read_as, layers_of, nodes_of, lists_of}
 use Rattle.sz_script.proofs.RowsTold.{AreTold, row, each}
 
 -- ---- no JSON, and no form
@@ -46,10 +46,7 @@ unfolding serde_json_on_literals csv_on_literals is_utf8 chars
 form = refl
 
 -- an await, by its number
-abbrev await_read_as : List ℕ → List ℕ
-await_read_as text = read_as (codes "{\"await\":" ++ text ++ codes "}")
-
-number : AreTold await_read_as (
+number : AreTold (between (codes "{\"await\":") (codes "}")) (
     row (codes "4294967295") []
     ∷ each (3 ∷ []) (codes "4294967296" ∷ codes "-1" ∷ codes "-0" ∷ codes "1.0" ∷ codes "1e2" ∷ []))
 unfolding serde_json_on_literals is_utf8 chars
@@ -57,14 +54,8 @@ number = refl
 
 -- ---- names
 
--- an array of one cell, by its name, and a start, by its base arrays
-abbrev name_read_as : List ℕ → List ℕ
-name_read_as text = read_as (codes "{\"array\":\"" ++ text ++ codes "\",\"cells\":[[1]]}")
-
-abbrev base_read_as : List ℕ → List ℕ
-base_read_as text = read_as (codes "{\"start\":\"f\",\"base\":" ++ text ++ codes "}")
-
-name : AreTold name_read_as (
+-- an array of one cell, by its name
+name : AreTold (between (codes "{\"array\":\"") (codes "\",\"cells\":[[1]]}")) (
     each [] (codes "_" ∷ codes "abcdefghijklmnopqrstuvwxyz_01239" ∷ [])
     -- none; one that is too long; and other bytes, the last five beside those of a name, or no ASCII
     ++ each (4 ∷ []) (
@@ -73,7 +64,8 @@ name : AreTold name_read_as (
 unfolding serde_json_on_literals is_utf8 chars
 name = refl
 
-name_of_base : AreTold base_read_as (each (4 ∷ []) (
+-- a start, by its base arrays
+name_of_base : AreTold (between (codes "{\"start\":\"f\",\"base\":") (codes "}")) (each (4 ∷ []) (
     codes "[[\"a \",1]]" ∷ codes "[[\"a\",1],[\"A\",1]]" ∷ codes "[[\"\",1]]"
     ∷ codes "[[\"abcdefghijklmnopqrstuvwxyz_012398\",1]]" ∷ []))
 unfolding serde_json_on_literals is_utf8 chars
@@ -92,14 +84,8 @@ name_of_form = refl
 
 -- ---- cells
 
--- an array of one layer and one of several, by their cells
-abbrev cells_read_as : List ℕ → List ℕ
-cells_read_as text = read_as (codes "{\"array\":\"a\",\"cells\":" ++ text ++ codes "}")
-
-abbrev layers_read_as : List ℕ → List ℕ
-layers_read_as text = read_as (codes "{\"layers\":\"a\",\"cells\":" ++ text ++ codes "}")
-
-cells : AreTold cells_read_as (
+-- an array of one layer, by its cells
+cells : AreTold (between (codes "{\"array\":\"a\",\"cells\":") (codes "}")) (
     each [] (codes "[[null]]" ∷ codes "[[9223372036854775807,-9223372036854775808]]" ∷ [])
     ++ each (5 ∷ []) (
     codes "[]" ∷ codes "[[]]" ∷ codes "[[],[]]" ∷ codes "[[1],[1,2]]" ∷ codes "[[],[1]]" ∷ codes "[[1],1]"
@@ -108,7 +94,8 @@ cells : AreTold cells_read_as (
 unfolding serde_json_on_literals is_utf8 chars
 cells = refl
 
-layers : AreTold layers_read_as (
+-- an array of several layers, by its cells
+layers : AreTold (between (codes "{\"layers\":\"a\",\"cells\":") (codes "}")) (
     row (codes "[[[1,2]],[[3,null]]]") []
     ∷ each (5 ∷ []) (
     codes "[]" ∷ codes "[[[1]],1]" ∷ codes "[[]]" ∷ codes "[[[]]]" ∷ codes "[[[1]],[[1,2]]]"
@@ -141,10 +128,7 @@ flow = refl
 
 -- a flow of one base array and two nodes: a source behind its node, too few sources, and the faults of both nodes, of
 -- which that of the first is told
-abbrev second_read_as : List ℕ → List ℕ
-second_read_as text = flow_read_as (codes "\"inputs\":1,\"nodes\":[{" ++ text ++ codes "}]}")
-
-second_node : AreTold second_read_as (
+second_node : AreTold (between (codes "{\"flow\":\"f\",\"inputs\":1,\"nodes\":[{") (codes "}]}")) (
     row (codes "\"op\":\"neg\",\"from\":[{\"i\":0}]},{\"op\":\"neg\",\"from\":[{\"n\":1}]") (8 ∷ 3 ∷ 1 ∷ 0 ∷ [])
     ∷ row (codes "\"op\":\"neg\",\"from\":[{\"i\":0}]},{\"op\":\"add\",\"from\":[{\"i\":0}]") (8 ∷ 4 ∷ 1 ∷ [])
     ∷ row (codes "\"op\":\"clip\",\"lo\":1,\"hi\":0,\"from\":[{\"i\":0}]},{\"op\":\"add\",\"from\":[]") (8 ∷ 5 ∷ 0 ∷ [])

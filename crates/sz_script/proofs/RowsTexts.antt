@@ -12,7 +12,7 @@ use Rattle.serde_json.proofs.OnLiterals.{serde_json_on_literals}
 use Rattle.sz_script.specs.declared.command.Command.TheVariants as command
 use Rattle.sz_script.specs.Reading.{reading}
 use Rattle.sz_script.specs.Records.{records_in, value_in, are_too_many}
-use Rattle.sz_script.proofs.RowsTold.{AreTold, row, each, read_as}
+use Rattle.sz_script.proofs.RowsTold.{AreTold, row, each, read_as, between}
 
 line-csv : reading (codes "{\"csv\":\"t\",\"text\":\"1,,3\\n4,5,6\\n\"}")
     ≡ Ok (command.Csv (codes "t") (record {
@@ -78,10 +78,7 @@ ends = refl
 -- ---- lines
 
 -- an array `t`, by its text
-abbrev text_read_as : List ℕ → List ℕ
-text_read_as text = read_as (codes "{\"csv\":\"t\",\"text\":\"" ++ text ++ codes "\"}")
-
-texts : AreTold text_read_as (
+texts : AreTold (between (codes "{\"csv\":\"t\",\"text\":\"") (codes "\"}")) (
     each [] (codes "\\\"1\\\",\\\"\\\"" ∷ codes "1,\\\"2" ∷ codes "\\ufeff1" ∷ [])
     ++ each (5 ∷ []) (
     -- a mark that is not at the start is no number

@@ -15,15 +15,19 @@ told (Err r) = numbers_of r
 abbrev pub read_as : List ℕ → List ℕ
 read_as line = told (reading line)
 
--- the same of an object, by what it holds
+-- the same of a line, by what stands between its beginning and its end
+abbrev pub between : List ℕ → List ℕ → List ℕ → List ℕ
+between before behind text = read_as (before ++ text ++ behind)
+
+-- of an object, by what it holds
 abbrev pub object_read_as : List ℕ → List ℕ
-object_read_as text = read_as (codes "{" ++ text ++ codes "}")
+object_read_as text = between (codes "{") (codes "}") text
 
--- the same of a flow `f`, by what stands behind its name
+-- of a flow `f`, by what stands behind its name
 abbrev pub flow_read_as : List ℕ → List ℕ
-flow_read_as text = read_as (codes "{\"flow\":\"f\"," ++ text)
+flow_read_as text = between (codes "{\"flow\":\"f\",") [] text
 
--- the same of a flow of two base arrays and one node, by the node's fields
+-- of a flow of two base arrays and one node, by the node's fields
 abbrev pub node_read_as : List ℕ → List ℕ
 node_read_as text = flow_read_as (codes "\"inputs\":2,\"nodes\":[{" ++ text ++ codes "}]}")
 

@@ -3,7 +3,7 @@
 use Rattle.std.proofs.Common.{◌≡◌, ◌≢◌, ◌<◌, ◌≤◌, ◌+◌, ◌*◌, ◌/◌, ℕ, ℤ, suc, zero, List, [], ◌∷◌, ◌++◌, length, map}
 use Rattle.std.proofs.Common.{take, min, get_or, ◌==◌, Bool, true, false, not, ◌&&◌, nat_lt, nat_le, if◌then◌else◌}
 use Rattle.std.proofs.Common.{Option, Some, None, is_some, unwrap_or, ap, ◌∙◌, refl, sym, subst, arith}
-use Rattle.std.proofs.Common.{append_assoc, append-nil, length-append, eq-eqb, ne_eqb}
+use Rattle.std.proofs.Common.{append_assoc, append-nil, eq-eqb, ne_eqb}
 use Rattle.std.specs.Prelude.{IfSome, Ok, Err}
 use Rattle.std.specs.List.{list_all, flat_map}
 use Rattle.std.proofs.lemmas.Option.{none-some, same_Some}
@@ -28,6 +28,7 @@ use Rattle.sz_script.specs.Records.{records_in, value_in, value_of, is_value, is
 use Rattle.sz_script.specs.Records.{are_rows, are_too_many, table_of, table_in, first_values, IsTable, fault_of}
 use Rattle.sz_script.specs.Reading.{Reads}
 use Rattle.sz_script.proofs.RecordsRead.{begins}
+use Rattle.sz_script.proofs.Walks.{both_true, given_long}
 
 abbrev Record : Type 0
 Record = List (List ℕ)
@@ -35,10 +36,6 @@ Record = List (List ℕ)
 and_false : (b : Bool) → (b && false) ≡ false
 and_false true = refl
 and_false false = refl
-
-both_true : (b c : Bool) → (b && c) ≡ true → (b ≡ true) × (c ≡ true)
-both_true true c e = (refl, e)
-both_true false c e = absurd (false≢true e)
 
 -- ---- the first values
 
@@ -239,13 +236,7 @@ row_long width f e = length-map f value_of
 
 rows_long : (width : ℕ) (rows : List Record) → list_all (is_row width) rows ≡ true
     → length (flat_map values_of_row rows) ≡ length rows * width
-rows_long width [] e = let none : 0 ≡ 0 * width = omega arith in none
-rows_long width (r ∷ rows) e =
-    let p = both_true (is_row width r) (list_all (is_row width) rows) e in
-    let here : length (values_of_row r) ≡ width = row_long width r p.0 in
-    let rest : length (flat_map values_of_row rows) ≡ length rows * width = rows_long width rows p.1 in
-    let times : suc (length rows) * width ≡ width + length rows * width = omega arith in
-    length-append (values_of_row r) (flat_map values_of_row rows) ∙ omega arith
+rows_long width rows e = given_long (is_row width) values_of_row width (row_long width) rows e
 
 -- no field, or no record
 pub none_is_bad : (rows : List Record) (width : ℕ) (values : List (Option ℤ)) → IsTable rows width values

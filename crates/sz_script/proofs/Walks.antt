@@ -1,7 +1,8 @@
 -- A walk over values appends what each gives, as long as each passes a test: what was appended is what the values so
 -- far give.
-use Rattle.std.proofs.Common.{◌≡◌, ◌<◌, ◌+◌, ℕ, suc, List, [], ◌∷◌, ◌++◌, ◌&&◌, length, get_or, map, take}
-use Rattle.std.proofs.Common.{Bool, true, false, sym, ap, ◌∙◌, refl, append_assoc, append-nil, arith}
+use Rattle.std.proofs.Common.{◌≡◌, ◌<◌, ◌+◌, ◌*◌, ℕ, suc, List, [], ◌∷◌, ◌++◌, ◌&&◌, length, get_or, map, take}
+use Rattle.std.proofs.Common.{Bool, true, false, sym, ap, ◌∙◌, refl, append_assoc, append-nil, length-append, arith}
+use Rattle.std.proofs.lemmas.Bool.{false≢true}
 use Rattle.std.proofs.Math.Seq.{take-suc, take-length}
 use Rattle.std.proofs.lemmas.List.{map-append, length-map}
 use Rattle.std.proofs.lemmas.List.Concat.{flat_map_single}
@@ -73,6 +74,22 @@ pub walked_each : {X : Type 0} (test : Data → Bool) (f : Data → X) (vs : Lis
     → new ≡ old ++ map f (map view vs)
 walked_each test f vs i old new end w = walked_given test (λ d. f d ∷ []) vs i old new end w
     ∙ ap (λ l. old ++ l) (flat_map_single f (map view vs))
+
+pub both_true : (b c : Bool) → (b && c) ≡ true → (b ≡ true) × (c ≡ true)
+both_true true c e = (refl, e)
+both_true false c e = absurd (false≢true e)
+
+-- what things give that pass a test, where each that passes gives so much
+pub given_long : {A X : Type 0} (test : A → Bool) (give : A → List X) (width : ℕ)
+    → ((a : A) → test a ≡ true → length (give a) ≡ width) → (xs : List A) → list_all test xs ≡ true
+    → length (flat_map give xs) ≡ length xs * width
+given_long test give width long [] e = let none : 0 ≡ 0 * width = omega arith in none
+given_long test give width long (a ∷ xs) e =
+    let p = both_true (test a) (list_all test xs) e in
+    let here : length (give a) ≡ width = long a p.0 in
+    let rest : length (flat_map give xs) ≡ length xs * width = given_long test give width long xs p.1 in
+    let times : suc (length xs) * width ≡ width + length xs * width = omega arith in
+    length-append (give a) (flat_map give xs) ∙ omega arith
 
 -- there are as many, seen
 pub seen_long : (vs : List Value) → length (map view vs) ≡ length vs

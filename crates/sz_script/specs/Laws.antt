@@ -68,7 +68,7 @@ ReadExactly = (line : List ℕ) (c : Command) → (reading line ≡ Ok c)
 
 -- ---- what is read
 
--- the refusals of lines alone
+-- the refusals of lines alone: each other is of what is held
 abbrev pub is_of_lines : Refusal → Bool
 is_of_lines refusal.TooLong = true
 is_of_lines refusal.NoJson = true
@@ -77,23 +77,7 @@ is_of_lines refusal.BadName = true
 is_of_lines refusal.BadCells = true
 is_of_lines refusal.TooManyCells = true
 is_of_lines (refusal.BadFlow fault) = true
-is_of_lines refusal.NoRoomForArray = false
-is_of_lines refusal.NoRoomForFlow = false
-is_of_lines refusal.NoSuchFlow = false
-is_of_lines refusal.NoSuchArray = false
-is_of_lines refusal.WrongBase = false
-is_of_lines (refusal.ShapesDoNotFit node) = false
-is_of_lines refusal.NoRoomForVersion = false
-is_of_lines refusal.NoSuchVersion = false
-is_of_lines refusal.NotJoined = false
-is_of_lines refusal.OutOfRange = false
-is_of_lines refusal.BadStrategies = false
-is_of_lines refusal.NotAwaited = false
-is_of_lines refusal.NoSuchNode = false
-is_of_lines refusal.StillBuilt = false
-is_of_lines refusal.NoSuchInput = false
-is_of_lines refusal.TooManyUnits = false
-is_of_lines refusal.NotMerged = false
+is_of_lines _ = false
 
 abbrev pub NoOtherRefusal : Type 0
 NoOtherRefusal = (line : List ℕ) (r : Refusal) → reading line ≡ Err r → is_of_lines r ≡ true

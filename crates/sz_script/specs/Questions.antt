@@ -6,6 +6,8 @@ use Rattle.sz_spec.specs.declared.modes.Dir.{Dir}
 use Rattle.sz_spec.specs.Paths.{Step}
 use Rattle.sz_script.specs.Fields.{number_in, numbers_in, list_in, list_at, at}
 use Rattle.sz_script.specs.Words.{dir_in}
+use Rattle.sz_script.specs.Drafts.{Draft}
+use Rattle.sz_script.specs.Form.{Form}
 use Rattle.sz_script.specs.declared.command.NamedCell.{NamedCell}
 use Rattle.sz_script.specs.declared.forms.question.Question.{Question}
 
@@ -45,3 +47,10 @@ question_in word d =
     (list_at step_in (codes "path") d))
     (at dir_in (codes "dir") d))
     (at number_in word d)
+
+-- the form of a question under its word
+abbrev pub question_form : (Question → Draft) → List ℕ → Form
+question_form make word = record {
+  fields = question_fields word;
+  draft = λ d. option_map make (question_in word d);
+}

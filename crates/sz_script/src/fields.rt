@@ -30,20 +30,14 @@ pub fn has_fields(value: &Value, names: &[&str]) -> bool
 pub fn text_at<'a>(value: &'a Value, key: &str) -> Option<&'a str>
     ensures { option_map (λ s. s.now) result ≡ at as_str key.now (view value.now) }
 {
-    match value.get(key) {
-        Some(field) => field.as_str(),
-        None => None,
-    }
+    value.get(key)?.as_str()
 }
 
 /// The number of a field.
 pub fn number_at(value: &Value, key: &str) -> Option<u32>
     ensures { result ≡ at number_in key.now (view value.now) }
 {
-    match value.get(key) {
-        Some(field) => number_of(field),
-        None => None,
-    }
+    number_of(value.get(key)?)
 }
 
 /// A whole number from 0 to 4,294,967,295.
@@ -66,10 +60,7 @@ pub fn number_of(value: &Value) -> Option<u32>
 pub fn whole_at(value: &Value, key: &str) -> Option<i64>
     ensures { result ≡ at whole_in key.now (view value.now) }
 {
-    match value.get(key) {
-        Some(field) => whole_of(field),
-        None => None,
-    }
+    whole_of(value.get(key)?)
 }
 
 /// A whole number that is an i64.
@@ -83,10 +74,7 @@ pub fn whole_of(value: &Value) -> Option<i64>
 pub fn list_at<'a>(value: &'a Value, key: &str) -> Option<&'a [Value]>
     ensures { option_map (λ s. map view s.now) result ≡ at list_in key.now (view value.now) }
 {
-    match value.get(key) {
-        Some(field) => list_of(field),
-        None => None,
-    }
+    list_of(value.get(key)?)
 }
 
 /// The items of a list.

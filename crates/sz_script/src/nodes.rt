@@ -175,10 +175,7 @@ fn fold_layers_of(value: &Value) -> Option<Op>
 fn fold_at(value: &Value, key: &str) -> Option<Fold>
     ensures { result ≡ at fold_in key.now (view value.now) }
 {
-    match fields::text_at(value, key) {
-        Some(word) => words::fold_named(word),
-        None => None,
-    }
+    words::fold_named(fields::text_at(value, key)?)
 }
 
 fn convolve_of(alloc: Global, value: &Value) -> Result<Option<Op>, AllocError>

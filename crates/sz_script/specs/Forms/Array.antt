@@ -1,11 +1,10 @@
 -- {"array":NAME,"cells":LIST}: an array of one layer, a list of rows of numbers and nulls.
-use Rattle.std.specs.Prelude.{ℕ, List, [], ◌∷◌, codes, Option, option_map, option_and_then}
+use Rattle.std.specs.Prelude.{ℕ, List, [], ◌∷◌, codes, Option, option_map}
 use Rattle.serde_json.specs.Data.{Data}
-use Rattle.serde_json.specs.Find.{as_str}
-use Rattle.sz_script.specs.Fields.{list_in, at}
+use Rattle.sz_script.specs.Fields.{list_in}
 use Rattle.sz_script.specs.Layers.{grid_of}
 use Rattle.sz_script.specs.Drafts.{Draft, in_layers}
-use Rattle.sz_script.specs.Form.{Form}
+use Rattle.sz_script.specs.Form.{Form, of_name}
 use Rattle.sz_script.specs.declared.command.Command.TheVariants as command
 
 -- a value that is a list, as the only layer of an array
@@ -17,9 +16,4 @@ with_one_layer name layers =
     record { command = command.Array name (grid_of layers); cells = in_layers layers }
 
 abbrev pub array_form : Form
-array_form = record {
-  fields = codes "array" ∷ codes "cells" ∷ [];
-  draft = λ d. option_and_then
-      (λ name. option_map (with_one_layer name) (at one_layer (codes "cells") d))
-      (at as_str (codes "array") d);
-}
+array_form = of_name with_one_layer (codes "array") (codes "cells") one_layer

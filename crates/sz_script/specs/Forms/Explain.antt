@@ -1,6 +1,6 @@
 -- {"explain":U,"dir":DIR,"path":[[U,U],..],"cells":[CELL,..]}: by which ways an ask goes.
-use Rattle.std.specs.Prelude.{codes, option_map}
-use Rattle.sz_script.specs.Questions.{question_fields, question_in}
+use Rattle.std.specs.Prelude.{codes}
+use Rattle.sz_script.specs.Questions.{question_form}
 use Rattle.sz_script.specs.declared.forms.question.Question.{Question}
 use Rattle.sz_script.specs.Drafts.{Draft, plain}
 use Rattle.sz_script.specs.Form.{Form}
@@ -10,7 +10,4 @@ abbrev pub as_explain : Question → Draft
 as_explain q = plain (command.Explain q.version q.dir q.path q.cells)
 
 abbrev pub explain_form : Form
-explain_form = record {
-  fields = question_fields (codes "explain");
-  draft = λ d. option_map as_explain (question_in (codes "explain") d);
-}
+explain_form = question_form as_explain (codes "explain")

@@ -82,10 +82,7 @@ fn question_of(alloc: Global, value: &Value, word: &str) -> Result<Option<Questi
 fn dir_at(value: &Value, key: &str) -> Option<Dir>
     ensures { result ≡ at dir_in key.now (view value.now) }
 {
-    match fields::text_at(value, key) {
-        Some(word) => words::dir_named(word),
-        None => None,
-    }
+    words::dir_named(fields::text_at(value, key)?)
 }
 
 impl Listed for PathStep {
@@ -103,23 +100,16 @@ impl Listed for PathStep {
 impl Listed for NamedCell {
     ghost said = { named_cell_in };
 
+    /// [U,U], a row and a column of layer 0, or [U,U,U], a layer, a row in it and a column
     fn of_item(_alloc: Global, value: &Value) -> Result<Option<NamedCell>, AllocError> {
-        Ok(named_cell_of(value))
-    }
-}
-
-/// [U,U], a row and a column of layer 0, or [U,U,U], a layer, a row in it and a column
-fn named_cell_of(value: &Value) -> Option<NamedCell>
-    ensures { result ≡ named_cell_in (view value.now) }
-{
-    let list = fields::list_of(value)?;
-    match list {
-        [row, col] => named_cell_at(0, row, col),
-        [layer, row, col] => {
-            let layer = fields::number_of(layer)?;
-            named_cell_at(layer, row, col)
-        }
-        _ => None,
+        Ok(match fields::list_of(value) {
+            Some([row, col]) => named_cell_at(0, row, col),
+            Some([layer, row, col]) => match fields::number_of(layer) {
+                Some(layer) => named_cell_at(layer, row, col),
+                None => None,
+            },
+            _ => None,
+        })
     }
 }
 

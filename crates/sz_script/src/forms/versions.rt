@@ -38,21 +38,14 @@ impl Listed for NewCell {
     /// [U,U,VALUE], a row and a column of layer 0 and what the cell is to hold, or [U,U,U,VALUE],
     /// a layer, a row in it, a column and what the cell is to hold
     fn of_item(_alloc: Global, value: &Value) -> Result<Option<NewCell>, AllocError> {
-        Ok(new_cell_of(value))
-    }
-}
-
-fn new_cell_of(value: &Value) -> Option<NewCell>
-    ensures { result ≡ new_cell_in (view value.now) }
-{
-    let list = fields::list_of(value)?;
-    match list {
-        [row, col, value] => new_cell_at(0, row, col, value),
-        [layer, row, col, value] => {
-            let layer = fields::number_of(layer)?;
-            new_cell_at(layer, row, col, value)
-        }
-        _ => None,
+        Ok(match fields::list_of(value) {
+            Some([row, col, value]) => new_cell_at(0, row, col, value),
+            Some([layer, row, col, value]) => match fields::number_of(layer) {
+                Some(layer) => new_cell_at(layer, row, col, value),
+                None => None,
+            },
+            _ => None,
+        })
     }
 }
 
