@@ -20,7 +20,7 @@ use Rattle.sz_catalogue.specs.Holdings.{Holdings, no_holdings}
 use Rattle.sz_catalogue.proofs.RowsSaid.{after, AreSaid, base, five, negation, a, f, hold_five}
 use Rattle.sz_catalogue.proofs.RowsSaid.{two_shapes, version}
 
--- ---- how many things are held
+-- ---- how many things are held, and the greatest number
 
 -- so many arrays, the others than the last of which are named `f`
 abbrev arrays : ℕ → Holdings
@@ -41,6 +41,10 @@ versions n = record two_shapes {
   versions = map (λ k. (k + 1, version)) (range_with_len 0 n);
 }
 
+-- one version, of this number
+abbrev numbered : ℕ → Holdings
+numbered n = record two_shapes { versions = (n, version) ∷ [] }
+
 counts : AreSaid (
     (arrays 4095, hold_five, codes "array a 1")
     ∷ (arrays 4096, hold_five, codes "refused 7")
@@ -52,6 +56,11 @@ counts : AreSaid (
     ∷ (versions 4096, command.Start f (base a 1 ∷ base a 1 ∷ []), codes "refused 14")
     -- as many versions as may be, and shapes that do not fit
     ∷ (versions 4096, command.Start f (base a 1 ∷ base f 1 ∷ []), codes "refused 13 0")
+    -- the greatest number that a version may have
+    ∷ (numbered 7, command.Start f (base a 1 ∷ base a 1 ∷ []), codes "started 8")
+    ∷ (numbered 4294967294, command.Start f (base a 1 ∷ base a 1 ∷ []), codes "started 4294967295")
+    ∷ (numbered 4294967295, command.Start f (base a 1 ∷ base a 1 ∷ []), codes "refused 14")
+    ∷ (numbered 4294967295, command.Start f (base a 1 ∷ base f 1 ∷ []), codes "refused 13 0")
     ∷ [])
 unfolding digits
 counts = refl
@@ -61,21 +70,6 @@ plan-4097 : AreSaid ((versions 4096, command.Plan f (base a 1 ∷ base a 1 ∷ [
 unfolding digits offer_of others offers_among offers_of black_box_of cheapest cost_over least_cost offer_over
     list_within
 plan-4097 = refl
-
--- ---- numbers of versions
-
--- one version, of this number
-abbrev numbered : ℕ → Holdings
-numbered n = record two_shapes { versions = (n, version) ∷ [] }
-
-numbers : AreSaid (
-    (numbered 7, command.Start f (base a 1 ∷ base a 1 ∷ []), codes "started 8")
-    ∷ (numbered 4294967294, command.Start f (base a 1 ∷ base a 1 ∷ []), codes "started 4294967295")
-    ∷ (numbered 4294967295, command.Start f (base a 1 ∷ base a 1 ∷ []), codes "refused 14")
-    ∷ (numbered 4294967295, command.Start f (base a 1 ∷ base f 1 ∷ []), codes "refused 13 0")
-    ∷ [])
-unfolding digits
-numbers = refl
 
 -- ---- cells
 

@@ -1,5 +1,5 @@
 -- The array has the shape of the one in whose place it comes, and there is room for it and for the version.
-use Rattle.std.proofs.Common.{◌≡◌, ℕ, List, ap, subst, ◌∙◌}
+use Rattle.std.proofs.Common.{◌≡◌, ℕ, List, ap, subst, ◌∙◌, arith}
 use Rattle.std.specs.Arc.{arc_value}
 use Rattle.sz_script.specs.Names.{is_name}
 use Rattle.sz_catalogue.specs.Holdings.{next_number}
@@ -27,26 +27,17 @@ is-further c =
     (subst IsInOrder c.self.view_is c.self.invariant.order) c.requires.there c.requires.input c.requires.shape
     c.requires.versions)
 
-pub add-requires-clause-new : goal.add-requires-clause-new
-add-requires-clause-new c = (is-further c).new
-
-pub add-requires-clause-flow : goal.add-requires-clause-flow
-add-requires-clause-flow c = (is-further c).flow
-
-pub add-requires-clause-base : goal.add-requires-clause-base
-add-requires-clause-base c = (is-further c).base
-
-pub add-requires-clause-right : goal.add-requires-clause-right
-add-requires-clause-right c = (is-further c).right
-
-pub add-requires-clause-count : goal.add-requires-clause-count
-add-requires-clause-count c = (is-further c).count
-
-pub add-requires-clause-fits : goal.add-requires-clause-fits
-add-requires-clause-fits c = (is-further c).fits
-
-pub add-requires-clause-lists : goal.add-requires-clause-lists
-add-requires-clause-lists c = (is-further c).lists
-
-pub add-requires-clause-room : goal.add-requires-clause-room
-add-requires-clause-room c = (is-further c).room
+pub add-requires : goal.add-requires
+add-requires c =
+    let further = is-further c in
+    record {
+      some = omega (arith, c.next_number-number.ensures);
+      new = further.new;
+      flow = further.flow;
+      base = further.base;
+      right = further.right;
+      count = further.count;
+      fits = further.fits;
+      lists = further.lists;
+      room = further.room;
+    }
