@@ -1,8 +1,8 @@
 -- Rows of plans: the list that is read off for small flows, and which lists are not the best choice.
 --
--- The key idea: at written-out operators and shapes every definition is a computation, so each row is its own proof.
+-- The key idea: at written-out operators and shapes every definition is a computation, so a table is its own proof.
 -- Expected values by hand. That a list is not the best shows which part of the definition refuses it.
-use Rattle.std.proofs.Common.{◌≡◌, List, [], ◌∷◌, pos, refl, arith, subst}
+use Rattle.std.proofs.Common.{◌≡◌, ℕ, List, [], ◌∷◌, map, pos, refl, arith}
 use Rattle.sz_cells.specs.Extent.{flat}
 use Rattle.sz_spec.specs.declared.op.Op.TheVariants as op
 use Rattle.sz_spec.specs.declared.modes.Strategy.{Strategy}
@@ -25,42 +25,32 @@ negated = record { op = op.Neg; ins = flat 1 3 ∷ []; out = flat 1 3 }
 
 -- ---- the list that is read off
 
-pub best-no_unit : list_within 1 0 (small ∷ []) 0 ≡ strategy.BlackBox ∷ []
-unfolding offer_of others offers_among offers_of black_box_of cheapest cost_over least_cost offer_over list_within
-best-no_unit = refl
+-- how many asks come backward and forward, the nodes, how many units there are, and the list
+abbrev Row : Type 0
+Row = ℕ × ℕ × List Site × ℕ × List Strategy
 
-pub best-one_unit : list_within 1 0 (small ∷ []) 1 ≡ strategy.FullOneB ∷ []
-unfolding offer_of others offers_among offers_of black_box_of cheapest cost_over least_cost offer_over list_within
-best-one_unit = refl
+abbrev AreReadOff : List Row → Type 0
+AreReadOff rows = map (λ (r : Row). list_within r.0 r.1 r.2 r.3) rows ≡ map (λ (r : Row). r.4) rows
 
-pub best-forward : list_within 0 1 (small ∷ []) 1 ≡ strategy.FullOneF ∷ []
+read_off : AreReadOff (
+    (1, 0, small ∷ [], 0, strategy.BlackBox ∷ [])
+    ∷ (1, 0, small ∷ [], 1, strategy.FullOneB ∷ [])
+    ∷ (0, 1, small ∷ [], 1, strategy.FullOneF ∷ [])
+    -- full_one_f costs the same
+    ∷ (1, 1, small ∷ [], 1, strategy.FullOneB ∷ [])
+    -- of two alike the first gets the unit, and of two unlike the one that it serves best
+    ∷ (1, 0, small ∷ small ∷ [], 1, strategy.FullOneB ∷ strategy.BlackBox ∷ [])
+    ∷ (1, 0, small ∷ large ∷ [], 1, strategy.BlackBox ∷ strategy.FullOneB ∷ [])
+    ∷ (1, 0, negated ∷ [], 0, strategy.Map ∷ [])
+    ∷ [])
 unfolding offer_of others offers_among offers_of black_box_of cheapest cost_over least_cost offer_over list_within
-best-forward = refl
-
--- full_one_f costs the same
-pub best-both_ways : list_within 1 1 (small ∷ []) 1 ≡ strategy.FullOneB ∷ []
-unfolding offer_of others offers_among offers_of black_box_of cheapest cost_over least_cost offer_over list_within
-best-both_ways = refl
-
--- of two alike the first gets the unit, and of two unlike the one that it serves best
-pub best-of_two : list_within 1 0 (small ∷ small ∷ []) 1 ≡ strategy.FullOneB ∷ strategy.BlackBox ∷ []
-unfolding offer_of others offers_among offers_of black_box_of cheapest cost_over least_cost offer_over list_within
-best-of_two = refl
-
-pub best-second_gets_it : list_within 1 0 (small ∷ large ∷ []) 1 ≡ strategy.BlackBox ∷ strategy.FullOneB ∷ []
-unfolding offer_of others offers_among offers_of black_box_of cheapest cost_over least_cost offer_over list_within
-best-second_gets_it = refl
-
-pub best-mapped : list_within 1 0 (negated ∷ []) 0 ≡ strategy.Map ∷ []
-unfolding offer_of others offers_among offers_of black_box_of cheapest cost_over least_cost offer_over list_within
-best-mapped = refl
+read_off = refl
 
 -- ---- the best, and what is not the best
 
 pub best-second : IsBestChoice 1 0 1 (small ∷ large ∷ []) (strategy.BlackBox ∷ strategy.FullOneB ∷ [])
-best-second =
-    let P : List Strategy → Type 0 = λ list. IsBestChoice 1 0 1 (small ∷ large ∷ []) list in
-    subst P best-second_gets_it (all-best 1 0 (small ∷ large ∷ []) 1)
+unfolding offer_of others offers_among offers_of black_box_of cheapest cost_over least_cost offer_over list_within
+best-second = all-best 1 0 (small ∷ large ∷ []) 1
 
 -- what is no choice, takes too much, costs more or comes later is not the best
 pub not_best-unsupported : IsBestChoice 1 0 1 (small ∷ []) (strategy.Map ∷ []) → ⊥

@@ -27,7 +27,7 @@ pub(crate) struct Offer {
 }
 
 /// Every strategy but black box, by number.
-const OTHERS: [Strategy; 9] = [
+pub(crate) const OTHERS: [Strategy; 9] = [
     Strategy::Map,
     Strategy::FullOneB,
     Strategy::FullOneF,

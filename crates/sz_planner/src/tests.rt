@@ -1,25 +1,19 @@
 //! Plans of small flows against a plain twin that looks at every choice.
 
-use crate::offers::{Asks, offer_of};
+use crate::offers::{Asks, OTHERS, offer_of};
 use crate::planning::{Planned, plan};
 use std::alloc::Global;
 use std::test::Fail;
 use sz_cells::Shape;
 use sz_spec::{Fold, Kernel, Op, OpAt, Strategy, arity, has_right_parameters, supports};
 
-/// Every strategy, by number.
-const ALL: [Strategy; 10] = [
-    Strategy::Map,
-    Strategy::FullOneB,
-    Strategy::FullOneF,
-    Strategy::FullManyB,
-    Strategy::FullManyF,
-    Strategy::PayOne,
-    Strategy::PayMany,
-    Strategy::CompOne,
-    Strategy::CompMany,
-    Strategy::BlackBox,
-];
+/// The strategy of a digit: black box comes behind all others.
+fn strategy_of(digit: u64) -> Strategy {
+    match OTHERS.get(digit as usize) {
+        Some(strategy) => *strategy,
+        None => Strategy::BlackBox,
+    }
+}
 
 /// An operator of one input of one layer.
 fn node(alloc: Global, op: Op, rows: u32, cols: u32) -> Result<OpAt, Fail> {
@@ -38,7 +32,10 @@ fn node(alloc: Global, op: Op, rows: u32, cols: u32) -> Result<OpAt, Fail> {
 fn in_digits(planned: &Planned) -> (u64, u64, u64) {
     let mut digits = 0u64;
     for strategy in planned.list.as_slice() {
-        let number = ALL.iter().position(|s| s == strategy).unwrap_or(0);
+        let number = OTHERS
+            .iter()
+            .position(|s| s == strategy)
+            .unwrap_or(OTHERS.len());
         digits = digits.saturating_mul(10).saturating_add(number as u64);
     }
     (planned.cost, u64::from(planned.units), digits)
@@ -51,7 +48,7 @@ fn choice_of(nodes: &[OpAt], limit: u64, asks: Asks, digits: u64) -> Option<(u64
     let mut cost = 0u64;
     let mut units = 0u64;
     for node in nodes.iter().rev() {
-        let strategy = ALL[(rest % 10) as usize];
+        let strategy = strategy_of(rest % 10);
         if !supports(node.op(), strategy) {
             return None;
         }
