@@ -168,6 +168,13 @@ name-short name named =
     let p = and_parts (nat_lt 0 (length name) && nat_le (length name) 32) (list_all is_name_byte name) named in
     leb-true (length name) 32 (and_parts (nat_lt 0 (length name)) (nat_le (length name) 32) p.0).1
 
+-- the texts of a word, of a name and of `cells`
+texts-short : (word name : List ℕ) → length word ≤ 6 → is_name name ≡ true
+    → (length (compact_text (string word)) + length (compact_text (string name)))
+    + length (compact_text (string (codes "cells"))) ≤ 264
+texts-short word name few named =
+    omega (arith, string-short word, string-short name, string-short (codes "cells"), name-short name named, few)
+
 area : (count height width : ℕ) → (width * height) * count ≡ (count * height) * width
 area count height width =
     mul_comm (width * height) count ∙ ap (λ n. count * n) (mul_comm width height) ∙ sym (mul_assoc count height width)
@@ -223,10 +230,7 @@ order-of_layer name g d named inside single w given =
           (compact_text (string (codes "cells"))) (compact_text d))
           (omega (
             arith,
-            string-short (codes "array"),
-            string-short name,
-            string-short (codes "cells"),
-            name-short name named,
+            texts-short (codes "array") name (omega arith) named,
             w.short,
             layer-short (rows_of e) e.cols s.1 s.3,
             small,
@@ -278,14 +282,7 @@ layers-order name g layers named inside more counted all given =
       shallow = omega (arith, w.shallow);
       short = rw (object-long (compact_text (string (codes "cells"))) (compact_text d)
           (compact_text (string (codes "layers"))) (compact_text (string name)))
-          (omega (
-            arith,
-            string-short (codes "layers"),
-            string-short name,
-            string-short (codes "cells"),
-            name-short name named,
-            long,
-          ));
+          (omega (arith, texts-short (codes "layers") name (omega arith) named, long));
       read = layers-read name g layers named inside more counted all.tested given;
     }
 
