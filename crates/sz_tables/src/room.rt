@@ -15,10 +15,13 @@ struct Found {
     runs: usize,
 }
 
+/// Of how many arrays the sets are counted: an operator has at most two inputs.
+const ARRAYS: usize = 3;
+
 /// Makes room in each table for the sets of its array among so many that are listed from a place
 /// on, as far as the bytes go.
 ///
-/// Costs a look at the count of each listed set, for each array.
+/// Costs a look at the count of each listed set.
 pub(crate) fn make_room(
     bytes: &[u8],
     count: u32,
@@ -31,18 +34,14 @@ pub(crate) fn make_room(
         ≡ map (λ t. t.extent) (outs.old ∷ tables.old) }
     ensures none { All (λ t. t.sets ≡ []) (outs.new ∷ tables.new) }
 {
-    let found = find_sets(bytes, count, at, 0);
-    outs.reserve(found.sets, found.runs)?;
-    make_room_in_each(bytes, count, at, tables)
+    let found = find_sets(bytes, count, at);
+    let own = found_at(&found, 0);
+    outs.reserve(own.sets, own.runs)?;
+    make_room_in_each(&found, tables)
 }
 
 /// As [`make_room`], in the tables of the inputs.
-fn make_room_in_each(
-    bytes: &[u8],
-    count: u32,
-    at: u64,
-    tables: &mut [SetTable],
-) -> Result<(), NoMemory>
+fn make_room_in_each(found: &[Found], tables: &mut [SetTable]) -> Result<(), NoMemory>
     requires none { All (λ t. t.sets ≡ []) tables.old }
     ensures extents { map (λ t. t.extent) tables.new ≡ map (λ t. t.extent) tables.old }
     ensures none { All (λ t. t.sets ≡ []) tables.new }
@@ -50,18 +49,26 @@ fn make_room_in_each(
     let mut array = 0u8;
     for table in tables.iter_mut() {
         array = array.saturating_add(1);
-        let found = find_sets(bytes, count, at, array);
-        table.reserve(found.sets, found.runs)?;
+        let own = found_at(found, array);
+        table.reserve(own.sets, own.runs)?;
     }
     Ok(())
 }
 
-/// The sets of an array among so many that are listed from a place on.
-fn find_sets(bytes: &[u8], count: u32, at: u64, array: u8) -> Found {
-    let mut found = Found { sets: 0, runs: 0 };
+/// What was found of an array: nothing where it was not counted.
+fn found_at(found: &[Found], array: u8) -> Found {
+    match found.get(array as usize) {
+        Some(own) => *own,
+        None => Found { sets: 0, runs: 0 },
+    }
+}
+
+/// The sets of each array among so many that are listed from a place on.
+fn find_sets(bytes: &[u8], count: u32, at: u64) -> [Found; ARRAYS] {
+    let mut found = [Found { sets: 0, runs: 0 }; ARRAYS];
     let mut place = at;
     for _index in 0..count {
-        let Some(next) = find_set(bytes, place, array, &mut found) else {
+        let Some(next) = find_set(bytes, place, &mut found) else {
             return found;
         };
         place = next;
@@ -69,18 +76,18 @@ fn find_sets(bytes: &[u8], count: u32, at: u64, array: u8) -> Found {
     found
 }
 
-/// Counts the listed set at a place, if it is one of the array, and answers the place behind it.
-/// `None` where the bytes do not go so far.
-fn find_set(bytes: &[u8], at: u64, array: u8, found: &mut Found) -> Option<u64> {
-    let own = bytes.get(at as usize)?;
+/// Counts the listed set at a place, and answers the place behind it. `None` where the bytes do not
+/// go so far.
+fn find_set(bytes: &[u8], at: u64, found: &mut [Found]) -> Option<u64> {
+    let array = bytes.get(at as usize)?;
     let runs = take_number(bytes, at.saturating_add(1))?;
     let next = at.saturating_add(5).saturating_add(u64::from(runs) * 8);
     if (bytes.len() as u64) < next {
         return None;
     }
-    if *own == array {
-        found.sets = found.sets.saturating_add(1);
-        found.runs = found.runs.saturating_add(runs as usize);
+    if let Some(own) = found.get_mut(*array as usize) {
+        own.sets = own.sets.saturating_add(1);
+        own.runs = own.runs.saturating_add(runs as usize);
     }
     Some(next)
 }
