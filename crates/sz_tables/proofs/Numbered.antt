@@ -2,7 +2,7 @@
 --
 -- The key idea: the runs of a further set stand behind all others, so each old span gives the runs that it gave, and
 -- the new one gives those that were added.
-use Rattle.std.proofs.Common.{◌≡◌, ◌≢◌, ℕ, zero, suc, ◌+◌, ◌%◌, ◌<◌, List, [], ◌∷◌, ◌++◌, length, map, get_or}
+use Rattle.std.proofs.Common.{◌≡◌, ◌≢◌, ℕ, zero, suc, ◌+◌, ◌%◌, ◌<◌, ◌≤◌, List, [], ◌∷◌, ◌++◌, length, map, get_or}
 use Rattle.std.proofs.Common.{slice_range, sym, ap, ap₂, subst, ◌∙◌, inl, inr, arith}
 use Rattle.std.proofs.Common.{Option, Some, None, unwrap_or}
 use Rattle.std.specs.List.{slice_get, HoldsAt, flat_map}
@@ -11,7 +11,7 @@ use Rattle.std.proofs.lemmas.List.{map-append, length-map, get_or-map}
 use Rattle.std.proofs.lemmas.Option.{slice_get_within, slice_get-get_or, unwrap_or-slice_get}
 use Rattle.std.proofs.lemmas.Option.{get_or_from_slice_get}
 use Rattle.std.proofs.lemmas.Bool.{cases_lt}
-use Rattle.std.proofs.lemmas.List.Elements.{All-push}
+use Rattle.std.proofs.lemmas.List.Elements.{All-push, All-weaker}
 use Rattle.sz_spec.specs.Values.{no_extent}
 use Rattle.sz_cells.specs.declared.Run.{Run}
 use Rattle.sz_cells.specs.Extent.{Extent, size_of}
@@ -21,7 +21,8 @@ use Rattle.sz_cells.proofs.Runs.{runs_of-spelled}
 use Rattle.sz_tables.specs.declared.spans.Span.{Span}
 use Rattle.sz_tables.specs.Filed.{Filed, Files, IsLastBelow, IsWidened}
 use Rattle.sz_tables.specs.Rows.{set_at}
-use Rattle.sz_tables.specs.Tables.{AreNumbered, spelled, runs_by_number, filed_by, mix_of}
+use Rattle.sz_tables.specs.Tables.{AreNumbered, spelled, runs_by_number, filed_by, mix_of, first_of, BeginUpTo}
+use Rattle.sz_tables.specs.Tables.{slices_by_number}
 use Rattle.sz_tables.proofs.Filing.{filed-push, filed-key, widened-keys, widened-filed}
 use Rattle.sz_tables.proofs.Slices.{cut, cuts-push, within-push, different-push}
 
@@ -163,6 +164,30 @@ item-at e runs more spans index n was long same d =
     ap (λ (es : List Filed). (get_or es n d).item) was.filed
     ∙ ap (λ (f : Filed). f.item) (get_or-map (filed_by index.keys) pieces n [] d piece.0)
     ∙ ap mix_of piece.1
+
+-- ---- where sets begin
+
+-- what begins behind all sets is none of them
+pub behind-all : (e : Extent) (runs more : List Run) (spans : List Span) (index : Files) (latest n : ℕ)
+    → AreNumbered e runs spans index → AreRunsFrom 0 (size_of e) more
+    → BeginUpTo latest (runs_by_number runs spans) → latest < first_of more
+    → slice_get (map (spelled e) (runs_by_number runs spans)) n ≢ Some (spelled e more)
+behind-all e runs more spans index latest n was long begin behind same =
+    let piece = piece-at e runs more spans index n was long same in
+    let early : first_of more ≤ latest =
+    subst (λ (rs : List Run). first_of rs ≤ latest) piece.1 (begin n [] piece.0) in
+    absurd (omega (arith, early, behind))
+
+-- one more set, and where the last one of all begins now
+pub begin-push : (runs more : List Run) (spans : List Span) (s : Span) (latest now : ℕ)
+    → slices_by_number (runs ++ more) (spans ++ s ∷ []) ≡ slices_by_number runs spans ++ more ∷ []
+    → BeginUpTo latest (runs_by_number runs spans) → latest ≤ now → first_of more ≤ now
+    → BeginUpTo now (runs_by_number (runs ++ more) (spans ++ s ∷ []))
+begin-push runs more spans s latest now grown begin later own =
+    let pieces = runs_by_number runs spans in
+    rw grown (All-push (λ (rs : List Run). first_of rs ≤ now) pieces more
+    (All-weaker (λ (rs : List Run). first_of rs ≤ latest) (λ (rs : List Run). first_of rs ≤ now)
+    (λ rs early. omega (arith, early, later)) pieces begin) own)
 
 -- ---- more keys
 

@@ -53,6 +53,15 @@ first_mixed runs = fold mixed (length runs % 4294967296) (take 16 runs)
 abbrev pub mix_of : List Run → ℕ
 mix_of runs = fold mixed (first_mixed runs) (drop (max 16 (length runs - 16)) runs)
 
+-- the first cell of the first run, and 0 where there is no run
+abbrev pub first_of : List Run → ℕ
+first_of [] = 0
+first_of (r ∷ runs) = r.first
+
+-- no runs of these begin behind this cell
+abbrev pub BeginUpTo : ℕ → List (List Run) → Type 0
+BeginUpTo latest pieces = All (λ runs. first_of runs ≤ latest) pieces
+
 -- the entry of a set by its runs, under so many keys
 abbrev pub filed_by : ℕ → List Run → Filed
 filed_by keys runs = record { key = mix_of runs % keys; item = mix_of runs }

@@ -3,12 +3,12 @@
 ghost use Rattle.std.specs.Prelude.{◌≡◌, ◌<◌, ◌≤◌, ◌+◌, ◌-◌, ◌^◌, [], ◌∷◌, ◌++◌};
 ghost use Rattle.std.specs.Prelude.{ℕ, ◌≢◌, MatchOption, vec_len, vec_capacity};
 ghost use Rattle.std.specs.Bool.{Decides};
-ghost use Rattle.std.specs.Prelude.{length, fold, max, OnOk, OnErr, IfOk, Some};
+ghost use Rattle.std.specs.Prelude.{length, fold, max, OnOk, OnErr, IfOk, Some, true};
 ghost use Rattle.std.specs.List.{slice_get};
 ghost use Rattle.sz_cells.specs.Runs.{runs_of, AreRunsFrom, Spells};
 ghost use Rattle.sz_cells.specs.Extent.{size_of};
 ghost use Rattle.sz_tables.specs.Tables.{AreDifferent, HasAtMostOneMore};
-ghost use Rattle.sz_tables.specs.Tables.{spelled, mix_of, mixed};
+ghost use Rattle.sz_tables.specs.Tables.{spelled, first_of, mix_of, mixed};
 ghost use Rattle.sz_tables.specs.Rows.{set_at, runs_in, empty_sets};
 
 use crate::chains::Chains;
@@ -29,6 +29,8 @@ pub struct SetTable {
     spans: Vec<Span>,
     /// Each set under what is left of what its runs are mixed to, so that an equal set is found.
     index: Chains,
+    /// No set begins behind this cell, so a set that does is none of the table's.
+    latest: u32,
     spare_sets: u32,
     spare_runs: usize,
 }
@@ -40,7 +42,7 @@ impl Model for SetTable {
     ghost Value = { SetsByNumber };
 
     ghost use Rattle.sz_tables.specs.Filed.{HasRoom};
-    ghost use Rattle.sz_tables.specs.Tables.{spelled, runs_by_number, AreNumbered};
+    ghost use Rattle.sz_tables.specs.Tables.{spelled, runs_by_number, AreNumbered, BeginUpTo};
 
     ghost view = { λ t. record {
       extent = t.shape;
@@ -53,7 +55,8 @@ impl Model for SetTable {
     ghost invariant = { λ t. AreNumbered t.shape t.runs.items t.spans.items t.index
         × HasRoom (length t.spans.items) t.spare_sets (vec_capacity t.spans)
         × (t.spare_sets ≤ t.index.spare)
-        × (length t.runs.items + t.spare_runs ≤ vec_capacity t.runs) };
+        × (length t.runs.items + t.spare_runs ≤ vec_capacity t.runs)
+        × BeginUpTo t.latest (runs_by_number t.runs.items t.spans.items) };
 }
 
 impl SetTable {
@@ -67,6 +70,7 @@ impl SetTable {
             runs: Vec::new(alloc),
             spans: Vec::new(alloc),
             index,
+            latest: 0,
             spare_sets: 0,
             spare_runs: 0,
         })
@@ -161,6 +165,9 @@ impl SetTable {
         ensures capacities { self.new.capacities ≡ self.old.capacities }
     {
         let mix = mix_of(runs);
+        if self.begins_behind(runs) {
+            return self.append(runs, mix);
+        }
         match self.find(runs, mix) {
             Some(number) => number,
             None => self.append(runs, mix),
@@ -179,6 +186,16 @@ impl SetTable {
         }
         let runs = set.runs();
         self.find(runs, mix_of(runs))
+    }
+
+    /// Whether these runs begin behind all sets, so that no set has them. Sets that come in the
+    /// order in which they begin are told to be new by this alone.
+    fn begins_behind(&self, runs: &[Run]) -> bool
+        requires longest { AreRunsFrom 0 (size_of self.now.extent) runs.now }
+        ensures { result ≡ true → (n : ℕ)
+            → slice_get self.now.sets n ≢ Some (spelled self.now.extent runs.now) }
+    {
+        self.latest < first_of(runs)
     }
 
     /// The number of the set that has these runs, which are mixed to this.
@@ -235,6 +252,7 @@ impl SetTable {
         self.spans.push_reserved(Span { start, end });
         let key = mix % self.index.keys();
         self.index.add(key, mix);
+        self.latest = self.latest.max(first_of(runs));
         self.spare_sets -= 1;
         self.spare_runs -= runs.len();
         number
@@ -265,6 +283,16 @@ impl SetTable {
         ensures { result ≡ self.now.extent }
     {
         self.shape
+    }
+}
+
+/// The first cell of the first run, 0 where there is no run.
+fn first_of(runs: &[Run]) -> u32
+    ensures { result ≡ first_of runs.now }
+{
+    match runs.first() {
+        Some(run) => run.first,
+        None => 0,
     }
 }
 

@@ -4,7 +4,7 @@ use Rattle.std.proofs.lemmas.List.{map-append}
 use Rattle.sz_tables.specs.Filed.{Files}
 use Rattle.sz_tables.specs.Tables.{SetsByNumber, spelled, runs_by_number}
 use Rattle.sz_tables.specs.declared.spans.Span.{Span}
-use Rattle.sz_tables.proofs.Numbered.{numbered-push}
+use Rattle.sz_tables.proofs.Numbered.{numbered-push, begin-push}
 use Rattle.sz_tables.proofs.Slices.{cuts-push}
 use Rattle.sz_tables.proofs.set_table.SetTable.append.Goals as goal
 
@@ -35,6 +35,10 @@ invariant_of-self c =
       },
       omega (arith, was.2, ap (λ (f : Files). f.spare) c.add.ensures),
       omega (arith, was.3, long, c.put_runs.ensures.capacity, room, c.requires.runs),
+      rw (c.put_runs.ensures.items, c.push_reserved.ensures.items)
+          (begin-push runs more spans s c.self.inside.latest c.max-self-inside.result
+          (cuts-push runs more spans s was.0.within start end) was.4
+          (omega (arith, c.max-self-inside.ensures)) (omega (arith, c.max-self-inside.ensures, c.first_of.ensures))),
     )
 
 pub returns-clause-table : goal.returns-clause-table

@@ -15,6 +15,7 @@ invariant_of-self-in_err-widen c =
       kept.0,
       kept.1,
       kept.2,
+      rw c.reserve.ensures.items c.self.invariant.4,
     )
 
 pub invariant_of-self-2 : goal.invariant_of-self-2
@@ -30,4 +31,5 @@ invariant_of-self-2 c =
       }),
       c.in_ok-widen.ensures.ok,
       c.self.invariant.3,
+      rw c.reserve.ensures.items c.self.invariant.4,
     )
