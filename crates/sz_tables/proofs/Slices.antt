@@ -110,14 +110,14 @@ drop-short n xs =
     ]
 
 -- what is mixed of the first and of the last elements of a list, or of all of them
-pub mixed-ends : {X : Type 0} (f : ℕ → X → ℕ) (n : ℕ) (xs : List X) (end least start first mix : ℕ)
-    → end ≡ min (length xs) n → first ≡ fold f (length xs % 4294967296) (take end xs)
+pub mixed-ends : {X : Type 0} (f : ℕ → X → ℕ) (n seed : ℕ) (xs : List X) (end least start first mix : ℕ)
+    → end ≡ min (length xs) n → first ≡ fold f seed (take end xs)
     → least ≡ max n (length xs - n) → start ≡ min least (length xs)
     → mix ≡ fold f first (take (length xs - start) (drop start xs))
-    → mix ≡ fold f (fold f (length xs % 4294967296) (take n xs)) (drop (max n (length xs - n)) xs)
-mixed-ends {X} f n xs end least start first mix short begins far from ends =
-    let front : first ≡ fold f (length xs % 4294967296) (take n xs) =
-    begins ∙ ap (fold f (length xs % 4294967296)) (ap (λ (k : ℕ). take k xs) short ∙ take-short n xs) in
+    → mix ≡ fold f (fold f seed (take n xs)) (drop (max n (length xs - n)) xs)
+mixed-ends {X} f n seed xs end least start first mix short begins far from ends =
+    let front : first ≡ fold f seed (take n xs) =
+    begins ∙ ap (fold f seed) (ap (λ (k : ℕ). take k xs) short ∙ take-short n xs) in
     let rest : drop start xs ≡ drop (max n (length xs - n)) xs =
     ap (λ (k : ℕ). drop k xs) from ∙ drop-short least xs ∙ ap (λ (k : ℕ). drop k xs) far in
     ends

@@ -43,16 +43,6 @@ slices_by_number {X} xs spans = map (λ s. slice_range xs s.start s.end) spans
 abbrev pub runs_by_number : List Run → List Span → List (List Run)
 runs_by_number runs spans = slices_by_number runs spans
 
--- what the runs of a set are mixed to: their number, the first 16 of them, and the last 16
-abbrev pub mixed : ℕ → Run → ℕ
-mixed h r = ((h * 31 + r.first) * 31 + r.last) % 4294967296
-
-abbrev pub first_mixed : List Run → ℕ
-first_mixed runs = fold mixed (length runs % 4294967296) (take 16 runs)
-
-abbrev pub mix_of : List Run → ℕ
-mix_of runs = fold mixed (first_mixed runs) (drop (max 16 (length runs - 16)) runs)
-
 -- the first cell of the first run, and 0 where there is no run
 abbrev pub first_of : List Run → ℕ
 first_of [] = 0
@@ -61,6 +51,21 @@ first_of (r ∷ runs) = r.first
 -- no runs of these begin behind this cell
 abbrev pub BeginUpTo : ℕ → List (List Run) → Type 0
 BeginUpTo latest pieces = All (λ runs. first_of runs ≤ latest) pieces
+
+-- what the runs of a set are mixed to: their number, the first 16 of them, and the last 16. Where a
+-- set is another one moved by some cells, it is mixed to so much more: sets beside one another are
+-- filed beside one another.
+abbrev pub mixed : ℕ → Run → ℕ
+mixed h r = ((h + 4294967296 - r.last) * 1000003 + r.first) % 4294967296
+
+abbrev pub seed_of : List Run → ℕ
+seed_of runs = (length runs % 4294967296 + first_of runs) % 4294967296
+
+abbrev pub first_mixed : List Run → ℕ
+first_mixed runs = fold mixed (seed_of runs) (take 16 runs)
+
+abbrev pub mix_of : List Run → ℕ
+mix_of runs = fold mixed (first_mixed runs) (drop (max 16 (length runs - 16)) runs)
 
 -- the entry of a set by its runs, under so many keys
 abbrev pub filed_by : ℕ → List Run → Filed

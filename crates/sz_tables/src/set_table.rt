@@ -301,7 +301,8 @@ fn mix_of(runs: &[Run]) -> u32
     ensures { result ≡ mix_of runs.now }
 {
     let long = runs.len();
-    let first = mix_more(long as u64 % 4_294_967_296, &runs[..long.min(16)]);
+    let seed = (long as u64 % 4_294_967_296 + u64::from(first_of(runs))) % 4_294_967_296;
+    let first = mix_more(seed, &runs[..long.min(16)]);
     let start = long.saturating_sub(16).max(16).min(long);
     mix_more(first, &runs[start..]) as u32
 }
@@ -316,7 +317,7 @@ fn mix_more(before: u64, runs: &[Run]) -> u64
     for run in runs {
         let first = u64::from(run.first);
         let last = u64::from(run.last);
-        mixed = ((mixed * 31 + first) * 31 + last) % 4_294_967_296;
+        mixed = ((mixed + 4_294_967_296 - last) * 1_000_003 + first) % 4_294_967_296;
     }
     mixed
 }
