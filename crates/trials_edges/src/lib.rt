@@ -8,4 +8,14 @@
 #![tactic(auto)]
 
 #[cfg(test)]
-mod tests;
+mod claims;
+#[cfg(test)]
+mod generated;
+#[cfg(test)]
+mod groups;
+#[cfg(test)]
+mod sources;
+#[cfg(test)]
+mod stations;
+#[cfg(test)]
+mod words;

@@ -7,4 +7,12 @@
 #![tactic(auto)]
 
 #[cfg(test)]
-mod tests;
+mod entries;
+#[cfg(test)]
+mod many;
+#[cfg(test)]
+mod one;
+#[cfg(test)]
+mod regions;
+#[cfg(test)]
+mod tables;

@@ -6,4 +6,16 @@
 #![tactic(auto)]
 
 #[cfg(test)]
-mod tests;
+mod gate;
+#[cfg(test)]
+mod greatest;
+#[cfg(test)]
+mod load;
+#[cfg(test)]
+mod merged;
+#[cfg(test)]
+mod play;
+#[cfg(test)]
+mod refreshed;
+#[cfg(test)]
+mod rows;

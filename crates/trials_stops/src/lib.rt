@@ -6,4 +6,14 @@
 #![tactic(auto)]
 
 #[cfg(test)]
-mod tests;
+mod again;
+#[cfg(test)]
+mod changed;
+#[cfg(test)]
+mod ended;
+#[cfg(test)]
+mod refreshed;
+#[cfg(test)]
+mod rows;
+#[cfg(test)]
+mod stopped;

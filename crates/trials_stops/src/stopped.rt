@@ -1,9 +1,9 @@
 //! Sessions on a new log in which a disk call or a read fails, or behind a disk call of which the
 //! machine stops: what was said, and what each image holds that is left of the disk.
-use crate::tests::ended::{
+use crate::ended::{
     Ended, first_lines, lines_in, log_of, served, served_on, whole_source, whole_station,
 };
-use crate::tests::rows::{MOVED, REFRESHED, Row, STARS};
+use crate::rows::{MOVED, REFRESHED, Row, STARS};
 use std::alloc::Global;
 use std::sync::Wait;
 use std::test::Fail;

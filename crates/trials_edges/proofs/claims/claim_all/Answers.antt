@@ -3,8 +3,8 @@ use Rattle.std.proofs.Common.{rules, ℕ, List, length, ap, arith}
 use Rattle.std.proofs.lemmas.List.{length_push}
 use Rattle.sz_claims.specs.Claims.{Claimant}
 use Rattle.sz_claims.proofs.Reach.{reach-next}
-use Rattle.trials_edges.proofs.tests.claims.claim_all.Goals as goal
-use Rattle.trials_edges.proofs.tests.claims.claim_all.Goals.{then-claim, else-claim}
+use Rattle.trials_edges.proofs.claims.claim_all.Goals as goal
+use Rattle.trials_edges.proofs.claims.claim_all.Goals.{then-claim, else-claim}
 
 pub loop-piece-preserved : goal.loop-piece-preserved
 loop-piece-preserved c =

@@ -1,6 +1,6 @@
 //! Whole sessions: each row is a text and the replies that are said of it.
 
-use crate::tests::play::session;
+use crate::play::session;
 use std::alloc::Global;
 use std::sync::Wait;
 use std::test::Fail;

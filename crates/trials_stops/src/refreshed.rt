@@ -1,7 +1,7 @@
 //! A log on which a version was refreshed: the array of a refresh lasts at once, and its version
 //! from its await on. That a merge was asked does not last.
-use crate::tests::ended::{first_lines, log_of, served_on};
-use crate::tests::rows::REFRESHED;
+use crate::ended::{first_lines, log_of, served_on};
+use crate::rows::REFRESHED;
 use std::test::Fail;
 use sz_session::Status;
 

@@ -1,6 +1,6 @@
 //! Logs that are opened again: what was asked before is answered alike.
-use crate::tests::ended::{first_lines, log_of, served, whole_source, whole_station};
-use crate::tests::rows::{Row, STARS};
+use crate::ended::{first_lines, log_of, served, whole_source, whole_station};
+use crate::rows::{Row, STARS};
 use std::alloc::Global;
 use std::test::Fail;
 use sz_session::Status;

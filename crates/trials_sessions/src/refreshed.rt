@@ -1,7 +1,7 @@
 //! Sessions in which a version is refreshed: each row is a text and the replies that are said of
 //! it.
 
-use crate::tests::rows::{Row, first_other};
+use crate::rows::{Row, first_other};
 use std::test::Fail;
 
 #[test]

@@ -1,5 +1,5 @@
 //! Logs of which a byte was changed, and logs that were cut: where each is bad.
-use crate::tests::ended::{Ended, log_of, served_on};
+use crate::ended::{Ended, log_of, served_on};
 use std::alloc::Global;
 use std::sync::Wait;
 use std::test::Fail;

@@ -1,7 +1,7 @@
 //! Each form of a station once on its happy path, through its trait, and what no clause says: that a
 //! call can succeed, and what the real streams do.
 
-use crate::tests::sources::need_send;
+use crate::sources::need_send;
 use std::alloc::Global;
 use std::fs::{self, File};
 use std::test::Fail;

@@ -1,6 +1,6 @@
 //! The greatest array, and as many cells as are held, with memory to spare: a body that gives up on
 //! them is refused by no clause.
-use crate::tests::play::session;
+use crate::play::session;
 use std::alloc::{AllocError, Global};
 use std::fmt::Write;
 use std::test::Fail;

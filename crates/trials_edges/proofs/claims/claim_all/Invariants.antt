@@ -1,6 +1,6 @@
 -- Key idea: each piece so far is claimed or met, and the list of claimed pieces grew by as many as were won.
 use Rattle.std.proofs.Common.{◌≡◌, ◌+◌, ◌<◌, ◌≤◌, ◌⊎◌, ℕ, Contains, length}
-use Rattle.trials_edges.proofs.tests.claims.claim_all.Given as goal
+use Rattle.trials_edges.proofs.claims.claim_all.Given as goal
 
 abbrev pub invariant-loop-piece : goal.invariant-loop-piece
 invariant-loop-piece l = record {
