@@ -281,6 +281,16 @@ impl RegionTable {
         self.ins[input as usize].runs(number)
     }
 
+    /// The sets of the one input. What else the table holds is let go.
+    pub fn into_sets(self) -> SetTable
+        requires { length self.ins ≡ 1 }
+        ensures extent { result.extent ≡ extent_at self.ins 0 }
+        ensures sets { result.sets ≡ sets_of self.sets 0 }
+    {
+        let mut ins = self.ins;
+        ins.remove(0)
+    }
+
     /// A rectangle round the output set of a row.
     pub fn out_bounds(&self, row: u32) -> Bounds
         requires { row < length self.now.rows }
