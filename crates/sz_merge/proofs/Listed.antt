@@ -32,7 +32,7 @@ use Rattle.sz_merge.proofs.Marked.{next-joined}
 use Rattle.sz_merge.proofs.Sorting.{AreSorted, sorted-from}
 
 -- a list of one has the first alone
-single : {X : Type 0} (d : X) (xs : List X) → length xs ≡ 1 → xs ≡ unwrap_or (slice_get xs 0) d ∷ []
+pub single : {X : Type 0} (d : X) (xs : List X) → length xs ≡ 1 → xs ≡ unwrap_or (slice_get xs 0) d ∷ []
 single d [] long = absurd (omega (arith, long))
 single d (x ∷ []) long = refl
 single d (x ∷ y ∷ xs) long = absurd (omega (arith, long))

@@ -1,19 +1,19 @@
 -- Output cells with the numbers of their lineages, and the cells of each number.
-use Rattle.std.specs.Prelude.{◌≡◌, ℕ, ◌<◌, ◌≤◌, ◌==◌, List, [], ◌∷◌, length, map}
+use Rattle.std.specs.Prelude.{◌≡◌, ℕ, ◌+◌, ◌<◌, ◌≤◌, ◌==◌, List, [], ◌∷◌, ◌++◌, length, map}
 use Rattle.std.specs.Prelude.{Bool, ◌&&◌, ◌||◌, not, true, false}
 use Rattle.std.specs.Prelude.{Some, nat_lt, slice_index, slice_index_or, All}
-use Rattle.std.specs.List.{slice_get, filter, range_with_len}
+use Rattle.std.specs.List.{slice_get, filter, range_with_len, flat_map}
 use Rattle.sz_cells.specs.declared.Cell.{Cell}
 use Rattle.sz_cells.specs.declared.Run.{Run}
 use Rattle.sz_cells.specs.Extent.{Extent, size_of, cell_of}
 use Rattle.sz_cells.specs.Cells.{Cells, has}
 use Rattle.sz_cells.specs.Runs.{AreRunsFrom, covers}
 use Rattle.sz_frame.specs.Parts.{Pairing}
-use Rattle.sz_region.specs.FullBytes.{Listed, listed_of}
-use Rattle.sz_region.specs.Putting.{AreNumbered}
+use Rattle.sz_region.specs.FullBytes.{Listed, listed_of, listed_bytes, IsFullWord}
+use Rattle.sz_region.specs.Putting.{AreNumbered, AreRegionsNumbered}
 use Rattle.sz_frame.specs.Stands.{set_of}
-use Rattle.sz_tables.specs.Tables.{spelled}
-use Rattle.sz_merge.specs.Lineages.{sets_where, nothing, behind, list_at, KeepsNumbers}
+use Rattle.sz_tables.specs.Tables.{spelled, SetsByNumber}
+use Rattle.sz_merge.specs.Lineages.{sets_where, nothing, behind, list_at, lists_of, KeepsNumbers}
 
 -- a cell of input i is in the region pair's set of that input
 abbrev pub has_in : Pairing → ℕ → Cell → Bool
@@ -92,7 +92,37 @@ kinds_below out groups lists count =
 abbrev pub kind_of : Extent → List Run → Cells → Pairing
 kind_of out runs set = record { out = spelled out runs; ins = set ∷ [] }
 
--- where it is one of a kind, the sets of a region pair were numbered, and else nothing was
-abbrev pub IsKindNumbered : Bool → List Listed → List Listed → List ℕ → List ℕ → Pairing → Type 0
-IsKindNumbered true table after names now r = AreNumbered table after names now (listed_of r)
-IsKindNumbered false table after names now r = (after ≡ table) × (now ≡ names)
+-- the region pairs of the numbers above 0 of some cells, behind each the set of a table whose
+-- number is one less
+abbrev pub kinds_behind : Extent → List (List Run) → SetsByNumber → List Pairing
+kinds_behind out groups behind =
+    kinds_below out groups (lists_of (behind.extent ∷ []) behind.sets) (length groups)
+
+-- Sets were put: they were numbered behind as many as there are names, each as one more, and their
+-- bytes were put behind other ones.
+pub record ArePut (names now old new : List ℕ) (sets : List Listed) : Type 0 where
+  pub numbered : (table : List Listed) → length table ≡ length names
+      → AreNumbered table (table ++ sets) names now sets
+  pub each : length now ≡ length names + length sets
+  pub added : new ≡ old ++ flat_map listed_bytes sets
+
+-- where it is one of a kind, the sets of a region pair were put, and else nothing was
+abbrev pub IsKindPut : Bool → List ℕ → List ℕ → List ℕ → List ℕ → Pairing → Type 0
+IsKindPut true names now old new r = ArePut names now old new (listed_of r)
+IsKindPut false names now old new r = (now ≡ names) × (new ≡ old)
+
+-- the sets of some region pairs were numbered, and put behind other bytes in this order
+pub record AreSetsPut (names : List ℕ) (rs : List Pairing) (old new : List ℕ) : Type 0 where
+  pub table : List Listed
+  pub numbered : AreRegionsNumbered table names rs
+  pub each : length table ≡ length names
+  pub added : new ≡ old ++ flat_map listed_bytes table
+
+-- region pairs, so many, were put behind other bytes in one word
+pub record IsStorePut (out : Extent) (ins : List Extent) (rs : List Pairing) (count : ℕ)
+    (old new : List ℕ) : Type 0 where
+  pub many : length rs ≡ count
+  pub table : List Listed
+  pub word : List ℕ
+  pub is_word : IsFullWord out ins table rs word
+  pub added : new ≡ old ++ word

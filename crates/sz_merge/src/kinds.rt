@@ -1,6 +1,6 @@
 //! Region pairs, one for each kind of lineage.
 
-ghost use Rattle.std.specs.Prelude.{◌≡◌, ◌<◌, ◌==◌, ◌&&◌, ◌++◌, ℕ, List, [], ◌∷◌, map, length};
+ghost use Rattle.std.specs.Prelude.{◌≡◌, ◌<◌, ◌^◌, ◌==◌, ◌&&◌, ◌++◌, ℕ, List, [], ◌∷◌, map, length};
 ghost use Rattle.std.specs.Prelude.{All, IfOk, OnOk, not, nat_lt, if◌then◌else◌};
 ghost use Rattle.std.specs.Arc.{arc_value};
 ghost use Rattle.sz_cells.specs.declared.Cell.{Cell};
@@ -13,7 +13,7 @@ ghost use Rattle.sz_merge.specs.Distinct.{AreKinds};
 ghost use Rattle.sz_merge.specs.Lineages.{list_at};
 ghost use Rattle.sz_merge.specs.Marks.{kinds_below};
 
-use crate::grouping::group_cells;
+use crate::grouping::{Grouping, group_cells};
 use crate::lineages::LineageTable;
 use crate::marking::label_cells;
 use std::alloc::Global;
@@ -39,7 +39,7 @@ pub fn kinds_of(
     let mut lineages = LineageTable::new(alloc, ins)?;
     let labels = label_cells(alloc, out, regions, &mut lineages)?;
     let groups = group_cells(alloc, lineages.len(), &labels)?;
-    let kinds = regions_of(alloc, out, groups, lineages.lists())?;
+    let kinds = regions_of(alloc, out, &groups, lineages.lists())?;
     Ok(kinds)
 }
 
@@ -48,18 +48,19 @@ pub fn kinds_of(
 pub fn regions_of(
     alloc: Global,
     out: Shape,
-    groups: Vec<Vec<Run>>,
+    groups: &Grouping,
     lists: &[SetList],
 ) -> Result<Vec<Arc<Region>>, NoMemory>
-    requires groups { All (AreRunsFrom 0 (size_of out)) (map (λ g. g.items) groups.items) }
-    requires many { length groups.items ≡ length lists.now }
-    ensures { IfOk result (λ v. map (λ a. arc_value a) v.items ≡ kinds_below out
-        (map (λ g. g.items) groups.items) lists.now (length lists.now)) }
+    requires groups { All (AreRunsFrom 0 (size_of out)) groups.now }
+    requires many { length groups.now ≡ length lists.now }
+    requires few { length lists.now < 2 ^ 32 }
+    ensures { IfOk result (λ v. map (λ a. arc_value a) v.items ≡ kinds_below out groups.now
+        lists.now (length lists.now)) }
 {
     let mut regions = Vec::new(alloc);
-    let mut groups = groups;
     for number in 0..lists.len() {
-        let group = std::mem::replace(&mut groups[number], Vec::new(alloc));
+        let mut group = Vec::new(alloc);
+        groups.put_runs(number as u32, &mut group)?;
         add_kind(alloc, out, group, lists, number, &mut regions)?;
     }
     Ok(regions)

@@ -124,11 +124,10 @@ fn merge_full(
         keep_pairs(at, bytes, place, next, count, to, kinds)?;
         return Ok(next);
     }
-    if let Some(count) = put_kinds_of_rows(alloc, at.out(), at.ins(), &table, to)? {
+    if let Some(count) = put_kinds_of_rows(alloc, at.out(), at.ins(), table, to)? {
         kinds.push(count)?;
         return Ok(next);
     }
-    drop(table);
     merge_pairs(alloc, at, bytes, place, to, kinds)
 }
 

@@ -1,64 +1,157 @@
 //! Region pairs of one input that are rows of a table, no output cell in two of them: their kinds
-//! are told by the numbers of their sets and put as they are told, and no set is made or joined
-//! with another.
+//! are told by the numbers of their sets, and put as the cells of one after another are gathered.
+//! No set is made or joined with another, and none is kept.
 
 ghost use Rattle.std.specs.Prelude.{◌≡◌, ◌≢◌, ◌<◌, ◌≤◌, ◌+◌, ◌==◌, ◌^◌, [], ◌∷◌, ℕ, List, length};
-ghost use Rattle.std.specs.Prelude.{map, true, not, All, IfOk, OnOk, IfSome, IfNone};
+ghost use Rattle.std.specs.Prelude.{true, not, All, IfOk, OnOk, IfSome, IfNone};
 ghost use Rattle.sz_cells.specs.Cells.{Cells};
 ghost use Rattle.sz_cells.specs.Extent.{Extent, size_of};
 ghost use Rattle.sz_cells.specs.Runs.{AreRunsFrom, is_in};
 ghost use Rattle.sz_cells.specs.SetBytes.{IsSetOf};
 ghost use Rattle.sz_spec.specs.Values.{extent_at};
-ghost use Rattle.sz_region.specs.Putting.{HasShapes, AreNumbered, AreRegionsNumbered};
+ghost use Rattle.sz_region.specs.Putting.{HasShapes};
 ghost use Rattle.sz_frame.specs.Parts.{Pairing};
 ghost use Rattle.sz_tables.specs.Rows.{pairings, row_at, number_in, set_at, sets_of};
 ghost use Rattle.sz_tables.specs.Scans.{pairing_at};
 ghost use Rattle.sz_merge.specs.Lineages.{lists_of};
-ghost use Rattle.sz_merge.specs.Marks.{AreLabels, AreMarked, IsNext, has_index, kinds_below};
-ghost use Rattle.sz_merge.specs.Marks.{IsKindNumbered, kind_of};
+ghost use Rattle.sz_merge.specs.Marks.{AreLabels, AreMarked, IsNext, has_index, kinds_behind};
+ghost use Rattle.sz_merge.specs.Marks.{ArePut, IsKindPut, AreSetsPut, IsStorePut, kind_of};
 ghost use Rattle.sz_merge.specs.Merged.{AreKindsPut};
 
-use crate::grouping::group_cells;
+use crate::grouping::{Grouping, group_cells};
 use std::alloc::Global;
 use sz_cells::{NoMemory, Run, Shape};
-use sz_region::{ListedSet, put_numbered};
-use sz_tables::RegionTable;
+use sz_region::{ListedSet, put_listed, put_number, put_rows};
+use sz_tables::{RegionTable, SetTable};
 
 /// Appends a store of region pairs that stand for the same as those of a table, one for each kind
 /// of lineage, and answers how many. `None`, and nothing appended, where there is not one input,
 /// where a set of the input has no cell, and where an output cell is in the output sets of two
-/// rows.
+/// rows. After `NoMemory` some of the bytes may be there.
 ///
-/// Costs a look at each cell of the rows' output sets, for each output cell what [`group_cells`]
-/// does, and what [`put_numbered`] does. The sets that are put are lent by the table and by the
-/// groups of cells.
+/// Costs a look at each cell of the rows' output sets, two looks at each output cell, and memory
+/// for two numbers for each of these, of which one is let go before a byte is put.
 pub fn put_kinds_of_rows(
     alloc: Global,
     out: Shape,
     ins: &[Shape],
-    table: &RegionTable,
+    table: RegionTable,
     to: &mut Vec<u8>,
 ) -> Result<Option<u32>, NoMemory>
-    requires out { table.now.out ≡ out }
-    requires ins { table.now.ins ≡ ins.now }
-    requires shapes { All (HasShapes out ins.now) (pairings table.now) }
+    requires out { table.out ≡ out }
+    requires ins { table.ins ≡ ins.now }
+    requires shapes { All (HasShapes out ins.now) (pairings table) }
     ensures put { IfOk result (λ o. IfSome o
-        (λ n. AreKindsPut out ins.now (pairings table.now) n to.old.items to.new.items)) }
+        (λ n. AreKindsPut out ins.now (pairings table) n to.old.items to.new.items)) }
     ensures none { IfOk result (λ o. IfNone o (to.new.items ≡ to.old.items)) }
 {
-    if ins.len() != 1 || table.sets_of(0) > table.len() || !have_cells(table) {
+    if ins.len() != 1 || table.sets_of(0) > table.len() || !have_cells(&table) {
         return Ok(None); // no table has more sets than rows
     }
-    let Some(labels) = label_rows(alloc, out, table)? else {
+    let Some(labels) = label_rows(alloc, out, &table)? else {
         return Ok(None);
     };
-    let groups = group_cells(alloc, table.sets_of(0) + 1, &labels)?;
+    let behind = table.into_sets();
+    let groups = group_cells(alloc, behind.len() + 1, &labels)?;
     drop(labels);
-    let mut sets = Vec::new(alloc);
-    let mut names = Vec::new(alloc);
-    number_kinds(out, ins[0], table, &groups, &mut sets, &mut names)?;
-    put_numbered(&sets, 2, &names, to)?;
-    Ok(Some(names.len() as u32 / 2))
+    let kinds = put_kinds(alloc, out, &behind, &groups, to)?;
+    Ok(Some(kinds))
+}
+
+/// Appends a store of the kinds of the cells of each number, where a set of the input stands behind
+/// those of its number and one more. Answers how many they are.
+fn put_kinds(
+    alloc: Global,
+    out: Shape,
+    behind: &SetTable,
+    groups: &Grouping,
+    to: &mut Vec<u8>,
+) -> Result<u32, NoMemory>
+    requires many { length groups.now ≡ length behind.now.sets + 1 }
+    requires few { length groups.now ≤ 2 ^ 30 + 1 }
+    requires groups { All (AreRunsFrom 0 (size_of out)) groups.now }
+    requires shapes { All (HasShapes out (behind.now.extent ∷ []))
+        (kinds_behind out groups.now behind.now) }
+    ensures { IfOk result (λ n. IsStorePut out (behind.now.extent ∷ [])
+        (kinds_behind out groups.now behind.now) n to.old.items to.new.items) }
+{
+    let kinds = groups.count_kinds();
+    put_number(2 * kinds, to)?;
+    let mut names = Vec::with_capacity(alloc, 2 * kinds as usize)?;
+    put_sets(alloc, out, behind, groups, &mut names, to)?;
+    put_rows(2, &names, to)?;
+    Ok(kinds)
+}
+
+/// Appends the sets of the kinds: for each set of the input that stands behind some cell, the cells
+/// that it stands behind, and the set. Each has a name, its number.
+fn put_sets(
+    alloc: Global,
+    out: Shape,
+    behind: &SetTable,
+    groups: &Grouping,
+    names: &mut Vec<u32>,
+    to: &mut Vec<u8>,
+) -> Result<(), NoMemory>
+    requires many { length groups.now ≡ length behind.now.sets + 1 }
+    requires few { length groups.now ≤ 2 ^ 30 + 1 }
+    requires groups { All (AreRunsFrom 0 (size_of out)) groups.now }
+    requires names { names.old.items ≡ [] }
+    ensures put { OnOk result (AreSetsPut names.new.items (kinds_behind out groups.now behind.now)
+        to.old.items to.new.items) }
+    ensures few { OnOk result (length names.new.items ≤ 2 ^ 31) }
+{
+    let mut runs = Vec::new(alloc);
+    for number in 0..behind.len() {
+        groups.put_runs(number + 1, &mut runs)?;
+        put_kind(out, behind, number, &runs, names, to)?;
+    }
+    Ok(())
+}
+
+/// Appends the sets of the kind of a set of the input, if it stands behind some cell: the cells of
+/// these runs.
+fn put_kind(
+    out: Shape,
+    behind: &SetTable,
+    number: u32,
+    group: &[Run],
+    names: &mut Vec<u32>,
+    to: &mut Vec<u8>,
+) -> Result<(), NoMemory>
+    requires number { number < length behind.now.sets }
+    requires group { AreRunsFrom 0 (size_of out) group.now }
+    requires few { length names.old.items ≤ 2 ^ 31 }
+    ensures { OnOk result (IsKindPut (not (length group.now == 0)) names.old.items
+        names.new.items to.old.items to.new.items
+        (kind_of out group.now (set_at behind.now.sets number))) }
+{
+    if group.is_empty() {
+        return Ok(());
+    }
+    let own = ListedSet {
+        array: 0,
+        shape: out,
+        runs: group,
+    };
+    let set = ListedSet {
+        array: 1,
+        shape: behind.shape(),
+        runs: behind.runs(number),
+    };
+    put_set(&own, names, to)?;
+    put_set(&set, names, to)
+}
+
+/// Appends a set behind as many as there are names, and its number to the names.
+fn put_set(set: &ListedSet, names: &mut Vec<u32>, to: &mut Vec<u8>) -> Result<(), NoMemory>
+    requires few { length names.old.items < 2 ^ 32 }
+    requires set { IsSetOf set.now.set.extent set.now.set }
+    ensures { OnOk result (ArePut names.old.items names.new.items to.old.items to.new.items
+        (set.now ∷ [])) }
+{
+    names.push(names.len() as u32)?;
+    put_listed(set, to)
 }
 
 /// Whether each set of the input has a cell.
@@ -74,86 +167,6 @@ fn have_cells(table: &RegionTable) -> bool
         }
     }
     true
-}
-
-/// Numbers the sets of the kinds: for each set of the input that stands behind some cell, the cells
-/// that it stands behind, and the set.
-fn number_kinds<'a>(
-    out: Shape,
-    input: Shape,
-    table: &'a RegionTable,
-    groups: &'a [Vec<Run>],
-    sets: &mut Vec<ListedSet<'a>>,
-    names: &mut Vec<u32>,
-) -> Result<(), NoMemory>
-    requires one { table.now.ins ≡ input ∷ [] }
-    requires many { length groups.now ≡ length (sets_of table.now.sets 0) + 1 }
-    requires few { length groups.now ≤ 2 ^ 30 + 1 }
-    requires groups { All (AreRunsFrom 0 (size_of out)) (map (λ g. g.items) groups.now) }
-    requires sets { sets.old.items ≡ [] }
-    requires names { names.old.items ≡ [] }
-    ensures numbered { OnOk result (AreRegionsNumbered sets.new.items names.new.items
-        (kinds_below out (map (λ g. g.items) groups.now)
-        (lists_of table.now.ins (sets_of table.now.sets 0)) (length groups.now))) }
-    ensures few { OnOk result (length names.new.items ≤ 2 ^ 31) }
-{
-    for number in 0..table.sets_of(0) {
-        let group = &groups[number as usize + 1];
-        number_kind(out, input, table, number, group, sets, names)?;
-    }
-    Ok(())
-}
-
-/// Numbers the sets of the kind of a set of the input, if it stands behind some cell: the cells of
-/// these runs.
-fn number_kind<'a>(
-    out: Shape,
-    input: Shape,
-    table: &'a RegionTable,
-    number: u32,
-    group: &'a [Run],
-    sets: &mut Vec<ListedSet<'a>>,
-    names: &mut Vec<u32>,
-) -> Result<(), NoMemory>
-    requires one { table.now.ins ≡ input ∷ [] }
-    requires number { number < length (sets_of table.now.sets 0) }
-    requires group { AreRunsFrom 0 (size_of out) group.now }
-    requires few { length sets.old.items ≤ 2 ^ 31 }
-    ensures { OnOk result (IsKindNumbered (not (length group.now == 0)) sets.old.items
-        sets.new.items names.old.items names.new.items
-        (kind_of out group.now (set_at (sets_of table.now.sets 0) number))) }
-{
-    if group.is_empty() {
-        return Ok(());
-    }
-    let own = ListedSet {
-        array: 0,
-        shape: out,
-        runs: group,
-    };
-    let behind = ListedSet {
-        array: 1,
-        shape: input,
-        runs: table.in_runs(0, number),
-    };
-    number_set(own, sets, names)?;
-    number_set(behind, sets, names)
-}
-
-/// Adds a set to a list, and its number there to the names.
-fn number_set<'a>(
-    set: ListedSet<'a>,
-    sets: &mut Vec<ListedSet<'a>>,
-    names: &mut Vec<u32>,
-) -> Result<(), NoMemory>
-    requires few { length sets.old.items < 2 ^ 32 }
-    requires set { IsSetOf set.set.extent set.set }
-    ensures { OnOk result (AreNumbered sets.old.items sets.new.items names.old.items
-        names.new.items (set.entry ∷ [])) }
-{
-    names.push(sets.len() as u32)?;
-    sets.push(set)?;
-    Ok(())
 }
 
 /// For each output cell the number of what stands behind it by the rows of a table. `None` where
