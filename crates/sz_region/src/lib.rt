@@ -42,8 +42,6 @@ pub use sz_frame::{
     add_cell, at_work, has_cell, image_by, input_of, output_with, piece_by, right_shapes, run_by,
     set_of_cell, trace_by,
 };
-pub use tables::{
-    ListedPayload, ListedSet, put_listed, put_numbered, put_numbered_entries,
-};
+pub use tables::{ListedPayload, ListedSet, put_listed, put_numbered, put_numbered_entries};
 pub use take_full::{MOST_ROWS, take_listed_runs, take_regions};
 pub use take_pay::take_entries;
