@@ -1,5 +1,5 @@
-//! Each form of a station once on its happy path, through its trait, and what no clause says: that a
-//! call can succeed, and what the real streams do.
+//! Each form of a station once on its happy path, through its trait, and what no clause says: that
+//! a call can succeed, and what the real streams do.
 
 use crate::sources::need_send;
 use std::alloc::Global;
