@@ -5,6 +5,7 @@
 use Rattle.std.proofs.Common.{◌≡◌, ℕ, List, [], ◌∷◌, Option, Some, None, Ok, Err, codes, map, true, false, Bool, refl}
 use Rattle.std.proofs.Common.{sym, ap, ap₂, ◌∙◌, get_or, take, drop}
 use Rattle.std.specs.Prelude.{string_bytes, option_map}
+use Rattle.std.proofs.lemmas.Option.{same_Some}
 use Rattle.std.specs.IoError.{error_kind}
 use Rattle.std.specs.Vec.Iter.{into_iter_items, into_iter_len}
 use Rattle.std.specs.declared.alloc.Global.{Global}
@@ -43,23 +44,22 @@ on_log mode = mode ∷ codes "x" ∷ []
 abbrev plain : JobMode → Option Job
 plain mode = Some (record { mode = mode; workers = 4; askers = 1; seed = 1; side = 64 })
 
-job-play : job_of (alone (codes "play")) ≡ plain Play
-job-play = ap (λ (l : List (Option Job)). get_or l 0 None) modes_without_a_place
+-- the words of each mode
+abbrev words_of : JobMode → List (List ℕ)
+words_of Play = alone (codes "play")
+words_of Load = alone (codes "load")
+words_of Init = on_log (codes "init")
+words_of Run = on_log (codes "run")
+words_of Check = on_log (codes "check")
+words_of Upgrade = on_log (codes "upgrade")
 
-job-load : job_of (alone (codes "load")) ≡ plain Load
-job-load = ap (λ (l : List (Option Job)). get_or l 5 None) modes_without_a_place
-
-job-init : job_of (on_log (codes "init")) ≡ plain Init
-job-init = ap (λ (l : List (Option Job)). get_or l 1 None) modes_with_a_place
-
-job-run : job_of (on_log (codes "run")) ≡ plain Run
-job-run = ap (λ (l : List (Option Job)). get_or l 2 None) modes_with_a_place
-
-job-check : job_of (on_log (codes "check")) ≡ plain Check
-job-check = ap (λ (l : List (Option Job)). get_or l 3 None) modes_with_a_place
-
-job-upgrade : job_of (on_log (codes "upgrade")) ≡ plain Upgrade
-job-upgrade = ap (λ (l : List (Option Job)). get_or l 4 None) modes_with_a_place
+job-words : (m : JobMode) → job_of (words_of m) ≡ plain m
+job-words Play = ap (λ (l : List (Option Job)). get_or l 0 None) modes_without_a_place
+job-words Load = ap (λ (l : List (Option Job)). get_or l 5 None) modes_without_a_place
+job-words Init = ap (λ (l : List (Option Job)). get_or l 1 None) modes_with_a_place
+job-words Run = ap (λ (l : List (Option Job)). get_or l 2 None) modes_with_a_place
+job-words Check = ap (λ (l : List (Option Job)). get_or l 3 None) modes_with_a_place
+job-words Upgrade = ap (λ (l : List (Option Job)). get_or l 4 None) modes_with_a_place
 
 job-upgrade_alone : job_of (alone (codes "upgrade")) ≡ None
 job-upgrade_alone = ap (λ (l : List (Option Job)). get_or l 4 None) modes_without_a_place
@@ -72,23 +72,8 @@ asked : (args : Args) (words : List (List ℕ)) (job : Option Job) → Gives arg
     → job_asked (Ok args) ≡ job
 asked args words job given is = ap (λ (ws : List (List ℕ)). job_of ws) given ∙ is
 
-pub play-asked : (args : Args) → Gives args (alone (codes "play")) → job_asked (Ok args) ≡ plain Play
-play-asked args given = asked args (alone (codes "play")) (plain Play) given job-play
-
-pub load-asked : (args : Args) → Gives args (alone (codes "load")) → job_asked (Ok args) ≡ plain Load
-load-asked args given = asked args (alone (codes "load")) (plain Load) given job-load
-
-pub init-asked : (args : Args) → Gives args (on_log (codes "init")) → job_asked (Ok args) ≡ plain Init
-init-asked args given = asked args (on_log (codes "init")) (plain Init) given job-init
-
-pub run-asked : (args : Args) → Gives args (on_log (codes "run")) → job_asked (Ok args) ≡ plain Run
-run-asked args given = asked args (on_log (codes "run")) (plain Run) given job-run
-
-pub check-asked : (args : Args) → Gives args (on_log (codes "check")) → job_asked (Ok args) ≡ plain Check
-check-asked args given = asked args (on_log (codes "check")) (plain Check) given job-check
-
-pub upgrade-asked : (args : Args) → Gives args (on_log (codes "upgrade")) → job_asked (Ok args) ≡ plain Upgrade
-upgrade-asked args given = asked args (on_log (codes "upgrade")) (plain Upgrade) given job-upgrade
+pub mode-asked : (m : JobMode) (args : Args) → Gives args (words_of m) → job_asked (Ok args) ≡ plain m
+mode-asked m args given = asked args (words_of m) (plain m) given (job-words m)
 
 -- a mode on a log asks for nothing where no file is given
 pub upgrade-alone_asked : (args : Args) → Gives args (alone (codes "upgrade")) → job_asked (Ok args) ≡ None
@@ -111,44 +96,11 @@ for-mode m job is = ap (λ (o : Option Job). option_map mode_in o) is
 for-none : (m : JobMode) (job : Option Job) → job ≡ None → AsksFor m job → ⊥
 for-none m job is for = let e : Some m ≡ None = sym for ∙ ap (λ (o : Option Job). option_map mode_in o) is in cc
 
-pub play-is : (args : Args) → Gives args (alone (codes "play")) → AsksFor Play (job_asked (Ok args))
-play-is args given = for-mode Play _ (play-asked args given)
+pub mode-is : (m : JobMode) (args : Args) → Gives args (words_of m) → AsksFor m (job_asked (Ok args))
+mode-is m args given = for-mode m _ (mode-asked m args given)
 
-pub load-is : (args : Args) → Gives args (alone (codes "load")) → AsksFor Load (job_asked (Ok args))
-load-is args given = for-mode Load _ (load-asked args given)
-
-pub init-is : (args : Args) → Gives args (on_log (codes "init")) → AsksFor Init (job_asked (Ok args))
-init-is args given = for-mode Init _ (init-asked args given)
-
-pub run-is : (args : Args) → Gives args (on_log (codes "run")) → AsksFor Run (job_asked (Ok args))
-run-is args given = for-mode Run _ (run-asked args given)
-
-pub check-is : (args : Args) → Gives args (on_log (codes "check")) → AsksFor Check (job_asked (Ok args))
-check-is args given = for-mode Check _ (check-asked args given)
-
-pub upgrade-is : (args : Args) → Gives args (on_log (codes "upgrade")) → AsksFor Upgrade (job_asked (Ok args))
-upgrade-is args given = for-mode Upgrade _ (upgrade-asked args given)
-
-pub play-not_load : (args : Args) → Gives args (alone (codes "load")) → AsksFor Play (job_asked (Ok args)) → ⊥
-play-not_load args given for = let e : Some Play ≡ Some Load = sym for ∙ load-is args given in cc
-
-pub play-not_run : (args : Args) → Gives args (on_log (codes "run")) → AsksFor Play (job_asked (Ok args)) → ⊥
-play-not_run args given for = let e : Some Play ≡ Some Run = sym for ∙ run-is args given in cc
-
-pub init-not_check : (args : Args) → Gives args (on_log (codes "check")) → AsksFor Init (job_asked (Ok args)) → ⊥
-init-not_check args given for = let e : Some Init ≡ Some Check = sym for ∙ check-is args given in cc
-
-pub check-not_run : (args : Args) → Gives args (on_log (codes "run")) → AsksFor Check (job_asked (Ok args)) → ⊥
-check-not_run args given for = let e : Some Check ≡ Some Run = sym for ∙ run-is args given in cc
-
-pub run-not_check : (args : Args) → Gives args (on_log (codes "check")) → AsksFor Run (job_asked (Ok args)) → ⊥
-run-not_check args given for = let e : Some Run ≡ Some Check = sym for ∙ check-is args given in cc
-
-pub upgrade-not_check : (args : Args) → Gives args (on_log (codes "check")) → AsksFor Upgrade (job_asked (Ok args)) → ⊥
-upgrade-not_check args given for = let e : Some Upgrade ≡ Some Check = sym for ∙ check-is args given in cc
-
-pub check-not_upgrade : (args : Args) → Gives args (on_log (codes "upgrade")) → AsksFor Check (job_asked (Ok args)) → ⊥
-check-not_upgrade args given for = let e : Some Check ≡ Some Upgrade = sym for ∙ upgrade-is args given in cc
+pub mode-no_other : (m n : JobMode) (args : Args) → Gives args (words_of n) → AsksFor m (job_asked (Ok args)) → m ≡ n
+mode-no_other m n args given for = same_Some m n (sym for ∙ mode-is n args given)
 
 pub no_mode-upgrade_alone : (m : JobMode) (args : Args) → Gives args (alone (codes "upgrade"))
     → AsksFor m (job_asked (Ok args)) → ⊥
@@ -166,7 +118,7 @@ pub other-fly : (args : Args) → Gives args (alone (codes "fly")) → AreOther 
 other-fly args given = none-asked args given
 
 pub other-not_load : (args : Args) → Gives args (alone (codes "load")) → AreOther (Ok args) → ⊥
-other-not_load args given other = let e : None ≡ plain Load = sym other ∙ load-asked args given in cc
+other-not_load args given other = let e : None ≡ plain Load = sym other ∙ mode-asked Load args given in cc
 
 -- a word that is no text is no word of a mode; that memory was refused says nothing of the words
 pub other-no_text : (fault : Error) → error_kind fault ≡ InvalidData → AreOther (Err fault)
@@ -177,27 +129,24 @@ other-not_memory fault is other = other is
 
 -- ---- the file that is named
 
-pub place-init : (args : Args) → Gives args (on_log (codes "init")) → place_named (Ok args) ≡ Some (codes "x", true)
-place-init args given =
-    ap (λ (ws : List (List ℕ)). place_of ws) given
-    ∙ ap (λ (l : List (Option (List ℕ × Bool))). get_or l 0 None) places
+-- what is named is what the words name
+named : (args : Args) (words : List (List ℕ)) → Gives args words → place_named (Ok args) ≡ place_of words
+named args words given = ap (λ (ws : List (List ℕ)). place_of ws) given
 
-pub place-run : (args : Args) → Gives args (on_log (codes "run")) → place_named (Ok args) ≡ Some (codes "x", false)
-place-run args given =
-    ap (λ (ws : List (List ℕ)). place_of ws) given
-    ∙ ap (λ (l : List (Option (List ℕ × Bool))). get_or l 1 None) places
+pub place-init : (args : Args) → Gives args (words_of Init) → place_named (Ok args) ≡ Some (codes "x", true)
+place-init args given =
+    named args _ given ∙ ap (λ (l : List (Option (List ℕ × Bool))). get_or l 0 None) places
+
+pub place-run : (args : Args) → Gives args (words_of Run) → place_named (Ok args) ≡ Some (codes "x", false)
+place-run args given = named args _ given ∙ ap (λ (l : List (Option (List ℕ × Bool))). get_or l 1 None) places
 
 -- the file of a log that is raised is there already
-pub place-upgrade : (args : Args) → Gives args (on_log (codes "upgrade"))
-    → place_named (Ok args) ≡ Some (codes "x", false)
+pub place-upgrade : (args : Args) → Gives args (words_of Upgrade) → place_named (Ok args) ≡ Some (codes "x", false)
 place-upgrade args given =
-    ap (λ (ws : List (List ℕ)). place_of ws) given
-    ∙ ap (λ (l : List (Option (List ℕ × Bool))). get_or l 3 None) places
+    named args _ given ∙ ap (λ (l : List (Option (List ℕ × Bool))). get_or l 3 None) places
 
-pub place-play : (args : Args) → Gives args (alone (codes "play")) → place_named (Ok args) ≡ None
-place-play args given =
-    ap (λ (ws : List (List ℕ)). place_of ws) given
-    ∙ ap (λ (l : List (Option (List ℕ × Bool))). get_or l 0 None) no_place
+pub place-play : (args : Args) → Gives args (words_of Play) → place_named (Ok args) ≡ None
+place-play args given = named args _ given ∙ ap (λ (l : List (Option (List ℕ × Bool))). get_or l 0 None) no_place
 
 pub place-not_had : (fault : Error) → place_named (Err fault) ≡ None
 place-not_had fault = refl

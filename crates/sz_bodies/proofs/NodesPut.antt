@@ -5,8 +5,9 @@
 use Rattle.std.proofs.Common.{◌≡◌, ℕ, zero, suc, ◌+◌, ◌<◌, List, [], ◌∷◌, ◌++◌, length, take, drop, refl, sym, ap, ap₂}
 use Rattle.std.proofs.Common.{subst, ◌∙◌, arith, append_assoc, length-append, Some, None, true, false}
 use Rattle.std.proofs.Common.{true≢false, Option, get_or}
-use Rattle.std.specs.List.{slice_get}
+use Rattle.std.specs.List.{All, slice_get}
 use Rattle.std.proofs.Math.Seq.{drop-append_seam, take-suc}
+use Rattle.std.proofs.lemmas.List.Elements.{All-push}
 use Rattle.sz_spec.specs.declared.modes.Strategy.{Strategy}
 use Rattle.sz_spec.specs.Shapes.{Site}
 use Rattle.sz_spec.specs.Modes.{is_stored}
@@ -25,6 +26,14 @@ pub one-taken : {X : Type 0} (xs : List X) (j : ℕ) (x : X) → j < length xs �
 one-taken {X} xs j x below is =
     let one : j + 1 ≡ suc j = omega arith in
     ap (λ n. take n xs) one ∙ take-suc xs j x below ∙ ap (λ (y : X). take j xs ++ y ∷ []) (sym is)
+
+-- one element more, of which holds what holds of the others
+pub one-pushed : {X : Type 0} (P : X → Type 0) (xs ys : List X) (x : X) (n : ℕ) → ys ≡ xs ++ x ∷ []
+    → (length xs ≡ n) × All P xs → P x → (length ys ≡ n + 1) × All P ys
+one-pushed {X} P xs ys x n is so one = (
+  ap (λ (zs : List X). length zs) is ∙ length-append xs (x ∷ []) ∙ ap (λ (k : ℕ). k + 1) so.0,
+  subst (All P) (sym is) (All-push P xs x so.1 one),
+)
 
 -- a list that names no store has no stored strategy
 pub none-stored : (list : List Strategy) → names_a_store list ≡ false → stored_in list ≡ []

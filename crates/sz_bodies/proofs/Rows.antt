@@ -2,7 +2,7 @@
 --
 -- The key idea: on written-out bytes every definition is a computation, so a row that holds is its own proof, and a row
 -- that does not holds two different values equal.
-use Rattle.std.proofs.Common.{◌≡◌, ℕ, List, [], ◌∷◌, ◌++◌, refl, sym, length, arith}
+use Rattle.std.proofs.Common.{◌≡◌, ℕ, List, [], ◌∷◌, ◌++◌, drop, refl, sym, length, arith}
 use Rattle.std.proofs.Common.{true, false, true≢false, Some, None, ◌<◌}
 use Rattle.std.proofs.lemmas.List.Elements.{All-cons, All-nil}
 use Rattle.sz_cells.specs.Extent.{Extent, flat}
@@ -11,8 +11,9 @@ use Rattle.sz_spec.specs.declared.op.Op.TheVariants.{Neg}
 use Rattle.sz_spec.specs.declared.modes.Strategy.TheVariants as strategy
 use Rattle.sz_spec.specs.Shapes.{Site}
 use Rattle.sz_frame.specs.Parts.{Pairing}
+use Rattle.sz_region.specs.Counted.{IsAt}
 use Rattle.sz_region.specs.FullBytes.{Listed, IsListed}
-use Rattle.sz_short.specs.ShortStores.{AreFullParts, BeginsFull}
+use Rattle.sz_short.specs.ShortStores.{AreFullParts, full_word, BeginsFull}
 use Rattle.sz_short.specs.ShortNumber.{short_number, short_within}
 use Rattle.sz_formats.specs.Formats.{spelling}
 use Rattle.sz_store.specs.Kept.{Keep, regions, NodeLineage, no_lineage}
@@ -95,15 +96,21 @@ parts = record {
   named = (record { whole = refl; named = (refl, (refl, tt)) }, tt);
 }
 
-pub store-begins : BeginsFull (spelling 1) cell (cell ∷ []) bytes 22 64 (pair ∷ [])
-store-begins = record {
+-- the store at byte 22, up to the end of the bytes
+begins : (spell : Cells → List ℕ) (bytes : List ℕ) (next : ℕ)
+    → drop 22 bytes ≡ full_word spell table ((0 ∷ 1 ∷ []) ∷ []) ++ [] → drop next bytes ≡ []
+    → BeginsFull spell cell (cell ∷ []) bytes 22 next (pair ∷ [])
+begins spell bytes next spelled ends = record {
   table = table;
   names = (0 ∷ 1 ∷ []) ∷ [];
   rest = [];
   are = parts;
-  spelled = refl;
-  ends = refl;
+  spelled = spelled;
+  ends = ends;
 }
+
+pub store-begins : BeginsFull (spelling 1) cell (cell ∷ []) bytes 22 64 (pair ∷ [])
+store-begins = begins (spelling 1) bytes 64 refl refl
 
 short : IsShort body
 short = record {
@@ -117,20 +124,21 @@ short = record {
       (All-nil (λ (x : NodePart). length x.list < 256));
 }
 
-pub body-spelled : IsBodyOf 1 (site ∷ []) body bytes
-body-spelled = record {
+-- the body in these bytes: the list of its node from byte 20 on, and the store from byte 22 to their end
+spelled-by : (format : ℕ) (bytes : List ℕ) → IsAt bytes 0 20 (head_bytes body) → IsAt bytes 20 22 (list_bytes part.list)
+    → BeginsFull (spelling format) cell (cell ∷ []) bytes 22 (length bytes) (pair ∷ [])
+    → IsBodyOf format (site ∷ []) body bytes
+spelled-by format bytes front list begin = record {
   short = short;
   place = 20;
-  head = record { spelled = refl; within = omega arith };
-  nodes = (
-    22,
-    64,
-    omega arith,
-    record { spelled = refl; within = omega arith },
-    (64, omega arith, refl, store-begins, refl),
-    refl,
-  );
+  head = front;
+  nodes = (22, length bytes, omega arith, list, (length bytes, omega arith, refl, begin, refl), refl);
 }
+
+pub body-spelled : IsBodyOf 1 (site ∷ []) body bytes
+body-spelled =
+    spelled-by 1 bytes (record { spelled = refl; within = omega arith })
+    (record { spelled = refl; within = omega arith }) store-begins
 
 -- without the node's operator at its shapes they are none
 pub no-sites : IsBodyOf 1 [] body bytes → ⊥
@@ -151,29 +159,12 @@ short-size = refl
 
 short-begins : BeginsFull (spelling 2) cell (cell ∷ []) short-bytes 22 46 (pair ∷ [])
 unfolding short_number short_within
-short-begins = record {
-  table = table;
-  names = (0 ∷ 1 ∷ []) ∷ [];
-  rest = [];
-  are = parts;
-  spelled = refl;
-  ends = refl;
-}
+short-begins = begins (spelling 2) short-bytes 46 refl refl
 
 pub short-body : IsBodyOf 2 (site ∷ []) body short-bytes
-short-body = record {
-  short = short;
-  place = 20;
-  head = record { spelled = refl; within = omega arith };
-  nodes = (
-    22,
-    46,
-    omega arith,
-    record { spelled = refl; within = omega arith },
-    (46, omega arith, refl, short-begins, refl),
-    refl,
-  );
-}
+short-body =
+    spelled-by 2 short-bytes (record { spelled = refl; within = omega arith })
+    (record { spelled = refl; within = omega arith }) short-begins
 
 -- ---- names
 

@@ -7,7 +7,7 @@ use Rattle.std.proofs.Common.{ap, ap₂, subst, ◌∙◌, arith, true≢false, 
 use Rattle.std.proofs.Common.{append_assoc, drop-cons, add-one, Option, true, false}
 use Rattle.std.specs.List.{list_all}
 use Rattle.std.proofs.lemmas.Bool.{and_parts, leb-true}
-use Rattle.std.proofs.lemmas.List.{append-nil}
+use Rattle.std.proofs.lemmas.List.{append-nil, drop_all}
 use Rattle.sz_cells.specs.Extent.{Extent}
 use Rattle.sz_spec.specs.declared.flow.Node.{Node}
 use Rattle.sz_spec.specs.declared.modes.Strategy.{Strategy}
@@ -184,22 +184,24 @@ read-more format base outs nodes n left bytes at place mid done x read node only
 
 -- where all were read, they are all that stand there
 pub read-all : (format : ℕ) (base outs : List Extent) (nodes : List Node) (bytes : List ℕ) (at place : ℕ)
-    (done : List NodePart)
-    → AreRead format base outs nodes [] bytes at place done
+    (done : List NodePart) (i : ℕ) → length nodes ≤ i
+    → AreRead format base outs nodes (drop i nodes) bytes at place done
     → AreNodesAt format base outs nodes bytes at place done × AreOnlyNodes format base outs nodes bytes at place done
-read-all format base outs nodes bytes at place done read = (
-  subst (AreNodesAt format base outs nodes bytes at place) (append-nil done) (read.whole place [] refl),
-  λ other ys are.
-      let rest = read.ahead other ys are in
-      let ends : (zs : List NodePart) → AreNodesAt format base outs [] bytes place other zs
-      → (zs ≡ []) × (other ≡ place)
-      = elim [
-        | [] ↦ λ is. (refl, is)
-        | z ∷ zs ↦ λ is. absurd is
-      ] in
-      let last = ends rest.0 rest.2 in
-      (rest.1 ∙ ap (λ (zs : List NodePart). done ++ zs) last.0 ∙ append-nil done, last.1),
-)
+read-all format base outs nodes bytes at place done i far begun =
+    let read : AreRead format base outs nodes [] bytes at place done =
+    subst (λ (xs : List Node). AreRead format base outs nodes xs bytes at place done) (drop_all i nodes far) begun in (
+      subst (AreNodesAt format base outs nodes bytes at place) (append-nil done) (read.whole place [] refl),
+      λ other ys are.
+          let rest = read.ahead other ys are in
+          let ends : (zs : List NodePart) → AreNodesAt format base outs [] bytes place other zs
+          → (zs ≡ []) × (other ≡ place)
+          = elim [
+            | [] ↦ λ is. (refl, is)
+            | z ∷ zs ↦ λ is. absurd is
+          ] in
+          let last = ends rest.0 rest.2 in
+          (rest.1 ∙ ap (λ (zs : List NodePart). done ++ zs) last.0 ∙ append-nil done, last.1),
+    )
 
 -- the nodes that are left begin with the next one
 pub left-is : (nodes : List Node) (k : ℕ) (n : Node) → k < length nodes → n ≡ get_or nodes k n

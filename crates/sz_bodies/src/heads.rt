@@ -13,12 +13,13 @@ ghost use Rattle.sz_bodies.specs.Taking.{IfBad, IsNewNumber, IsHeldName, IsHeldB
 ghost use Rattle.sz_bodies.specs.Taking.{IsFlowOf, IsArray, AreArrays, IsBegun, said_bytes};
 ghost use Rattle.sz_bodies.specs.Taking.{said_in};
 
-use crate::parts::{take_name, take_number};
+use crate::parts::take_name;
 use crate::reading::TakeFault;
 use std::alloc::Global;
 use std::marker::Model;
 use std::sync::Arc;
 use sz_catalogue::{BaseArray, Catalogue};
+use sz_region::take_number;
 use sz_script::Name;
 use sz_spec::Flow;
 

@@ -1,8 +1,7 @@
-//! The parts of a body that stand for themselves: numbers and names.
+//! The names that stand in a body, and other bytes that are counted.
 
-ghost use Rattle.std.specs.Prelude.{◌≡◌, ◌<◌, ◌≤◌, ◌+◌, true, length, IfOk, IfErr, IfSome, IfNone};
+ghost use Rattle.std.specs.Prelude.{◌≡◌, ◌<◌, ◌+◌, true, length, IfOk, IfErr, IfSome, IfNone};
 ghost use Rattle.std.specs.List.{list_all};
-ghost use Rattle.sz_cells.specs.SetBytes.{four_bytes};
 ghost use Rattle.sz_region.specs.Counted.{IsAt};
 ghost use Rattle.sz_region.specs.Stores.{NoneAt};
 ghost use Rattle.sz_script.specs.Names.{is_name, is_name_byte};
@@ -11,20 +10,7 @@ ghost use Rattle.sz_bodies.specs.Taking.{IfBad, IsName, IsAnyText};
 
 use crate::reading::TakeFault;
 use std::alloc::Global;
-use sz_numbers::four_at;
 use sz_script::Name;
-
-/// The number whose four bytes stand at a place. `None` exactly where there are not four bytes.
-pub(crate) fn take_number(bytes: &[u8], at: u64) -> Option<u32>
-    ensures some { IfSome result (λ n. IsAt bytes.now at (at + 4) (four_bytes n)) }
-    ensures none { IfNone result (length bytes.now < at + 4) }
-{
-    let length = bytes.len() as u64;
-    if length < 4 || length - 4 < at {
-        return None;
-    }
-    Some(four_at(bytes, at as usize))
-}
 
 /// The name that stands at a place, and the place behind it.
 pub(crate) fn take_name(alloc: Global, bytes: &[u8], at: u64) -> Result<(Name, u64), TakeFault>

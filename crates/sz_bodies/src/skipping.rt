@@ -1,11 +1,12 @@
-//! Where a node of a body in format 1 ends, if one stands there: told by its counts alone, at a fraction
-//! of what reading it costs. Nothing rests on what is told, since whoever reads a node says where it
-//! ends.
+//! Where a node of a body in format 1 ends, if one stands there: told by its counts alone, at a
+//! fraction of what reading it costs. Nothing rests on what is told, since whoever reads a node says
+//! where it ends.
 
 ghost use Rattle.std.specs.Prelude.{◌≤◌, length, IfSome};
 
 use crate::lists::strategy_of;
-use crate::parts::{counted_at, take_number};
+use crate::parts::counted_at;
+use sz_region::take_number;
 use sz_spec::Mode;
 
 /// The place behind the node of so many inputs that stands at a place.

@@ -1,7 +1,7 @@
 -- Worked rows: what commands are answered, on both sides of each rule's edge, and where a later rule holds as well.
 --
--- The key idea: on written-out commands every definition is a computation, so a table of rows is its own proof. A row is
--- what is held, a command, and the text that it is answered by. Expected texts by hand.
+-- The key idea: on written-out commands every definition is a computation, so a table of rows is its own proof. A row
+-- is what is held, a command, and the text that it is answered by. Expected texts by hand.
 use Rattle.std.proofs.Common.{◌≡◌, pos, [], ◌∷◌, Some, None, refl}
 use Rattle.std.specs.Prelude.{codes}
 use Rattle.std.specs.Fmt.{digits}
@@ -51,7 +51,8 @@ held-flow = refl
 
 -- black box alone, before a start and behind it
 abbrev boxed : Holdings
-boxed = after held (command.Strategy f 0 (strategy.BlackBox ∷ []) ∷ command.Start f (base a 1 ∷ []) ∷ command.Await 1 ∷ [])
+boxed = after held (command.Strategy f 0 (strategy.BlackBox ∷ []) ∷ command.Start f (base a 1 ∷ [])
+    ∷ command.Await 1 ∷ [])
 
 abbrev boxed_late : Holdings
 boxed_late = after whole (command.Strategy f 0 (strategy.BlackBox ∷ []) ∷ [])

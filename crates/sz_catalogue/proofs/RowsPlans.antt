@@ -1,7 +1,7 @@
 -- Rows of plans: what a plan is answered, at the edge of each rule and for small flows.
 --
--- The key idea: at written-out flows and shapes the list that is read off is a computation, so a table of rows is its own
--- proof. A row is what is held, a command, and the text that it is answered by. Expected texts by hand: a node that
+-- The key idea: at written-out flows and shapes the list that is read off is a computation, so a table of rows is its
+-- own proof. A row is what is held, a command, and the text that it is answered by. Expected texts by hand: a node that
 -- cleans 2 by 2 cells costs 16 back by black box, and 1 by full_one_b, whose store of 16 * 4 * 9 bytes takes one unit.
 use Rattle.std.proofs.Common.{◌≡◌, List, ℕ, [], ◌∷◌, pos, refl}
 use Rattle.std.specs.Prelude.{codes}

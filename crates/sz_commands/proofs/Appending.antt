@@ -50,12 +50,6 @@ pub appends-as : {X : Type 0} (T : Ghosts X) (P Q : ℕ → LogGroup → Type 0)
 appends-as {X} T P Q None next a b turn added = tt
 appends-as {X} T P Q (Some at) next a b turn (e, such, added, place) = (e, turn at.format e such, added, place)
 
--- nothing is said of a session of no log
-pub appends-nowhere : {X : Type 0} (T : Ghosts X) (P : ℕ → LogGroup → Type 0) (end next : Option LogPlace) (a b : X)
-    → end ≡ None → Appends T P end next a b
-appends-nowhere {X} T P end next a b none =
-    subst (λ (o : Option LogPlace). Appends T P o next a b) (sym none) tt
-
 -- the line of a command that stands in groups of a kind is what the command makes durable
 pub line-group : (c : Holdings) (line : List ℕ) (command : Command) (format : ℕ) (e : LogGroup)
     → IsLineGroup command line e → IsGroupFor c line command format e

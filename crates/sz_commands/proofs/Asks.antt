@@ -10,15 +10,15 @@ use Rattle.sz_query.specs.declared.path.Found.{Found}
 use Rattle.sz_commands.specs.States.{SessionState, logged_of, accepted, after_command, after_judging}
 use Rattle.sz_catalogue.specs.Rules.{judged, version_of}
 use Rattle.sz_catalogue.specs.Changes.{traced}
-use Rattle.sz_catalogue.specs.Responses.{cells, refused}
+use Rattle.sz_catalogue.specs.Responses.{cells}
 use Rattle.sz_commands.specs.Commands.{traced_if, traced_along, most_along, traced_for, most_for}
 use Rattle.sz_versions.specs.Efforts.{most_traced}
 use Rattle.sz_versions.specs.Searches.{Search, IsAnswerTo}
-use Rattle.sz_commands.specs.Asks.{IsSearched, IsBegun, IsWorked, IsEnded, IsReplyTo, is_ask, ask_reply}
+use Rattle.sz_commands.specs.Asks.{IsSearched, IsBegun, IsWorked, IsEnded, IsReplyTo, is_ask}
 use Rattle.sz_commands.specs.declared.asking.AskLine.{AskLine}
 use Rattle.sz_commands.specs.declared.asking.Asked.{Asked}
 use Rattle.sz_commands.specs.declared.asking.Asked.TheVariants as asked
-use Rattle.sz_commands.proofs.Sought.{sought-cells, sought-least, sought-most}
+use Rattle.sz_commands.proofs.Sought.{sought}
 
 -- an ask changes nothing that is held
 pub ask-stays : (c : SessionState) (ask : Command) → is_ask ask ≡ true → (after_command c ask).0 ≡ c
@@ -30,21 +30,12 @@ ask-stays c _ is = cc
 
 -- ---- one ask
 
--- the reply to an ask that a rule refuses, and what is told as traced
-pub refused-reply : (c : SessionState) (l : AskLine) (rule : Refusal) → judged c.held l.ask ≡ Some rule
-    → ask_reply c l ≡ refused rule
-refused-reply c l rule is = ap (λ (o : Option Refusal). (after_judging c l.ask o).1) is
-
-pub refused-traced : (c : SessionState) (l : AskLine) (rule : Refusal) → judged c.held l.ask ≡ Some rule
-    → traced_for c l.ask ≡ 0
-refused-traced c l rule is = ap (λ (o : Option Refusal). traced_if o (traced_along c l.ask)) is
-
 -- what was found for a search is the reply to its line
 searched-reply : (c : SessionState) (l : AskLine) (n : ℕ) (s : Search) (f : Found) → IsSearched c l n s → IsAnswerTo s f
     → IsReplyTo c l f.cells f.traced
 searched-reply c l n s f h a =
     let v = version_of c.held h.version in
-    let k = logged_of c h.version in
+    let found = sought (logged_of c h.version) v h.dir h.path h.named s f h.search a in
     let along : traced_for c l.ask ≡ traced v h.dir h.path =
     ap (λ (o : Option Refusal). traced_if o (traced_along c l.ask)) h.judged ∙ ap (traced_along c) h.is in
     let most : most_for c l.ask ≡ most_traced v h.dir h.path =
@@ -52,9 +43,9 @@ searched-reply c l n s f h a =
     record {
       reply = ap (λ (o : Option Refusal). (after_judging c l.ask o).1) h.judged
           ∙ ap (λ (x : Command). (accepted c x).1) h.is
-          ∙ sym (ap cells (sought-cells k v h.dir h.path h.named s f h.search a));
-      least = omega (arith, along, sought-least k v h.dir h.path h.named s f h.search a);
-      most = omega (arith, most, sought-most k v h.dir h.path h.named s f h.search a);
+          ∙ sym (ap cells found.cells);
+      least = omega (arith, along, found.least);
+      most = omega (arith, most, found.most);
       few = a.few;
     }
 

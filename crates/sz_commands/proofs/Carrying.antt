@@ -15,7 +15,7 @@ use Rattle.sz_script.specs.Reading.{reading}
 use Rattle.sz_script.specs.declared.command.Command.{Command}
 use Rattle.sz_script.specs.declared.command.Command.TheVariants as order
 use Rattle.sz_script.specs.declared.refusal.Refusal.{Refusal}
-use Rattle.sz_catalogue.specs.Holdings.{Holdings}
+use Rattle.sz_catalogue.specs.Holdings.{Holdings, next_number}
 use Rattle.sz_catalogue.specs.Responses.{Response}
 use Rattle.sz_catalogue.specs.Rules.{judged, version_of}
 use Rattle.sz_catalogue.specs.Changes.{changes_no_version}
@@ -23,10 +23,11 @@ use Rattle.sz_recover.specs.Logs.{is_of_kind}
 use Rattle.sz_versions.specs.Stores.{Keeping, nothing, growing, whole, read, keeping_from, AreKeptOf, Trail}
 use Rattle.sz_versions.specs.Residents.{Resident, IsResident, IsTrailBy, stores_read, replaced_in}
 use Rattle.sz_versions.specs.Residents.{Stored, stored_of, stored_in}
+use Rattle.sz_versions.proofs.Residents.{made_here}
 use Rattle.sz_commands.specs.Lines.{is_blank}
 use Rattle.sz_commands.specs.States.{SessionState, accepted}
 use Rattle.sz_commands.specs.Carrying.{is_finished, is_given, AreGiven, IsFinishedIn, EntriesIf, EntriesRead}
-use Rattle.sz_commands.specs.Carrying.{EntriesOf, StoredBy, StoredAfter, StoredBehind}
+use Rattle.sz_commands.specs.Carrying.{AddsEntry, EntriesOf, StoredBy, StoredAfter, StoredBehind}
 
 -- ---- what a log gave
 
@@ -55,9 +56,20 @@ all-given c (r ∷ rs) own is =
 
 -- ---- one more
 
-pub stored-more : (rs : List Resident) (r : Resident)
+stored-more : (rs : List Resident) (r : Resident)
     → stored_in (rs ++ r ∷ []) ≡ stored_in rs ++ (r.number, map stored_of r.trail.kept) ∷ []
 stored-more rs r = map-append _ rs (r ∷ [])
+
+-- the one that is added under a number that is the next
+pub next-added : {new : List Resident} {k m : ℕ} (rs : List Resident) (t : Trail) → new ≡ rs ++ made_here k t ∷ []
+    → k ≡ m → new ≡ rs ++ made_here m t ∷ []
+next-added rs t added is = added ∙ ap (λ (n : ℕ). rs ++ made_here n t ∷ []) is
+
+-- so an entry is
+pub entry-added : (c : Holdings) (rs new : List Resident) (t : Trail) → new ≡ rs ++ made_here (next_number c) t ∷ []
+    → AddsEntry c (stored_in rs) (stored_in new)
+entry-added c rs new t added =
+    (map stored_of t.kept, ap stored_in added ∙ stored-more rs (made_here (next_number c) t))
 
 -- ---- one that is awaited
 

@@ -1,9 +1,9 @@
 -- What commands make durable.
 use Rattle.std.proofs.Common.{◌≡◌, ℕ, List, [], ◌∷◌, ◌++◌, Bool, true, false, refl, sym, ap, ◌∙◌, subst, arith}
-use Rattle.std.proofs.Common.{eqb-true, Option, None, is_none, true≢false, if◌then◌else◌}
+use Rattle.std.proofs.Common.{Option, None, is_none, true≢false, if◌then◌else◌}
 use Rattle.sz_outside.specs.declared.stations.Station.{Ghosts}
 use Rattle.std.specs.Prelude.{Ok, ◌==◌}
-use Rattle.sz_log.specs.Log.{is_kind, LogGroup}
+use Rattle.sz_log.specs.Log.{LogGroup}
 use Rattle.sz_spec.specs.Values.{Grid}
 use Rattle.sz_script.specs.Reading.{reading}
 use Rattle.sz_script.specs.declared.command.NewCell.{NewCell}
@@ -24,31 +24,20 @@ use Rattle.sz_recover.specs.Growing.{durable}
 use Rattle.sz_recover.specs.Logs.{is_of_kind, version_kind}
 use Rattle.sz_catalogue.specs.Order.{IsInOrder}
 use Rattle.sz_recover.proofs.Durable.{starts-not-logged, awaits-once}
-use Rattle.sz_commands.specs.States.{SessionState, LogPlace, apart, accepted, after_command}
+use Rattle.sz_commands.specs.States.{SessionState, LogPlace, apart, accepted}
 use Rattle.sz_commands.specs.Logged.{lasts, HasLog, KeepsLog}
 use Rattle.sz_versions.specs.Bodies.{IsSoundBody}
 use Rattle.sz_commands.proofs.Logged.{rest-keeps, IsStep, await-step, line-step, step-alike}
 use Rattle.sz_versions.proofs.Ordered.{catalogue-in-order}
 use Rattle.sz_versions.proofs.Refreshes.{can-refresh}
 
--- a line stands in groups of a kind
-pub line-kind : (kind : ℕ) (command : Command) → is_of_kind kind command ≡ true → is_kind kind ≡ true
-line-kind kind (order.Array name array) own = subst (λ (k : ℕ). is_kind k ≡ true) (sym (eqb-true kind 1 own)) refl
-line-kind kind (order.Csv name array) own = subst (λ (k : ℕ). is_kind k ≡ true) (sym (eqb-true kind 1 own)) refl
-line-kind kind (order.Layers name array) own = subst (λ (k : ℕ). is_kind k ≡ true) (sym (eqb-true kind 1 own)) refl
-line-kind kind (order.Flow name flow) own = subst (λ (k : ℕ). is_kind k ≡ true) (sym (eqb-true kind 2 own)) refl
-line-kind kind (order.Strategy name node list) own =
-    subst (λ (k : ℕ). is_kind k ≡ true) (sym (eqb-true kind 3 own)) refl
-line-kind kind _ own = absurd (true≢false (sym own))
-
--- and changes no version
+-- a line that stands in groups of a kind changes no version
 pub line-changes : (kind : ℕ) (command : Command) → is_of_kind kind command ≡ true → changes_no_version command ≡ true
 line-changes kind (order.Array name array) own = refl
 line-changes kind (order.Csv name array) own = refl
 line-changes kind (order.Layers name array) own = refl
 line-changes kind (order.Flow name flow) own = refl
 line-changes kind (order.Strategy name node list) own = refl
-line-changes kind (order.Plan name base units back forward) own = refl
 line-changes kind _ own = absurd (true≢false (sym own))
 
 -- a command that makes nothing durable changes nothing that is
@@ -77,11 +66,6 @@ pub accepted-held : (s : SessionState) (command : Command) → (accepted s comma
 accepted-held s (order.Ask n dir path named) = refl
 accepted-held s (order.Merged n) = refl
 accepted-held s _ = refl
-
--- a command that no rule refuses is accepted
-pub judged-accepted : (s : SessionState) (command : Command) → judged s.held command ≡ None
-    → after_command s command ≡ accepted s command
-judged-accepted s command none = rw none refl
 
 -- the first of what a command leaves, where that is known
 pub left-held : (s d : SessionState) (command : Command) (r : Response) → accepted s command ≡ (d, r)

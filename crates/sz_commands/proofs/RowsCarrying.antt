@@ -1,7 +1,7 @@
 -- What a line does to what is kept of nodes, worked by hand on both sides.
 --
 -- The key idea: an entry that was not to change has other nodes or another number, and each of these is seen at once.
-use Rattle.std.proofs.Common.{◌≡◌, ℕ, List, [], ◌∷◌, length, true, false, refl, sym, ap, arith, true≢false}
+use Rattle.std.proofs.Common.{◌≡◌, ℕ, List, [], ◌∷◌, map, length, true, false, refl, sym, ap, arith, true≢false}
 use Rattle.std.proofs.Common.{Some, None, Ok, Err}
 use Rattle.std.proofs.lemmas.List.Elements.{All-cons, All-nil, All-head}
 use Rattle.std.specs.List.{list_all}
@@ -28,26 +28,13 @@ nodes_first (e ∷ es) = e.1
 
 -- ---- nodes
 
-finished-none : is_finished none ≡ true
-finished-none = refl
+finished-nodes : (z : ShelfPlace) (k : NodeLineage)
+    → map is_finished (none ∷ on_shelf z ∷ built k ∷ given k ∷ []) ≡ true ∷ false ∷ true ∷ false ∷ []
+finished-nodes z k = refl
 
-finished-shelf : (z : ShelfPlace) → is_finished (on_shelf z) ≡ false
-finished-shelf z = refl
-
-finished-built : (k : NodeLineage) → is_finished (built k) ≡ true
-finished-built k = refl
-
-finished-given : (k : NodeLineage) → is_finished (given k) ≡ false
-finished-given k = refl
-
-given-given : (k : NodeLineage) → is_given (given k) ≡ true
-given-given k = refl
-
-given-built : (k : NodeLineage) → is_given (built k) ≡ false
-given-built k = refl
-
-given-shelf : (z : ShelfPlace) → is_given (on_shelf z) ≡ false
-given-shelf z = refl
+given-nodes : (z : ShelfPlace) (k : NodeLineage)
+    → map is_given (on_shelf z ∷ built k ∷ given k ∷ []) ≡ false ∷ false ∷ true ∷ []
+given-nodes z k = refl
 
 abbrev IsGivenEntry : ℕ × List Stored → Type 0
 IsGivenEntry e = list_all is_given e.1 ≡ true

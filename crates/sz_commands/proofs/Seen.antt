@@ -22,6 +22,11 @@ seen c rs end = record { held = c; logged = logged_in rs; stored = stored_in rs;
 abbrev pub told : List Kept → Holdings × Response → SessionState × Response
 told ks p = (record { held = p.0; logged = ks; stored = []; end = None }, p.1)
 
+-- a command that no rule refuses by what is seen, none refuses by what is held
+pub free-inside : {s t : SessionState} (command : Command) → s ≡ t → judged t.held command ≡ None
+    → judged s.held command ≡ None
+free-inside command is free = ap (λ (x : SessionState). judged x.held command) is ∙ free
+
 -- a version whose await no rule refuses is held
 pub is-held : (c : Holdings) (n : ℕ) → judged c (order.Await n) ≡ None → has_no_version c n ≡ false
 is-held c n none = (rule-fails (has_no_version c n) refusal.NoSuchVersion [] none).0

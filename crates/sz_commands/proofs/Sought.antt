@@ -16,39 +16,34 @@ use Rattle.sz_versions.specs.Inquiries.{IsInquiryBy}
 use Rattle.sz_versions.proofs.Inquiries.{found-cells, found-ways, found-traced, found-least, found-most}
 use Rattle.sz_versions.proofs.FromLogs.{recalled-cells, recalled-ways, recalled-traced}
 
--- the cells
-pub sought-cells : (k : Option (List (Option NodeLineage))) (v : Version) (dir : Dir) (path : List Step)
-    (named : List NamedCell) (s : Search) (f : Found) → IsInquiryBy k v dir path named s → IsAnswerTo s f
-    → f.cells ≡ cells_by k v dir path named
-sought-cells None v dir path named s f h a = found-cells v dir path named s f h a
-sought-cells (Some stores) v dir path named s f h a = recalled-cells v stores dir path named s f h.1 a
+-- what is found along a path: its cells; by which way each step went and how many cells are told as traced, once the
+-- version is awaited; and how many these are at least and at most
+pub record IsSought (k : Option (List (Option NodeLineage))) (v : Version) (dir : Dir) (path : List Step)
+    (named : List NamedCell) (f : Found) : Type 0 where
+  pub cells : f.cells ≡ cells_by k v dir path named
+  pub ways : v.awaited ≡ true → map strategy_told f.used ≡ map (way_of v dir) path
+  pub told : v.awaited ≡ true → f.traced ≡ traced v dir path
+  pub least : traced v dir path ≤ f.traced
+  pub most : f.traced ≤ most_traced v dir path
 
--- by which way each step went, once the version is awaited
-pub sought-ways : (k : Option (List (Option NodeLineage))) (v : Version) (dir : Dir) (path : List Step)
+pub sought : (k : Option (List (Option NodeLineage))) (v : Version) (dir : Dir) (path : List Step)
     (named : List NamedCell) (s : Search) (f : Found) → IsInquiryBy k v dir path named s → IsAnswerTo s f
-    → v.awaited ≡ true → map strategy_told f.used ≡ map (way_of v dir) path
-sought-ways None v dir path named s f h a awaited = found-ways v dir path named s f h a awaited
-sought-ways (Some stores) v dir path named s f h a awaited = recalled-ways v stores dir path named s f h.1 a
-
--- how many cells are told as traced
-pub sought-traced : (k : Option (List (Option NodeLineage))) (v : Version) (dir : Dir) (path : List Step)
-    (named : List NamedCell) (s : Search) (f : Found) → IsInquiryBy k v dir path named s → IsAnswerTo s f
-    → v.awaited ≡ true → f.traced ≡ traced v dir path
-sought-traced None v dir path named s f h a awaited = found-traced v dir path named s f h a awaited
-sought-traced (Some stores) v dir path named s f h a awaited = recalled-traced v stores dir path named s f h.1 a
-
-pub sought-least : (k : Option (List (Option NodeLineage))) (v : Version) (dir : Dir) (path : List Step)
-    (named : List NamedCell) (s : Search) (f : Found) → IsInquiryBy k v dir path named s → IsAnswerTo s f
-    → traced v dir path ≤ f.traced
-sought-least None v dir path named s f h a = found-least v dir path named s f h a
-sought-least (Some stores) v dir path named s f h a =
-    omega (arith, recalled-traced v stores dir path named s f h.1 a)
-
-pub sought-most : (k : Option (List (Option NodeLineage))) (v : Version) (dir : Dir) (path : List Step)
-    (named : List NamedCell) (s : Search) (f : Found) → IsInquiryBy k v dir path named s → IsAnswerTo s f
-    → f.traced ≤ most_traced v dir path
-sought-most None v dir path named s f h a = found-most v dir path named s f h a
-sought-most (Some stores) v dir path named s f h a =
+    → IsSought k v dir path named f
+sought None v dir path named s f h a = record {
+  cells = found-cells v dir path named s f h a;
+  ways = λ awaited. found-ways v dir path named s f h a awaited;
+  told = λ awaited. found-traced v dir path named s f h a awaited;
+  least = found-least v dir path named s f h a;
+  most = found-most v dir path named s f h a;
+}
+sought (Some stores) v dir path named s f h a =
+    let told = recalled-traced v stores dir path named s f h.1 a in
     let most : most_traced v dir path ≡ traced v dir path =
     ap (λ (b : Bool). if b then traced v dir path else sizes_along v path) h.0 in
-    omega (arith, most, recalled-traced v stores dir path named s f h.1 a)
+    record {
+      cells = recalled-cells v stores dir path named s f h.1 a;
+      ways = λ awaited. recalled-ways v stores dir path named s f h.1 a;
+      told = λ awaited. told;
+      least = omega (arith, told);
+      most = omega (arith, most, told);
+    }

@@ -1,9 +1,9 @@
 -- What a session does with what a line gives is what it does with the line.
-use Rattle.std.proofs.Common.{◌≡◌, ℕ, List, Option, Some, None, refl, ap, ◌∙◌}
+use Rattle.std.proofs.Common.{ℕ, List, Option, Some, None, ap, ◌∙◌}
 use Rattle.sz_catalogue.specs.declared.reply.Reply.{Reply}
 use Rattle.sz_commands.specs.States.{SessionState, after_reading}
-use Rattle.sz_commands.specs.Commands.{Responds, traced_for_line, most_for_line}
-use Rattle.sz_commands.specs.Given.{LineGives, Takes, traced_for_given, most_for_given}
+use Rattle.sz_commands.specs.Commands.{Responds}
+use Rattle.sz_commands.specs.Given.{LineGives, Takes}
 use Rattle.sz_commands.specs.declared.session.Given.{Given}
 use Rattle.sz_commands.specs.declared.session.Given.TheVariants as given
 
@@ -18,17 +18,3 @@ takes-responds c new line (given.Ask ask) None h t = absurd t
 takes-responds c new line (given.Ask ask) (Some r) h t = (h.0, ap (after_reading c) h.1 ∙ t)
 takes-responds c new line (given.Other order) None h t = absurd t
 takes-responds c new line (given.Other order) (Some r) h t = (h.0, ap (after_reading c) h.1 ∙ t)
-
-pub traced-given : (c : SessionState) (line : List ℕ) (g : Given) → LineGives line g
-    → traced_for_line c line ≡ traced_for_given c g
-traced-given c line given.Nothing h = rw h refl
-traced-given c line (given.Refused rule) h = rw (h.0, h.1) refl
-traced-given c line (given.Ask ask) h = rw (h.0, h.1) refl
-traced-given c line (given.Other order) h = rw (h.0, h.1) refl
-
-pub most-given : (c : SessionState) (line : List ℕ) (g : Given) → LineGives line g
-    → most_for_line c line ≡ most_for_given c g
-most-given c line given.Nothing h = rw h refl
-most-given c line (given.Refused rule) h = rw (h.0, h.1) refl
-most-given c line (given.Ask ask) h = rw (h.0, h.1) refl
-most-given c line (given.Other order) h = rw (h.0, h.1) refl

@@ -2,12 +2,11 @@
 --
 -- The key idea: a feed of no log owes nothing, and of a session of a log each call is one of lines that were answered:
 -- none, the one that ended, or those of a call and then those of another, from the moment that the first left.
-use Rattle.std.proofs.Common.{◌≡◌, ℕ, ◌≤◌, ◌<◌, List, [], ◌∷◌, ◌++◌, length, take, drop}
+use Rattle.std.proofs.Common.{◌≡◌, ℕ, ◌<◌, List, [], ◌∷◌, ◌++◌, length, take, drop}
 use Rattle.std.proofs.Common.{Option, None, Some, refl, sym, ap, ◌∙◌, subst, inl, inr, arith}
 use Rattle.std.proofs.lemmas.Bool.{cases_Bool}
 use Rattle.std.proofs.lemmas.List.{take-append-drop}
 use Rattle.sz_outside.specs.Outside.{Says}
-use Rattle.sz_outside.specs.Disk.{Told, Said}
 use Rattle.sz_outside.specs.declared.stations.Station.{Ghosts}
 use Rattle.sz_script.specs.Reading.{reading}
 use Rattle.sz_catalogue.specs.Holdings.{Holdings}
@@ -28,19 +27,11 @@ use Rattle.sz_commands.proofs.Logged.{log-again}
 use Rattle.sz_feed.proofs.Moments.{cut_after-parts}
 use Rattle.sz_commands.proofs.States.{reading-apart}
 use Rattle.sz_feed.proofs.Turns.{line-only, told-line, moment-line, says-nothing}
+use Rattle.sz_feed.proofs.Passes.{FindsNow, CountsNow}
 use Rattle.sz_feed.proofs.Running.{goes-then, goes-still, goes-said, finds-then, finds-longer, finds-alike}
 use Rattle.sz_feed.proofs.Running.{finds-still, finds-taken, finds-said}
 
 -- ---- the log
-
--- what a station tells of now
-abbrev OnlyNow : {X : Type 0} → Ghosts X → X → Type 0
-OnlyNow T a = (image found : List ℕ) → Told (T.disk a)
-    (T.left_since a (T.moment a) image found → T.may_leave a image × Said (T.said a) found)
-
-abbrev CountsNow : {X : Type 0} → Ghosts X → X → Type 0
-CountsNow T a = (t : ℕ) (image found : List ℕ) → Told (T.disk a)
-    (t ≤ T.moment a → T.may_leave a image → Said (T.said a) found → T.left_since a t image found)
 
 beside-none : {X : Type 0} (T : Ghosts X) (c d : Holdings) (e f : Option LogPlace) (a b : X) → e ≡ None → f ≡ None
     → GoesBeside T c e d f a b
@@ -181,26 +172,18 @@ pub in-none : {X : Type 0} (T : Ghosts X) (m : Moment) (bytes : List ℕ) (a b :
 in-none {X} T m bytes a b plain = some-none m.end _ plain
 
 still-in : {X : Type 0} (T : Ghosts X) (s : SessionState) (n : ℕ) (lines : List (List ℕ)) (e : Option LogPlace) (a : X)
-    → HasLog T s.held e a → OnlyNow T a → CountsNow T a → IfSome e (λ at. FindsLines T at s n lines a a)
+    → HasLog T s.held e a → FindsNow T a → CountsNow T a → IfSome e (λ at. FindsLines T at s n lines a a)
 still-in {X} T s n lines None a log only counts = tt
 still-in {X} T s n lines (Some at) a log only counts = finds-still T at s n lines a log only counts
 
 -- where no call is made no line is answered
 pub in-still : {X : Type 0} (T : Ghosts X) (m : Moment) (bytes : List ℕ) (a : X) → IsBeside T m a
-    → ((image found : List ℕ) → Told (T.disk a)
-    (T.left_since a (T.moment a) image found → T.may_leave a image × Said (T.said a) found))
-    → ((t : ℕ) (image found : List ℕ) → Told (T.disk a)
-    (t ≤ T.moment a → T.may_leave a image → Said (T.said a) found → T.left_since a t image found))
-    → FindsIn T m bytes a a
+    → FindsNow T a → CountsNow T a → FindsIn T m bytes a a
 in-still {X} T m bytes a log only counts =
     still-in T m.held m.number (cut_after m bytes).whole m.end a log only counts
 
 pub end-still : {X : Type 0} (T : Ghosts X) (m : Moment) (a : X) → IsBeside T m a
-    → ((image found : List ℕ) → Told (T.disk a)
-    (T.left_since a (T.moment a) image found → T.may_leave a image × Said (T.said a) found))
-    → ((t : ℕ) (image found : List ℕ) → Told (T.disk a)
-    (t ≤ T.moment a → T.may_leave a image → Said (T.said a) found → T.left_since a t image found))
-    → FindsAtEnd T m a a
+    → FindsNow T a → CountsNow T a → FindsAtEnd T m a a
 end-still {X} T m a log only counts = still-in T m.held m.number (last_line m.pending) m.end a log only counts
 
 -- what is held after a line does not depend on where a log ends

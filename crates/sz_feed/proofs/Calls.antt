@@ -21,14 +21,15 @@ use Rattle.sz_feed.specs.Moments.{Moment, cut_after, told_in}
 use Rattle.sz_feed.specs.Serving.{SaysFirst, line_to_say}
 use Rattle.sz_feed.specs.Disks.{OnlySays}
 use Rattle.sz_feed.specs.Waiting.{stop_halt, Waits}
-use Rattle.sz_feed.specs.Running.{IfSome, FindsLines, FindsIn, StaysBeside}
+use Rattle.sz_feed.specs.Running.{IfSome, FindsLines, FindsIn, IsBeside, StaysBeside}
 use Rattle.sz_feed.specs.Calls.{CountsStand, CountsTell, SaysText, SaysReplies, FindsBehind, IsSaid, IsAnswered}
 use Rattle.sz_feed.specs.declared.feed.Halt.{Halt}
 use Rattle.sz_feed.specs.declared.feed.Halt.TheVariants as halt
 use Rattle.sz_feed.proofs.Turns.{says-nothing, told-line, take-line}
-use Rattle.sz_feed.proofs.Disks.{only-front}
+use Rattle.sz_feed.proofs.Passes.{FindsNow, CountsNow}
+use Rattle.sz_feed.proofs.Disks.{stays-still, only-front}
 use Rattle.sz_feed.proofs.Waiting.{only-waiting}
-use Rattle.sz_feed.proofs.Beside.{in-front, in-more, in-waits, none-stays, stays-none, some-none}
+use Rattle.sz_feed.proofs.Beside.{in-still, in-front, in-more, in-waits, none-stays, stays-none, some-none}
 
 -- ---- how a call ends
 
@@ -147,6 +148,26 @@ pub behind-lines : {X : Type 0} (T : Ghosts X) (e : Option LogPlace) (first : Li
     → IfSome e (λ at. FindsLines T at s n lines a b)
 behind-lines {X} T None first s n lines a b found = tt
 behind-lines {X} T (Some at) first s n lines a b found = found
+
+-- where no call is made of the station: the call ended well, or there was no memory
+pub said-none : {X : Type 0} (T : Ghosts X) (u : Unit {0}) (text : List ℕ) (a : X) → FindsNow T a → CountsNow T a
+    → IsSaid T (Ok u) text a a
+said-none {X} T u text a only counts =
+    record { counted = (refl, refl); plain = λ is. cc; found = stays-still T text a only counts }
+
+pub said-halted : {X : Type 0} (T : Ghosts X) (text : List ℕ) (a : X) → FindsNow T a → CountsNow T a
+    → IsSaid T (ended (Unit {0}) halt.NoMemory) text a a
+said-halted {X} T text a only counts =
+    record { counted = (refl, refl); plain = λ is. cc; found = stays-still T text a only counts }
+
+-- and where a line could not be read
+pub answered-halted : {X : Type 0} (T : Ghosts X) (m n : Moment) (first bytes : List ℕ) (a : X) → IsBeside T m a
+    → FindsNow T a → CountsNow T a
+    → IsAnswered T (ended (Unit {0}) halt.NoMemory) m n first (cut_after m bytes).whole a a
+answered-halted {X} T m n first bytes a beside only counts =
+    answered-memory T halt.NoMemory m n first (cut_after m bytes).whole a a refl (refl, refl)
+    (behind-of T m.end first m.held m.number (cut_after m bytes).whole a a
+    (λ e. stays-still T _ a only counts) (in-still T m bytes a beside only counts))
 
 -- the front of some bytes was taken in
 pub behind-front : {X : Type 0} (T : Ghosts X) (l : Moment) (xs : List ℕ) (n : ℕ) (a b : X)

@@ -1,15 +1,15 @@
 -- A disk that nothing touches stays, from say to say.
 --
--- The key idea: a say passes with no change of the image; of two such passes, what a stop leaves in the second follows
--- from what might have been left between them, and so from what might have been left before the first. And what a
--- stop found said is told by the lemmas on a say that stopped in the middle: it is as if it had failed there.
+-- The key idea: a say passes with no change of the image, and so do two of them, one behind the other. And what a stop
+-- found said is told by the lemmas on a say that stopped in the middle: it is as if it had failed there.
 use Rattle.std.proofs.Common.{◌≡◌, ℕ, ◌+◌, ◌-◌, ◌≤◌, ◌<◌, List, [], ◌∷◌, ◌++◌, length, take, drop, get_or}
-use Rattle.std.proofs.Common.{Option, None, Some, refl, sym, ap, ◌∙◌, subst, inl, inr, ⊎_elim, arith}
+use Rattle.std.proofs.Common.{Option, None, Some, refl, sym, ap, ◌∙◌, subst, inl, arith}
 use Rattle.std.proofs.lemmas.List.{append-nil, take-append-drop}
 use Rattle.sz_outside.specs.Outside.{SaysPart, Gives}
 use Rattle.sz_outside.specs.Disk.{Told, Passes, Follows, Same, Said, SaidPart}
 use Rattle.sz_outside.specs.declared.stations.Station.{Ghosts}
 use Rattle.sz_log.specs.Steps.{MakesIfFree}
+use Rattle.sz_log.proofs.Moments.{seen_as}
 use Rattle.sz_commands.specs.Transcript.{transcript}
 use Rattle.sz_feed.specs.Moments.{Moment, told_in, told_at_end}
 use Rattle.sz_commands.specs.States.{SessionState}
@@ -18,76 +18,9 @@ use Rattle.sz_feed.specs.Making.{ready_line}
 use Rattle.sz_feed.specs.Disks.{StaysFinding, DiskStays, OnlySays, FoundInPart, StopsMaking}
 use Rattle.sz_commands.specs.Stops.{StopsFinding}
 use Rattle.sz_commands.proofs.Stops.{told-more, pass-still}
+use Rattle.sz_feed.proofs.Passes.{Images, FindsNow, CountsNow, told-both, pass-finds, pass-then}
 use Rattle.sz_feed.proofs.Turns.{part-longer, part-more, advances-then, advances-part, take-line}
 use Rattle.sz_feed.proofs.Told.{turn-in_part, end-in_part, answered-in_part}
-
-abbrev Since : Type 1
-Since = ℕ → List ℕ → List ℕ → Type 0
-
-abbrev Images : Type 1
-Images = List ℕ → Type 0
-
-told-both : (o : Option (List ℕ)) (A B C : Type 0) → (A → B → C) → Told o A → Told o B → Told o C
-told-both None A B C f p q = tt
-told-both (Some d) A B C f p q = f p q
-
--- an image that stays as it is is one of those before
-same-follows : (A : Images) (image : List ℕ) → Follows Same A image → A image
-same-follows A image (old, was, is) = subst A (sym is) was
-
--- a pass that finds so much finds what follows of it
-pass-finds : {n m : ℕ} {past since : Since} {A B : Images} (F G : List ℕ → Type 0)
-    → ((said : List ℕ) → F said → G said)
-    → Passes n m past since A B Same F → Passes n m past since A B Same G
-pass-finds {n} {m} {past} {since} {A} {B} F G more p = record {
-  later = p.later;
-  joined = p.joined;
-  kept = p.kept;
-  earlier = p.earlier;
-  within = λ image said left. ((p.within image said left).0, more said (p.within image said left).1);
-  images = p.images;
-}
-
--- a pass that changes no image makes no other log than the making may
-pass-makes : {n m : ℕ} {past since : Since} {A B : Images} {F : List ℕ → Type 0}
-    → Passes n m past since A B Same F → Passes n m past since A B MakesIfFree F
-pass-makes {n} {m} {past} {since} {A} {B} {F} p =
-    let made : (image : List ℕ) → Follows Same A image → Follows MakesIfFree A image =
-    λ image (old, was, is). (old, was, inl is) in
-    record {
-      later = p.later;
-      joined = p.joined;
-      kept = p.kept;
-      earlier = p.earlier;
-      within = λ image said left. (made image (p.within image said left).0, (p.within image said left).1);
-      images = λ image left. made image (p.images image left);
-    }
-
--- one pass behind another
-pass-then : {n m k : ℕ} {past half since : Since} {A B C : Images} (F : List ℕ → Type 0)
-    → Passes n m past half A B Same F → Passes m k half since B C Same F
-    → Passes n k past since A C Same F
-pass-then {n} {m} {k} {past} {half} {since} {A} {B} {C} F one two = record {
-  later = omega (arith, one.later, two.later);
-  joined = λ t image said le left. ⊎_elim
-      (λ was. ⊎_elim inl (λ in_first. inr (two.kept n image said one.later in_first))
-      (one.joined t image said le was))
-      (λ in_second. inr (two.earlier n image said one.later in_second))
-      (two.joined t image said (omega (arith, le, one.later)) left);
-  kept = λ t image said le was. two.kept t image said (omega (arith, le, one.later)) (one.kept t image said le was);
-  earlier = λ t image said le left. ⊎_elim
-      (λ in_first. two.kept t image said (omega (arith, le, one.later)) (one.earlier t image said le in_first))
-      (λ in_second. two.earlier t image said (omega (arith, le, one.later)) in_second)
-      (two.joined n image said one.later left);
-  within = λ image said left. ⊎_elim
-      (λ in_first. one.within image said in_first)
-      (λ in_second. (
-        one.images image (same-follows B image (two.within image said in_second).0),
-        (two.within image said in_second).1,
-      ))
-      (two.joined n image said one.later left);
-  images = λ image left. one.images image (same-follows B image (two.images image left));
-}
 
 -- two steps that leave the disk as it reads, one behind the other
 pub stops-both : {X : Type 0} (T : Ghosts X) (F : List ℕ → Type 0) (a b c : X) → T.disk b ≡ T.disk a
@@ -104,7 +37,7 @@ pub stays-finding : {X : Type 0} (T : Ghosts X) (F G : List ℕ → Type 0) (a b
 stays-finding {X} T F G a b more one = record {
   reads = one.reads;
   quiet = one.quiet;
-  stops = told-more (T.disk a) _ _ (λ passes. pass-finds F G more passes) one.stops;
+  stops = told-more (T.disk a) _ _ (λ passes. pass-finds more passes) one.stops;
 }
 
 -- the disk stays in two steps where it stays in each
@@ -132,7 +65,7 @@ pub stops-silent : {X : Type 0} (T : Ghosts X) (bytes : List ℕ) (a b : X)
     → StopsFinding T Same (λ found. SaysPart (T.said a) (Some found) bytes) a b
 stops-silent {X} T bytes a b stops =
     told-more (T.disk a) _ _
-    (λ passes. pass-finds (Said (T.said a)) _ (λ found was. said-part (T.said a) bytes found was) passes) stops
+    (λ passes. pass-finds (λ found was. said-part (T.said a) bytes found was) passes) stops
 
 -- a first part of what a say says
 part-part : (a : Option (List ℕ)) (bytes found : List ℕ) → SaidPart a bytes found → SaysPart a (Some found) bytes
@@ -141,16 +74,12 @@ part-part (Some all) bytes found (n, le, is) = (n, le, ap (λ (xs : List ℕ). S
 
 -- where no call is made nothing is done
 pub stays-still : {X : Type 0} (T : Ghosts X) (bytes : List ℕ) (a : X)
-    → ((image found : List ℕ) → Told (T.disk a)
-    (T.left_since a (T.moment a) image found → T.may_leave a image × Said (T.said a) found))
-    → ((t : ℕ) (image found : List ℕ) → Told (T.disk a)
-    (t ≤ T.moment a → T.may_leave a image → Said (T.said a) found → T.left_since a t image found))
-    → OnlySays T bytes a a
+    → FindsNow T a → CountsNow T a → OnlySays T bytes a a
 stays-still {X} T bytes a only counts = record {
   reads = refl;
   quiet = refl;
   stops = told-more (T.disk a) _ _
-      (λ passes. pass-finds (Said (T.said a)) _ (λ found was. said-part (T.said a) bytes found was) passes)
+      (λ passes. pass-finds (λ found was. said-part (T.said a) bytes found was) passes)
       (pass-still (T.disk a) (T.said a) (T.moment a) (T.left_since a) (T.may_leave a) only counts);
 }
 
@@ -164,22 +93,21 @@ stays-said {X} T bytes a b disk stops = record {
   reads = disk.0;
   quiet = disk.1;
   stops = told-more (T.disk a) _ _
-      (λ passes. pass-finds (SaidPart (T.said a) bytes) _ (λ found part. part-part (T.said a) bytes found part) passes)
+      (λ passes. pass-finds (λ found part. part-part (T.said a) bytes found part) passes)
       stops;
 }
 
 -- ---- the making of a log
 
+makes-same : (A : Images) (image : List ℕ) → Follows Same A image → Follows MakesIfFree A image
+makes-same A image (old, was, is) = (old, was, inl is)
+
 -- where no call is made nothing is made either
 pub making-still : {X : Type 0} (T : Ghosts X) (a : X)
-    → ((image found : List ℕ) → Told (T.disk a)
-    (T.left_since a (T.moment a) image found → T.may_leave a image × Said (T.said a) found))
-    → ((t : ℕ) (image found : List ℕ) → Told (T.disk a)
-    (t ≤ T.moment a → T.may_leave a image → Said (T.said a) found → T.left_since a t image found))
-    → StopsMaking T a a
+    → FindsNow T a → CountsNow T a → StopsMaking T a a
 making-still {X} T a only counts =
-    told-more (T.disk a) _ _
-    (λ passes. pass-makes passes) (stays-still T ready_line a only counts).stops
+    told-more (T.disk a) _ _ (λ passes. seen_as passes (makes-same (T.may_leave a)))
+    (stays-still T ready_line a only counts).stops
 
 -- ---- lines
 

@@ -3,6 +3,7 @@ pub mod Waiting
 pub mod Cuts
 pub mod Turns
 pub mod Told
+pub mod Passes
 pub mod Disks
 pub mod LawsLines
 pub mod LawsSessions

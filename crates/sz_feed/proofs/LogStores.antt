@@ -64,16 +64,13 @@ nodes-hold : (format : ℕ) (sites : List Site) (lists : List (List Strategy)) (
     (bytes : List ℕ) (at next : ℕ) → FitNodes sites lists stores
     → BeginNodes format sites bytes at next (parts_of lists stores) → All HasEachHolding stores
 nodes-hold format [] [] [] bytes at next fit begin = All-nil HasEachHolding
-nodes-hold format [] [] (k ∷ stores) bytes at next fit begin = absurd fit
-nodes-hold format [] (l ∷ lists) stores bytes at next fit begin = absurd fit
-nodes-hold format (s ∷ sites) [] stores bytes at next fit begin = absurd fit
-nodes-hold format (s ∷ sites) (l ∷ lists) [] bytes at next fit begin = absurd fit
 nodes-hold format (s ∷ sites) (l ∷ lists) (None ∷ stores) bytes at next fit begin =
     All-cons HasEachHolding None stores tt (nodes-hold format sites lists stores bytes begin.1 next fit.1 begin.5)
 nodes-hold format (s ∷ sites) (l ∷ lists) (Some kept ∷ stores) bytes at next fit begin =
     All-cons HasEachHolding (Some kept) stores
     (each-holds (spelling format) s (stored_in l) bytes begin.0 begin.1 kept.stores begin.4)
     (nodes-hold format sites lists stores bytes begin.1 next fit.1 begin.5)
+nodes-hold format _ _ _ bytes at next fit begin = absurd fit
 
 -- those of an entry
 abbrev pub HasHoldings : Kept → Type 0

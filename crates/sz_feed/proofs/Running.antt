@@ -12,7 +12,7 @@ use Rattle.std.proofs.lemmas.Bool.{cases_lt}
 use Rattle.std.proofs.lemmas.List.{append-nil, take-append-le, take_all}
 use Rattle.std.proofs.Math.Seq.{take-append-add}
 use Rattle.sz_outside.specs.Outside.{Says, SaysPart}
-use Rattle.sz_outside.specs.Disk.{Told, Passes, Follows, Same, Only, Said}
+use Rattle.sz_outside.specs.Disk.{Told, Passes, Same, Only, Said}
 use Rattle.sz_outside.specs.declared.stations.Station.{Ghosts}
 use Rattle.sz_catalogue.specs.Holdings.{Holdings}
 use Rattle.sz_recover.specs.Growing.{durable}
@@ -29,6 +29,7 @@ use Rattle.sz_feed.specs.Running.{IfSome, FoundBetween, FoundAt, PassesAmong, Fi
 use Rattle.sz_feed.proofs.LawsSessions.{replies-go_on, after_lines-append}
 use Rattle.sz_commands.proofs.Logged.{grown-same, still-only}
 use Rattle.sz_feed.proofs.Moments.{some_told-alike, some_left-alike, count-alike, last-alike}
+use Rattle.sz_feed.proofs.Passes.{Since, FindsNow, CountsNow, among-more, among-then, among-apart}
 use Rattle.sz_feed.proofs.Turns.{says-then, says-nothing}
 
 -- ---- logs that grow
@@ -244,31 +245,12 @@ found-last kept s n x y a image found h f =
       between = between-alike kept s s n n _ _ _ _ a image found refl here.0 there.0 here.1 there.1 f.between;
     }
 
--- no line was answered
-found-none : (kept : List Kept) (s : SessionState) (n : ℕ) (lines : List (List ℕ)) (a : Option (List ℕ))
-    (image found : List ℕ)
-    (at : LogPlace) → Said a found → IsWellMade image at.gate at.format (durable s.held) kept → FoundAt kept s n lines a
-    image found
-found-none kept s n lines a image found at said made = record {
-  many = 0;
-  within = omega arith;
-  between = record {
-    bytes = 0;
-    whole = omega arith;
-    part = omega arith;
-    said = quiet a said;
-    holds = inl (refl, (at, grown-same s.held s.held kept image at refl made));
-  };
-} where
-  quiet : (a : Option (List ℕ)) → Said a found → Says a (Some found) []
-  quiet None is = tt
-  quiet (Some all) is = ap (λ (xs : List ℕ). Some xs) (is ∙ sym (append-nil all))
-
--- a line was taken or not, with nothing said
-found-taken : (kept : List Kept) (s : SessionState) (n : ℕ) (line : List ℕ) (a : Option (List ℕ)) (image found : List ℕ)
-    → Said a found → IsLeft s.held kept image s.held ⊎ IsLeft s.held kept image (after_lines s (line ∷ [])).held
-    → FoundAt kept s n (line ∷ []) a image found
-found-taken kept s n line a image found said left = record {
+-- nothing was said, and the first line was taken or not
+found-quiet : (kept : List Kept) (s : SessionState) (n : ℕ) (lines : List (List ℕ)) (a : Option (List ℕ))
+    (image found : List ℕ) → Said a found
+    → IsLeft s.held kept image s.held ⊎ IsLeft s.held kept image (after_lines s (take 1 lines)).held
+    → FoundAt kept s n lines a image found
+found-quiet kept s n lines a image found said left = record {
   many = 0;
   within = omega arith;
   between = record {
@@ -282,6 +264,20 @@ found-taken kept s n line a image found said left = record {
   quiet : (a : Option (List ℕ)) → Said a found → Says a (Some found) []
   quiet None is = tt
   quiet (Some all) is = ap (λ (xs : List ℕ). Some xs) (is ∙ sym (append-nil all))
+
+-- no line was answered
+found-none : (kept : List Kept) (s : SessionState) (n : ℕ) (lines : List (List ℕ)) (a : Option (List ℕ))
+    (image found : List ℕ)
+    (at : LogPlace) → Said a found → IsWellMade image at.gate at.format (durable s.held) kept → FoundAt kept s n lines a
+    image found
+found-none kept s n lines a image found at said made =
+    found-quiet kept s n lines a image found said (inl (at, grown-same s.held s.held kept image at refl made))
+
+-- a line was taken or not, with nothing said
+found-taken : (kept : List Kept) (s : SessionState) (n : ℕ) (line : List ℕ) (a : Option (List ℕ)) (image found : List ℕ)
+    → Said a found → IsLeft s.held kept image s.held ⊎ IsLeft s.held kept image (after_lines s (line ∷ [])).held
+    → FoundAt kept s n (line ∷ []) a image found
+found-taken kept s n line a image found said left = found-quiet kept s n (line ∷ []) a image found said left
 
 -- its reply was said, or a part of it
 found-said : (kept : List Kept) (s : SessionState) (n : ℕ) (line : List ℕ) (a : Option (List ℕ)) (image found : List ℕ)
@@ -308,63 +304,10 @@ found-said kept s n line a image found part left =
 
 -- ---- passes
 
-abbrev Since : Type 1
-Since = ℕ → List ℕ → List ℕ → Type 0
-
-abbrev Finding : Type 1
-Finding = List ℕ → List ℕ → Type 0
-
 -- what is told of a value, where there is one
 pub some-more : {A : Type 0} (o : Option A) (P Q : A → Type 0) → ((a : A) → P a → Q a) → IfSome o P → IfSome o Q
 some-more {A} None P Q f p = tt
 some-more {A} (Some a) P Q f p = f a p
-
--- a pass among more
-among-more : {n m : ℕ} {past since : Since} (A B : Finding) → ((image found : List ℕ) → A image found → B image found)
-    → PassesAmong n m past since A → PassesAmong n m past since B
-among-more {n} {m} {past} {since} A B more p = record {
-  later = p.later;
-  joined = p.joined;
-  kept = p.kept;
-  earlier = p.earlier;
-  within = λ image found left. more image found (p.within image found left);
-}
-
--- one pass behind another
-among-then : {n m k : ℕ} {past half since : Since} (A B C : Finding)
-    → ((image found : List ℕ) → A image found → C image found) → ((image found : List ℕ) → B image found
-    → C image found)
-    → PassesAmong n m past half A → PassesAmong m k half since B → PassesAmong n k past since C
-among-then {n} {m} {k} {past} {half} {since} A B C first second one two = record {
-  later = omega (arith, one.later, two.later);
-  joined = λ t image said le left. ⊎_elim
-      (λ was. ⊎_elim inl (λ in_first. inr (two.kept n image said one.later in_first))
-      (one.joined t image said le was))
-      (λ in_second. inr (two.earlier n image said one.later in_second))
-      (two.joined t image said (omega (arith, le, one.later)) left);
-  kept = λ t image said le was. two.kept t image said (omega (arith, le, one.later)) (one.kept t image said le was);
-  earlier = λ t image said le left. ⊎_elim
-      (λ in_first. two.kept t image said (omega (arith, le, one.later)) (one.earlier t image said le in_first))
-      (λ in_second. two.earlier t image said (omega (arith, le, one.later)) in_second)
-      (two.joined n image said one.later left);
-  within = λ image said left. ⊎_elim
-      (λ in_first. first image said (one.within image said in_first))
-      (λ in_second. second image said (two.within image said in_second))
-      (two.joined n image said one.later left);
-}
-
--- a pass that is told apart is one that is told together
-among-apart : {n m : ℕ} {past since : Since} {A B : List ℕ → Type 0} {step : Finding} {F : List ℕ → Type 0}
-    (C : Finding)
-    → ((image found : List ℕ) → Follows step A image → F found → C image found)
-    → Passes n m past since A B step F → PassesAmong n m past since C
-among-apart {n} {m} {past} {since} {A} {B} {step} {F} C both p = record {
-  later = p.later;
-  joined = p.joined;
-  kept = p.kept;
-  earlier = p.earlier;
-  within = λ image found left. both image found (p.within image found left).0 (p.within image found left).1;
-}
 
 -- what is found of a disk, while lines are answered
 abbrev FindsOn : Option (List ℕ) → LogPlace → SessionState → ℕ → List (List ℕ) → Option (List ℕ) → ℕ → ℕ → Since
@@ -458,11 +401,7 @@ still-on (Some disk) a at s n lines k since A synced only counts = λ kept made.
 -- where no call is made no line is answered
 pub finds-still : {X : Type 0} (T : Ghosts X) (at : LogPlace) (s : SessionState) (n : ℕ) (lines : List (List ℕ)) (a : X)
     → IsLogOf T s.held at a
-    → ((image found : List ℕ) → Told (T.disk a)
-    (T.left_since a (T.moment a) image found → T.may_leave a image × Said (T.said a) found))
-    → ((t : ℕ) (image found : List ℕ) → Told (T.disk a)
-    (t ≤ T.moment a → T.may_leave a image → Said (T.said a) found → T.left_since a t image found))
-    → FindsLines T at s n lines a a
+    → FindsNow T a → CountsNow T a → FindsLines T at s n lines a a
 finds-still {X} T at s n lines a log only counts =
     still-on (T.disk a) (T.said a) at s n lines (T.moment a) (T.left_since a) (T.may_leave a) log.synced only counts
 

@@ -32,7 +32,7 @@ use Rattle.sz_catalogue.specs.Starts.{workflow_of, bases_of, version_started}
 use Rattle.sz_catalogue.specs.Rules as rules
 use Rattle.sz_catalogue.specs.Rules.{judged, version_of, has_no_version}
 use Rattle.sz_catalogue.specs.Changes as changes
-use Rattle.sz_catalogue.specs.Changes.{changes_no_version, with_version, with_await}
+use Rattle.sz_catalogue.specs.Changes.{with_version, with_await}
 use Rattle.sz_catalogue.specs.Responses.{Response, cells, merged, reply_line}
 use Rattle.sz_catalogue.specs.Refreshes.{version_refreshed}
 use Rattle.sz_catalogue.specs.Merges.{is_merge_asked, kinds_told}
@@ -54,6 +54,7 @@ use Rattle.sz_versions.specs.Merging.{kinds_by, HasEachHolding, SoundStoresTellT
 use Rattle.sz_feed.specs.Running.{state_of_log}
 use Rattle.sz_versions.specs.Runs.{executions_of, IsSoundVersion, AreSound}
 use Rattle.sz_feed.specs.Laws.{SoundLogsArePlain}
+use Rattle.sz_commands.proofs.Lasting.{line-changes}
 use Rattle.sz_versions.proofs.Keeps.{rule-fails, not_false, flow-sound, version-sound, keeps-accepted}
 use Rattle.sz_versions.proofs.FromLogs.{recalled-sound}
 use Rattle.sz_feed.proofs.LogStores.{HasHoldings, logs-hold}
@@ -74,16 +75,6 @@ all-both P Q R xs turn all each = λ i d lt. turn _ (all i d lt) (each i d lt)
 
 -- ---- what a well-made log holds
 
--- a command whose line stands in a group changes no version
-line-kind : (kind : ℕ) (command : Command) → is_of_kind kind command ≡ true → changes_no_version command ≡ true
-line-kind kind (order.Array name array) is = refl
-line-kind kind (order.Csv name array) is = refl
-line-kind kind (order.Layers name array) is = refl
-line-kind kind (order.Flow name flow) is = refl
-line-kind kind (order.Strategy name node list) is = refl
-line-kind kind (order.Plan name base units back forward) is = refl
-line-kind kind _ is = cc
-
 -- behind a line that is taken all is sound
 line-sound : (c d : Holdings) (kind : ℕ) (line : List ℕ) (r : Result Command Refusal) → reading line ≡ r → AreSound c
     → held_by c kind r ≡ Some d → AreSound d
@@ -97,7 +88,7 @@ line-sound c d kind line (Ok command) read sound held =
       by true None own free here =
           let same : (changes.accepted c command).0 ≡ d = cc in
           subst AreSound same
-          (keeps-accepted c command sound (are_right line command read) free (line-kind kind command own))
+          (keeps-accepted c command sound (are_right line command read) free (line-changes kind command own))
 
 -- shapes that are not broken are those of outputs
 shapes-made : (r : Result (List Extent) ℕ) → is_some (result_err r) ≡ false → (es : List Extent) × (r ≡ Ok es)

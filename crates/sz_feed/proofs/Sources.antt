@@ -2,11 +2,10 @@
 --
 -- The key idea: between two reads a stop finds what is between the lines that ended in the bytes so far, from the
 -- opening of the session on; a turn goes on from there, and the end of the source from what all bytes left.
-use Rattle.std.proofs.Common.{◌≡◌, ℕ, ◌+◌, ◌≤◌, List, [], ◌∷◌, ◌++◌, take, drop, take-add}
+use Rattle.std.proofs.Common.{◌≡◌, ℕ, ◌+◌, List, [], ◌∷◌, ◌++◌, take, drop, take-add}
 use Rattle.std.proofs.Common.{Option, None, Some, refl, sym, ap, ◌∙◌, subst, inl, arith}
 use Rattle.std.proofs.lemmas.List.{take-append-drop, take_all}
 use Rattle.sz_outside.specs.Outside.{Gives}
-use Rattle.sz_outside.specs.Disk.{Told, Said}
 use Rattle.sz_outside.specs.declared.stations.Station.{Ghosts}
 use Rattle.sz_catalogue.specs.Holdings.{Holdings}
 use Rattle.sz_commands.specs.Lines.{Cut, cut, last_line, lines_of}
@@ -21,6 +20,7 @@ use Rattle.sz_feed.proofs.Cuts.{before_cut-nothing, lines_of-cut}
 use Rattle.sz_feed.proofs.Told.{so_far-advances, given-next}
 use Rattle.sz_feed.proofs.LawsSessions.{after_lines-append}
 use Rattle.sz_feed.proofs.Moments.{last-alike}
+use Rattle.sz_feed.proofs.Passes.{FindsNow, CountsNow}
 use Rattle.sz_feed.proofs.Running.{finds-then, finds-longer, finds-last, finds-still}
 use Rattle.sz_feed.proofs.Turns.{says-nothing}
 use Rattle.sz_feed.proofs.Beside.{in-none, in-still, in-then, in-front, is-moved, stays-from}
@@ -33,22 +33,14 @@ some-all {A} (Some a) P p = p a
 
 -- where no call is made
 pub rest-still : {X : Type 0} (T : Ghosts X) (m : Moment) (all : Option (List ℕ)) (total : ℕ) (a : X) → IsBeside T m a
-    → ((image found : List ℕ) → Told (T.disk a)
-    (T.left_since a (T.moment a) image found → T.may_leave a image × Said (T.said a) found))
-    → ((t : ℕ) (image found : List ℕ) → Told (T.disk a)
-    (t ≤ T.moment a → T.may_leave a image → Said (T.said a) found → T.left_since a t image found))
-    → FindsRest T m all total a a
+    → FindsNow T a → CountsNow T a → FindsRest T m all total a a
 rest-still {X} T m all total a log only counts =
     some-all all _ (λ bytes. in-still T m (drop total bytes) a log only counts)
 
 -- where no read was made
 pub all-still : {X : Type 0} (T : Ghosts X) (z : SessionState) (at : LogPlace) (all : Option (List ℕ)) (a : X)
     → IsLogOf T z.held at a
-    → ((image found : List ℕ) → Told (T.disk a)
-    (T.left_since a (T.moment a) image found → T.may_leave a image × Said (T.said a) found))
-    → ((t : ℕ) (image found : List ℕ) → Told (T.disk a)
-    (t ≤ T.moment a → T.may_leave a image → Said (T.said a) found → T.left_since a t image found))
-    → FindsAll T z (Some at) all a a
+    → FindsNow T a → CountsNow T a → FindsAll T z (Some at) all a a
 all-still {X} T z at all a log only counts =
     some-all all _ (λ bytes. finds-still T at z 1 (lines_of bytes) a log only counts)
 
@@ -109,11 +101,7 @@ answered-opened z e (Some bytes) said = record {
 -- before the first read
 pub read-start : {X : Type 0} (T : Ghosts X) (z : SessionState) (all left said : Option (List ℕ)) (m : Moment) (a : X)
     → Answered z all left said (T.said a) m 0 → IsBeside T m a
-    → ((image found : List ℕ) → Told (T.disk a)
-    (T.left_since a (T.moment a) image found → T.may_leave a image × Said (T.said a) found))
-    → ((t : ℕ) (image found : List ℕ) → Told (T.disk a)
-    (t ≤ T.moment a → T.may_leave a image → Said (T.said a) found → T.left_since a t image found))
-    → FindsRead T z m.end all 0 a a
+    → FindsNow T a → CountsNow T a → FindsRead T z m.end all 0 a a
 read-start {X} T z None left said m a so_far log only counts = tt
 read-start {X} T z (Some bytes) left said m a so_far log only counts =
     in-still T (opened z m.end) [] a (is-moved T m (opened z m.end) a (sym so_far.alike.held) refl log) only counts

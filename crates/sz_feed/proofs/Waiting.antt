@@ -6,7 +6,7 @@ use Rattle.std.proofs.Common.{◌≡◌, ℕ, ◌+◌, ◌-◌, ◌<◌, ◌≤�
 use Rattle.std.proofs.Common.{Option, None, Some, Result, Ok, Err, true, false, refl, sym, ap, ap₂, ◌∙◌, subst}
 use Rattle.std.proofs.Common.{⊎_elim, inl, inr, arith}
 use Rattle.std.proofs.Common.{append_assoc}
-use Rattle.std.proofs.lemmas.List.{append-nil, append_cancel_left, take-append-drop}
+use Rattle.std.proofs.lemmas.List.{append-nil, append_cancel_left, take-append-drop, length-take-le}
 use Rattle.std.proofs.lemmas.List.Concat.{flat_map-cons}
 use Rattle.std.proofs.lemmas.Grind.{flat_map-append}
 use Rattle.sz_outside.specs.Outside.{Says, SaysPart}
@@ -15,6 +15,7 @@ use Rattle.sz_script.specs.declared.command.Command.{Command}
 use Rattle.sz_script.specs.Reading.{reading}
 use Rattle.sz_catalogue.specs.declared.reply.Reply.{Reply}
 use Rattle.sz_commands.specs.States.{SessionState, apart, after_command}
+use Rattle.sz_versions.proofs.Keeping.{one-taken}
 use Rattle.sz_commands.proofs.States.{reply-apart}
 use Rattle.sz_catalogue.specs.Responses.{Response, reply_line}
 use Rattle.sz_catalogue.specs.Seen.{response_of}
@@ -128,6 +129,20 @@ told-more (k ∷ lines) (s ∷ replies) l r is =
     ap (λ (ys : List ℕ). reply_line k.number (response_of s) ++ ys) (told-more lines replies l r (omega (arith, is)))
     ∙ sym (append_assoc (reply_line k.number (response_of s)) (told_text lines replies)
     (reply_line l.number (response_of r)))
+
+-- those of the next line and of the reply beside it
+pub told-next : (lines : List AskLine) (replies : List Reply) (n : ℕ) (l : AskLine) (r : Reply) (text line : List ℕ)
+    → n < length lines → length replies ≡ length lines → l ≡ get_or lines n l → r ≡ get_or replies n r
+    → text ≡ told_text (take n lines) (take n replies) → line ≡ reply_line (get_or lines n l).number (response_of r)
+    → text ++ line ≡ told_text (take (n + 1) lines) (take (n + 1) replies)
+told-next lines replies n l r text line few same is_l is_r so_far told =
+    let below : n < length replies = omega (arith, few, same) in
+    let long : length (take n lines) ≡ length (take n replies) =
+    length-take-le n lines (omega (arith, few)) ∙ sym (length-take-le n replies (omega (arith, below))) in
+    ap₂ (λ (xs ys : List ℕ). xs ++ ys) so_far
+    (told ∙ ap (λ (x : AskLine). reply_line x.number (response_of r)) (sym is_l))
+    ∙ sym (told-more (take n lines) (take n replies) l r long)
+    ∙ sym (ap₂ told_text (one-taken lines n l few is_l) (one-taken replies n r below is_r))
 
 -- what a line that gives an ask replies, and leaves
 line-ask : (c : SessionState) (n : ℕ) (line : List ℕ) (ask : Command) → is_blank line ≡ false → reading line ≡ Ok ask

@@ -3,6 +3,7 @@
 -- The key idea: each store begins where the one before it ends, so what holds of one store holds of all of a list.
 use Rattle.std.proofs.Common.{◌≡◌, ℕ, ◌≤◌, List, [], ◌∷◌, ◌++◌, length, true, false, refl, sym, ap, ap₂, subst, ◌∙◌}
 use Rattle.std.proofs.Common.{arith}
+use Rattle.std.specs.Prelude.{◌↔◌}
 use Rattle.sz_cells.specs.Cells.{Cells}
 use Rattle.sz_cells.specs.SetBytes.{set_bytes}
 use Rattle.sz_spec.specs.declared.modes.Mode.{Mode}
@@ -185,58 +186,37 @@ payloads-after s bytes at next es begins = record {
   ends = begins.ends;
 }
 
-begins-before : (s : Site) (m : Mode) (bytes : List ℕ) (at next : ℕ) (h : Holding)
-    → BeginsBy set_bytes s m bytes at next h → Begins s m bytes at next h
-begins-before s mode.Full bytes at next (regions rs) begins = long-begins s.out s.ins bytes at next rs begins
-begins-before s mode.Full bytes at next (entries comp es) begins = absurd begins
-begins-before s mode.Pay bytes at next (regions rs) begins = absurd begins
-begins-before s mode.Pay bytes at next (entries true es) begins = absurd begins
-begins-before s mode.Pay bytes at next (entries false es) begins = payloads-before s bytes at next es begins
-begins-before s mode.Comp bytes at next (regions rs) begins = absurd begins
-begins-before s mode.Comp bytes at next (entries false es) begins = absurd begins
-begins-before s mode.Comp bytes at next (entries true es) begins = payloads-before s bytes at next es begins
-begins-before s mode.Map bytes at next h begins = absurd begins
-begins-before s mode.BlackBox bytes at next h begins = absurd begins
+-- what begins in neither
+nothing : {A : Type 0} → A ↔ A
+nothing = (λ a. a, λ a. a)
 
-begins-after : (s : Site) (m : Mode) (bytes : List ℕ) (at next : ℕ) (h : Holding)
-    → Begins s m bytes at next h → BeginsBy set_bytes s m bytes at next h
-begins-after s mode.Full bytes at next (regions rs) begins = begins-long s.out s.ins bytes at next rs begins
-begins-after s mode.Full bytes at next (entries comp es) begins = absurd begins
-begins-after s mode.Pay bytes at next (regions rs) begins = absurd begins
-begins-after s mode.Pay bytes at next (entries true es) begins = absurd begins
-begins-after s mode.Pay bytes at next (entries false es) begins = payloads-after s bytes at next es begins
-begins-after s mode.Comp bytes at next (regions rs) begins = absurd begins
-begins-after s mode.Comp bytes at next (entries false es) begins = absurd begins
-begins-after s mode.Comp bytes at next (entries true es) begins = payloads-after s bytes at next es begins
-begins-after s mode.Map bytes at next h begins = absurd begins
-begins-after s mode.BlackBox bytes at next h begins = absurd begins
+begins-as-before : (s : Site) (m : Mode) (bytes : List ℕ) (at next : ℕ) (h : Holding)
+    → BeginsBy set_bytes s m bytes at next h ↔ Begins s m bytes at next h
+begins-as-before s mode.Full bytes at next (regions rs) =
+    (long-begins s.out s.ins bytes at next rs, begins-long s.out s.ins bytes at next rs)
+begins-as-before s mode.Full bytes at next (entries comp es) = nothing
+begins-as-before s mode.Pay bytes at next (regions rs) = nothing
+begins-as-before s mode.Pay bytes at next (entries true es) = nothing
+begins-as-before s mode.Pay bytes at next (entries false es) =
+    (payloads-before s bytes at next es, payloads-after s bytes at next es)
+begins-as-before s mode.Comp bytes at next (regions rs) = nothing
+begins-as-before s mode.Comp bytes at next (entries false es) = nothing
+begins-as-before s mode.Comp bytes at next (entries true es) =
+    (payloads-before s bytes at next es, payloads-after s bytes at next es)
+begins-as-before s mode.Map bytes at next h = nothing
+begins-as-before s mode.BlackBox bytes at next h = nothing
 
-pub each-before : (s : Site) (ts : List Strategy) (bytes : List ℕ) (at next : ℕ) (fs : List Keep)
-    → BeginEachBy set_bytes s ts bytes at next fs → BeginEach s ts bytes at next fs
-each-before s [] bytes at next [] begin = begin
-each-before s [] bytes at next (f ∷ fs) begin = absurd begin
-each-before s (t ∷ ts) bytes at next [] begin = absurd begin
-each-before s (t ∷ ts) bytes at next (f ∷ fs) begin = (
-  begin.0,
-  begin.1,
-  begin.2,
-  begins-before s (mode_of t) bytes at begin.0 f.holding begin.3,
-  each-before s ts bytes begin.0 next fs begin.4,
-)
-
-pub each-after : (s : Site) (ts : List Strategy) (bytes : List ℕ) (at next : ℕ) (fs : List Keep)
-    → BeginEach s ts bytes at next fs → BeginEachBy set_bytes s ts bytes at next fs
-each-after s [] bytes at next [] begin = begin
-each-after s [] bytes at next (f ∷ fs) begin = absurd begin
-each-after s (t ∷ ts) bytes at next [] begin = absurd begin
-each-after s (t ∷ ts) bytes at next (f ∷ fs) begin = (
-  begin.0,
-  begin.1,
-  begin.2,
-  begins-after s (mode_of t) bytes at begin.0 f.holding begin.3,
-  each-after s ts bytes begin.0 next fs begin.4,
-)
+pub each-as-before : (s : Site) (ts : List Strategy) (bytes : List ℕ) (at next : ℕ) (fs : List Keep)
+    → BeginEachBy set_bytes s ts bytes at next fs ↔ BeginEach s ts bytes at next fs
+each-as-before s [] bytes at next [] = nothing
+each-as-before s [] bytes at next (f ∷ fs) = nothing
+each-as-before s (t ∷ ts) bytes at next [] = nothing
+each-as-before s (t ∷ ts) bytes at next (f ∷ fs) =
+    let one = λ (place : ℕ). begins-as-before s (mode_of t) bytes at place f.holding in
+    let more = λ (place : ℕ). each-as-before s ts bytes place next fs in (
+      λ begin. (begin.0, begin.1, begin.2, (one begin.0).0 begin.3, (more begin.0).0 begin.4),
+      λ begin. (begin.0, begin.1, begin.2, (one begin.0).1 begin.3, (more begin.0).1 begin.4),
+    )
 
 pub format-one : FormatOneIsAsBefore
-format-one s ts bytes at next fs =
-    (each-before s ts bytes at next fs, each-after s ts bytes at next fs)
+format-one = each-as-before

@@ -2,12 +2,12 @@
 --
 -- The key idea: no word of a part begins another, so two stores that begin at one place have the same tables, and as
 -- the same number of rows is as many bytes, the same bytes of names.
-use Rattle.std.proofs.Common.{◌≡◌, ℕ, ◌+◌, ◌*◌, ◌^◌, ◌≤◌, List, [], ◌∷◌, ◌++◌, length, drop, true, false, Bool}
-use Rattle.std.proofs.Common.{refl, sym, ap, ap₂, subst, ◌∙◌, arith, append_assoc, length-append, length-drop}
+use Rattle.std.proofs.Common.{◌≡◌, ℕ, ◌+◌, ◌*◌, ◌^◌, ◌≤◌, List, ◌∷◌, ◌++◌, length, drop, true, false, Bool}
+use Rattle.std.proofs.Common.{sym, ap, ap₂, subst, ◌∙◌, arith, append_assoc, length-drop}
 use Rattle.std.specs.Prelude.{◌==◌, if◌then◌else◌}
-use Rattle.std.specs.List.{All, AllZip, flat_map}
+use Rattle.std.specs.List.{AllZip, flat_map}
 use Rattle.std.proofs.lemmas.List.{append-nil, drop_all}
-use Rattle.std.proofs.lemmas.List.Elements.{All-head, All-tail}
+use Rattle.std.proofs.lemmas.List.Elements.{All-head}
 use Rattle.sz_cells.specs.Extent.{Extent, is_extent}
 use Rattle.sz_cells.specs.Cells.{Cells}
 use Rattle.sz_cells.specs.SetBytes.{IsSetOf, set_bytes, four_bytes}
@@ -26,7 +26,7 @@ use Rattle.sz_region.proofs.Spans.{counted-free, number-free}
 use Rattle.sz_short.specs.ShortSets.{short_set_bytes}
 use Rattle.sz_short.specs.ShortStores.{listed_by, AreFullParts, full_word, BeginsFull, ArePayParts, pay_word}
 use Rattle.sz_short.specs.ShortStores.{AreRowsOf}
-use Rattle.sz_short.proofs.Respelling.{AreKnownBy, long-known, short-known, listed-known, names-rows}
+use Rattle.sz_short.proofs.Respelling.{AreKnownBy, long-known, short-known, listed-known, names-rows, rows-long}
 use Rattle.sz_short.proofs.Respelling.{full-begins, long-begins}
 use Rattle.sz_short.proofs.RespellingPay.{pay-begins, long-pay}
 use Rattle.sz_formats.specs.Formats.{spelling}
@@ -57,19 +57,6 @@ at-word bytes at next word rest spelled ends inside = record {
   spelled = spelled ∙ ap (λ (w : List ℕ). word ++ w) (sym ends);
   within = inside;
 }
-
-row-long : (row : List ℕ) → length (flat_map four_bytes row) ≡ length row * 4
-row-long [] = refl
-row-long (n ∷ row) = omega (arith, row-long row)
-
-rows-long : (width : ℕ) (rows : List (List ℕ)) → All (λ row. length row ≡ width) rows
-    → length (flat_map (flat_map four_bytes) rows) ≡ length rows * width * 4
-rows-long width [] wide = omega arith
-rows-long width (row ∷ rows) wide =
-    let rest = rows-long width rows (All-tail (λ xs. length xs ≡ width) row rows wide) in
-    let here : length (flat_map four_bytes row) ≡ width * 4 =
-    row-long row ∙ ap (λ (n : ℕ). n * 4) (All-head (λ xs. length xs ≡ width) row rows wide) in
-    omega (arith, length-append (flat_map four_bytes row) (flat_map (flat_map four_bytes) rows), here, rest)
 
 -- rows of one width begin in one way
 rows-same : (width : ℕ) (a b : List (List ℕ)) (x y : List ℕ) → AreRowsOf width a → AreRowsOf width b

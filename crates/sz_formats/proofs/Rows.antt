@@ -1,5 +1,5 @@
 -- Rows: formats, and the stores of `neg` on one cell in the bytes of both, as they are by hand.
-use Rattle.std.proofs.Common.{◌≡◌, ℕ, List, [], ◌∷◌, ◌++◌, refl, true, false, arith}
+use Rattle.std.proofs.Common.{◌≡◌, ℕ, List, [], ◌∷◌, ◌++◌, drop, refl, true, false, arith}
 use Rattle.std.proofs.lemmas.List.Elements.{All-cons, All-nil}
 use Rattle.sz_cells.specs.Extent.{Extent, flat}
 use Rattle.sz_cells.specs.Cells.{Cells}
@@ -10,7 +10,7 @@ use Rattle.sz_spec.specs.Shapes.{Site}
 use Rattle.sz_frame.specs.Parts.{Pairing, Entry}
 use Rattle.sz_region.specs.FullBytes.{Listed, IsListed}
 use Rattle.sz_short.specs.ShortNumber.{short_number, short_within}
-use Rattle.sz_short.specs.ShortStores.{AreFullParts}
+use Rattle.sz_short.specs.ShortStores.{AreFullParts, full_word, BeginsFull}
 use Rattle.sz_store.specs.Kept.{Keep, regions, entries}
 use Rattle.sz_formats.specs.Formats.{is_format, other_than, spelling}
 use Rattle.sz_formats.specs.Twice.{AreTwice, from_format, span}
@@ -72,38 +72,24 @@ abbrev short : List ℕ
 short = 0 ∷ 0 ∷ 0 ∷ 2 ∷ 0 ∷ 1 ∷ 0 ∷ 0 ∷ 1 ∷ 1 ∷ 0 ∷ 0 ∷ 0 ∷ 0 ∷ 0 ∷ 1 ∷ 0 ∷ 0 ∷ 0 ∷ 0 ∷ 0 ∷ 0 ∷ 0 ∷ 1 ∷ []
 
 -- behind another byte, and before one more
+begins : (spell : Cells → List ℕ) (bytes : List ℕ) (next : ℕ)
+    → drop 1 bytes ≡ full_word spell (one ∷ other ∷ []) ((0 ∷ 1 ∷ []) ∷ []) ++ 7 ∷ [] → drop next bytes ≡ 7 ∷ []
+    → BeginsFull spell cell (cell ∷ []) bytes 1 next (pair ∷ [])
+begins spell bytes next spelled ends = record {
+  table = one ∷ other ∷ [];
+  names = (0 ∷ 1 ∷ []) ∷ [];
+  rest = 7 ∷ [];
+  are = parts;
+  spelled = spelled;
+  ends = ends;
+}
+
 in-format-1 : BeginEachIn 1 site (strategy.FullOneB ∷ []) (9 ∷ (long ++ 7 ∷ [])) 1 43 (keep ∷ [])
-in-format-1 = (
-  43,
-  omega arith,
-  refl,
-  record {
-    table = one ∷ other ∷ [];
-    names = (0 ∷ 1 ∷ []) ∷ [];
-    rest = 7 ∷ [];
-    are = parts;
-    spelled = refl;
-    ends = refl;
-  },
-  refl,
-)
+in-format-1 = (43, omega arith, refl, begins (spelling 1) (9 ∷ (long ++ 7 ∷ [])) 43 refl refl, refl)
 
 in-format-2 : BeginEachIn 2 site (strategy.FullOneB ∷ []) (9 ∷ (short ++ 7 ∷ [])) 1 25 (keep ∷ [])
 unfolding short_number short_within
-in-format-2 = (
-  25,
-  omega arith,
-  refl,
-  record {
-    table = one ∷ other ∷ [];
-    names = (0 ∷ 1 ∷ []) ∷ [];
-    rest = 7 ∷ [];
-    are = parts;
-    spelled = refl;
-    ends = refl;
-  },
-  refl,
-)
+in-format-2 = (25, omega arith, refl, begins (spelling 2) (9 ∷ (short ++ 7 ∷ [])) 25 refl refl, refl)
 
 -- the same store in both
 both : AreTwice (from_format 2) site (strategy.FullOneB ∷ []) (span short 0 24) (span long 0 42)

@@ -2,7 +2,7 @@
 --
 -- The key idea: in format 2 sets are short, and in any other they are not; the rest is the same fact.
 use Rattle.std.proofs.Common.{◌≡◌, ℕ, ◌++◌, List, [], ◌∷◌, length, true, false, Bool, refl, sym, ap, subst, ◌∙◌}
-use Rattle.std.specs.Prelude.{◌==◌, if◌then◌else◌, Result, Ok, Err, IfOk, OnErr}
+use Rattle.std.specs.Prelude.{◌==◌, if◌then◌else◌, Result, Ok, Err, IfOk, IfErr, OnErr}
 use Rattle.std.proofs.lemmas.Bool.{eqb-true}
 use Rattle.std.proofs.lemmas.List.{append-nil}
 use Rattle.sz_cells.specs.Extent.{Extent}
@@ -18,6 +18,7 @@ use Rattle.sz_frame.specs.Parts.{Entry}
 use Rattle.sz_region.specs.declared.set_bytes.Take.{Take}
 use Rattle.sz_region.specs.declared.set_bytes.Take.TheVariants.{Bad, NoMemory}
 use Rattle.sz_region.specs.Stores.{OnBad, SaysNoRegions, SaysNoEntries}
+use Rattle.sz_region.proofs.Spans.{on_bad-weaker}
 use Rattle.sz_short.specs.ShortSets.{short_set_bytes}
 use Rattle.sz_short.specs.ShortStores.{NoFullBegins, NoPayBegins, SaysNoShortFull, SaysNoShortPay, BeginsPay}
 use Rattle.sz_short.specs.ShortStores.{RespellsFull, RespellsPay, full_word, pay_word}
@@ -25,9 +26,9 @@ use Rattle.sz_short.proofs.Respelling.{long-begins}
 use Rattle.sz_short.proofs.RespellingPay.{long-pay}
 use Rattle.sz_store.specs.Kept.{Holding, regions, entries, Keep, stored_in}
 use Rattle.sz_formats.specs.Formats.{spelling, other_than}
-use Rattle.sz_formats.specs.Twice.{AreTwice, IsTwice, from_format, span}
-use Rattle.sz_formats.specs.Words.{BeginsPayloadsBy, BeginsBy, BeginEachBy, NoneBeginBy, NoneBeginIn}
-use Rattle.sz_formats.proofs.Twice.{full-twice, pay-twice}
+use Rattle.sz_formats.specs.Twice.{Spellings, Span, AreTwice, IsTwice, IsPayTwice, from_format, span}
+use Rattle.sz_formats.specs.Words.{BeginsBy, BeginEachBy, NoneBeginBy, NoneBeginIn}
+use Rattle.sz_formats.proofs.Twice.{full-twice, pay-twice, pay_mode, payloads-in}
 
 -- ---- spellings
 
@@ -103,9 +104,7 @@ said-long-pay f other o out bytes at e same says =
 abbrev pub keeps_store : Mode → Bool
 keeps_store mode.Map = false
 keeps_store mode.BlackBox = false
-keeps_store mode.Full = true
-keeps_store mode.Pay = true
-keeps_store mode.Comp = true
+keeps_store _ = true
 
 stored-by-mode : (t : Strategy) → is_stored t ≡ keeps_store (mode_of t)
 stored-by-mode strategy.Map = refl
@@ -136,26 +135,6 @@ one-each f s t m bytes at n old new rest is keeps twice =
       (refl, refl),
     )
 
-pub full-each : (f : ℕ) (s : Site) (t : Strategy) (bytes : List ℕ) (at n : ℕ) (old new rest : List ℕ)
-    → mode.Full ≡ mode_of t
-    → RespellsFull (spelling f) (spelling (other_than f)) s.out s.ins bytes at n old new
-    → AreTwice (from_format f) s (stored_in (t ∷ [])) (span bytes at n) (span (new ++ rest) (length old) (length new))
-full-each f s t bytes at n old new rest is again =
-    one-each f s t mode.Full bytes at n old new rest is refl
-    (full-twice (from_format f) s bytes at n old new rest again)
-
-pub pay-each : (f : ℕ) (s : Site) (t : Strategy) (bytes : List ℕ) (at n : ℕ) (old new rest : List ℕ)
-    → mode.Pay ≡ mode_of t → RespellsPay (spelling f) (spelling (other_than f)) s.out bytes at n old new
-    → AreTwice (from_format f) s (stored_in (t ∷ [])) (span bytes at n) (span (new ++ rest) (length old) (length new))
-pay-each f s t bytes at n old new rest is again =
-    one-each f s t mode.Pay bytes at n old new rest is refl (pay-twice (from_format f) s bytes at n old new rest again)
-
-pub comp-each : (f : ℕ) (s : Site) (t : Strategy) (bytes : List ℕ) (at n : ℕ) (old new rest : List ℕ)
-    → mode.Comp ≡ mode_of t → RespellsPay (spelling f) (spelling (other_than f)) s.out bytes at n old new
-    → AreTwice (from_format f) s (stored_in (t ∷ [])) (span bytes at n) (span (new ++ rest) (length old) (length new))
-comp-each f s t bytes at n old new rest is again =
-    one-each f s t mode.Comp bytes at n old new rest is refl (pay-twice (from_format f) s bytes at n old new rest again)
-
 -- a strategy that keeps no store has none
 stored-none : (t : Strategy) (m : Mode) → m ≡ mode_of t → keeps_store m ≡ false → stored_in (t ∷ []) ≡ []
 stored-none t m is keeps = rw (stored-by-mode t ∙ ap keeps_store (sym is) ∙ keeps) refl
@@ -167,21 +146,6 @@ pub nothing-each : (f : ℕ) (s : Site) (t : Strategy) (m : Mode) (bytes : List 
 nothing-each f s t m bytes at old rest is keeps =
     subst (λ (ts : List Strategy). AreTwice (from_format f) s ts (span bytes at at)
     (span (old ++ rest) (length old) (length old))) (sym (stored-none t m is keeps)) (refl, refl)
-
--- what was there stays in front
-pub full-front : (f : ℕ) (s : Site) (bytes : List ℕ) (at : ℕ) (old new : List ℕ) (r : Result ℕ Take)
-    → IfOk r (λ n. RespellsFull (spelling f) (spelling (other_than f)) s.out s.ins bytes at n old new)
-    → OnErr r (new ≡ old) → (more : List ℕ) × (new ≡ old ++ more)
-full-front f s bytes at old new (Ok n) again kept =
-    (full_word (spelling (other_than f)) again.table again.names, again.written)
-full-front f s bytes at old new (Err e) again kept = ([], kept ∙ sym (append-nil old))
-
-pub pay-front : (f : ℕ) (s : Site) (bytes : List ℕ) (at : ℕ) (old new : List ℕ) (r : Result ℕ Take)
-    → IfOk r (λ n. RespellsPay (spelling f) (spelling (other_than f)) s.out bytes at n old new)
-    → OnErr r (new ≡ old) → (more : List ℕ) × (new ≡ old ++ more)
-pay-front f s bytes at old new (Ok n) again kept =
-    (pay_word (spelling (other_than f)) again.payloads again.sets again.names, again.written)
-pay-front f s bytes at old new (Err e) again kept = ([], kept ∙ sym (append-nil old))
 
 -- where no store of its mode begins, none of the list of it does
 none-one : (spell : Cells → List ℕ) (s : Site) (t : Strategy) (m : Mode) (bytes : List ℕ) (at : ℕ) → m ≡ mode_of t
@@ -195,37 +159,96 @@ none-one spell s t m bytes at is keeps none next fs begin =
     first (k ∷ ks) b =
         none b.0 k.holding (subst (λ (x : Mode). BeginsBy spell s x bytes at b.0 k.holding) (sym is) b.3)
 
-pay-of : (spell : Cells → List ℕ) (s : Site) (bytes : List ℕ) (at next : ℕ) (es : List Entry)
-    → BeginsPayloadsBy spell s bytes at next es → BeginsPay spell s.out bytes at next es
-pay-of spell s bytes at next es begins = record {
-  payloads = begins.payloads;
-  sets = begins.sets;
-  names = begins.names;
-  rest = begins.rest;
-  are = begins.are;
-  spelled = begins.spelled;
-  ends = begins.ends;
+-- a store of payloads, of which it is not said that they are the operator's
+pay-of : (comp : Bool) (spell : Cells → List ℕ) (s : Site) (bytes : List ℕ) (at next : ℕ) (h : Holding)
+    → BeginsBy spell s (pay_mode comp) bytes at next h → (es : List Entry) × BeginsPay spell s.out bytes at next es
+pay-of comp spell s bytes at next h begins =
+    let there = payloads-in spell s comp bytes at next h begins in
+    let store = there.2 in (
+      there.0,
+      record {
+        payloads = store.payloads;
+        sets = store.sets;
+        names = store.names;
+        rest = store.rest;
+        are = store.are;
+        spelled = store.spelled;
+        ends = store.ends;
+      },
+    )
+
+-- ---- the store of one strategy, spelled again
+
+-- what is said of it, as of the list of the strategy
+pub record SaysOfOne (f : ℕ) (s : Site) (t : Strategy) (bytes : List ℕ) (at : ℕ) (old new : List ℕ)
+    (r : Result ℕ Take) : Type 0 where
+  pub ok : IfOk r (λ n. (rest : List ℕ) → AreTwice (from_format f) s (stored_in (t ∷ [])) (span bytes at n)
+      (span (new ++ rest) (length old) (length new)))
+  pub front : (more : List ℕ) × (new ≡ old ++ more)
+  pub err : IfErr r (λ e. OnBad e (NoneBeginIn f s (stored_in (t ∷ [])) bytes at))
+
+one-said : (f : ℕ) (s : Site) (t : Strategy) (m : Mode) (bytes : List ℕ) (at n : ℕ) (old new word : List ℕ)
+    → m ≡ mode_of t → keeps_store m ≡ true → new ≡ old ++ word
+    → ((rest : List ℕ) → IsTwice (from_format f) s m (span bytes at n) (span (new ++ rest) (length old) (length new)))
+    → SaysOfOne f s t bytes at old new (Ok n)
+one-said f s t m bytes at n old new word is keeps front twice = record {
+  ok = λ rest. one-each f s t m bytes at n old new rest is keeps (twice rest);
+  front = (word, front);
+  err = tt;
 }
 
-pub none-full : (f : ℕ) (s : Site) (t : Strategy) (bytes : List ℕ) (at : ℕ) → mode.Full ≡ mode_of t
-    → NoFullBegins (spelling f) s.out s.ins bytes at → NoneBeginIn f s (stored_in (t ∷ [])) bytes at
-none-full f s t bytes at is none = none-one (spelling f) s t mode.Full bytes at is refl no where
-  no : (next : ℕ) (h : Holding) → BeginsBy (spelling f) s mode.Full bytes at next h → ⊥
-  no next (regions rs) begins = none next rs begins
-  no next (entries comp es) begins = begins
+none-said : (f : ℕ) (s : Site) (t : Strategy) (m : Mode) (bytes : List ℕ) (at : ℕ) (old new : List ℕ) (e : Take)
+    → m ≡ mode_of t → keeps_store m ≡ true → new ≡ old
+    → OnBad e ((next : ℕ) (h : Holding) → BeginsBy (spelling f) s m bytes at next h → ⊥)
+    → SaysOfOne f s t bytes at old new (Err e)
+none-said f s t m bytes at old new e is keeps kept none = record {
+  ok = tt;
+  front = ([], kept ∙ sym (append-nil old));
+  err = on_bad-weaker e (none-one (spelling f) s t m bytes at is keeps) none;
+}
 
-pub none-pay : (f : ℕ) (s : Site) (t : Strategy) (bytes : List ℕ) (at : ℕ) → mode.Pay ≡ mode_of t
-    → NoPayBegins (spelling f) s.out bytes at → NoneBeginIn f s (stored_in (t ∷ [])) bytes at
-none-pay f s t bytes at is none = none-one (spelling f) s t mode.Pay bytes at is refl no where
-  no : (next : ℕ) (h : Holding) → BeginsBy (spelling f) s mode.Pay bytes at next h → ⊥
-  no next (regions rs) begins = begins
-  no next (entries true es) begins = begins
-  no next (entries false es) begins = none next es (pay-of (spelling f) s bytes at next es begins)
+-- of full lineage
+pub full-says : (f : ℕ) (s : Site) (t : Strategy) (bytes : List ℕ) (at : ℕ) (old new : List ℕ) (r : Result ℕ Take)
+    → mode.Full ≡ mode_of t
+    → IfOk r (λ n. RespellsFull (spelling f) (spelling (other_than f)) s.out s.ins bytes at n old new)
+    → OnErr r (new ≡ old) → IfErr r (λ e. OnBad e (NoFullBegins (spelling f) s.out s.ins bytes at))
+    → SaysOfOne f s t bytes at old new r
+full-says f s t bytes at old new (Ok n) is again kept none =
+    one-said f s t mode.Full bytes at n old new (full_word (spelling (other_than f)) again.table again.names) is refl
+    again.written (λ rest. full-twice (from_format f) s bytes at n old new rest again)
+full-says f s t bytes at old new (Err e) is again kept none =
+    none-said f s t mode.Full bytes at old new e is refl kept (on_bad-weaker e no none)
+  where
+    no : NoFullBegins (spelling f) s.out s.ins bytes at → (next : ℕ) (h : Holding)
+        → BeginsBy (spelling f) s mode.Full bytes at next h → ⊥
+    no none next (regions rs) begins = none next rs begins
+    no none next (entries comp es) begins = begins
 
-pub none-comp : (f : ℕ) (s : Site) (t : Strategy) (bytes : List ℕ) (at : ℕ) → mode.Comp ≡ mode_of t
-    → NoPayBegins (spelling f) s.out bytes at → NoneBeginIn f s (stored_in (t ∷ [])) bytes at
-none-comp f s t bytes at is none = none-one (spelling f) s t mode.Comp bytes at is refl no where
-  no : (next : ℕ) (h : Holding) → BeginsBy (spelling f) s mode.Comp bytes at next h → ⊥
-  no next (regions rs) begins = begins
-  no next (entries false es) begins = begins
-  no next (entries true es) begins = none next es (pay-of (spelling f) s bytes at next es begins)
+-- a mode whose stores are of payloads
+pub record IsOfPayloads (m : Mode) : Type 0 where
+  pub keeps : keeps_store m ≡ true
+  pub twice : (w : Spellings) (s : Site) (x y : Span) → IsPayTwice w s x y → IsTwice w s m x y
+  pub begins : (spell : Cells → List ℕ) (s : Site) (bytes : List ℕ) (at next : ℕ) (h : Holding)
+      → BeginsBy spell s m bytes at next h → (es : List Entry) × BeginsPay spell s.out bytes at next es
+
+pub of-payloads : (comp : Bool) → IsOfPayloads (pay_mode comp)
+of-payloads false = record { keeps = refl; twice = λ w s x y is. is; begins = pay-of false }
+of-payloads true = record { keeps = refl; twice = λ w s x y is. is; begins = pay-of true }
+
+-- of payloads
+pub pay-says : (f : ℕ) (s : Site) (t : Strategy) (m : Mode) (bytes : List ℕ) (at : ℕ) (old new : List ℕ)
+    (r : Result ℕ Take) → m ≡ mode_of t → IsOfPayloads m
+    → IfOk r (λ n. RespellsPay (spelling f) (spelling (other_than f)) s.out bytes at n old new)
+    → OnErr r (new ≡ old) → IfErr r (λ e. OnBad e (NoPayBegins (spelling f) s.out bytes at))
+    → SaysOfOne f s t bytes at old new r
+pay-says f s t m bytes at old new (Ok n) is pays again kept none =
+    one-said f s t m bytes at n old new (pay_word (spelling (other_than f)) again.payloads again.sets again.names) is
+    pays.keeps again.written
+    (λ rest. pays.twice (from_format f) s _ _ (pay-twice (from_format f) s bytes at n old new rest again))
+pay-says f s t m bytes at old new (Err e) is pays again kept none =
+    none-said f s t m bytes at old new e is pays.keeps kept (on_bad-weaker e no none)
+  where
+    no : NoPayBegins (spelling f) s.out bytes at → (next : ℕ) (h : Holding)
+        → BeginsBy (spelling f) s m bytes at next h → ⊥
+    no none next h begins =
+        let there = pays.begins (spelling f) s bytes at next h begins in none next there.0 there.1

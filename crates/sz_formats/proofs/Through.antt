@@ -21,14 +21,19 @@ use Rattle.sz_formats.specs.Words.{BeginEachBy, BeginEachIn, NoneBeginIn}
 use Rattle.sz_formats.proofs.Known.{format-known}
 use Rattle.sz_formats.proofs.Twice.{turned}
 use Rattle.sz_formats.proofs.Each.{each-turned, each-within, each-too, each-then, none-first, none-behind, stored-first}
-use Rattle.sz_formats.proofs.Each.{each-before, each-after}
+use Rattle.sz_formats.proofs.Each.{each-as-before}
 use Rattle.sz_formats.proofs.Said.{spelled-long}
 
 -- ---- one strategy and the others
 
 -- a list that is not empty
-pub first-rest : (list : List Strategy) → 1 ≤ length list
-    → list ≡ get_or list 0 strategy.Map ∷ take (length list - 1) (drop 1 list)
+abbrev pub first_of : List Strategy → Strategy
+first_of list = get_or list 0 strategy.Map
+
+abbrev pub others_of : List Strategy → List Strategy
+others_of list = take (length list - 1) (drop 1 list)
+
+pub first-rest : (list : List Strategy) → 1 ≤ length list → list ≡ first_of list ∷ others_of list
 first-rest [] some = absurd (omega arith)
 first-rest (t ∷ ts) some =
     ap (λ (us : List Strategy). t ∷ us) (sym (take_all (length (t ∷ ts) - 1) ts (omega arith)))
@@ -90,7 +95,7 @@ short-written : (s : Site) (ts : List Strategy) (wide : List ℕ) (n k : ℕ) (y
     → BeginEachIn 2 s ts y.bytes y.at y.next fs
 short-written s ts wide n k y fs right are begin =
     (each-too (from_format 1) (format-known 1) s ts (span wide 0 n) y k fs right are
-    (each-after s ts wide 0 k fs begin)).1
+    ((each-as-before s ts wide 0 k fs).1 begin)).1
 
 pub put-read : (s op : Site) (list lent : List Strategy) (none wide bytes : List ℕ) (n : ℕ) (y : Span) (fs : List Keep)
     → op ≡ s → lent ≡ list → bytes ≡ wide → none ≡ [] → AreRight (op.out ∷ op.ins)
@@ -118,7 +123,8 @@ put-refused s op list lent none wide bytes fs e place same_op same_list same_byt
     (subst (λ (us : List Strategy). NoneBeginIn 1 op (stored_in us) wide 0) same_list
     (subst (λ (w : List ℕ). NoneBeginIn 1 op (stored_in lent) w 0) same_bytes refused)) in
     here (length wide) fs
-    (each-after s (stored_in list) wide 0 (length wide) fs (written-alone s (stored_in list) none wide fs empty begin))
+    ((each-as-before s (stored_in list) wide 0 (length wide) fs).1
+    (written-alone s (stored_in list) none wide fs empty begin))
 
 -- ---- read in format 2, by the bytes of format 1
 
@@ -143,7 +149,7 @@ pub short-read : (s : Site) (ts : List Strategy) (bytes : List ℕ) (at n : ℕ)
 short-read s ts bytes at n word k fs right are begin =
     (each-too (turned (from_format 2)) (format-known 1) s ts (span word 0 (length word)) (span bytes at n) k fs right
     (each-turned (from_format 2) s ts (span bytes at n) (span word 0 (length word)) are)
-    (each-after s ts word 0 k fs begin)).1
+    ((each-as-before s ts word 0 k fs).1 begin)).1
 
 -- they end within the bytes
 pub short-within : (s : Site) (ts : List Strategy) (bytes : List ℕ) (at n : ℕ) (y : Span)
@@ -155,7 +161,7 @@ pub short-refused : (s : Site) (ts : List Strategy) (bytes : List ℕ) (at n : �
     → AreRight (s.out ∷ s.ins) → AreTwice (from_format 2) s ts (span bytes at n) (span word 0 (length word))
     → SaysNone (NoneBegin s ts word 0) 0 e → OnBad e (NoneBeginIn 2 s ts bytes at)
 short-refused s ts bytes at n word (Bad place) right are says =
-    λ next fs begin. says.1 (length word) fs (each-before s ts word 0 (length word) fs
+    λ next fs begin. says.1 (length word) fs ((each-as-before s ts word 0 (length word) fs).0
     (each-too (from_format 2) (format-known 2) s ts (span bytes at n) (span word 0 (length word)) next fs right are
     begin).1)
 short-refused s ts bytes at n word NoMemory right are says = tt
@@ -167,12 +173,12 @@ pub long-each : (f : ℕ) → (f ≡ 2 → ⊥) → (s : Site) (ts : List Strate
     (fs : List Keep) → BeginEach s ts bytes at next fs → BeginEachIn f s ts bytes at next fs
 long-each f other s ts bytes at next fs begin =
     subst (λ (spell : Cells → List ℕ). BeginEachBy spell s ts bytes at next fs) (sym (spelled-long f other))
-    (each-after s ts bytes at next fs begin)
+    ((each-as-before s ts bytes at next fs).1 begin)
 
 -- and where none were read, none stand there
 pub long-refused : (f : ℕ) → (f ≡ 2 → ⊥) → (s : Site) (ts : List Strategy) (bytes : List ℕ) (at : ℕ) (e : Take)
     → SaysNone (NoneBegin s ts bytes at) at e → OnBad e (NoneBeginIn f s ts bytes at)
 long-refused f other s ts bytes at (Bad place) says =
-    λ next fs begin. says.1 next fs (each-before s ts bytes at next fs
+    λ next fs begin. says.1 next fs ((each-as-before s ts bytes at next fs).0
     (subst (λ (spell : Cells → List ℕ). BeginEachBy spell s ts bytes at next fs) (spelled-long f other) begin))
 long-refused f other s ts bytes at NoMemory says = tt

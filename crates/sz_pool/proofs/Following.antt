@@ -132,56 +132,36 @@ tried-met out n refused c d p q t u h = record {
   ticks = h.ticks;
 }
 
--- it was won, made and placed
-pub tried-made : (out : Extent) (n : ℕ) (refused : Bool) (c d : Claimant) (p q r : Onlooker) (t u v : ℕ)
-    → n < pieces_of out → HasTriedAll out n refused c d p q t u → IsPlaced out n q r u v
-    → HasTriedAll out (n + 1) refused c (after_win n d) p r t v
-tried-made out n refused c d p q r t u v inside h made =
+-- It was won, and the tally rose by at most its cells; where no piece is refused by now, it was made and placed.
+tried-won : (out : Extent) (n : ℕ) (refused after : Bool) (c d : Claimant) (p q r : Onlooker) (t u v : ℕ)
+    → n < pieces_of out → HasTriedAll out n refused c d p q t u → Grows q r → u ≤ v → v ≤ u + cells_in_piece out n
+    → (after ≡ false → (refused ≡ false) × IsPlaced out n q r u v)
+    → HasTriedAll out (n + 1) after c (after_win n d) p r t v
+tried-won out n refused after c d p q r t u v inside h grows up few placed =
     let more = sum_by_push (cells_in_piece out) h.won n in
-    let ticks = made.ticks in
     let rises = h.rises in
     let most = h.most in record {
       won = h.won ++ n ∷ [];
       claimed = ap (λ (l : List ℕ). l ++ n ∷ []) h.claimed ∙ append_assoc c.claimed h.won (n ∷ []);
       claims = won-grows n n c d h.claims;
       reached = won-reached n d h.reached;
-      pass = grows-then p q r h.pass made.grows;
+      pass = grows-then p q r h.pass grows;
       few = few-more out h.won n inside h.few;
       rises = omega arith;
       most = omega arith;
       placed =
           λ f.
           All-push (λ k. is_in r.seen k ≡ true) h.won n
-          (all-seen q.seen r.seen h.won made.grows.seen (h.placed f)) made.seen;
+          (all-seen q.seen r.seen h.won grows.seen (h.placed (placed f).0)) (placed f).1.seen;
       turns =
           λ f.
-          let a = h.turns f in
-          let b = made.turns in
+          let a = h.turns (placed f).0 in
+          let b = (placed f).1.turns in
           let l = length_push h.won n in omega arith;
-      ticks = λ f. let a = h.ticks f in omega arith;
-    }
-
--- it was won, and refused for memory
-pub tried-refused : (out : Extent) (n : ℕ) (refused : Bool) (c d : Claimant) (p q r : Onlooker) (t u v : ℕ)
-    → n < pieces_of out → HasTriedAll out n refused c d p q t u → IsRefused out n q r u v
-    → HasTriedAll out (n + 1) true c (after_win n d) p r t v
-tried-refused out n refused c d p q r t u v inside h made =
-    let more = sum_by_push (cells_in_piece out) h.won n in
-    let a = made.rises in
-    let b = made.most in
-    let rises = h.rises in
-    let most = h.most in record {
-      won = h.won ++ n ∷ [];
-      claimed = ap (λ (l : List ℕ). l ++ n ∷ []) h.claimed ∙ append_assoc c.claimed h.won (n ∷ []);
-      claims = won-grows n n c d h.claims;
-      reached = won-reached n d h.reached;
-      pass = grows-then p q r h.pass made.grows;
-      few = few-more out h.won n inside h.few;
-      rises = omega arith;
-      most = omega arith;
-      placed = λ f. absurd (true≢false f);
-      turns = λ f. absurd (true≢false f);
-      ticks = λ f. absurd (true≢false f);
+      ticks =
+          λ f.
+          let a = h.ticks (placed f).0 in
+          let b = (placed f).1.ticks in omega arith;
     }
 
 -- one try more, whatever came of it
@@ -195,17 +175,12 @@ tried-next out n refused Met c d e p q r t u v inside h (lost, same, none) =
     (tried-met out n refused c d p q t u h)))
 tried-next out n refused Made c d e p q r t u v inside h (won, made) =
     subst (λ (x : Claimant). HasTriedAll out (n + 1) refused c x p r t v) (sym won)
-    (tried-made out n refused c d p q r t u v inside h made)
+    (let ticks = made.ticks in
+    tried-won out n refused refused c d p q r t u v inside h made.grows (omega arith) (omega arith) (λ f. (f, made)))
 tried-next out n refused Refused c d e p q r t u v inside h (won, made) =
     subst (λ (x : Claimant). HasTriedAll out (n + 1) true c x p r t v) (sym won)
-    (tried-refused out n refused c d p q r t u v inside h made)
-
--- there is room for the cells of the next piece
-pub trying-room : (out : Extent) (n : ℕ) (refused : Bool) (c d : Claimant) (p q : Onlooker) (t u : ℕ)
-    → n < pieces_of out → HasTriedAll out n refused c d p q t u → t + size_of out < 2 ^ 63
-    → u + cells_in_piece out n < 2 ^ 63
-trying-room out n refused c d p q t u inside h room =
-    cells-within (size_of out) n t u (cells_of out h.won) inside h.few h.most room
+    (tried-won out n refused true c d p q r t u v inside h made.grows made.rises made.most
+    (λ f. absurd (true≢false f)))
 
 -- what was claimed since is what was won
 pub since-won : (c d : Claimant) (won : List ℕ) → d.claimed ≡ c.claimed ++ won → claimed_since c d ≡ won

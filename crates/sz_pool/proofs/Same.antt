@@ -1,19 +1,10 @@
 -- A task stays the same over calls that change its passes alone.
-use Rattle.std.proofs.Common.{refl, ◌∙◌}
+use Rattle.std.proofs.Common.{rules, ◌∙◌}
 use Rattle.sz_pool.specs.declared.task.Task.{Task}
 use Rattle.sz_pool.specs.Tasks.{IsSameTask}
 
 pub same-task : (a : Task) → IsSameTask a a
-same-task a = record {
-  version = refl;
-  node = refl;
-  at = refl;
-  inputs = refl;
-  aid = refl;
-  list = refl;
-  shelf = refl;
-  claims = refl;
-}
+same-task a = search rules
 
 pub same-then : (a b c : Task) → IsSameTask a b → IsSameTask b c → IsSameTask a c
 same-then a b c g h = record {

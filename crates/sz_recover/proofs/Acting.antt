@@ -7,13 +7,16 @@ use Rattle.std.proofs.Common.{true≢false, Option, Some, None}
 use Rattle.std.specs.Prelude.{if◌then◌else◌, Result, Ok, Err}
 use Rattle.std.proofs.lemmas.Bool.{eqb-true}
 use Rattle.sz_log.specs.Log.{LogGroup}
+use Rattle.sz_spec.specs.declared.modes.Strategy.{Strategy}
+use Rattle.sz_spec.specs.Values.{Grid}
+use Rattle.sz_spec.specs.Flows.{Graph}
 use Rattle.sz_script.specs.Reading.{reading}
 use Rattle.sz_script.specs.declared.command.Command.{Command}
 use Rattle.sz_script.specs.declared.command.Command.TheVariants as command
 use Rattle.sz_script.specs.declared.refusal.Refusal.{Refusal}
 use Rattle.sz_catalogue.specs.Holdings.{Holdings}
 use Rattle.sz_catalogue.specs.Rules.{judged}
-use Rattle.sz_catalogue.specs.Changes.{accepted, changes_no_version}
+use Rattle.sz_catalogue.specs.Changes.{accepted}
 use Rattle.sz_bodies.specs.Fitting.{body_of}
 use Rattle.sz_recover.specs.Logs.{Kept, Acts, ActsAsVersion, IsBad, held_by, held_behind, is_of_kind, version_kind}
 use Rattle.sz_recover.specs.Logs.{format_behind}
@@ -24,14 +27,19 @@ entry_of kind body = record { kind = kind; body = body }
 
 -- ---- lines
 
--- a command of a group's kind changes no version
-pub kind-changes : (kind : ℕ) (order : Command) → is_of_kind kind order ≡ true → changes_no_version order ≡ true
-kind-changes kind (command.Array name array) is = refl
-kind-changes kind (command.Csv name array) is = refl
-kind-changes kind (command.Layers name array) is = refl
-kind-changes kind (command.Flow name flow) is = refl
-kind-changes kind (command.Strategy name node list) is = refl
-kind-changes kind _ is = absurd (true≢false (sym is))
+-- what holds of arrays, given in each way, of flows and of lists of strategies holds of each command of a group's kind
+pub each-kind : (P : Command → Type 0) → ((name : List ℕ) (array : Grid) → P (command.Array name array))
+    → ((name : List ℕ) (array : Grid) → P (command.Csv name array))
+    → ((name : List ℕ) (array : Grid) → P (command.Layers name array))
+    → ((name : List ℕ) (flow : Graph) → P (command.Flow name flow))
+    → ((name : List ℕ) (node : ℕ) (list : List Strategy) → P (command.Strategy name node list)) → (kind : ℕ)
+    (order : Command) → is_of_kind kind order ≡ true → P order
+each-kind P array csv layers flow list kind (command.Array n a) is = array n a
+each-kind P array csv layers flow list kind (command.Csv n a) is = csv n a
+each-kind P array csv layers flow list kind (command.Layers n a) is = layers n a
+each-kind P array csv layers flow list kind (command.Flow n f) is = flow n f
+each-kind P array csv layers flow list kind (command.Strategy n k l) is = list n k l
+each-kind P array csv layers flow list kind _ is = absurd (true≢false (sym is))
 
 -- a line that is taken
 pub line-held : (c d : Holdings) (kind : ℕ) (body : List ℕ) (order : Command) → reading body ≡ Ok order
@@ -62,42 +70,28 @@ no-line-of : (kind : ℕ) → ((order : Command) → is_of_kind kind order ≡ f
 no-line-of kind other c (Err rule) = refl
 no-line-of kind other c (Ok order) = rw (other order) refl
 
-of-kind-4 : (order : Command) → is_of_kind 4 order ≡ false
-of-kind-4 (command.Array name array) = refl
-of-kind-4 (command.Csv name array) = refl
-of-kind-4 (command.Layers name array) = refl
-of-kind-4 (command.Flow name flow) = refl
-of-kind-4 (command.Strategy name node list) = refl
-of-kind-4 _ = refl
-
-of-kind-5 : (order : Command) → is_of_kind 5 order ≡ false
-of-kind-5 (command.Array name array) = refl
-of-kind-5 (command.Csv name array) = refl
-of-kind-5 (command.Layers name array) = refl
-of-kind-5 (command.Flow name flow) = refl
-of-kind-5 (command.Strategy name node list) = refl
-of-kind-5 _ = refl
-
-of-kind-6 : (order : Command) → is_of_kind 6 order ≡ false
-of-kind-6 (command.Array name array) = refl
-of-kind-6 (command.Csv name array) = refl
-of-kind-6 (command.Layers name array) = refl
-of-kind-6 (command.Flow name flow) = refl
-of-kind-6 (command.Strategy name node list) = refl
-of-kind-6 _ = refl
+-- so of any kind but 1, 2 and 3
+of-kind : (kind : ℕ) → (kind == 1) ≡ false → (kind == 2) ≡ false → (kind == 3) ≡ false → (order : Command)
+    → is_of_kind kind order ≡ false
+of-kind kind one two three (command.Array name array) = one
+of-kind kind one two three (command.Csv name array) = one
+of-kind kind one two three (command.Layers name array) = one
+of-kind kind one two three (command.Flow name flow) = two
+of-kind kind one two three (command.Strategy name node list) = three
+of-kind kind one two three _ = refl
 
 of-version-kind : (format : ℕ) (order : Command) → is_of_kind (version_kind format) order ≡ false
 of-version-kind format order = by (format == 2) where
   by : (b : Bool) → is_of_kind (if b then 6 else 4) order ≡ false
-  by true = of-kind-6 order
-  by false = of-kind-4 order
+  by true = of-kind 6 refl refl refl order
+  by false = of-kind 4 refl refl refl order
 
 pub version-no-line : (format : ℕ) (c : Holdings) (r : Result Command Refusal)
     → held_by c (version_kind format) r ≡ None
 version-no-line format c r = no-line-of (version_kind format) (of-version-kind format) c r
 
 pub upgrade-no-line : (c : Holdings) (r : Result Command Refusal) → held_by c 5 r ≡ None
-upgrade-no-line c r = no-line-of 5 of-kind-5 c r
+upgrade-no-line c r = no-line-of 5 (of-kind 5 refl refl refl) c r
 
 -- the kind of a version's group is not 5
 version-not-5 : (format : ℕ) → (version_kind format == 5) ≡ false
@@ -121,7 +115,8 @@ kind-stays format kind order body is = by (kind == 5) refl where
   by : (b : Bool) → (kind == 5) ≡ b → format ≡ (if b then 2 else format)
   by false other = refl
   by true same =
-      absurd (true≢false (sym is ∙ ap (λ (k : ℕ). is_of_kind k order) (eqb-true kind 5 same) ∙ of-kind-5 order))
+      absurd (true≢false (sym is ∙ ap (λ (k : ℕ). is_of_kind k order) (eqb-true kind 5 same)
+      ∙ of-kind 5 refl refl refl order))
 
 -- and behind any other group than one of kind 5
 pub other-stays : (format kind : ℕ) (body : List ℕ) → (kind ≡ 5 → ⊥)

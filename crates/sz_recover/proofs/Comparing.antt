@@ -20,7 +20,7 @@ use Rattle.sz_spec.specs.Values.{extent_at}
 use Rattle.sz_spec.specs.Shapes.{Site}
 use Rattle.sz_spec.specs.Sides.{near_side, far_side, image_in}
 use Rattle.sz_spec.specs.Lineage.{back, forward}
-use Rattle.sz_spec.proofs.Images.{back-ext, forward-ext, back-there_is, forward-there_is}
+use Rattle.sz_spec.proofs.Images.{back-ext, forward-ext, back-there_is}
 use Rattle.sz_store.specs.Kept.{Holding, holding_stands}
 use Rattle.sz_recover.specs.Comparing.{AgreeOn, one_cell, AgreeAt}
 
@@ -67,17 +67,10 @@ back-through r q e d o x out within same related =
     let one : found.1.0 ≡ o = one-test d k found.1.0 found.1.2 found.1.1 ∙ cell-index d o out in
     subst (λ (c : Cell). q c x ≡ true) one found.1.3
 
--- and forward
+-- and forward, which is backward by the relation turned round
 forward-through : (r q : Cell → Cell → Bool) (e d : Extent) (o x : Cell) → holds e o ≡ true → holds d x ≡ true
     → forward r e (one_cell d (index_of d x)) ≡ forward q e (one_cell d (index_of d x)) → r o x ≡ true → q o x ≡ true
-forward-through r q e d o x out within same related =
-    let k = index_of d x in
-    let test : Cell → Bool = λ c. has (no_cells d) c || is_same c (cell_of d k) in
-    let there = (forward-there_is r e d test o).1 (out, (x, within, own-test d x within, related)) in
-    let moved = sym (ap (λ (set : Cells). has set o) same) ∙ there in
-    let found = (forward-there_is q e d test o).0 moved in
-    let one : found.1.0 ≡ x = one-test d k found.1.0 found.1.2 found.1.1 ∙ cell-index d x within in
-    subst (λ (c : Cell). q o c ≡ true) one found.1.3
+forward-through r q e d o x out within = back-through (λ y z. r z y) (λ y z. q z y) e d x o within out
 
 -- Stores that give each single cell of the near side the same image stand for the same.
 pub agree-all : (dir : Dir) (s : Site) (a b : Holding) (i : ℕ)

@@ -1,7 +1,8 @@
 -- What is held but for the versions that were not awaited. The key idea: the versions stand in the order of their
 -- numbers, so a version that is awaited comes to stand where it is put in.
 use Rattle.std.proofs.Common.{◌≡◌, ℕ, ◌+◌, ◌≤◌, ◌<◌, List, [], ◌∷◌, length, refl, sym, ap, subst, ◌∙◌, arith}
-use Rattle.std.proofs.Common.{true, false, Bool, cond, Option, Some, None, is_none, unwrap_or, true≢false, filter}
+use Rattle.std.proofs.Common.{true, false, Bool, ◌&&◌, cond, nat_lt, nat_le, Option, Some, None, is_none, unwrap_or}
+use Rattle.std.proofs.Common.{true≢false, filter}
 use Rattle.std.specs.Cmp.{ranked}
 use Rattle.std.specs.List.{sum_by, AllByRecursion}
 use Rattle.std.specs.List.Sorted.{IsStrictlySortedBy}
@@ -10,6 +11,7 @@ use Rattle.std.specs.BTreeMap.{is_at, insert_entry}
 use Rattle.std.specs.Ordering.{nat_cmp, is_eq, match_ordering}
 use Rattle.std.specs.declared.cmp.Ordering.{Ordering}
 use Rattle.std.specs.declared.cmp.Ordering.TheVariants.{Less, Equal, Greater}
+use Rattle.std.proofs.lemmas.Bool.Decides.{nat_tests}
 use Rattle.std.proofs.lemmas.Cmp.{nat_cmp_total, eq_by_cmp_equiv}
 use Rattle.std.proofs.lemmas.List.Sums.{sum_by-cons}
 use Rattle.std.proofs.lemmas.Map.{lookup-none}
@@ -17,8 +19,9 @@ use Rattle.std.proofs.lemmas.Map.Entries.{none_below_head, lookup-filter-values,
 use Rattle.std.proofs.lemmas.Map.Keys.{IsDistinct-from_sorted, sorted_tail}
 use Rattle.std.proofs.lemmas.Map.Steps.{set_value_same}
 use Rattle.sz_catalogue.specs.Holdings.{Version, Holdings, output_cells, no_version, version_numbered, held_cells}
-use Rattle.sz_catalogue.specs.Rules.{version_of, has_no_version}
-use Rattle.sz_recover.specs.Growing.{durable, AwaitsAreOnce, StartsAreNotLogged}
+use Rattle.sz_catalogue.specs.Rules.{version_of, has_no_version, most_cells, most_versions}
+use Rattle.sz_bodies.specs.Lawful.{CanBeAdded}
+use Rattle.sz_recover.specs.Growing.{durable, IsInOrder, AwaitsAreOnce, StartsAreNotLogged}
 
 abbrev pub settled : List (ℕ × Version) → List (ℕ × Version)
 settled es = filter (λ (e : ℕ × Version). e.1.awaited) es
@@ -95,81 +98,64 @@ settled-new es n v off rising found =
 
 -- ---- counts
 
-record AreFewer (es fs : List (ℕ × Version)) : Type 0 where
-  many : length es ≤ length fs
-  size : cells es ≤ cells fs
+-- those of the one and so many more are no more than the other, and have so many cells less
+pub record AreLess (many size : ℕ) (es fs : List (ℕ × Version)) : Type 0 where
+  pub many_less : length es + many ≤ length fs
+  pub size_less : cells es + size ≤ cells fs
 
-settled-fewer : (es : List (ℕ × Version)) → AreFewer (settled es) es
-settled-fewer [] = record { many = omega arith; size = omega arith }
-settled-fewer (e ∷ es) = by e.1.awaited (settled-fewer es) where
-  by : (b : Bool) → AreFewer (settled es) es → AreFewer (cond b (e ∷ settled es) (settled es)) (e ∷ es)
-  by true rest = record {
-    many = omega (arith, rest.many);
-    size = omega (
-      arith,
-      rest.size,
-      sum_by-cons output_cells e.1 (values_of (settled es)),
-      sum_by-cons output_cells e.1 (values_of es),
-    );
-  }
-  by false rest = record {
-    many = omega (arith, rest.many);
-    size = omega (arith, rest.size, sum_by-cons output_cells e.1 (values_of es));
-  }
+-- one more, that passes a test or does not
+one-less : (test : ℕ × Version → Bool) (e : ℕ × Version) (es : List (ℕ × Version)) (many size : ℕ)
+    → AreLess many size (filter test es) es → (b : Bool)
+    → AreLess many size (cond b (e ∷ filter test es) (filter test es)) (e ∷ es)
+one-less test e es many size less true = record {
+  many_less = omega (arith, less.many_less);
+  size_less = omega (
+    arith,
+    less.size_less,
+    sum_by-cons output_cells e.1 (values_of (filter test es)),
+    sum_by-cons output_cells e.1 (values_of es),
+  );
+}
+one-less test e es many size less false = record {
+  many_less = omega (arith, less.many_less);
+  size_less = omega (arith, less.size_less, sum_by-cons output_cells e.1 (values_of es));
+}
 
--- with the version that was not awaited there are no more than before
-record AreFewerWith (v : Version) (es fs : List (ℕ × Version)) : Type 0 where
-  many : length es < length fs
-  size : cells es + output_cells v ≤ cells fs
+passed-less : (test : ℕ × Version → Bool) (es : List (ℕ × Version)) → AreLess 0 0 (filter test es) es
+passed-less test [] = record { many_less = omega arith; size_less = omega arith }
+passed-less test (e ∷ es) = one-less test e es 0 0 (passed-less test es) (test e)
 
-settled-without : (es : List (ℕ × Version)) (n : ℕ) (v : Version) → v.awaited ≡ false
-    → lookup (is_at (nat_cmp n)) es ≡ Some v → AreFewerWith v (settled es) es
-settled-without [] n v off found = cc
-settled-without (e ∷ es) n v off found =
-    by (is_at (nat_cmp n) e.0) found (settled-without es n v off) where
-      rest : AreFewer (settled es) es
-      rest = settled-fewer es
-
-      more : AreFewerWith v (settled es) es → (b : Bool)
-          → AreFewerWith v (cond b (e ∷ settled es) (settled es)) (e ∷ es)
-      more fewer true = record {
-        many = omega (arith, fewer.many);
-        size = omega (
-          arith,
-          fewer.size,
-          sum_by-cons output_cells e.1 (values_of (settled es)),
-          sum_by-cons output_cells e.1 (values_of es),
-        );
-      }
-      more fewer false = record {
-        many = omega (arith, fewer.many);
-        size = omega (arith, fewer.size, sum_by-cons output_cells e.1 (values_of es));
+-- with a version that does not pass the test they are no more than before
+pub passed-without : (test : ℕ × Version → Bool) (es : List (ℕ × Version)) (n : ℕ) (v : Version)
+    → ((e : ℕ × Version) → is_at (nat_cmp n) e.0 ≡ true → e.1 ≡ v → test e ≡ false)
+    → lookup (is_at (nat_cmp n)) es ≡ Some v → AreLess 1 (output_cells v) (filter test es) es
+passed-without test [] n v out found = cc
+passed-without test (e ∷ es) n v out found =
+    by (is_at (nat_cmp n) e.0) refl found (passed-without test es n v out) where
+      gone : AreLess 0 0 (filter test es) es → e.1 ≡ v → (b : Bool) → b ≡ false
+          → AreLess 1 (output_cells v) (cond b (e ∷ filter test es) (filter test es)) (e ∷ es)
+      gone rest own true off = absurd (true≢false off)
+      gone rest own false off = record {
+        many_less = omega (arith, rest.many_less);
+        size_less = omega (arith, rest.size_less, sum_by-cons output_cells e.1 (values_of es), ap output_cells own);
       }
 
-      by : (b : Bool) → cond b (Some e.1) (lookup (is_at (nat_cmp n)) es) ≡ Some v
-          → (lookup (is_at (nat_cmp n)) es ≡ Some v → AreFewerWith v (settled es) es)
-          → AreFewerWith v (settled (e ∷ es)) (e ∷ es)
-      by true here later =
-          let own : e.1 ≡ v = cc in
-          let out : settled (e ∷ es) ≡ settled es =
-          ap (λ (b : Bool). cond b (e ∷ settled es) (settled es)) (ap (λ (x : Version). x.awaited) own ∙ off) in
-          let weight : output_cells e.1 ≡ output_cells v = ap output_cells own in
-          subst (λ (xs : List (ℕ × Version)). AreFewerWith v xs (e ∷ es)) (sym out)
-          (record {
-            many = omega (arith, rest.many);
-            size = omega (arith, rest.size, weight, sum_by-cons output_cells e.1 (values_of es));
-          })
-      by false here later = more (later here) e.1.awaited
+      by : (b : Bool) → is_at (nat_cmp n) e.0 ≡ b → cond b (Some e.1) (lookup (is_at (nat_cmp n)) es) ≡ Some v
+          → (lookup (is_at (nat_cmp n)) es ≡ Some v → AreLess 1 (output_cells v) (filter test es) es)
+          → AreLess 1 (output_cells v) (filter test (e ∷ es)) (e ∷ es)
+      by true is here later =
+          let own : e.1 ≡ v = cc in gone (passed-less test es) own (test e) (out e is own)
+      by false is here later = one-less test e es 1 (output_cells v) (later here) (test e)
 
 -- what a log holds has no more cells than what a session holds
 pub durable-cells : (c : Holdings) → held_cells (durable c) ≤ held_cells c
-durable-cells c = omega (arith, (settled-fewer c.versions).size)
+durable-cells c = omega (arith, (passed-less (λ (e : ℕ × Version). e.1.awaited) c.versions).size_less)
 
-pub durable-room : (c : Holdings) (n : ℕ) (v : Version) → v.awaited ≡ false → version_numbered c n ≡ Some v
-    → (length (durable c).versions < length c.versions)
-    × (held_cells (durable c) + output_cells v ≤ held_cells c)
-durable-room c n v off found =
-    let fewer = settled-without c.versions n v off found in (fewer.many, omega (arith, fewer.size))
+pub durable-less : (c : Holdings) (n : ℕ) (v : Version) → v.awaited ≡ false → version_numbered c n ≡ Some v
+    → AreLess 1 (output_cells v) (durable c).versions c.versions
+durable-less c n v off found =
+    passed-without (λ (e : ℕ × Version). e.1.awaited) c.versions n v
+    (λ e at own. ap (λ (x : Version). x.awaited) own ∙ off) found
 
 -- ---- the version of a number
 
@@ -178,6 +164,31 @@ version-found c n some = by (version_numbered c n) some where
   by : (o : Option Version) → is_none o ≡ false → o ≡ Some (unwrap_or o no_version)
   by None some = absurd (true≢false some)
   by (Some v) some = refl
+
+room-there : (many most size room : ℕ) → many < most → size ≤ room → (nat_lt many most && nat_le size room) ≡ true
+room-there many most size room lt le = grind (arith, nat_tests)
+
+-- A version of what is held can be added to all else that is, where its number is new among other versions, which are
+-- less by it.
+pub can-be-added : (c : Holdings) (es : List (ℕ × Version)) (merges : List ℕ) (n : ℕ) (v : Version) → IsInOrder c
+    → version_numbered c n ≡ Some v → is_none (lookup (is_at (nat_cmp n)) es) ≡ true
+    → AreLess 1 (output_cells v) es c.versions → CanBeAdded (record c { versions = es; merges = merges }) n v
+can-be-added c es merges n v order found new less =
+    let own = order.each n v found in
+    let d : Holdings = record c { versions = es; merges = merges } in
+    record {
+      some = own.some;
+      new = new;
+      names = own.names;
+      flow = own.flow;
+      base = own.base;
+      count = own.count;
+      fits = own.fits;
+      lists = own.lists;
+      room =
+          room-there (length es) most_versions (held_cells d + output_cells v) most_cells
+          (omega (arith, less.many_less, order.few)) (omega (arith, less.size_less, order.few_cells));
+    }
 
 pub awaits-once : AwaitsAreOnce
 awaits-once c n some on =

@@ -25,7 +25,6 @@ use Rattle.sz_store.specs.Kept.{Keep, NodeLineage, stored_in}
 use Rattle.sz_formats.specs.Words.{BeginEachIn}
 use Rattle.sz_script.specs.Reading.{reading}
 use Rattle.sz_script.specs.declared.command.Command.{Command}
-use Rattle.sz_script.specs.declared.command.Command.TheVariants as command
 use Rattle.sz_script.specs.declared.refusal.Refusal.{Refusal}
 use Rattle.sz_catalogue.specs.Holdings.{Version, Holdings, no_holdings, no_version, version_numbered}
 use Rattle.sz_catalogue.specs.Rules.{has_no_version, version_of, judged}
@@ -35,6 +34,7 @@ use Rattle.sz_bodies.specs.Fitting.{Fit, FitNodes, sites_of, parts_of, body_of}
 use Rattle.sz_bodies.specs.Lawful.{version_said}
 use Rattle.sz_recover.specs.Logs.{Kept, Acts, ActEach, held_by, is_of_kind}
 use Rattle.sz_recover.specs.Opened.{HasItsStores, IsEntryOf, entries_under, versions_under, AreOfVersions}
+use Rattle.sz_recover.proofs.Acting.{each-kind}
 use Rattle.sz_recover.specs.Opened.{WellMadeLogsKeepTheirVersions, HeldVersionsHaveEntries, HeldVersionsAreAwaited}
 
 -- ---- what is held under a number
@@ -189,12 +189,12 @@ once-more c v kept one new once m =
 
 -- ---- groups
 
--- where the same versions are held, the entries are those of the versions as before
--- what is held changes no version, and of none a merge is asked
+-- the versions stay, and so does of which a merge is asked
 record HasItsVersions (c d : Holdings) : Type 0 where
   versions : d.versions ≡ c.versions
   merges : d.merges ≡ c.merges
 
+-- where the same versions are held, the entries are those of the versions as before
 versions-same : (c d : Holdings) (kept : List Kept) → HasItsVersions c d → AreOfVersions c kept
     → AreOfVersions d kept
 versions-same c d kept same are =
@@ -212,32 +212,22 @@ chosen false c x d same is = cc
 chosen true c x d same is = let one : x ≡ d = cc in subst (HasItsVersions c) one same
 
 -- a line changes no version
+line-same : (c : Holdings) (kind : ℕ) (order : Command) → is_of_kind kind order ≡ true
+    → HasItsVersions c (accepted c order).0
+line-same c =
+    each-kind (λ order. HasItsVersions c (accepted c order).0) (λ name array. record { versions = refl; merges = refl })
+    (λ name array. record { versions = refl; merges = refl }) (λ name array. record { versions = refl; merges = refl })
+    (λ name flow. record { versions = refl; merges = refl })
+    (λ name node list. record { versions = refl; merges = refl })
+
 line-versions : (c d : Holdings) (kind : ℕ) (r : Result Command Refusal) → held_by c kind r ≡ Some d
     → HasItsVersions c d
 line-versions c d kind (Err rule) is = cc
-line-versions c d kind (Ok x) is = by x is where
-  by : (x : Command) → held_by c kind (Ok x) ≡ Some d → HasItsVersions c d
-  by (command.Array name array) is =
-      let order = command.Array name array in
-      chosen (is_of_kind kind order && is_none (judged c order)) c (accepted c order).0 d
-      (record { versions = refl; merges = refl }) is
-  by (command.Csv name array) is =
-      let order = command.Csv name array in
-      chosen (is_of_kind kind order && is_none (judged c order)) c (accepted c order).0 d
-      (record { versions = refl; merges = refl }) is
-  by (command.Layers name array) is =
-      let order = command.Layers name array in
-      chosen (is_of_kind kind order && is_none (judged c order)) c (accepted c order).0 d
-      (record { versions = refl; merges = refl }) is
-  by (command.Flow name flow) is =
-      let order = command.Flow name flow in
-      chosen (is_of_kind kind order && is_none (judged c order)) c (accepted c order).0 d
-      (record { versions = refl; merges = refl }) is
-  by (command.Strategy name node list) is =
-      let order = command.Strategy name node list in
-      chosen (is_of_kind kind order && is_none (judged c order)) c (accepted c order).0 d
-      (record { versions = refl; merges = refl }) is
-  by _ is = cc
+line-versions c d kind (Ok order) is = by (is_of_kind kind order) refl is where
+  by : (own : Bool) → is_of_kind kind order ≡ own
+      → (if own && is_none (judged c order) then Some (accepted c order).0 else None) ≡ Some d → HasItsVersions c d
+  by true own is = chosen (is_none (judged c order)) c (accepted c order).0 d (line-same c kind order own) is
+  by false own is = cc
 
 -- a version that is added has one entry
 version-more : (c : Holdings) (v : Version) (kept : List Kept) (one : Kept)

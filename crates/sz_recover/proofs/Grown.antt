@@ -1,6 +1,6 @@
 -- How a log grows. The key idea: the groups that act are those of the log, and one more group acts behind them.
 use Rattle.std.proofs.Common.{◌≡◌, inl, inr, ⊎_elim, ℕ, List, [], ◌∷◌, ◌++◌, refl, sym, ap, ◌∙◌, subst, true, Option}
-use Rattle.std.proofs.Common.{None, Some, append_assoc, append-nil}
+use Rattle.std.proofs.Common.{None, Some}
 use Rattle.sz_outside.specs.Disk.{Told, Only, Passes}
 use Rattle.sz_log.specs.Log.{LogGroup, IsLog, begins_as_log, log_bytes}
 use Rattle.sz_log.specs.Steps.{AddsOrKeeps, place_behind}
@@ -10,29 +10,7 @@ use Rattle.sz_catalogue.specs.Holdings.{Holdings, no_holdings}
 use Rattle.sz_recover.specs.Logs.{Kept, Acts, ActEach, IsWellMade, IsMade}
 use Rattle.sz_recover.specs.Growing.{Growth, GrowsOrKeeps, LogsGrow, MadeLogsGrow, LogsGrowOrStay}
 use Rattle.sz_recover.proofs.Ending.{logs-spelled, well-made-log}
-
--- ---- one more group
-
-act-behind : (m n p : ℕ) (c d f : Holdings) (es : List LogGroup) (e : LogGroup) (kept more : List Kept)
-    → ActEach m c es n d kept → Acts n d e p f more → ActEach m c (es ++ e ∷ []) p f (kept ++ more)
-act-behind m n p c d f [] e kept more all acts = (
-  p,
-  f,
-  more,
-  [],
-  subst (λ (k : ℕ). Acts k c e p f more) all.0 (subst (λ (h : Holdings). Acts n h e p f more) all.1 acts),
-  (refl, refl, refl),
-  ap (λ (ks : List Kept). ks ++ more) all.2 ∙ sym (append-nil more),
-)
-act-behind m n p c d f (x ∷ es) e kept more all acts = (
-  all.0,
-  all.1,
-  all.2,
-  all.3 ++ more,
-  all.4,
-  act-behind all.0 n p all.1 d f es e all.3 more all.5 acts,
-  ap (λ (ks : List Kept). ks ++ more) all.6 ∙ append_assoc all.2 all.3 more,
-)
+use Rattle.sz_recover.proofs.Opened.{act-more}
 
 -- ---- a log is well made where its groups act
 
@@ -55,7 +33,7 @@ grown-made : (image : List ℕ) (at : ℕ) (es : List LogGroup) (e : LogGroup) (
     → IsWellMade image at g.format_after g.after (g.kept ++ g.more)
 grown-made image at es e g each acts held =
     log-made image at g.format_after (es ++ e ∷ []) g.after (g.kept ++ g.more) held
-    (act-behind 1 g.format_before g.format_after no_holdings g.before g.after es e g.kept g.more each acts)
+    (act-more 1 g.format_before g.format_after no_holdings g.before g.after es e g.kept g.more each acts)
 
 pub logs-grow : LogsGrow
 logs-grow disk image at e g made acts adds =

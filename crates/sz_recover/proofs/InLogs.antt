@@ -19,7 +19,7 @@ use Rattle.sz_bodies.specs.Bodies.{VersionBody}
 use Rattle.sz_bodies.specs.Fitting.{body_of}
 use Rattle.sz_bodies.specs.Lawful.{IsLawful, version_said}
 use Rattle.sz_recover.specs.Logs.{Kept, Acts, ActEach, is_of_kind, held_by}
-use Rattle.sz_recover.specs.Growing.{IsInOrder, LogsAreInOrder, FormatsAreByGroups}
+use Rattle.sz_recover.specs.Growing.{IsVersionIn, IsInOrder, LogsAreInOrder, FormatsAreByGroups}
 use Rattle.sz_recover.proofs.InOrder.{nothing-in-order, commands-keep, added-in-order, named-in}
 
 off : (b : Bool) → not b ≡ true → b ≡ false
@@ -48,18 +48,24 @@ line-in-order c d kind line (Ok x) read order held =
           let same : (accepted c x).0 ≡ d = cc in
           subst IsInOrder same (commands-keep c x order (are_right line x read) is)
 
--- a version
-version-in-order : (format : ℕ) (c : Holdings) (b : VersionBody) (bytes : List ℕ) → IsInOrder c
-    → IsLawful format c b bytes → IsInOrder (with_version c b.number (version_said c b))
-version-in-order format c b bytes order is =
+-- a lawful body says a version of what is held
+pub lawful-version : (format : ℕ) (c : Holdings) (b : VersionBody) (bytes : List ℕ) → IsLawful format c b bytes
+    → IsVersionIn c b.number (version_said c b)
+lawful-version format c b bytes is =
     let number = and_parts (nat_le 1 b.number) (rules.has_no_version c b.number) is.number in
     let count : length b.base ≡ (workflow_of c b.flow_name).graph.inputs =
     eqb-true (length b.base) (workflow_of c b.flow_name).graph.inputs
     (on (length b.base == (workflow_of c b.flow_name).graph.inputs) is.each) in
-    added-in-order c b.number (version_said c b) order (none-of (version_numbered c b.number) number.1) is.room
-    (named-in c b.number b.flow_name b.base (version_said c b).lists true number.0 is.names
+    named-in c b.number b.flow_name b.base (version_said c b).lists true number.0 is.names
     (off (rules.has_no_flow c b.flow_name) is.flow) (off (rules.has_no_array c b.base) is.bases) count
-    (off (rules.has_broken_shapes c b.flow_name b.base) is.shapes) is.lists)
+    (off (rules.has_broken_shapes c b.flow_name b.base) is.shapes) is.lists
+
+version-in-order : (format : ℕ) (c : Holdings) (b : VersionBody) (bytes : List ℕ) → IsInOrder c
+    → IsLawful format c b bytes → IsInOrder (with_version c b.number (version_said c b))
+version-in-order format c b bytes order is =
+    let number = and_parts (nat_le 1 b.number) (rules.has_no_version c b.number) is.number in
+    added-in-order c b.number (version_said c b) order (none-of (version_numbered c b.number) number.1) is.room
+    (lawful-version format c b bytes is)
 
 acts-in-order : (m n : ℕ) (c d : Holdings) (e : LogGroup) (kept : List Kept) → IsInOrder c → Acts m c e n d kept
     → IsInOrder d

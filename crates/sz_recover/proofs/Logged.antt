@@ -1,23 +1,25 @@
 -- What a session takes, its log takes too. The key idea: its log holds fewer cells and fewer versions, and the same
 -- arrays and flows, so what a rule lets pass over what is held it lets pass over what the log holds.
-use Rattle.std.proofs.Common.{◌≡◌, ℕ, ◌+◌, ◌≤◌, ◌<◌, List, [], ◌∷◌, length, refl, sym, ap, subst, arith, true, false}
-use Rattle.std.proofs.Common.{true≢false, ◌&&◌, nat_lt, nat_le, Option, Some, None, is_none, inl, inr}
+use Rattle.std.proofs.Common.{◌≡◌, ℕ, ◌+◌, ◌≤◌, List, [], ◌∷◌, length, refl, sym, ap, subst, arith, true, false}
+use Rattle.std.proofs.Common.{true≢false, nat_lt, nat_le, Option, Some, None, is_none, inl, inr}
 use Rattle.std.proofs.lemmas.Bool.Decides.{nat_tests}
 use Rattle.sz_cells.specs.Extent.{size_of}
 use Rattle.sz_spec.specs.Values.{Grid}
 use Rattle.sz_script.specs.declared.command.Command.{Command}
 use Rattle.sz_script.specs.declared.command.Command.TheVariants as command
 use Rattle.sz_script.specs.declared.refusal.Refusal.TheVariants as refusal
-use Rattle.sz_catalogue.specs.Holdings.{Version, Holdings, held_cells, output_cells, version_numbered}
-use Rattle.sz_catalogue.specs.Rules.{judged, has_no_room_for_array, most_arrays, most_cells, most_versions}
+use Rattle.sz_catalogue.specs.Holdings.{Version, Holdings, held_cells, version_numbered}
+use Rattle.sz_catalogue.specs.Rules.{judged, has_no_room_for_array, most_arrays, most_cells}
 use Rattle.sz_catalogue.specs.Rules.{version_of, first_of}
 use Rattle.sz_catalogue.specs.Changes.{accepted}
 use Rattle.sz_catalogue.proofs.Counts.{first-passed, neither}
 use Rattle.sz_bodies.specs.Lawful.{CanBeAdded}
 use Rattle.sz_recover.specs.Logs.{Kept, Acts, is_of_kind}
 use Rattle.sz_recover.specs.Growing.{durable, IsInOrder, LinesAct, LinesKeepVersions, AwaitsAct, UpgradesAct}
-use Rattle.sz_recover.proofs.Acting.{entry_of, line-held, line-acts, kind-stays, version-stays, upgrade-acts}
-use Rattle.sz_recover.proofs.Durable.{durable-cells, durable-room, version-found, await-settled, settled-new}
+use Rattle.sz_recover.proofs.Acting.{entry_of, each-kind, line-held, line-acts, kind-stays, version-stays}
+use Rattle.sz_recover.proofs.Acting.{upgrade-acts}
+use Rattle.sz_recover.proofs.Durable.{durable-cells, durable-less, can-be-added, version-found, await-settled}
+use Rattle.sz_recover.proofs.Durable.{settled-new}
 use Rattle.sz_bodies.proofs.Written.{written-lawful}
 
 -- ---- lines
@@ -46,12 +48,9 @@ line-free c kind _ own free = absurd (true≢false (sym own))
 
 line-durable : (c : Holdings) (kind : ℕ) (order : Command) → is_of_kind kind order ≡ true
     → durable (accepted c order).0 ≡ (accepted (durable c) order).0
-line-durable c kind (command.Array name array) own = refl
-line-durable c kind (command.Csv name array) own = refl
-line-durable c kind (command.Layers name array) own = refl
-line-durable c kind (command.Flow name flow) own = refl
-line-durable c kind (command.Strategy name node list) own = refl
-line-durable c kind _ own = absurd (true≢false (sym own))
+line-durable c =
+    each-kind (λ order. durable (accepted c order).0 ≡ (accepted (durable c) order).0) (λ name array. refl)
+    (λ name array. refl) (λ name array. refl) (λ name flow. refl) (λ name node list. refl)
 
 pub lines-act : LinesAct
 lines-act format c kind line order read own free =
@@ -63,44 +62,25 @@ lines-act format c kind line order read own free =
     (line-durable c kind order own)))
 
 pub lines-keep : LinesKeepVersions
-lines-keep c kind (command.Array name array) own = refl
-lines-keep c kind (command.Csv name array) own = refl
-lines-keep c kind (command.Layers name array) own = refl
-lines-keep c kind (command.Flow name flow) own = refl
-lines-keep c kind (command.Strategy name node list) own = refl
-lines-keep c kind _ own = absurd (true≢false (sym own))
+lines-keep c =
+    each-kind (λ order. (accepted c order).0.versions ≡ c.versions) (λ name array. refl) (λ name array. refl)
+    (λ name array. refl) (λ name flow. refl) (λ name node list. refl)
 
 -- ---- awaits
 
-room-there : (many most size cells : ℕ) → many < most → size ≤ cells
-    → (nat_lt many most && nat_le size cells) ≡ true
-room-there many most size cells lt le = grind (arith, nat_tests)
-
-can-be-added : (c : Holdings) (n : ℕ) (v : Version) → IsInOrder c → version_numbered c n ≡ Some v
+awaited-added : (c : Holdings) (n : ℕ) (v : Version) → IsInOrder c → version_numbered c n ≡ Some v
     → v.awaited ≡ false → CanBeAdded (durable c) n v
-can-be-added c n v order found off =
-    let own = order.each n v found in
-    let room = durable-room c n v off found in
-    record {
-      some = own.some;
-      new = ap (λ (o : Option Version). is_none o) (settled-new c.versions n v off order.rising found);
-      names = own.names;
-      flow = own.flow;
-      base = own.base;
-      count = own.count;
-      fits = own.fits;
-      lists = own.lists;
-      room =
-          room-there (length (durable c).versions) most_versions (held_cells (durable c) + output_cells v) most_cells
-          (omega (arith, room.0, order.few)) (omega (arith, room.1, order.few_cells));
-    }
+awaited-added c n v order found off =
+    can-be-added c (durable c).versions [] n v order found
+    (ap (λ (o : Option Version). is_none o) (settled-new c.versions n v off order.rising found))
+    (durable-less c n v off found)
 
 pub awaits-act : AwaitsAct
 awaits-act format c n stores body order some off fit spelled =
     let v : Version = version_of c n in
     let w : Version = record v { awaited = true } in
     let found = version-found c n some in
-    let lawful = written-lawful format (durable c) n v stores body (can-be-added c n v order found off) fit spelled in
+    let lawful = written-lawful format (durable c) n v stores body (awaited-added c n v order found off) fit spelled in
     let one : Kept = record { number = n; stores = stores } in (
       version-stays format body,
       inr (inl (record {

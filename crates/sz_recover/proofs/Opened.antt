@@ -28,7 +28,7 @@ stand-more disk a b [] e same stands =
     (subst (λ (k : ℕ). Stands disk k e) (sym same) stands, ap (λ (k : ℕ). place_behind k e) same)
 stand-more disk a b (x ∷ es) e all stands = (all.0, stand-more disk (place_behind a x) b es e all.1 stands)
 
-act-more : (m n p : ℕ) (c d f : Holdings) (es : List LogGroup) (e : LogGroup) (kept more : List Kept)
+pub act-more : (m n p : ℕ) (c d f : Holdings) (es : List LogGroup) (e : LogGroup) (kept more : List Kept)
     → ActEach m c es n d kept → Acts n d e p f more → ActEach m c (es ++ e ∷ []) p f (kept ++ more)
 act-more m n p c d f [] e kept more all acts = (
   p,

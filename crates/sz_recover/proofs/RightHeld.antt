@@ -3,8 +3,8 @@
 --
 -- The key idea: what is held came by commands that were read, and a node's shape rule gives right shapes of right ones.
 use Rattle.std.proofs.Common.{◌≡◌, ⊎_elim, inl, inr, ℕ, zero, suc, ◌+◌, ◌-◌, ◌<◌, ◌≤◌, List, [], ◌∷◌, ◌++◌, length}
-use Rattle.std.proofs.Common.{map, filter, refl, sym, ap, subst, ◌∙◌, arith, true, false, true≢false, Bool, not, ◌&&◌}
-use Rattle.std.proofs.Common.{◌==◌, nat_lt, nat_le, Option, Some, None, is_none, is_some, option_map, unwrap_or, All}
+use Rattle.std.proofs.Common.{map, filter, refl, sym, ap, subst, ◌∙◌, arith, true, false, true≢false, Bool, ◌&&◌}
+use Rattle.std.proofs.Common.{nat_lt, Option, Some, None, is_none, is_some, option_map, unwrap_or, All}
 use Rattle.std.proofs.Common.{fold, length-append, ltb-true}
 use Rattle.std.specs.Prelude.{if◌then◌else◌, Result, Ok, Err}
 use Rattle.std.specs.Cmp.Lexicographic.{slice_cmp, same_text}
@@ -12,7 +12,7 @@ use Rattle.std.specs.List.{list_all, slice_get}
 use Rattle.std.specs.Ordering.{nat_cmp, eq_by_cmp}
 use Rattle.std.specs.Result.{result_err, result_unwrap_or}
 use Rattle.std.specs.Str.{bytes_eq}
-use Rattle.std.proofs.lemmas.Bool.{and_parts, eqb-true}
+use Rattle.std.proofs.lemmas.Bool.{and_parts}
 use Rattle.std.proofs.lemmas.Cmp.{nat_list_cmp_total}
 use Rattle.std.proofs.lemmas.List.{length-map}
 use Rattle.std.proofs.lemmas.List.Elements.{All-nil, All-cons, All-push, All-map, All-filter}
@@ -56,7 +56,7 @@ use Rattle.sz_bodies.specs.Lawful.{IsLawful, version_said}
 use Rattle.sz_bodies.specs.Laws.{IsRightSite}
 use Rattle.sz_recover.specs.Logs.{Kept, Acts, is_of_kind, held_by}
 use Rattle.sz_bodies.specs.Taking.{IsFitting, site_over}
-use Rattle.sz_recover.proofs.InOrder.{named-in}
+use Rattle.sz_recover.proofs.InLogs.{lawful-version}
 use Rattle.sz_recover.proofs.Keyed.{put-found, set-found}
 use Rattle.sz_recover.proofs.RightArrays.{HasRightArray, arrays-right}
 use Rattle.sz_catalogue.proofs.FlowSites.{nodes-fit}
@@ -276,26 +276,7 @@ sites-right c n v right own =
     (All-weaker (IsFitting base outs) (λ (x : Node). IsRightSite (site_over base outs x))
     (λ x fit. site-right base outs x first second fit) v.flow.nodes (nodes-fit v.flow base outs well count fits))
 
--- ---- a lawful body says a version of what is held
-
-off : (b : Bool) → not b ≡ true → b ≡ false
-off true is = absurd (true≢false (sym is))
-off false is = refl
-
-on : (b : Bool) → not (not b) ≡ true → b ≡ true
-on true is = refl
-on false is = absurd (true≢false (sym is))
-
-lawful-version : (format : ℕ) (c : Holdings) (b : VersionBody) (bytes : List ℕ) → IsLawful format c b bytes
-    → IsVersionIn c b.number (version_said c b)
-lawful-version format c b bytes is =
-    let number = and_parts (nat_le 1 b.number) (rules.has_no_version c b.number) is.number in
-    let count : length b.base ≡ (workflow_of c b.flow_name).graph.inputs =
-    eqb-true (length b.base) (workflow_of c b.flow_name).graph.inputs
-    (on (length b.base == (workflow_of c b.flow_name).graph.inputs) is.each) in
-    named-in c b.number b.flow_name b.base (version_said c b).lists true number.0 is.names
-    (off (rules.has_no_flow c b.flow_name) is.flow) (off (rules.has_no_array c b.base) is.bases) count
-    (off (rules.has_broken_shapes c b.flow_name b.base) is.shapes) is.lists
+-- ---- those of a version that a lawful body says
 
 pub lawful-right : (format : ℕ) (c : Holdings) (b : VersionBody) (bytes : List ℕ) → IsRightHeld c
     → IsLawful format c b bytes → All IsRightSite (sites_of (version_said c b))

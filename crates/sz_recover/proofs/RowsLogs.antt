@@ -5,7 +5,9 @@ use Rattle.std.proofs.Common.{◌≡◌, ℕ, List, [], ◌∷◌, Some, Err, re
 use Rattle.std.proofs.Common.{true≢false, arith}
 use Rattle.std.specs.Prelude.{◌++◌, replicate}
 use Rattle.sz_log.specs.Laws.{Reads}
-use Rattle.sz_log.specs.Log.{LogGroup, empty_log, header}
+use Rattle.sz_log.specs.Log.{LogGroup, empty_log, header, begins_as_log}
+use Rattle.sz_log.specs.Places.{group_on}
+use Rattle.sz_log.specs.declared.groups.Group.TheVariants as group
 use Rattle.sz_log.proofs.Rows.{log, line, one, kind_0, cut_within, cut_behind_gate}
 use Rattle.sz_catalogue.specs.Holdings.{Holdings, no_holdings}
 use Rattle.sz_recover.specs.Logs.{Kept, IsWellMade, IsFirstBad, IsMade, IsNoLog, IsBroken, SaysWhy, has_read}
@@ -17,34 +19,25 @@ use Rattle.sz_recover.proofs.Acting.{upgrade-acts, upgrade-bad}
 pub empty-made : IsWellMade empty_log 16 1 no_holdings []
 empty-made = record { header = refl; entries = []; read = (refl, refl); spelled = tt; acts = (refl, refl, refl) }
 
--- a group of a kind that is none is bad where its gate stands
-pub kind-bad : IsFirstBad (set log 17 0) 16
-kind-bad = record {
+-- a group that is bad behind the header is the first bad one
+first-bad : (disk : List ℕ) → begins_as_log disk ≡ true → group_on disk 16 ≡ group.Bad → IsFirstBad disk 16
+first-bad disk header bad = record {
   format = 1;
   c = no_holdings;
   kept = [];
-  before = record { header = refl; entries = []; stand = refl; acts = (refl, refl, refl) };
-  bad = inl kind_0;
+  before = record { header = header; entries = []; stand = refl; acts = (refl, refl, refl) };
+  bad = inl bad;
 }
 
--- and so is one that is not wholly there
+-- so is one of a kind that is none, where its gate stands, and one that is not wholly there
+pub kind-bad : IsFirstBad (set log 17 0) 16
+kind-bad = first-bad (set log 17 0) refl kind_0
+
 pub cut-bad : IsFirstBad (take 40 log) 16
-cut-bad = record {
-  format = 1;
-  c = no_holdings;
-  kept = [];
-  before = record { header = refl; entries = []; stand = refl; acts = (refl, refl, refl) };
-  bad = inl cut_within;
-}
+cut-bad = first-bad (take 40 log) refl cut_within
 
 pub gate-bad : IsFirstBad (take 17 log) 16
-gate-bad = record {
-  format = 1;
-  c = no_holdings;
-  kept = [];
-  before = record { header = refl; entries = []; stand = refl; acts = (refl, refl, refl) };
-  bad = inl cut_behind_gate;
-}
+gate-bad = first-bad (take 17 log) refl cut_behind_gate
 
 -- ---- a log is not well made
 
@@ -112,13 +105,10 @@ line-kept c d k is = let none = is.none in cc
 pub version-kind : (c d : Holdings) (kept : List Kept) → ActsAsVersion 1 c one d kept → ⊥
 version-kind c d kept is = omega (arith, is.kind)
 
-pub version-old : (c d : Holdings) (body : List ℕ) (kept : List Kept)
-    → ActsAsVersion 2 c (record { kind = 4; body = body }) d kept → ⊥
-version-old c d body kept is = omega (arith, is.kind)
-
-pub version-early : (c d : Holdings) (body : List ℕ) (kept : List Kept)
-    → ActsAsVersion 1 c (record { kind = 6; body = body }) d kept → ⊥
-version-early c d body kept is = omega (arith, is.kind)
+pub version-other : (c d : Holdings) (body : List ℕ) (kept : List Kept)
+    → (ActsAsVersion 2 c (record { kind = 4; body = body }) d kept → ⊥)
+    × (ActsAsVersion 1 c (record { kind = 6; body = body }) d kept → ⊥)
+version-other c d body kept = (λ is. omega (arith, is.kind), λ is. omega (arith, is.kind))
 
 -- a group of kind 5 raises a log once, where it has no byte, and keeps nothing
 abbrev raise : LogGroup

@@ -1,10 +1,11 @@
 //! Opening a log: its groups are read one after another, and act on what is held.
 
-ghost use Rattle.std.specs.Prelude.{◌≡◌, ◌<◌, [], true, IfOk, IfErr, IfSome, OnOk};
+ghost use Rattle.std.specs.Prelude.{◌≡◌, ◌<◌, true, IfOk, IfErr, IfSome, OnOk};
 ghost use Rattle.sz_outside.specs.Counts.{faults_after};
 ghost use Rattle.sz_outside.specs.Disk.{Told, Passes, Same, Said};
 ghost use Rattle.sz_catalogue.specs.Holdings.{no_holdings};
 ghost use Rattle.sz_formats.specs.Formats.{is_format};
+ghost use Rattle.sz_recover.specs.Calls.{Keeps, Stays};
 ghost use Rattle.sz_recover.specs.Logs.{IsMade, SaysWhy, TakesNext, SaysBad, IsNext, IsFurther};
 ghost use Rattle.sz_recover.specs.Logs.{IsPlain, has_read};
 ghost use Rattle.sz_recover.specs.Opened.{AreOfVersions};
@@ -102,10 +103,8 @@ pub fn catalogue_of<T: Station, R: Threads + Sync>(
         (T.may_leave station.old) (T.may_leave station.new) Same (Said (T.said station.old))) }
 {
     let mut catalogue = Catalogue::new(alloc);
-    let mut stores = Vec::new(alloc);
-    let mut format = 1;
-    match act_each(rt, alloc, station, &mut catalogue, &mut stores, &mut format) {
-        Ok(at) => Ok(Recovered {
+    match act_each(rt, alloc, station, &mut catalogue) {
+        Ok((stores, format, at)) => Ok(Recovered {
             format,
             catalogue,
             end: LogEnd { at },
@@ -115,43 +114,36 @@ pub fn catalogue_of<T: Station, R: Threads + Sync>(
     }
 }
 
-/// Takes the groups of a log, from format 1 and nothing on, and gives the place of the first closed
-/// gate.
+/// Takes the groups of a log, from format 1 and nothing on, and gives the stores of its versions,
+/// its format, and the place of the first closed gate.
 #[tactic(auto, using(crate::proofs::Entries::nothing_kept))]
 fn act_each<T: Station, R: Threads + Sync>(
     rt: &R,
     alloc: Global,
     station: &mut T,
     catalogue: &mut Catalogue,
-    kept: &mut Vec<KeptVersion>,
-    format: &mut u8,
-) -> Result<u64, RecoverFault>
+) -> Result<(Vec<KeptVersion>, u8, u64), RecoverFault>
     requires nothing { catalogue.old ≡ no_holdings }
-    requires none { kept.old.items ≡ [] }
-    requires first { format.old ≡ 1 }
     ensures made { IfOk result
-        (λ at. IsMade (T.disk station.old) at format.new catalogue.new kept.new.items) }
-    ensures format { OnOk result (is_format format.new ≡ true) }
-    ensures entries { OnOk result (AreOfVersions catalogue.new kept.new.items) }
+        (λ r. IsMade (T.disk station.old) r.2 r.1 catalogue.new r.0.items) }
+    ensures format { IfOk result (λ r. is_format r.1 ≡ true) }
+    ensures entries { IfOk result (λ r. AreOfVersions catalogue.new r.0.items) }
     ensures why { IfErr result (λ e. SaysWhy (T.disk station.old) e) }
     ensures counted { T.disk_faults station.new
         ≡ faults_after (T.disk_faults station.old) (has_read result) }
-    ensures disk { T.disk station.new ≡ T.disk station.old }
-    ensures output { (T.said station.new ≡ T.said station.old)
-        × (T.say_faults station.new ≡ T.say_faults station.old) }
-    ensures stops { Told (T.disk station.old) (
-        Passes (T.moment station.old) (T.moment station.new)
-        (T.left_since station.old) (T.left_since station.new)
-        (T.may_leave station.old) (T.may_leave station.new) Same (Said (T.said station.old))) }
+    ensures kept { Keeps T.disk T.said T.say_faults station.old station.new }
+    ensures stops { Stays T.disk T.moment T.left_since T.may_leave T.said station.old station.new }
 {
     if !is_log(station)? {
         return Err(RecoverFault::NotALog);
     }
+    let mut kept = Vec::new(alloc);
+    let mut format = 1;
     let mut at = 16;
-    while let Some(next) = take_next(rt, alloc, station, catalogue, kept, format, at)? {
+    while let Some(next) = take_next(rt, alloc, station, catalogue, &mut kept, &mut format, at)? {
         at = next;
     }
-    Ok(at)
+    Ok((kept, format, at))
 }
 
 /// Takes the group that stands at a place, and gives the place of the next gate; nothing at a
@@ -175,13 +167,8 @@ fn take_next<T: Station, R: Threads + Sync>(
     ensures bad { IfErr result (λ e. SaysBad (T.disk station.old) at format.old catalogue.old e) }
     ensures counted { T.disk_faults station.new
         ≡ faults_after (T.disk_faults station.old) (has_read result) }
-    ensures disk { T.disk station.new ≡ T.disk station.old }
-    ensures output { (T.said station.new ≡ T.said station.old)
-        × (T.say_faults station.new ≡ T.say_faults station.old) }
-    ensures stops { Told (T.disk station.old) (
-        Passes (T.moment station.old) (T.moment station.new)
-        (T.left_since station.old) (T.left_since station.new)
-        (T.may_leave station.old) (T.may_leave station.new) Same (Said (T.said station.old))) }
+    ensures kept { Keeps T.disk T.said T.say_faults station.old station.new }
+    ensures stops { Stays T.disk T.moment T.left_since T.may_leave T.said station.old station.new }
 {
     match next_group(alloc, station, at) {
         Ok(Next::End) => Ok(None),
@@ -215,13 +202,8 @@ fn next_group<T: Station>(alloc: Global, station: &mut T, at: u64) -> Result<Nex
     ensures plain { IfErr result (λ e. IsPlain e) }
     ensures counted { T.disk_faults station.new
         ≡ faults_after (T.disk_faults station.old) (has_read result) }
-    ensures disk { T.disk station.new ≡ T.disk station.old }
-    ensures output { (T.said station.new ≡ T.said station.old)
-        × (T.say_faults station.new ≡ T.say_faults station.old) }
-    ensures stops { Told (T.disk station.old) (
-        Passes (T.moment station.old) (T.moment station.new)
-        (T.left_since station.old) (T.left_since station.new)
-        (T.may_leave station.old) (T.may_leave station.new) Same (Said (T.said station.old))) }
+    ensures kept { Keeps T.disk T.said T.say_faults station.old station.new }
+    ensures stops { Stays T.disk T.moment T.left_since T.may_leave T.said station.old station.new }
 {
     match group_at(station, at)? {
         Group::Closed => Ok(Next::End),

@@ -20,21 +20,14 @@ use Rattle.sz_feed.proofs.Disks.{stops-both, stops-silent}
 
 -- ---- what a status tells
 
--- where the check ended with it
-pub check-ends_with : {X : Type 0} (T : Ghosts X) (s t : Status) (a b : X) → ChecksLog T s a b → s ≡ t
-    → ChecksLog T t a b
-check-ends_with {X} T s t a b ends is = subst (λ (x : Status). ChecksLog T x a b) is ends
-
 -- of the disk alone
 pub check-silent : {X : Type 0} (T : Ghosts X) (s : Status) (a b : X) → ChecksLog T s a b → is_of_disk s ≡ true
     → IsSilent T a b
-check-silent {X} T status.Done a b ends is = absurd (true≢false (sym is))
-check-silent {X} T status.SayFault a b ends is = absurd (true≢false (sym is))
 check-silent {X} T status.DiskFault a b ends is = ends
 check-silent {X} T status.NotALog a b ends is = ends.0
 check-silent {X} T (status.BadLog at) a b ends is = ends.0
-check-silent {X} T status.NoMemory a b ends is = ends
-check-silent {X} T _ a b ends is = absurd ends
+check-silent {X} T status.AlreadyALog a b ends is = absurd ends
+check-silent {X} T _ a b ends is = absurd (true≢false (sym is))
 
 -- ---- a disk that does not begin as a log
 
@@ -77,7 +70,7 @@ check-unlike {X} T _ a b ends = absurd ends
 abbrev pub StopsBegun : Status → Type 0
 StopsBegun s = (s ≡ status.Done) ⊎ ((s ≡ status.NoMemory) ⊎ ((at : ℕ) × (s ≡ status.BadLog at)))
 
-begun-log : (o : Option (List ℕ)) → BeginsAsLog o → IsNoLog o → ⊥
+pub begun-log : (o : Option (List ℕ)) → BeginsAsLog o → IsNoLog o → ⊥
 begun-log None begun other = begun
 begun-log (Some disk) begun other = true≢false (sym begun ∙ other)
 

@@ -2,11 +2,11 @@
 --
 -- The key idea: to put the disk where a stop leaves it, and to read it, changes no image and says nothing; so what a
 -- stop finds of the lines that are answered then is found from the start of the call.
-use Rattle.std.proofs.Common.{◌≡◌, ℕ, ◌≤◌, List, true, false, refl, sym, ◌∙◌, subst, Option, Some, None, true≢false}
+use Rattle.std.proofs.Common.{◌≡◌, ℕ, List, true, false, refl, sym, ◌∙◌, subst, Option, Some, None, true≢false}
 use Rattle.std.specs.Prelude.{Result, Ok, Err, OnOk, is_ok, is_err}
 use Rattle.sz_outside.specs.Counts.{faults_after}
 use Rattle.sz_outside.specs.Outside.{Rose, Stood}
-use Rattle.sz_outside.specs.Disk.{Told, Same, Said}
+use Rattle.sz_outside.specs.Disk.{Same, Said}
 use Rattle.sz_outside.specs.declared.stations.Station.{Ghosts}
 use Rattle.sz_catalogue.specs.Holdings.{Holdings}
 use Rattle.sz_recover.specs.Logs.{Kept, IsMade, IsNoLog, IsBroken, SaysWhy, has_read}
@@ -23,17 +23,14 @@ use Rattle.sz_session.specs.Statuses.{recover_status, EndsLines, AreCounted}
 use Rattle.sz_session.specs.declared.serving.Status.{Status}
 use Rattle.sz_session.specs.declared.serving.Status.TheVariants as status
 use Rattle.sz_commands.proofs.Stops.{pass-still}
+use Rattle.sz_feed.proofs.Passes.{FindsNow, CountsNow}
 use Rattle.sz_feed.proofs.Running.{finds-before}
 
 -- ---- no log
 
 -- no memory, before any call
 pub unopened-still : {X : Type 0} (T : Ghosts X) (s : Status) (a : X) → s ≡ status.NoMemory
-    → ((image found : List ℕ) → Told (T.disk a)
-    (T.left_since a (T.moment a) image found → T.may_leave a image × Said (T.said a) found))
-    → ((t : ℕ) (image found : List ℕ) → Told (T.disk a)
-    (t ≤ T.moment a → T.may_leave a image → Said (T.said a) found → T.left_since a t image found))
-    → EndsUnopened T s a a
+    → FindsNow T a → CountsNow T a → EndsUnopened T s a a
 unopened-still {X} T s a is only counts = record {
   why = subst (IsUnopened (T.disk a)) (sym is) tt;
   silent = record { said = refl; quiet = refl };

@@ -103,18 +103,7 @@ pub turn-behind : {X : Type 0} {T : Ghosts X} {s : Status} {limit total : ℕ} {
 turn-behind {X} {T} {s} {limit} {total} {o} {left} {r'} {r''} {m} {y} {z} r x one turn =
     counted-behind T s r r' r'' x y z one turn.counted
 
--- what they tell of a status, where the call ended with it
-pub counted-with : {X : Type 0} (T : Ghosts X) (s t : Status) (r r' : ℕ) (x y : X) → AreCounted T s r r' x y → s ≡ t
-    → AreCounted T t r r' x y
-counted-with {X} T s t r r' x y counted is = subst (λ (z : Status). AreCounted T z r r' x y) is counted
-
 -- ---- endings
-
--- what a status tells, where the session ended with it
-pub ends-with : (z : SessionState) (s t : Status) (limit : ℕ) (all left a b : Option (List ℕ))
-    → Ends z s limit all left a b
-    → s ≡ t → Ends z t limit all left a b
-ends-with z s t limit all left a b h is = let P : Status → Type 0 = λ s. Ends z s limit all left a b in subst P is h
 
 -- past the limit there were more bytes than it has
 pub limit-passed : (z : SessionState) (limit : ℕ) (all left a b : Option (List ℕ)) → SaidToLimit z limit all left a b
@@ -203,3 +192,11 @@ pub of-claim : {X : Type 0} (T : Ghosts X) (e : Option LogPlace) (o : Opening) (
     → FindsOf T e o Claim a b → (e ≡ None → Claim) → Claim
 of-claim {X} T None o Claim a b found none = none refl
 of-claim {X} T (Some at) o Claim a b found none = found
+
+-- ---- what a call asks
+
+-- the parts of it in their order: of four type parameters, of bounds of some of them, and of what is passed
+pub asks : {A B C D E F G H I J K L M : Type 0} → A × (B × (C × D)) → E → F → G → H → I → J → K → L → M
+    → A × (B × (C × (D × (E × (F × (G × (H × (I × (J × (K × (L × M)))))))))))
+asks lives e f g h i j k l m =
+    (lives.0, (lives.1.0, (lives.1.1.0, (lives.1.1.1, (e, (f, (g, (h, (i, (j, (k, (l, m))))))))))))

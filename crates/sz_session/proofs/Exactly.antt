@@ -15,22 +15,24 @@ use Rattle.sz_feed.specs.Serving.{IsPastLimit, IsWithinLimit}
 use Rattle.sz_commands.specs.States.{SessionState, LogPlace}
 use Rattle.sz_feed.specs.Running.{state_of_log}
 use Rattle.sz_session.specs.Continuing.{IsUnopened, EndsOnLog}
-use Rattle.sz_session.specs.Checking.{IsLineOf, IsUnlike, IfNoLog, IfBadLog, IsWellMadeLog}
+use Rattle.sz_session.specs.Checking.{IsLineOf, IsUnlike, IfNoLog, IfBadLog, IsWellMadeLog, BeginsAsLog}
 use Rattle.sz_session.specs.Raising.{HasRaised, RaisesLog}
 use Rattle.sz_session.specs.Statuses.{ChecksLog, EndsLines, AreCounted}
 use Rattle.sz_session.specs.declared.serving.Status.{Status}
 use Rattle.sz_session.specs.declared.serving.Status.TheVariants as status
-use Rattle.sz_session.proofs.Ends.{limit-passed, counted-with}
-use Rattle.sz_session.proofs.Checkings.{StopsUnlike}
+use Rattle.sz_session.proofs.Ends.{limit-passed}
+use Rattle.sz_session.proofs.Checkings.{StopsUnlike, StopsBegun, begun-log, check-tells}
 use Rattle.sz_session.proofs.Checkings.{no_log-made, no_log-broken, no_log-each}
-use Rattle.sz_session.proofs.Modes.{lines-with}
 
 -- ---- a well-made log
 
 -- it begins as a log
+made-begun : (o : Option (List ℕ)) → IsWellMadeLog o → BeginsAsLog o
+made-begun None made = made
+made-begun (Some disk) made = made.3.header
+
 made-begins : (o : Option (List ℕ)) → IsWellMadeLog o → IsNoLog o → ⊥
-made-begins None made other = made
-made-begins (Some disk) made other = true≢false (sym made.3.header ∙ other)
+made-begins o made other = begun-log o (made-begun o made) other
 
 -- and is bad nowhere
 made-whole : WellMadeLogsAreNotBad → (o : Option (List ℕ)) (at : ℕ) → IsWellMadeLog o → IsBroken o at → ⊥
@@ -74,12 +76,10 @@ broken-each (Some disk) Claim is = λ place bad. is place
 
 -- ---- a disk that does not begin as a log
 
-pub run-no_log : {X : Type 0} (T : Ghosts X) (s : Status) (limit : ℕ) (left rest : Option (List ℕ)) (r r' : ℕ) (x y : X)
-    → EndsOnLog T s limit left rest x y → AreCounted T s r r' x y → s ≡ status.NotALog → IsUnlike T x y
-run-no_log {X} T s limit left rest r r' x y (inl none) counted is =
-    (subst (IsUnopened (T.disk x)) is none.why, (counted-with T s status.NotALog r r' x y counted is).2)
-run-no_log {X} T s limit left rest r r' x y (inr one) counted is =
-    absurd (lines-with (state_of_log one.c one.kept) s status.NotALog limit left rest (T.said x) (T.said y) one.ends is)
+pub run-no_log : {X : Type 0} (T : Ghosts X) (limit : ℕ) (left rest : Option (List ℕ)) (r r' : ℕ) (x y : X)
+    → EndsOnLog T status.NotALog limit left rest x y → AreCounted T status.NotALog r r' x y → IsUnlike T x y
+run-no_log {X} T limit left rest r r' x y (inl none) counted = (none.why, counted.2)
+run-no_log {X} T limit left rest r r' x y (inr one) counted = absurd one.ends
 
 unopened-unlike : (o : Option (List ℕ)) (s : Status) → IsUnopened o s → IfNoLog o (StopsUnlike s)
 unopened-unlike o status.DiskFault why = no_log-each o _ (inr (inl refl))
@@ -141,19 +141,17 @@ upgrade-broken whole place {X} T _ x y ends = absurd ends
 
 -- ---- a well-made log, where no count rose
 
--- its check is done
+-- its check is done, since no group of it is bad
 pub check-completes : WellMadeLogsAreNotBad → {X : Type 0} (T : Ghosts X) (s : Status) (x y : X) → ChecksLog T s x y
     → AreCounted T s 0 0 x y → IsWellMadeLog (T.disk x) → (Rose (T.disk_faults x) (T.disk_faults y) → ⊥)
     → (Rose (T.say_faults x) (T.say_faults y) → ⊥) → (s ≡ status.Done) ⊎ (s ≡ status.NoMemory)
-check-completes whole {X} T status.Done x y ends counted made no_disk no_say = inl refl
-check-completes whole {X} T status.SayFault x y ends counted made no_disk no_say = absurd (no_say counted.1)
-check-completes whole {X} T status.DiskFault x y ends counted made no_disk no_say = absurd (no_disk counted.2)
-check-completes whole {X} T status.NotALog x y ends counted made no_disk no_say =
-    absurd (made-begins (T.disk x) made ends.1.0)
-check-completes whole {X} T (status.BadLog at) x y ends counted made no_disk no_say =
-    absurd (made-whole whole (T.disk x) at made ends.1.0)
-check-completes whole {X} T status.NoMemory x y ends counted made no_disk no_say = inr refl
-check-completes whole {X} T _ x y ends counted made no_disk no_say = absurd ends
+check-completes whole {X} T s x y ends counted made no_disk no_say =
+    by (check-tells T s x y ends counted (made-begun (T.disk x) made) no_disk no_say) where
+      by : StopsBegun s → (s ≡ status.Done) ⊎ (s ≡ status.NoMemory)
+      by (inl is) = inl is
+      by (inr (inl is)) = inr is
+      by (inr (inr (at, is))) =
+          absurd (made-whole whole (T.disk x) at made (subst (λ (z : Status). ChecksLog T z x y) is ends).1.0)
 
 -- and so is its raising
 pub upgrade-completes : WellMadeLogsAreNotBad → {X : Type 0} (T : Ghosts X) (s : Status) (x y : X) → RaisesLog T s x y

@@ -38,11 +38,6 @@ said-behind_nothing old new told none says = same_Some _ _ says ∙ ap (λ (xs :
 
 -- ---- statuses
 
--- what a status tells, where the session ended with it
-pub load-ends_with : (s t : Status) (line : List ℕ) (a b : Option (List ℕ)) → SaysSummary s line a b → s ≡ t
-    → SaysSummary t line a b
-load-ends_with s t line a b h is = subst (λ (x : Status). SaysSummary x line a b) is h
-
 -- none comes of the disk
 pub load-not_disk : (s : Status) (line : List ℕ) (a b : Option (List ℕ)) → SaysSummary s line a b
     → is_of_disk s ≡ true → ⊥

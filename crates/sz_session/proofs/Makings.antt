@@ -9,34 +9,21 @@ use Rattle.sz_outside.specs.Outside.{Rose}
 use Rattle.sz_outside.specs.declared.stations.Station.{Ghosts}
 use Rattle.sz_log.specs.declared.LogFault.{LogFault}
 use Rattle.sz_log.specs.declared.LogFault.TheVariants as log
-use Rattle.sz_feed.specs.Making.{HasBar, IsFree, IfBarred, HasMade, IsSilent}
+use Rattle.sz_feed.specs.Making.{HasBar, IsFree, IfBarred, IsSilent}
 use Rattle.sz_session.specs.Statuses.{log_status, is_of_disk, MakesLog, AreCounted}
 use Rattle.sz_session.specs.declared.serving.Status.{Status}
 use Rattle.sz_session.specs.declared.serving.Status.TheVariants as status
 
 -- ---- what a status tells
 
--- where the making ended with it
-pub init-ends_with : {X : Type 0} (T : Ghosts X) (s t : Status) (a b : X) → MakesLog T s a b → s ≡ t
-    → MakesLog T t a b
-init-ends_with {X} T s t a b ends is = subst (λ (x : Status). MakesLog T x a b) is ends
-
--- the log was made, whether its line was said or not
-pub init-made : {X : Type 0} (T : Ghosts X) (s : Status) (a b : X) → MakesLog T s a b
-    → (s ≡ status.Done) ⊎ (s ≡ status.SayFault) → HasMade T a b
-init-made {X} T s a b ends (inl is) = (init-ends_with T s status.Done a b ends is).0
-init-made {X} T s a b ends (inr is) = (init-ends_with T s status.SayFault a b ends is).0
-
 -- of the disk alone
 pub init-silent : {X : Type 0} (T : Ghosts X) (s : Status) (a b : X) → MakesLog T s a b → is_of_disk s ≡ true
     → IsSilent T a b
-init-silent {X} T status.Done a b ends is = absurd (true≢false (sym is))
-init-silent {X} T status.SayFault a b ends is = absurd (true≢false (sym is))
 init-silent {X} T status.DiskFault a b ends is = ends
 init-silent {X} T status.NotALog a b ends is = ends.0
 init-silent {X} T status.AlreadyALog a b ends is = ends.0
-init-silent {X} T status.NoMemory a b ends is = absurd (true≢false (sym is))
-init-silent {X} T _ a b ends is = absurd ends
+init-silent {X} T (status.BadLog at) a b ends is = absurd ends
+init-silent {X} T _ a b ends is = absurd (true≢false (sym is))
 
 -- ---- a disk that is barred, and one that is free
 

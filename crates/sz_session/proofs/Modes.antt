@@ -2,17 +2,16 @@
 --
 -- The key idea: words are refused, or they ask for one mode, and then its record tells all of the call. Where nothing
 -- was done and there was no memory, each record holds.
-use Rattle.std.proofs.Common.{◌≡◌, ℕ, ◌≤◌, ◌^◌, List, [], Bool, true, false, Some, None}
+use Rattle.std.proofs.Common.{◌≡◌, ℕ, ◌^◌, List, [], Bool, true, false, Some, None}
 use Rattle.std.proofs.Common.{refl, sym, ap, ◌∙◌, subst, inl, inr, true≢false}
 use Rattle.std.specs.Prelude.{Option, ◌⊎◌, option_map}
 use Rattle.std.specs.Option.{option_map_or}
 use Rattle.std.proofs.lemmas.Option.{same_Some}
-use Rattle.sz_outside.specs.Disk.{Told, Said}
 use Rattle.sz_outside.specs.declared.sources.Source as source
 use Rattle.sz_outside.specs.declared.stations.Station.{Ghosts}
-use Rattle.sz_commands.specs.States.{SessionState, nothing_held}
+use Rattle.sz_commands.specs.States.{nothing_held}
 use Rattle.sz_feed.specs.Serving.{load_line}
-use Rattle.sz_session.specs.Statuses.{words_status, Ends, EndsLines, AreCounted, SaysSummary, MakesLog, ChecksLog}
+use Rattle.sz_session.specs.Statuses.{words_status, Ends, AreCounted, SaysSummary, MakesLog, ChecksLog}
 use Rattle.sz_session.specs.Modes.{mode_in, AsksFor, IfLoad, is_for}
 use Rattle.sz_session.specs.Modes.{EndsPlay, EndsLoad, EndsInit, EndsCheck, EndsUpgrade, EndsRun, Serves}
 use Rattle.sz_session.specs.Raising.{RaisesLog}
@@ -23,6 +22,7 @@ use Rattle.sz_words.specs.declared.arguments.JobMode.{JobMode}
 use Rattle.sz_words.specs.declared.arguments.JobMode.TheVariants as mode
 use Rattle.sz_words.specs.declared.WordsFault.{WordsFault}
 use Rattle.sz_words.specs.declared.WordsFault.TheVariants as fault
+use Rattle.sz_feed.proofs.Passes.{FindsNow, CountsNow}
 use Rattle.sz_feed.proofs.Told.{none-in_lines}
 use Rattle.sz_feed.proofs.Turns.{says-nothing}
 use Rattle.sz_feed.proofs.Disks.{stays-still, start-stays, making-still}
@@ -122,11 +122,11 @@ by-mode {Y} {X} S T (Some job) s before after old new Claim serves none play loa
 
 -- ---- statuses
 
--- what is told of the status of a session on a log
-pub lines-with : (c : SessionState) (s t : Status) (limit : ℕ) (all left a b : Option (List ℕ))
-    → EndsLines c s limit all left a b
-    → s ≡ t → EndsLines c t limit all left a b
-lines-with c s t limit all left a b ends is = subst (λ (z : Status). EndsLines c z limit all left a b) is ends
+-- what a call owes that ended with this status
+pub by-status : {Y X : Type 0} {S : source.Ghosts Y} {T : Ghosts X} {o : Option Job} {s t : Status} {before after : Y}
+    {old new : X} → Serves S T o s before after old new → s ≡ t → Serves S T o t before after old new
+by-status {Y} {X} {S} {T} {o} {s} {t} {before} {after} {old} {new} serves is =
+    subst (λ (z : Status). Serves S T o z before after old new) is serves
 
 -- those of refused words
 abbrev pub is_refusal : Status → Bool
@@ -135,9 +135,9 @@ is_refusal status.NoMemory = true
 is_refusal _ = false
 
 -- no other comes of them
-pub not-refused : (s t : Status) → (s ≡ status.Usage) ⊎ (s ≡ status.NoMemory) → s ≡ t → is_refusal t ≡ false → ⊥
-not-refused s t (inl usage) is other = true≢false (ap is_refusal (sym usage ∙ is) ∙ other)
-not-refused s t (inr none) is other = true≢false (ap is_refusal (sym none ∙ is) ∙ other)
+pub not-refused : (s : Status) → (s ≡ status.Usage) ⊎ (s ≡ status.NoMemory) → is_refusal s ≡ false → ⊥
+not-refused s (inl usage) other = true≢false (ap is_refusal (sym usage) ∙ other)
+not-refused s (inr none) other = true≢false (ap is_refusal (sym none) ∙ other)
 
 -- the status of words that ask for no job
 pub words-refused : (f : WordsFault) (s : Status) → s ≡ words_status f → (s ≡ status.Usage) ⊎ (s ≡ status.NoMemory)
@@ -150,16 +150,6 @@ words-memory fault.Usage s is never = absurd (never refl)
 words-memory fault.NoMemory s is never = is
 
 -- ---- where nothing was done, and there was no memory
-
--- what a stop finds of a station is what is pending there
-abbrev pub FindsNow : {X : Type 0} → Ghosts X → X → Type 0
-FindsNow T x = (image found : List ℕ) → Told (T.disk x)
-    (T.left_since x (T.moment x) image found → T.may_leave x image × Said (T.said x) found)
-
--- and each such thing is found
-abbrev pub CountsNow : {X : Type 0} → Ghosts X → X → Type 0
-CountsNow T x = (t : ℕ) (image found : List ℕ) → Told (T.disk x)
-    (t ≤ T.moment x → T.may_leave x image → Said (T.said x) found → T.left_since x t image found)
 
 -- no count rose
 idle-counted : {X : Type 0} (T : Ghosts X) (s : Status) (r : ℕ) (x : X) → s ≡ status.NoMemory

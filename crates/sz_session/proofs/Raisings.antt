@@ -3,7 +3,7 @@
 -- The key idea: the group of kind 5 acts on whatever a log of format 1 holds, and changes nothing of it. So the log is
 -- well made before the group and behind it, and a stop leaves one or the other; to open a log and to say its line
 -- changes no image.
-use Rattle.std.proofs.Common.{◌≡◌, ℕ, ◌≤◌, List, [], ◌++◌, Option, Some, None, true, refl, sym, subst, inl, inr}
+use Rattle.std.proofs.Common.{◌≡◌, ℕ, List, [], ◌++◌, Option, Some, None, true, refl, sym, subst, inl, inr}
 use Rattle.std.proofs.Common.{⊎_elim, true≢false, append-nil, arith}
 use Rattle.std.specs.Prelude.{◌⊎◌}
 use Rattle.std.proofs.lemmas.Bool.Decides.{nat_tests}
@@ -22,11 +22,12 @@ use Rattle.sz_commands.proofs.Stops.{told-more, pass-still}
 use Rattle.sz_commands.proofs.Logged.{still-synced}
 use Rattle.sz_feed.specs.Making.{IsSilent}
 use Rattle.sz_feed.specs.Disks.{OnlySays}
+use Rattle.sz_feed.proofs.Passes.{Images, FindsNow, CountsNow, told-both, same-follows, pass-finds, pass-behind}
 use Rattle.sz_feed.proofs.Disks.{said-part}
 use Rattle.sz_formats.specs.Formats.{is_format}
 use Rattle.sz_session.specs.Checking.{IfNoLog}
 use Rattle.sz_session.specs.Raising.{raised_line, upgrade_group, IsRaising, RaisesOrStays, StopsRaising}
-use Rattle.sz_session.specs.Raising.{HasRaised, IsLeftAlone, RaisesLog}
+use Rattle.sz_session.specs.Raising.{HasRaised, RaisesLog}
 use Rattle.sz_session.specs.Statuses.{is_of_disk}
 use Rattle.sz_session.specs.declared.serving.Status.{Status}
 use Rattle.sz_session.specs.declared.serving.Status.TheVariants as status
@@ -34,33 +35,14 @@ use Rattle.sz_session.proofs.Checkings.{StopsUnlike, no_log-made, no_log-broken,
 
 -- ---- what a status tells
 
--- where the raising ended with it
-pub upgrade-ends_with : {X : Type 0} (T : Ghosts X) (s t : Status) (a b : X) → RaisesLog T s a b → s ≡ t
-    → RaisesLog T t a b
-upgrade-ends_with {X} T s t a b ends is = subst (λ (x : Status). RaisesLog T x a b) is ends
-
--- the log was raised, whether its line was said or not
-pub upgrade-raised : {X : Type 0} (T : Ghosts X) (s : Status) (a b : X) → RaisesLog T s a b
-    → (s ≡ status.Done) ⊎ (s ≡ status.SayFault) → HasRaised T a b
-upgrade-raised {X} T s a b ends (inl is) = (upgrade-ends_with T s status.Done a b ends is).0
-upgrade-raised {X} T s a b ends (inr is) = (upgrade-ends_with T s status.SayFault a b ends is).0
-
--- what is no log, or a bad one, was left alone
-pub upgrade-alone : {X : Type 0} (T : Ghosts X) (s : Status) (a b : X) → RaisesLog T s a b
-    → (s ≡ status.NotALog) ⊎ ((at : ℕ) × (s ≡ status.BadLog at)) → IsLeftAlone T a b
-upgrade-alone {X} T s a b ends (inl is) = (upgrade-ends_with T s status.NotALog a b ends is).0
-upgrade-alone {X} T s a b ends (inr (at, is)) = (upgrade-ends_with T s (status.BadLog at) a b ends is).0
-
 -- of the disk alone
 pub upgrade-silent : {X : Type 0} (T : Ghosts X) (s : Status) (a b : X) → RaisesLog T s a b → is_of_disk s ≡ true
     → IsSilent T a b
-upgrade-silent {X} T status.Done a b ends is = absurd (true≢false (sym is))
-upgrade-silent {X} T status.SayFault a b ends is = absurd (true≢false (sym is))
 upgrade-silent {X} T status.DiskFault a b ends is = ends
 upgrade-silent {X} T status.NotALog a b ends is = ends.0.silent
 upgrade-silent {X} T (status.BadLog at) a b ends is = ends.0.silent
-upgrade-silent {X} T status.NoMemory a b ends is = ends.silent
-upgrade-silent {X} T _ a b ends is = absurd ends
+upgrade-silent {X} T status.AlreadyALog a b ends is = absurd ends
+upgrade-silent {X} T _ a b ends is = absurd (true≢false (sym is))
 
 -- a log that was raised begins as one
 no_log-raised : {X : Type 0} (T : Ghosts X) (a b : X) (Claim : Type 0) → HasRaised T a b → IfNoLog (T.disk a) Claim
@@ -75,67 +57,6 @@ upgrade-unlike {X} T status.NotALog a b ends = no_log-each (T.disk a) _ (inl ref
 upgrade-unlike {X} T (status.BadLog at) a b ends = no_log-broken (T.disk a) at _ ends.1.0
 upgrade-unlike {X} T status.NoMemory a b ends = no_log-each (T.disk a) _ (inr (inr refl))
 upgrade-unlike {X} T _ a b ends = absurd ends
-
--- ---- passes
-
-abbrev Since : Type 1
-Since = ℕ → List ℕ → List ℕ → Type 0
-
-abbrev Images : Type 1
-Images = List ℕ → Type 0
-
-abbrev Step : Type 1
-Step = List ℕ → List ℕ → Type 0
-
-told-both : (o : Option (List ℕ)) (A B C : Type 0) → (A → B → C) → Told o A → Told o B → Told o C
-told-both None A B C f p q = tt
-told-both (Some d) A B C f p q = f p q
-
--- one pass behind another, where it is told what both make of an image and find said
-pass-behind : {n m k : ℕ} {past half since : Since} {A B C : Images} {S R U : Step} {F G H : Images}
-    → Passes n m past half A B S F → Passes m k half since B C R G
-    → ((image : List ℕ) → Follows S A image → Follows U A image)
-    → ((image : List ℕ) → Follows R B image → Follows U A image)
-    → ((found : List ℕ) → F found → H found) → ((found : List ℕ) → G found → H found)
-    → Passes n k past since A C U H
-pass-behind {n} {m} {k} {past} {half} {since} {A} {B} {C} {S} {R} {U} {F} {G} {H} one two first second more then =
-    record {
-      later = omega (arith, one.later, two.later);
-      joined = λ t image found le left. ⊎_elim
-          (λ was. ⊎_elim inl (λ in_first. inr (two.kept n image found one.later in_first))
-          (one.joined t image found le was))
-          (λ in_second. inr (two.earlier n image found one.later in_second))
-          (two.joined t image found (omega (arith, le, one.later)) left);
-      kept = λ t image found le was.
-          two.kept t image found (omega (arith, le, one.later)) (one.kept t image found le was);
-      earlier = λ t image found le left. ⊎_elim
-          (λ in_first. two.kept t image found (omega (arith, le, one.later)) (one.earlier t image found le in_first))
-          (λ in_second. two.earlier t image found (omega (arith, le, one.later)) in_second)
-          (two.joined n image found one.later left);
-      within = λ image found left. ⊎_elim
-          (λ in_first. (
-            first image (one.within image found in_first).0,
-            more found (one.within image found in_first).1,
-          ))
-          (λ in_second. (
-            second image (two.within image found in_second).0,
-            then found (two.within image found in_second).1,
-          ))
-          (two.joined n image found one.later left);
-      images = λ image left. second image (two.images image left);
-    }
-
--- a pass that finds what follows of what it found
-pass-finds : {n m : ℕ} {past since : Since} {A B : Images} {S : Step} {F H : Images}
-    → ((found : List ℕ) → F found → H found) → Passes n m past since A B S F → Passes n m past since A B S H
-pass-finds {n} {m} {past} {since} {A} {B} {S} {F} {H} more one = record {
-  later = one.later;
-  joined = one.joined;
-  kept = one.kept;
-  earlier = one.earlier;
-  within = λ image found left. ((one.within image found left).0, more found (one.within image found left).1);
-  images = one.images;
-}
 
 -- ---- the group
 
@@ -217,10 +138,6 @@ raised-said {X} T bytes a b x one says = record {
 raise-same : (A : Images) (image : List ℕ) → Follows Same A image → Follows RaisesOrStays A image
 raise-same A image (old, was, is) = (old, was, inl is)
 
--- an image that stays as it is is one of those before
-same-follows : (A : Images) (image : List ℕ) → Follows Same A image → A image
-same-follows A image (old, was, is) = subst A (sym is) was
-
 -- of the append of the group
 raising-log : (old image : List ℕ) (at : ℕ) (c : Holdings) (kept : List Kept) → IsWellMade old at 1 c kept
     → AddsOrKeeps at upgrade_group old image → IsRaising old image
@@ -256,11 +173,7 @@ append-raises {X} T at format c kept a b first made only stops =
 
 -- where no call is made
 pub raise-still : {X : Type 0} (T : Ghosts X) (a : X)
-    → ((image found : List ℕ) → Told (T.disk a)
-    (T.left_since a (T.moment a) image found → T.may_leave a image × Said (T.said a) found))
-    → ((t : ℕ) (image found : List ℕ) → Told (T.disk a)
-    (t ≤ T.moment a → T.may_leave a image → Said (T.said a) found → T.left_since a t image found))
-    → StopsFinding T RaisesOrStays (Said (T.said a)) a a
+    → FindsNow T a → CountsNow T a → StopsFinding T RaisesOrStays (Said (T.said a)) a a
 raise-still {X} T a only counts =
     told-more (T.disk a) _ _ (λ passes. seen_as passes (raise-same (T.may_leave a)))
     (pass-still (T.disk a) (T.said a) (T.moment a) (T.left_since a) (T.may_leave a) only counts)
@@ -295,11 +208,7 @@ read-stops {X} T a b stops =
     (told-more (T.disk a) _ _ (λ passes. seen_as passes (raise-same (T.may_leave a))) stops)
 
 pub raising-still : {X : Type 0} (T : Ghosts X) (a : X)
-    → ((image found : List ℕ) → Told (T.disk a)
-    (T.left_since a (T.moment a) image found → T.may_leave a image × Said (T.said a) found))
-    → ((t : ℕ) (image found : List ℕ) → Told (T.disk a)
-    (t ≤ T.moment a → T.may_leave a image → Said (T.said a) found → T.left_since a t image found))
-    → StopsRaising T a a
+    → FindsNow T a → CountsNow T a → StopsRaising T a a
 raising-still {X} T a only counts = raise-stops T a a (raise-still T a only counts)
 
 -- a disk is told behind the raising where it is told before

@@ -18,11 +18,8 @@ use Rattle.sz_session.specs.declared.serving.Status.TheVariants as status
 
 -- ---- why no log was opened
 
-pub unopened-no_log : IsUnopened (Some []) status.NotALog
-unopened-no_log = refl
-
-pub unopened-log : IsUnopened (Some empty_log) status.NotALog → ⊥
-unopened-log is = true≢false is
+pub unopened-no_log : IsUnopened (Some []) status.NotALog × (IsUnopened (Some empty_log) status.NotALog → ⊥)
+unopened-no_log = (refl, (λ is. true≢false is))
 
 pub unopened-bad : IsUnopened (Some (take 17 log)) (status.BadLog 16)
 unopened-bad = gate-bad
@@ -30,23 +27,12 @@ unopened-bad = gate-bad
 pub unopened-well_made : (at : ℕ) → IsUnopened (Some empty_log) (status.BadLog at) → ⊥
 unopened-well_made at is = made-whole empty_log 16 at 1 no_holdings [] empty-made is
 
-pub unopened-done : (disk : Option (List ℕ)) → IsUnopened disk status.Done → ⊥
-unopened-done disk is = is
-
-pub unopened-read_fault : (disk : Option (List ℕ)) → IsUnopened disk status.ReadFault → ⊥
-unopened-read_fault disk is = is
-
-pub unopened-say_fault : (disk : Option (List ℕ)) → IsUnopened disk status.SayFault → ⊥
-unopened-say_fault disk is = is
-
-pub unopened-input_limit : (disk : Option (List ℕ)) → IsUnopened disk status.InputLimit → ⊥
-unopened-input_limit disk is = is
-
-pub unopened-usage : (disk : Option (List ℕ)) → IsUnopened disk status.Usage → ⊥
-unopened-usage disk is = is
-
-pub unopened-already : (disk : Option (List ℕ)) → IsUnopened disk status.AlreadyALog → ⊥
-unopened-already disk is = is
+-- no other status tells of it
+pub unopened-never : (disk : Option (List ℕ)) → (IsUnopened disk status.Done → ⊥)
+    × (IsUnopened disk status.ReadFault → ⊥) × (IsUnopened disk status.SayFault → ⊥)
+    × (IsUnopened disk status.InputLimit → ⊥) × (IsUnopened disk status.Usage → ⊥)
+    × (IsUnopened disk status.AlreadyALog → ⊥)
+unopened-never disk = ((λ is. is), (λ is. is), (λ is. is), (λ is. is), (λ is. is), (λ is. is))
 
 module _ {X : Type 0} (T : Ghosts X) (old new : X) where
   -- ---- no log was opened

@@ -4,12 +4,13 @@
 -- neither of these is a log of the other's format, and nothing between them is a log at all.
 use Rattle.std.proofs.Common.{◌≡◌, ℕ, List, [], ◌∷◌, ◌++◌, Option, Some, None, refl, sym, ap, subst, arith, inl}
 use Rattle.std.proofs.Common.{inr, ◌∙◌, true≢false, length, get_or, unwrap_or}
+use Rattle.std.specs.Prelude.{◌⊎◌}
 use Rattle.sz_outside.specs.Disk.{Told, Passes, Only}
 use Rattle.sz_outside.specs.Outside.{Says, SaysPart}
 use Rattle.sz_outside.specs.declared.stations.Station.{Ghosts}
 use Rattle.sz_log.specs.Log.{LogGroup, IsLog, header, empty_log, log_bytes, group_bytes}
 use Rattle.sz_log.specs.Laws.{Reads}
-use Rattle.sz_log.specs.Steps.{Adds, Added, place_behind}
+use Rattle.sz_log.specs.Steps.{Adds, AddsOrKeeps, Added, place_behind}
 use Rattle.sz_log.proofs.Moments.{told}
 use Rattle.sz_catalogue.specs.Holdings.{Holdings, no_holdings}
 use Rattle.sz_recover.specs.Logs.{Kept, IsWellMade, IsMade}
@@ -22,7 +23,7 @@ use Rattle.sz_session.specs.Raising.{raised_line, upgrade_group, IsRaising, Rais
 use Rattle.sz_session.specs.Raising.{HasRaised, IsLeftAlone, RaisesLog}
 use Rattle.sz_session.specs.Modes.{EndsUpgrade}
 use Rattle.sz_session.specs.declared.serving.Status.TheVariants as status
-use Rattle.sz_session.proofs.Modes.{FindsNow, CountsNow}
+use Rattle.sz_feed.proofs.Passes.{FindsNow, CountsNow}
 use Rattle.sz_session.proofs.Raisings.{raising-still}
 
 -- ---- the line, and the group
@@ -95,25 +96,23 @@ empty-adds es is =
 
 -- ---- what a stop leaves
 
-pub raising-all : IsRaising empty_log raised_log
-raising-all = record {
+raising : (image : List ℕ) → AddsOrKeeps 16 upgrade_group empty_log image
+    → IsWellMade image 16 1 no_holdings [] ⊎ IsWellMade image (place_behind 16 upgrade_group) 2 no_holdings []
+    → IsRaising empty_log image
+raising image groups left = record {
   at = 16;
   c = no_holdings;
   kept = [];
   made = empty-made;
-  groups = λ es is. inr (empty-adds es is);
-  left = inr log-made;
+  groups = groups;
+  left = left;
 }
 
+pub raising-all : IsRaising empty_log raised_log
+raising-all = raising raised_log (λ es is. inr (empty-adds es is)) (inr log-made)
+
 pub raising-none : IsRaising empty_log empty_log
-raising-none = record {
-  at = 16;
-  c = no_holdings;
-  kept = [];
-  made = empty-made;
-  groups = λ es is. inl is;
-  left = inl empty-made;
-}
+raising-none = raising empty_log (λ es is. inl is) (inl empty-made)
 
 -- nothing that is torn, nor of a log of format 2, nor of what is no log
 pub raising-torn : IsRaising empty_log torn → ⊥

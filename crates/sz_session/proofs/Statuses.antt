@@ -5,19 +5,18 @@
 use Rattle.std.proofs.Common.{◌≡◌, ℕ, ◌^◌, List, [], true, false, Some, None, refl, sym, ap, ◌∙◌, subst, inl, inr}
 use Rattle.std.proofs.Common.{arith, true≢false}
 use Rattle.std.specs.Prelude.{Option, ◌⊎◌}
-use Rattle.sz_outside.specs.Outside.{Rose}
 use Rattle.sz_outside.specs.declared.sources.Source as source
 use Rattle.sz_outside.specs.declared.stations.Station.{Ghosts}
-use Rattle.sz_log.specs.declared.LogFault.TheVariants as log
 use Rattle.sz_recover.specs.OneReading.{WellMadeLogsAreNotBad, LogsAreFirstBadAtOnePlace}
 use Rattle.sz_commands.specs.States.{nothing_held}
 use Rattle.sz_feed.specs.Serving.{IsPastLimit}
 use Rattle.sz_feed.specs.Running.{state_of_log}
 use Rattle.sz_feed.specs.Disks.{DiskStays}
-use Rattle.sz_feed.specs.Making.{IsSilent, IsSpared}
-use Rattle.sz_session.specs.Statuses.{is_of_disk, NoneRose, AreCounted}
+use Rattle.sz_feed.specs.Making.{IsSilent}
+use Rattle.sz_session.specs.Statuses.{is_of_disk, NoneRose, AreCounted, SaysSummary, MakesLog, ChecksLog}
+use Rattle.sz_session.specs.Raising.{RaisesLog}
 use Rattle.sz_session.specs.Checking.{IsUnlike, IsBadLog, IfNoLog, IfBadLog}
-use Rattle.sz_session.specs.Continuing.{IsUnopened, EndsOnLog}
+use Rattle.sz_session.specs.Continuing.{EndsOnLog}
 use Rattle.sz_session.specs.Modes.{AsksFor, Serves, is_for, is_of_lines, is_opened}
 use Rattle.sz_session.specs.declared.serving.Status.{Status}
 use Rattle.sz_session.specs.declared.serving.Status.TheVariants as status
@@ -26,13 +25,13 @@ use Rattle.sz_words.specs.declared.Job.{Job}
 use Rattle.sz_words.specs.declared.arguments.JobMode.{JobMode}
 use Rattle.sz_words.specs.declared.arguments.JobMode.TheVariants as mode
 use Rattle.sz_feed.proofs.Disks.{stays-still, disk-stays}
-use Rattle.sz_session.proofs.Ends.{ends-with, ends-not_disk, counted-with, limit-passed}
-use Rattle.sz_session.proofs.Loads.{load-ends_with, load-not_disk}
-use Rattle.sz_session.proofs.Makings.{init-ends_with, init-silent}
-use Rattle.sz_session.proofs.Checkings.{check-ends_with, check-silent, check-unlike, StopsUnlike}
-use Rattle.sz_session.proofs.Raisings.{upgrade-ends_with, upgrade-silent, upgrade-unlike}
-use Rattle.sz_session.proofs.Modes.{by-mode, for-mode, for-none, not-for, is_refusal, not-refused, lines-with}
-use Rattle.sz_session.proofs.Modes.{FindsNow, CountsNow}
+use Rattle.sz_session.proofs.Ends.{ends-not_disk, limit-passed}
+use Rattle.sz_session.proofs.Loads.{load-not_disk}
+use Rattle.sz_session.proofs.Makings.{init-silent}
+use Rattle.sz_session.proofs.Checkings.{check-silent, check-unlike, StopsUnlike}
+use Rattle.sz_session.proofs.Raisings.{upgrade-silent, upgrade-unlike}
+use Rattle.sz_session.proofs.Modes.{by-mode, by-status, for-mode, for-none, not-for, is_refusal, not-refused}
+use Rattle.sz_feed.proofs.Passes.{FindsNow, CountsNow}
 use Rattle.sz_session.proofs.Exactly.{StopsBroken, run-no_log, run-unlike, run-broken, check-broken, upgrade-broken}
 
 -- ---- counts of faults
@@ -60,23 +59,15 @@ call-counted {Y} {X} S T o s before after old new serves asks =
     (λ asked e. unread-counted T s _ _ old new (unread mode.Upgrade asked refl) e.counted)
     (λ asked e. e.counted)
 
--- where this status is none of those of refused words, it is of such a call
-asks-mode : {Y X : Type 0} (S : source.Ghosts Y) (T : Ghosts X) (o : Option Job) (s : Status)
-    (before after : Y) (old new : X) → Serves S T o s before after old new
-    → (t : Status) → s ≡ t → is_refusal t ≡ false → o ≡ None → ⊥
-asks-mode {Y} {X} S T o s before after old new serves t is other none =
-    not-refused s t (serves.refused none) is other
+-- so they do where the status is none of those of refused words
+pub status-counted : {Y X : Type 0} {S : source.Ghosts Y} {T : Ghosts X} {o : Option Job} {s : Status}
+    {before after : Y} {old new : X} → Serves S T o s before after old new
+    → (t : Status) → is_refusal t ≡ false → s ≡ t → AreCounted T t (S.faults before) (S.faults after) old new
+status-counted {Y} {X} {S} {T} {o} {s} {before} {after} {old} {new} serves t other is =
+    let call : Serves S T o t before after old new = by-status serves is in
+    call-counted S T o t before after old new call (λ none. not-refused t (call.refused none) other)
 
--- where it is done no count rose
-pub quiet-done : {Y X : Type 0} (S : source.Ghosts Y) (T : Ghosts X) (o : Option Job) (s : Status)
-    (before after : Y) (old new : X) → Serves S T o s before after old new → s ≡ status.Done
-    → NoneRose T (S.faults before) (S.faults after) old new
-quiet-done {Y} {X} S T o s before after old new serves is =
-    counted-with T s status.Done _ _ old new
-    (call-counted S T o s before after old new serves
-    (asks-mode S T o s before after old new serves status.Done is refl)) is
-
--- nor where memory was refused
+-- where memory was refused no count rose
 pub quiet-memory : {Y X : Type 0} (S : source.Ghosts Y) (T : Ghosts X) (o : Option Job) (s : Status)
     (before after : Y) (old new : X) → Serves S T o s before after old new → s ≡ status.NoMemory
     → NoneRose T (S.faults before) (S.faults after) old new
@@ -84,35 +75,7 @@ quiet-memory {Y} {X} S T None s before after old new serves is =
     let same = serves.untouched refl in
     (ap S.faults same.0, ap T.say_faults same.1, ap T.disk_faults same.1)
 quiet-memory {Y} {X} S T (Some job) s before after old new serves is =
-    counted-with T s status.NoMemory _ _ old new
-    (call-counted S T (Some job) s before after old new serves (λ none. cc)) is
-
--- a fault in reading was counted
-pub read-counted : {Y X : Type 0} (S : source.Ghosts Y) (T : Ghosts X) (o : Option Job) (s : Status)
-    (before after : Y) (old new : X) → Serves S T o s before after old new → s ≡ status.ReadFault
-    → Rose (S.faults before) (S.faults after)
-read-counted {Y} {X} S T o s before after old new serves is =
-    (counted-with T s status.ReadFault _ _ old new
-    (call-counted S T o s before after old new serves
-    (asks-mode S T o s before after old new serves status.ReadFault is refl)) is).0
-
--- one in saying was
-pub say-counted : {Y X : Type 0} (S : source.Ghosts Y) (T : Ghosts X) (o : Option Job) (s : Status)
-    (before after : Y) (old new : X) → Serves S T o s before after old new → s ≡ status.SayFault
-    → Rose (T.say_faults old) (T.say_faults new)
-say-counted {Y} {X} S T o s before after old new serves is =
-    (counted-with T s status.SayFault _ _ old new
-    (call-counted S T o s before after old new serves
-    (asks-mode S T o s before after old new serves status.SayFault is refl)) is).1
-
--- one of the disk was
-pub disk-counted : {Y X : Type 0} (S : source.Ghosts Y) (T : Ghosts X) (o : Option Job) (s : Status)
-    (before after : Y) (old new : X) → Serves S T o s before after old new → s ≡ status.DiskFault
-    → Rose (T.disk_faults old) (T.disk_faults new)
-disk-counted {Y} {X} S T o s before after old new serves is =
-    (counted-with T s status.DiskFault _ _ old new
-    (call-counted S T o s before after old new serves
-    (asks-mode S T o s before after old new serves status.DiskFault is refl)) is).2
+    call-counted S T (Some job) status.NoMemory before after old new (by-status serves is) (λ none. cc)
 
 -- ---- statuses of some modes alone
 
@@ -121,92 +84,79 @@ pub usage-refused : {Y X : Type 0} (S : source.Ghosts Y) (T : Ghosts X) (o : Opt
     (before after : Y) (old new : X) → Serves S T o s before after old new → s ≡ status.Usage
     → o ≡ None
 usage-refused {Y} {X} S T o s before after old new serves is =
-    by-mode S T o s before after old new _ serves
+    by-mode S T o status.Usage before after old new _ (by-status serves is)
     (λ none refused same. none)
-    (λ asked e. absurd (ends-with nothing_held s status.Usage _ _ _ _ _ e.ends is))
-    (λ asked line e. absurd (load-ends_with s status.Usage line _ _ e.ends is))
-    (λ asked e. absurd (init-ends_with T s status.Usage old new e.ends is))
-    (λ asked e. absurd (check-ends_with T s status.Usage old new e.ends is))
-    (λ asked e. absurd (upgrade-ends_with T s status.Usage old new e.ends is))
-    (λ asked e. absurd (counted-with T s status.Usage _ _ old new e.counted is))
+    (λ asked e. absurd e.ends)
+    (λ asked line e. absurd e.ends)
+    (λ asked e. absurd e.ends)
+    (λ asked e. absurd e.ends)
+    (λ asked e. absurd e.ends)
+    (λ asked e. absurd e.counted)
 
--- a fault in reading comes where lines are read
-pub read-lines : {Y X : Type 0} (S : source.Ghosts Y) (T : Ghosts X) (o : Option Job) (s : Status)
-    (before after : Y) (old new : X) → Serves S T o s before after old new → s ≡ status.ReadFault
-    → is_for is_of_lines o ≡ true
-read-lines {Y} {X} S T o s before after old new serves is =
-    by-mode S T o s before after old new _ serves
-    (λ none refused same. absurd (not-refused s status.ReadFault refused is refl))
+-- a status of no refused words comes where lines are read, where no other mode ends with it
+lines-alone : {Y X : Type 0} (S : source.Ghosts Y) (T : Ghosts X) (o : Option Job) (t : Status)
+    (before after : Y) (old new : X) → Serves S T o t before after old new → is_refusal t ≡ false
+    → ((line : List ℕ) → SaysSummary t line (T.said old) (T.said new) → ⊥) → (MakesLog T t old new → ⊥)
+    → (ChecksLog T t old new → ⊥) → (RaisesLog T t old new → ⊥) → is_for is_of_lines o ≡ true
+lines-alone {Y} {X} S T o t before after old new serves other load init check upgrade =
+    by-mode S T o t before after old new _ serves
+    (λ none refused same. absurd (not-refused t refused other))
     (λ asked e. for-mode is_of_lines o mode.Play asked)
-    (λ asked line e. absurd (load-ends_with s status.ReadFault line _ _ e.ends is))
-    (λ asked e. absurd (init-ends_with T s status.ReadFault old new e.ends is))
-    (λ asked e. absurd (check-ends_with T s status.ReadFault old new e.ends is))
-    (λ asked e. absurd (upgrade-ends_with T s status.ReadFault old new e.ends is))
+    (λ asked line e. absurd (load line e.ends))
+    (λ asked e. absurd (init e.ends))
+    (λ asked e. absurd (check e.ends))
+    (λ asked e. absurd (upgrade e.ends))
     (λ asked e. for-mode is_of_lines o mode.Run asked)
 
--- and so does the limit
-pub limit-lines : {Y X : Type 0} (S : source.Ghosts Y) (T : Ghosts X) (o : Option Job) (s : Status)
-    (before after : Y) (old new : X) → Serves S T o s before after old new → s ≡ status.InputLimit
-    → is_for is_of_lines o ≡ true
-limit-lines {Y} {X} S T o s before after old new serves is =
-    by-mode S T o s before after old new _ serves
-    (λ none refused same. absurd (not-refused s status.InputLimit refused is refl))
-    (λ asked e. for-mode is_of_lines o mode.Play asked)
-    (λ asked line e. absurd (load-ends_with s status.InputLimit line _ _ e.ends is))
-    (λ asked e. absurd (init-ends_with T s status.InputLimit old new e.ends is))
-    (λ asked e. absurd (check-ends_with T s status.InputLimit old new e.ends is))
-    (λ asked e. absurd (upgrade-ends_with T s status.InputLimit old new e.ends is))
-    (λ asked e. for-mode is_of_lines o mode.Run asked)
+-- as a fault in reading, and the limit
+pub lines-read : {Y X : Type 0} (S : source.Ghosts Y) (T : Ghosts X) (o : Option Job) (s : Status)
+    (before after : Y) (old new : X) → Serves S T o s before after old new
+    → (s ≡ status.ReadFault) ⊎ (s ≡ status.InputLimit) → is_for is_of_lines o ≡ true
+lines-read {Y} {X} S T o s before after old new serves (inl is) =
+    lines-alone S T o status.ReadFault before after old new (by-status serves is) refl
+    (λ line e. e) (λ e. e) (λ e. e) (λ e. e)
+lines-read {Y} {X} S T o s before after old new serves (inr is) =
+    lines-alone S T o status.InputLimit before after old new (by-status serves is) refl
+    (λ line e. e) (λ e. e) (λ e. e) (λ e. e)
 
--- of a source that has more bytes than a session may have
-limit-run : {X : Type 0} (T : Ghosts X) (x y : X) (s : Status) (limit : ℕ) (all left : Option (List ℕ))
-    → EndsOnLog T s limit all left x y → s ≡ status.InputLimit → IsPastLimit limit all
-limit-run {X} T x y s limit all left (inl none) is = absurd (subst (IsUnopened (T.disk x)) is none.why)
-limit-run {X} T x y s limit all left (inr one) is =
-    let z = state_of_log one.c one.kept in
-    limit-passed z limit all left (T.said x) (T.said y)
-    (lines-with z s status.InputLimit limit all left (T.said x) (T.said y) one.ends is)
+-- the limit is of a source that has more bytes than a session may have
+limit-run : {X : Type 0} (T : Ghosts X) (x y : X) (limit : ℕ) (all left : Option (List ℕ))
+    → EndsOnLog T status.InputLimit limit all left x y → IsPastLimit limit all
+limit-run {X} T x y limit all left (inl none) = absurd none.why
+limit-run {X} T x y limit all left (inr one) =
+    limit-passed (state_of_log one.c one.kept) limit all left (T.said x) (T.said y) one.ends
 
 pub limit-past : {Y X : Type 0} (S : source.Ghosts Y) (T : Ghosts X) (o : Option Job) (s : Status)
     (before after : Y) (old new : X) → Serves S T o s before after old new → s ≡ status.InputLimit
     → IsPastLimit (2 ^ 62) (S.left before)
 limit-past {Y} {X} S T o s before after old new serves is =
-    by-mode S T o s before after old new _ serves
-    (λ none refused same. absurd (not-refused s status.InputLimit refused is refl))
-    (λ asked e. limit-passed nothing_held (2 ^ 62) _ _ _ _
-    (ends-with nothing_held s status.InputLimit _ _ _ _ _ e.ends is))
-    (λ asked line e. absurd (load-ends_with s status.InputLimit line _ _ e.ends is))
-    (λ asked e. absurd (init-ends_with T s status.InputLimit old new e.ends is))
-    (λ asked e. absurd (check-ends_with T s status.InputLimit old new e.ends is))
-    (λ asked e. absurd (upgrade-ends_with T s status.InputLimit old new e.ends is))
-    (λ asked e. limit-run T old new s (2 ^ 62) _ _ e.ends is)
+    by-mode S T o status.InputLimit before after old new _ (by-status serves is)
+    (λ none refused same. absurd (not-refused status.InputLimit refused refl))
+    (λ asked e. limit-passed nothing_held (2 ^ 62) _ _ _ _ e.ends)
+    (λ asked line e. absurd e.ends)
+    (λ asked e. absurd e.ends)
+    (λ asked e. absurd e.ends)
+    (λ asked e. absurd e.ends)
+    (λ asked e. limit-run T old new (2 ^ 62) _ _ e.ends)
 
 -- a log is there already in init
-run-not_already : {X : Type 0} (T : Ghosts X) (s : Status) (limit : ℕ) (all left : Option (List ℕ)) (x y : X)
-    → EndsOnLog T s limit all left x y → s ≡ status.AlreadyALog → ⊥
-run-not_already {X} T s limit all left x y (inl none) is = subst (IsUnopened (T.disk x)) is none.why
-run-not_already {X} T s limit all left x y (inr one) is =
-    lines-with (state_of_log one.c one.kept) s status.AlreadyALog limit all left (T.said x) (T.said y) one.ends is
+run-not_already : {X : Type 0} (T : Ghosts X) (limit : ℕ) (all left : Option (List ℕ)) (x y : X)
+    → EndsOnLog T status.AlreadyALog limit all left x y → ⊥
+run-not_already {X} T limit all left x y (inl none) = none.why
+run-not_already {X} T limit all left x y (inr one) = one.ends
 
 pub already-init : {Y X : Type 0} (S : source.Ghosts Y) (T : Ghosts X) (o : Option Job) (s : Status)
     (before after : Y) (old new : X) → Serves S T o s before after old new → s ≡ status.AlreadyALog
     → AsksFor mode.Init o
 already-init {Y} {X} S T o s before after old new serves is =
-    by-mode S T o s before after old new _ serves
-    (λ none refused same. absurd (not-refused s status.AlreadyALog refused is refl))
-    (λ asked e. absurd (ends-with nothing_held s status.AlreadyALog _ _ _ _ _ e.ends is))
-    (λ asked line e. absurd (load-ends_with s status.AlreadyALog line _ _ e.ends is))
+    by-mode S T o status.AlreadyALog before after old new _ (by-status serves is)
+    (λ none refused same. absurd (not-refused status.AlreadyALog refused refl))
+    (λ asked e. absurd e.ends)
+    (λ asked line e. absurd e.ends)
     (λ asked e. asked)
-    (λ asked e. absurd (check-ends_with T s status.AlreadyALog old new e.ends is))
-    (λ asked e. absurd (upgrade-ends_with T s status.AlreadyALog old new e.ends is))
-    (λ asked e. absurd (run-not_already T s (2 ^ 62) _ _ old new e.ends is))
-
-pub already-spared : {Y X : Type 0} (S : source.Ghosts Y) (T : Ghosts X) (o : Option Job) (s : Status)
-    (before after : Y) (old new : X) → Serves S T o s before after old new → s ≡ status.AlreadyALog
-    → IsSpared T log.AlreadyALog old new
-already-spared {Y} {X} S T o s before after old new serves is =
-    let one = serves.init (already-init S T o s before after old new serves is) in
-    (init-ends_with T s status.AlreadyALog old new one.ends is).1
+    (λ asked e. absurd e.ends)
+    (λ asked e. absurd e.ends)
+    (λ asked e. absurd (run-not_already T (2 ^ 62) _ _ old new e.ends))
 
 -- ---- the disk
 
@@ -267,14 +217,14 @@ pub opening-no_log : {Y X : Type 0} (S : source.Ghosts Y) (T : Ghosts X) (o : Op
     (before after : Y) (old new : X) → Serves S T o s before after old new → is_for is_opened o ≡ true
     → s ≡ status.NotALog → IsUnlike T old new
 opening-no_log {Y} {X} S T o s before after old new serves opened is =
-    by-mode S T o s before after old new _ serves
-    (λ none refused same. absurd (not-refused s status.NotALog refused is refl))
-    (λ asked e. absurd (not-for is_opened o mode.Play asked refl opened))
-    (λ asked line e. absurd (not-for is_opened o mode.Load asked refl opened))
+    by-mode S T o status.NotALog before after old new _ (by-status serves is)
+    (λ none refused same. absurd (not-refused status.NotALog refused refl))
+    (λ asked e. absurd e.ends)
+    (λ asked line e. absurd e.ends)
     (λ asked e. absurd (not-for is_opened o mode.Init asked refl opened))
-    (λ asked e. (check-ends_with T s status.NotALog old new e.ends is).1)
-    (λ asked e. (upgrade-ends_with T s status.NotALog old new e.ends is).1)
-    (λ asked e. run-no_log T s (2 ^ 62) _ _ _ _ old new e.ends e.counted is)
+    (λ asked e. e.ends.1)
+    (λ asked e. e.ends.1)
+    (λ asked e. run-no_log T (2 ^ 62) _ _ _ _ old new e.ends e.counted)
 
 -- and such a one has that status
 pub opening-unlike : {Y X : Type 0} (S : source.Ghosts Y) (T : Ghosts X) (o : Option Job) (s : Status)
@@ -291,35 +241,23 @@ opening-unlike {Y} {X} S T o s before after old new serves opened =
     (λ asked e. run-unlike T s (2 ^ 62) _ _ old new e.ends)
 
 -- a bad log is one that was opened, and its first bad group stands there
-bad-run : {X : Type 0} (T : Ghosts X) (x y : X) (s : Status) (at limit r r' : ℕ) (all left : Option (List ℕ))
-    → EndsOnLog T s limit all left x y → AreCounted T s r r' x y → s ≡ status.BadLog at → IsBadLog T at x y
-bad-run {X} T x y s at limit r r' all left (inl none) counted is =
-    (subst (IsUnopened (T.disk x)) is none.why, (counted-with T s (status.BadLog at) r r' x y counted is).2)
-bad-run {X} T x y s at limit r r' all left (inr one) counted is =
-    absurd (lines-with (state_of_log one.c one.kept) s (status.BadLog at) limit all left (T.said x)
-    (T.said y) one.ends is)
+bad-run : {X : Type 0} (T : Ghosts X) (x y : X) (at limit r r' : ℕ) (all left : Option (List ℕ))
+    → EndsOnLog T (status.BadLog at) limit all left x y → AreCounted T (status.BadLog at) r r' x y → IsBadLog T at x y
+bad-run {X} T x y at limit r r' all left (inl none) counted = (none.why, counted.2)
+bad-run {X} T x y at limit r r' all left (inr one) counted = absurd one.ends
 
 pub bad-place : {Y X : Type 0} (S : source.Ghosts Y) (T : Ghosts X) (o : Option Job) (s : Status)
     (before after : Y) (old new : X) (at : ℕ) → Serves S T o s before after old new → s ≡ status.BadLog at
     → (is_for is_opened o ≡ true) × IsBadLog T at old new
 bad-place {Y} {X} S T o s before after old new at serves is =
-    by-mode S T o s before after old new _ serves
-    (λ none refused same. absurd (not-refused s (status.BadLog at) refused is refl))
-    (λ asked e. absurd (ends-with nothing_held s (status.BadLog at) _ _ _ _ _ e.ends is))
-    (λ asked line e. absurd (load-ends_with s (status.BadLog at) line _ _ e.ends is))
-    (λ asked e. absurd (init-ends_with T s (status.BadLog at) old new e.ends is))
-    (λ asked e. (
-      for-mode is_opened o mode.Check asked,
-      (check-ends_with T s (status.BadLog at) old new e.ends is).1,
-    ))
-    (λ asked e. (
-      for-mode is_opened o mode.Upgrade asked,
-      (upgrade-ends_with T s (status.BadLog at) old new e.ends is).1,
-    ))
-    (λ asked e. (
-      for-mode is_opened o mode.Run asked,
-      bad-run T old new s at (2 ^ 62) _ _ _ _ e.ends e.counted is,
-    ))
+    by-mode S T o (status.BadLog at) before after old new _ (by-status serves is)
+    (λ none refused same. absurd (not-refused (status.BadLog at) refused refl))
+    (λ asked e. absurd e.ends)
+    (λ asked line e. absurd e.ends)
+    (λ asked e. absurd e.ends)
+    (λ asked e. (for-mode is_opened o mode.Check asked, e.ends.1))
+    (λ asked e. (for-mode is_opened o mode.Upgrade asked, e.ends.1))
+    (λ asked e. (for-mode is_opened o mode.Run asked, bad-run T old new at (2 ^ 62) _ _ _ _ e.ends e.counted))
 
 -- and such a one has the status of that place
 pub opening-broken : WellMadeLogsAreNotBad → LogsAreFirstBadAtOnePlace → {Y X : Type 0} (S : source.Ghosts Y)

@@ -41,20 +41,15 @@ IfLoad (Some job) IsSuch = job.mode ≡ Load → IsSuch (load_line job)
 -- the modes that read lines
 abbrev pub is_of_lines : JobMode → Bool
 is_of_lines Play = true
-is_of_lines Init = false
 is_of_lines Run = true
-is_of_lines Check = false
-is_of_lines Upgrade = false
-is_of_lines Load = false
+is_of_lines _ = false
 
 -- the modes that open a log
 abbrev pub is_opened : JobMode → Bool
-is_opened Play = false
-is_opened Init = false
 is_opened Run = true
 is_opened Check = true
 is_opened Upgrade = true
-is_opened Load = false
+is_opened _ = false
 
 -- There is a job, and its mode passes a test, as these or `is_on_log` of `sz_words`.
 abbrev pub is_for : (JobMode → Bool) → Option Job → Bool

@@ -65,6 +65,7 @@
 
 mod checking;
 pub mod endings;
+mod gathering;
 pub mod laws;
 mod load;
 mod making;

@@ -1,17 +1,16 @@
 //! Mode load: the generated session, taken from memory, and the one line that sums up its replies.
 //!
 //! Its lines go through a [`Feed`], like those of a source, and the replies are said to a station
-//! that gathers them.
-ghost use Rattle.std.specs.Prelude.{◌≡◌, [], None, Some, ⊤, IfOk};
-ghost use Rattle.sz_outside.specs.Counts.{count_after};
+//! that gathers them (`gathering`).
+ghost use Rattle.std.specs.Prelude.{◌≡◌, IfOk};
 ghost use Rattle.sz_commands.specs.Transcript.{transcript};
-ghost use Rattle.sz_feed.specs.Moments.{moment_before};
 ghost use Rattle.sz_feed.specs.Serving.{lines_in, load_line};
 ghost use Rattle.sz_commands.specs.States.{nothing_held};
 ghost use Rattle.sz_session.specs.Statuses.{SaysSummary, AreCounted};
 ghost use Rattle.sz_feed.specs.Disks.{OnlySays};
 ghost use Rattle.sz_words.specs.Job.{IsInRange};
 
+use crate::gathering::told_by;
 use crate::serving::Status;
 use crate::staff::Staff;
 use std::alloc::Global;
@@ -82,108 +81,9 @@ fn replies_to<G: Gate + 'static, R: Threads + Wait + Clone + Send + Sync + 'stat
     replies
 }
 
-/// All that a feed says of a text. It lets the feed go, so that workers end.
-fn told_by<G: Gate, R: Threads + Wait + Sync>(
-    rt: &R,
-    alloc: Global,
-    feed: Feed,
-    text: &[u8],
-    gate: &G,
-) -> Result<Vec<u8>, Halt>
-    requires { feed ≡ moment_before nothing_held }
-    ensures { IfOk result (λ replies. replies.items ≡ transcript nothing_held text.now) }
-{
-    let mut feed = feed;
-    let mut replies = Replies::new(alloc);
-    feed.take_chunk(rt, text, &mut replies, gate)?;
-    feed.end_input(rt, &mut replies, gate)?;
-    Ok(replies.bytes)
-}
-
 /// How many lines end in these bytes.
 fn lines_in(bytes: &[u8]) -> u64
     ensures { result ≡ lines_in bytes.now }
 {
     bytes.iter().filter(|byte| **byte == b'\n').count() as u64
-}
-
-/// A station that gathers what is said, and has no disk. A say fails where there is no memory.
-#[derive(Drop)]
-struct Replies {
-    bytes: Vec<u8>,
-    say_faults: u64,
-    disk_faults: u64,
-}
-
-impl Replies {
-    /// Nothing is said yet.
-    fn new(alloc: Global) -> Replies
-        ensures { result.bytes.items ≡ [] }
-    {
-        Replies {
-            bytes: Vec::new(alloc),
-            say_faults: 0,
-            disk_faults: 0,
-        }
-    }
-
-    /// Counts a disk call, which fails.
-    fn no_disk(&mut self) -> Failed
-        ensures counted { self.new.disk_faults ≡ count_after self.old.disk_faults }
-        ensures bytes { self.new.bytes ≡ self.old.bytes }
-        ensures says { self.new.say_faults ≡ self.old.say_faults }
-    {
-        self.disk_faults = self.disk_faults.saturating_add(1);
-        Failed
-    }
-}
-
-impl Station for Replies {
-    ghost said = { λ s. Some s.bytes.items };
-
-    ghost say_faults = { λ s. s.say_faults };
-
-    ghost disk = { λ _. None };
-
-    ghost disk_faults = { λ s. s.disk_faults };
-
-    ghost may_leave = { λ _ _. ⊤ };
-
-    ghost moment = { λ _. 0 };
-
-    ghost left_since = { λ _ _ _ _. ⊤ };
-
-    ghost reads = { λ _. tt };
-
-    ghost only_now = { λ _ _ _. tt };
-
-    ghost counts_now = { λ _ _ _ _. tt };
-
-    fn size(&mut self) -> Result<u64, Failed> {
-        Err(self.no_disk())
-    }
-
-    fn read_at(&mut self, _at: u64, _into: &mut [u8]) -> Result<usize, Failed> {
-        Err(self.no_disk())
-    }
-
-    fn write_at(&mut self, _at: u64, _bytes: &[u8]) -> Result<(), Failed> {
-        Err(self.no_disk())
-    }
-
-    fn cut(&mut self, _size: u64) -> Result<(), Failed> {
-        Err(self.no_disk())
-    }
-
-    fn sync(&mut self) -> Result<(), Failed> {
-        Err(self.no_disk())
-    }
-
-    fn say(&mut self, bytes: &[u8]) -> Result<(), Failed> {
-        if self.bytes.extend_from_slice(bytes).is_err() {
-            self.say_faults = self.say_faults.saturating_add(1);
-            return Err(Failed);
-        }
-        Ok(())
-    }
 }

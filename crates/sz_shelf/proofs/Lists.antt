@@ -1,5 +1,5 @@
 -- Beginnings of lists, lists with no repeats, and one element of a list set.
-use Rattle.std.proofs.Common.{◌≡◌, ◌==◌, ℕ, zero, suc, ◌<◌, ◌≤◌, ◌||◌, List, [], ◌∷◌, ◌++◌, set, length}
+use Rattle.std.proofs.Common.{◌≡◌, ◌==◌, ℕ, zero, suc, ◌<◌, ◌||◌, List, [], ◌∷◌, ◌++◌, set, length}
 use Rattle.std.proofs.Common.{sym, refl, ap₂, ne_eqb, if◌then◌else◌, ap, ◌∙◌, arith, true, false, Bool}
 use Rattle.std.proofs.Common.{eq-eqb}
 use Rattle.std.proofs.lemmas.List.{append-nil, append_assoc}
@@ -23,24 +23,6 @@ begins-push xs k = (k ∷ [], refl)
 pub begins-through : (xs ys zs : List ℕ) → Begins xs ys → Begins ys zs → Begins xs zs
 begins-through xs ys zs (r, e) (q, f) =
     (r ++ q, f ∙ ap (λ l. l ++ q) e ∙ append_assoc xs r q)
-
--- two beginnings of one list begin one another, the shorter the longer
-pub begins-either : (xs ys zs : List ℕ) → Begins xs zs → Begins ys zs → length xs ≤ length ys → Begins xs ys
-begins-either [] ys zs b c h = (ys, refl)
-begins-either (x ∷ xs) [] zs b c h = absurd (omega (arith, h))
-begins-either (x ∷ xs) (y ∷ ys) [] (r, e) c h = absurd (cons-none x (xs ++ r) e) where
-  cons-none : (a : ℕ) (l : List ℕ) → [] ≡ a ∷ l → ⊥
-  cons-none a l e = let n : 0 ≡ length (a ∷ l) = ap length e in absurd (omega (arith, n))
-begins-either (x ∷ xs) (y ∷ ys) (z ∷ zs) (r, e) (q, f) h =
-    let both = begins-either xs ys zs (r, ap tail e) (q, ap tail f) (omega (arith, h)) in
-    (both.0, ap (λ l. y ∷ l) both.1 ∙ ap (λ (n : ℕ). n ∷ (xs ++ both.0)) (sym (ap (head y) f) ∙ ap (head y) e)) where
-      tail : List ℕ → List ℕ
-      tail [] = []
-      tail (a ∷ l) = l
-
-      head : ℕ → List ℕ → ℕ
-      head d [] = d
-      head d (a ∷ l) = a
 
 or-never : (a b : Bool) → (a || b) ≡ false → (a ≡ false) × (b ≡ false)
 or-never true b e = absurd (true≢false e)

@@ -3,9 +3,9 @@
 -- by that seat alone, so each other seat is idle and knows a beginning of the list, which only grows.
 use Rattle.std.proofs.Common.{◌≡◌, ◌==◌, ℕ, zero, suc, ◌≤◌, ◌||◌, List, [], ◌∷◌, set, length}
 use Rattle.std.proofs.Common.{sym, refl, ap, ap₂, ◌∙◌, subst, arith, true, false, Bool, ⊎_elim, length-set, eq-eqb}
-use Rattle.std.proofs.Common.{ne_eqb, ◌⊎◌, inl, inr}
+use Rattle.std.proofs.Common.{ne_eqb, ◌⊎◌, inl, inr, None, ◌++◌}
 use Rattle.std.proofs.lemmas.List.{set-get_or}
-use mathlib.Core.Option.{none, some, some-injective, some-ne-none}
+use mathlib.Core.Option.{Option, none, some, some-injective, some-ne-none}
 use mathlib.Core.Bool.{true≢false}
 use mathlib.Core.Logic.{dite}
 use native.Mathlib.Decide.{ℕ_discrete}
@@ -95,8 +95,142 @@ word-stays t s i h l g =
 idle-here : (d : Stage) → d ≡ Idle → is_spent d ≡ false
 idle-here d e = ap is_spent e
 
-idle-not-busy : (d : Stage) → d ≡ Idle → is_busy d ≡ false
-idle-not-busy d e = ap is_busy e
+-- ---- what the rule asks, of a state that a step leaves
+
+-- a seat that knows all that is placed, and whether there is a seal
+knows-all : (id : ℕ) (v : View) → Knows v.tag v.seen v.saw id v.stage id v
+knows-all id v = record {
+  tag = refl;
+  begins = begins-all v.seen;
+  saw = λ e. e;
+  busy = λ _. (refl, refl);
+  out = λ _. (refl, refl);
+}
+
+-- an idle seat knows a beginning of the list, and a seal only if there is one
+pub knows-idle : (t : Tag) (placed : List ℕ) (sealed : Bool) (who : ℕ) (doing : Stage) (seat : ℕ) (v : View)
+    → v.stage ≡ Idle → v.tag ≡ t → Begins v.seen placed → (v.saw ≡ true → sealed ≡ true)
+    → Knows t placed sealed who doing seat v
+knows-idle t placed sealed who doing seat v idle tag begins saw = record {
+  tag = tag;
+  begins = begins;
+  saw = saw;
+  busy = λ e. contrary (is_busy v.stage) e (ap is_busy idle);
+  out = λ e. contrary (has_store v.stage) e (ap has_store idle);
+}
+
+-- what is so of the seat that changed, and of each other one, is so of each
+each-seat : (Is : ℕ → View → Type 0) (l : List View) (id : ℕ) (w : View) → (is_spent w.stage ≡ false → Is id w)
+    → ((j : ℕ) (v : View) → ¬ (j ≡ id) → get_elem? l j ≡ some v → is_spent v.stage ≡ false → Is j v)
+    → (j : ℕ) (v : View) → get_elem? (set l id w) j ≡ some v → is_spent v.stage ≡ false → Is j v
+each-seat Is l id w this others j v at unspent = ⊎_elim
+    (λ h. subst (Is j) h.1
+    (subst (λ (n : ℕ). Is n w) (sym h.0) (this (ap (λ (x : View). is_spent x.stage) h.1 ∙ unspent))))
+    (λ h. others j v h.0 h.1 unspent)
+    (at_set l id j w v at)
+
+-- where views alone change, the seat in turn keeps its own, and each knows what it may, the rule is kept
+with-views : (t : Tag) (s : Table) (l : List View) (g : IsKept t s)
+    → (is_busy g.doing ≡ true → (v : View) × (get_elem? l g.who ≡ some v) × (v.stage ≡ g.doing))
+    → ((j : ℕ) (v : View) → get_elem? l j ≡ some v → is_spent v.stage ≡ false
+    → Knows t g.placed g.sealed g.who g.doing j v)
+    → IsKept t record { words = s.words; homes = s.homes; views = l }
+with-views t s l g turn each = record {
+  placed = g.placed;
+  sealed = g.sealed;
+  who = g.who;
+  doing = g.doing;
+  two = g.two;
+  flag = g.flag;
+  count = g.count;
+  pieces = g.pieces;
+  few = g.few;
+  whole = g.whole;
+  home = g.home;
+  out = g.out;
+  turn = turn;
+  each = each;
+}
+
+-- an idle seat becomes one that knows what it may
+idle-becomes : (t : Tag) (id : ℕ) (v w : View) (s : Table) (g : IsKept t s) → get_elem? s.views id ≡ some v
+    → v.stage ≡ Idle → (is_spent w.stage ≡ false → Knows t g.placed g.sealed g.who g.doing id w)
+    → IsKept t record { words = s.words; homes = s.homes; views = set s.views id w }
+idle-becomes t id v w s g me idle knows =
+    with-views t s (set s.views id w) g
+    (λ b. turn-stays s.views g.who id g.doing v w me (ap is_busy idle) b (g.turn b))
+    (each-seat (Knows t g.placed g.sealed g.who g.doing) s.views id w knows (λ j u other at. g.each j u at))
+
+-- what is placed once a turn added to it, and the seal
+record Added (t : Tag) (s : Table) (g : IsKept t s) (placed : List ℕ) (sealed : Bool) : Type 0 where
+  begins : Begins g.placed placed
+  seal : g.sealed ≡ true → sealed ≡ true
+  pieces : ArePieces t placed
+  few : length placed ≤ tag_pieces t
+  whole : sealed ≡ true → missing_in (tag_pieces t) placed ≡ None
+
+added-none : (t : Tag) (s : Table) (g : IsKept t s) → Added t s g g.placed g.sealed
+added-none t s g = record {
+  begins = begins-all g.placed;
+  seal = λ e. e;
+  pieces = g.pieces;
+  few = g.few;
+  whole = g.whole;
+}
+
+-- A seat makes a step of its turn, and no other is in one: it has a new view, and each other seat knows what it knew.
+turn-step : (t : Tag) (s : Table) (g : IsKept t s) (id : ℕ) (v w : View) (words : List ℕ)
+    (homes : List (Option Contents)) (placed : List ℕ) (sealed : Bool) → get_elem? s.views id ≡ some v
+    → (is_busy g.doing ≡ true → g.who ≡ id) → Added t s g placed sealed → length words ≡ 2
+    → slice_index words 0 ≡ flag_of w.stage → slice_index words 1 ≡ count_of t placed sealed
+    → (has_store w.stage ≡ false → get_elem? homes 0 ≡ some (some (contents t placed sealed)))
+    → (has_store w.stage ≡ true → get_elem? homes 0 ≡ some none) → Knows t placed sealed id w.stage id w
+    → IsKept t record { words = words; homes = homes; views = set s.views id w }
+turn-step t s g id v w words homes placed sealed me alone more two flag count home out knows = record {
+  placed = placed;
+  sealed = sealed;
+  who = id;
+  doing = w.stage;
+  two = two;
+  flag = flag;
+  count = count;
+  pieces = more.pieces;
+  few = more.few;
+  whole = more.whole;
+  home = home;
+  out = out;
+  turn = λ _. (w, set_there s.views id v w me, refl);
+  each = each-seat (Knows t placed sealed id w.stage) s.views id w (λ _. knows) (λ j u other at unspent.
+      let k = g.each j u at unspent in
+      let never : is_busy u.stage ≡ true → ⊥ = λ b.
+      other ((k.busy b).0 ∙ alone (ap is_busy (sym (k.busy b).1) ∙ b)) in record {
+        tag = k.tag;
+        begins = begins-through u.seen g.placed placed k.begins more.begins;
+        saw = λ e. more.seal (k.saw e);
+        busy = λ b. absurd (never b);
+        out = λ b. absurd (never (store-busy u.stage b));
+      });
+}
+
+-- the same where it goes to a stage without the store, and nothing is added
+turn-goes : (t : Tag) (s : Table) (g : IsKept t s) (id : ℕ) (v : View) (stage : Stage) (words : List ℕ)
+    (homes : List (Option Contents)) → get_elem? s.views id ≡ some v → is_spent v.stage ≡ false
+    → (is_busy g.doing ≡ true → g.who ≡ id) → has_store stage ≡ false → length words ≡ 2
+    → slice_index words 0 ≡ flag_of stage → slice_index words 1 ≡ slice_index s.words 1
+    → get_elem? homes 0 ≡ some (some (contents t g.placed g.sealed))
+    → IsKept t record { words = words; homes = homes; views = set s.views id (record v { stage = stage }) }
+turn-goes t s g id v stage words homes me unspent alone never two flag count home =
+    let k = g.each id v me unspent in
+    turn-step t s g id v (record v { stage = stage }) words homes g.placed g.sealed me alone (added-none t s g) two flag
+    (count ∙ g.count) (λ _. home) (λ e. contrary (has_store stage) e never) record {
+      tag = k.tag;
+      begins = k.begins;
+      saw = k.saw;
+      busy = λ _. (refl, refl);
+      out = λ e. contrary (has_store stage) e never;
+    }
+
+-- ---- the kinds of step
 
 -- an idle seat tries to win the turn
 pub tries-keep : (t : Tag) (slots id : ℕ) (m : Own) → m.0.stage ≡ Idle
@@ -109,45 +243,13 @@ tries-keep t slots id m idle s g wide me _ =
     × tells word (w, carried_after m.1 a))
     (λ free.
     let still = flag-zero g.doing (sym g.flag ∙ free) in
-    let mine = g.each id m.0 me (idle-here _ idle) in
-    let two = two-of s.words 1 g.two in
-    let w : View = after_win m.0 in (
-      w,
+    let two = two-of s.words 1 g.two in (
+      after_win m.0,
       keeps,
       tt,
-      record {
-        placed = g.placed;
-        sealed = g.sealed;
-        who = id;
-        doing = InTurn;
-        two = length-set s.words 0 1 ∙ g.two;
-        flag = two.0;
-        count = two.1 ∙ g.count;
-        pieces = g.pieces;
-        few = g.few;
-        whole = g.whole;
-        home = λ _. g.home (idle-never-store g.doing still);
-        out = λ e. absurd (true≢false (sym e));
-        turn = λ _. (w, set_there s.views id m.0 w me, refl);
-        each = λ j v at here. ⊎_elim
-            (λ h. subst (Knows t g.placed g.sealed id InTurn j) h.1 record {
-              tag = mine.tag;
-              begins = mine.begins;
-              saw = mine.saw;
-              busy = λ _. (h.0, refl);
-              out = λ e. absurd (true≢false (sym e));
-            })
-            (λ h. let k = g.each j v h.1 here in
-            let never : is_busy v.stage ≡ true → ⊥ = λ b.
-            true≢false (sym b ∙ ap is_busy (k.busy b).1 ∙ still) in record {
-              tag = k.tag;
-              begins = k.begins;
-              saw = k.saw;
-              busy = λ b. absurd (never b);
-              out = k.out;
-            })
-            (at_set s.views id j w v at);
-      },
+      turn-goes t s g id m.0 InTurn (set s.words 0 1) s.homes me (idle-here _ idle)
+          (λ b. contrary (is_busy g.doing) b still) refl (length-set s.words 0 1 ∙ g.two) two.0 two.1
+          (g.home (idle-never-store g.doing still)),
       record {
         word = (refl, refl, refl);
         idle = idle;
@@ -184,38 +286,10 @@ takes-here slots id m won s g wide me _ =
       w,
       takes 0 c,
       home,
-      word-stays t s 1 (set s.homes 0 none) (set s.views id w) record {
-        placed = g.placed;
-        sealed = g.sealed;
-        who = id;
-        doing = StoreOut;
-        two = g.two;
-        flag = g.flag ∙ ap flag_of (sym doing);
-        count = g.count;
-        pieces = g.pieces;
-        few = g.few;
-        whole = g.whole;
-        home = λ e. absurd (true≢false e);
-        out = λ _. set_there s.homes 0 (some c) none home;
-        turn = λ _. (w, set_there s.views id m.0 w me, refl);
-        each = λ j v at unspent. ⊎_elim
-            (λ h. subst (Knows t g.placed g.sealed id StoreOut j) h.1 record {
-              tag = refl;
-              begins = begins-all g.placed;
-              saw = λ e. e;
-              busy = λ _. (h.0, refl);
-              out = λ _. (refl, refl);
-            })
-            (λ h. let k = g.each j v h.1 unspent in
-            let never : is_busy v.stage ≡ true → ⊥ = λ b. h.0 ((k.busy b).0 ∙ sym here.0) in record {
-              tag = k.tag;
-              begins = k.begins;
-              saw = k.saw;
-              busy = λ b. absurd (never b);
-              out = λ b. absurd (never (store-busy v.stage b));
-            })
-            (at_set s.views id j w v at);
-      },
+      word-stays t s 1 (set s.homes 0 none) (set s.views id w)
+          (turn-step t s g id m.0 w s.words (set s.homes 0 none) g.placed g.sealed me (λ _. sym here.0)
+          (added-none t s g) g.two (g.flag ∙ ap flag_of (sym doing)) g.count (λ e. absurd (true≢false e))
+          (λ _. set_there s.homes 0 (some c) none home) (knows-all id w)),
       record {
         word = (refl, refl, refl);
         turn = won;
@@ -238,7 +312,20 @@ takes-keep t slots id m won =
     for-tag t slots id 1 m (λ k. k) (IsTaking (step slots 1 0 0 none) m) (ap is_spent won)
     (takes-here slots id m won)
 
--- a seat that has the store counts what it did to it
+-- what is told where a seat that has the store counts what it did to it
+pub counting : (slots count : ℕ) (m : Own) (c : Contents) → m.1 ≡ (0, c) ∷ [] → m.0.stage ≡ StoreOut → m.0.saw ≡ false
+    → Grows m.0 c → count ≡ count_of m.0.tag c.placed c.sealed
+    → IsCounting (step slots 1 count 0 none) m (after_count c m.0, m.1)
+counting slots count m c out turn unsealed grows is = record {
+  store = c;
+  out = out;
+  turn = turn;
+  unsealed = unsealed;
+  word = (refl, is);
+  grows = grows;
+  after = refl;
+}
+
 counts-here : (slots id count : ℕ) (m : Own) (c : Contents) → m.1 ≡ (0, c) ∷ [] → m.0.stage ≡ StoreOut → m.0.saw ≡ false
     → Grows m.0 c → count ≡ count_of m.0.tag c.placed c.sealed
     → Allows (IsKept m.0.tag) slots id m 1 (λ _. count) (λ _ n. IsCounting (step slots 1 count 0 none) m n)
@@ -246,25 +333,18 @@ counts-here slots id count m c out turn unsealed grows is s g wide me _ =
     let t : Tag = m.0.tag in
     let mine = g.each id m.0 me (ap is_spent turn) in
     let here = mine.busy (ap is_busy turn) in
-    let doing : StoreOut ≡ g.doing = sym turn ∙ here.1 in
     let known = mine.out (ap has_store turn) in
     let two = two-of s.words count g.two in
-    let grown : Begins m.0.seen c.placed = ⊎_elim
-    (λ p. subst (Begins m.0.seen) (sym p.1.placed) (begins-push m.0.seen p.0))
-    (λ p. subst (Begins m.0.seen) (sym p.placed) (begins-all m.0.seen)) grows in
     let seen : ArePieces t m.0.seen = subst (ArePieces t) (sym known.0) g.pieces in
     let w : View = after_count c m.0 in (
       w,
       keeps,
       tt,
-      record {
-        placed = c.placed;
-        sealed = c.sealed;
-        who = id;
-        doing = StoreOut;
-        two = length-set s.words 1 count ∙ g.two;
-        flag = two.3 ∙ g.flag ∙ ap flag_of (sym doing);
-        count = two.2 ∙ is;
+      turn-step t s g id m.0 w (set s.words 1 count) s.homes c.placed c.sealed me (λ _. sym here.0) record {
+        begins = subst (λ (l : List ℕ). Begins l c.placed) known.0 (⊎_elim
+            (λ p. subst (Begins m.0.seen) (sym p.1.placed) (begins-push m.0.seen p.0))
+            (λ p. subst (Begins m.0.seen) (sym p.placed) (begins-all m.0.seen)) grows);
+        seal = λ e. contrary g.sealed e (sym known.1 ∙ unsealed);
         pieces = ⊎_elim
             (λ p. subst (ArePieces t) (sym p.1.placed) (pieces-push t m.0.seen p.0 seen p.1.new p.1.inside))
             (λ p. subst (ArePieces t) (sym p.placed) seen) grows;
@@ -272,36 +352,11 @@ counts-here slots id count m c out turn unsealed grows is s g wide me _ =
             (λ p. subst (λ (l : List ℕ). length l ≤ tag_pieces t) (sym known.0 ∙ sym p.placed) g.few) grows;
         whole = λ e. ⊎_elim (λ p. contrary c.sealed e p.1.sealed)
             (λ p. ap (missing_in (tag_pieces t)) p.placed ∙ p.whole) grows;
-        home = λ e. absurd (true≢false e);
-        out = λ _. g.out (ap has_store (sym doing));
-        turn = λ _. (w, set_there s.views id m.0 w me, turn);
-        each = λ j v at unspent. ⊎_elim
-            (λ h. subst (Knows t c.placed c.sealed id StoreOut j) h.1 record {
-              tag = refl;
-              begins = begins-all c.placed;
-              saw = λ e. e;
-              busy = λ _. (h.0, turn);
-              out = λ _. (refl, refl);
-            })
-            (λ h. let k = g.each j v h.1 unspent in
-            let never : is_busy v.stage ≡ true → ⊥ = λ b. h.0 ((k.busy b).0 ∙ sym here.0) in record {
-              tag = k.tag;
-              begins = begins-through v.seen m.0.seen c.placed (subst (Begins v.seen) (sym known.0) k.begins) grown;
-              saw = λ e. contrary g.sealed (k.saw e) (sym known.1 ∙ unsealed);
-              busy = λ b. absurd (never b);
-              out = λ b. absurd (never (store-busy v.stage b));
-            })
-            (at_set s.views id j w v at);
-      },
-      record {
-        store = c;
-        out = out;
-        turn = turn;
-        unsealed = unsealed;
-        word = (refl, is);
-        grows = grows;
-        after = refl;
-      },
+      }
+          (length-set s.words 1 count ∙ g.two) (two.3 ∙ g.flag ∙ ap flag_of (sym here.1)) (two.2 ∙ is)
+          (λ e. contrary (has_store m.0.stage) (ap has_store turn) e)
+          (λ _. g.out (ap has_store (sym here.1 ∙ turn))) (knows-all id w),
+      counting slots count m c out turn unsealed grows is,
     )
 
 pub counts-keep : (t : Tag) (slots id count : ℕ) (m : Own) (c : Contents) → m.1 ≡ (0, c) ∷ [] → m.0.stage ≡ StoreOut
@@ -325,43 +380,13 @@ gives-here slots id m out turn =
     let known = mine.out (ap has_store turn) in
     let c : Contents = contents t m.0.seen m.0.saw in
     let same : c ≡ contents t g.placed g.sealed = ap₂ (contents t) known.0 known.1 in
-    let w : View = after_win m.0 in (
-      w,
+    let home = set_there s.homes 0 none (some c) (g.out (ap has_store (sym doing))) in (
+      after_win m.0,
       gives,
       tt,
-      word-stays t s 1 (set s.homes 0 (some c)) (set s.views id w) record {
-        placed = g.placed;
-        sealed = g.sealed;
-        who = id;
-        doing = InTurn;
-        two = g.two;
-        flag = g.flag ∙ ap flag_of (sym doing);
-        count = g.count;
-        pieces = g.pieces;
-        few = g.few;
-        whole = g.whole;
-        home = λ _. set_there s.homes 0 none (some c) (g.out (ap has_store (sym doing)))
-            ∙ ap (λ (x : Contents). some (some x)) same;
-        out = λ e. absurd (true≢false (sym e));
-        turn = λ _. (w, set_there s.views id m.0 w me, refl);
-        each = λ j v at unspent. ⊎_elim
-            (λ h. subst (Knows t g.placed g.sealed id InTurn j) h.1 record {
-              tag = refl;
-              begins = mine.begins;
-              saw = mine.saw;
-              busy = λ _. (h.0, refl);
-              out = λ e. absurd (true≢false (sym e));
-            })
-            (λ h. let k = g.each j v h.1 unspent in
-            let never : is_busy v.stage ≡ true → ⊥ = λ b. h.0 ((k.busy b).0 ∙ sym here.0) in record {
-              tag = k.tag;
-              begins = k.begins;
-              saw = k.saw;
-              busy = λ b. absurd (never b);
-              out = λ b. absurd (never (store-busy v.stage b));
-            })
-            (at_set s.views id j w v at);
-      },
+      word-stays t s 1 (set s.homes 0 (some c)) (set s.views id (after_win m.0))
+          (turn-goes t s g id m.0 InTurn s.words (set s.homes 0 (some c)) me (ap is_spent turn) (λ _. sym here.0) refl
+          g.two (g.flag ∙ ap flag_of (sym doing)) refl (home ∙ ap (λ (x : Contents). some (some x)) same)),
       record { word = (refl, refl, refl); turn = turn; store = refl; after = refl },
     ))
 
@@ -376,79 +401,25 @@ gives-keep t slots id m out turn =
 pub releases-keep : (t : Tag) (slots id : ℕ) (m : Own) → m.0.stage ≡ InTurn
     → Allows (IsKept t) slots id m 0 (λ _. 0) (λ _ n. IsReleasing (step slots 0 0 0 none) m n)
 releases-keep t slots id m turn s g wide me _ =
-    let mine = g.each id m.0 me (ap is_spent turn) in
-    let here = mine.busy (ap is_busy turn) in
+    let here = (g.each id m.0 me (ap is_spent turn)).busy (ap is_busy turn) in
     let doing : InTurn ≡ g.doing = sym turn ∙ here.1 in
-    let two = two-of s.words 0 g.two in
-    let w : View = after_release m.0 in (
-      w,
+    let two = two-of s.words 0 g.two in (
+      after_release m.0,
       keeps,
       tt,
-      record {
-        placed = g.placed;
-        sealed = g.sealed;
-        who = id;
-        doing = Idle;
-        two = length-set s.words 0 0 ∙ g.two;
-        flag = two.0;
-        count = two.1 ∙ g.count;
-        pieces = g.pieces;
-        few = g.few;
-        whole = g.whole;
-        home = λ _. g.home (ap has_store (sym doing));
-        out = λ e. absurd (true≢false (sym e));
-        turn = λ e. absurd (true≢false (sym e));
-        each = λ j v at unspent. ⊎_elim
-            (λ h. subst (Knows t g.placed g.sealed id Idle j) h.1 record {
-              tag = mine.tag;
-              begins = mine.begins;
-              saw = mine.saw;
-              busy = λ e. absurd (true≢false (sym e));
-              out = λ e. absurd (true≢false (sym e));
-            })
-            (λ h. let k = g.each j v h.1 unspent in
-            let never : is_busy v.stage ≡ true → ⊥ = λ b. h.0 ((k.busy b).0 ∙ sym here.0) in record {
-              tag = k.tag;
-              begins = k.begins;
-              saw = k.saw;
-              busy = λ b. absurd (never b);
-              out = λ b. absurd (never (store-busy v.stage b));
-            })
-            (at_set s.views id j w v at);
-      },
+      turn-goes t s g id m.0 Idle (set s.words 0 0) s.homes me (ap is_spent turn) (λ _. sym here.0) refl
+          (length-set s.words 0 0 ∙ g.two) two.0 two.1 (g.home (ap has_store (sym doing))),
       record { word = (refl, refl); turn = turn; after = refl },
     )
 
 -- a seat out of turn may know more of what there is
-knows-more : (t : Tag) (id : ℕ) (v w : View) (s : Table) → IsKept t s → get_elem? s.views id ≡ some v → v.stage ≡ Idle
-    → w.tag ≡ v.tag → w.stage ≡ v.stage
-    → ((g : IsKept t s) → Begins w.seen g.placed) → ((g : IsKept t s) → w.saw ≡ true → g.sealed ≡ true)
+knows-more : (t : Tag) (id : ℕ) (v w : View) (s : Table) (g : IsKept t s) → get_elem? s.views id ≡ some v
+    → v.stage ≡ Idle → w.tag ≡ v.tag → w.stage ≡ v.stage → Begins w.seen g.placed → (w.saw ≡ true → g.sealed ≡ true)
     → IsKept t record { words = s.words; homes = s.homes; views = set s.views id w }
-knows-more t id v w s g me idle tag stage begins saw = record {
-  placed = g.placed;
-  sealed = g.sealed;
-  who = g.who;
-  doing = g.doing;
-  two = g.two;
-  flag = g.flag;
-  count = g.count;
-  pieces = g.pieces;
-  few = g.few;
-  whole = g.whole;
-  home = g.home;
-  out = g.out;
-  turn = λ b. turn-stays s.views g.who id g.doing v w me (ap is_busy idle) b (g.turn b);
-  each = λ j u at unspent. ⊎_elim
-      (λ h. subst (Knows t g.placed g.sealed g.who g.doing j) h.1 record {
-        tag = tag ∙ (g.each id v me (ap is_spent idle)).tag;
-        begins = begins g;
-        saw = saw g;
-        busy = λ e. contrary (is_busy w.stage) e (ap is_busy (stage ∙ idle));
-        out = λ e. contrary (has_store w.stage) e (ap has_store (stage ∙ idle));
-      })
-      (λ h. g.each j u h.1 unspent)
-      (at_set s.views id j w u at);
-}
+knows-more t id v w s g me idle tag stage begins saw =
+    idle-becomes t id v w s g me idle (λ _.
+    knows-idle t g.placed g.sealed g.who g.doing id w (stage ∙ idle) (tag ∙ (g.each id v me (ap is_spent idle)).tag)
+    begins saw)
 
 or-either : (a b : Bool) → (a || b) ≡ true → (a ≡ true) ⊎ (b ≡ true)
 or-either true b e = inl refl
@@ -460,19 +431,19 @@ loads-here : (slots id : ℕ) (m : Own) → m.0.stage ≡ Idle
 loads-here slots id m idle s g wide me _ =
     let t : Tag = m.0.tag in
     let found : ℕ = slice_index s.words 1 in
+    let mine = g.each id m.0 me (ap is_spent idle) in
     let w : View = after_load found m.0 in (
       w,
       keeps,
       tt,
-      word-stays t s 1 s.homes (set s.views id w) (knows-more t id m.0 w s g me idle refl refl
-          (λ h. (h.each id m.0 me (ap is_spent idle)).begins)
-          (λ h e. ⊎_elim (λ a. (h.each id m.0 me (ap is_spent idle)).saw a)
-          (λ a. last-tells t h.placed h.sealed h.few ∙ ap (λ n. n == last_of t) (sym h.count) ∙ a)
+      word-stays t s 1 s.homes (set s.views id w) (knows-more t id m.0 w s g me idle refl refl mine.begins
+          (λ e. ⊎_elim mine.saw
+          (λ a. last-tells t g.placed g.sealed g.few ∙ ap (λ n. n == last_of t) (sym g.count) ∙ a)
           (or-either m.0.saw (found == last_of t) e))),
       record {
         word = (refl, refl, refl);
         idle = idle;
-        saw = λ e. g.count ∙ ap (λ b. count_of t g.placed b) ((g.each id m.0 me (ap is_spent idle)).saw e);
+        saw = λ e. g.count ∙ ap (λ b. count_of t g.placed b) (mine.saw e);
         after = refl;
       },
     )
@@ -488,100 +459,86 @@ pub splits-keep : (t : Tag) (id : ℕ) (v : View) → v.stage ≡ Idle
     → Splits (IsKept t) id v (after_split v) (parted_view v)
 splits-keep t id v idle s g me =
     let w : View = after_split v in
-    let k : IsKept t record { words = s.words; homes = s.homes; views = set s.views id w } =
-    knows-more t id v w s g me idle refl refl
-    (λ h. (h.each id v me (ap is_spent idle)).begins) (λ h. (h.each id v me (ap is_spent idle)).saw) in
+    let new : View = parted_view v in
+    let l : List View = set s.views id w in
+    let was = g.each id v me (ap is_spent idle) in
+    let k = knows-more t id v w s g me idle refl refl was.begins was.saw in
     let mine = k.each id w (set_there s.views id v w me) (ap is_spent idle) in
-    record {
-      placed = k.placed;
-      sealed = k.sealed;
-      who = k.who;
-      doing = k.doing;
-      two = k.two;
-      flag = k.flag;
-      count = k.count;
-      pieces = k.pieces;
-      few = k.few;
-      whole = k.whole;
-      home = k.home;
-      out = k.out;
-      turn = λ b. let u = k.turn b in
-          (u.0, at_longer (set s.views id w) (parted_view v ∷ []) k.who u.0 u.1, u.2);
-      each = λ j u at unspent. ⊎_elim
-          (λ h. k.each j u h unspent)
-          (λ e. subst (Knows t k.placed k.sealed k.who k.doing j) e record {
-            tag = mine.tag;
-            begins = mine.begins;
-            saw = mine.saw;
-            busy = λ b. contrary (is_busy v.stage) b (ap is_busy idle);
-            out = λ b. contrary (has_store v.stage) b (ap has_store idle);
-          })
-          (at_snoc (set s.views id w) (parted_view v) u j at);
-    }
+    with-views t record { words = s.words; homes = s.homes; views = l } (l ++ new ∷ []) k
+    (λ b. let u = k.turn b in (u.0, at_longer l (new ∷ []) k.who u.0 u.1, u.2))
+    (λ j u at unspent. ⊎_elim
+    (λ h. k.each j u h unspent)
+    (λ e. subst (Knows t k.placed k.sealed k.who k.doing j) e
+    (knows-idle t k.placed k.sealed k.who k.doing j new idle mine.tag mine.begins mine.saw))
+    (at_snoc l new u j at))
 
 -- a seat that is spent leaves the rule
 spends : (t : Tag) (other : ℕ) (w : View) (s : Table) → IsKept t s → get_elem? s.views other ≡ some w → w.stage ≡ Idle
     → IsKept t record { words = s.words; homes = s.homes; views = set s.views other spent_view }
-spends t other w s g me idle = record {
-  placed = g.placed;
-  sealed = g.sealed;
-  who = g.who;
-  doing = g.doing;
-  two = g.two;
-  flag = g.flag;
-  count = g.count;
-  pieces = g.pieces;
-  few = g.few;
-  whole = g.whole;
-  home = g.home;
-  out = g.out;
-  turn = λ b. turn-stays s.views g.who other g.doing w spent_view me (ap is_busy idle) b (g.turn b);
-  each = λ j u at unspent. ⊎_elim
-      (λ h. contrary (is_spent u.stage) (ap (λ (x : View). is_spent x.stage) (sym h.1)) unspent)
-      (λ h. g.each j u h.1 unspent)
-      (at_set s.views other j spent_view u at);
-}
+spends t other w s g me idle = idle-becomes t other w spent_view s g me idle (λ e. absurd (true≢false e))
 
 -- an idle seat takes in what another idle one knows
 pub joins-keep : (t : Tag) (id : ℕ) (v : View) (other : ℕ) (w : View) → v.stage ≡ Idle → w.stage ≡ Idle
     → Joins (IsKept t) id v other w (after_join v w) spent_view
 joins-keep t id v other w idle spare s g me apart them =
     let both : View = after_join v w in
-    let there : get_elem? s.views other ≡ some w = sym (set_else s.views id other both apart) ∙ them in
+    let mine = g.each id v me (ap is_spent idle) in
+    let theirs = g.each other w (sym (set_else s.views id other both apart) ∙ them) (ap is_spent spare) in
     spends t other w record { words = s.words; homes = s.homes; views = set s.views id both }
-    (knows-more t id v both s g me idle refl refl
-    (λ h. longer-begins v.seen w.seen h.placed (h.each id v me (ap is_spent idle)).begins
-    (h.each other w there (ap is_spent spare)).begins)
-    (λ h e. ⊎_elim (h.each id v me (ap is_spent idle)).saw (h.each other w there (ap is_spent spare)).saw
-    (or-either v.saw w.saw e)))
+    (knows-more t id v both s g me idle refl refl (longer-begins v.seen w.seen g.placed mine.begins theirs.begins)
+    (λ e. ⊎_elim mine.saw theirs.saw (or-either v.saw w.saw e)))
     them spare
 
--- the table at the start
-alone : (t : Tag) (seat : ℕ) (v : View) → get_elem? (first_view t ∷ []) seat ≡ some v → Knows t [] false 0 Idle seat v
-alone t zero v at = subst (Knows t [] false 0 Idle 0) (some-injective (first_view t) v at) record {
-  tag = refl;
-  begins = ([], refl);
-  saw = λ e. e;
-  busy = λ e. absurd (true≢false (sym e));
-  out = λ e. absurd (true≢false (sym e));
-}
-alone t (suc n) v at = absurd (some-ne-none v (sym at))
+-- ---- a table on its own
 
-pub opens : (t : Tag) (xs : List Contents) (x : Contents) → xs ≡ x ∷ [] → x ≡ contents t [] false
-    → IsKept t (opening (0 ∷ 0 ∷ []) xs (first_view t))
-opens t xs x one is = subst (λ (l : List Contents). IsKept t (opening (0 ∷ 0 ∷ []) l (first_view t))) (sym one) record {
-  placed = [];
-  sealed = false;
+-- what lies in the slot, while the store is out or not
+abbrev pub slot_of : Bool → Contents → Option Contents
+slot_of true c = none
+slot_of false c = some c
+
+-- the table as its first seat knows it
+abbrev pub known_table : View → List View → Table
+known_table v more = record {
+  words = flag_of v.stage ∷ count_of v.tag v.seen v.saw ∷ [];
+  homes = slot_of (has_store v.stage) (contents v.tag v.seen v.saw) ∷ [];
+  views = v ∷ more;
+}
+
+-- the rule holds where the first seat knows all that is placed, and no other one is in a turn
+pub first-keeps : (v : View) (more : List View) → ArePieces v.tag v.seen → length v.seen ≤ tag_pieces v.tag
+    → (v.saw ≡ true → missing_in (tag_pieces v.tag) v.seen ≡ None)
+    → ((n : ℕ) (u : View) → get_elem? more n ≡ some u → Knows v.tag v.seen v.saw 0 v.stage (suc n) u)
+    → IsKept v.tag (known_table v more)
+first-keeps v more pieces few whole others = record {
+  placed = v.seen;
+  sealed = v.saw;
   who = 0;
-  doing = Idle;
+  doing = v.stage;
   two = refl;
   flag = refl;
   count = refl;
-  pieces = (tt, λ k d h. absurd (omega (arith, h)));
-  few = omega arith;
-  whole = λ e. absurd (true≢false (sym e));
-  home = λ _. ap (λ (c : Contents). some (some c)) is;
-  out = λ e. absurd (true≢false (sym e));
-  turn = λ e. absurd (true≢false (sym e));
-  each = λ seat v at _. alone t seat v at;
-}
+  pieces = pieces;
+  few = few;
+  whole = whole;
+  home = λ e. ap (λ (b : Bool). some (slot_of b (contents v.tag v.seen v.saw))) e;
+  out = λ e. ap (λ (b : Bool). some (slot_of b (contents v.tag v.seen v.saw))) e;
+  turn = λ _. (v, refl, refl);
+  each = λ j u at _. known j u at;
+} where
+  known : (j : ℕ) (u : View) → get_elem? (v ∷ more) j ≡ some u → Knows v.tag v.seen v.saw 0 v.stage j u
+  known zero u at = subst (Knows v.tag v.seen v.saw 0 v.stage 0) (some-injective v u at) (knows-all 0 v)
+  known (suc n) u at = others n u at
+
+-- the same where it is the only one
+pub only-keeps : (v : View) → ArePieces v.tag v.seen → length v.seen ≤ tag_pieces v.tag
+    → (v.saw ≡ true → missing_in (tag_pieces v.tag) v.seen ≡ None) → IsKept v.tag (known_table v [])
+only-keeps v pieces few whole = first-keeps v [] pieces few whole (λ n u at. absurd (some-ne-none u (sym at)))
+
+-- the table at the start
+pub opens : (t : Tag) (xs : List Contents) (x : Contents) → xs ≡ x ∷ [] → x ≡ contents t [] false
+    → IsKept t (opening (0 ∷ 0 ∷ []) xs (first_view t))
+opens t xs x one is =
+    subst (λ (l : List Contents). IsKept t (opening (0 ∷ 0 ∷ []) l (first_view t)))
+    (sym (one ∙ ap (λ (c : Contents). c ∷ []) is))
+    (only-keeps (first_view t) (tt, λ k d h. absurd (omega (arith, h))) (omega arith)
+    (λ e. absurd (true≢false (sym e))))

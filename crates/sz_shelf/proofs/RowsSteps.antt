@@ -4,25 +4,25 @@
 --
 -- The key idea: on written-out tables each field of a step is a computation, and the rule is checked once, for one or
 -- two seats.
-use Rattle.std.proofs.Common.{◌≡◌, ℕ, zero, suc, ◌≤◌, List, [], ◌∷◌, Bool, true, false, length, refl, sym, ap}
-use Rattle.std.proofs.Common.{◌∙◌, subst, arith, Some, None, pos, inl, inr}
+use Rattle.std.proofs.Common.{◌≡◌, ℕ, zero, suc, ◌≤◌, List, [], ◌∷◌, true, false, refl, sym}
+use Rattle.std.proofs.Common.{subst, arith, Some, pos, inl, inr}
 use mathlib.Core.Bool.{true≢false}
 use mathlib.Core.Option.{Option, none, some, some-injective, some-ne-none}
 use lib.ListN.{get_elem?}
 use Rattle.atomic_table.specs.Table.{step, keeps, takes, gives}
 use Rattle.sz_cells.specs.Extent.{flat}
 use Rattle.sz_spec.specs.declared.op.Op.TheVariants.{Lookup}
-use Rattle.sz_shelf.specs.Tags.{Tag, tag_pieces}
-use Rattle.sz_shelf.specs.Contents.{Contents, missing_in}
+use Rattle.sz_shelf.specs.Tags.{Tag}
+use Rattle.sz_shelf.specs.Contents.{Contents}
 use Rattle.sz_shelf.specs.declared.rule.View.{View}
-use Rattle.sz_shelf.specs.declared.rule.Stage.{Stage}
-use Rattle.sz_shelf.specs.declared.rule.Stage.TheVariants.{Idle, InTurn, StoreOut}
-use Rattle.sz_shelf.specs.Rule.{Table, IsKept, Knows, ArePieces, has_store, flag_of, count_of}
+use Rattle.sz_shelf.specs.declared.rule.Stage.TheVariants.{InTurn}
+use Rattle.sz_shelf.specs.Rule.{Table, IsKept, Knows, ArePieces}
 use Rattle.sz_shelf.specs.Rule.{contents, first_view}
 use Rattle.sz_shelf.specs.Steps.{IsTry, IsTaking, IsCounting, IsGiving, IsReleasing, IsLoad, after_win}
 use Rattle.sz_shelf.specs.Steps.{after_release, after_take, after_count, after_load}
 use Rattle.sz_shelf.specs.Changes.{IsStep}
 use Rattle.sz_shelf.proofs.Lists.{begins-all, pieces-push}
+use Rattle.sz_shelf.proofs.Moves.{first-keeps, only-keeps, knows-idle, counting}
 
 -- the values 1 and 0 looked up in the table 10 20: one piece of two cells
 abbrev pub looked : Tag
@@ -82,122 +82,50 @@ table flag count slot views = record { words = flag ∷ count ∷ []; homes = sl
 
 -- ---- the rule holds
 
-record Sits (list : List ℕ) (seal : Bool) (doing : Stage) (v : View) : Type 0 where
-  tag : v.tag ≡ looked
-  seen : v.seen ≡ list
-  saw : v.saw ≡ seal
-  stage : v.stage ≡ doing
-
-knows : (list : List ℕ) (seal : Bool) (doing : Stage) (v : View) → Sits list seal doing v
-    → Knows looked list seal 0 doing 0 v
-knows list seal doing v sits = record {
-  tag = sits.tag;
-  begins = let b = begins-all v.seen in (b.0, sym sits.seen ∙ b.1);
-  saw = λ h. sym sits.saw ∙ h;
-  busy = λ _. (refl, sits.stage);
-  out = λ _. (sits.seen, sits.saw);
-}
-
-only : (list : List ℕ) (seal : Bool) (doing : Stage) (v : View) → Sits list seal doing v → (seat : ℕ) (u : View)
-    → get_elem? (v ∷ []) seat ≡ some u → Knows looked list seal 0 doing seat u
-only list seal doing v sits zero u at =
-    subst (Knows looked list seal 0 doing 0) (some-injective v u at) (knows list seal doing v sits)
-only list seal doing v sits (suc n) u at = absurd (some-ne-none u (sym at))
-
--- the one seat is in its turn or is not, and has the store or not
-alone : (list : List ℕ) (seal : Bool) (doing : Stage) (v : View) (flag count : ℕ) (slot : Option Contents)
-    → Sits list seal doing v → flag ≡ flag_of doing → count ≡ count_of looked list seal → ArePieces looked list
-    → length list ≤ 1 → (seal ≡ true → missing_in (tag_pieces looked) list ≡ None)
-    → (has_store doing ≡ false → slot ≡ some (contents looked list seal)) → (has_store doing ≡ true → slot ≡ none)
-    → IsKept looked (table flag count slot (v ∷ []))
-alone list seal doing v flag count slot sits f c pieces few whole home out = record {
-  placed = list;
-  sealed = seal;
-  who = 0;
-  doing = doing;
-  two = refl;
-  flag = f;
-  count = c;
-  pieces = pieces;
-  few = few;
-  whole = whole;
-  home = λ h. ap (λ (x : Option Contents). some x) (home h);
-  out = λ h. ap (λ (x : Option Contents). some x) (out h);
-  turn = λ _. (v, refl, sits.stage);
-  each = λ seat u at _. only list seal doing v sits seat u at;
-}
-
 never : {X : Type 0} → true ≡ false → X
 never e = absurd (true≢false e)
 
+unsealed : {X : Type 0} → false ≡ true → X
+unsealed e = never (sym e)
+
+few-none : 0 ≤ 1
+few-none = omega arith
+
+few-one : 1 ≤ 1
+few-one = omega arith
+
+-- the store is in its slot
 idle-kept : IsKept looked (table 0 0 (some empty) (idle ∷ []))
-idle-kept =
-    alone [] false Idle idle 0 0 (some empty) record { tag = refl; seen = refl; saw = refl; stage = refl } refl refl
-    no-pieces (omega arith) (λ e. never (sym e)) (λ _. refl) (λ e. never (sym e))
+idle-kept = only-keeps idle no-pieces few-none unsealed
 
 won-kept : IsKept looked (table 1 0 (some empty) (won ∷ []))
-won-kept =
-    alone [] false InTurn won 1 0 (some empty) record { tag = refl; seen = refl; saw = refl; stage = refl } refl refl
-    no-pieces (omega arith) (λ e. never (sym e)) (λ _. refl) (λ e. never (sym e))
-
-has-kept : IsKept looked (table 1 0 none (has_empty ∷ []))
-has-kept =
-    alone [] false StoreOut has_empty 1 0 none record { tag = refl; seen = refl; saw = refl; stage = refl } refl refl
-    no-pieces (omega arith) (λ e. never (sym e)) (λ e. never e) (λ _. refl)
-
-counted-kept : IsKept looked (table 1 1 none (has_placed ∷ []))
-counted-kept =
-    alone (0 ∷ []) false StoreOut has_placed 1 1 none record { tag = refl; seen = refl; saw = refl; stage = refl } refl
-    refl one-piece (omega arith) (λ e. never (sym e)) (λ e. never e) (λ _. refl)
+won-kept = only-keeps won no-pieces few-none unsealed
 
 gave-kept : IsKept looked (table 1 1 (some placed) (gave ∷ []))
-gave-kept =
-    alone (0 ∷ []) false InTurn gave 1 1 (some placed) record { tag = refl; seen = refl; saw = refl; stage = refl } refl
-    refl one-piece (omega arith) (λ e. never (sym e)) (λ _. refl) (λ e. never (sym e))
+gave-kept = only-keeps gave one-piece few-one unsealed
 
 done-kept : IsKept looked (table 0 1 (some placed) (done ∷ []))
-done-kept =
-    alone (0 ∷ []) false Idle done 0 1 (some placed) record { tag = refl; seen = refl; saw = refl; stage = refl } refl
-    refl one-piece (omega arith) (λ e. never (sym e)) (λ _. refl) (λ e. never (sym e))
+done-kept = only-keeps done one-piece few-one unsealed
+
+-- the seat has it
+has-kept : IsKept looked (table 1 0 none (has_empty ∷ []))
+has-kept = only-keeps has_empty no-pieces few-none unsealed
+
+counted-kept : IsKept looked (table 1 1 none (has_placed ∷ []))
+counted-kept = only-keeps has_placed one-piece few-one unsealed
 
 again-kept : IsKept looked (table 1 1 none (again ∷ []))
-again-kept =
-    alone (0 ∷ []) false StoreOut again 1 1 none record { tag = refl; seen = refl; saw = refl; stage = refl } refl refl
-    one-piece (omega arith) (λ e. never (sym e)) (λ e. never e) (λ _. refl)
+again-kept = only-keeps again one-piece few-one unsealed
 
--- a second seat, which is idle, knows nothing yet
-idle-knows : (who : ℕ) (doing : Stage) (seat : ℕ) → Knows looked [] false who doing seat idle
-idle-knows who doing seat = record {
-  tag = refl;
-  begins = ([], refl);
-  saw = λ e. e;
-  busy = λ e. never (sym e);
-  out = λ e. never (sym e);
-}
-
-either : (seat : ℕ) (u : View) → get_elem? (won ∷ idle ∷ []) seat ≡ some u → Knows looked [] false 0 InTurn seat u
-either zero u at = subst (Knows looked [] false 0 InTurn 0) (some-injective won u at)
-    (knows [] false InTurn won record { tag = refl; seen = refl; saw = refl; stage = refl })
-either (suc zero) u at = subst (Knows looked [] false 0 InTurn 1) (some-injective idle u at) (idle-knows 0 InTurn 1)
-either (suc (suc n)) u at = absurd (some-ne-none u (sym at))
+-- a second seat is idle, and knows nothing yet
+second-knows : (n : ℕ) (u : View) → get_elem? (idle ∷ []) n ≡ some u → Knows looked [] false 0 InTurn (suc n) u
+second-knows zero u at =
+    subst (Knows looked [] false 0 InTurn 1) (some-injective idle u at)
+    (knows-idle looked [] false 0 InTurn 1 idle refl refl (begins-all []) (λ e. e))
+second-knows (suc n) u at = absurd (some-ne-none u (sym at))
 
 pair-kept : IsKept looked (table 1 0 (some empty) (won ∷ idle ∷ []))
-pair-kept = record {
-  placed = [];
-  sealed = false;
-  who = 0;
-  doing = InTurn;
-  two = refl;
-  flag = refl;
-  count = refl;
-  pieces = no-pieces;
-  few = omega arith;
-  whole = λ e. never (sym e);
-  home = λ _. refl;
-  out = λ e. never (sym e);
-  turn = λ _. (won, refl, refl);
-  each = λ seat u at _. either seat u at;
-}
+pair-kept = first-keeps won (idle ∷ []) no-pieces few-none unsealed second-knows
 
 -- ---- one step of each kind
 
@@ -251,15 +179,8 @@ pub counts-piece : IsStep looked 1 1 0 (has_empty, (0, placed) ∷ []) (has_plac
     × IsCounting (step 1 1 1 0 none) (has_empty, (0, placed) ∷ []) (has_placed, (0, placed) ∷ [])
 counts-piece = (
   record { kept = has-kept; one = refl; seat = refl; act = keeps; valid = tt; carried = refl; after = refl },
-  record {
-    store = placed;
-    out = refl;
-    turn = refl;
-    unsealed = refl;
-    word = (refl, refl);
-    grows = inl (0, record { placed = refl; sealed = refl; new = refl; inside = omega arith; few = omega arith });
-    after = refl;
-  },
+  counting 1 1 (has_empty, (0, placed) ∷ []) placed refl refl refl
+      (inl (0, record { placed = refl; sealed = refl; new = refl; inside = omega arith; few = omega arith })) refl,
 )
 
 -- it gives the store back, and ends its turn
@@ -294,13 +215,6 @@ pub counts-seal : IsStep looked 1 2 0 (again, (0, sealed) ∷ []) (has_sealed, (
     × IsCounting (step 1 1 2 0 none) (again, (0, sealed) ∷ []) (has_sealed, (0, sealed) ∷ [])
 counts-seal = (
   record { kept = again-kept; one = refl; seat = refl; act = keeps; valid = tt; carried = refl; after = refl },
-  record {
-    store = sealed;
-    out = refl;
-    turn = refl;
-    unsealed = refl;
-    word = (refl, refl);
-    grows = inr (record { placed = refl; sealed = refl; whole = refl });
-    after = refl;
-  },
+  counting 1 2 (again, (0, sealed) ∷ []) sealed refl refl refl
+      (inr (record { placed = refl; sealed = refl; whole = refl })) refl,
 )

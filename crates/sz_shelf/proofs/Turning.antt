@@ -1,5 +1,5 @@
 -- What a turn did, from what the seat knew when it had the store and what it knew when it gave it back.
-use Rattle.std.proofs.Common.{◌≡◌, ℕ, ◌<◌, ◌∷◌, [], ◌++◌, Bool, true, false, sym, refl, ap, ap₂, ◌∙◌, subst}
+use Rattle.std.proofs.Common.{◌≡◌, ℕ, ◌<◌, List, ◌∷◌, [], ◌++◌, Bool, true, false, sym, refl, ap, ap₂, ◌∙◌, subst}
 use Rattle.std.specs.Prelude.{Result, Ok, Err, IfOk, Option, Some, None, if◌then◌else◌}
 use Rattle.std.specs.Option.{option_map_or}
 use mathlib.Core.Bool.{true≢false}
@@ -39,21 +39,29 @@ turn-told z v w y k l e s =
       whole = λ h. subst (λ (t : Tag). missing_in (tag_pieces t) y.seen ≡ None) tag (s.whole h);
     }
 
+-- the seat has seen what it found and maybe more, and all else that it knows stays
+seen-stays : (w : View) (seen : List ℕ) (saw : Bool) → Begins w.seen seen → ArePieces w.tag seen
+    → (w.saw ≡ true → saw ≡ true) → (saw ≡ true → missing_in (tag_pieces w.tag) seen ≡ None)
+    → Stays w (record w { seen = seen; saw = saw })
+seen-stays w seen saw grown pieces more whole = record {
+  tag = refl;
+  turns = refl;
+  loads = refl;
+  splits = refl;
+  found = refl;
+  found_sealed = refl;
+  grown = grown;
+  pieces = pieces;
+  saw = more;
+  whole = whole;
+}
+
 -- the seat knows what it knew
 pub same-stays : (v w : View) → Entered v w → Stays w w
 same-stays v w e =
-    let tag : w.tag ≡ v.tag = ap (λ (x : View). x.tag) e.after in record {
-      tag = refl;
-      turns = refl;
-      loads = refl;
-      splits = refl;
-      found = refl;
-      found_sealed = refl;
-      grown = begins-all w.seen;
-      pieces = subst (λ (t : Tag). ArePieces t w.seen) (sym tag) e.pieces;
-      saw = λ h. h;
-      whole = λ h. subst (λ (t : Tag). missing_in (tag_pieces t) w.seen ≡ None) (sym tag) (e.whole h);
-    }
+    let tag : w.tag ≡ v.tag = ap (λ (x : View). x.tag) e.after in
+    seen-stays w w.seen w.saw (begins-all w.seen) (subst (λ (t : Tag). ArePieces t w.seen) (sym tag) e.pieces) (λ h. h)
+    (λ h. subst (λ (t : Tag). missing_in (tag_pieces t) w.seen ≡ None) (sym tag) (e.whole h))
 
 pub equal-stays : (v w y : View) → Entered v w → y ≡ w → Stays w y
 equal-stays v w y e same = subst (Stays w) (sym same) (same-stays v w e)
@@ -81,18 +89,10 @@ pub placed-stays : (v w y : View) (piece : ℕ) (r : Result Placed NoMemory) →
     → Stays w y
 placed-stays v w y piece (Ok placed.New) e inside answer new other =
     let same = same-stays v w e in
-    let fresh = new-piece w.seen w.saw piece answer in subst (Stays w) (sym (new refl)) record {
-      tag = refl;
-      turns = refl;
-      loads = refl;
-      splits = refl;
-      found = refl;
-      found_sealed = refl;
-      grown = begins-push w.seen piece;
-      pieces = pieces-push w.tag w.seen piece same.pieces fresh.1 inside;
-      saw = λ h. h;
-      whole = λ h. absurd (true≢false (sym h ∙ fresh.0));
-    }
+    let fresh = new-piece w.seen w.saw piece answer in
+    subst (Stays w) (sym (new refl))
+    (seen-stays w (w.seen ++ piece ∷ []) w.saw (begins-push w.seen piece)
+    (pieces-push w.tag w.seen piece same.pieces fresh.1 inside) (λ h. h) (λ h. absurd (true≢false (sym h ∙ fresh.0))))
 placed-stays v w y piece (Ok placed.Already) e inside answer new other =
     equal-stays v w y e (other (λ h. true≢false (sym (ap is-new-told h))))
 placed-stays v w y piece (Ok placed.Sealed) e inside answer new other =
@@ -114,18 +114,9 @@ sealed-whole found n is = by_test (missing_in n found) is where
 pub sealed-stays : (v w y : View) (r : SealReply) → Entered v w → r ≡ seal_answer (tag_pieces w.tag) w.seen
     → (r ≡ seal.Sealed → y ≡ record w { saw = true }) → (¬ (r ≡ seal.Sealed) → y ≡ w) → Stays w y
 sealed-stays v w y seal.Sealed e answer sealed missing =
-    let same = same-stays v w e in subst (Stays w) (sym (sealed refl)) record {
-      tag = refl;
-      turns = refl;
-      loads = refl;
-      splits = refl;
-      found = refl;
-      found_sealed = refl;
-      grown = begins-all w.seen;
-      pieces = same.pieces;
-      saw = λ _. refl;
-      whole = λ _. sealed-whole w.seen (tag_pieces w.tag) answer;
-    }
+    subst (Stays w) (sym (sealed refl))
+    (seen-stays w w.seen true (begins-all w.seen) (same-stays v w e).pieces (λ _. refl)
+    (λ _. sealed-whole w.seen (tag_pieces w.tag) answer))
 sealed-stays v w y (seal.Missing k) e answer sealed missing =
     equal-stays v w y e (missing (λ h. true≢false (sym (ap is-sealed h))))
 

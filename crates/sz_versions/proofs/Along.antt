@@ -56,11 +56,8 @@ own-for v t own = record {
 fit-length : (sites : List Site) (lists : List (List Strategy)) (stores : List (Option NodeLineage))
     → FitNodes sites lists stores → length stores ≡ length sites
 fit-length [] [] [] h = refl
-fit-length [] [] (k ∷ stores) h = absurd h
-fit-length [] (l ∷ lists) stores h = absurd h
-fit-length (s ∷ sites) [] stores h = absurd h
-fit-length (s ∷ sites) (l ∷ lists) [] h = absurd h
 fit-length (s ∷ sites) (l ∷ lists) (k ∷ stores) h = ap suc (fit-length sites lists stores h.1)
+fit-length _ _ _ h = absurd h
 
 read-own : (ss : List (Option NodeLineage)) → All IsOwn (map keeping_from ss)
 read-own [] = All-nil IsOwn

@@ -4,13 +4,11 @@
 -- for, and none of them grows, so it stays the same when it is asked. Where they stand for the relation it is a view of
 -- the version, and what is known of these is known of it.
 use Rattle.std.proofs.Common.{◌≡◌, ℕ, suc, zero, ◌+◌, ◌≤◌, List, [], ◌∷◌, map, Bool, true, false, refl, sym, ap, ap₂}
-use Rattle.std.proofs.Common.{◌∙◌, subst, arith, Option, Some, None, unwrap_or, cond}
-use Rattle.std.specs.Prelude.{◌&&◌, ◌<◌, length, sum_by, filter, if◌then◌else◌}
+use Rattle.std.proofs.Common.{◌∙◌, subst, arith, Option, Some, None, unwrap_or}
+use Rattle.std.specs.Prelude.{◌&&◌, ◌<◌, length, if◌then◌else◌}
 use Rattle.std.specs.List.{All, AllZip, slice_get}
 use Rattle.std.specs.Option.{option_map}
 use Rattle.std.proofs.lemmas.Bool.{and_parts}
-use Rattle.std.proofs.lemmas.List.Elements.{All-head, All-tail}
-use Rattle.std.proofs.lemmas.List.Sums.{sum_by-cons}
 use Rattle.std.proofs.lemmas.Option.{slice_get-map}
 use Rattle.sz_cells.specs.Extent.{Extent, size_of}
 use Rattle.sz_cells.specs.Cells.{Cells, named_in}
@@ -31,7 +29,6 @@ use Rattle.sz_flow.specs.Executions.{Execution, execution}
 use Rattle.sz_script.specs.declared.command.NamedCell.{NamedCell}
 use Rattle.sz_query.specs.declared.path.Found.{Found}
 use Rattle.sz_query.specs.Views.{View, by_map, by_trace, by_store, view_site, IsUsable, used_of, traced_by}
-use Rattle.sz_query.specs.Views.{most_traced_by}
 use Rattle.sz_query.specs.Turns.{IsAsked}
 use Rattle.sz_query.specs.Answers.{answered, traced_of, IsStep, AreSteps}
 use Rattle.sz_catalogue.specs.Holdings.{Version, arrays_of}
@@ -45,13 +42,14 @@ use Rattle.sz_versions.specs.Views.{view_by, list_of, IsViewOf, strategy_told, a
 use Rattle.sz_versions.specs.Searches.{Search, IsSearchOf, IsAnswerTo}
 use Rattle.sz_versions.specs.Recalled.{execution_at, stores_at, recalled_view, cells_recalled, IsRecallOf}
 use Rattle.sz_recover.specs.Soundness.{IsSoundNode, AreSoundNodes}
+use Rattle.sz_recover.proofs.WrongNodes.{zip-at, all-of}
 use Rattle.sz_versions.specs.Recalled.{HasEachStore, SoundStoresAnswerTheRelation}
 use Rattle.sz_versions.proofs.Ways.{way-is_listed, way-supported, view_by-site, view_by-usable, view_by-stays}
-use Rattle.sz_versions.proofs.Ways.{view_by-traced, view_by-told, view_by-few}
+use Rattle.sz_versions.proofs.Ways.{view_by-traced, view_by-told}
 use Rattle.sz_versions.proofs.Steps.{IsStepOf, step-of, step-there, step-input, step-starts, step-leads}
 use Rattle.sz_versions.proofs.Steps.{base-shapes, outputs-shapes}
 use Rattle.sz_versions.proofs.PathViews.{lists-at, list-parts, joined-parts, joined-there, named-set, sound-views}
-use Rattle.sz_versions.proofs.PathViews.{views-answer}
+use Rattle.sz_versions.proofs.PathViews.{views-answer, black, black-more}
 
 -- ---- the stores of a node
 
@@ -60,10 +58,6 @@ pub fits-at : (sites : List Site) (lists : List (List Strategy)) (stores : List 
     (list : List Strategy) → FitNodes sites lists stores → slice_get sites n ≡ Some s → slice_get lists n ≡ Some list
     → (kept : Option NodeLineage) × (slice_get stores n ≡ Some kept) × FitsNode s list kept
 fits-at [] [] [] n s list h here there = cc
-fits-at [] [] (k ∷ stores) n s list h here there = absurd h
-fits-at [] (l ∷ lists) stores n s list h here there = absurd h
-fits-at (d ∷ sites) [] stores n s list h here there = absurd h
-fits-at (d ∷ sites) (l ∷ lists) [] n s list h here there = absurd h
 fits-at (d ∷ sites) (l ∷ lists) (k ∷ stores) zero s list h here there =
     let same : d ≡ s = cc in
     let own : l ≡ list = cc in (
@@ -73,29 +67,7 @@ fits-at (d ∷ sites) (l ∷ lists) (k ∷ stores) zero s list h here there =
     )
 fits-at (d ∷ sites) (l ∷ lists) (k ∷ stores) (suc n) s list h here there =
     fits-at sites lists stores n s list h.1 here there
-
--- the stores at a place stand for the relation
-sound-at : (es : List Execution) (stores : List (Option NodeLineage)) (n : ℕ) (e : Execution)
-    (kept : Option NodeLineage) → AreSoundNodes es stores → slice_get es n ≡ Some e → slice_get stores n ≡ Some kept
-    → IsSoundNode e kept
-sound-at [] [] n e kept h here there = cc
-sound-at [] (k ∷ stores) n e kept h here there = absurd h
-sound-at (d ∷ es) [] n e kept h here there = absurd h
-sound-at (d ∷ es) (k ∷ stores) zero e kept h here there =
-    let same : d ≡ e = cc in
-    let own : k ≡ kept = cc in
-    subst (λ (x : Execution). IsSoundNode x kept) same
-    (subst (λ (x : Option NodeLineage). IsSoundNode d x) own h.0)
-sound-at (d ∷ es) (k ∷ stores) (suc n) e kept h here there = sound-at es stores n e kept h.1 here there
-
--- and are those of their list
-each-at : (stores : List (Option NodeLineage)) (n : ℕ) (kept : Option NodeLineage) → All HasEachStore stores
-    → slice_get stores n ≡ Some kept → HasEachStore kept
-each-at [] n kept all there = cc
-each-at (k ∷ stores) zero kept all there =
-    let own : k ≡ kept = cc in
-    subst HasEachStore own (All-head HasEachStore k stores all)
-each-at (k ∷ stores) (suc n) kept all there = each-at stores n kept (All-tail HasEachStore k stores all) there
+fits-at _ _ _ _ s list h here there = absurd h
 
 -- the operator of a step's node, at the shapes that were found, is that of its execution
 site-same : (v : Version) (s : Step) (e : Execution) → IsSoundVersion v → (h : IsStepOf v s e)
@@ -279,17 +251,6 @@ recalled-taken v stores dir s from sound h starts_there =
           (kept-usable (list_of v s) (way_of v dir s) e h.kept h.listed h.supported ins h.fits);
     }
 
--- it is told as traced by no more than the output of its execution
-pub recalled-few : (v : Version) (stores : List (Option NodeLineage)) (dir : Dir) (s : Step) (e : Execution)
-    (kept : Option NodeLineage) → recalled_view v stores dir s ≡ view_by (way_of v dir s) e (keeping_from kept)
-    → most_traced_by (recalled_view v stores dir s) ≤ size_of e.site.out
-recalled-few v stores dir s e kept is =
-    omega (arith, ap most_traced_by is, view_by-few (way_of v dir s) e (keeping_from kept))
-
--- what a step's node has to tell where its way is black box
-abbrev black : Version → Dir → Step → ℕ
-black v dir s = if is_black_box (way_of v dir s) then size_of (extent_at (starts.outputs_of v) s.node) else 0
-
 -- once it was asked, it is told by the way, and as traced where that is black box
 recalled-told : (v : Version) (stores : List (Option NodeLineage)) (dir : Dir) (s : Step) (x : View)
     → IsSoundVersion v → IsRecalled v stores dir s → IsAsked (recalled_view v stores dir s) x
@@ -331,26 +292,12 @@ recalled-steps v stores dir (s ∷ t ∷ path) from sound fit joined is =
           outer.1 leads,
     )
 
--- what is black box along a path, with a step more
-black-more : (v : Version) (dir : Dir) (s : Step) (path : List Step)
-    → black v dir s + traced v dir path ≡ traced v dir (s ∷ path)
-black-more v dir s path = at (is_black_box (way_of v dir s)) where
-  at : (b : Bool) → (if b then size_of (extent_at (starts.outputs_of v) s.node) else 0) + traced v dir path
-      ≡ sum_by (λ (t : Step). size_of (extent_at (starts.outputs_of v) t.node))
-      (cond b (s ∷ filter (λ t. is_black_box (way_of v dir t)) path)
-      (filter (λ t. is_black_box (way_of v dir t)) path))
-  at true = sym (sum_by-cons (λ (t : Step). size_of (extent_at (starts.outputs_of v) t.node)) s
-      (filter (λ t. is_black_box (way_of v dir t)) path))
-  at false = omega arith
-
 -- by which way each step went, and how many cells are told as traced
 along-told : (v : Version) (stores : List (Option NodeLineage)) (dir : Dir) (path : List Step) (asked : List View)
     → IsSoundVersion v → Fit v stores → are_there v.flow path ≡ true
     → AllZip IsAsked (map (recalled_view v stores dir) path) asked
     → (map strategy_told (map used_of asked) ≡ map (way_of v dir) path) × (traced_of asked ≡ traced v dir path)
 along-told v stores dir [] [] sound fit there all = (refl, refl)
-along-told v stores dir [] (x ∷ asked) sound fit there all = absurd all
-along-told v stores dir (s ∷ path) [] sound fit there all = absurd all
 along-told v stores dir (s ∷ path) (x ∷ asked) sound fit there all =
     let both = and_parts (is_there (source_of v.flow s)) (are_there v.flow path) there in
     let first = recalled-told v stores dir s x sound (recalled-at v stores dir s sound fit both.0) all.0 in
@@ -358,6 +305,7 @@ along-told v stores dir (s ∷ path) (x ∷ asked) sound fit there all =
       ap₂ (λ (y : Strategy) (ys : List Strategy). y ∷ ys) first.0 rest.0,
       ap₂ ◌+◌ first.1 rest.1 ∙ black-more v dir s path,
     )
+along-told v stores dir _ _ sound fit there all = absurd all
 
 -- ---- what is found
 
@@ -409,8 +357,9 @@ sound-view : (v : Version) (stores : List (Option NodeLineage)) (dir : Dir) (s :
     → AreSoundNodes (executions_of v) stores → IsRecalled v stores dir s
     → IsViewOf v dir s (recalled_view v stores dir s)
 sound-view v stores dir s each sound h =
-    let own = kept-sound v.awaited (list_of v s) h.execution h.kept h.fits (each-at stores s.node h.kept each h.at)
-    (sound-at (executions_of v) stores s.node h.execution h.kept sound h.here h.at) in
+    let own = kept-sound v.awaited (list_of v s) h.execution h.kept h.fits
+    (all-of HasEachStore stores s.node h.kept each h.at)
+    (zip-at IsSoundNode s.node (executions_of v) stores h.execution h.kept sound h.here h.at) in
     (h.execution, h.here, made h.kept, own, h.is ∙ view-made (way_of v dir s) h.execution h.kept)
 
 pub sound-recalled : (v : Version) (stores : List (Option NodeLineage)) (dir : Dir) (path : List Step)

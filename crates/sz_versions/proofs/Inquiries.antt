@@ -21,7 +21,7 @@ use Rattle.sz_versions.specs.Efforts.{most_traced}
 use Rattle.sz_versions.specs.Views.{strategy_told}
 use Rattle.sz_versions.specs.Searches.{Search, IsSearchOf, IsAnswerTo}
 use Rattle.sz_versions.proofs.PathViews.{AreSound, sound-views, views-answer, named-set, joined-there, joined-parts}
-use Rattle.sz_versions.proofs.PathViews.{views-told, views-traced, views-least, views-within, asked-most}
+use Rattle.sz_versions.proofs.PathViews.{views-told, views-traced, views-between, views-within, asked-most}
 
 -- the views of a search are those of sound executions
 searched-views : (v : Version) (dir : Dir) (path : List Step) (named : List NamedCell) (s : Search)
@@ -67,7 +67,7 @@ found-least v dir path named s f h a =
     omega (
       arith,
       a.traced,
-      views-least v dir path s.views a.views h.sound (searched-views v dir path named s h) a.asked,
+      (views-between v dir path s.views a.views h.sound (searched-views v dir path named s h) a.asked).0,
     )
 
 pub found-most : (v : Version) (dir : Dir) (path : List Step) (named : List NamedCell) (s : Search) (f : Found)
@@ -82,10 +82,9 @@ found-most v dir path named s f h a =
 -- what is traced of views that were asked is no more than was allowed for
 pub asked-within : (views asked : List View) → AllZip IsAsked views asked → traced_of asked ≤ most_traced_of views
 asked-within [] [] zip = omega arith
-asked-within [] (x ∷ asked) zip = absurd zip
-asked-within (w ∷ views) [] zip = absurd zip
 asked-within (w ∷ views) (x ∷ asked) zip =
     omega (arith, asked-most w x zip.0, asked-within views asked zip.1)
+asked-within _ _ zip = absurd zip
 
 -- what is so where there is a value follows from what is so of the value
 pub on-found : {T E : Type 0} (P : T → Type 0) (Q : Type 0) (r : Result T E) → ((x : T) → P x → Q) → IfOk r P → OnOk r Q

@@ -31,7 +31,7 @@ use Rattle.sz_catalogue.specs.Holdings.{no_version, next_number, shapes_of}
 use Rattle.sz_catalogue.specs.Starts.{first_lists, workflow_of, bases_of, version_started}
 use Rattle.sz_catalogue.specs.Rules as rules
 use Rattle.sz_catalogue.specs.Rules.{judged, first_of, version_of}
-use Rattle.sz_catalogue.specs.Kept.{IsWorkflow}
+use Rattle.sz_catalogue.specs.Kept.{IsWorkflow, IsRun}
 use Rattle.sz_catalogue.specs.Changes.{accepted, with_flow, with_list, with_strategies, with_version}
 use Rattle.sz_catalogue.specs.Changes.{with_await, changes_no_version}
 use Rattle.sz_catalogue.specs.Merges.{with_merge, is_merge_asked}
@@ -46,10 +46,6 @@ pub rule-fails : (b : Bool) (r : Refusal) (rest : List (Bool × Refusal)) → fi
     → (b ≡ false) × (first_of rest ≡ None)
 rule-fails true r rest h = cc
 rule-fails false r rest h = (refl, h)
-
-not_true : (b : Bool) → not b ≡ true → b ≡ false
-not_true true h = cc
-not_true false h = refl
 
 pub not_false : (b : Bool) → not b ≡ false → b ≡ true
 not_false true h = refl
@@ -129,27 +125,14 @@ pub keeps-awaited : (c : Holdings) (n : ℕ) → AreSound c → rules.has_no_ver
 keeps-awaited c n k held =
     let v = version_of c n in
     let w : Version = record v { awaited = true } in
-    let old = version-sound c n k.versions held in
-    let new : IsSoundVersion w = record {
-      run = (
-        old.run.0,
-        record {
-          right = old.run.1.right;
-          count = old.run.1.count;
-          fits = old.run.1.fits;
-          lists = old.run.1.lists;
-        },
-      );
-    } in
+    let old = (version-sound c n k.versions held).run in
+    let r = old.1 in
+    let run : IsRun w old.0 = record { right = r.right; count = r.count; fits = r.fits; lists = r.lists } in
+    let new : IsSoundVersion w = record { run = (old.0, run) } in
     record {
       flows = k.flows;
       versions = All-values-set_value (is_at (nat_cmp n)) IsSoundVersion c.versions w k.versions new;
     }
-
-pub keeps-await : (c : Holdings) (n : ℕ) → AreSound c
-    → judged c (order.Await n) ≡ None → AreSound (with_await c n)
-keeps-await c n k none =
-    keeps-awaited c n k (rule-fails (rules.has_no_version c n) refusal.NoSuchVersion [] none).0
 
 -- a merge that is asked
 keeps-merge : (c : Holdings) (n : ℕ) → AreSound c → AreSound (with_merge c n)

@@ -1,11 +1,12 @@
 -- What is read of the runs and of the lists of a version, by number.
 use Rattle.std.proofs.Common.{◌≡◌, ℕ, ◌<◌, List, [], map, length, get_or, Option, Some, refl, sym, ap, ◌∙◌, subst}
 use Rattle.std.proofs.Common.{arith}
-use Rattle.std.proofs.Common.{unwrap_or, true}
+use Rattle.std.proofs.Common.{unwrap_or, Bool, true, None, if◌then◌else◌}
 use Rattle.std.specs.List.{slice_get}
 use Rattle.std.specs.Option.{option_map}
 use Rattle.std.proofs.lemmas.List.{length-map}
 use Rattle.std.proofs.lemmas.Option.{slice_get-map, slice_get_read, slice_get_within}
+use Rattle.sz_cells.specs.declared.Cell.{Cell}
 use Rattle.sz_cells.specs.Extent.{Extent}
 use Rattle.sz_spec.specs.declared.modes.Dir.{Dir}
 use Rattle.sz_spec.specs.declared.modes.Strategy.{Strategy}
@@ -19,7 +20,10 @@ use Rattle.sz_flow.proofs.Executions.{outputs-evaluations}
 use Rattle.sz_catalogue.specs.Holdings.{Version, arrays_of}
 use Rattle.sz_catalogue.specs.Changes.{outputs, way_of}
 use Rattle.sz_versions.specs.Runs.{executions_of, IsSoundVersion}
+use Rattle.sz_versions.specs.Stores.{Trail}
+use Rattle.sz_versions.specs.Along.{IsTrailFor}
 use Rattle.sz_versions.proofs.Steps.{step-there, step-of}
+use Rattle.sz_versions.proofs.Keeping.{read-at}
 use Rattle.sz_versions.proofs.PathViews.{lists-at, list-parts}
 
 -- the run of a step's node is there
@@ -34,13 +38,26 @@ run-there v s runs sound there same =
 pub run-at : (v : Version) (n : ℕ) (runs : List NodeRun) (r : NodeRun) → map execution_of runs ≡ executions_of v
     → n < length runs → r ≡ get_or runs n r → slice_get (executions_of v) n ≡ Some (execution_of r)
 run-at v n runs r same lt is =
-    ap (λ (es : List Execution). slice_get es n) (sym same) ∙ slice_get-map execution_of runs n
-    ∙ ap (option_map execution_of) (slice_get_read runs (length runs) n r refl lt is)
+    ap (λ (es : List Execution). slice_get es n) (sym same) ∙ read-at execution_of runs n r lt is
 
 -- the shape at a place of a list
 pub extent-read : (es : List Extent) (i : ℕ) (e : Extent) → i < length es → e ≡ get_or es i e → e ≡ extent_at es i
 extent-read es i e lt is =
     sym (ap (λ (o : Option Extent). unwrap_or o no_extent) (slice_get_read es (length es) i e refl lt is))
+
+-- the cell that is found by its numbers
+pub told-cell : (o : Option Cell) (cell found : Cell) (b : Bool) → o ≡ (if b then Some cell else None) → b ≡ true
+    → o ≡ Some found → cell ≡ found
+told-cell o cell found b told there is =
+    let both : Some cell ≡ Some found =
+    sym (told ∙ ap (λ (c : Bool). if c then Some cell else None) there) ∙ is in cc
+
+-- what is kept of a step's node has a place
+pub store-there : (v : Version) (s : Step) (t : Trail) → IsSoundVersion v → is_there (source_of v.flow s) ≡ true
+    → IsTrailFor v t → s.node < length t.kept
+store-there v s t sound there own =
+    let found = step-there v s sound there in
+    omega (arith, slice_get_within (executions_of v) s.node found.0 found.1, own.long)
 
 -- a node that is there has a list, and that one is not empty
 pub list-there : (v : Version) (s : Step) → IsSoundVersion v → is_there (source_of v.flow s) ≡ true

@@ -17,6 +17,7 @@ use Rattle.sz_versions.specs.Stores.{Keeping, nothing, growing, whole, read, IsK
 use Rattle.sz_versions.specs.Stores.{keeping_of}
 use Rattle.sz_versions.specs.Lending.{lent, once_viewed, changed_at, once_asked, once_along, IsLent, AreLent}
 use Rattle.sz_versions.specs.declared.runs.NodeKeeping.{NodeKeeping}
+use Rattle.sz_versions.proofs.Keeping.{zip-set, zip-kept}
 
 -- ---- what is lent is kept of the same execution
 
@@ -37,12 +38,9 @@ kept-viewed b e list s k own = at (is_stored s) where
 kept-changed : (b : Bool) (es : List Execution) (lists : List (List Strategy)) (s : Strategy) (n : ℕ)
     (keeps : List Keeping) → AreKeptOf b es lists keeps → AreKeptOf b es lists (changed_at (once_viewed s) n keeps)
 kept-changed b es lists s n [] own = own
-kept-changed b [] [] s zero (k ∷ keeps) own = absurd own
-kept-changed b [] [] s (suc n) (k ∷ keeps) own = absurd own
-kept-changed b [] (l ∷ lists) s zero (k ∷ keeps) own = absurd own
-kept-changed b [] (l ∷ lists) s (suc n) (k ∷ keeps) own = absurd own
-kept-changed b (d ∷ es) [] s zero (k ∷ keeps) own = absurd own
-kept-changed b (d ∷ es) [] s (suc n) (k ∷ keeps) own = absurd own
+kept-changed b [] [] s n (k ∷ keeps) own = absurd own
+kept-changed b [] (l ∷ lists) s n (k ∷ keeps) own = absurd own
+kept-changed b (d ∷ es) [] s n (k ∷ keeps) own = absurd own
 kept-changed b (d ∷ es) (l ∷ lists) s zero (k ∷ keeps) own = (kept-viewed b d l s k own.0, own.1)
 kept-changed b (d ∷ es) (l ∷ lists) s (suc n) (k ∷ keeps) own = (own.0, kept-changed b es lists s n keeps own.1)
 
@@ -51,11 +49,6 @@ kept-changed b (d ∷ es) (l ∷ lists) s (suc n) (k ∷ keeps) own = (own.0, ke
 pub trail-asked : (v : Version) (dir : Dir) (s : Step) (t : Trail) → IsTrailOf v t → IsTrailOf v (once_asked v dir s t)
 trail-asked v dir s t own =
     (own.0, kept-changed v.awaited (executions_of v) v.lists (way_of v dir s) s.node t.kept own.1)
-
-pub trail-along : (v : Version) (dir : Dir) (path : List Step) (t : Trail) → IsTrailOf v t
-    → IsTrailOf v (once_along v dir path t)
-trail-along v dir [] t own = own
-trail-along v dir (s ∷ path) t own = trail-along v dir path (once_asked v dir s t) (trail-asked v dir s t own)
 
 -- one step more
 pub along-more : (v : Version) (dir : Dir) (path : List Step) (s : Step) (t : Trail)
@@ -98,21 +91,9 @@ lent-same (k ∷ keeps) = ((0, lent-none k), lent-same keeps)
 pub lent-set : (keeps : List Keeping) (xs : List NodeKeeping) (n : ℕ) (y d : NodeKeeping)
     → AreLent keeps (map keeping_of xs) → IsLent (keeping_of (get_or xs n d)) (keeping_of y)
     → AreLent keeps (map keeping_of (set xs n y))
-lent-set [] [] n y d zip more = zip
-lent-set (k ∷ keeps) [] n y d zip more = zip
-lent-set [] (x ∷ xs) n y d zip more = absurd zip
-lent-set (k ∷ keeps) (x ∷ xs) zero y d zip more = (lent-on k (keeping_of x) (keeping_of y) zip.0 more, zip.1)
-lent-set (k ∷ keeps) (x ∷ xs) (suc n) y d zip more = (zip.0, lent-set keeps xs n y d zip.1 more)
+lent-set = zip-set IsLent lent-on
 
 pub keeps-lent : (b : Bool) (es : List Execution) (lists : List (List Strategy)) (keeps after : List Keeping)
     → AreLent keeps after → AreKeptOf b es lists keeps → AreKeptOf b es lists after
-keeps-lent b es lists [] [] zip own = own
-keeps-lent b es lists [] (l ∷ after) zip own = absurd zip
-keeps-lent b es lists (k ∷ keeps) [] zip own = absurd zip
-keeps-lent b [] [] (k ∷ keeps) (l ∷ after) zip own = absurd own
-keeps-lent b [] (m ∷ lists) (k ∷ keeps) (l ∷ after) zip own = absurd own
-keeps-lent b (d ∷ es) [] (k ∷ keeps) (l ∷ after) zip own = absurd own
-keeps-lent b (d ∷ es) (m ∷ lists) (k ∷ keeps) (l ∷ after) zip own = (
-  subst (IsKeptOf b d m) (sym zip.0.1) (kept-lent b d m zip.0.0 k own.0),
-  keeps-lent b es lists keeps after zip.1 own.1,
-)
+keeps-lent b =
+    zip-kept IsLent b (λ e list k l is own. subst (IsKeptOf b e list) (sym is.1) (kept-lent b e list is.0 k own))

@@ -6,17 +6,19 @@ use Rattle.std.proofs.Common.{◌≡◌, ℕ, suc, List, [], ◌∷◌, ◌++◌
 use Rattle.std.proofs.Common.{ap₂, ◌∙◌, subst, Option, Some, None, true≢false, unwrap_or, if◌then◌else◌, arith}
 use Rattle.std.specs.Option.{option_map}
 use Rattle.std.specs.List.{slice_get, filter}
+use Rattle.std.proofs.lemmas.List.Elements.{filter_agree}
 use Rattle.sz_spec.specs.declared.flow.Node.{Node}
 use Rattle.sz_spec.specs.declared.modes.Strategy.{Strategy}
 use Rattle.sz_spec.specs.declared.modes.Strategy.TheVariants as strategy
 use Rattle.sz_spec.specs.Affected.{arrays_for}
 use Rattle.sz_spec.specs.Flows.{evaluations}
 use Rattle.sz_spec.specs.Kinds.{kinds_of}
+use Rattle.sz_spec.specs.Modes.{mode_of}
 use Rattle.sz_spec.specs.Values.{Grid}
 use Rattle.sz_flow.specs.Executions.{Execution, execution}
 use Rattle.sz_flow.proofs.Executions.{executions-count, executions-at}
 use Rattle.sz_store.specs.Kept.{NodeLineage}
-use Rattle.sz_merge.specs.Laws.{paired_in}
+use Rattle.sz_merge.specs.Laws.{keeps_pairs, paired_in}
 use Rattle.sz_catalogue.specs.Holdings.{Version, arrays_of}
 use Rattle.sz_catalogue.specs.Merges.{is_full, kinds_in_node, kinds_among, kinds_told}
 use Rattle.sz_bodies.specs.Fitting.{FitNodes}
@@ -29,31 +31,18 @@ use Rattle.sz_versions.proofs.MergedNodes.{fit-executed, by-runs}
 
 -- ---- the strategies that keep region pairs
 
+pairs-full : (s : Strategy) → keeps_pairs (mode_of s) ≡ is_full s
+pairs-full strategy.Map = refl
+pairs-full _ = refl
+
 pub paired-full : (list : List Strategy) → paired_in list ≡ filter is_full list
-paired-full [] = refl
-paired-full (strategy.Map ∷ list) = paired-full list
-paired-full (strategy.FullOneB ∷ list) = ap (λ (ts : List Strategy). strategy.FullOneB ∷ ts) (paired-full list)
-paired-full (strategy.FullOneF ∷ list) = ap (λ (ts : List Strategy). strategy.FullOneF ∷ ts) (paired-full list)
-paired-full (strategy.FullManyB ∷ list) = ap (λ (ts : List Strategy). strategy.FullManyB ∷ ts) (paired-full list)
-paired-full (strategy.FullManyF ∷ list) = ap (λ (ts : List Strategy). strategy.FullManyF ∷ ts) (paired-full list)
-paired-full (strategy.PayOne ∷ list) = paired-full list
-paired-full (strategy.PayMany ∷ list) = paired-full list
-paired-full (strategy.CompOne ∷ list) = paired-full list
-paired-full (strategy.CompMany ∷ list) = paired-full list
-paired-full (strategy.BlackBox ∷ list) = paired-full list
+paired-full list = filter_agree (λ (s : Strategy). keeps_pairs (mode_of s)) is_full pairs-full list
 
 pub none-full : (list : List Strategy) → has_stored list ≡ false → filter is_full list ≡ []
 none-full [] none = refl
 none-full (strategy.Map ∷ list) none = none-full list none
 none-full (strategy.BlackBox ∷ list) none = none-full list none
-none-full (strategy.FullOneB ∷ list) none = absurd (true≢false none)
-none-full (strategy.FullOneF ∷ list) none = absurd (true≢false none)
-none-full (strategy.FullManyB ∷ list) none = absurd (true≢false none)
-none-full (strategy.FullManyF ∷ list) none = absurd (true≢false none)
-none-full (strategy.PayOne ∷ list) none = absurd (true≢false none)
-none-full (strategy.PayMany ∷ list) none = absurd (true≢false none)
-none-full (strategy.CompOne ∷ list) none = absurd (true≢false none)
-none-full (strategy.CompMany ∷ list) none = absurd (true≢false none)
+none-full (s ∷ list) none = absurd (true≢false none)
 
 -- ---- a version that was started here
 
@@ -110,13 +99,10 @@ read-told : (es : List Execution) (lists : List (List Strategy)) (stores : List 
     → FitNodes (map (λ (e : Execution). e.site) es) lists stores
     → kinds_in_nodes es lists (map keeping_from stores) ≡ kinds_recalled stores
 read-told [] [] [] h = refl
-read-told [] [] (k ∷ stores) h = absurd h
-read-told [] (l ∷ lists) stores h = absurd h
-read-told (d ∷ es) [] stores h = absurd h
-read-told (d ∷ es) (l ∷ lists) [] h = absurd h
 read-told (d ∷ es) (l ∷ lists) (None ∷ stores) h = read-told es lists stores h.1
 read-told (d ∷ es) (l ∷ lists) (Some k ∷ stores) h =
     ap (λ (xs : List ℕ). kinds_in_kept d l (read k) ++ xs) (read-told es lists stores h.1)
+read-told _ _ _ h = absurd h
 
 -- ---- either
 

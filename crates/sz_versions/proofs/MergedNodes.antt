@@ -3,15 +3,14 @@
 -- The key idea: what is merged is what lies on a node's shelf, which stands for exactly the relation of the shelf's
 -- tag. The stores that are carried stand for it too, and for the relation of the node's execution, so the two are one;
 -- and what is merged of them stands for it again.
-use Rattle.std.proofs.Common.{◌≡◌, ℕ, zero, suc, ◌<◌, List, [], ◌∷◌, ◌++◌, map, length, take, set, get_or, Bool}
+use Rattle.std.proofs.Common.{◌≡◌, ℕ, zero, suc, ◌<◌, ◌≤◌, List, [], ◌∷◌, ◌++◌, map, length, take, set, get_or, Bool}
 use Rattle.std.proofs.Common.{true, false, refl, sym, ap, ap₂, ◌∙◌, subst, append_assoc, arith, Option, Some, None}
 use Rattle.std.proofs.Common.{true≢false}
 use Rattle.std.proofs.Math.Seq.{map-set_same}
-use Rattle.std.specs.Option.{option_map}
 use Rattle.std.specs.Prelude.{Ok}
 use Rattle.std.specs.List.{All, AllZip, slice_get, list_any, list_all}
-use Rattle.std.proofs.lemmas.List.{append-nil, length-map}
-use Rattle.std.proofs.lemmas.Option.{slice_get-map, slice_get_read}
+use Rattle.std.proofs.lemmas.List.{append-nil, length-map, take_all}
+use Rattle.std.proofs.lemmas.Option.{slice_get_read}
 use Rattle.std.proofs.lemmas.List.Elements.{All-head, All-weaker, All-nil, All-cons}
 use Rattle.sz_spec.specs.declared.modes.Strategy.{Strategy}
 use Rattle.sz_spec.specs.Kinds.{kinds_of}
@@ -38,7 +37,7 @@ use Rattle.sz_versions.specs.Stores.{Trail, keeping_of, has_stored, tag_for, Are
 use Rattle.sz_versions.specs.declared.runs.NodeKeeping.{NodeKeeping}
 use Rattle.sz_versions.specs.Residents.{store_read, stores_read, IsTrailBy, stored_of}
 use Rattle.sz_versions.specs.Merging.{HasKinds, IsMergeable, AreMergeable, IsMergedKeeping, IsMergedNode}
-use Rattle.sz_versions.proofs.Keeping.{all-supported}
+use Rattle.sz_versions.proofs.Keeping.{all-supported, read-at, mergeable-length, kept-mergeable}
 use Rattle.sz_versions.specs.Merging.{AreMergedNodes, IsMergedStored, kinds_in_kept, kinds_in_nodes}
 
 -- ---- what lies on a shelf
@@ -101,11 +100,10 @@ merged-one s (entries comp es) (entries c fs) is = tt
 pub merged-kinds : (s : Site) (before after : List Keep) → AllZip (IsMergedKeep s) before after
     → All (λ f. HasKinds f.holding) after
 merged-kinds s [] [] each = All-nil (λ f. HasKinds f.holding)
-merged-kinds s [] (g ∷ gs) each = absurd each
-merged-kinds s (f ∷ fs) [] each = absurd each
 merged-kinds s (f ∷ fs) (g ∷ gs) each =
     All-cons (λ (x : Keep). HasKinds x.holding) g gs (merged-one s f.holding g.holding each.0.1)
     (merged-kinds s fs gs each.1)
+merged-kinds s _ _ each = absurd each
 
 -- ---- what can be merged
 
@@ -114,10 +112,6 @@ pub mergeable-at : (a : Bool) (es : List Execution) (lists : List (List Strategy
     (e : Execution) (list : List Strategy) (k : Keeping) → AreMergeable a es lists keeps → slice_get es n ≡ Some e
     → slice_get lists n ≡ Some list → slice_get keeps n ≡ Some k → IsMergeable a e list k
 mergeable-at a [] [] [] n e list k h here there kept = cc
-mergeable-at a [] [] (m ∷ keeps) n e list k h here there kept = absurd h
-mergeable-at a [] (l ∷ lists) keeps n e list k h here there kept = absurd h
-mergeable-at a (d ∷ es) [] keeps n e list k h here there kept = absurd h
-mergeable-at a (d ∷ es) (l ∷ lists) [] n e list k h here there kept = absurd h
 mergeable-at a (d ∷ es) (l ∷ lists) (m ∷ keeps) zero e list k h here there kept =
     let same : d ≡ e = cc in
     let own : l ≡ list = cc in
@@ -127,57 +121,27 @@ mergeable-at a (d ∷ es) (l ∷ lists) (m ∷ keeps) zero e list k h here there
     (subst (λ (x : Keeping). IsMergeable a d l x) is h.0))
 mergeable-at a (d ∷ es) (l ∷ lists) (m ∷ keeps) (suc n) e list k h here there kept =
     mergeable-at a es lists keeps n e list k h.1 here there kept
-
-pub mergeable-length : (a : Bool) (es : List Execution) (lists : List (List Strategy)) (keeps : List Keeping)
-    → AreMergeable a es lists keeps → (length keeps ≡ length es) × (length lists ≡ length es)
-mergeable-length a [] [] [] h = (refl, refl)
-mergeable-length a [] [] (k ∷ keeps) h = absurd h
-mergeable-length a [] (l ∷ lists) keeps h = absurd h
-mergeable-length a (d ∷ es) [] keeps h = absurd h
-mergeable-length a (d ∷ es) (l ∷ lists) [] h = absurd h
-mergeable-length a (d ∷ es) (l ∷ lists) (k ∷ keeps) h =
-    let rest = mergeable-length a es lists keeps h.1 in (ap suc rest.0, ap suc rest.1)
+mergeable-at a _ _ _ _ e list k h here there kept = absurd h
 
 -- also where it is not known whether the version is awaited
 pub mergeable-before : (a : Bool) (es : List Execution) (lists : List (List Strategy)) (keeps : List Keeping)
     → AreMergeable a es lists keeps → AreMergeable false es lists keeps
 mergeable-before a [] [] [] h = tt
-mergeable-before a [] [] (k ∷ keeps) h = absurd h
-mergeable-before a [] (l ∷ lists) keeps h = absurd h
-mergeable-before a (d ∷ es) [] keeps h = absurd h
-mergeable-before a (d ∷ es) (l ∷ lists) [] h = absurd h
 mergeable-before a (d ∷ es) (l ∷ lists) (k ∷ keeps) h = (at k h.0, mergeable-before a es lists keeps h.1) where
   at : (k : Keeping) → IsMergeable a d l k → IsMergeable false d l k
   at nothing own = tt
   at (growing z p) own = refl
   at (whole k) own = own
   at (read k) own = own
+mergeable-before a _ _ _ h = absurd h
 
--- what is kept of a version that was started here
-kept-mergeable : (a : Bool) (es : List Execution) (lists : List (List Strategy)) (keeps : List Keeping)
-    → AreKeptOf a es lists keeps → AreMergeable a es lists keeps
-kept-mergeable a [] [] [] h = tt
-kept-mergeable a [] [] (k ∷ keeps) h = absurd h
-kept-mergeable a [] (l ∷ lists) keeps h = absurd h
-kept-mergeable a (d ∷ es) [] keeps h = absurd h
-kept-mergeable a (d ∷ es) (l ∷ lists) [] h = absurd h
-kept-mergeable a (d ∷ es) (l ∷ lists) (k ∷ keeps) h = (at k h.0, kept-mergeable a es lists keeps h.1) where
-  at : (k : Keeping) → IsKeptOf a d l k → IsMergeable a d l k
-  at nothing own = tt
-  at (growing z p) own = own.0
-  at (whole k) own = own
-  at (read k) own = absurd own
-
--- and of one that a log gave
+-- what is kept of a version that a log gave
 read-mergeable : (a : Bool) (es : List Execution) (lists : List (List Strategy)) (stores : List (Option NodeLineage))
     → FitNodes (map (λ (e : Execution). e.site) es) lists stores → AreMergeable a es lists (map keeping_from stores)
 read-mergeable a [] [] [] h = tt
-read-mergeable a [] [] (k ∷ stores) h = absurd h
-read-mergeable a [] (l ∷ lists) stores h = absurd h
-read-mergeable a (d ∷ es) [] stores h = absurd h
-read-mergeable a (d ∷ es) (l ∷ lists) [] h = absurd h
 read-mergeable a (d ∷ es) (l ∷ lists) (None ∷ stores) h = (tt, read-mergeable a es lists stores h.1)
 read-mergeable a (d ∷ es) (l ∷ lists) (Some k ∷ stores) h = (h.0.1, read-mergeable a es lists stores h.1)
+read-mergeable a _ _ _ h = absurd h
 
 -- stores that fit a version fit its executions
 pub fit-executed : (v : Version) (stores : List (Option NodeLineage)) → IsSoundVersion v → Fit v stores
@@ -224,10 +188,9 @@ merged-next (d ∷ es) (l ∷ lists) (m ∷ keeps) [] zero e list k new here the
           (subst (λ (x : Keeping). IsMergedNode e list x new) is own)),
       tt,
     )
-merged-next (d ∷ es) (l ∷ lists) (m ∷ keeps) (x ∷ news) zero e list k new here there kept h own = absurd h
-merged-next (d ∷ es) (l ∷ lists) (m ∷ keeps) [] (suc n) e list k new here there kept h own = absurd h
 merged-next (d ∷ es) (l ∷ lists) (m ∷ keeps) (x ∷ news) (suc n) e list k new here there kept h own =
     (h.0, merged-next es lists keeps news n e list k new here there kept h.1 own)
+merged-next _ _ _ _ _ e list k new here there kept h own = absurd h
 
 pub kinds-next : (es : List Execution) (lists : List (List Strategy)) (keeps : List Keeping) (n : ℕ) (e : Execution)
     (list : List Strategy) (k : Keeping) → slice_get es n ≡ Some e → slice_get lists n ≡ Some list
@@ -274,27 +237,16 @@ kept-merged (d ∷ es) (l ∷ lists) (k ∷ olds) (x ∷ news) h own =
 read-merged : (es : List Execution) (lists : List (List Strategy)) (stores : List (Option NodeLineage))
     (news : List Keeping) → AreMergedNodes es lists (map keeping_from stores) news → news ≡ map keeping_from stores
 read-merged [] [] [] [] h = refl
-read-merged [] [] [] (x ∷ news) h = absurd h
-read-merged [] [] (k ∷ stores) news h = absurd h
-read-merged [] (l ∷ lists) stores news h = absurd h
-read-merged (d ∷ es) [] stores news h = absurd h
-read-merged (d ∷ es) (l ∷ lists) [] news h = absurd h
-read-merged (d ∷ es) (l ∷ lists) (k ∷ stores) [] h = absurd h
 read-merged (d ∷ es) (l ∷ lists) (None ∷ stores) (x ∷ news) h =
     ap₂ (λ (y : Keeping) (ys : List Keeping). y ∷ ys) h.0.merged (read-merged es lists stores news h.1)
 read-merged (d ∷ es) (l ∷ lists) (Some k ∷ stores) (x ∷ news) h =
     ap₂ (λ (y : Keeping) (ys : List Keeping). y ∷ ys) h.0.merged (read-merged es lists stores news h.1)
+read-merged _ _ _ _ h = absurd h
 
 -- no store that was read changes
 stores-merged : (es : List Execution) (lists : List (List Strategy)) (olds news : List Keeping)
     → AreMergedNodes es lists olds news → map store_read news ≡ map store_read olds
 stores-merged [] [] [] [] h = refl
-stores-merged [] [] [] (x ∷ news) h = absurd h
-stores-merged [] [] (k ∷ olds) news h = absurd h
-stores-merged [] (l ∷ lists) olds news h = absurd h
-stores-merged (d ∷ es) [] olds news h = absurd h
-stores-merged (d ∷ es) (l ∷ lists) [] news h = absurd h
-stores-merged (d ∷ es) (l ∷ lists) (k ∷ olds) [] h = absurd h
 stores-merged (d ∷ es) (l ∷ lists) (k ∷ olds) (x ∷ news) h =
     ap₂ (λ (y : Option NodeLineage) (ys : List (Option NodeLineage)). y ∷ ys) (at k h.0.merged)
     (stores-merged es lists olds news h.1) where
@@ -303,17 +255,12 @@ stores-merged (d ∷ es) (l ∷ lists) (k ∷ olds) (x ∷ news) h =
       at (growing z p) is = ap store_read is
       at (whole kept) is = ap store_read is.1
       at (read kept) is = ap store_read is
+stores-merged _ _ _ _ h = absurd h
 
 -- what stands of the nodes
 pub stored-merged : (es : List Execution) (lists : List (List Strategy)) (olds news : List Keeping)
     → AreMergedNodes es lists olds news → AllZip IsMergedStored (map stored_of olds) (map stored_of news)
 stored-merged [] [] [] [] h = tt
-stored-merged [] [] [] (x ∷ news) h = absurd h
-stored-merged [] [] (k ∷ olds) news h = absurd h
-stored-merged [] (l ∷ lists) olds news h = absurd h
-stored-merged (d ∷ es) [] olds news h = absurd h
-stored-merged (d ∷ es) (l ∷ lists) [] news h = absurd h
-stored-merged (d ∷ es) (l ∷ lists) (k ∷ olds) [] h = absurd h
 stored-merged (d ∷ es) (l ∷ lists) (k ∷ olds) (x ∷ news) h =
     (at k h.0.merged, stored-merged es lists olds news h.1) where
       at : (k : Keeping) → IsMergedKeeping k x → IsMergedStored (stored_of k) (stored_of x)
@@ -321,6 +268,7 @@ stored-merged (d ∷ es) (l ∷ lists) (k ∷ olds) (x ∷ news) h =
       at (growing z p) is = ap stored_of is
       at (whole kept) is = (is.0, ap stored_of is.1, is.2)
       at (read kept) is = ap stored_of is
+stored-merged _ _ _ _ h = absurd h
 
 -- the trail of a version, merged
 pub record IsTrailMerged (b : Bool) (v : Version) (t u : Trail) : Type 0 where
@@ -392,11 +340,9 @@ pub node-at : (a : Bool) (runs : List NodeRun) (lists : List (List Strategy)) (b
 node-at a runs lists before now n run list kept own same few is listed_is kept_is =
     let below = few-lists a runs lists before n own few in
     let within = few-kept a runs lists before now n own same few in
-    let here = slice_get-map execution_of runs n
-    ∙ ap (option_map execution_of) (slice_get_read runs (length runs) n run refl few is) in
+    let here = read-at execution_of runs n run few is in
     let listed = slice_get_read lists (length lists) n list refl below listed_is in
-    let there = ap (λ (ks : List Keeping). slice_get ks n) (sym same) ∙ slice_get-map keeping_of now n
-    ∙ ap (option_map keeping_of) (slice_get_read now (length now) n kept refl within kept_is) in
+    let there = ap (λ (ks : List Keeping). slice_get ks n) (sym same) ∙ read-at keeping_of now n kept within kept_is in
     record {
       here = here;
       listed = listed;
@@ -404,6 +350,21 @@ node-at a runs lists before now n run list kept own same few is listed_is kept_i
       own = mergeable-at a (map execution_of runs) lists (map keeping_of before) n (execution_of run) list
           (keeping_of kept) own here listed there;
     }
+
+-- at the end all of them are taken
+pub all-taken : (a : Bool) (runs : List NodeRun) (lists : List (List Strategy)) (before : List NodeKeeping) (n : ℕ)
+    → AreMergeable a (map execution_of runs) lists (map keeping_of before) → length runs ≤ n
+    → (take n (map execution_of runs) ≡ map execution_of runs) × (take n lists ≡ lists)
+    × (take n (map keeping_of before) ≡ map keeping_of before)
+all-taken a runs lists before n own end =
+    let es = map execution_of runs in
+    let ks = map keeping_of before in
+    let long = mergeable-length a es lists ks own in
+    let many : length es ≤ n = omega (arith, end, length-map runs execution_of) in (
+      take_all n es many,
+      take_all n lists (omega (arith, many, long.1)),
+      take_all n ks (omega (arith, many, long.0)),
+    )
 
 -- with one changed of which nothing is seen
 pub same-at : (before now : List NodeKeeping) (n : ℕ) (new kept : NodeKeeping)

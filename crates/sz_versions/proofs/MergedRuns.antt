@@ -17,8 +17,8 @@ use Rattle.sz_versions.specs.Residents.{kept_of, logged_in, Stored, stored_of, s
 use Rattle.sz_versions.specs.Merging.{IsMergedStored, IsMergedIn, IsKeptUp}
 use Rattle.sz_versions.specs.Stores.{Trail}
 use Rattle.sz_versions.proofs.MergedNodes.{IsTrailMerged}
-use Rattle.sz_versions.proofs.Residents.{under-cons, some-under, logged-cons, residents-few, found-number}
-use Rattle.sz_versions.proofs.Service.{IsPlaceOf, read-there}
+use Rattle.sz_versions.proofs.Residents.{under-cons, some-under, logged-cons, residents-few}
+use Rattle.sz_versions.proofs.Service.{IsFoundAt}
 use Rattle.sz_versions.proofs.Stays.{is-equal}
 
 abbrev weight : Bool → ℕ
@@ -112,52 +112,37 @@ pub record StaysCarried (c : Holdings) (rs ss : List Resident) : Type 0 where
   pub service : IsInService c ss
   pub logged : logged_in ss ≡ logged_in rs
 
-pub carried-set : (c : Holdings) (n : ℕ) (rs : List Resident) (i : ℕ) (x y : Resident) → IsInService c rs
-    → IsPlaceOf n rs i → x ≡ get_or rs i x → IsKeptUp (version_of c n) x y → StaysCarried c rs (set rs i y)
-carried-set c n rs i x y k place is up =
-    let same : x ≡ place.0 = read-there rs i place.0 x place.1 is in
-    let at : slice_get rs i ≡ Some x = place.1 ∙ ap (λ (r : Resident). Some r) (sym same) in
-    let number : x.number ≡ n =
-    ap (λ (r : Resident). r.number) same ∙ found-number n rs place.0 place.2 in
-    let held : IsResident c x = all-at rs i x at k.residents.each in
-    let new : y.number ≡ n = up.number ∙ number in
+pub carried-set : {c : Holdings} {n i : ℕ} {rs ss : List Resident} {v : Version} {x : Resident} (y : Resident)
+    → IsFoundAt c n rs ss i v x → IsKeptUp v x y → StaysCarried c ss (set rs i y)
+carried-set {c} {n} {i} {rs} {ss} {v} {x} y h up =
+    let new : y.number ≡ n = up.number ∙ h.number in
+    let by = subst (λ (w : Version). IsTrailBy y.logged w y.trail) h.version up.own in
     let own : IsResident c y = record {
-      held = ap (has_no_version c) up.number ∙ held.held;
-      own = subst (λ (m : ℕ). IsTrailBy y.logged (version_of c m) y.trail) (sym new) up.own;
+      held = ap (has_no_version c) new ∙ h.held;
+      own = subst (λ (m : ℕ). IsTrailBy y.logged (version_of c m) y.trail) (sym new) by;
     } in
     record {
       service = record {
-        sound = k.sound;
-        asked = k.asked;
+        sound = h.service.sound;
+        asked = h.service.asked;
         residents = record {
-          each = each-set c rs i y k.residents.each own;
-          once = λ m. under-set n m rs i x y at up.number ∙ k.residents.once m;
+          each = each-set c rs i y h.service.residents.each own;
+          once = λ m. under-set n m rs i x y h.at up.number ∙ h.service.residents.once m;
         };
       };
-      logged = logged-set rs i x y at up.logged (ap₂ made up.number up.stores);
+      logged = logged-set rs i x y h.at up.logged (ap₂ made up.number up.stores) ∙ ap logged_in h.same;
     } where
       made : ℕ → List (Option NodeLineage) → Kept
       made m ks = record { number = m; stores = ks }
 
-      all-at : (rs : List Resident) (i : ℕ) (r : Resident) → slice_get rs i ≡ Some r → All (IsResident c) rs
-          → IsResident c r
-      all-at [] i r at all = cc
-      all-at (z ∷ rs) zero r at all =
-          let own : z ≡ r = cc in
-          subst (IsResident c) own (All-head (IsResident c) z rs all)
-      all-at (z ∷ rs) (suc i) r at all = all-at rs i r at (All-tail (IsResident c) z rs all)
-
 -- and what stands of it is merged
-pub merged-set : (c : Holdings) (n : ℕ) (rs : List Resident) (i : ℕ) (x y : Resident) → IsInService c rs
-    → IsPlaceOf n rs i → x ≡ get_or rs i x → y.number ≡ x.number
+pub merged-set : {c : Holdings} {n i : ℕ} {rs ss : List Resident} {v : Version} {x : Resident} (y : Resident)
+    → IsFoundAt c n rs ss i v x → y.number ≡ x.number
     → AllZip IsMergedStored (map stored_of x.trail.kept) (map stored_of y.trail.kept)
-    → AllZip (IsMergedIn n) (stored_in rs) (stored_in (set rs i y))
-merged-set c n rs i x y k place is number merged =
-    let same : x ≡ place.0 = read-there rs i place.0 x place.1 is in
-    let at : slice_get rs i ≡ Some x = place.1 ∙ ap (λ (r : Resident). Some r) (sym same) in
-    let own : x.number ≡ n =
-    ap (λ (r : Resident). r.number) same ∙ found-number n rs place.0 place.2 in
-    merged-at n rs i x y at own (residents-few c rs n k.residents) number merged
+    → AllZip (IsMergedIn n) (stored_in ss) (stored_in (set rs i y))
+merged-set {c} {n} {i} {rs} {ss} {v} {x} y h number merged =
+    subst (λ (xs : List Resident). AllZip (IsMergedIn n) (stored_in xs) (stored_in (set rs i y))) h.same
+    (merged-at n rs i x y h.at h.number (residents-few c rs n h.service.residents) number merged)
 
 -- where it is the same, so is the list
 pub same-set : (rs : List Resident) (i : ℕ) (x y : Resident) → x ≡ get_or rs i x → y ≡ x → set rs i y ≡ rs

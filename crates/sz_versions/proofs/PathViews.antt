@@ -208,8 +208,6 @@ pub views-steps : (v : Version) (dir : Dir) (path : List Step) (views : List Vie
     → are_joined dir v.flow path ≡ true → AreSound v dir path views → from ≡ starts.path_start dir v path
     → AreSteps dir views (map (λ (s : Step). s.input) path) from
 views-steps v dir [] [] from sound joined zip is = tt
-views-steps v dir [] (w ∷ views) from sound joined zip is = absurd zip
-views-steps v dir (s ∷ path) [] from sound joined zip is = absurd zip
 views-steps v dir (s ∷ []) (w ∷ []) from sound joined zip is = (sound-step v dir s w from sound zip.0 is, tt)
 views-steps v dir (s ∷ []) (w ∷ x ∷ views) from sound joined zip is = absurd zip.1
 views-steps v dir (s ∷ t ∷ path) (w ∷ []) from sound joined zip is = absurd zip.1
@@ -226,6 +224,7 @@ views-steps v dir (s ∷ t ∷ path) (w ∷ x ∷ views) from sound joined zip i
       sound-step v dir s w from sound g is,
       views-steps v dir (t ∷ path) (x ∷ views) (far_side dir (view_site w) s.input) sound outer.1 zip.1 leads,
     )
+views-steps v dir _ _ from sound joined zip is = absurd zip
 
 -- the cells that are named are a set
 pub named-set : (e : Extent) (cells : List Cell) → IsSetOf e (named_in e cells)
@@ -256,7 +255,7 @@ asked-most (by_growth s inputs z p t) x asked = at asked.0.saw (ap traced_by ask
 asked-most (by_trace s inputs) x asked = omega (arith, ap traced_by asked)
 
 -- what a step's node has to tell where its way is black box
-abbrev black : Version → Dir → Step → ℕ
+abbrev pub black : Version → Dir → Step → ℕ
 black v dir s = if is_black_box (way_of v dir s) then size_of (extent_at (starts.outputs_of v) s.node) else 0
 
 -- of a version that is awaited, the view of a step is told by the way, and is traced where that is black box
@@ -324,7 +323,7 @@ views-told v dir (s ∷ path) (w ∷ views) (x ∷ asked) awaited zip all =
     (views-told v dir path views asked awaited zip.1 all.1)
 
 -- what is black box along a path, with a step more
-black-more : (v : Version) (dir : Dir) (s : Step) (path : List Step)
+pub black-more : (v : Version) (dir : Dir) (s : Step) (path : List Step)
     → black v dir s + traced v dir path ≡ traced v dir (s ∷ path)
 black-more v dir s path = at (is_black_box (way_of v dir s)) where
   at : (b : Bool) → (if b then size_of (extent_at (starts.outputs_of v) s.node) else 0) + traced v dir path
@@ -348,34 +347,20 @@ views-traced v dir (s ∷ path) (w ∷ views) (x ∷ asked) sound awaited zip al
     (views-traced v dir path views asked sound awaited zip.1 all.1)
     ∙ black-more v dir s path
 
-pub views-least : (v : Version) (dir : Dir) (path : List Step) (views asked : List View) → IsSoundVersion v
-    → AreSound v dir path views → AllZip IsAsked views asked → traced v dir path ≤ traced_of asked
-views-least v dir [] [] [] sound zip all = omega arith
-views-least v dir [] [] (x ∷ asked) sound zip all = absurd all
-views-least v dir [] (w ∷ views) asked sound zip all = absurd zip
-views-least v dir (s ∷ path) [] asked sound zip all = absurd zip
-views-least v dir (s ∷ path) (w ∷ views) [] sound zip all = absurd all
-views-least v dir (s ∷ path) (w ∷ views) (x ∷ asked) sound zip all =
-    omega (
-      arith,
-      step-least v dir s w x sound zip.0 all.0,
-      views-least v dir path views asked sound zip.1 all.1,
-      black-more v dir s path,
-    )
-
-pub views-most : (v : Version) (dir : Dir) (path : List Step) (views asked : List View) → IsSoundVersion v
-    → AreSound v dir path views → AllZip IsAsked views asked → traced_of asked ≤ sizes_along v path
-views-most v dir [] [] [] sound zip all = omega arith
-views-most v dir [] [] (x ∷ asked) sound zip all = absurd all
-views-most v dir [] (w ∷ views) asked sound zip all = absurd zip
-views-most v dir (s ∷ path) [] asked sound zip all = absurd zip
-views-most v dir (s ∷ path) (w ∷ views) [] sound zip all = absurd all
-views-most v dir (s ∷ path) (w ∷ views) (x ∷ asked) sound zip all =
-    omega (
-      arith,
-      step-most v dir s w x sound zip.0 all.0,
-      views-most v dir path views asked sound zip.1 all.1,
-      sum_by-cons (λ (t : Step). size_of (extent_at (starts.outputs_of v) t.node)) s path,
+-- that is the least that is told as traced, and the most is what all outputs have
+pub views-between : (v : Version) (dir : Dir) (path : List Step) (views asked : List View) → IsSoundVersion v
+    → AreSound v dir path views → AllZip IsAsked views asked
+    → (traced v dir path ≤ traced_of asked) × (traced_of asked ≤ sizes_along v path)
+views-between v dir [] [] [] sound zip all = (omega arith, omega arith)
+views-between v dir [] [] (x ∷ asked) sound zip all = absurd all
+views-between v dir [] (w ∷ views) asked sound zip all = absurd zip
+views-between v dir (s ∷ path) [] asked sound zip all = absurd zip
+views-between v dir (s ∷ path) (w ∷ views) [] sound zip all = absurd all
+views-between v dir (s ∷ path) (w ∷ views) (x ∷ asked) sound zip all =
+    let rest = views-between v dir path views asked sound zip.1 all.1 in
+    let size = λ (t : Step). size_of (extent_at (starts.outputs_of v) t.node) in (
+      omega (arith, step-least v dir s w x sound zip.0 all.0, rest.0, black-more v dir s path),
+      omega (arith, step-most v dir s w x sound zip.0 all.0, rest.1, sum_by-cons size s path),
     )
 
 -- so what is traced in all is within what is said of it
@@ -383,7 +368,7 @@ pub views-within : (v : Version) (dir : Dir) (path : List Step) (views asked : L
     → AreSound v dir path views → AllZip IsAsked views asked → traced_of asked ≤ most_traced v dir path
 views-within v dir path views asked sound zip all =
     at v.awaited (λ awaited. views-traced v dir path views asked sound awaited zip all)
-    (views-most v dir path views asked sound zip all) where
+    (views-between v dir path views asked sound zip all).1 where
       at : (b : Bool) → (b ≡ true → traced_of asked ≡ traced v dir path) → traced_of asked ≤ sizes_along v path
           → traced_of asked ≤ (if b then traced v dir path else sizes_along v path)
       at true exact most = omega (arith, exact refl)
@@ -403,14 +388,6 @@ joined-parts dir flow path joined =
 
       few : (n : ℕ) → nat_le n 32 ≡ true → n ≤ 32
       few n h = grind (arith, nat_tests)
-
--- there are as many views as steps
-pub views-length : (R : Step → View → Type 0) (path : List Step) (views : List View) → AllZip R path views
-    → length views ≡ length path
-views-length R [] [] zip = refl
-views-length R [] (w ∷ views) zip = absurd zip
-views-length R (s ∷ path) [] zip = absurd zip
-views-length R (s ∷ path) (w ∷ views) zip = ap suc (views-length R path views zip.1)
 
 -- a path starts where its first step does
 pub path-starts : (v : Version) (dir : Dir) (path : List Step) (s : Step) → 0 < length path → s ≡ get_or path 0 s

@@ -4,14 +4,13 @@
 -- holds what it held at each cell that is not among those that are set.
 use Rattle.std.proofs.Common.{◌≡◌, ℕ, zero, suc, ◌<◌, Bool, true, false, not, ◌&&◌, ◌==◌, List, [], ◌∷◌, ◌++◌}
 use Rattle.std.proofs.Common.{map, length, get_or, None, unwrap_or, refl, sym, ap, ◌∙◌, arith}
-use Rattle.std.proofs.Common.{slice_set, get_or-set_other, length-set, ◌+◌, ◌*◌, ◌≤◌, ◌≢◌, suc-mul, mul_comm}
+use Rattle.std.proofs.Common.{slice_set, get_or-set_other, ◌+◌, ◌*◌, ◌≤◌, ◌≢◌, suc-mul, mul_comm}
 use Rattle.std.proofs.Common.{div-mul-le_self, eqb-true, inl, inr}
 use Rattle.std.specs.Prelude.{nat_lt}
 use Rattle.std.specs.List.{slice_get, list_all, list_any}
 use Rattle.std.proofs.lemmas.Bool.{and_parts, cases_Bool, eqb-false}
 use Rattle.std.proofs.lemmas.Bool.Decides.{nat_tests}
 use Rattle.std.proofs.lemmas.List.{length-map}
-use Rattle.std.proofs.lemmas.List.Sums.{fold-append}
 use Rattle.std.proofs.lemmas.Nat.{mul-le}
 use Rattle.std.specs.Ordering.{nat_cmp}
 use Rattle.std.proofs.lemmas.Map.Views.{All-values-insert_entry}
@@ -84,16 +83,6 @@ can-refresh c n i set none =
       in-range false b is out = cc
 
 -- ---- the array
-
-pub with_cells-length : (g : Grid) (set : List NewCell) → length (with_cells g set).values ≡ length g.values
-with_cells-length g [] = refl
-with_cells-length g (x ∷ set) =
-    with_cells-length (with_cell g x) set
-    ∙ length-set g.values (index_of g.extent (cell_in g.extent x.layer x.row x.col)) x.value
-
-pub with_cells-more : (g : Grid) (set : List NewCell) (x : NewCell)
-    → with_cells g (set ++ x ∷ []) ≡ with_cell (with_cells g set) x
-with_cells-more g set x = fold-append with_cell g set (x ∷ [])
 
 -- the cell that is set is one of the shape
 pub new-held : (e : Extent) (x : NewCell) → has_new_cell e x ≡ true → holds e (cell_in e x.layer x.row x.col) ≡ true

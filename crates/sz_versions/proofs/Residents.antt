@@ -217,12 +217,11 @@ stills-set (x ∷ rs) (suc i) r s at h = (still-self x, stills-set rs i r s at h
 
 under-still : (n : ℕ) (rs ss : List Resident) → AreStill rs ss → residents_under n ss ≡ residents_under n rs
 under-still n [] [] zip = refl
-under-still n [] (s ∷ ss) zip = absurd zip
-under-still n (r ∷ rs) [] zip = absurd zip
 under-still n (r ∷ rs) (s ∷ ss) zip =
     let step : weight (s.number == n) ≡ weight (r.number == n) =
     ap (λ (m : ℕ). weight (m == n)) zip.0.number in
     omega (arith, under-cons n s ss, under-cons n r rs, step, under-still n rs ss zip.1)
+under-still n _ _ zip = absurd zip
 
 resident-still : (c : Holdings) (r s : Resident) → IsStill r s → IsResident c r → IsResident c s
 resident-still c r s h own =
@@ -236,11 +235,10 @@ resident-still c r s h own =
 residents-still : (c : Holdings) (rs ss : List Resident) → AreStill rs ss → All (IsResident c) rs
     → All (IsResident c) ss
 residents-still c [] [] zip all = all
-residents-still c [] (s ∷ ss) zip all = absurd zip
-residents-still c (r ∷ rs) [] zip all = absurd zip
 residents-still c (r ∷ rs) (s ∷ ss) zip all =
     All-cons (IsResident c) s ss (resident-still c r s zip.0 (All-head (IsResident c) r rs all))
     (residents-still c rs ss zip.1 (All-tail (IsResident c) r rs all))
+residents-still c _ _ zip all = absurd zip
 
 pub service-still : (c : Holdings) (rs ss : List Resident) → AreStill rs ss → IsInService c rs → IsInService c ss
 service-still c rs ss zip k = record {
@@ -260,26 +258,24 @@ kept-still r s h =
 
 pub logged-still : (rs ss : List Resident) → AreStill rs ss → logged_in ss ≡ logged_in rs
 logged-still [] [] zip = refl
-logged-still [] (s ∷ ss) zip = absurd zip
-logged-still (r ∷ rs) [] zip = absurd zip
 logged-still (r ∷ rs) (s ∷ ss) zip =
     logged-cons s ss
     ∙ ap (λ (b : Bool). if b then kept_of s ∷ logged_in ss else logged_in ss) zip.0.logged
     ∙ ap₂ (λ (k : Kept) (ks : List Kept). if r.logged then k ∷ ks else ks) (kept-still r s zip.0)
     (logged-still rs ss zip.1)
     ∙ sym (logged-cons r rs)
+logged-still _ _ zip = absurd zip
 
 abbrev entry : ℕ → List Stored → ℕ × List Stored
 entry n ks = (n, ks)
 
 pub stored-in-still : (rs ss : List Resident) → AreStill rs ss → stored_in ss ≡ stored_in rs
 stored-in-still [] [] zip = refl
-stored-in-still [] (s ∷ ss) zip = absurd zip
-stored-in-still (r ∷ rs) [] zip = absurd zip
 stored-in-still (r ∷ rs) (s ∷ ss) zip =
     ap₂ (λ (x : ℕ × List Stored) (xs : List (ℕ × List Stored)). x ∷ xs)
     (ap₂ entry zip.0.number (stored-still r.trail.kept s.trail.kept zip.0.trail.kept))
     (stored-in-still rs ss zip.1)
+stored-in-still _ _ zip = absurd zip
 
 -- ---- another run of a version
 

@@ -4,6 +4,7 @@
 -- known of the version, and the list with it changed is the list but for it.
 use Rattle.std.proofs.Common.{◌≡◌, ℕ, zero, suc, ◌≤◌, ◌<◌, List, [], ◌∷◌, ◌++◌, length, set, get_or}
 use Rattle.std.proofs.Common.{Bool, true, false, refl, sym, ap, ◌∙◌, subst, arith, Option, Some, None, take, true≢false}
+use Rattle.std.proofs.Common.{is_none}
 use Rattle.std.proofs.Common.{length-append}
 use Rattle.std.specs.Prelude.{find, IsSome, option_to_list}
 use Rattle.std.specs.List.{slice_get}
@@ -34,35 +35,40 @@ read-there [] i r x at is = cc
 read-there (y ∷ rs) zero r x at is = cc
 read-there (y ∷ rs) (suc i) r x at is = read-there rs i r x at is
 
-pub place-there : (n : ℕ) (rs : List Resident) (i : ℕ) → IsPlaceOf n rs i → i < length rs
-place-there n rs i place = within rs i place.0 place.1 where
-  within : (rs : List Resident) (i : ℕ) (r : Resident) → slice_get rs i ≡ Some r → i < length rs
-  within [] i r at = cc
-  within (y ∷ rs) zero r at = omega arith
-  within (y ∷ rs) (suc i) r at = omega (arith, within rs i r at)
-
--- it is that of the version that is held under the number
-pub record IsPlaced (c : Holdings) (n : ℕ) (rs : List Resident) (i : ℕ) (v : Version) (x : Resident) : Type 0 where
+-- It is that of the version that is held under the number. What is carried is seen as `ss`, and stands as `rs`.
+pub record IsFoundAt (c : Holdings) (n : ℕ) (rs ss : List Resident) (i : ℕ) (v : Version) (x : Resident) : Type 0 where
+  pub same : rs ≡ ss
+  pub service : IsInService c rs
+  pub at : slice_get rs i ≡ Some x
+  pub number : x.number ≡ n
+  pub held : has_no_version c n ≡ false
   pub version : v ≡ version_of c n
   pub sound : IsSoundVersion v
   pub own : IsTrailBy x.logged v x.trail
-  pub logged : logged_under n (logged_in rs) ≡ logged_of x
-  pub at : slice_get rs i ≡ Some x
+  pub logged : logged_under n (logged_in ss) ≡ logged_of x
 
-pub placed : (c : Holdings) (n : ℕ) (rs : List Resident) (i : ℕ) (v : Version) (x : Resident) → IsInService c rs
-    → has_no_version c n ≡ false → Some v ≡ version_numbered c n → IsPlaceOf n rs i → x ≡ get_or rs i x
-    → IsPlaced c n rs i v x
-placed c n rs i v x k held found place is =
+pub is-found : {c : Holdings} {rs ss : List Resident} {v : Version} {x : Resident} (n i : ℕ) → rs ≡ ss
+    → IsInService c ss → Some v ≡ version_numbered c n → IsPlaceOf n ss i → x ≡ get_or rs i x
+    → IsFoundAt c n rs ss i v x
+is-found {c} {rs} {ss} {v} {x} n i same service found place is =
+    let k = subst (IsInService c) (sym same) service in
+    let there = subst (λ (xs : List Resident). IsPlaceOf n xs i) (sym same) place in
+    let held : has_no_version c n ≡ false = ap (λ (o : Option Version). is_none o) (sym found) in
     let version : v ≡ version_of c n = some-same v (version_of c n) (found ∙ version-found c n held) in
-    let same : x ≡ place.0 = read-there rs i place.0 x place.1 is in
-    let here = found-in c n rs place.0 k.residents place.2 in
+    let own : x ≡ there.0 = read-there rs i there.0 x there.1 is in
+    let here = found-in c n rs there.0 k.residents there.2 in
     record {
+      same = same;
+      service = k;
+      at = there.1 ∙ ap (λ (r : Resident). Some r) (sym own);
+      number = ap (λ (r : Resident). r.number) own ∙ here.number;
+      held = held;
       version = version;
       sound = subst IsSoundVersion (sym version) (version-sound c n k.sound.versions held);
       own = subst (λ (w : Version). IsTrailBy x.logged w x.trail) (sym version)
-          (subst (λ (r : Resident). IsTrailBy r.logged (version_of c n) r.trail) (sym same) here.own);
-      logged = here.logged ∙ ap logged_of (sym same);
-      at = place.1 ∙ ap (λ (r : Resident). Some r) (sym same);
+          (subst (λ (r : Resident). IsTrailBy r.logged (version_of c n) r.trail) (sym own) here.own);
+      logged = ap (λ (xs : List Resident). logged_under n (logged_in xs)) (sym same) ∙ here.logged
+          ∙ ap logged_of (sym own);
     }
 
 -- ---- the list with it changed
@@ -73,16 +79,14 @@ pub record StaysInService (c : Holdings) (rs ss : List Resident) : Type 0 where
   pub logged : logged_in ss ≡ logged_in rs
   pub stored : stored_in ss ≡ stored_in rs
 
-pub stays-set : (c : Holdings) (n : ℕ) (rs : List Resident) (i : ℕ) (x y : Resident) → IsInService c rs
-    → IsPlaceOf n rs i → x ≡ get_or rs i x → IsStill x y → StaysInService c rs (set rs i y)
-stays-set c n rs i x y k place is still =
-    let same : x ≡ place.0 = read-there rs i place.0 x place.1 is in
-    let at : slice_get rs i ≡ Some x = place.1 ∙ ap (λ (r : Resident). Some r) (sym same) in
-    let zip = stills-set rs i x y at still in
+pub stays-set : {c : Holdings} {n i : ℕ} {rs ss : List Resident} {v : Version} {x : Resident} (y : Resident)
+    → IsFoundAt c n rs ss i v x → IsStill x y → StaysInService c ss (set rs i y)
+stays-set {c} {n} {i} {rs} {ss} {v} {x} y h still =
+    let zip = stills-set rs i x y h.at still in
     record {
-      service = service-still c rs (set rs i y) zip k;
-      logged = logged-still rs (set rs i y) zip;
-      stored = stored-in-still rs (set rs i y) zip;
+      service = service-still c rs (set rs i y) zip h.service;
+      logged = logged-still rs (set rs i y) zip ∙ ap logged_in h.same;
+      stored = stored-in-still rs (set rs i y) zip ∙ ap stored_in h.same;
     }
 
 -- where another trail was put in its place
@@ -156,8 +160,14 @@ last-counts xs rs r is =
     let counts : length xs ≡ length (rs ++ r ∷ []) = ap (λ (ys : List Resident). length ys) is in
     omega (arith, counts, length-append rs (r ∷ []))
 
--- ---- one with another trail
+-- ---- what is inside of one
 
+-- what it carries is carried of the version
+pub inside-own : {n : ℕ} {b : Bool} {t : Trail} {r : Resident} (v : Version)
+    → record { number = n; logged = b; trail = t } ≡ r → IsTrailBy r.logged v r.trail → IsTrailBy b v t
+inside-own {n} {b} {t} {r} v is own = subst (λ (x : Resident). IsTrailBy x.logged v x.trail) (sym is) own
+
+-- and with another trail it is one still
 pub still-made : (n : ℕ) (b : Bool) (t u : Trail) (r : Resident)
     → record { number = n; logged = b; trail = t } ≡ r → IsTrailStill t u
     → IsStill r (record { number = n; logged = b; trail = u })

@@ -100,12 +100,8 @@ nodes-held : (v : Version) (nodes : List Node) (es : List Execution) (lists : Li
     → FitNodes (map (λ (e : Execution). e.site) es) lists stores → All HasEachStore stores → All HasEachHolding stores
     → AllZip IsSoundNode es stores → kinds_recalled stores ≡ kinds_among v nodes lists
 nodes-held v [] [] [] [] long at fit each holds sound = refl
-nodes-held v [] [] [] (k ∷ stores) long at fit each holds sound = absurd fit
-nodes-held v [] [] (l ∷ lists) stores long at fit each holds sound = absurd fit
 nodes-held v [] (e ∷ es) lists stores long at fit each holds sound = absurd (omega (arith, long))
 nodes-held v (x ∷ nodes) [] lists stores long at fit each holds sound = absurd (omega (arith, long))
-nodes-held v (x ∷ nodes) (e ∷ es) [] stores long at fit each holds sound = absurd fit
-nodes-held v (x ∷ nodes) (e ∷ es) (l ∷ lists) [] long at fit each holds sound = absurd fit
 nodes-held v (x ∷ nodes) (e ∷ es) (l ∷ lists) (k ∷ stores) long at fit each holds sound =
     let here : Some e ≡ Some (execution x.op (taken_by v x)) = at 0 x refl in
     let is : e ≡ execution x.op (taken_by v x) = cc in
@@ -115,6 +111,7 @@ nodes-held v (x ∷ nodes) (e ∷ es) (l ∷ lists) (k ∷ stores) long at fit e
     ∙ ap (λ (ks : List ℕ). kinds_in_node v x l ++ ks)
     (nodes-held v nodes es lists stores rest (λ n y there. at (suc n) y there) fit.1
     (All-tail HasEachStore k stores each) (All-tail HasEachHolding k stores holds) sound.1)
+nodes-held v _ _ _ _ long at fit each holds sound = absurd fit
 
 -- the law
 pub sound-told : SoundStoresTellTheKinds

@@ -5,7 +5,7 @@
 use Rattle.std.proofs.Common.{◌≡◌, ℕ, zero, suc, List, [], ◌∷◌, map, length, Bool, true, false, refl, sym, ap, ap₂}
 use Rattle.std.proofs.Common.{◌∙◌, ◌+◌, set, get_or, subst, Option, Some, None, if◌then◌else◌}
 use Rattle.std.specs.List.{All}
-use Rattle.std.proofs.lemmas.List.Elements.{All-head, All-tail, All-cons}
+use Rattle.std.proofs.lemmas.List.Elements.{All-head, All-tail, All-cons, length_all_zip}
 use Rattle.sz_spec.specs.declared.modes.Dir.{Dir}
 use Rattle.sz_spec.specs.declared.modes.Strategy.{Strategy}
 use Rattle.sz_spec.specs.Modes.{is_stored}
@@ -13,6 +13,7 @@ use Rattle.sz_spec.specs.Paths.{Step}
 use Rattle.sz_store.specs.Kept.{NodeLineage}
 use Rattle.sz_flow.specs.Executions.{Execution}
 use Rattle.sz_shelf.specs.Places.{ShelfPlace}
+use Rattle.sz_shelf.specs.Passes.{Onlooker}
 use Rattle.sz_catalogue.specs.Holdings.{Version}
 use Rattle.sz_catalogue.specs.Changes.{way_of}
 use Rattle.sz_bodies.specs.Fitting.{Fit}
@@ -23,7 +24,8 @@ use Rattle.sz_versions.specs.declared.runs.NodeKeeping.{NodeKeeping}
 use Rattle.sz_versions.specs.Lending.{lent, once_viewed, changed_at, once_asked, once_along}
 use Rattle.sz_versions.specs.Lending.{IsKeptStill, AreKeptStill, IsTrailStill}
 use Rattle.sz_versions.specs.Along.{IsTrailFor}
-use Rattle.sz_versions.specs.Residents.{store_read, stores_read, IsReadTrail, IsTrailBy, Stored, stored_of}
+use Rattle.sz_versions.proofs.Keeping.{zip-set, zip-kept}
+use Rattle.sz_versions.specs.Residents.{store_read, stores_read, IsReadTrail, IsTrailBy, stored_of}
 
 -- ---- one after another
 
@@ -100,17 +102,13 @@ own-still (read kept) l h own = subst IsOwn (sym h) own
 
 owns-still : (ks ls : List Keeping) → AreKeptStill ks ls → All IsOwn ks → All IsOwn ls
 owns-still [] [] zip all = all
-owns-still [] (l ∷ ls) zip all = absurd zip
-owns-still (k ∷ ks) [] zip all = absurd zip
 owns-still (k ∷ ks) (l ∷ ls) zip all =
     All-cons IsOwn l ls (own-still k l zip.0 (All-head IsOwn k ks all))
     (owns-still ks ls zip.1 (All-tail IsOwn k ks all))
+owns-still _ _ zip all = absurd zip
 
 pub long-still : (ks ls : List Keeping) → AreKeptStill ks ls → length ls ≡ length ks
-long-still [] [] zip = refl
-long-still [] (l ∷ ls) zip = absurd zip
-long-still (k ∷ ks) [] zip = absurd zip
-long-still (k ∷ ks) (l ∷ ls) zip = ap suc (long-still ks ls zip.1)
+long-still ks ls zip = sym (length_all_zip IsKeptStill ks ls zip)
 
 kept-still : (b : Bool) (e : Execution) (list : List Strategy) (k l : Keeping) → IsKeptStill k l
     → IsKeptOf b e list k → IsKeptOf b e list l
@@ -126,26 +124,18 @@ kept-still b e list (read kept) l h own = absurd own
 
 pub keeps-still : (b : Bool) (es : List Execution) (lists : List (List Strategy)) (ks ls : List Keeping)
     → AreKeptStill ks ls → AreKeptOf b es lists ks → AreKeptOf b es lists ls
-keeps-still b es lists [] [] zip own = own
-keeps-still b es lists [] (l ∷ ls) zip own = absurd zip
-keeps-still b es lists (k ∷ ks) [] zip own = absurd zip
-keeps-still b [] [] (k ∷ ks) (l ∷ ls) zip own = absurd own
-keeps-still b [] (m ∷ lists) (k ∷ ks) (l ∷ ls) zip own = absurd own
-keeps-still b (d ∷ es) [] (k ∷ ks) (l ∷ ls) zip own = absurd own
-keeps-still b (d ∷ es) (m ∷ lists) (k ∷ ks) (l ∷ ls) zip own =
-    (kept-still b d m k l zip.0 own.0, keeps-still b es lists ks ls zip.1 own.1)
+keeps-still b = zip-kept IsKeptStill b (kept-still b)
 
 -- stores that were read are the same
 read-stills : (ss : List (Option NodeLineage)) (ls : List Keeping) → AreKeptStill (map keeping_from ss) ls
     → ls ≡ map keeping_from ss
 read-stills [] [] zip = refl
-read-stills [] (l ∷ ls) zip = absurd zip
-read-stills (s ∷ ss) [] zip = absurd zip
 read-stills (s ∷ ss) (l ∷ ls) zip =
     ap₂ (λ (x : Keeping) (xs : List Keeping). x ∷ xs) (one s zip.0) (read-stills ss ls zip.1) where
       one : (s : Option NodeLineage) → IsKeptStill (keeping_from s) l → l ≡ keeping_from s
       one None h = h
       one (Some k) h = h
+read-stills _ _ zip = absurd zip
 
 -- ---- a trail
 
@@ -177,30 +167,25 @@ by-still false v t u h own = of-still v t u h own
 
 -- ---- what is seen of it
 
+-- of which a pass is no part
+map-still : {X : Type 0} (f : Keeping → X)
+    → ((z : ShelfPlace) (p q : Onlooker) → f (growing z q) ≡ f (growing z p)) → (ks ls : List Keeping)
+    → AreKeptStill ks ls → map f ls ≡ map f ks
+map-still f same [] [] zip = refl
+map-still {X} f same (k ∷ ks) (l ∷ ls) zip =
+    ap₂ (λ (x : X) (xs : List X). x ∷ xs) (one k zip.0) (map-still f same ks ls zip.1) where
+      one : (k : Keeping) → IsKeptStill k l → f l ≡ f k
+      one nothing h = ap f h
+      one (growing z p) h = ap f h.1 ∙ same z p h.0
+      one (whole kept) h = ap f h
+      one (read kept) h = ap f h
+map-still f same _ _ zip = absurd zip
+
 pub stores-still : (ks ls : List Keeping) → AreKeptStill ks ls → map store_read ls ≡ map store_read ks
-stores-still [] [] zip = refl
-stores-still [] (l ∷ ls) zip = absurd zip
-stores-still (k ∷ ks) [] zip = absurd zip
-stores-still (k ∷ ks) (l ∷ ls) zip =
-    ap₂ (λ (x : Option NodeLineage) (xs : List (Option NodeLineage)). x ∷ xs) (one k zip.0)
-    (stores-still ks ls zip.1) where
-      one : (k : Keeping) → IsKeptStill k l → store_read l ≡ store_read k
-      one nothing h = ap store_read h
-      one (growing z p) h = ap store_read h.1
-      one (whole kept) h = ap store_read h
-      one (read kept) h = ap store_read h
+stores-still = map-still store_read (λ z p q. refl)
 
 pub stored-still : (ks ls : List Keeping) → AreKeptStill ks ls → map stored_of ls ≡ map stored_of ks
-stored-still [] [] zip = refl
-stored-still [] (l ∷ ls) zip = absurd zip
-stored-still (k ∷ ks) [] zip = absurd zip
-stored-still (k ∷ ks) (l ∷ ls) zip =
-    ap₂ (λ (x : Stored) (xs : List Stored). x ∷ xs) (one k zip.0) (stored-still ks ls zip.1) where
-      one : (k : Keeping) → IsKeptStill k l → stored_of l ≡ stored_of k
-      one nothing h = ap stored_of h
-      one (growing z p) h = ap stored_of h.1
-      one (whole kept) h = ap stored_of h
-      one (read kept) h = ap stored_of h
+stored-still = map-still stored_of (λ z p q. refl)
 
 -- ---- what the code keeps
 
@@ -208,8 +193,4 @@ stored-still (k ∷ ks) (l ∷ ls) zip =
 pub stills-set : (ks : List Keeping) (xs : List NodeKeeping) (n : ℕ) (y d : NodeKeeping)
     → AreKeptStill ks (map keeping_of xs) → IsKeptStill (keeping_of (get_or xs n d)) (keeping_of y)
     → AreKeptStill ks (map keeping_of (set xs n y))
-stills-set [] [] n y d zip more = zip
-stills-set (k ∷ ks) [] n y d zip more = zip
-stills-set [] (x ∷ xs) n y d zip more = absurd zip
-stills-set (k ∷ ks) (x ∷ xs) zero y d zip more = (still-on k (keeping_of x) (keeping_of y) zip.0 more, zip.1)
-stills-set (k ∷ ks) (x ∷ xs) (suc n) y d zip more = (zip.0, stills-set ks xs n y d zip.1 more)
+stills-set = zip-set IsKeptStill still-on

@@ -44,20 +44,14 @@ store-sound e list (read kept) own = absurd own
 stores-fit : (es : List Execution) (lists : List (List Strategy)) (keeps : List Keeping)
     → AreKeptOf true es lists keeps → FitNodes (map (λ (e : Execution). e.site) es) lists (map store_in keeps)
 stores-fit [] [] [] h = tt
-stores-fit [] [] (k ∷ keeps) h = absurd h
-stores-fit [] (l ∷ lists) keeps h = absurd h
-stores-fit (e ∷ es) [] keeps h = absurd h
-stores-fit (e ∷ es) (l ∷ lists) [] h = absurd h
 stores-fit (e ∷ es) (l ∷ lists) (k ∷ keeps) h = (store-fits e l k h.0, stores-fit es lists keeps h.1)
+stores-fit _ _ _ h = absurd h
 
 stores-sound : (es : List Execution) (lists : List (List Strategy)) (keeps : List Keeping)
     → AreKeptOf true es lists keeps → AreSoundNodes es (map store_in keeps)
 stores-sound [] [] [] h = tt
-stores-sound [] [] (k ∷ keeps) h = absurd h
-stores-sound [] (l ∷ lists) keeps h = absurd h
-stores-sound (e ∷ es) [] keeps h = absurd h
-stores-sound (e ∷ es) (l ∷ lists) [] h = absurd h
 stores-sound (e ∷ es) (l ∷ lists) (k ∷ keeps) h = (store-sound e l k h.0, stores-sound es lists keeps h.1)
+stores-sound _ _ _ h = absurd h
 
 -- ---- a trail
 

@@ -1,13 +1,13 @@
 //! What a session carries of the versions that it holds: of each one run, whether it was started
 //! here or a log gave it.
 
-ghost use Rattle.std.specs.Prelude.{◌≡◌, ◌≤◌, ◌==◌, ◌++◌, ◌∷◌, [], List, find, map};
+ghost use Rattle.std.specs.Prelude.{◌≡◌, ◌≤◌, ◌<◌, ◌==◌, ◌++◌, ◌∷◌, [], List, find, map, length};
 ghost use Rattle.std.specs.Prelude.{true, false, Some, None, All, IfOk, OnOk, OnErr};
 ghost use Rattle.std.specs.Prelude.{IfSome, IfNone};
 ghost use Rattle.std.specs.List.{list_all, slice_get};
 ghost use Rattle.sz_spec.specs.Paths.{is_joined};
 ghost use Rattle.sz_flow.specs.Executions.{execution_of};
-ghost use Rattle.sz_catalogue.specs.Holdings.{Holdings};
+ghost use Rattle.sz_catalogue.specs.Holdings.{Holdings, version_numbered};
 ghost use Rattle.sz_catalogue.specs.Starts.{path_start};
 ghost use Rattle.sz_catalogue.specs.Rules.{version_of, has_no_version, is_not_joined};
 ghost use Rattle.sz_catalogue.specs.Rules.{is_out_of_range, has_named_cell};
@@ -160,12 +160,7 @@ impl HeldRuns {
         ensures logged { logged_in self.new ≡ logged_in self.old }
         ensures stored { stored_in self.new ≡ stored_in self.old }
     {
-        let Some(held) = catalogue.version(version) else {
-            unreachable!()
-        };
-        let Some(at) = self.place_of(version) else {
-            unreachable!()
-        };
+        let (held, at) = self.found(catalogue, version);
         self.runs[at].inquiry(alloc, held, dir, path, named)
     }
 
@@ -188,29 +183,57 @@ impl HeldRuns {
         ensures logged { logged_in self.new ≡ logged_in self.old }
         ensures stored { stored_in self.new ≡ stored_in self.old }
     {
-        let Some(held) = catalogue.version(version) else {
-            unreachable!()
-        };
+        let (held, at) = self.found(catalogue, version);
+        self.runs[at].whole(alloc, rt, held)
+    }
+
+    /// A version that is held, and the place of what is carried of it.
+    pub(crate) fn found<'a>(
+        &self,
+        catalogue: &'a Catalogue,
+        version: u32,
+    ) -> (&'a HeldVersion, usize)
+        requires service { IsInService catalogue.now self.now }
+        requires held { has_no_version catalogue.now version ≡ false }
+        ensures version { Some result.0.now ≡ version_numbered catalogue.now version }
+        ensures place { (r : Resident) × (slice_get self.now result.1 ≡ Some r)
+            × (find (λ x. x.number == version) self.now ≡ Some r) }
+        ensures within { result.1 < length self.now }
+    {
+        let held = version_held(catalogue, version);
         let Some(at) = self.place_of(version) else {
             unreachable!()
         };
-        self.runs[at].whole(alloc, rt, held)
+        (held, at)
     }
 
     /// The place of a version.
     pub(crate) fn place_of(&self, version: u32) -> Option<usize>
         ensures some { IfSome result (λ i. (r : Resident) × (slice_get self.now i ≡ Some r)
             × (find (λ x. x.number == version) self.now ≡ Some r)) }
+        ensures within { IfSome result (λ i. i < length self.now) }
         ensures none { IfNone result (find (λ x. x.number == version) self.now ≡ None) }
     {
         place_among(&self.runs, version)
     }
 }
 
+/// A version that is held.
+pub(crate) fn version_held(catalogue: &Catalogue, version: u32) -> &HeldVersion
+    requires { has_no_version catalogue.now version ≡ false }
+    ensures { result.now ≡ version_of catalogue.now version }
+{
+    let Some(held) = catalogue.version(version) else {
+        unreachable!()
+    };
+    held
+}
+
 /// The first place of a version.
 fn place_among(runs: &[HeldRun], version: u32) -> Option<usize>
     ensures some { IfSome result (λ i. (r : Resident) × (slice_get runs.now i ≡ Some r)
         × (find (λ x. x.number == version) runs.now ≡ Some r)) }
+    ensures within { IfSome result (λ i. i < length runs.now) }
     ensures none { IfNone result (find (λ x. x.number == version) runs.now ≡ None) }
 {
     for at in 0..runs.len() {

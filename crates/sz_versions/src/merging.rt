@@ -87,12 +87,7 @@ impl HeldRuns {
             (AllZip (IsMergedIn version) (stored_in self.old) (stored_in self.new)) }
         ensures kept { OnErr result (stored_in self.new ≡ stored_in self.old) }
     {
-        let Some(held) = catalogue.version(version) else {
-            unreachable!()
-        };
-        let Some(at) = self.place_of(version) else {
-            unreachable!()
-        };
+        let (held, at) = self.found(catalogue, version);
         self.runs[at].merged(alloc, rt, held)
     }
 }

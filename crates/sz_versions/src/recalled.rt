@@ -96,7 +96,7 @@ fn store_read(node: &Option<Arc<NodeStore>>) -> Result<NodeKeeping, NoMemory>
 }
 
 /// The arrays of base arrays, shared.
-fn arrays_of(alloc: Global, base: &[BaseArray]) -> Result<Vec<Arc<Array>>, NoMemory>
+pub(crate) fn arrays_of(alloc: Global, base: &[BaseArray]) -> Result<Vec<Arc<Array>>, NoMemory>
     ensures { IfOk result (λ v. map (λ a. arc_value a) v.items ≡ arrays_of base.now) }
 {
     let mut arrays = Vec::with_capacity(alloc, base.len())?;

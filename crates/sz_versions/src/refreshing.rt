@@ -8,7 +8,7 @@ ghost use Rattle.sz_cells.specs.Extent.{holds, cell_in};
 ghost use Rattle.sz_script.specs.declared.command.Command.TheVariants as order;
 ghost use Rattle.sz_flow.specs.Executions.{execution_of};
 ghost use Rattle.sz_catalogue.specs.Holdings.{Holdings, arrays_of};
-ghost use Rattle.sz_catalogue.specs.Rules.{judged, version_of, has_no_version};
+ghost use Rattle.sz_catalogue.specs.Rules.{judged, version_of};
 ghost use Rattle.sz_catalogue.specs.Refreshes.{has_input, base_at, has_new_cell, with_cells};
 ghost use Rattle.sz_catalogue.specs.Refreshes.{cells_set};
 ghost use Rattle.sz_catalogue.specs.Refreshes.{array_refreshed, version_refreshed, cells_affected};
@@ -16,7 +16,8 @@ ghost use Rattle.sz_versions.specs.Runs.{executions_of, IsSoundVersion};
 ghost use Rattle.sz_versions.specs.Residents.{IsInService};
 ghost use Rattle.sz_versions.specs.Stores.{IsTrailOf};
 
-use crate::held::HeldRuns;
+use crate::held::{HeldRuns, version_held};
+use crate::recalled::arrays_of;
 use crate::runs::VersionRun;
 use crate::starting::carried;
 use crate::tasks::Hands;
@@ -75,17 +76,6 @@ pub fn refresh_version<R: Threads + Wait + Sync>(
     let number = catalogue.next_number() as u32;
     let made = refresh_held(rt, alloc, held, old, hands, number, input, set, tally)?;
     Ok(made)
-}
-
-/// A version that is held.
-fn version_held(catalogue: &Catalogue, version: u32) -> &HeldVersion
-    requires { has_no_version catalogue.now version ≡ false }
-    ensures { result.now ≡ version_of catalogue.now version }
-{
-    let Some(held) = catalogue.version(version) else {
-        unreachable!()
-    };
-    held
 }
 
 /// What a refresh makes of a version and the runs of its nodes, under the number that the new
@@ -231,10 +221,7 @@ fn arrays_with(
     ensures { IfOk result (λ v. map (λ a. arc_value a) v.items
         ≡ slice_set (arrays_of base.now) input (arc_value array.now)) }
 {
-    let mut arrays = Vec::with_capacity(alloc, base.len())?;
-    for only in base {
-        arrays.push(Arc::try_clone(&only.array)?)?;
-    }
+    let mut arrays = arrays_of(alloc, base)?;
     arrays[input as usize] = Arc::try_clone(array)?;
     Ok(arrays)
 }

@@ -188,8 +188,7 @@ fn leaves_whole(
     torn: Torn,
     has_it: bool,
 ) -> Result<bool, NoMemory> {
-    let image = station.image(alloc, torn)?;
-    let mut again = station_with(alloc, &image)?;
+    let mut again = station_with(alloc, &station.image(alloc, torn)?)?;
     Ok(is_without_or_with(&mut again, has_it))
 }
 
@@ -206,19 +205,11 @@ fn is_added_whole(alloc: Global, passes: u64) -> Result<bool, NoMemory> {
     )
 }
 
-/// The first number of disk calls that pass at which an adding is not one, if any.
-fn first_not_added_whole(alloc: Global) -> Option<u64> {
-    for passes in 0..=APPEND_CALLS {
-        if is_added_whole(alloc, passes) != Ok(true) {
-            return Some(passes);
-        }
-    }
-    None
-}
-
 #[test]
 fn a_stop_leaves_the_log_without_the_group_or_with_it(rt: HostRuntime) {
-    assert_eq!(rt; first_not_added_whole(rt.alloc()), None);
+    let alloc = rt.alloc();
+    let other = (0..=APPEND_CALLS).find(|passes| is_added_whole(alloc, *passes) != Ok(true));
+    assert_eq!(rt; other, None);
 }
 
 /// Whether a stop of `init` leaves what it may of these bytes.
@@ -247,19 +238,11 @@ fn is_made_whole(alloc: Global, old: &[u8], passes: u64) -> Result<bool, NoMemor
     )
 }
 
-/// The first number of disk calls that pass at which a making is not one, if any.
-fn first_not_made_whole(alloc: Global, old: &[u8]) -> Option<u64> {
-    for passes in 0..=INIT_CALLS {
-        if is_made_whole(alloc, old, passes) != Ok(true) {
-            return Some(passes);
-        }
-    }
-    None
-}
-
 #[test]
 fn a_stop_of_a_making_leaves_old_bytes_or_no_log_or_the_empty_log(rt: HostRuntime) {
-    assert_eq!(rt; first_not_made_whole(rt.alloc(), &[7; 5]), None);
+    let alloc = rt.alloc();
+    let other = (0..=INIT_CALLS).find(|passes| is_made_whole(alloc, &[7; 5], *passes) != Ok(true));
+    assert_eq!(rt; other, None);
 }
 
 /// Whether an adding fails where its disk call of one number does.
@@ -274,30 +257,13 @@ fn making_fails(alloc: Global, call: u64) -> Result<bool, NoMemory> {
     Ok(init(&mut station) == Err(LogFault::Failed))
 }
 
-/// The first disk call of an adding that fails and is not answered, if any.
-fn first_unanswered_adding(alloc: Global) -> Option<u64> {
-    for call in 1..=APPEND_CALLS {
-        if adding_fails(alloc, call) != Ok(true) {
-            return Some(call);
-        }
-    }
-    None
-}
-
-/// The first disk call of a making that fails and is not answered, if any.
-fn first_unanswered_making(alloc: Global) -> Option<u64> {
-    for call in 1..=INIT_CALLS {
-        if making_fails(alloc, call) != Ok(true) {
-            return Some(call);
-        }
-    }
-    None
-}
-
 #[test]
 fn each_disk_call_that_fails_is_answered(rt: HostRuntime) {
-    assert_eq!(rt; first_unanswered_adding(rt.alloc()), None);
-    assert_eq!(rt; first_unanswered_making(rt.alloc()), None);
+    let alloc = rt.alloc();
+    let adding = (1..=APPEND_CALLS).find(|call| adding_fails(alloc, *call) != Ok(true));
+    assert_eq!(rt; adding, None);
+    let making = (1..=INIT_CALLS).find(|call| making_fails(alloc, *call) != Ok(true));
+    assert_eq!(rt; making, None);
 }
 
 /// Whether a making on these bytes ends so, and leaves them as they are.

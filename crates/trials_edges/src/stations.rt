@@ -68,68 +68,111 @@ fn reads_as<S: Station>(station: &mut S, bytes: &[u8]) -> Result<bool, Failed> {
     Ok(past == 0 && &into[..read] == bytes)
 }
 
+/// Whether a stop leaves this image.
+fn has_image(
+    station: &MemStation,
+    alloc: Global,
+    torn: Torn,
+    image: &[u8],
+) -> Result<bool, NoMemory> {
+    Ok(station.image(alloc, torn)?.as_slice() == image)
+}
+
 /// Whether a stop leaves these images.
-fn has_images(station: &MemStation, alloc: Global, images: [&[u8]; 3]) -> Result<bool, Fail> {
+fn has_images(station: &MemStation, alloc: Global, images: [&[u8]; 3]) -> Result<bool, NoMemory> {
     Ok(
-        station.image(alloc, Torn::Old)?.as_slice() == images[0]
-            && station.image(alloc, Torn::New)?.as_slice() == images[1]
-            && station.image(alloc, Torn::Ones)?.as_slice() == images[2],
+        has_image(station, alloc, Torn::Old, images[0])?
+            && has_image(station, alloc, Torn::New, images[1])?
+            && has_image(station, alloc, Torn::Ones, images[2])?,
     )
 }
 
-/// Whether a stop leaves these images, and the disk reads as the second of them.
-fn leaves(station: &mut MemStation, alloc: Global, images: [&[u8]; 3]) -> Result<bool, Fail> {
+/// Whether calls are made, and a stop then leaves these images, of which the disk reads as the
+/// second.
+fn leaves(
+    station: &mut MemStation,
+    alloc: Global,
+    calls: &[Call<'_>],
+    images: [&[u8]; 3],
+) -> Result<bool, Fail> {
+    for call in calls {
+        call_disk(station, *call)?;
+    }
     Ok(reads_as(station, images[1])? && has_images(station, alloc, images)?)
+}
+
+/// Calls on a disk, and the images that a stop then leaves.
+type Row = (&'static [Call<'static>], [&'static [u8]; 3]);
+
+/// A disk of four bytes, written to, cut and synced.
+const TORN: [Row; 4] = [
+    (&[], [&[5, 6, 7, 8], &[5, 6, 7, 8], &[5, 6, 7, 8]]),
+    (
+        &[Call::Write(3, &[20, 21])],
+        [&[5, 6, 7, 8], &[5, 6, 7, 20, 21], &[5, 6, 7, 1, 1]],
+    ),
+    (
+        &[Call::Cut(4), Call::Write(0, &[30])],
+        [&[5, 6, 7, 8], &[30, 6, 7, 20], &[1, 6, 7, 1]],
+    ),
+    (
+        &[Call::Sync],
+        [&[30, 6, 7, 20], &[30, 6, 7, 20], &[30, 6, 7, 20]],
+    ),
+];
+
+/// Whether each of these rows is so, behind the ones before it.
+fn leave_all(station: &mut MemStation, alloc: Global, rows: &[Row]) -> Result<bool, Fail> {
+    for (calls, images) in rows {
+        if !leaves(station, alloc, calls, *images)? {
+            return Ok(false);
+        }
+    }
+    Ok(true)
+}
+
+/// A station with this disk, whose disk calls of these numbers fail.
+fn failing(alloc: Global, disk: &[u8], fails: &[u64]) -> Result<MemStation, NoMemory> {
+    let disk = disk.to_vec(alloc)?;
+    MemStation::new(alloc, disk, fails.to_vec(alloc)?, Vec::new(alloc))
 }
 
 #[test]
 fn a_disk_is_torn_until_it_is_synced(rt: HostRuntime) -> Result<(), Fail> {
     let alloc = rt.alloc();
-    let disk = [5, 6, 7, 8].to_vec(alloc)?;
-    let mut station = MemStation::new(alloc, disk, Vec::new(alloc), Vec::new(alloc))?;
-    let images: [&[u8]; 3] = [&[5, 6, 7, 8], &[5, 6, 7, 8], &[5, 6, 7, 8]];
-    assert!(rt; leaves(&mut station, alloc, images)?);
-    call_disk(&mut station, Call::Write(3, &[20, 21]))?;
-    let images: [&[u8]; 3] = [&[5, 6, 7, 8], &[5, 6, 7, 20, 21], &[5, 6, 7, 1, 1]];
-    assert!(rt; leaves(&mut station, alloc, images)?);
-    call_disk(&mut station, Call::Cut(4))?;
-    call_disk(&mut station, Call::Write(0, &[30]))?;
-    let images: [&[u8]; 3] = [&[5, 6, 7, 8], &[30, 6, 7, 20], &[1, 6, 7, 1]];
-    assert!(rt; leaves(&mut station, alloc, images)?);
-    call_disk(&mut station, Call::Sync)?;
-    let images: [&[u8]; 3] = [&[30, 6, 7, 20], &[30, 6, 7, 20], &[30, 6, 7, 20]];
-    assert!(rt; leaves(&mut station, alloc, images)?);
+    let mut station = failing(alloc, &[5, 6, 7, 8], &[])?;
+    assert!(rt; leave_all(&mut station, alloc, &TORN)?);
     Ok(())
+}
+
+/// Whether no byte of a disk is read, nor its size.
+fn reads_nothing<S: Station>(station: &mut S) -> bool {
+    station.size() == Err(Failed) && station.read_at(0, &mut [0; 2]) == Err(Failed)
+}
+
+/// Whether no call that changes a disk is done.
+fn changes_nothing<S: Station>(station: &mut S) -> bool {
+    station.cut(0) == Err(Failed) && station.sync() == Err(Failed)
+}
+
+/// Whether a writing that fails as the machine stops tears the disk, and no call then changes it.
+fn is_torn_by_a_stop(alloc: Global) -> Result<bool, NoMemory> {
+    let mut station = MemStation::stopped(alloc, [5, 6].to_vec(alloc)?, 1)?;
+    Ok(
+        call_disk(&mut station, Call::Write(1, &[9, 9])) == Err(Failed)
+            && has_image(&station, alloc, Torn::New, &[5, 6])?
+            && has_image(&station, alloc, Torn::Ones, &[5, 1])?
+            && changes_nothing(&mut station)
+            && has_image(&station, alloc, Torn::Ones, &[5, 1])?,
+    )
 }
 
 #[test]
 fn a_disk_call_that_fails_may_tear_the_disk(rt: HostRuntime) -> Result<(), Fail> {
     let alloc = rt.alloc();
-    let disk = [5, 6].to_vec(alloc)?;
-    let fails = [1, 2].to_vec(alloc)?;
-    let mut station = MemStation::new(alloc, disk, fails, Vec::new(alloc))?;
-    assert_eq!(rt; station.size(), Err(Failed));
-    assert_eq!(rt; station.read_at(0, &mut [0; 2]), Err(Failed));
-    let disk = [5, 6].to_vec(alloc)?;
-    let mut stopped = MemStation::stopped(alloc, disk, 1)?;
-    assert_eq!(rt;
-        call_disk(&mut stopped, Call::Write(1, &[9, 9])),
-        Err(Failed)
-    );
-    assert_eq!(rt;
-        stopped.image(alloc, Torn::New)?.as_slice(),
-        [5, 6].as_slice()
-    );
-    assert_eq!(rt;
-        stopped.image(alloc, Torn::Ones)?.as_slice(),
-        [5, 1].as_slice()
-    );
-    assert_eq!(rt; stopped.cut(0), Err(Failed));
-    assert_eq!(rt; stopped.sync(), Err(Failed));
-    assert_eq!(rt;
-        stopped.image(alloc, Torn::Ones)?.as_slice(),
-        [5, 1].as_slice()
-    );
+    let mut station = failing(alloc, &[5, 6], &[1, 2])?;
+    assert!(rt; reads_nothing(&mut station));
+    assert!(rt; is_torn_by_a_stop(alloc)?);
     Ok(())
 }
 
@@ -150,11 +193,9 @@ fn the_real_output_is_said_to_with_no_file(rt: HostRuntime) {
     let mut station = FileStation::closed(&rt);
     need_send(&station);
     assert_eq!(rt; say_to(&mut station, b"said\n"), Ok(()));
-    assert_eq!(rt; station.size(), Err(Failed));
-    assert_eq!(rt; station.read_at(0, &mut [0; 1]), Err(Failed));
+    assert!(rt; reads_nothing(&mut station));
     assert_eq!(rt; station.write_at(0, b"x"), Err(Failed));
-    assert_eq!(rt; station.cut(0), Err(Failed));
-    assert_eq!(rt; station.sync(), Err(Failed));
+    assert!(rt; changes_nothing(&mut station));
 }
 
 #[test]

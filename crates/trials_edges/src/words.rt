@@ -58,19 +58,11 @@ fn is_read(alloc: Global, line: &str) -> bool {
     job_of(alloc, line).is_ok() && place_of(alloc, line).is_ok()
 }
 
-/// The first of some lines that is not read, if any.
-fn first_unread<'a>(alloc: Global, lines: &[&'a str]) -> Option<&'a str> {
-    for line in lines {
-        if !is_read(alloc, line) {
-            return Some(*line);
-        }
-    }
-    None
-}
-
 #[test]
 fn reads_the_words_of_each_mode(rt: HostRuntime) {
-    assert_eq!(rt; first_unread(rt.alloc(), &READ), None);
+    let alloc = rt.alloc();
+    let unread = READ.iter().find(|line| !is_read(alloc, line));
+    assert_eq!(rt; unread, None);
 }
 
 /// Lines of words that are refused.
@@ -95,19 +87,11 @@ fn is_refused(alloc: Global, line: &str) -> bool {
     job_of(alloc, line) == Err(WordsFault::Usage) && matches!(place_of(alloc, line), Ok(None))
 }
 
-/// The first of some lines that is not refused, if any.
-fn first_unrefused<'a>(alloc: Global, lines: &[&'a str]) -> Option<&'a str> {
-    for line in lines {
-        if !is_refused(alloc, line) {
-            return Some(*line);
-        }
-    }
-    None
-}
-
 #[test]
 fn refuses_words(rt: HostRuntime) {
-    assert_eq!(rt; first_unrefused(rt.alloc(), &REFUSED), None);
+    let alloc = rt.alloc();
+    let unrefused = REFUSED.iter().find(|line| !is_refused(alloc, line));
+    assert_eq!(rt; unrefused, None);
 }
 
 /// A line that names a log by a path of so many bytes, with every option at its greatest number.

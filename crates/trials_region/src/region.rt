@@ -60,30 +60,46 @@ fn a_set_is_written_and_read_again(rt: HostRuntime) -> Result<(), Fail> {
     Ok(())
 }
 
-/// Whether the bytes are refused, behind one byte, at that place.
-fn is_refused(alloc: Global, bytes: &[u8]) -> Result<bool, Fail> {
-    let fault = take_set(alloc, four_by_five()?, bytes, 1).err();
-    Ok(fault == Some(Take::Bad { at: 1 }))
+/// Bytes of no set behind a 9: a run that is turned round, one that touches the next, one out of
+/// range, one that is cut short, and too many runs; and no bytes.
+const REFUSED: [&[u8]; 6] = [
+    &[9, 0, 0, 0, 1, 0, 0, 0, 7, 0, 0, 0, 5],
+    &[
+        9, 0, 0, 0, 2, 0, 0, 0, 5, 0, 0, 0, 7, 0, 0, 0, 8, 0, 0, 0, 8,
+    ],
+    &[9, 0, 0, 0, 1, 0, 0, 0, 19, 0, 0, 0, 20],
+    &[9, 0, 0, 0, 1, 0, 0, 0, 5, 0, 0, 0],
+    &[9, 255, 255, 255, 255, 0, 0, 0, 5, 0, 0, 0, 5],
+    &[],
+];
+
+/// The first of some bytes that are taken, if any: each is to be refused, at place 1.
+pub(crate) fn first_taken<'a, F: Fn(&[u8]) -> Option<Take>>(
+    rows: &[&'a [u8]],
+    fault_of: F,
+) -> Option<&'a [u8]>
+    requires { F.IsAlwaysCallable fault_of }
+{
+    for bytes in rows {
+        if fault_of(bytes) != Some(Take::Bad { at: 1 }) {
+            return Some(*bytes);
+        }
+    }
+    None
 }
 
 #[test]
 fn bytes_of_no_set_are_refused(rt: HostRuntime) -> Result<(), Fail> {
-    let alloc = rt.alloc();
-    let turned_round = [9, 0, 0, 0, 1, 0, 0, 0, 7, 0, 0, 0, 5];
-    assert!(rt; is_refused(alloc, &turned_round)?);
-    let touching = [
-        9, 0, 0, 0, 2, 0, 0, 0, 5, 0, 0, 0, 7, 0, 0, 0, 8, 0, 0, 0, 8,
-    ];
-    assert!(rt; is_refused(alloc, &touching)?);
-    let out_of_range = [9, 0, 0, 0, 1, 0, 0, 0, 19, 0, 0, 0, 20];
-    assert!(rt; is_refused(alloc, &out_of_range)?);
-    let cut_short = [9, 0, 0, 0, 1, 0, 0, 0, 5, 0, 0, 0];
-    assert!(rt; is_refused(alloc, &cut_short)?);
-    let too_many_runs = [9, 255, 255, 255, 255, 0, 0, 0, 5, 0, 0, 0, 5];
-    assert!(rt; is_refused(alloc, &too_many_runs)?);
-    assert!(rt; is_refused(alloc, &[])?);
+    let (alloc, shape) = (rt.alloc(), four_by_five()?);
+    let taken = first_taken(&REFUSED, |bytes| take_set(alloc, shape, bytes, 1).err());
+    assert_eq!(rt; taken, None);
+    Ok(())
+}
+
+#[test]
+fn no_run_is_the_set_of_no_cell(rt: HostRuntime) -> Result<(), Fail> {
     let no_run = [9, 0, 0, 0, 0];
-    let (none, next) = take_set(alloc, four_by_five()?, &no_run, 1)?;
+    let (none, next) = take_set(rt.alloc(), four_by_five()?, &no_run, 1)?;
     assert_eq!(rt; none.count(), 0);
     assert_eq!(rt; next, 5);
     Ok(())

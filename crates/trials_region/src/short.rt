@@ -1,9 +1,8 @@
 //! The bytes of a short set and of stores with such sets as they are written, and bytes that are
 //! none.
 
-use crate::region::{four_by_five, set_of_four};
+use crate::region::{first_taken, four_by_five, set_of_four};
 use crate::stores::one_cell;
-use std::alloc::Global;
 use std::test::Fail;
 use sz_cells::Run;
 use sz_region::Take;
@@ -28,54 +27,58 @@ fn a_set_is_written_short_and_read_again(rt: HostRuntime) -> Result<(), Fail> {
     Ok(())
 }
 
-/// Whether the bytes are refused, behind one byte, at that place.
-fn is_refused(alloc: Global, bytes: &[u8]) -> Result<bool, Fail> {
-    let fault = take_set_2(alloc, four_by_five()?, bytes, 1).err();
-    Ok(fault == Some(Take::Bad { at: 1 }))
-}
+/// No bytes, and bytes of no set behind a 9: none, a run past the shape, a later one past it, and
+/// one that is cut short.
+const REFUSED: [&[u8]; 5] = [
+    &[],
+    &[9],
+    &[9, 1, 19, 1],
+    &[9, 2, 5, 2, 10, 1],
+    &[9, 2, 5, 2, 1],
+];
 
 #[test]
-fn bytes_of_no_set_are_refused(rt: HostRuntime) -> Result<(), Fail> {
+fn bytes_of_no_set_are_refused_short(rt: HostRuntime) -> Result<(), Fail> {
     let alloc = rt.alloc();
-    assert!(rt; is_refused(alloc, &[])?);
-    assert!(rt; is_refused(alloc, &[9])?);
-    let past_the_shape = [9, 1, 19, 1];
-    assert!(rt; is_refused(alloc, &past_the_shape)?);
-    let later_past_the_shape = [9, 2, 5, 2, 10, 1];
-    assert!(rt; is_refused(alloc, &later_past_the_shape)?);
-    let cut_short = [9, 2, 5, 2, 1];
-    assert!(rt; is_refused(alloc, &cut_short)?);
-    let no_run = [9, 0];
-    let (none, next) = take_set_2(alloc, four_by_five()?, &no_run, 1)?;
-    assert_eq!(rt; none.count(), 0);
-    assert_eq!(rt; next, 2);
+    let shape = four_by_five()?;
+    let taken = first_taken(&REFUSED, |bytes| take_set_2(alloc, shape, bytes, 1).err());
+    assert_eq!(rt; taken, None);
+    let (none, next) = take_set_2(alloc, shape, &[9, 0], 1)?;
+    assert_eq!(rt; (none.count(), next), (0, 2));
+    Ok(())
+}
+
+/// The store of one region pair of one cell and one cell, as it is written long and short.
+const LONG_PAIR: [u8; 42] = [
+    0, 0, 0, 2, 0, 0, 0, 0, 1, 0, 0, 0, 0, 0, 0, 0, 0, 1, 0, 0, 0, 1, 0, 0, 0, 0, 0, 0, 0, 0, 0, 0,
+    0, 1, 0, 0, 0, 0, 0, 0, 0, 1,
+];
+
+const SHORT_PAIR: [u8; 24] = [
+    0, 0, 0, 2, 0, 1, 0, 0, 1, 1, 0, 0, 0, 0, 0, 1, 0, 0, 0, 0, 0, 0, 0, 1,
+];
+
+#[test]
+fn a_full_store_is_shortened(rt: HostRuntime) -> Result<(), Fail> {
+    let cell = one_cell()?;
+    let mut shorter = Vec::new(rt.alloc());
+    let next = shorten_full(rt.alloc(), cell, &[cell], &LONG_PAIR, 0, &mut shorter)?;
+    assert_eq!(rt; next, 42);
+    assert_eq!(rt; shorter.as_slice(), SHORT_PAIR.as_slice());
     Ok(())
 }
 
 #[test]
-fn a_full_store_is_shortened_and_widened(rt: HostRuntime) -> Result<(), Fail> {
+fn a_full_store_is_widened(rt: HostRuntime) -> Result<(), Fail> {
     let alloc = rt.alloc();
     let cell = one_cell()?;
-    let long = [
-        0, 0, 0, 2, 0, 0, 0, 0, 1, 0, 0, 0, 0, 0, 0, 0, 0, 1, 0, 0, 0, 1, 0, 0, 0, 0, 0, 0, 0, 0,
-        0, 0, 0, 1, 0, 0, 0, 0, 0, 0, 0, 1,
-    ];
-    let short = [
-        0, 0, 0, 2, 0, 1, 0, 0, 1, 1, 0, 0, 0, 0, 0, 1, 0, 0, 0, 0, 0, 0, 0, 1,
-    ];
-    let mut shorter = Vec::new(alloc);
-    assert_eq!(rt;
-        shorten_full(alloc, cell, &[cell], &long, 0, &mut shorter)?,
-        42
-    );
-    assert_eq!(rt; shorter.as_slice(), short.as_slice());
     let mut wider = Vec::new(alloc);
     assert_eq!(rt;
-        widen_full(alloc, cell, &[cell], &short, 0, &mut wider)?,
+        widen_full(alloc, cell, &[cell], &SHORT_PAIR, 0, &mut wider)?,
         24
     );
-    assert_eq!(rt; wider.as_slice(), long.as_slice());
-    let refused = widen_full(alloc, cell, &[cell], &long, 0, &mut wider).err();
+    assert_eq!(rt; wider.as_slice(), LONG_PAIR.as_slice());
+    let refused = widen_full(alloc, cell, &[cell], &LONG_PAIR, 0, &mut wider).err();
     assert_eq!(rt; refused, Some(Take::Bad { at: 0 }));
     Ok(())
 }

@@ -3,6 +3,7 @@
 ghost use Rattle.std.specs.Prelude.{◌≡◌, ◌≤◌, length, IfOk};
 ghost use Rattle.sz_cells.specs.Extent.{flat};
 
+use crate::region::first_taken;
 use std::alloc::Global;
 use std::test::Fail;
 use sz_cells::Shape;
@@ -89,79 +90,100 @@ const ENTRY: [u8; 38] = [
     0, 0, 0, 1, 0, 0, 0, 0, 0, 0, 0, 0,
 ];
 
-/// Whether the bytes behind the first are refused as region pairs, at that place.
-fn are_no_regions(alloc: Global, bytes: &[u8]) -> Result<bool, Fail> {
-    let fault = take_regions(alloc, one_cell()?, &[one_cell()?], bytes, 1).err();
-    Ok(fault == Some(Take::Bad { at: 1 }))
+/// Whether the bytes behind the first are refused as region pairs of one cell and one cell, at that
+/// place.
+fn are_no_regions(alloc: Global, cell: Shape, bytes: &[u8]) -> bool {
+    take_regions(alloc, cell, &[cell], bytes, 1).err() == Some(Take::Bad { at: 1 })
 }
 
-/// Whether the bytes behind the first are refused as entries, at that place.
-fn are_no_entries(alloc: Global, bytes: &[u8]) -> Result<bool, Fail> {
-    let fault = take_entries(alloc, one_cell()?, bytes, 1).err();
-    Ok(fault == Some(Take::Bad { at: 1 }))
+/// Whether the bytes behind the first are refused as entries of one cell, at that place.
+fn are_no_entries(alloc: Global, cell: Shape, bytes: &[u8]) -> bool {
+    take_entries(alloc, cell, bytes, 1).err() == Some(Take::Bad { at: 1 })
 }
 
 #[test]
-fn stores_that_are_cut_or_changed_are_refused(rt: HostRuntime) -> Result<(), Fail> {
+fn stores_that_are_cut_are_refused(rt: HostRuntime) -> Result<(), Fail> {
     let alloc = rt.alloc();
-    assert!(rt; !are_no_regions(alloc, &PAIR)?);
-    assert!(rt; !are_no_entries(alloc, &ENTRY)?);
+    let cell = one_cell()?;
+    assert!(rt; !are_no_regions(alloc, cell, &PAIR));
+    assert!(rt; !are_no_entries(alloc, cell, &ENTRY));
     for length in 0..PAIR.len() {
-        assert!(rt; are_no_regions(alloc, &PAIR[..length])?);
+        assert!(rt; are_no_regions(alloc, cell, &PAIR[..length]));
     }
     for length in 0..ENTRY.len() {
-        assert!(rt; are_no_entries(alloc, &ENTRY[..length])?);
+        assert!(rt; are_no_entries(alloc, cell, &ENTRY[..length]));
     }
+    Ok(())
+}
+
+#[test]
+fn stores_that_are_changed_are_refused(rt: HostRuntime) -> Result<(), Fail> {
+    let alloc = rt.alloc();
+    let cell = one_cell()?;
     for place in 1..PAIR.len() {
         let mut bytes = PAIR;
         bytes[place] ^= 1;
         // a second set of no run, or no region pair, makes a shorter store
         let shorter = place == 22 || place == 34;
-        assert!(rt; are_no_regions(alloc, &bytes)? != shorter);
+        assert!(rt; are_no_regions(alloc, cell, &bytes) != shorter);
     }
     for place in 1..ENTRY.len() {
         let mut bytes = ENTRY;
         bytes[place] ^= 1;
         // another payload, a set of no run, no entry
         let other = place == 9 || place == 17 || place == 29;
-        assert!(rt; are_no_entries(alloc, &bytes)? != other);
+        assert!(rt; are_no_entries(alloc, cell, &bytes) != other);
     }
     Ok(())
 }
 
 #[test]
-fn wrong_names_and_counts_are_refused(rt: HostRuntime) -> Result<(), Fail> {
+fn wrong_names_are_refused(rt: HostRuntime) -> Result<(), Fail> {
     let alloc = rt.alloc();
+    let cell = one_cell()?;
     let mut past = PAIR;
     past[42] = 2;
-    assert!(rt; are_no_regions(alloc, &past)?, "a number past the table");
+    assert!(rt;
+        are_no_regions(alloc, cell, &past),
+        "a number past the table"
+    );
     let mut other = PAIR;
     other[42] = 0;
-    assert!(rt; are_no_regions(alloc, &other)?, "a set of another array");
-    let no_bytes = [9, 255, 255, 255, 255, 0, 0, 0, 0, 0];
-    assert!(rt; are_no_regions(alloc, &no_bytes)?, "many sets in few bytes");
     assert!(rt;
-        are_no_entries(alloc, &no_bytes)?,
-        "many payloads in few bytes"
+        are_no_regions(alloc, cell, &other),
+        "a set of another array"
     );
-    let no_pairs = [9, 0, 0, 0, 0, 63, 255, 255, 255, 0, 0, 0, 0];
-    assert!(rt;
-        are_no_regions(alloc, &no_pairs)?,
-        "many region pairs in few bytes"
+    Ok(())
+}
+
+/// Behind one byte, many sets in few bytes, many region pairs in few bytes, and more region pairs
+/// than a store may have.
+const WRONG_COUNTS: [&[u8]; 3] = [
+    &[9, 255, 255, 255, 255, 0, 0, 0, 0, 0],
+    &[9, 0, 0, 0, 0, 63, 255, 255, 255, 0, 0, 0, 0],
+    &[9, 0, 0, 0, 0, 64, 0, 0, 1],
+];
+
+#[test]
+fn wrong_counts_are_refused(rt: HostRuntime) -> Result<(), Fail> {
+    let (alloc, cell) = (rt.alloc(), one_cell()?);
+    let regions = first_taken(
+        &WRONG_COUNTS,
+        |bytes| take_regions(alloc, cell, &[cell], bytes, 1).err(),
     );
-    let too_many = [9, 0, 0, 0, 0, 64, 0, 0, 1];
-    assert!(rt;
-        are_no_regions(alloc, &too_many)?,
-        "more region pairs than a store may have"
-    );
+    assert_eq!(rt; regions, None);
+    // the first one has many payloads in few bytes, too
+    assert!(rt; are_no_entries(alloc, cell, WRONG_COUNTS[0]));
+    Ok(())
+}
+
+#[test]
+fn a_run_that_touches_the_next_is_refused(rt: HostRuntime) -> Result<(), Fail> {
     let touching = [
         9, 0, 0, 0, 1, 0, 0, 0, 0, 2, 0, 0, 0, 0, 0, 0, 0, 0, 0, 0, 0, 1, 0, 0, 0, 1, 0, 0, 0, 0,
     ];
-    let fault = take_regions(alloc, two_by_two()?, &[], &touching, 1).err();
-    assert!(rt;
-        fault == Some(Take::Bad { at: 1 }),
-        "a run that touches the next"
-    );
+    let fault = take_regions(rt.alloc(), two_by_two()?, &[], &touching, 1).err();
+    assert!(rt; fault == Some(Take::Bad { at: 1 }));
     Ok(())
 }
 

@@ -26,8 +26,8 @@ other-given r args words is same none =
     subst (λ (x : Result Args Error). AreOther x) (sym is)
     (sym (ap (λ (ws : List (String Global)). job_of (map string_bytes ws)) same) ∙ none)
 
-pub returns-clause-serves : goal.returns-clause-serves
-returns-clause-serves g c =
+pub returns : goal.returns
+returns g c =
     let owed : Serves g.S.Source g.T.Station _ c.serve.result c.args.source.now c.serve.new.source c.args.station.now
     c.serve.new.station = record {
       refused = c.serve.ensures.refused;
@@ -42,24 +42,12 @@ returns-clause-serves g c =
     } in
     let Owed = λ (o : Option Job). Serves g.S.Source g.T.Station o c.serve.result c.args.source.now c.serve.new.source
     c.args.station.now c.serve.new.station in
-    subst Owed (job-given _ _ _ c.in-Ok.is (c.deref.ensures.value ∙ c.in-Ok-words_of.ensures)) owed
-
-pub returns-clause-usage : goal.returns-clause-usage
-returns-clause-usage g c =
-    let owed : Serves g.S.Source g.T.Station _ c.serve.result c.args.source.now c.serve.new.source c.args.station.now
-    c.serve.new.station = record {
-      refused = c.serve.ensures.refused;
-      untouched = c.serve.ensures.untouched;
-      unread = c.serve.ensures.unread;
-      play = c.serve.ensures.play;
-      load = c.serve.ensures.load;
-      init = c.serve.ensures.init;
-      check = c.serve.ensures.check;
-      upgrade = c.serve.ensures.upgrade;
-      run = c.serve.ensures.run;
-    } in
-    λ is. other-given _ _ _ c.in-Ok.is (c.deref.ensures.value ∙ c.in-Ok-words_of.ensures)
-    (usage-refused g.S.Source g.T.Station _ _ _ _ _ _ owed is)
+    let words = c.deref.ensures.value ∙ c.in-Ok-words_of.ensures in
+    record {
+      serves = subst Owed (job-given _ _ _ c.in-Ok.is words) owed;
+      usage = λ is. other-given _ _ _ c.in-Ok.is words
+          (usage-refused g.S.Source g.T.Station _ _ _ _ _ _ owed is);
+    }
 
 pub returns-in-Err-clause-serves : goal.returns-in-Err-clause-serves
 returns-in-Err-clause-serves g c =

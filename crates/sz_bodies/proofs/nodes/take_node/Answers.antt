@@ -1,5 +1,5 @@
 -- The list is the only one that stands there, and behind it the stores.
-use Rattle.std.proofs.Common.{◌≡◌, List, true, false, sym, ap, subst, ◌∙◌}
+use Rattle.std.proofs.Common.{◌≡◌, List, sym, ap, subst, ◌∙◌}
 use Rattle.std.specs.Arc.{arc_value}
 use Rattle.std.proofs.lemmas.Result.{err_from_is_err_and}
 use Rattle.sz_spec.specs.declared.modes.Strategy.{Strategy}
@@ -10,33 +10,34 @@ use Rattle.sz_catalogue.specs.Rules as rules
 use Rattle.sz_bodies.specs.Taking.{site_over}
 use Rattle.sz_bodies.proofs.HeadParts.{if_bad-weaker}
 use Rattle.sz_bodies.proofs.Sequence.{no-node-other, no-node-stores, node-only, bare-stands, bare-only}
+use Rattle.sz_bodies.proofs.nodes.take_node.Goals.{After-is_list_for, After-names_a_store}
 use Rattle.sz_bodies.proofs.nodes.take_node.Goals as goal
+
+-- whether the list is one for the operator, and whether it names a store
+is-for : (c : After-is_list_for) → rules.is_list_for c.args.node.now.op c.in_ok-list.list ≡ c.is_list_for.result
+is-for c = sym (c.is_list_for.ensures ∙ ap (rules.is_list_for c.args.node.now.op) c.as_slice.ensures)
+
+names : (c : After-names_a_store) → rules.names_a_store c.in_ok-list.list ≡ c.names_a_store.result
+names c = sym (c.names_a_store.ensures ∙ ap rules.names_a_store c.as_slice-2.ensures)
 
 pub returns-then-not-is_list_for-clause-err : goal.returns-then-not-is_list_for-clause-err
 returns-then-not-is_list_for-clause-err c =
-    let s : Site = site_over c.args.base.now c.args.outputs.now c.args.node.now in
-    let list : List Strategy = c.in_ok-list.list in
-    let none : rules.is_list_for s.op list ≡ false =
-    sym (c.is_list_for.ensures ∙ ap (rules.is_list_for s.op) c.as_slice.ensures) ∙ c.if-not-is_list_for.true in
-    no-node-other c.args.format s c.args.bytes.now c.args.at c.in_ok-list.place list c.in_ok-list.ensures.bytes none
+    no-node-other c.args.format (site_over c.args.base.now c.args.outputs.now c.args.node.now) c.args.bytes.now
+    c.args.at c.in_ok-list.place c.in_ok-list.list c.in_ok-list.ensures.bytes
+    (is-for (goal.at.returns-then-not-is_list_for-clause-err c).After-is_list_for ∙ c.if-not-is_list_for.true)
 
 pub returns-then-not-names_a_store-clause-node : goal.returns-then-not-names_a_store-clause-node
 returns-then-not-names_a_store-clause-node c =
-    let s : Site = site_over c.args.base.now c.args.outputs.now c.args.node.now in
-    let list : List Strategy = c.in_ok-list.list in
-    let right : rules.is_list_for s.op list ≡ true =
-    sym (c.is_list_for.ensures ∙ ap (rules.is_list_for s.op) c.as_slice.ensures) ∙ c.if-not-is_list_for.false in
-    let none : rules.names_a_store list ≡ false =
-    sym (c.names_a_store.ensures ∙ ap rules.names_a_store c.as_slice-2.ensures) ∙ c.if-not-names_a_store.true in
-    bare-stands c.args.format s c.args.bytes.now c.args.at c.in_ok-list.place list right c.in_ok-list.ensures.bytes none
+    let at = goal.at.returns-then-not-names_a_store-clause-node c in
+    bare-stands c.args.format (site_over c.args.base.now c.args.outputs.now c.args.node.now) c.args.bytes.now c.args.at
+    c.in_ok-list.place c.in_ok-list.list (is-for at.After-is_list_for ∙ c.if-not-is_list_for.false)
+    c.in_ok-list.ensures.bytes (names at.After-names_a_store ∙ c.if-not-names_a_store.true)
 
 pub returns-then-not-names_a_store-clause-only : goal.returns-then-not-names_a_store-clause-only
 returns-then-not-names_a_store-clause-only c =
-    let s : Site = site_over c.args.base.now c.args.outputs.now c.args.node.now in
-    let list : List Strategy = c.in_ok-list.list in
-    let none : rules.names_a_store list ≡ false =
-    sym (c.names_a_store.ensures ∙ ap rules.names_a_store c.as_slice-2.ensures) ∙ c.if-not-names_a_store.true in
-    bare-only c.args.format s c.args.bytes.now c.args.at c.in_ok-list.place list c.in_ok-list.ensures.bytes none
+    bare-only c.args.format (site_over c.args.base.now c.args.outputs.now c.args.node.now) c.args.bytes.now c.args.at
+    c.in_ok-list.place c.in_ok-list.list c.in_ok-list.ensures.bytes
+    (names (goal.at.returns-then-not-names_a_store-clause-only c).After-names_a_store ∙ c.if-not-names_a_store.true)
 
 pub returns-in_err-kept-clause-err : goal.returns-in_err-kept-clause-err
 returns-in_err-kept-clause-err c =

@@ -2,7 +2,7 @@
 use Rattle.std.proofs.Common.{◌≡◌, ℕ, ◌+◌, List, [], ◌∷◌, ◌++◌, map, take, drop, ap, ap₂, sym, subst, ◌∙◌}
 use Rattle.std.proofs.Common.{Option, option_map, arith}
 use Rattle.std.specs.Arc.{arc_value}
-use Rattle.std.proofs.lemmas.List.{map-append, drop_all}
+use Rattle.std.proofs.lemmas.List.{map-append}
 use Rattle.std.proofs.lemmas.Result.{err_from_is_err_and}
 use Rattle.sz_spec.specs.declared.flow.Node.{Node}
 use Rattle.sz_spec.specs.declared.modes.Strategy.{Strategy}
@@ -89,20 +89,12 @@ loop-node-preserved g c =
 
 pub returns-clause-nodes : goal.returns-clause-nodes
 returns-clause-nodes g c =
-    let nodes = c.args.nodes.now in
-    let done = parts_of c.loop-node.lists.items (lineages c.loop-node.stores.items) in
-    (read-all c.args.format c.args.base.now c.args.outputs.now nodes c.args.bytes.now c.args.at c.loop-node.place done
-    (subst (λ (xs : List Node). AreRead c.args.format c.args.base.now c.args.outputs.now nodes xs c.args.bytes.now
-    c.args.at
-    c.loop-node.place done) (drop_all c.loop-node.node-index nodes c.loop-node-test.false)
-    c.loop-node.invariant.read)).0
+    (read-all c.args.format c.args.base.now c.args.outputs.now c.args.nodes.now c.args.bytes.now c.args.at
+    c.loop-node.place (parts_of c.loop-node.lists.items (lineages c.loop-node.stores.items)) c.loop-node.node-index
+    c.loop-node-test.false c.loop-node.invariant.read).0
 
 pub returns-clause-only : goal.returns-clause-only
 returns-clause-only g c =
-    let nodes = c.args.nodes.now in
-    let done = parts_of c.loop-node.lists.items (lineages c.loop-node.stores.items) in
-    (read-all c.args.format c.args.base.now c.args.outputs.now nodes c.args.bytes.now c.args.at c.loop-node.place done
-    (subst (λ (xs : List Node). AreRead c.args.format c.args.base.now c.args.outputs.now nodes xs c.args.bytes.now
-    c.args.at
-    c.loop-node.place done) (drop_all c.loop-node.node-index nodes c.loop-node-test.false)
-    c.loop-node.invariant.read)).1
+    (read-all c.args.format c.args.base.now c.args.outputs.now c.args.nodes.now c.args.bytes.now c.args.at
+    c.loop-node.place (parts_of c.loop-node.lists.items (lineages c.loop-node.stores.items)) c.loop-node.node-index
+    c.loop-node-test.false c.loop-node.invariant.read).1

@@ -9,6 +9,7 @@ use Rattle.sz_spec.specs.Shapes.{Site}
 use Rattle.sz_bodies.specs.Bodies.{NodePart, BeginNodes}
 use Rattle.sz_bodies.specs.Fitting.{FitNodes, lineages, part_of, parts_of}
 use Rattle.sz_bodies.proofs.NodesPut.{fit-length, node-next, nodes-append, NextNode}
+use Rattle.sz_bodies.proofs.writing.put_nodes.Goals.{After-index-stores-node}
 use Rattle.sz_bodies.proofs.writing.put_nodes.Goals as goal
 
 pub bounds-lists-node : goal.bounds-lists-node
@@ -17,34 +18,44 @@ bounds-lists-node c =
     let fit = fit-length c.requires.fit.0 c.args.lists.now (lineages stores) c.requires.fit.1 in
     omega (arith, c.loop-node-test.true, fit.0, length-map stores (option_map (λ a. arc_value a)))
 
-pub loop-node-preserved : goal.loop-node-preserved
-loop-node-preserved c =
+-- the node at the number, whatever its operator is
+node-at : (c : After-index-stores-node) (sites : List Site)
+    → FitNodes sites c.args.lists.now (lineages c.args.stores.now)
+    → NextNode c.loop-node.node sites c.args.lists.now (lineages c.args.stores.now) c.index-lists-node.result
+    (option_map (λ a. arc_value a) c.index-stores-node.result)
+node-at c sites fit =
     let lists = c.args.lists.now in
     let stores = c.args.stores.now in
     let n = c.loop-node.node in
-    let list = c.index-lists-node.result in
-    let kept = option_map (λ a. arc_value a) c.index-stores-node.result in
-    let old = c.args.to.now.items in
-    let mid = c.loop-node.to.items in
-    let new = c.put_node.new.to.items in
-    let inv = c.loop-node.invariant in
-    let put = c.in_ok-put_node.ensures in
-    let one : n + 1 ≡ suc n = omega arith in
-    let lengths = fit-length c.requires.fit.0 lists (lineages stores) c.requires.fit.1 in
+    let lengths = fit-length sites lists (lineages stores) fit in
     let below : n < length lists = omega (
       arith,
       c.loop-node-test.true,
       lengths.0,
       length-map stores (option_map (λ a. arc_value a)),
     ) in
-    let here = slice_get_read lists (length lists) n list refl below c.index-lists-node.is in
+    let here = slice_get_read lists (length lists) n c.index-lists-node.result refl below c.index-lists-node.is in
     let there = slice_get-map (option_map (λ a. arc_value a)) stores n
     ∙ ap (option_map (option_map (λ a. arc_value a)))
     (slice_get_read stores (length stores) n c.index-stores-node.result refl c.loop-node-test.true
     c.index-stores-node.is) in
-    let next : (sites : List Site) → FitNodes sites lists (lineages stores)
-    → NextNode n sites lists (lineages stores) list kept =
-    λ sites fit. node-next n sites lists (lineages stores) list kept fit here there in
+    node-next n sites lists (lineages stores) c.index-lists-node.result
+    (option_map (λ a. arc_value a) c.index-stores-node.result) fit here there
+
+pub loop-node-preserved : goal.loop-node-preserved
+loop-node-preserved c =
+    let old = c.args.to.now.items in
+    let mid = c.loop-node.to.items in
+    let new = c.put_node.new.to.items in
+    let lists = c.args.lists.now in
+    let stores = c.args.stores.now in
+    let n = c.loop-node.node in
+    let list = c.index-lists-node.result in
+    let kept = option_map (λ a. arc_value a) c.index-stores-node.result in
+    let inv = c.loop-node.invariant in
+    let put = c.in_ok-put_node.ensures in
+    let one : n + 1 ≡ suc n = omega arith in
+    let next = node-at (goal.at.loop-node-preserved c).After-index-stores-node in
     let parts = (next c.requires.fit.0 c.requires.fit.1).parts in
     let short : NodePart → Type 0 = λ x. length x.list < 256 in
     record {

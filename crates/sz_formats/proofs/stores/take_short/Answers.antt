@@ -6,10 +6,19 @@ use Rattle.sz_spec.specs.Shapes.{Site}
 use Rattle.sz_region.specs.LawsStores.{AreRight}
 use Rattle.sz_region.specs.Stores.{OnBad}
 use Rattle.sz_store.specs.Kept.{stored_in}
-use Rattle.sz_formats.specs.Twice.{span}
+use Rattle.sz_formats.specs.Twice.{AreTwice, from_format, span}
 use Rattle.sz_formats.specs.Words.{NoneBeginIn}
 use Rattle.sz_formats.proofs.Through.{alone, short-read, short-within, short-refused}
+use Rattle.sz_formats.proofs.stores.take_short.Goals.{After-deref-3}
 use Rattle.sz_formats.proofs.stores.take_short.Goals as goal
+
+-- the same stores in both
+twice : (c : After-deref-3) → let word = c.deref-3.result.now in AreTwice (from_format 2) (arc_value c.args.op)
+    (stored_in c.args.list.now) (span c.args.bytes.now c.args.at c.in_ok-next.next) (span word 0 (length word))
+twice c =
+    alone (arc_value c.args.op) c.deref-2.result.now (stored_in c.args.list.now) c.args.bytes.now c.args.at
+    c.in_ok-next.next c.new-wide.result.items c.respell_each.new.to.items c.deref-3.result.now c.deref-2.ensures
+    c.deref-3.ensures.value c.new-wide.ensures.items c.in_ok-next.ensures.ok
 
 pub respell_each-requires : goal.respell_each-requires
 respell_each-requires c =
@@ -32,36 +41,22 @@ returns-in_err-store-clause-err c =
     let bytes = c.args.bytes.now in
     let word = c.deref-3.result.now in
     let e = c.in_err-store.field-0.0 in
-    let are = alone s c.deref-2.result.now ts bytes c.args.at c.in_ok-next.next c.new-wide.result.items
-    c.respell_each.new.to.items word c.deref-2.ensures c.deref-3.ensures.value c.new-wide.ensures.items
-    c.in_ok-next.ensures.ok in
     let none : OnBad e (NoneBeginIn 2 s ts bytes c.args.at) =
     short-refused s ts bytes c.args.at c.in_ok-next.next word e
-    (subst (λ (x : Site). AreRight (x.out ∷ x.ins)) c.deref.ensures c.within_limits.ensures) are
-    c.in_err-store.ensures.err in
+    (subst (λ (x : Site). AreRight (x.out ∷ x.ins)) c.deref.ensures c.within_limits.ensures)
+    (twice (goal.at.returns-in_err-store-clause-err c).After-deref-3) c.in_err-store.ensures.err in
     let p = err_from_is_err_and c.from_residual-in_err-store.result c.from_residual-in_err-store.ensures.1 in
     rw (p.1, p.2) none
 
 pub returns-clause-ok : goal.returns-clause-ok
 returns-clause-ok c =
-    let s : Site = arc_value c.args.op in
-    let ts = stored_in c.args.list.now in
-    let bytes = c.args.bytes.now in
-    let word = c.deref-3.result.now in
-    let are = alone s c.deref-2.result.now ts bytes c.args.at c.in_ok-next.next c.new-wide.result.items
-    c.respell_each.new.to.items word c.deref-2.ensures c.deref-3.ensures.value c.new-wide.ensures.items
-    c.in_ok-next.ensures.ok in
-    short-read s ts bytes c.args.at c.in_ok-next.next word c.in_ok-store._end c.in_ok-store.store.stores
-    (subst (λ (x : Site). AreRight (x.out ∷ x.ins)) c.deref.ensures c.within_limits.ensures) are
-    c.in_ok-store.ensures.ok
+    short-read (arc_value c.args.op) (stored_in c.args.list.now) c.args.bytes.now c.args.at c.in_ok-next.next
+    c.deref-3.result.now c.in_ok-store._end c.in_ok-store.store.stores
+    (subst (λ (x : Site). AreRight (x.out ∷ x.ins)) c.deref.ensures c.within_limits.ensures)
+    (twice (goal.at.returns-clause-ok c).After-deref-3) c.in_ok-store.ensures.ok
 
 pub returns-clause-within : goal.returns-clause-within
 returns-clause-within c inside =
-    let s : Site = arc_value c.args.op in
-    let ts = stored_in c.args.list.now in
-    let bytes = c.args.bytes.now in
     let word = c.deref-3.result.now in
-    let are = alone s c.deref-2.result.now ts bytes c.args.at c.in_ok-next.next c.new-wide.result.items
-    c.respell_each.new.to.items word c.deref-2.ensures c.deref-3.ensures.value c.new-wide.ensures.items
-    c.in_ok-next.ensures.ok in
-    short-within s ts bytes c.args.at c.in_ok-next.next (span word 0 (length word)) are inside
+    short-within (arc_value c.args.op) (stored_in c.args.list.now) c.args.bytes.now c.args.at c.in_ok-next.next
+    (span word 0 (length word)) (twice (goal.at.returns-clause-within c).After-deref-3) inside

@@ -1,5 +1,5 @@
 -- Strategy by strategy.
-use Rattle.std.proofs.Common.{◌≤◌, true, false, List, length, get_or, subst, arith}
+use Rattle.std.proofs.Common.{◌≤◌, true, List, length, get_or, subst, arith}
 use Rattle.std.specs.Prelude.{Bool, All}
 use Rattle.std.proofs.lemmas.List.{take_all, get_or_default}
 use Rattle.std.proofs.lemmas.List.Elements.{All-more}
@@ -42,12 +42,9 @@ pub loop-s-preserved : goal.loop-s-preserved
 loop-s-preserved g c =
     let e = execution_of c.args.run.now in
     let kept = c.args.store.now in
-    let list = c.args.list.now in
-    let i = c.loop-s.s-index in
-    let t = get_or list i Map in
-    let right : TellsOfStrategy e kept t false =
-    subst (λ (b : Bool). TellsOfStrategy e kept t b) c.if-branch.false c.in_ok-is_wrong.ensures in
-    All-more (ExactIn e kept.stores) list i Map c.loop-s-test.true c.loop-s.invariant right
+    All-more (ExactIn e kept.stores) c.args.list.now c.loop-s.s-index Map c.loop-s-test.true c.loop-s.invariant
+    (subst (λ (b : Bool). TellsOfStrategy e kept (get_or c.args.list.now c.loop-s.s-index Map) b) c.if-branch.false
+    c.in_ok-is_wrong.ensures)
 
 pub returns : goal.returns
 returns g c =

@@ -14,12 +14,12 @@ returns-then-kind-own-clause-ok g c =
     let f = c.args.format.now in
     let held = c.args.catalogue.now in
     let body = c.args.body.now in
-    let new = c.act_as_version.new.catalogue in
     let kind : c.args.kind ≡ version_kind f = c.if-kind-own.true ∙ c.version_kind-own.ensures in
-    on_ok_weaker c.act_as_version.result
-    (λ (done : (more : List Kept) × ActsAsVersion f held (entry_of (version_kind f) body) new more
-    × (c.act_as_version.new.kept.items ≡ c.args.kept.now.items ++ more)).
-    (done.0, version-acts f c.args.kind held new body done.0 kind done.1, done.2)) c.act_as_version.ensures.ok
+    let did = c.act_as_version in
+    on_ok_weaker did.result
+    (λ (done : (more : List Kept) × ActsAsVersion f held (entry_of (version_kind f) body) did.new.catalogue more
+    × (did.new.kept.items ≡ c.args.kept.now.items ++ more)).
+    (done.0, version-acts f c.args.kind held did.new.catalogue body done.0 kind done.1, done.2)) did.ensures.ok
 
 pub returns-then-kind-own-clause-err : goal.returns-then-kind-own-clause-err
 returns-then-kind-own-clause-err g c =

@@ -2,12 +2,10 @@
 use Rattle.sz_session.proofs.Exactly.{run-completes}
 use Rattle.sz_session.proofs.endings.run_goes_on.Goals as goal
 
-pub returns-clause-run : goal.returns-clause-run
-returns-clause-run g c =
-    λ job s before after old new serves asked. (serves.run asked).ends
-
-pub returns-clause-run_completes : goal.returns-clause-run_completes
-returns-clause-run_completes g c =
-    λ job s before after old new serves asked.
-    let one = serves.run asked in
-    run-completes c.logs_are_read_in_one_way.ensures.whole g.T.Station s _ _ _ _ _ old new one.ends one.counted
+pub returns : goal.returns
+returns g c = record {
+  run = λ job s before after old new serves asked. (serves.run asked).ends;
+  run_completes = λ job s before after old new serves asked.
+      let one = serves.run asked in
+      run-completes c.logs_are_read_in_one_way.ensures.whole g.T.Station s _ _ _ _ _ old new one.ends one.counted;
+}

@@ -1,10 +1,10 @@
 -- The session opens with nothing read and nothing said.
-use Rattle.std.proofs.Common.{[], refl, subst, sym, ap, ◌∙◌}
+use Rattle.std.proofs.Common.{◌≡◌, [], refl, subst, sym, ap, ◌∙◌}
 use Rattle.sz_feed.specs.Moments.{Moment}
 use Rattle.sz_feed.specs.Serving.{Answered}
 use Rattle.sz_commands.specs.States.{nothing_held}
 use Rattle.sz_session.specs.Sessions.{opening_of}
-use Rattle.sz_session.proofs.Ends.{plain-ends, of-stays}
+use Rattle.sz_session.proofs.Ends.{asks, plain-ends, of-stays}
 use Rattle.sz_feed.proofs.Told.{answered-start, none-in_lines}
 use Rattle.sz_feed.proofs.Disks.{stays-still, start-stays}
 use Rattle.sz_feed.specs.Running.{IsBeside}
@@ -16,41 +16,12 @@ answer_all-status-requires g c =
     let said = g.T.Station.said c.args.station.now in
     let P : Moment → Type 0 = λ m. Answered nothing_held left left said said m 0 in
     let L : Moment → Type 0 = λ m. IsBeside g.T.Station m c.args.station.now in
-    λ κs lives. (
-      lives.0,
-      (
-        lives.1.0,
-        (
-          lives.1.1.0,
-          (
-            lives.1.1.1,
-            (
-              c.type_bounds.send-G,
-              (
-                c.type_bounds.sync-G,
-                (
-                  c.type_bounds.sync-R,
-                  (
-                    c.deref_mut.ensures.len
-                        ∙ c.in-Ok.ensures.len,
-                    (
-                      c.requires.limit,
-                      (
-                        ap (λ (m : Moment). m.number) c.in-Ok-new.ensures,
-                        (
-                          subst P (sym c.in-Ok-new.ensures) (answered-start nothing_held left said),
-                          (subst L (sym c.in-Ok-new.ensures) tt, refl),
-                        ),
-                      ),
-                    ),
-                  ),
-                ),
-              ),
-            ),
-          ),
-        ),
-      ),
-    )
+    let same : said ≡ said = refl in
+    λ κs lives. asks lives c.type_bounds.send-G c.type_bounds.sync-G c.type_bounds.sync-R
+    (c.deref_mut.ensures.len ∙ c.in-Ok.ensures.len) c.requires.limit
+    (ap (λ (m : Moment). m.number) c.in-Ok-new.ensures)
+    (subst P (sym c.in-Ok-new.ensures) (answered-start nothing_held left said)) (subst L (sym c.in-Ok-new.ensures) tt)
+    same
 
 pub returns-in_default-new-clause-ends : goal.returns-in_default-new-clause-ends
 returns-in_default-new-clause-ends g c =

@@ -1,18 +1,14 @@
 -- A named cell is one of the shape, and the shape holds it.
-use Rattle.std.proofs.Common.{◌≡◌, Some, sym, ap, ◌∙◌}
-use Rattle.std.specs.Prelude.{Bool, if◌then◌else◌, None}
-use Rattle.sz_cells.specs.declared.Cell.{Cell}
+use Rattle.std.proofs.Common.{sym, ap, ◌∙◌}
 use Rattle.sz_cells.specs.Extent.{holds, cell_in}
 use Rattle.sz_cells.proofs.Shapes.{place-has_cell}
+use Rattle.sz_versions.proofs.Kept.{told-cell}
 use Rattle.sz_versions.proofs.finding.cell_at.Goals as goal
 
 pub returns-clause-held : goal.returns-clause-held
 returns-clause-held c =
     let p = c.args.named in
-    let cell = cell_in c.args.shape p.layer p.row p.col in
-    let found : Some cell ≡ Some c.in-Some.cell =
-    sym (c.cell_in.ensures ∙ ap (λ (b : Bool). if b then Some cell else None) c.requires) ∙ c.in-Some.is in
-    ap (holds c.args.shape) (sym (same cell c.in-Some.cell found))
-    ∙ (place-has_cell c.args.shape p.layer p.row p.col c.a_shape_is_within_limits.ensures c.requires).0 where
-      same : (a b : Cell) → Some a ≡ Some b → a ≡ b
-      same a b h = cc
+    let e = c.args.shape in
+    ap (holds e) (sym (told-cell _ (cell_in e p.layer p.row p.col) c.in-Some.cell _ c.cell_in.ensures c.requires
+    c.in-Some.is))
+    ∙ (place-has_cell e p.layer p.row p.col c.a_shape_is_within_limits.ensures c.requires).0

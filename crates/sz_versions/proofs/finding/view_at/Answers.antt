@@ -1,14 +1,11 @@
 -- The run of the step's node holds the node's execution, and its list says the way.
-use Rattle.std.proofs.Common.{◌≡◌, ◌<◌, ℕ, List, [], map, length, refl, sym, ap, ap₂, ◌∙◌, subst, arith, Some, true}
-use Rattle.std.proofs.Common.{Option, unwrap_or, zero, suc, ◌∷◌}
-use Rattle.std.specs.Prelude.{All}
-use Rattle.std.proofs.lemmas.List.Elements.{All-head, All-tail}
+use Rattle.std.proofs.Common.{◌≡◌, ◌<◌, ℕ, List, [], map, length, refl, sym, ap, ap₂, ◌∙◌, arith, Some, true}
+use Rattle.std.proofs.Common.{Option, unwrap_or}
 use Rattle.std.specs.Arc.{arc_value}
 use Rattle.std.specs.List.{slice_get}
-use Rattle.std.specs.Option.{option_map}
 use Rattle.std.proofs.Math.Seq.{map-set_same}
 use Rattle.std.proofs.lemmas.List.{length-map}
-use Rattle.std.proofs.lemmas.Option.{slice_get-map, slice_get_read}
+use Rattle.std.proofs.lemmas.Option.{slice_get_read}
 use Rattle.std.proofs.lemmas.Result.{IfOk-weaker, on_ok_weaker, on_err_weaker}
 use Rattle.sz_spec.specs.declared.op.Op.TheVariants as op
 use Rattle.sz_spec.specs.declared.modes.Strategy.{Strategy}
@@ -19,13 +16,15 @@ use Rattle.sz_cells.proofs.Shapes.{sides}
 use Rattle.sz_query.specs.Views.{most_traced_by}
 use Rattle.sz_catalogue.specs.Holdings.{Version}
 use Rattle.sz_catalogue.specs.Changes.{way_of}
+use Rattle.sz_recover.proofs.WrongNodes.{all-of}
 use Rattle.sz_versions.specs.Stores.{Keeping, nothing, Trail, IsOwn, keeping_of}
 use Rattle.sz_versions.specs.Views.{view_by}
 use Rattle.sz_versions.specs.Lending.{once_viewed, changed_at, once_asked}
 use Rattle.sz_versions.specs.Along.{execution_in, kept_in}
 use Rattle.sz_versions.proofs.Ways.{view_by-few}
 use Rattle.sz_versions.proofs.Lending.{changed-set}
-use Rattle.sz_versions.proofs.Kept.{run-there, run-at, list-there, list-filled, way-at}
+use Rattle.sz_versions.proofs.Keeping.{read-at}
+use Rattle.sz_versions.proofs.Kept.{run-there, run-at, store-there, list-there, list-filled, way-at}
 use Rattle.sz_versions.proofs.finding.view_at.Goals as goal
 
 pub bounds-lists-step-inside : goal.bounds-lists-step-inside
@@ -56,42 +55,25 @@ index-node-requires c =
 
 pub index_mut-stores-requires : goal.index_mut-stores-requires
 index_mut-stores-requires c =
-    let v = c.args.version.now in
-    let runs = arc_value c.run.inside.runs in
+    let node : c.step.inside.node ≡ c.args.step.node = ap (λ (s : Step). s.node) c.step.view_is in
     let stores = c.run.inside.stores in
-    let own = ap (λ (t : Trail). t.executions) c.run.view_is ∙ c.requires.run.executions in
-    let within = run-there v c.args.step runs.items c.requires.sound c.requires.there own in
-    let same : c.step.inside.node ≡ c.args.step.node = ap (λ (s : Step). s.node) c.step.view_is in
     omega (
       arith,
-      within,
-      same,
-      length-map runs.items execution_of,
-      ap (λ (es : List Execution). length es) own,
-      c.requires.run.long,
-      length-map stores.items keeping_of,
+      store-there c.args.version.now c.args.step c.args.run.now c.requires.sound c.requires.there c.requires.run,
+      node,
       ap (λ (t : Trail). length t.kept) c.run.view_is,
+      length-map stores.items keeping_of,
       stores.ok.0,
     )
 
 -- there are stores at the step's node
 below : (c : goal.After-index_mut-stores) → c.step.inside.node < length c.run.inside.stores.items
 below c =
-    let v = c.args.version.now in
-    let runs = arc_value c.run.inside.runs in
-    let own = ap (λ (t : Trail). t.executions) c.run.view_is ∙ c.requires.run.executions in
-    let within = run-there v c.args.step runs.items c.requires.sound c.requires.there own in
-    let same : c.step.inside.node ≡ c.args.step.node = ap (λ (s : Step). s.node) c.step.view_is in
-    omega (
-      arith,
-      within,
-      same,
-      length-map runs.items execution_of,
-      ap (λ (es : List Execution). length es) own,
-      c.requires.run.long,
-      length-map c.run.inside.stores.items keeping_of,
-      ap (λ (t : Trail). length t.kept) c.run.view_is,
-    )
+    let there =
+    store-there c.args.version.now c.args.step c.args.run.now c.requires.sound c.requires.there c.requires.run in
+    let node : c.step.inside.node ≡ c.args.step.node = ap (λ (s : Step). s.node) c.step.view_is in
+    let kept = ap (λ (t : Trail). length t.kept) c.run.view_is in
+    omega (arith, there, node, kept, length-map c.run.inside.stores.items keeping_of)
 
 -- the execution of the step's node, and what is kept of it, are those of the trail
 record IsFound (t : Trail) (s : Step) (e : Execution) (k : Keeping) : Type 0 where
@@ -118,22 +100,13 @@ found c =
     let inside : n < length stores.items = rw node at (below c) in
     let stored : slice_get t.kept n ≡ Some (keeping_of store) =
     ap (λ (t : Trail). slice_get t.kept n) (sym c.run.view_is)
-    ∙ slice_get-map keeping_of stores.items n
-    ∙ ap (option_map keeping_of)
-    (slice_get_read stores.items (length stores.items) n store refl inside
-    (rw node at c.index_mut-stores.ensures.value)) in
-    let own_all = c.requires.run.own in
+    ∙ read-at keeping_of stores.items n store inside (rw node at c.index_mut-stores.ensures.value) in
     record {
       at = ap (λ (es : List Execution). unwrap_or (slice_get es n) (execution op.Neg [])) c.requires.run.executions
           ∙ ap (λ (o : Option Execution). unwrap_or o (execution op.Neg [])) at;
       kept = ap (λ (o : Option Keeping). unwrap_or o nothing) stored;
-      own = own-at t.kept n (keeping_of store) own_all stored;
-    } where
-      own-at : (ks : List Keeping) (n : ℕ) (k : Keeping) → All IsOwn ks → slice_get ks n ≡ Some k → IsOwn k
-      own-at [] n k all at = cc
-      own-at (x ∷ ks) zero k all at =
-          let same : x ≡ k = cc in subst IsOwn same (All-head IsOwn x ks all)
-      own-at (x ∷ ks) (suc n) k all at = own-at ks n k (All-tail IsOwn x ks all) at
+      own = all-of IsOwn t.kept n (keeping_of store) c.requires.run.own stored;
+    }
 
 pub view_by-requires : goal.view_by-requires
 view_by-requires c = (found c).own

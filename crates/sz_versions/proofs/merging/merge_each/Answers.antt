@@ -1,13 +1,13 @@
 -- One node more is merged, and its numbers are told.
-use Rattle.std.proofs.Common.{◌≡◌, ◌<◌, ◌≤◌, ◌+◌, ℕ, suc, [], ◌∷◌, ◌++◌, map, take, length, true, refl, ap, ◌∙◌, subst}
+use Rattle.std.proofs.Common.{◌≡◌, ◌<◌, ◌+◌, ℕ, suc, [], ◌∷◌, ◌++◌, map, take, length, true, refl, ap, ◌∙◌, subst}
 use Rattle.std.proofs.Common.{arith, List, sym}
-use Rattle.std.proofs.lemmas.List.{length-map, map-append, take_all}
+use Rattle.std.proofs.lemmas.List.{map-append}
 use Rattle.sz_flow.specs.Executions.{execution_of}
 use Rattle.sz_versions.specs.Stores.{keeping_of}
 use Rattle.sz_versions.specs.declared.runs.NodeKeeping.{NodeKeeping}
 use Rattle.sz_versions.specs.Merging.{IsMergeable, IsMergedNode, AreMergedNodes, kinds_in_kept, kinds_in_nodes}
 use Rattle.sz_versions.proofs.Keeping.{listed-at}
-use Rattle.sz_versions.proofs.MergedNodes.{mergeable-length, few-lists, few-kept, node-at, same-at, merged-next}
+use Rattle.sz_versions.proofs.MergedNodes.{few-lists, few-kept, node-at, same-at, merged-next, all-taken}
 use Rattle.sz_versions.proofs.MergedNodes.{kinds-next}
 use Rattle.sz_versions.proofs.merging.merge_each.Goals as goal
 
@@ -30,27 +30,22 @@ bounds-kept-node g c =
     c.requires.mergeable c.loop-node.invariant.same
     (omega (arith, c.loop-node-test.true, c.loop-node.invariant.end))
 
-pub merge_node-requires-clause-supported : goal.merge_node-requires-clause-supported
-merge_node-requires-clause-supported g c =
+pub merge_node-requires : goal.merge_node-requires
+merge_node-requires g c =
     let runs = c.args.runs.now in
+    let e = execution_of c.index-runs-node.result in
+    let list = c.index-lists-node.result in
     let few : c.loop-node.node < length runs = omega (arith, c.loop-node-test.true, c.loop-node.invariant.end) in
     let here = node-at true runs c.args.lists.now c.args.kept.now c.loop-node.kept c.loop-node.node
-    c.index-runs-node.result c.index-lists-node.result c.index-kept-node.result c.requires.mergeable
-    c.loop-node.invariant.same few c.index-runs-node.is c.index-lists-node.is c.index-kept-node.is in
-    rw c.as_slice.ensures
-    (listed-at (map execution_of runs) c.args.lists.now c.loop-node.node (execution_of c.index-runs-node.result)
-    c.index-lists-node.result c.requires.listed here.here here.listed)
-
-pub merge_node-requires-clause-mergeable : goal.merge_node-requires-clause-mergeable
-merge_node-requires-clause-mergeable g c =
-    let runs = c.args.runs.now in
-    let few : c.loop-node.node < length runs = omega (arith, c.loop-node-test.true, c.loop-node.invariant.end) in
-    let here = node-at true runs c.args.lists.now c.args.kept.now c.loop-node.kept c.loop-node.node
-    c.index-runs-node.result c.index-lists-node.result c.index-kept-node.result c.requires.mergeable
-    c.loop-node.invariant.same few c.index-runs-node.is c.index-lists-node.is c.index-kept-node.is in
-    rw c.as_slice.ensures
-    (subst (λ (x : NodeKeeping). IsMergeable true (execution_of c.index-runs-node.result) c.index-lists-node.result
-    (keeping_of x)) c.index-kept-node.is here.own)
+    c.index-runs-node.result list c.index-kept-node.result c.requires.mergeable c.loop-node.invariant.same few
+    c.index-runs-node.is c.index-lists-node.is c.index-kept-node.is in
+    record {
+      supported = rw c.as_slice.ensures
+          (listed-at (map execution_of runs) c.args.lists.now c.loop-node.node e list c.requires.listed here.here
+          here.listed);
+      mergeable = rw c.as_slice.ensures
+          (subst (λ (x : NodeKeeping). IsMergeable true e list (keeping_of x)) c.index-kept-node.is here.own);
+    }
 
 pub loop-node-preserved : goal.loop-node-preserved
 loop-node-preserved g c =
@@ -94,27 +89,15 @@ loop-node-preserved g c =
 
 pub returns-clause-merged : goal.returns-clause-merged
 returns-clause-merged g c =
-    let es = map execution_of c.args.runs.now in
-    let n = c.loop-node.node in
-    let long = mergeable-length true es c.args.lists.now (map keeping_of c.args.kept.now) c.requires.mergeable in
-    let runs : length es ≤ n =
-    omega (arith, c.loop-node-test.false, c.loop-node.invariant.end, length-map c.args.runs.now execution_of) in
-    let lists : length c.args.lists.now ≤ n = omega (arith, runs, long.1) in
-    let kept : length (map keeping_of c.args.kept.now) ≤ n = omega (arith, runs, long.0) in
-    rw (take_all n es runs, take_all n c.args.lists.now lists, take_all n (map keeping_of c.args.kept.now) kept)
-    at c.loop-node.invariant.merged
+    let all = all-taken true c.args.runs.now c.args.lists.now c.args.kept.now c.loop-node.node c.requires.mergeable
+    (omega (arith, c.loop-node-test.false, c.loop-node.invariant.end)) in
+    rw (all.0, all.1, all.2) at c.loop-node.invariant.merged
 
 pub returns-clause-kinds : goal.returns-clause-kinds
 returns-clause-kinds g c =
-    let es = map execution_of c.args.runs.now in
-    let n = c.loop-node.node in
-    let long = mergeable-length true es c.args.lists.now (map keeping_of c.args.kept.now) c.requires.mergeable in
-    let runs : length es ≤ n =
-    omega (arith, c.loop-node-test.false, c.loop-node.invariant.end, length-map c.args.runs.now execution_of) in
-    let lists : length c.args.lists.now ≤ n = omega (arith, runs, long.1) in
-    let kept : length (map keeping_of c.args.kept.now) ≤ n = omega (arith, runs, long.0) in
-    rw (take_all n es runs, take_all n c.args.lists.now lists, take_all n (map keeping_of c.args.kept.now) kept)
-    at c.loop-node.invariant.kinds
+    let all = all-taken true c.args.runs.now c.args.lists.now c.args.kept.now c.loop-node.node c.requires.mergeable
+    (omega (arith, c.loop-node-test.false, c.loop-node.invariant.end)) in
+    rw (all.0, all.1, all.2) at c.loop-node.invariant.kinds
 
 -- ---- what is kept, where the memory is out
 

@@ -2,14 +2,23 @@
 -- so is the body of a version.
 use Rattle.std.proofs.Common.{sym, ◌∙◌, true≢false, []}
 use Rattle.std.proofs.lemmas.Result.{on_ok_weaker}
-use Rattle.sz_commands.specs.Logged.{IsLineGroup, IsVersionGroup, IsGroupFor}
-use Rattle.sz_commands.specs.States.{accepted}
+use Rattle.sz_script.specs.declared.command.Command.{Command}
+use Rattle.sz_commands.specs.Logged.{StopsInLog, IsLineGroup, IsVersionGroup, IsGroupFor}
+use Rattle.sz_commands.specs.States.{SessionState, accepted}
 use Rattle.sz_commands.proofs.Appending.{appends-as, line-group, array-group, line-makes, refresh-makes}
 use Rattle.sz_commands.proofs.Appending.{nothing-makes, await-idle, await-makes}
 use Rattle.sz_commands.proofs.Appending.{await-group, await-writes}
 use Rattle.sz_commands.proofs.Lasting.{nothing-keeps}
 use Rattle.sz_commands.proofs.Logged.{still-stops}
+use Rattle.sz_commands.proofs.session.Session.accept_on.Given.{Over}
 use Rattle.sz_commands.proofs.session.Session.accept_on.Goals as goal
+
+-- where no call is made, a stop leaves the log
+still : (g : Over) (s : SessionState) (command : Command) (x : g.row.T.Denot)
+    → StopsInLog g.T.Station s.held s.end (accepted s command).0.held x x
+still g s command x =
+    still-stops g.T.Station s.held (accepted s command).0.held s.end x (g.met.T.Station.only_now x)
+    (g.met.T.Station.counts_now x)
 
 pub returns-in-Line-clause-idle : goal.returns-in-Line-clause-idle
 returns-in-Line-clause-idle g c =
@@ -74,10 +83,7 @@ returns-in-Version-clause-appends g c =
     c.add_version.ensures.appends
 
 pub returns-in_err-obey-in-Nothing-clause-stops : goal.returns-in_err-obey-in-Nothing-clause-stops
-returns-in_err-obey-in-Nothing-clause-stops g c =
-    still-stops g.T.Station c.args.self.now.held (accepted c.args.self.now c.args.command).0.held
-    c.args.self.now.end c.args.station.now (g.met.T.Station.only_now c.args.station.now)
-    (g.met.T.Station.counts_now c.args.station.now)
+returns-in_err-obey-in-Nothing-clause-stops g c = still g c.args.self.now c.args.command c.args.station.now
 
 pub returns-in_ok-obey-in-Nothing-clause-log : goal.returns-in_ok-obey-in-Nothing-clause-log
 returns-in_ok-obey-in-Nothing-clause-log g c =
@@ -85,10 +91,7 @@ returns-in_ok-obey-in-Nothing-clause-log g c =
     c.requires.log c.in_ok-obey-in-Nothing.ensures.reply c.in_ok-obey-in-Nothing.ensures.end c.in-Nothing.ensures
 
 pub returns-in_ok-obey-in-Nothing-clause-stops : goal.returns-in_ok-obey-in-Nothing-clause-stops
-returns-in_ok-obey-in-Nothing-clause-stops g c =
-    still-stops g.T.Station c.args.self.now.held (accepted c.args.self.now c.args.command).0.held
-    c.args.self.now.end c.args.station.now (g.met.T.Station.only_now c.args.station.now)
-    (g.met.T.Station.counts_now c.args.station.now)
+returns-in_ok-obey-in-Nothing-clause-stops g c = still g c.args.self.now c.args.command c.args.station.now
 
 pub returns-in_ok-obey-in-Nothing-clause-appends : goal.returns-in_ok-obey-in-Nothing-clause-appends
 returns-in_ok-obey-in-Nothing-clause-appends g c =

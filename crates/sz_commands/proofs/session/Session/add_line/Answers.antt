@@ -5,12 +5,14 @@ use Rattle.sz_catalogue.specs.Holdings.{Holdings}
 use Rattle.sz_catalogue.specs.Seen.{response_of}
 use Rattle.sz_commands.specs.States.{SessionState, apart}
 use Rattle.sz_commands.specs.Carrying.{StoredBy}
-use Rattle.sz_commands.specs.Logged.{KeepsLog, IsLineGroup, place_of}
+use Rattle.sz_commands.specs.Logged.{KeepsLog, StopsInLog, IsLineGroup, place_of}
 use Rattle.sz_commands.proofs.Appending.{group-added}
 use Rattle.sz_commands.proofs.Carrying.{stored-left, line-leaves}
 use Rattle.sz_commands.proofs.Lasting.{left-held}
-use Rattle.sz_commands.proofs.Logged.{still-stops, log-ends, ending, line-step, append-stops, append-keeps}
+use Rattle.sz_commands.proofs.Logged.{still-stops, log-ends, ending, IsStep, line-step, append-stops, append-keeps}
 use Rattle.sz_commands.proofs.States.{accepted-seen}
+use Rattle.sz_commands.proofs.session.Session.add_line.Given.{Over}
+use Rattle.sz_commands.proofs.session.Session.add_line.Goals.{After-append}
 use Rattle.sz_commands.proofs.session.Session.add_line.Goals as goal
 
 pub returns-in_err-reply-clause-stops : goal.returns-in_err-reply-clause-stops
@@ -23,14 +25,23 @@ pub append-requires-clause-log : goal.append-requires-clause-log
 append-requires-clause-log g c =
     log-ends g.T.Station c.args.self.now.held (place_of c.args.log) c.args.station.now c.requires.log
 
+-- the line is one step of the log
+step : (g : Over) (c : After-append g)
+    → IsStep c.args.log.format c.args.self.now.held (changes.accepted c.args.self.now.held c.args.command).0
+    (record { kind = c.args.kind; body = c.args.line.now })
+step g c =
+    line-step c.args.log.format c.args.self.now.held c.args.kind c.args.line.now c.args.command c.requires.reads
+    c.requires.kind c.requires.judged
+
+stops : (g : Over) (c : After-append g)
+    → StopsInLog g.T.Station c.args.self.now.held c.args.self.now.end
+    (changes.accepted c.args.self.now.held c.args.command).0 c.args.station.now c.append.new.station
+stops g c =
+    append-stops g.T.Station c.args.self.now.held _ c.args.self.now.end (place_of c.args.log) _ c.args.station.now
+    c.append.new.station c.requires.end (step g c) c.append.ensures.stops
+
 pub returns-in_err-next-clause-stops : goal.returns-in_err-next-clause-stops
-returns-in_err-next-clause-stops g c =
-    let held = c.args.self.now.held in
-    append-stops g.T.Station held (changes.accepted held c.args.command).0 c.args.self.now.end (place_of c.args.log) _
-    c.args.station.now c.append.new.station c.requires.end
-    (line-step c.args.log.format held c.args.kind c.args.line.now c.args.command c.requires.reads c.requires.kind
-    c.requires.judged)
-    c.append.ensures.stops
+returns-in_err-next-clause-stops g c = stops g (goal.at.returns-in_err-next-clause-stops g c).After-append
 
 pub returns-clause-log : goal.returns-clause-log
 returns-clause-log g c =
@@ -44,18 +55,11 @@ returns-clause-log g c =
     subst L (sym left)
     (append-keeps g.T.Station held (changes.accepted held c.args.command).0 c.args.self.now.end (place_of c.args.log)
     c.in_ok-next.next.at _ c.args.station.now c.append.new.station c.requires.end
-    (line-step c.args.log.format held c.args.kind c.args.line.now c.args.command c.requires.reads c.requires.kind
-    c.requires.judged)
-    c.in_ok-next.ensures.added c.in_ok-next.ensures.end c.in_ok-next.ensures.synced)
+    (step g (goal.at.returns-clause-log g c).After-append) c.in_ok-next.ensures.added c.in_ok-next.ensures.end
+    c.in_ok-next.ensures.synced)
 
 pub returns-clause-stops : goal.returns-clause-stops
-returns-clause-stops g c =
-    let held = c.args.self.now.held in
-    append-stops g.T.Station held (changes.accepted held c.args.command).0 c.args.self.now.end (place_of c.args.log) _
-    c.args.station.now c.append.new.station c.requires.end
-    (line-step c.args.log.format held c.args.kind c.args.line.now c.args.command c.requires.reads c.requires.kind
-    c.requires.judged)
-    c.append.ensures.stops
+returns-clause-stops g c = stops g (goal.at.returns-clause-stops g c).After-append
 
 pub returns-clause-appends : goal.returns-clause-appends
 returns-clause-appends g c =

@@ -4,6 +4,7 @@ use Rattle.std.proofs.Common.{◌≡◌, ℕ, List, Some, Ok, refl, sym, ap, ◌
 use Rattle.sz_log.specs.Log.{LogGroup}
 use Rattle.sz_spec.specs.Values.{Grid}
 use Rattle.sz_script.specs.Reading.{reading}
+use Rattle.sz_script.specs.declared.command.Command.{Command}
 use Rattle.sz_script.specs.declared.command.Command.TheVariants as order
 use Rattle.sz_script.specs.declared.command.NewCell.{NewCell}
 use Rattle.sz_writing.specs.Orders.{array_order}
@@ -15,23 +16,62 @@ use Rattle.sz_catalogue.specs.Seen.{response_of}
 use Rattle.sz_versions.proofs.Refreshes.{can-refresh}
 use Rattle.sz_commands.specs.States.{SessionState, apart}
 use Rattle.sz_commands.specs.Carrying.{AddsEntry}
-use Rattle.sz_commands.specs.Logged.{KeepsLog, IsArrayGroup, place_of}
+use Rattle.sz_commands.specs.Logged.{KeepsLog, StopsInLog, IsArrayGroup, place_of}
 use Rattle.sz_commands.proofs.Appending.{group-added}
 use Rattle.sz_commands.proofs.Lasting.{left-apart, array-step}
-use Rattle.sz_commands.proofs.Logged.{still-stops, log-ends, ending, append-stops, append-keeps}
+use Rattle.sz_commands.proofs.Logged.{still-stops, log-ends, ending, append-stops, append-keeps, IsStep}
+use Rattle.sz_commands.proofs.session.Session.add_refreshed.Given.{Over}
+use Rattle.sz_commands.proofs.session.Session.add_refreshed.Goals.{After-append}
 use Rattle.sz_commands.proofs.session.Session.add_refreshed.Goals as goal
 
-abbrev group_of : List ℕ → LogGroup
-group_of body = record { kind = 1; body = body }
+-- what is held behind a refresh
+abbrev refreshed_in : Holdings → ℕ → ℕ → List NewCell → Holdings
+refreshed_in c n i set = with_refreshed c n i (array_refreshed (version_of c n) i set)
 
--- what the bytes that are appended are read as
-reads-as : (c : Holdings) (n i : ℕ) (set : List NewCell) (body line : List ℕ) (array : Grid)
-    → body ≡ line → array ≡ array_refreshed (version_of c n) i set
-    → reading line ≡ Ok (array_order (base_at (version_of c n) i).name array)
-    → reading body ≡ Ok (array_order (base_at (version_of c n) i).name (array_refreshed (version_of c n) i set))
-reads-as c n i set body line array same is read =
-    let name = (base_at (version_of c n) i).name in
-    ap reading same ∙ (read ∙ ap (λ (g : Grid). Ok (array_order name g)) is)
+-- where no call is made, a stop leaves the log
+still : (g : Over) (s : SessionState) (n i : ℕ) (set : List NewCell) (x : g.row.T.Denot)
+    → StopsInLog g.T.Station s.held s.end (refreshed_in s.held n i set) x x
+still g s n i set x =
+    still-stops g.T.Station s.held (refreshed_in s.held n i set) s.end x (g.met.T.Station.only_now x)
+    (g.met.T.Station.counts_now x)
+
+-- the group that is appended: it is read as the command to hold the array that the refresh makes, and is one step of
+-- the log
+abbrev group-of : (g : Over) → After-append g → LogGroup
+group-of g c = record { kind = 1; body = c.deref-2.result.now }
+
+record IsAdded (g : Over) (c : After-append g) : Type 0 where
+  pub group : IsArrayGroup c.args.self.now.held c.args.version c.args.input c.args.set.now (group-of g c)
+  pub step : IsStep c.args.log.format c.args.self.now.held
+      (refreshed_in c.args.self.now.held c.args.version c.args.input c.args.set.now) (group-of g c)
+  pub stops : StopsInLog g.T.Station c.args.self.now.held c.args.self.now.end
+      (refreshed_in c.args.self.now.held c.args.version c.args.input c.args.set.now) c.args.station.now
+      c.append.new.station
+
+reads : (g : Over) (c : After-append g)
+    → reading c.deref-2.result.now
+    ≡ Ok (array_order (base_at (version_of c.args.self.now.held c.args.version) c.args.input).name
+    (array_refreshed (version_of c.args.self.now.held c.args.version) c.args.input c.args.set.now))
+reads g c =
+    let name = (base_at (version_of c.args.self.now.held c.args.version) c.args.input).name in
+    ap reading c.deref-2.ensures.value
+    ∙ (c.in_ok-line.ensures
+    ∙ ap (λ (a : Grid). Ok (array_order name a)) (c.deref.ensures ∙ c.in_ok-made.ensures.made.array_is))
+
+is-added : (g : Over) (c : After-append g) → IsAdded g c
+is-added g c =
+    let held = c.args.self.now.held in
+    let d = refreshed_in held c.args.version c.args.input c.args.set.now in
+    let step : IsStep c.args.log.format held d (group-of g c) =
+    array-step c.args.log.format held c.args.version c.args.input c.args.set.now c.deref-2.result.now c.requires.judged
+    (reads g c) in
+    record {
+      group = record { kind = refl; reads = reads g c };
+      step = step;
+      stops =
+          append-stops g.T.Station held d c.args.self.now.end (place_of c.args.log) (group-of g c)
+          c.args.station.now c.append.new.station c.requires.end step c.append.ensures.stops;
+    }
 
 pub line_for-requires-clause-there : goal.line_for-requires-clause-there
 line_for-requires-clause-there g c =
@@ -43,93 +83,49 @@ line_for-requires-clause-input g c =
 
 pub returns-in_err-made-clause-stops : goal.returns-in_err-made-clause-stops
 returns-in_err-made-clause-stops g c =
-    let held = c.args.self.now.held in
-    still-stops g.T.Station held (with_refreshed held c.args.version c.args.input
-    (array_refreshed (version_of held c.args.version) c.args.input c.args.set.now))
-    c.args.self.now.end c.args.station.now (g.met.T.Station.only_now c.args.station.now)
-    (g.met.T.Station.counts_now c.args.station.now)
+    still g c.args.self.now c.args.version c.args.input c.args.set.now c.args.station.now
 
 pub returns-in_err-line-clause-stops : goal.returns-in_err-line-clause-stops
 returns-in_err-line-clause-stops g c =
-    let held = c.args.self.now.held in
-    still-stops g.T.Station held (with_refreshed held c.args.version c.args.input
-    (array_refreshed (version_of held c.args.version) c.args.input c.args.set.now))
-    c.args.self.now.end c.args.station.now (g.met.T.Station.only_now c.args.station.now)
-    (g.met.T.Station.counts_now c.args.station.now)
+    still g c.args.self.now c.args.version c.args.input c.args.set.now c.args.station.now
 
 pub returns-in_err-reply-clause-stops : goal.returns-in_err-reply-clause-stops
 returns-in_err-reply-clause-stops g c =
-    let held = c.args.self.now.held in
-    still-stops g.T.Station held (with_refreshed held c.args.version c.args.input
-    (array_refreshed (version_of held c.args.version) c.args.input c.args.set.now))
-    c.args.self.now.end c.args.station.now (g.met.T.Station.only_now c.args.station.now)
-    (g.met.T.Station.counts_now c.args.station.now)
+    still g c.args.self.now c.args.version c.args.input c.args.set.now c.args.station.now
 
 pub append-requires-clause-log : goal.append-requires-clause-log
 append-requires-clause-log g c =
     log-ends g.T.Station c.args.self.now.held (place_of c.args.log) c.args.station.now c.requires.log
 
 pub returns-in_err-next-clause-stops : goal.returns-in_err-next-clause-stops
-returns-in_err-next-clause-stops g c =
-    let held = c.args.self.now.held in
-    let n = c.args.version in
-    let i = c.args.input in
-    let set = c.args.set.now in
-    let body = c.deref-2.result.now in
-    let read = reads-as held n i set body c.in_ok-line.line.items _ c.deref-2.ensures.value
-    (c.deref.ensures ∙ c.in_ok-made.ensures.made.array_is) c.in_ok-line.ensures in
-    append-stops g.T.Station held (with_refreshed held n i (array_refreshed (version_of held n) i set))
-    c.args.self.now.end (place_of c.args.log) (group_of body) c.args.station.now c.append.new.station c.requires.end
-    (array-step c.args.log.format held n i set body c.requires.judged read) c.append.ensures.stops
+returns-in_err-next-clause-stops g c = (is-added g (goal.at.returns-in_err-next-clause-stops g c).After-append).stops
 
 pub returns-clause-log : goal.returns-clause-log
 returns-clause-log g c =
     let s : SessionState = c.args.self.now in
-    let held = s.held in
-    let n = c.args.version in
-    let i = c.args.input in
-    let set = c.args.set.now in
-    let body = c.deref-2.result.now in
-    let read = reads-as held n i set body c.in_ok-line.line.items _ c.deref-2.ensures.value
-    (c.deref.ensures ∙ c.in_ok-made.ensures.made.array_is) c.in_ok-line.ensures in
+    let set : Command = order.Refresh c.args.version c.args.input c.args.set.now in
+    let here = (goal.at.returns-clause-log g c).After-append in
     let left = ap (λ (x : SessionState). x.held) c.self.view_is
-    ∙ left-apart s c.hold_refreshed.new.self (order.Refresh n i set) _ c.in_ok-reply.ensures.reply in
+    ∙ left-apart s c.hold_refreshed.new.self set _ c.in_ok-reply.ensures.reply in
     let L : Holdings → Type 0 = λ h.
-    KeepsLog g.T.Station held s.end h (Some (ending (place_of c.args.log) c.in_ok-next.next.at)) c.args.station.now
+    KeepsLog g.T.Station s.held s.end h (Some (ending (place_of c.args.log) c.in_ok-next.next.at)) c.args.station.now
     c.append.new.station in
     subst L (sym left)
-    (append-keeps g.T.Station held (with_refreshed held n i (array_refreshed (version_of held n) i set)) s.end
-    (place_of c.args.log) c.in_ok-next.next.at (group_of body) c.args.station.now c.append.new.station c.requires.end
-    (array-step c.args.log.format held n i set body c.requires.judged read) c.in_ok-next.ensures.added
-    c.in_ok-next.ensures.end
+    (append-keeps g.T.Station s.held (refreshed_in s.held c.args.version c.args.input c.args.set.now) s.end
+    (place_of c.args.log) c.in_ok-next.next.at (group-of g here) c.args.station.now c.append.new.station
+    c.requires.end (is-added g here).step c.in_ok-next.ensures.added c.in_ok-next.ensures.end
     c.in_ok-next.ensures.synced)
 
 pub returns-clause-stops : goal.returns-clause-stops
-returns-clause-stops g c =
-    let held = c.args.self.now.held in
-    let n = c.args.version in
-    let i = c.args.input in
-    let set = c.args.set.now in
-    let body = c.deref-2.result.now in
-    let read = reads-as held n i set body c.in_ok-line.line.items _ c.deref-2.ensures.value
-    (c.deref.ensures ∙ c.in_ok-made.ensures.made.array_is) c.in_ok-line.ensures in
-    append-stops g.T.Station held (with_refreshed held n i (array_refreshed (version_of held n) i set))
-    c.args.self.now.end (place_of c.args.log) (group_of body) c.args.station.now c.append.new.station c.requires.end
-    (array-step c.args.log.format held n i set body c.requires.judged read) c.append.ensures.stops
+returns-clause-stops g c = (is-added g (goal.at.returns-clause-stops g c).After-append).stops
 
 pub returns-clause-appends : goal.returns-clause-appends
 returns-clause-appends g c =
-    let held = c.args.self.now.held in
-    let n = c.args.version in
-    let i = c.args.input in
-    let set = c.args.set.now in
-    let body = c.deref-2.result.now in
-    let read = reads-as held n i set body c.in_ok-line.line.items _ c.deref-2.ensures.value
-    (c.deref.ensures ∙ c.in_ok-made.ensures.made.array_is) c.in_ok-line.ensures in
-    group-added g.T.Station (λ format. IsArrayGroup held n i set) c.args.self.now.end (place_of c.args.log)
-    c.in_ok-next.next.at
-    (group_of body) c.args.station.now c.append.new.station c.requires.end (record { kind = refl; reads = read })
-    c.in_ok-next.ensures.added c.in_ok-next.ensures.end
+    let here = (goal.at.returns-clause-appends g c).After-append in
+    group-added g.T.Station
+    (λ format. IsArrayGroup c.args.self.now.held c.args.version c.args.input c.args.set.now) c.args.self.now.end
+    (place_of c.args.log) c.in_ok-next.next.at (group-of g here) c.args.station.now c.append.new.station c.requires.end
+    (is-added g here).group c.in_ok-next.ensures.added c.in_ok-next.ensures.end
 
 pub returns-clause-reply : goal.returns-clause-reply
 returns-clause-reply g c =

@@ -1,37 +1,37 @@
 -- The version is held, and its kinds are told; what is carried of it is merged.
-use Rattle.std.proofs.Common.{◌≡◌, [], ◌∷◌, sym, subst}
+use Rattle.std.proofs.Common.{◌≡◌, ℕ, [], ◌∷◌, false, subst}
 use Rattle.std.specs.Prelude.{None}
 use Rattle.std.specs.List.{AllZip}
 use Rattle.sz_script.specs.declared.command.Command.TheVariants as order
 use Rattle.sz_script.specs.declared.refusal.Refusal.TheVariants as refusal
+use Rattle.sz_catalogue.specs.Holdings.{Holdings}
 use Rattle.sz_catalogue.specs.Rules as rules
 use Rattle.sz_catalogue.specs.Rules.{judged, has_no_version}
 use Rattle.sz_versions.specs.Merging.{IsMergedIn}
 use Rattle.sz_versions.specs.Residents.{stored_in}
 use Rattle.sz_versions.proofs.Keeps.{rule-fails, not_false}
 use Rattle.sz_commands.specs.States.{SessionState}
-use Rattle.sz_commands.proofs.Seen.{seen-merged}
+use Rattle.sz_commands.proofs.Seen.{free-inside, seen-merged}
 use Rattle.sz_commands.proofs.session.Session.merged.Goals as goal
+
+-- what the rules say of the version: it is held, and its merge was asked
+may-tell : (c : Holdings) (n : ℕ) → judged c (order.Merged n) ≡ None
+    → (has_no_version c n ≡ false) × (rules.is_not_merged c n ≡ false)
+may-tell c n free =
+    let last = (rules.is_not_merged c n, refusal.NotMerged) ∷ [] in
+    let held = rule-fails (has_no_version c n) refusal.NoSuchVersion last free in
+    (held.0, (rule-fails (rules.is_not_merged c n) refusal.NotMerged [] held.1).0)
 
 pub merged-requires-clause-held : goal.merged-requires-clause-held
 merged-requires-clause-held g c =
-    let cat = c.self.inside.catalogue in
-    let n = c.args.version in
-    let J : SessionState → Type 0 = λ s. judged s.held (order.Merged n) ≡ None in
-    let none = subst J (sym c.self.view_is) c.requires.judged in
-    let last = (rules.is_not_merged cat n, refusal.NotMerged) ∷ [] in
-    (rule-fails (has_no_version cat n) refusal.NoSuchVersion last none).0
+    (may-tell c.self.inside.catalogue c.args.version
+    (free-inside (order.Merged c.args.version) c.self.view_is c.requires.judged)).0
 
 pub merged-requires-clause-awaited : goal.merged-requires-clause-awaited
 merged-requires-clause-awaited g c =
-    let cat = c.self.inside.catalogue in
-    let n = c.args.version in
-    let J : SessionState → Type 0 = λ s. judged s.held (order.Merged n) ≡ None in
-    let none = subst J (sym c.self.view_is) c.requires.judged in
-    let last = (rules.is_not_merged cat n, refusal.NotMerged) ∷ [] in
-    let held = rule-fails (has_no_version cat n) refusal.NoSuchVersion last none in
-    let asked = rule-fails (rules.is_not_merged cat n) refusal.NotMerged [] held.1 in
-    (c.self.invariant.asked n (not_false _ asked.0)).awaited
+    let may = may-tell c.self.inside.catalogue c.args.version
+    (free-inside (order.Merged c.args.version) c.self.view_is c.requires.judged) in
+    (c.self.invariant.asked c.args.version (not_false _ may.1)).awaited
 
 pub returns-clause-reply : goal.returns-clause-reply
 returns-clause-reply g c =

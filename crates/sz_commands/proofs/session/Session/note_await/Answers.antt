@@ -6,14 +6,14 @@ use Rattle.sz_script.specs.declared.command.Command.TheVariants as order
 use Rattle.sz_catalogue.specs.Holdings.{Holdings}
 use Rattle.sz_catalogue.specs.Changes.{with_await}
 use Rattle.sz_catalogue.specs.Responses.{Response}
-use Rattle.sz_catalogue.specs.Rules.{judged, version_of}
+use Rattle.sz_catalogue.specs.Rules.{version_of}
 use Rattle.sz_versions.specs.Stores.{IsTrailOf}
 use Rattle.sz_versions.specs.Residents.{Resident, IsInService, stored_in}
 use Rattle.sz_versions.proofs.Residents.{residents-few, service-awaited}
 use Rattle.sz_commands.specs.States.{SessionState}
 use Rattle.sz_commands.specs.Carrying.{IsFinishedIn}
 use Rattle.sz_commands.proofs.Carrying.{all-finished, stored-finished}
-use Rattle.sz_commands.proofs.Seen.{seen-awaited, is-held}
+use Rattle.sz_commands.proofs.Seen.{seen-awaited, free-inside, is-held}
 use Rattle.sz_commands.proofs.session.Session.note_await.Goals as goal
 
 pub replace-requires : goal.replace-requires
@@ -22,16 +22,14 @@ replace-requires c =
 
 pub await_version-requires : goal.await_version-requires
 await_version-requires c =
-    let J : SessionState → Type 0 = λ s. judged s.held (order.Await c.args.version) ≡ None in
-    record { judged = subst J (sym c.self.view_is) c.requires.judged }
+    record { judged = free-inside (order.Await c.args.version) c.self.view_is c.requires.judged }
 
 pub invariant_of-self : goal.invariant_of-self
 invariant_of-self c =
     let cat = c.self.inside.catalogue in
     let rs = c.self.inside.runs in
     let n = c.args.version in
-    let none = subst (λ (s : SessionState). judged s.held (order.Await n) ≡ None)
-    (sym c.self.view_is) c.requires.judged in
+    let held = is-held cat n (free-inside (order.Await n) c.self.view_is c.requires.judged) in
     let own =
     subst (λ (s : SessionState). IsTrailOf (record (version_of s.held n) { awaited = true }) c.args.run)
     (sym c.self.view_is)
@@ -39,7 +37,7 @@ invariant_of-self c =
     subst (λ (h : Holdings). IsInService h c.replace.new.self)
     (sym (ap (λ (p : Holdings × Response). p.0) c.await_version.ensures))
     (subst (λ (xs : List Resident). IsInService (with_await cat n) xs) (sym c.replace.ensures)
-    (service-awaited cat rs n c.args.run c.self.invariant (is-held cat n none) own))
+    (service-awaited cat rs n c.args.run c.self.invariant held own))
 
 pub returns-clause-reply : goal.returns-clause-reply
 returns-clause-reply c =

@@ -1,9 +1,10 @@
 -- An ask that waits tells its reply once it is said, behind those before it.
-use Rattle.std.proofs.Common.{[], ◌∷◌, refl}
+use Rattle.std.proofs.Common.{[], ◌∷◌}
 use Rattle.std.proofs.lemmas.Result.{err_from_is_err_and}
 use Rattle.sz_feed.specs.Moments.{told_in}
 use Rattle.sz_commands.specs.Asks.{asks_text}
-use Rattle.sz_feed.proofs.Disks.{stays-still, only-longer}
+use Rattle.sz_feed.proofs.Calls.{said-none, said-halted}
+use Rattle.sz_feed.proofs.Disks.{only-longer}
 use Rattle.sz_feed.proofs.Waiting.{lags-wait, says-waited}
 use Rattle.sz_feed.proofs.feed.Feed.take_ask.Goals as goal
 
@@ -11,11 +12,7 @@ pub returns-in_err-wait-clause-said : goal.returns-in_err-wait-clause-said
 returns-in_err-wait-clause-said g c =
     let a = c.args.station.now in
     let p = err_from_is_err_and c.from_residual.result c.from_residual.ensures.1 in
-    rw (p.1, p.2) (record {
-      counted = (refl, refl);
-      plain = λ is. cc;
-      found = stays-still g.T.Station _ a (g.met.T.Station.only_now a) (g.met.T.Station.counts_now a);
-    })
+    rw (p.1, p.2) (said-halted g.T.Station _ a (g.met.T.Station.only_now a) (g.met.T.Station.counts_now a))
 
 pub returns-then-not-is_full-clause-lags : goal.returns-then-not-is_full-clause-lags
 returns-then-not-is_full-clause-lags g c =
@@ -27,11 +24,7 @@ returns-then-not-is_full-clause-lags g c =
 pub returns-then-not-is_full-clause-said : goal.returns-then-not-is_full-clause-said
 returns-then-not-is_full-clause-said g c =
     let a = c.args.station.now in
-    record {
-      counted = (refl, refl);
-      plain = λ is. cc;
-      found = stays-still g.T.Station _ a (g.met.T.Station.only_now a) (g.met.T.Station.counts_now a);
-    }
+    said-none g.T.Station _ _ a (g.met.T.Station.only_now a) (g.met.T.Station.counts_now a)
 
 -- where those that wait could not be answered
 pub returns-in_err-say_waiting-clause-says : goal.returns-in_err-say_waiting-clause-says

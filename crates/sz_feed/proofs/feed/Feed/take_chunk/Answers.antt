@@ -8,7 +8,7 @@ use Rattle.sz_feed.specs.Serving.{Advances}
 use Rattle.sz_feed.specs.Disks.{OnlySays}
 use Rattle.sz_feed.specs.Waiting.{Waits}
 use Rattle.sz_feed.specs.Running.{StaysBeside}
-use Rattle.sz_feed.specs.Calls.{SaysReplies, WritesOne}
+use Rattle.sz_feed.specs.Calls.{SaysReplies, FindsBehind, WritesOne}
 use Rattle.sz_feed.proofs.Turns.{take-line}
 use Rattle.sz_feed.proofs.Disks.{stays-still}
 use Rattle.sz_feed.proofs.Waiting.{waits-nothing, waits-more, waits-line, waits-said, first-taken, only-rest}
@@ -18,6 +18,8 @@ use Rattle.sz_feed.proofs.Beside.{in-still, in-front, in-rest, some-always, idle
 use Rattle.sz_feed.proofs.Calls.{went_on, counts-then, text-whole, behind-of, behind-only, behind-lines, behind-front}
 use Rattle.sz_feed.proofs.Calls.{behind-next, answered-counts, replies-memory, answered-memory}
 use Rattle.sz_feed.proofs.Writing.{writes-front, writes-next}
+use Rattle.sz_feed.proofs.feed.Feed.take_chunk.Given.{Over}
+use Rattle.sz_feed.proofs.feed.Feed.take_chunk.Goals.{After-take_line, After-say_waiting}
 use Rattle.sz_feed.proofs.feed.Feed.take_chunk.Goals as goal
 
 pub loop-at-init : goal.loop-at-init
@@ -46,46 +48,67 @@ loop-at-init g c =
       };
     }
 
-pub loop-at-preserved : goal.loop-at-preserved
-loop-at-preserved g c =
-    let found = c.in-Some.ensures in
+-- the bytes before the end of a line were taken in, behind asks that wait
+waited : (g : Over) (c : After-take_line g) → Waits (g.T.Station.said c.args.station.now)
+    (g.T.Station.said c.loop-at.station) c.args.self.now c.extend.new.self
+    (take c.loop-at.start c.args.chunk.now
+    ++ take (c.in-Some.at - c.loop-at.start) (drop c.loop-at.start c.args.chunk.now)) c.loop-at.waiting.items
+waited g c =
+    waits-more (g.T.Station.said c.args.station.now) (g.T.Station.said c.loop-at.station) c.args.self.now c.loop-at.self
+    c.extend.new.self (take c.loop-at.start c.args.chunk.now)
+    (take (c.in-Some.at - c.loop-at.start) (drop c.loop-at.start c.args.chunk.now)) c.loop-at.waiting.items
+    c.loop-at.invariant.waits c.in_ok-extend.ensures.takes c.extend.ensures.held
+
+-- and so much is found of that line and those before it, whether it was taken in or not
+found : (g : Over) (c : After-take_line g) → FindsBehind g.T.Station c.args.self.now.end [] c.args.self.now.held
+    c.args.self.now.number (cut_after c.args.self.now (take (c.in-Some.at + 1) c.args.chunk.now)).whole
+    c.args.station.now c.take_line.new.station
+found g c =
     let m = c.args.self.now in
     let l = c.loop-at.self in
     let k = c.extend.new.self in
+    let a = c.args.station.now in
+    let b = c.loop-at.station in
+    let place = c.in-Some.ensures in
+    let so_far = c.loop-at.invariant in
+    behind-next g.T.Station m k c.args.chunk.now c.loop-at.start c.in-Some.at c.loop-at.waiting.items a b
+    c.take_line.new.station place.0 place.1 place.2 so_far.answered.found (waited g c)
+    (idle-moved l.end k.end _ c.extend.ensures.end so_far.waiting.idle)
+    (stays-to g.T.Station m l k a b c.extend.ensures.held c.extend.ensures.end so_far.answered.log)
+    c.take_line.ensures.answered.found
+
+pub loop-at-preserved : goal.loop-at-preserved
+loop-at-preserved g c =
+    let place = c.in-Some.ensures in
+    let m = c.args.self.now in
     let n = c.take_line.new.self in
     let a = c.args.station.now in
     let b = c.loop-at.station in
     let x = c.take_line.new.station in
-    let xs = c.args.chunk.now in
     let so_far = c.loop-at.invariant in
     let line = c.in_ok-take_line.ensures in
-    let waited = waits-more (g.T.Station.said a) (g.T.Station.said b) m l k (take c.loop-at.start xs)
-    (take (c.in-Some.at - c.loop-at.start) (drop c.loop-at.start xs)) c.loop-at.waiting.items so_far.waits
-    c.in_ok-extend.ensures.takes c.extend.ensures.held in
-    let next = waits-line (g.T.Station.said a) (g.T.Station.said b) (g.T.Station.said x) m k n _ c.loop-at.waiting.items
-    c.take_line.new.waiting.items waited line.lags line.says in
+    let here = (goal.at.loop-at-preserved g c).After-take_line in
+    let next = waits-line (g.T.Station.said a) (g.T.Station.said b) (g.T.Station.said x) m c.extend.new.self n _
+    c.loop-at.waiting.items c.take_line.new.waiting.items (waited g here) line.lags line.says in
     let Q : List ℕ → Type 0 =
     λ bytes. Waits (g.T.Station.said a) (g.T.Station.said x) m n bytes c.take_line.new.waiting.items in
     let grown = c.in_ok-extend.ensures.number in
     let goes : StaysBeside g.T.Station m n a x =
-    stays-then g.T.Station m l n a b x so_far.answered.log
-    (stays-from g.T.Station l k n b x c.extend.ensures.held c.extend.ensures.end line.answered.log) in
+    stays-then g.T.Station m c.loop-at.self n a b x so_far.answered.log
+    (stays-from g.T.Station c.loop-at.self c.extend.new.self n b x c.extend.ensures.held c.extend.ensures.end
+    line.answered.log) in
     record {
-      within = omega (arith, found.1);
-      waits = subst Q (take-line xs c.loop-at.start c.in-Some.at found.0 found.1 found.2) next;
+      within = omega (arith, place.1);
+      waits = subst Q (take-line c.args.chunk.now c.loop-at.start c.in-Some.at place.0 place.1 place.2) next;
       waiting = line.waiting;
-      number = omega (arith, found.0, grown, line.next, so_far.number);
+      number = omega (arith, place.0, grown, line.next, so_far.number);
       log = is-again g.T.Station m n a x c.requires.log goes;
       answered = record {
         counted = counts-then g.T.Station went_on a b x so_far.answered.counted line.answered.counted;
         plain = λ e is. cc;
         written = λ is. cc;
         log = goes;
-        found = behind-next g.T.Station m k xs c.loop-at.start c.in-Some.at c.loop-at.waiting.items a b x found.0
-            found.1 found.2 so_far.answered.found waited
-            (idle-moved l.end k.end _ c.extend.ensures.end so_far.waiting.idle)
-            (stays-to g.T.Station m l k a b c.extend.ensures.held c.extend.ensures.end so_far.answered.log)
-            line.answered.found;
+        found = found g here;
       };
     }
 
@@ -127,88 +150,79 @@ returns-in_err-extend-2-clause-answered g c =
 -- where a line could not be taken in, so many of those that ended with it were answered
 pub returns-in_err-take_line-clause-says : goal.returns-in_err-take_line-clause-says
 returns-in_err-take_line-clause-says g c =
-    let found = c.in-Some.ensures in
+    let place = c.in-Some.ensures in
     let m = c.args.self.now in
-    let k = c.extend.new.self in
     let xs = c.args.chunk.now in
     let s = g.T.Station.said c.args.station.now in
-    let t = g.T.Station.said c.loop-at.station in
     let u = g.T.Station.said c.take_line.new.station in
-    let waited = waits-more s t m c.loop-at.self k (take c.loop-at.start xs)
-    (take (c.in-Some.at - c.loop-at.start) (drop c.loop-at.start xs)) c.loop-at.waiting.items
-    c.loop-at.invariant.waits c.in_ok-extend.ensures.takes c.extend.ensures.held in
-    let says = replies-line _ s t u m k _ c.loop-at.waiting.items waited c.in_err-take_line.ensures.says in
-    let whole = take-line xs c.loop-at.start c.in-Some.at found.0 found.1 found.2 in
+    let says = replies-line _ s (g.T.Station.said c.loop-at.station) u m c.extend.new.self _ c.loop-at.waiting.items
+    (waited g (goal.at.returns-in_err-take_line-clause-says g c).After-take_line) c.in_err-take_line.ensures.says in
+    let whole = take-line xs c.loop-at.start c.in-Some.at place.0 place.1 place.2 in
     let p = err_from_is_err_and c.from_residual-in_err-take_line.result c.from_residual-in_err-take_line.ensures.1 in
     rw (p.1, p.2) (replies-front _ s u m xs (c.in-Some.at + 1) (rw (← whole) says))
 
 pub returns-in_err-take_line-clause-answered : goal.returns-in_err-take_line-clause-answered
 returns-in_err-take_line-clause-answered g c =
-    let found = c.in-Some.ensures in
+    let place = c.in-Some.ensures in
     let m = c.args.self.now in
-    let l = c.loop-at.self in
-    let k = c.extend.new.self in
     let a = c.args.station.now in
     let b = c.loop-at.station in
-    let x = c.take_line.new.station in
-    let xs = c.args.chunk.now in
-    let so_far = c.loop-at.invariant in
+    let so_far = c.loop-at.invariant.answered in
     let line = c.in_err-take_line.ensures.answered in
-    let waited = waits-more (g.T.Station.said a) (g.T.Station.said b) m l k (take c.loop-at.start xs)
-    (take (c.in-Some.at - c.loop-at.start) (drop c.loop-at.start xs)) c.loop-at.waiting.items so_far.waits
-    c.in_ok-extend.ensures.takes c.extend.ensures.held in
+    let here = (goal.at.returns-in_err-take_line-clause-answered g c).After-take_line in
     let W : List ℕ → Type 0 = λ bytes. WritesOne m.held (cut_after m bytes).whole in
     let p = err_from_is_err_and c.from_residual-in_err-take_line.result c.from_residual-in_err-take_line.ensures.1 in
     rw (p.1, p.2) (record {
-      counted = answered-counts g.T.Station a b x so_far.answered.counted line;
-      plain = λ e. line.plain (c.extend.ensures.end ∙ none-stays g.T.Station m l a b so_far.answered.log e);
-      written = λ is. writes-front m xs (c.in-Some.at + 1)
-          (subst W (take-line xs c.loop-at.start c.in-Some.at found.0 found.1 found.2)
-          (writes-next m k _ c.loop-at.waiting.items (g.T.Station.said a) (g.T.Station.said b) waited
-          (line.written is)));
+      counted = answered-counts g.T.Station a b c.take_line.new.station so_far.counted line;
+      plain = λ e. line.plain (c.extend.ensures.end ∙ none-stays g.T.Station m c.loop-at.self a b so_far.log e);
+      written = λ is. writes-front m c.args.chunk.now (c.in-Some.at + 1)
+          (subst W (take-line c.args.chunk.now c.loop-at.start c.in-Some.at place.0 place.1 place.2)
+          (writes-next m c.extend.new.self _ c.loop-at.waiting.items (g.T.Station.said a) (g.T.Station.said b)
+          (waited g here) (line.written is)));
       log = tt;
-      found = behind-front g.T.Station m xs (c.in-Some.at + 1) a x
-          (behind-next g.T.Station m k xs c.loop-at.start c.in-Some.at c.loop-at.waiting.items a b x found.0 found.1
-          found.2 so_far.answered.found waited
-          (idle-moved l.end k.end _ c.extend.ensures.end so_far.waiting.idle)
-          (stays-to g.T.Station m l k a b c.extend.ensures.held c.extend.ensures.end so_far.answered.log)
-          line.found);
+      found = behind-front g.T.Station m c.args.chunk.now (c.in-Some.at + 1) a c.take_line.new.station (found g here);
     })
 
--- what is left of the chunk is of the line that has not ended, and what waits is said
+-- what is left of the chunk was taken in behind the lines that ended
+whole : (xs : List ℕ) (start : ℕ) → take start xs ++ take (length xs - start) (drop start xs) ≡ xs
+whole xs start =
+    ap (λ (ys : List ℕ). take start xs ++ ys) (take_rest xs start) ∙ take-append-drop start xs
+
+rest : (g : Over) (c : After-say_waiting g) → Waits (g.T.Station.said c.args.station.now)
+    (g.T.Station.said c.loop-at.station) c.args.self.now c.extend-2.new.self
+    (take c.loop-at.start c.args.chunk.now
+    ++ take (length c.args.chunk.now - c.loop-at.start) (drop c.loop-at.start c.args.chunk.now)) c.loop-at.waiting.items
+rest g c =
+    waits-more (g.T.Station.said c.args.station.now) (g.T.Station.said c.loop-at.station) c.args.self.now c.loop-at.self
+    c.extend-2.new.self (take c.loop-at.start c.args.chunk.now) _ c.loop-at.waiting.items c.loop-at.invariant.waits
+    c.in_ok-extend-2.ensures.takes c.extend-2.ensures.held
+
+-- it is of the line that has not ended, and what waits is said
 pub returns-clause-chunk : goal.returns-clause-chunk
 returns-clause-chunk g c =
     let xs = c.args.chunk.now in
     let s = g.T.Station.said c.args.station.now in
     let t = g.T.Station.said c.loop-at.station in
     let u = g.T.Station.said c.say_waiting.new.station in
-    let whole = ap (λ (ys : List ℕ). take c.loop-at.start xs ++ ys) (take_rest xs c.loop-at.start)
-    ∙ take-append-drop c.loop-at.start xs in
-    let waited = waits-more s t c.args.self.now c.loop-at.self c.extend-2.new.self (take c.loop-at.start xs) _
-    c.loop-at.waiting.items c.loop-at.invariant.waits c.in_ok-extend-2.ensures.takes c.extend-2.ensures.held in
+    let waits = rest g (goal.at.returns-clause-chunk g c).After-say_waiting in
     let Q : List ℕ → Type 0 = λ bytes. Advances s u c.args.self.now c.extend-2.new.self bytes in
     let M : Moment → Type 0 = λ m. Advances s u c.args.self.now m xs in
     on_ok_weaker c.say_waiting.result
     (λ says. subst M (sym c.say_waiting.ensures.same)
-    (subst Q whole (waits-said s t u c.args.self.now c.extend-2.new.self _ c.loop-at.waiting.items waited says)))
+    (subst Q (whole xs c.loop-at.start)
+    (waits-said s t u c.args.self.now c.extend-2.new.self _ c.loop-at.waiting.items waits says)))
     (text-whole c.say_waiting.result t u _ c.say_waiting.ensures.says)
 
 pub returns-clause-says : goal.returns-clause-says
 returns-clause-says g c =
-    let xs = c.args.chunk.now in
     let m = c.args.self.now in
     let s = g.T.Station.said c.args.station.now in
-    let t = g.T.Station.said c.loop-at.station in
     let u = g.T.Station.said c.say_waiting.new.station in
-    let whole = ap (λ (ys : List ℕ). take c.loop-at.start xs ++ ys) (take_rest xs c.loop-at.start)
-    ∙ take-append-drop c.loop-at.start xs in
-    let waited = waits-more s t m c.loop-at.self c.extend-2.new.self (take c.loop-at.start xs) _
-    c.loop-at.waiting.items c.loop-at.invariant.waits c.in_ok-extend-2.ensures.takes c.extend-2.ensures.held in
     let Q : List ℕ → Type 0 =
     λ bytes. SaysReplies c.say_waiting.result s u m.held m.number (cut_after m bytes).whole in
-    subst Q whole
-    (replies-rest c.say_waiting.result s t u m c.extend-2.new.self _ c.loop-at.waiting.items waited
-    c.say_waiting.ensures.says)
+    subst Q (whole c.args.chunk.now c.loop-at.start)
+    (replies-rest c.say_waiting.result s (g.T.Station.said c.loop-at.station) u m c.extend-2.new.self _
+    c.loop-at.waiting.items (rest g (goal.at.returns-clause-says g c).After-say_waiting) c.say_waiting.ensures.says)
 
 pub returns-clause-answered : goal.returns-clause-answered
 returns-clause-answered g c =
@@ -224,10 +238,7 @@ returns-clause-answered g c =
     let idle = c.loop-at.invariant.waiting.idle in
     let so_far = c.loop-at.invariant.answered in
     let front = (cut_after m (take c.loop-at.start xs)).whole in
-    let whole = ap (λ (ys : List ℕ). take c.loop-at.start xs ++ ys) (take_rest xs c.loop-at.start)
-    ∙ take-append-drop c.loop-at.start xs in
-    let waited = waits-more (g.T.Station.said a) (g.T.Station.said b) m l k (take c.loop-at.start xs) _
-    c.loop-at.waiting.items c.loop-at.invariant.waits c.in_ok-extend-2.ensures.takes c.extend-2.ensures.held in
+    let waits = rest g (goal.at.returns-clause-answered g c).After-say_waiting in
     let O : List ℕ → Type 0 = λ bytes. OnlySays g.T.Station (told_in m bytes) a x in
     let S : Moment → Type 0 = λ n. StaysBeside g.T.Station m n a x in
     let goes = subst S (sym c.say_waiting.ensures.same)
@@ -239,9 +250,9 @@ returns-clause-answered g c =
       written = λ is. absurd (c.say_waiting.ensures.said.plain is);
       log = on_ok_weaker r (λ none. goes) c.say_waiting.ensures.none;
       found = behind-of g.T.Station m.end [] m.held m.number (cut_after m xs).whole a x
-          (λ e. subst O whole
+          (λ e. subst O (whole xs c.loop-at.start)
           (only-rest g.T.Station a b x m k (take c.loop-at.start xs) _ c.loop-at.waiting.items
-          (behind-only g.T.Station m.end [] m.held m.number front a b so_far.found e) waited
+          (behind-only g.T.Station m.end [] m.held m.number front a b so_far.found e) waits
           c.say_waiting.ensures.said.found))
           (in-rest g.T.Station m l Idle xs a b x
           (in-front g.T.Station m xs c.loop-at.start a b

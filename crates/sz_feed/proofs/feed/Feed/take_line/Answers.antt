@@ -1,16 +1,16 @@
 -- A line that does not wait is told once those that wait before it are.
-use Rattle.std.proofs.Common.{◌≡◌, [], ◌∷◌, refl, ap, subst, length, None, arith}
+use Rattle.std.proofs.Common.{◌≡◌, [], ◌∷◌, ap, subst, length, None, arith}
 use Rattle.std.proofs.lemmas.Result.{err_from_is_err_and, on_ok_weaker}
 use Rattle.sz_feed.specs.Moments.{Moment, cut_after, told_in}
 use Rattle.sz_commands.specs.Asks.{asks_text}
 use Rattle.sz_feed.specs.Disks.{OnlySays}
 use Rattle.sz_feed.specs.Waiting.{SaysBy}
-use Rattle.sz_feed.proofs.Disks.{stays-still, only-longer}
+use Rattle.sz_feed.proofs.Disks.{only-longer}
 use Rattle.sz_feed.proofs.Waiting.{says-waited, says-line, only-both}
 use Rattle.sz_feed.specs.Running.{StaysBeside, FindsIn}
 use Rattle.sz_feed.specs.Calls.{WritesOne}
 use Rattle.sz_feed.proofs.Beside.{in-still, in-idle, is-idle, stays-idle, some-always}
-use Rattle.sz_feed.proofs.Calls.{counts-then, behind-of, behind-only, behind-lines}
+use Rattle.sz_feed.proofs.Calls.{counts-then, behind-of, behind-only, behind-lines, answered-halted}
 use Rattle.std.specs.Prelude.{Err}
 use Rattle.sz_feed.specs.declared.feed.Halt.TheVariants as halt
 use Rattle.sz_feed.proofs.feed.Feed.take_line.Goals as goal
@@ -19,18 +19,10 @@ pub returns-in_err-given-clause-answered : goal.returns-in_err-given-clause-answ
 returns-in_err-given-clause-answered g c =
     let m = c.args.self.now in
     let a = c.args.station.now in
-    let asks = asks_text m.held c.args.waiting.now.items in
     let p = err_from_is_err_and c.from_residual.result c.from_residual.ensures.1 in
-    rw (p.1, p.2) (record {
-      counted = (refl, refl);
-      plain = λ e is. cc;
-      written = λ is. cc;
-      log = tt;
-      found = behind-of g.T.Station m.end asks m.held m.number (cut_after m (10 ∷ [])).whole a a
-          (λ e. stays-still g.T.Station _ a (g.met.T.Station.only_now a) (g.met.T.Station.counts_now a))
-          (in-still g.T.Station m (10 ∷ []) a c.requires.log (g.met.T.Station.only_now a)
-          (g.met.T.Station.counts_now a));
-    })
+    rw (p.1, p.2)
+    (answered-halted g.T.Station m _ (asks_text m.held c.args.waiting.now.items) (10 ∷ []) a c.requires.log
+    (g.met.T.Station.only_now a) (g.met.T.Station.counts_now a))
 
 -- where those that wait could not be answered
 pub returns-in_err-say_waiting-in_default-clause-says : goal.returns-in_err-say_waiting-in_default-clause-says

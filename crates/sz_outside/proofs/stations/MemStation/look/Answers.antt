@@ -10,7 +10,8 @@ looked : (c : After-end_disk_call) → Went c.args.self.now c.end_disk_call.new.
     c.next_disk_call-is_done.result (is_ok c.note_look-kept.result)
 looked c = went c.note_look-kept.result _ _ _ _ _ _ _
     (ap (λ (s : Ledger). s.past) (c.self.view_is ∙ c.next_disk_call-is_done.ensures.counted))
-    (ap (λ (s : Ledger). s.past) c.end_disk_call.ensures.counted) c.note_look-kept.ensures.ok c.note_look-kept.ensures.err
+    (ap (λ (s : Ledger). s.past) c.end_disk_call.ensures.counted) c.note_look-kept.ensures.ok
+    c.note_look-kept.ensures.err
 
 pub returns-clause-disk : goal.returns-clause-disk
 returns-clause-disk c = disk (looked (goal.at.returns-clause-disk c).After-end_disk_call) tt

@@ -11,7 +11,8 @@ synced : (c : After-end_disk_call) → Went c.args.self.now c.end_disk_call.new.
     c.next_disk_call-is_done.result (is_ok c.note_sync-kept.result)
 synced c = went c.note_sync-kept.result _ _ _ _ _ _ _
     (ap (λ (s : Ledger). s.past) (c.self.view_is ∙ c.next_disk_call-is_done.ensures.counted))
-    (ap (λ (s : Ledger). s.past) c.end_disk_call.ensures.counted) c.note_sync-kept.ensures.ok c.note_sync-kept.ensures.err
+    (ap (λ (s : Ledger). s.past) c.end_disk_call.ensures.counted) c.note_sync-kept.ensures.ok
+    c.note_sync-kept.ensures.err
 
 pub returns-clause-disk : goal.returns-clause-disk
 returns-clause-disk c = disk (synced (goal.at.returns-clause-disk c).After-end_disk_call) tt

@@ -11,7 +11,8 @@ put : (c : After-end_disk_call) → Went c.args.self.now c.end_disk_call.new.sel
     c.next_write-is_done.result (is_ok c.note_write-kept.result)
 put c = went c.note_write-kept.result _ _ _ _ _ _ _
     (ap (λ (s : Ledger). s.past) (c.self.view_is ∙ c.next_write-is_done.ensures.counted))
-    (ap (λ (s : Ledger). s.past) c.end_disk_call.ensures.counted) c.note_write-kept.ensures.ok c.note_write-kept.ensures.err
+    (ap (λ (s : Ledger). s.past) c.end_disk_call.ensures.counted) c.note_write-kept.ensures.ok
+    c.note_write-kept.ensures.err
 
 pub returns-clause-output : goal.returns-clause-output
 returns-clause-output c = (

@@ -1,24 +1,20 @@
 -- What is carried of the version can be handed, and nothing is seen of it.
-use Rattle.std.proofs.Common.{◌≡◌, sym, ap, ◌∙◌, subst}
+use Rattle.std.proofs.Common.{sym, ap, ◌∙◌, subst}
 use Rattle.sz_catalogue.specs.Holdings.{Version}
 use Rattle.sz_versions.specs.Lending.{IsTrailStill}
-use Rattle.sz_versions.specs.Residents.{Resident, IsTrailBy}
 use Rattle.sz_versions.specs.Stores.{Trail}
 use Rattle.sz_versions.proofs.MergedNodes.{by-mergeable, mergeable-before}
-use Rattle.sz_versions.proofs.Service.{still-made}
+use Rattle.sz_versions.proofs.Service.{inside-own, still-made}
 use Rattle.sz_versions.proofs.Still.{trail-same}
 use Rattle.sz_versions.proofs.held.HeldRun.hand_merges.Goals as goal
 
 pub hand_run-requires : goal.hand_run-requires
 hand_run-requires g c =
     let v = c.args.version.now in
-    let b = c.self.inside.logged in
-    let t = c.self.inside.run in
-    let own = subst (λ (r : Resident). IsTrailBy r.logged v r.trail) (sym c.self.view_is) c.requires.own in
-    let lists : c.as_slice-lists.result.now ≡ v.lists =
-    c.as_slice-lists.ensures ∙ ap (λ (x : Version). x.lists) c.version.view_is in
-    mergeable-before v.awaited t.executions c.as_slice-lists.result.now t.kept
-    (by-mergeable b v t c.as_slice-lists.result.now c.requires.sound lists own)
+    mergeable-before v.awaited _ _ _
+    (by-mergeable c.self.inside.logged v c.self.inside.run c.as_slice-lists.result.now c.requires.sound
+    (c.as_slice-lists.ensures ∙ ap (λ (x : Version). x.lists) c.version.view_is)
+    (inside-own v c.self.view_is c.requires.own))
 
 pub returns : goal.returns
 returns g c =

@@ -1,24 +1,21 @@
 -- The trail is one for the version, so each step can be taken; and what is asked is asked by what it carries.
-use Rattle.std.proofs.Common.{sym, ap, ◌∙◌, subst}
+use Rattle.std.proofs.Common.{ap, ◌∙◌}
 use Rattle.std.proofs.lemmas.Result.{IfOk-weaker}
 use Rattle.sz_versions.specs.Along.{search_along}
-use Rattle.sz_versions.specs.Residents.{Resident, IsTrailBy}
+use Rattle.sz_versions.specs.Residents.{Resident}
 use Rattle.sz_versions.proofs.Along.{by-for, by-steps, by-search}
-use Rattle.sz_versions.proofs.Service.{still-made}
+use Rattle.sz_versions.proofs.Service.{inside-own, still-made}
 use Rattle.sz_versions.proofs.held.HeldRun.inquiry.Goals as goal
 
 pub inquiry_along-requires-clause-run : goal.inquiry_along-requires-clause-run
 inquiry_along-requires-clause-run c =
-    let own = subst (λ (r : Resident). IsTrailBy r.logged c.args.version.now r.trail) (sym c.self.view_is)
-    c.requires.own in
-    by-for c.self.inside.logged c.args.version.now c.self.inside.run own
+    by-for c.self.inside.logged c.args.version.now c.self.inside.run
+    (inside-own c.args.version.now c.self.view_is c.requires.own)
 
 pub inquiry_along-requires-clause-steps : goal.inquiry_along-requires-clause-steps
 inquiry_along-requires-clause-steps c =
-    let own = subst (λ (r : Resident). IsTrailBy r.logged c.args.version.now r.trail) (sym c.self.view_is)
-    c.requires.own in
     by-steps c.self.inside.logged c.args.version.now c.args.dir c.args.path.now c.self.inside.run c.requires.sound
-    c.requires.joined own
+    c.requires.joined (inside-own c.args.version.now c.self.view_is c.requires.own)
 
 pub returns-clause-search : goal.returns-clause-search
 returns-clause-search c =

@@ -1,15 +1,9 @@
 -- The one at the place that is found is the only one of the number; where none is found nothing is put in.
-use Rattle.std.proofs.Common.{◌≤◌, List, length, sym, ap, ◌∙◌, subst, arith}
+use Rattle.std.proofs.Common.{◌≤◌, List, sym, ap, ◌∙◌, subst}
 use Rattle.sz_versions.specs.Residents.{Resident, residents_under, replaced_in}
 use Rattle.sz_versions.proofs.Residents.{not-replaced}
-use Rattle.sz_versions.proofs.Service.{IsPlaceOf, place-there, replaced-set}
+use Rattle.sz_versions.proofs.Service.{IsPlaceOf, replaced-set}
 use Rattle.sz_versions.proofs.held.HeldRuns.replace.Goals as goal
-
-pub index_mut-requires : goal.index_mut-requires
-index_mut-requires c =
-    let there = place-there c.args.number c.args.self.now c.in-Some.at c.in-Some.ensures.some in
-    let same = ap (λ (ss : List Resident). length ss) c.self.view_is in
-    omega (arith, there, same, c.self.inside.runs.ok.0)
 
 pub returns-in-Some : goal.returns-in-Some
 returns-in-Some c =

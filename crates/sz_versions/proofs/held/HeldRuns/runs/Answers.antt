@@ -1,16 +1,10 @@
 -- The one at the place that is found has the executions of the version.
-use Rattle.std.proofs.Common.{List, length, map, sym, ap, subst, arith}
+use Rattle.std.proofs.Common.{List, map, sym, subst}
 use Rattle.sz_flow.specs.Executions.{execution_of}
 use Rattle.sz_versions.specs.Residents.{Resident, AreResidents}
 use Rattle.sz_versions.proofs.Residents.{none-under}
-use Rattle.sz_versions.proofs.Service.{IsPlaceOf, place-there, placed-runs}
+use Rattle.sz_versions.proofs.Service.{IsPlaceOf, placed-runs}
 use Rattle.sz_versions.proofs.held.HeldRuns.runs.Goals as goal
-
-pub index-requires : goal.index-requires
-index-requires c =
-    let there = place-there c.args.version c.args.self.now c.in-Some.at c.in-Some.ensures.some in
-    let same = ap (λ (ss : List Resident). length ss) c.self.view_is in
-    omega (arith, there, same, c.self.inside.runs.ok.0)
 
 pub returns-in-Some-clause-some : goal.returns-in-Some-clause-some
 returns-in-Some-clause-some c =

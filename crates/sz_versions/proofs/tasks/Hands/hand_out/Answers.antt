@@ -1,15 +1,13 @@
 -- What is kept of a node is lent once its tasks are handed out, and stays what is kept of the same execution.
-use Rattle.std.proofs.Common.{◌≡◌, ◌<◌, List, map, length, refl, sym, ap, ◌∙◌, arith, subst, Some, false}
+use Rattle.std.proofs.Common.{◌<◌, List, map, length, refl, sym, ap, ◌∙◌, arith, subst, false}
 use Rattle.std.specs.Arc.{arc_value}
 use Rattle.std.specs.List.{slice_get}
-use Rattle.std.specs.Option.{option_map}
 use Rattle.std.proofs.lemmas.List.{length-map}
-use Rattle.std.proofs.lemmas.Option.{slice_get-map, slice_get_read}
+use Rattle.std.proofs.lemmas.Option.{slice_get_read}
 use Rattle.sz_flow.specs.Executions.{Execution, execution_of}
-use Rattle.sz_versions.specs.Stores.{Keeping, Trail, IsKeptOf, keeping_of}
+use Rattle.sz_versions.specs.Stores.{Trail, keeping_of}
 use Rattle.sz_versions.specs.Lending.{lent, AreLent}
-use Rattle.sz_versions.proofs.Keeping.{kept-at, kept-length}
-use Rattle.sz_versions.proofs.Keeps.{some-same}
+use Rattle.sz_versions.proofs.Keeping.{read-at, kept-length, kept-read}
 use Rattle.sz_versions.proofs.Lending.{lent-same, lent-set, keeps-lent}
 use Rattle.sz_versions.proofs.tasks.Hands.hand_out.Goals as goal
 
@@ -61,38 +59,24 @@ hand_out_node-requires g c =
     let lists = c.args.lists.now in
     let runs = (arc_value c.loop-node.run-inside.runs).items in
     let stores = c.loop-node.run-inside.stores.items in
-    let long = kept-length false r.executions lists r.kept c.requires in
-    let own = keeps-lent false r.executions lists r.kept (map keeping_of stores) c.loop-node.invariant.stores
-    c.requires in
-    let many : length runs ≡ length r.executions =
-    sym (length-map runs execution_of) ∙ ap (λ (es : List Execution). length es) c.loop-node.invariant.runs in
-    let few : n < length runs =
-    omega (arith, c.loop-node-test.true, c.loop-node.invariant.end, long.1, many) in
-    let below : n < length lists = omega (arith, few, many, long.1) in
-    let within : n < length stores =
-    omega (
-      arith,
-      few,
-      many,
-      (kept-length false r.executions lists _ own).0,
-      length-map stores keeping_of,
-    ) in
     let run = c.index.result.now in
     let list = c.index-lists-node.result in
-    let store = c.index_mut.result.now in
+    let below : n < length lists = omega (arith, c.loop-node-test.true, c.loop-node.invariant.end) in
+    let few : n < length runs = omega (
+      arith,
+      below,
+      (kept-length false r.executions lists r.kept c.requires).1,
+      length-map runs execution_of,
+      ap (λ (es : List Execution). length es) c.loop-node.invariant.runs,
+    ) in
+    let own = keeps-lent false r.executions lists r.kept (map keeping_of stores) c.loop-node.invariant.stores
+    c.requires in
     let here = ap (λ (es : List Execution). slice_get es n) (sym c.loop-node.invariant.runs)
-    ∙ slice_get-map execution_of runs n
-    ∙ ap (option_map execution_of) (slice_get_read runs (length runs) n run refl few
-    (rw c.deref.ensures at c.index.ensures)) in
+    ∙ read-at execution_of runs n run few (rw c.deref.ensures at c.index.ensures) in
     let there = slice_get_read lists (length lists) n list refl below c.index-lists-node.is in
-    let kept = kept-at false r.executions lists (map keeping_of stores) n (execution_of run) list own here there in
-    let stored : slice_get (map keeping_of stores) n ≡ Some (keeping_of store) =
-    slice_get-map keeping_of stores n
-    ∙ ap (option_map keeping_of) (slice_get_read stores (length stores) n store refl within c.index_mut.ensures.value)
-    in
-    let same = some-same kept.0 (keeping_of store) (sym kept.1 ∙ stored) in
     rw c.as_slice-list.ensures
-    (subst (λ (k : Keeping). IsKeptOf false (execution_of run) list k) same kept.2)
+    (kept-read false r.executions lists stores n (execution_of run) list c.index_mut.result.now own here there
+    c.index_mut.ensures.value)
 
 pub loop-node-preserved : goal.loop-node-preserved
 loop-node-preserved g c = record {

@@ -3,7 +3,7 @@ use Rattle.std.proofs.Common.{Some}
 use Rattle.sz_commands.specs.States.{nothing_held}
 use Rattle.sz_commands.specs.Transcript.{transcript}
 use Rattle.sz_session.proofs.Loads.{whole-said, said-behind_nothing}
-use Rattle.sz_session.proofs.load.told_by.Goals as goal
+use Rattle.sz_session.proofs.gathering.told_by.Goals as goal
 
 pub returns : goal.returns
 returns g c =
