@@ -16,6 +16,7 @@ use Rattle.sz_region.specs.LawsStores.{AreRight}
 use Rattle.sz_payload.specs.Begins.{BeginsPayloads}
 use Rattle.sz_short.specs.ShortStores.{pay_word}
 use Rattle.sz_short.proofs.Respelling.{AreKnownBy, begins-long, long-begins}
+use Rattle.sz_short.proofs.RespellingPay.{word-parts, parts-word}
 use Rattle.sz_store.specs.Kept.{Holding, regions, entries, Keep, stored_in}
 use Rattle.sz_store.specs.Words.{Begins, BeginEach}
 use Rattle.sz_formats.specs.Formats.{spelling}
@@ -147,20 +148,10 @@ payloads-before : (s : Site) (bytes : List ℕ) (at next : ℕ) (es : List Entry
 payloads-before s bytes at next es begins = record {
   payloads = begins.payloads;
   sets = begins.sets;
+  lawful = begins.lawful;
   word = pay_word set_bytes begins.payloads begins.sets begins.names;
   rest = begins.rest;
-  is_word = record {
-    short = begins.are.short;
-    few_payloads = begins.are.few_payloads;
-    each = begins.are.each;
-    few_sets = begins.are.few_sets;
-    few = begins.are.few;
-    apart = begins.are.apart;
-    names = begins.names;
-    named = begins.are.named;
-    spelled = refl;
-  };
-  lawful = begins.lawful;
+  is_word = parts-word s.out begins.payloads begins.sets es (begins.names, begins.are);
   spelled = begins.spelled;
   ends = begins.ends;
 }
@@ -171,17 +162,9 @@ payloads-after s bytes at next es begins = record {
   payloads = begins.payloads;
   sets = begins.sets;
   names = begins.is_word.names;
-  rest = begins.rest;
-  are = record {
-    short = begins.is_word.short;
-    few_payloads = begins.is_word.few_payloads;
-    each = begins.is_word.each;
-    few_sets = begins.is_word.few_sets;
-    few = begins.is_word.few;
-    apart = begins.is_word.apart;
-    named = begins.is_word.named;
-  };
+  are = word-parts s.out begins.payloads begins.sets es (begins.word, begins.is_word);
   lawful = begins.lawful;
+  rest = begins.rest;
   spelled = begins.spelled ∙ ap (λ (w : List ℕ). w ++ begins.rest) begins.is_word.spelled;
   ends = begins.ends;
 }

@@ -7,7 +7,8 @@
 //!
 //! - [`FullMany::new`] makes a store without a region pair.
 //! - [`FullMany::reserve_piece`] takes the memory for the region pairs of a lineage.
-//! - [`FullMany::add_piece`] adds them, and takes none.
+//! - [`FullMany::add_piece`] adds them, and takes none; [`FullMany::add_piece_as`] does so sooner
+//!   where sets are one or apart.
 //! - [`FullMany::image`] adds the image of a set of cells, backward or forward.
 //! - [`FullMany::checklist`] tells whether region pairs are those of the store.
 //! - [`FullMany::put_bytes`] writes its region pairs, and [`FullMany::take_bytes`] reads them
@@ -26,7 +27,7 @@
 #![tactic(auto)]
 
 ghost use Rattle.std.specs.Prelude.{◌≡◌, ℕ, ◌<◌, ◌≤◌, ◌+◌, List, [], ◌∷◌, ◌++◌, length, map};
-ghost use Rattle.std.specs.Prelude.{All, OnOk, OnErr, IfOk, IfErr};
+ghost use Rattle.std.specs.Prelude.{All, OnOk, OnErr, IfOk, IfErr, true};
 ghost use Rattle.std.specs.Arc.{arc_value};
 ghost use Rattle.sz_cells.specs.Cells.{has, with_those};
 ghost use Rattle.sz_spec.specs.Sides.{near_side, far_side, image_in};
@@ -35,6 +36,7 @@ ghost use Rattle.sz_region.specs.FullBytes.{Listed, IsFullWord, BeginsRegions};
 ghost use Rattle.sz_region.specs.Stores.{SaysNoRegions};
 ghost use Rattle.sz_tables.specs.Rows.{weight_of, pairings};
 ghost use Rattle.sz_tables.specs.Tables.{AreDifferent};
+ghost use Rattle.sz_tables.specs.Apart.{AreOneOrApart, HaveInputsApart};
 ghost use Rattle.sz_tables.specs.Stores.{IsPairOf, IsWithin, room_for_pairs, no_room, most_given};
 
 mod bounds;
@@ -154,29 +156,48 @@ impl FullMany {
         ensures site { self.new.site ≡ self.old.site }
         ensures capacities { self.new.capacities ≡ self.old.capacities }
     {
-        self.add_all(lineage.regions());
+        self.add_all(lineage.regions(), false);
+    }
+
+    /// As [`FullMany::add_piece`]. Where `apart`, the sets of each input that the store has then
+    /// are one or have no cell in common, any two of them.
+    ///
+    /// Of a set that the store has it looks then at some runs alone.
+    pub fn add_piece_as(&mut self, lineage: &PieceLineage, apart: bool)
+        requires few { length self.old.given + length lineage.now.regions ≤ most_given }
+        requires pairs { All (IsPairOf self.old.site) lineage.now.regions }
+        requires room { IsWithin (room_for_pairs lineage.now.regions) self.old.room }
+        requires apart { apart ≡ true → HaveInputsApart (self.old.given ++ lineage.now.regions) }
+        ensures given { self.new.given ≡ self.old.given ++ lineage.now.regions }
+        ensures site { self.new.site ≡ self.old.site }
+        ensures capacities { self.new.capacities ≡ self.old.capacities }
+    {
+        self.add_all(lineage.regions(), apart);
     }
 
     /// Adds these region pairs. Takes no memory.
-    fn add_all(&mut self, regions: &[Arc<Region>])
+    fn add_all(&mut self, regions: &[Arc<Region>], apart: bool)
         requires pairs { All (IsPairOf self.old.site) (map (λ a. arc_value a) regions.now) }
         requires room { IsWithin
             (room_for_pairs (map (λ a. arc_value a) regions.now)) self.old.room }
+        requires apart { apart ≡ true
+            → HaveInputsApart (self.old.given ++ map (λ a. arc_value a) regions.now) }
         ensures given { self.new.given
             ≡ self.old.given ++ map (λ a. arc_value a) regions.now }
         ensures site { self.new.site ≡ self.old.site }
         ensures capacities { self.new.capacities ≡ self.old.capacities }
     {
         for region in regions {
-            self.add(region);
+            self.add(region, apart);
         }
     }
 
     /// Adds a region pair. Takes no memory.
-    fn add(&mut self, region: &Region)
+    fn add(&mut self, region: &Region, apart: bool)
         requires pair { IsPairOf self.old.site region.now }
         requires items { 0 < self.old.room.items }
         requires runs { weight_of region.now ≤ self.old.room.runs }
+        requires apart { apart ≡ true → All (AreOneOrApart region.now) self.old.given }
         ensures given { self.new.given ≡ self.old.given ++ region.now ∷ [] }
         ensures site { self.new.site ≡ self.old.site }
         ensures items { self.old.room.items ≤ self.new.room.items + 1 }
@@ -184,7 +205,7 @@ impl FullMany {
         ensures capacities { self.new.capacities ≡ self.old.capacities }
     {
         add_bounds(&mut self.trees, self.dir, region);
-        self.table.add(region);
+        self.table.add_as(region, apart);
     }
 
     /// Adds the image of a set of cells: backward those that stand behind it, forward those that
@@ -206,6 +227,15 @@ impl FullMany {
         } else {
             self.table.scan(dir, input, from, to);
         }
+    }
+
+    /// The table of the region pairs, each different set once.
+    pub fn table(&self) -> &RegionTable
+        ensures pairings { pairings result.now ≡ self.now.given }
+        ensures out { result.now.out ≡ self.now.site.out }
+        ensures ins { result.now.ins ≡ self.now.site.ins }
+    {
+        &self.table
     }
 
     /// A checklist of the region pairs, of which none is ticked.

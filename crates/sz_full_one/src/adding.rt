@@ -1,19 +1,21 @@
 //! Adding region pairs to a table and to its index.
 
 ghost use Rattle.std.specs.Prelude.{◌≡◌, ℕ, ◌<◌, ◌≤◌, ◌+◌, [], ◌∷◌, ◌++◌, length, map, sum_by};
-ghost use Rattle.std.specs.Prelude.{All};
+ghost use Rattle.std.specs.Prelude.{All, true};
 ghost use Rattle.std.specs.Arc.{arc_value};
 ghost use Rattle.sz_tables.specs.Rows.{pairings, weight_of};
 ghost use Rattle.sz_full_one.specs.ByCells.{IsIndexOf, IsPairIn, HasRoom, pair_cells};
 ghost use Rattle.sz_full_one.specs.ByCells.{index_capacities};
+ghost use Rattle.sz_tables.specs.Apart.{AreOneOrApart, HaveInputsApart};
 
 use crate::index::Index;
 use std::sync::Arc;
 use sz_frame::Region;
 use sz_tables::RegionTable;
 
-/// Adds region pairs, in their order. Takes no memory.
-pub fn add_regions(table: &mut RegionTable, index: &mut Index, regions: &[Arc<Region>])
+/// Adds region pairs, in their order. Takes no memory. Where `apart`, their sets of each input and
+/// those of the table's are one or apart.
+pub fn add_regions(table: &mut RegionTable, index: &mut Index, regions: &[Arc<Region>], apart: bool)
     requires index { IsIndexOf table.old index.old }
     requires inputs { length table.old.ins ≤ 2 }
     requires pairs { All (IsPairIn table.old) (map (λ a. arc_value a) regions.now) }
@@ -22,6 +24,8 @@ pub fn add_regions(table: &mut RegionTable, index: &mut Index, regions: &[Arc<Re
         ≤ table.old.spare_runs }
     requires room { HasRoom (sum_by pair_cells (map (λ a. arc_value a) regions.now))
         (length regions.now) index.old }
+    requires apart { apart ≡ true
+        → HaveInputsApart (pairings table.old ++ map (λ a. arc_value a) regions.now) }
     ensures pairings { pairings table.new
         ≡ pairings table.old ++ map (λ a. arc_value a) regions.now }
     ensures index { IsIndexOf table.new index.new }
@@ -31,18 +35,19 @@ pub fn add_regions(table: &mut RegionTable, index: &mut Index, regions: &[Arc<Re
     ensures index_capacities { index_capacities index.new ≡ index_capacities index.old }
 {
     for region in regions {
-        add_region(table, index, region);
+        add_region(table, index, region, apart);
     }
 }
 
 /// Adds a region pair.
-fn add_region(table: &mut RegionTable, index: &mut Index, region: &Region)
+fn add_region(table: &mut RegionTable, index: &mut Index, region: &Region, apart: bool)
     requires index { IsIndexOf table.old index.old }
     requires inputs { length table.old.ins ≤ 2 }
     requires pair { IsPairIn table.old region.now }
     requires rows { 0 < table.old.spare_rows }
     requires runs { weight_of region.now ≤ table.old.spare_runs }
     requires room { HasRoom (pair_cells region.now) 1 index.old }
+    requires apart { apart ≡ true → All (AreOneOrApart region.now) (pairings table.old) }
     ensures pairings { pairings table.new ≡ pairings table.old ++ region.now ∷ [] }
     ensures index { IsIndexOf table.new index.new }
     ensures out { table.new.out ≡ table.old.out }
@@ -54,7 +59,7 @@ fn add_region(table: &mut RegionTable, index: &mut Index, region: &Region)
     ensures capacities { table.new.capacities ≡ table.old.capacities }
     ensures index_capacities { index_capacities index.new ≡ index_capacities index.old }
 {
-    table.add(region);
+    table.add_as(region, apart);
     table.len(); // each row names sets of the table
     index.file(table, region);
 }

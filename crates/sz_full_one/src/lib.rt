@@ -7,7 +7,8 @@
 //!
 //! - [`FullOne::new`] makes a store without a region pair.
 //! - [`FullOne::reserve_piece`] takes the memory for the region pairs of a lineage.
-//! - [`FullOne::add_piece`] adds them, and takes none.
+//! - [`FullOne::add_piece`] adds them, and takes none; [`FullOne::add_piece_as`] does so sooner
+//!   where sets are one or apart.
 //! - [`FullOne::image`] adds the image of a set of cells, backward or forward.
 //!
 //! ```
@@ -23,7 +24,7 @@
 #![tactic(auto)]
 
 ghost use Rattle.std.specs.Prelude.{◌≡◌, ◌<◌, ◌≤◌, ◌+◌, [], ◌∷◌, ◌++◌, length, All};
-ghost use Rattle.std.specs.Prelude.{OnOk, OnErr, IfOk, IfErr, List, ℕ, map};
+ghost use Rattle.std.specs.Prelude.{OnOk, OnErr, IfOk, IfErr, List, ℕ, map, true};
 ghost use Rattle.std.specs.Arc.{arc_value};
 ghost use Rattle.sz_cells.specs.Cells.{has, with_those};
 ghost use Rattle.sz_spec.specs.Sides.{near_side, far_side, image_in};
@@ -33,6 +34,7 @@ ghost use Rattle.sz_region.specs.Stores.{SaysNoRegions};
 ghost use Rattle.sz_tables.specs.Rows.{pairings};
 ghost use Rattle.sz_tables.specs.Stores.{IsPairOf, IsWithin, room_for_pairs, no_room, most_given};
 ghost use Rattle.sz_tables.specs.Tables.{AreDifferent};
+ghost use Rattle.sz_tables.specs.Apart.{HaveInputsApart};
 
 mod adding;
 mod counting;
@@ -160,21 +162,39 @@ impl FullOne {
         ensures site { self.new.site ≡ self.old.site }
         ensures capacities { self.new.capacities ≡ self.old.capacities }
     {
-        self.add_all(lineage.regions());
+        self.add_all(lineage.regions(), false);
+    }
+
+    /// As [`FullOne::add_piece`]. Where `apart`, the sets of each input that the store has then
+    /// are one or have no cell in common, any two of them.
+    ///
+    /// Of a set that the store has it looks then at some runs alone.
+    pub fn add_piece_as(&mut self, lineage: &PieceLineage, apart: bool)
+        requires few { length self.old.given + length lineage.now.regions ≤ most_given }
+        requires pairs { All (IsPairOf self.old.site) lineage.now.regions }
+        requires room { IsWithin (room_for_pairs lineage.now.regions) self.old.room }
+        requires apart { apart ≡ true → HaveInputsApart (self.old.given ++ lineage.now.regions) }
+        ensures given { self.new.given ≡ self.old.given ++ lineage.now.regions }
+        ensures site { self.new.site ≡ self.old.site }
+        ensures capacities { self.new.capacities ≡ self.old.capacities }
+    {
+        self.add_all(lineage.regions(), apart);
     }
 
     /// Adds these region pairs. Takes no memory.
-    fn add_all(&mut self, regions: &[Arc<Region>])
+    fn add_all(&mut self, regions: &[Arc<Region>], apart: bool)
         requires pairs { All (IsPairOf self.old.site) (map (λ a. arc_value a) regions.now) }
         requires room { IsWithin
             (room_for_pairs (map (λ a. arc_value a) regions.now)) self.old.room }
+        requires apart { apart ≡ true
+            → HaveInputsApart (self.old.given ++ map (λ a. arc_value a) regions.now) }
         ensures given { self.new.given
             ≡ self.old.given ++ map (λ a. arc_value a) regions.now }
         ensures site { self.new.site ≡ self.old.site }
         ensures capacities { self.new.capacities ≡ self.old.capacities }
     {
         self.at.ins(); // an operator has at most two inputs
-        add_regions(&mut self.table, &mut self.index, regions);
+        add_regions(&mut self.table, &mut self.index, regions, apart);
         self.spare_rows = 0;
         self.spare_cells = 0;
     }
@@ -196,6 +216,15 @@ impl FullOne {
         } else {
             self.table.scan(dir, input, from, to);
         }
+    }
+
+    /// The table of the region pairs, each different set once.
+    pub fn table(&self) -> &RegionTable
+        ensures pairings { pairings result.now ≡ self.now.given }
+        ensures out { result.now.out ≡ self.now.site.out }
+        ensures ins { result.now.ins ≡ self.now.site.ins }
+    {
+        &self.table
     }
 
     /// A checklist of the region pairs, of which none is ticked.
@@ -274,7 +303,7 @@ impl FullOne {
     {
         let pairs = [Arc::try_clone(region)?];
         self.reserve_all(&pairs)?;
-        self.add_all(&pairs);
+        self.add_all(&pairs, false);
         Ok(())
     }
 }

@@ -1,166 +1,139 @@
--- Stores in bytes that are merged one after another.
+-- Stores that are merged one after another.
 --
--- The key idea: at most one store begins at a place, and it ends at one place, so what is read of the bytes is the
--- store that they were written of. What was put is read whatever follows, so one word more leaves the others as they
--- are.
-use Rattle.std.proofs.Common.{◌≡◌, ℕ, suc, ◌+◌, ◌<◌, ◌≤◌, true, false, List, [], ◌∷◌, ◌++◌, length, get_or}
-use Rattle.std.proofs.Common.{take, drop, refl, sym, ap, ap₂, subst, ◌∙◌, arith, append_assoc, length-append}
-use Rattle.std.proofs.Common.{length-drop}
-use Rattle.std.proofs.Common.{slice_range, drop-cons, All, ◌-◌, ◌*◌}
+-- The key idea: what was put is read whatever follows, so one word more leaves the others as they are. And at most one
+-- list of stores begins at a place, so what is read of all words are the merged stores.
+use Rattle.std.proofs.Common.{◌≡◌, ℕ, ◌+◌, ◌<◌, ◌≤◌, Bool, true, false, true≢false, List, [], ◌∷◌, ◌++◌, length, map}
+use Rattle.std.proofs.Common.{refl, sym, ap, ap₂, subst, ◌∙◌, arith, append_assoc, length-append, ◌*◌, All}
+use Rattle.std.proofs.Common.{take, get_or}
 use Rattle.std.specs.List.{AllZip}
-use Rattle.std.proofs.lemmas.List.{take_more, take-append-drop, append-nil}
-use Rattle.std.proofs.lemmas.List.Elements.{filter-append}
-use Rattle.std.proofs.Math.Seq.{drop-append_seam, take-append_seam}
-use Rattle.sz_cells.specs.declared.Cell.{Cell}
+use Rattle.std.proofs.Math.Nat.{mul-le-mul_right}
+use Rattle.std.proofs.lemmas.List.{append-nil, map_push, take_more}
+use Rattle.sz_cells.specs.Extent.{Extent}
+use Rattle.sz_spec.specs.declared.modes.Mode.{Mode}
 use Rattle.sz_spec.specs.declared.modes.Mode.TheVariants as mode
 use Rattle.sz_spec.specs.declared.modes.Strategy.{Strategy}
 use Rattle.sz_spec.specs.Shapes.{Site}
-use Rattle.sz_spec.specs.Modes.{mode_of, is_stored}
-use Rattle.sz_frame.specs.Parts.{Pairing, Entry}
-use Rattle.sz_frame.specs.Stands.{full_stands}
+use Rattle.sz_spec.specs.Modes.{mode_of}
+use Rattle.sz_frame.specs.Parts.{Pairing}
 use Rattle.sz_region.specs.Putting.{HasShapes, CanPutRegions}
-use Rattle.sz_region.specs.FullBytes.{Listed, IsFullWord, BeginsRegions}
-use Rattle.sz_region.specs.PayBytes.{BeginsEntries}
+use Rattle.sz_region.specs.FullBytes.{BeginsRegions}
 use Rattle.sz_region.specs.LawsStores.{AreRight}
-use Rattle.sz_region.proofs.FullStores.{regions-read, behind-word}
+use Rattle.sz_region.proofs.FullStores.{regions-one, regions-read}
 use Rattle.sz_region.proofs.ReadShapes.{read-shapes}
-use Rattle.sz_payload.specs.Begins.{BeginsPayloads}
-use Rattle.sz_store.specs.Kept.{regions, entries, Keep, stored_in, NodeLineage, is_whole}
-use Rattle.sz_cells.specs.Extent.{Extent, is_extent}
-use Rattle.sz_region.proofs.PayStores.{entries-one}
-use Rattle.std.proofs.Math.Nat.{mul-le-mul_right}
-use Rattle.std.proofs.lemmas.List.Elements.{All-head}
-use Rattle.sz_store.specs.Words.{BeginEach}
-use Rattle.sz_store.proofs.Reading.{each-append, each-behind, stores-one, payloads-begin}
+use Rattle.sz_store.specs.Kept.{Holding, regions, entries, Keep, stored_in, NodeLineage, is_whole}
+use Rattle.sz_store.specs.Stocks.{AreEntries, IsOfItsMode, mode_in}
+use Rattle.sz_store.specs.Words.{Begins, BeginEach}
+use Rattle.sz_store.proofs.Reading.{each-append, stores-one}
 use Rattle.sz_merge.specs.Distinct.{AreKinds}
-use Rattle.sz_merge.specs.Merged.{IsMergedKeep, kinds_in, kinds_of_holding, IsPartMerged, HasPart}
-use Rattle.sz_merge.specs.Merged.{ArePartsMerged, AreCopied, AreRead, AreMerged}
+use Rattle.sz_merge.specs.Merged.{IsMergedTo, IsMergedKeep, kinds_in, kinds_of_holding, IsPartMerged}
+use Rattle.sz_merge.specs.Merged.{AreKindsPut, ArePartsMerged, AreRead, AreMerged}
 
 -- ---- one store
 
-pub full-merged : (s : Site) (bytes : List ℕ) (at next : ℕ) (rs ms : List Pairing) (old new word : List ℕ)
-    (table : List Listed) (kinds after : List ℕ) → AreRight (s.out ∷ s.ins)
-    → BeginsRegions s.out s.ins bytes at next rs → next ≤ length bytes → AreKinds ms → All (HasShapes s.out s.ins) ms
-    → ((i : ℕ) (o x : Cell) → i < length s.ins → full_stands ms i o x ≡ full_stands rs i o x)
-    → IsFullWord s.out s.ins table ms word → new ≡ old ++ word → after ≡ kinds ++ length ms ∷ []
-    → IsPartMerged s mode.Full bytes at next old new kinds after
-full-merged s bytes at next rs ms old new word table kinds after right begins inside are shapes same is added counted =
-    let long : length new ≡ length old + length word = ap length added ∙ length-append old word in
+-- a store of entries is merged as it is
+entries-stay : (s : Site) (h : Holding) → AreEntries h → IsMergedTo s h h × (kinds_of_holding h ≡ [])
+entries-stay s (regions rs) are = absurd are
+entries-stay s (entries comp es) are = (refl, refl)
+
+pub entries-left : (s : Site) (f : Keep) (old new word kinds after : List ℕ) → AreEntries f.holding → new ≡ old ++ word
+    → ((rest : List ℕ) → Begins s (mode_of f.strategy) (new ++ rest) (length old) (length new) f.holding)
+    → after ≡ kinds → IsPartMerged s f true old new kinds after
+entries-left s f old new word kinds after are added read same =
+    let stay = entries-stay s f.holding are in
     record {
-      before = regions rs;
+      kept = f.holding;
+      merged = stay.0;
+      word = word;
+      added = added;
+      read = read;
+      counted = same ∙ sym (append-nil kinds) ∙ ap (λ (ns : List ℕ). kinds ++ ns) (sym stay.1);
+      left = λ is. refl;
+    }
+
+-- region pairs that begin have the operator's shapes
+begun-shapes : (s : Site) (m : Mode) (bytes : List ℕ) (at next : ℕ) (rs : List Pairing)
+    → Begins s m bytes at next (regions rs) → All (HasShapes s.out s.ins) rs
+begun-shapes s mode.Full bytes at next rs begins = read-shapes s.out s.ins bytes at next rs begins
+begun-shapes s mode.Pay bytes at next rs begins = absurd begins
+begun-shapes s mode.Comp bytes at next rs begins = absurd begins
+begun-shapes s mode.Map bytes at next rs begins = absurd begins
+begun-shapes s mode.BlackBox bytes at next rs begins = absurd begins
+
+-- region pairs that are kinds are merged as they are
+kinds-stay : (s : Site) (m : Mode) (bytes : List ℕ) (at next : ℕ) (h : Holding) (rs : List Pairing) → h ≡ regions rs
+    → AreKinds rs → Begins s m bytes at next h → IsMergedTo s h h × (kinds_of_holding h ≡ length rs ∷ [])
+kinds-stay s m bytes at next h rs holds are begins =
+    let shapes : All (HasShapes s.out s.ins) rs =
+    begun-shapes s m bytes at next rs (subst (λ (k : Holding). Begins s m bytes at next k) holds begins) in
+    subst (λ (k : Holding). IsMergedTo s k k × (kinds_of_holding k ≡ length rs ∷ [])) (sym holds)
+    ((λ i o x inside. refl, are, shapes), refl)
+
+pub pairs-left : (s : Site) (f : Keep) (rs : List Pairing) (count : ℕ) (old new word kinds after : List ℕ)
+    → f.holding ≡ regions rs → AreKinds rs → length rs ≡ count → new ≡ old ++ word
+    → ((rest : List ℕ) → Begins s (mode_of f.strategy) (new ++ rest) (length old) (length new) f.holding)
+    → after ≡ kinds ++ count ∷ [] → IsPartMerged s f true old new kinds after
+pairs-left s f rs count old new word kinds after holds are many added read counted =
+    let stay =
+    kinds-stay s (mode_of f.strategy) (new ++ []) (length old) (length new) f.holding rs holds are (read []) in
+    record {
+      kept = f.holding;
+      merged = stay.0;
+      word = word;
+      added = added;
+      read = read;
+      counted = counted ∙ ap (λ (n : ℕ). kinds ++ n ∷ []) (sym many)
+          ∙ ap (λ (ns : List ℕ). kinds ++ ns) (sym stay.1);
+      left = λ is. refl;
+    }
+
+-- region pairs are told by what is kept
+pub same-pairs : (rs qs : List Pairing) → regions rs ≡ regions qs → rs ≡ qs
+same-pairs rs qs same = cc
+
+-- the mode of a store with region pairs
+pub full-mode : (f : Keep) (rs : List Pairing) → IsOfItsMode f → f.holding ≡ regions rs → mode_of f.strategy ≡ mode.Full
+full-mode f rs own holds = own ∙ ap mode_in holds
+
+-- the kinds of region pairs are put in their place
+pub kinds-merged : (s : Site) (f : Keep) (rs : List Pairing) (count : ℕ) (old new kinds after : List ℕ)
+    → AreRight (s.out ∷ s.ins) → IsOfItsMode f → f.holding ≡ regions rs
+    → AreKindsPut s.out s.ins rs count old new → after ≡ kinds ++ count ∷ []
+    → IsPartMerged s f false old new kinds after
+kinds-merged s f rs count old new kinds after right own holds put counted =
+    let word = put.word in
+    let ms = put.put in
+    let long : length new ≡ length old + length word = ap length put.added ∙ length-append old word in
+    let begin : (rest : List ℕ) → BeginsRegions s.out s.ins (new ++ rest) (length old) (length new) ms =
+    λ rest.
+    subst (λ (n : ℕ). BeginsRegions s.out s.ins (new ++ rest) (length old) n ms) (sym long)
+    (subst (λ (b : List ℕ). BeginsRegions s.out s.ins b (length old) (length old + length word) ms)
+    (sym (ap (λ (b : List ℕ). b ++ rest) put.added ∙ append_assoc old word rest))
+    (regions-read s.out s.ins put.table ms old word rest right put.is_word).0) in
+    record {
       kept = regions ms;
-      begins = begins;
-      inside = inside;
-      merged = (same, are, shapes);
+      merged = subst (λ (h : Holding). IsMergedTo s h (regions ms)) (sym holds) (put.same, put.kinds, put.shapes);
       word = word;
-      added = added;
+      added = put.added;
       read = λ rest.
-          subst (λ (n : ℕ). BeginsRegions s.out s.ins (new ++ rest) (length old) n ms) (sym long)
-          (subst (λ (b : List ℕ). BeginsRegions s.out s.ins b (length old) (length old + length word) ms)
-          (sym (ap (λ (b : List ℕ). b ++ rest) added ∙ append_assoc old word rest))
-          (regions-read s.out s.ins table ms old word rest right is).0);
-      counted = counted;
+          subst (λ (m : Mode). Begins s m (new ++ rest) (length old) (length new) (regions ms))
+          (sym (full-mode f rs own holds)) (begin rest);
+      counted = counted ∙ ap (λ (n : ℕ). kinds ++ n ∷ []) (sym put.many);
+      left = λ is. absurd (true≢false (sym is));
     }
 
--- the bytes between a store's place and its end are its word
-word-between : (bytes : List ℕ) (at next : ℕ) (word rest : List ℕ) → at ≤ length bytes → next ≤ length bytes
-    → drop at bytes ≡ word ++ rest → drop next bytes ≡ rest → slice_range bytes at next ≡ word
-word-between bytes at next word rest low high spelled ends =
-    let long : next - at ≡ length word =
-    omega (
-      arith,
-      ap length spelled,
-      ap length ends,
-      length-append word rest,
-      length-drop at bytes,
-      length-drop next bytes,
-      low,
-      high,
-    ) in
-    ap₂ (λ (n : ℕ) (b : List ℕ). take n b) long spelled ∙ take-append_seam word rest
+-- region pairs that are read where a store begins are its own
+full-read : (s : Site) (h : Holding) (bytes : List ℕ) (next end : ℕ) (rs : List Pairing) → AreRight (s.out ∷ s.ins)
+    → Begins s mode.Full bytes 0 end h → BeginsRegions s.out s.ins bytes 0 next rs → end ≤ length bytes
+    → next ≤ length bytes → h ≡ regions rs
+full-read s (regions qs) bytes next end rs right begins read high within =
+    ap regions (regions-one s.out s.ins bytes 0 end next qs rs right begins read high within).0
+full-read s (entries comp es) bytes next end rs right begins read high within = absurd begins
 
--- a store of kinds is copied
-pub full-kept : (s : Site) (bytes : List ℕ) (at next : ℕ) (rs : List Pairing) (old new kinds after : List ℕ)
-    → AreRight (s.out ∷ s.ins) → at ≤ length bytes → BeginsRegions s.out s.ins bytes at next rs → next ≤ length bytes
-    → AreKinds rs → new ≡ old ++ slice_range bytes at next → after ≡ kinds ++ length rs ∷ []
-    → IsPartMerged s mode.Full bytes at next old new kinds after
-full-kept s bytes at next rs old new kinds after right low begins high are more counted =
-    let added : new ≡ old ++ begins.word =
-    more ∙ ap (λ (b : List ℕ). old ++ b)
-    (word-between bytes at next begins.word begins.rest low high begins.spelled begins.ends) in
-    full-merged s bytes at next rs rs old new begins.word begins.table kinds after right begins high are
-    (read-shapes s.out s.ins bytes at next rs begins) (λ i o x inside. refl) begins.is_word added counted
-
--- a store's place is not behind its end
-pub regions-order : (out : Extent) (ins : List Extent) (bytes : List ℕ) (at next : ℕ) (rs : List Pairing)
-    → at ≤ length bytes → next ≤ length bytes → BeginsRegions out ins bytes at next rs → at ≤ next
-regions-order out ins bytes at next rs low high begins =
-    omega (
-      arith,
-      ap length begins.spelled,
-      ap length begins.ends,
-      length-append begins.word begins.rest,
-      length-drop at bytes,
-      length-drop next bytes,
-      low,
-      high,
-    )
-
-pub entries-copied : (s : Site) (bytes : List ℕ) (at next : ℕ) (es : List Entry) (old new : List ℕ)
-    → at ≤ length bytes → BeginsPayloads s bytes at next es → next ≤ length bytes
-    → new ≡ old ++ slice_range bytes at next → AreCopied s bytes at next old new
-entries-copied s bytes at next es old new low begins high more =
-    let word = begins.word in
-    let added : new ≡ old ++ word =
-    more ∙ ap (λ (b : List ℕ). old ++ b)
-    (word-between bytes at next word begins.rest low high begins.spelled begins.ends) in
-    let whole : (rest : List ℕ) → new ++ rest ≡ old ++ (word ++ rest) =
-    λ rest. ap (λ (b : List ℕ). b ++ rest) added ∙ append_assoc old word rest in
-    record {
-      copied = es;
-      begins = begins;
-      inside = high;
-      word = word;
-      added = added;
-      read = λ rest.
-          record {
-            payloads = begins.payloads;
-            sets = begins.sets;
-            word = word;
-            rest = rest;
-            is_word = begins.is_word;
-            lawful = begins.lawful;
-            spelled = ap (λ (b : List ℕ). drop (length old) b) (whole rest) ∙ drop-append_seam old (word ++ rest);
-            ends =
-                ap₂ (λ (n : ℕ) (b : List ℕ). drop n b) (ap length added ∙ length-append old word) (whole rest)
-                ∙ behind-word old word rest;
-          };
-    }
-
--- a store's place is not behind its end
-pub entries-order : (out : Extent) (bytes : List ℕ) (at next : ℕ) (es : List Entry) → at ≤ length bytes
-    → next ≤ length bytes → BeginsEntries out bytes at next es → at ≤ next
-entries-order out bytes at next es low high begins =
-    omega (
-      arith,
-      ap length begins.spelled,
-      ap length begins.ends,
-      length-append begins.word begins.rest,
-      length-drop at bytes,
-      length-drop next bytes,
-      low,
-      high,
-    )
-
-pub entries-taken : (s : Site) (bytes : List ℕ) (at n next : ℕ) (es fs : List Entry) (old new : List ℕ)
-    → AreRight (s.out ∷ s.ins) → at ≤ length bytes → BeginsPayloads s bytes at n es → n ≤ length bytes
-    → BeginsEntries s.out bytes at next fs → next ≤ length bytes → new ≡ old ++ slice_range bytes at next
-    → AreCopied s bytes at next old new
-entries-taken s bytes at n next es fs old new right low begins inside taken high more =
-    let one = entries-one s.out bytes at n next es fs (All-head (λ (e : Extent). is_extent e ≡ true) s.out s.ins right)
-    (payloads-begin s bytes at n es begins) taken inside high in
-    entries-copied s bytes at next es old new low
-    (subst (λ (k : ℕ). BeginsPayloads s bytes at k es) one.1 begins) high more
+pub pairs-read : (s : Site) (m : Mode) (h : Holding) (bytes : List ℕ) (next end : ℕ) (rs : List Pairing)
+    → AreRight (s.out ∷ s.ins) → m ≡ mode.Full → Begins s m bytes 0 end h
+    → BeginsRegions s.out s.ins bytes 0 next rs → end ≤ length bytes → next ≤ length bytes → h ≡ regions rs
+pairs-read s m h bytes next end rs right full begins read high within =
+    full-read s h bytes next end rs right (subst (λ (k : Mode). Begins s k bytes 0 end h) full begins) read high within
 
 -- region pairs that are few can be put
 pub can-put : (out : Extent) (ins : List Extent) (ms : List Pairing) → All (HasShapes out ins) ms → length ins ≤ 2
@@ -168,48 +141,6 @@ pub can-put : (out : Extent) (ins : List Extent) (ms : List Pairing) → All (Ha
 can-put out ins ms shapes two few =
     let wide : length ms * (1 + length ins) ≤ 1048576 * (1 + length ins) = mul-le-mul_right (1 + length ins) few in
     record { each = shapes; inputs = omega arith; few = omega arith; sets = omega arith }
-
--- ---- modes
-
-pub pay-part : (s : Site) (bytes : List ℕ) (at : ℕ) → HasPart s mode.Pay bytes at
-    → (es : List Entry) × (next : ℕ) × BeginsPayloads s bytes at next es × (next ≤ length bytes)
-pay-part s bytes at (regions rs, next, begins, inside) = absurd begins
-pay-part s bytes at (entries true es, next, begins, inside) = absurd begins
-pay-part s bytes at (entries false es, next, begins, inside) = (es, next, begins, inside)
-
-pub comp-part : (s : Site) (bytes : List ℕ) (at : ℕ) → HasPart s mode.Comp bytes at
-    → (es : List Entry) × (next : ℕ) × BeginsPayloads s bytes at next es × (next ≤ length bytes)
-comp-part s bytes at (regions rs, next, begins, inside) = absurd begins
-comp-part s bytes at (entries false es, next, begins, inside) = absurd begins
-comp-part s bytes at (entries true es, next, begins, inside) = (es, next, begins, inside)
-
-pub pay-merged : (s : Site) (bytes : List ℕ) (at next : ℕ) (old new kinds after : List ℕ)
-    → AreCopied s bytes at next old new → after ≡ kinds → IsPartMerged s mode.Pay bytes at next old new kinds after
-pay-merged s bytes at next old new kinds after is same = record {
-  before = entries false is.copied;
-  kept = entries false is.copied;
-  begins = is.begins;
-  inside = is.inside;
-  merged = refl;
-  word = is.word;
-  added = is.added;
-  read = is.read;
-  counted = same ∙ sym (append-nil kinds);
-}
-
-pub comp-merged : (s : Site) (bytes : List ℕ) (at next : ℕ) (old new kinds after : List ℕ)
-    → AreCopied s bytes at next old new → after ≡ kinds → IsPartMerged s mode.Comp bytes at next old new kinds after
-comp-merged s bytes at next old new kinds after is same = record {
-  before = entries true is.copied;
-  kept = entries true is.copied;
-  begins = is.begins;
-  inside = is.inside;
-  merged = refl;
-  word = is.word;
-  added = is.added;
-  read = is.read;
-  counted = same ∙ sym (append-nil kinds);
-}
 
 -- ---- one store after another
 
@@ -226,132 +157,75 @@ zip-append s [] (b ∷ ys) cs ds first second = absurd first
 zip-append s (a ∷ xs) [] cs ds first second = absurd first
 zip-append s (a ∷ xs) (b ∷ ys) cs ds first second = (first.0, zip-append s xs ys cs ds first.1 second)
 
-pub parts-none : (s : Site) (bytes new kinds : List ℕ) → new ≡ [] → kinds ≡ []
-    → ArePartsMerged s [] bytes 0 new kinds
-parts-none s bytes new kinds none nil = record {
-  before = [];
+pub parts-none : (s : Site) (new kinds : List ℕ) → new ≡ [] → kinds ≡ [] → ArePartsMerged s [] true new kinds
+parts-none s new kinds none nil = record {
   after = [];
-  begins = refl;
   merged = tt;
   read = λ rest. ap length none;
   counted = nil;
+  left = λ is. refl;
 }
 
-stored-one : (t : Strategy) → is_stored t ≡ true → stored_in (t ∷ []) ≡ t ∷ []
-stored-one t stored = rw stored refl
-
-stored-not : (t : Strategy) → is_stored t ≡ false → stored_in (t ∷ []) ≡ []
-stored-not t other = rw other refl
-
-stored-next : (list : List Strategy) (i : ℕ) (t : Strategy) → i < length list → get_or list i t ≡ t
-    → stored_in (take (i + 1) list) ≡ stored_in (take i list) ++ stored_in (t ∷ [])
-stored-next list i t inside here =
-    ap stored_in (take_more list i t inside ∙ ap (λ (u : Strategy). take i list ++ u ∷ []) here)
-    ∙ filter-append is_stored (take i list) (t ∷ [])
-
-stored-split : (list : List Strategy) (i : ℕ) (t : Strategy) → i < length list → get_or list i t ≡ t
-    → stored_in list ≡ stored_in (take i list) ++ (stored_in (t ∷ []) ++ stored_in (drop (suc i) list))
-stored-split list i t inside here =
-    let rest : drop i list ≡ t ∷ drop (suc i) list =
-    drop-cons list i t inside ∙ ap (λ (u : Strategy). u ∷ drop (suc i) list) here in
-    ap stored_in (sym (take-append-drop i list)) ∙ filter-append is_stored (take i list) (drop i list)
-    ∙ ap (λ (us : List Strategy). stored_in (take i list) ++ us)
-    (ap stored_in rest ∙ filter-append is_stored (t ∷ []) (drop (suc i) list))
-
-first-of : (s : Site) (t : Strategy) (ts : List Strategy) (bytes : List ℕ) (at next : ℕ) (fs : List Keep)
-    → BeginEach s (t ∷ ts) bytes at next fs → HasPart s (mode_of t) bytes at
-first-of s t ts bytes at next [] begins = absurd begins
-first-of s t ts bytes at next (f ∷ fs) begins = (f.holding, begins.0, begins.3, begins.1)
-
--- the store of the next stored strategy begins behind those that were merged
-pub next-begins : (s : Site) (list : List Strategy) (i : ℕ) (t : Strategy) (bytes : List ℕ) (place next : ℕ)
-    (fs gs : List Keep) → AreRight (s.out ∷ s.ins) → i < length list → get_or list i t ≡ t → is_stored t ≡ true
-    → BeginEach s (stored_in (take i list)) bytes 0 place fs → BeginEach s (stored_in list) bytes 0 next gs
-    → HasPart s (mode_of t) bytes place
-next-begins s list i t bytes place next fs gs right inside here stored front whole =
-    let more = stored_in (drop (suc i) list) in
-    let split : stored_in list ≡ stored_in (take i list) ++ (t ∷ more) =
-    stored-split list i t inside here
-    ∙ ap (λ (us : List Strategy). stored_in (take i list) ++ (us ++ more)) (stored-one t stored) in
-    let behind = each-behind s (stored_in (take i list)) (t ∷ more) bytes 0 place next fs gs right front
-    (subst (λ (ts : List Strategy). BeginEach s ts bytes 0 next gs) split whole) in
-    first-of s t more bytes place next behind.0 behind.1
-
-pub parts-more : (s : Site) (list : List Strategy) (i : ℕ) (t : Strategy) (bytes : List ℕ) (place next : ℕ)
-    (old new kinds after : List ℕ) → i < length list → get_or list i t ≡ t → is_stored t ≡ true
-    → ArePartsMerged s (stored_in (take i list)) bytes place old kinds
-    → IsPartMerged s (mode_of t) bytes place next old new kinds after
-    → ArePartsMerged s (stored_in (take (i + 1) list)) bytes next new after
-parts-more s list i t bytes place next old new kinds after inside here stored was one =
-    let ts = stored_in (take i list) in
-    let f : Keep = record { strategy = t; holding = one.before } in
-    let g : Keep = record { strategy = t; holding = one.kept } in
-    let listed : stored_in (take (i + 1) list) ≡ ts ++ t ∷ [] =
-    stored-next list i t inside here ∙ ap (λ (us : List Strategy). ts ++ us) (stored-one t stored) in
-    subst (λ (us : List Strategy). ArePartsMerged s us bytes next new after) (sym listed)
-    (record {
-      before = was.before ++ f ∷ [];
-      after = was.after ++ g ∷ [];
-      begins =
-          each-append s ts (t ∷ []) bytes 0 place next was.before (f ∷ []) was.begins
-          (next, one.inside, refl, one.begins, refl);
-      merged = zip-append s was.before was.after (f ∷ []) (g ∷ []) was.merged ((refl, one.merged), tt);
+-- one store more
+part-more : (s : Site) (fs : List Keep) (f : Keep) (was one same : Bool) (old new kinds after : List ℕ)
+    → (same ≡ true → (was ≡ true) × (one ≡ true)) → ArePartsMerged s fs was old kinds
+    → IsPartMerged s f one old new kinds after → ArePartsMerged s (fs ++ f ∷ []) same new after
+part-more s fs f was one same old new kinds after both before part =
+    let ts = map (λ (k : Keep). k.strategy) fs in
+    let make : Holding → Keep = λ h. record { strategy = f.strategy; holding = h } in
+    let g : Keep = make part.kept in
+    let listed : map (λ (k : Keep). k.strategy) (fs ++ f ∷ []) ≡ ts ++ f.strategy ∷ [] =
+    map_push (λ (k : Keep). k.strategy) fs f in
+    record {
+      after = before.after ++ g ∷ [];
+      merged = zip-append s fs before.after (f ∷ []) (g ∷ []) before.merged ((refl, part.merged), tt);
       read = λ rest.
-          let all : new ++ rest ≡ old ++ (one.word ++ rest) =
-          ap (λ (b : List ℕ). b ++ rest) one.added ∙ append_assoc old one.word rest in
+          let all : new ++ rest ≡ old ++ (part.word ++ rest) =
+          ap (λ (b : List ℕ). b ++ rest) part.added ∙ append_assoc old part.word rest in
           let long : length new ≤ length (new ++ rest) = omega (arith, length-append new rest) in
-          each-append s ts (t ∷ []) (new ++ rest) 0 (length old) (length new) was.after (g ∷ [])
-          (subst (λ (b : List ℕ). BeginEach s ts b 0 (length old) was.after) (sym all) (was.read (one.word ++ rest)))
-          (length new, long, refl, one.read rest, refl);
+          subst (λ (us : List Strategy). BeginEach s us (new ++ rest) 0 (length new) (before.after ++ g ∷ []))
+          (sym listed)
+          (each-append s ts (f.strategy ∷ []) (new ++ rest) 0 (length old) (length new) before.after (g ∷ [])
+          (subst (λ (b : List ℕ). BeginEach s ts b 0 (length old) before.after) (sym all)
+          (before.read (part.word ++ rest)))
+          (length new, long, refl, part.read rest, refl));
       counted =
-          one.counted ∙ ap (λ (ns : List ℕ). ns ++ kinds_of_holding one.kept) was.counted
-          ∙ ap (λ (ns : List ℕ). kinds_in was.after ++ ns) (sym (append-nil (kinds_of_holding one.kept)))
-          ∙ sym (kinds-append was.after (g ∷ []));
-    })
+          part.counted ∙ ap (λ (ns : List ℕ). ns ++ kinds_of_holding part.kept) before.counted
+          ∙ ap (λ (ns : List ℕ). kinds_in before.after ++ ns) (sym (append-nil (kinds_of_holding part.kept)))
+          ∙ sym (kinds-append before.after (g ∷ []));
+      left = λ is.
+          let were = both is in
+          ap₂ (λ (xs : List Keep) (h : Holding). xs ++ make h ∷ []) (before.left were.0) (part.left were.1);
+    }
 
-pub parts-same : (s : Site) (list : List Strategy) (i : ℕ) (t : Strategy) (bytes : List ℕ) (place next : ℕ)
-    (old new kinds after : List ℕ) → i < length list → get_or list i t ≡ t → is_stored t ≡ false
-    → ArePartsMerged s (stored_in (take i list)) bytes place old kinds
-    → (next ≡ place) × (new ≡ old) × (after ≡ kinds)
-    → ArePartsMerged s (stored_in (take (i + 1) list)) bytes next new after
-parts-same s list i t bytes place next old new kinds after inside here other was same =
-    let listed : stored_in (take (i + 1) list) ≡ stored_in (take i list) =
-    stored-next list i t inside here
-    ∙ ap (λ (us : List Strategy). stored_in (take i list) ++ us) (stored-not t other)
-    ∙ append-nil (stored_in (take i list)) in
-    subst (λ (us : List Strategy). ArePartsMerged s us bytes next new after) (sym listed)
-    (subst (λ (n : ℕ). ArePartsMerged s (stored_in (take i list)) bytes n new after) (sym same.0)
-    (subst (λ (b : List ℕ). ArePartsMerged s (stored_in (take i list)) bytes place b after) (sym same.1)
-    (subst (λ (ns : List ℕ). ArePartsMerged s (stored_in (take i list)) bytes place old ns) (sym same.2) was)))
+pub parts-more : (s : Site) (fs : List Keep) (i : ℕ) (d : Keep) (was one same : Bool) (old new kinds after : List ℕ)
+    → i < length fs → (same ≡ true → (was ≡ true) × (one ≡ true)) → ArePartsMerged s (take i fs) was old kinds
+    → IsPartMerged s (get_or fs i d) one old new kinds after → ArePartsMerged s (take (i + 1) fs) same new after
+parts-more s fs i d was one same old new kinds after inside both before part =
+    subst (λ (gs : List Keep). ArePartsMerged s gs same new after) (sym (take_more fs i d inside))
+    (part-more s (take i fs) (get_or fs i d) was one same old new kinds after both before part)
 
 -- ---- all stores
 
-pub all-read : (s : Site) (ts : List Strategy) (bytes : List ℕ) (next : ℕ) (stores : List Keep) (new kinds : List ℕ)
-    → AreRight (s.out ∷ s.ins) → BeginEach s ts bytes 0 (length bytes) stores
-    → ArePartsMerged s ts bytes next new kinds → AreRead s ts stores new kinds
-all-read s ts bytes next stores new kinds right begin parts =
-    let one = stores-one s ts bytes 0 next (length bytes) parts.before stores right parts.begins begin in
-    record {
-      after = parts.after;
-      merged = subst (λ (fs : List Keep). AllZip (IsMergedKeep s) fs parts.after) one.0 parts.merged;
-      read = parts.read;
-      counted = parts.counted;
-    }
+pub parts-read : (s : Site) (ts : List Strategy) (fs : List Keep) (same : Bool) (new kinds : List ℕ)
+    → map (λ f. f.strategy) fs ≡ ts → ArePartsMerged s fs same new kinds → AreRead s ts fs new kinds
+parts-read s ts fs same new kinds are parts = record {
+  after = parts.after;
+  merged = parts.merged;
+  read = λ rest.
+      subst (λ (us : List Strategy). BeginEach s us (new ++ rest) 0 (length new) parts.after) are (parts.read rest);
+  counted = parts.counted;
+}
 
--- bytes that were put alone are read from the first on
-pub begin-whole : (s site : Site) (list own : List Strategy) (stores : List Keep) (old bytes seen : List ℕ)
-    → site ≡ s → own ≡ list → old ≡ [] → seen ≡ bytes
-    → BeginEach site (stored_in own) (bytes ++ []) (length old) (length bytes) stores
-    → BeginEach s (stored_in list) seen 0 (length seen) stores
-begin-whole s site list own stores old bytes seen same_site same_list none same begin =
-    let ts = stored_in list in
-    subst (λ (b : List ℕ). BeginEach s ts b 0 (length b) stores) (sym same)
-    (subst (λ (b : List ℕ). BeginEach s ts b 0 (length bytes) stores) (append-nil bytes)
-    (subst (λ (n : ℕ). BeginEach s ts (bytes ++ []) n (length bytes) stores) (ap length none)
-    (subst (λ (us : List Strategy). BeginEach s (stored_in us) (bytes ++ []) (length old)
-    (length bytes) stores) same_list
-    (subst (λ (t : Site). BeginEach t (stored_in own) (bytes ++ []) (length old) (length bytes) stores) same_site
-    begin))))
+-- where each was put as it is, these are read
+pub parts-left : (s : Site) (ts : List Strategy) (fs : List Keep) (same : Bool) (new kinds : List ℕ)
+    → map (λ f. f.strategy) fs ≡ ts → ArePartsMerged s fs same new kinds → same ≡ true
+    → BeginEach s ts new 0 (length new) fs
+parts-left s ts fs same new kinds are parts is =
+    subst (λ (us : List Strategy). BeginEach s us new 0 (length new) fs) are
+    (subst (λ (gs : List Keep). BeginEach s (map (λ (f : Keep). f.strategy) fs) new 0 (length new) gs) (parts.left is)
+    (subst (λ (b : List ℕ). BeginEach s (map (λ (f : Keep). f.strategy) fs) b 0 (length new) parts.after)
+    (append-nil new) (parts.read [])))
 
 pub merged-read : (s : Site) (list : List Strategy) (before : List Keep) (after : NodeLineage)
     (seen bytes kinds : List ℕ) (next : ℕ) → AreRight (s.out ∷ s.ins)

@@ -4,7 +4,8 @@
 -- nothing by each region pair that has the set.
 use Rattle.std.proofs.Common.{◌≡◌, ◌≢◌, ◌∙◌, ℕ, zero, suc, ◌+◌, ◌<◌, false, Some, unwrap_or}
 use Rattle.std.proofs.Common.{List, [], ◌∷◌, map, length, get_or, refl, sym, ap, ap₂, subst, arith, All, add-one}
-use Rattle.std.specs.List.{slice_get, range_with_len, flat_map}
+use Rattle.std.specs.List.{slice_get, range_with_len, flat_map, zip}
+use Rattle.std.specs.Prelude.{slice_index}
 use Rattle.std.specs.Option.{option_map}
 use Rattle.std.proofs.lemmas.Option.{slice_get-map, slice_get_within, slice_get-get_or, same_Some, unwrap_or-slice_get}
 use Rattle.std.proofs.lemmas.Option.{get_or_from_slice_get}
@@ -57,6 +58,37 @@ at-set ins sets k inside =
     ap (λ (n : ℕ). slice_get (lists_of ins sets) n) (add-one k)
     ∙ slice_get-map list sets k
     ∙ ap (option_map list) (slice_get-get_or sets k d inside ∙ ap Some (sym (unwrap_or-slice_get sets k d)))
+
+-- what a row names of the one input
+ins-alone : (sets : List (List Cells)) (ns : List ℕ) → length ns ≡ 1 → slice_index ns 0 < length (sets_of sets 0)
+    → map (λ (p : List Cells × ℕ). set_at p.0 p.1) (zip sets ns) ≡ set_at (sets_of sets 0) (slice_index ns 0) ∷ []
+ins-alone [] ns long below = absurd (omega (arith, below))
+ins-alone (s ∷ ss) [] long below = absurd (omega (arith, long))
+ins-alone (s ∷ []) (n ∷ []) long below = refl
+ins-alone (s ∷ u ∷ ss) (n ∷ []) long below = refl
+ins-alone (s ∷ ss) (n ∷ m ∷ ns) long below = absurd (omega (arith, long))
+
+-- the region pair of a row has the table's shapes where its output set has the output's
+pub row-shapes : (t : RowTable) (out : Extent) (n : ℕ) → All (IsRowOf t) t.rows → n < length t.rows → length t.ins ≡ 1
+    → (pairing_at t n).out.extent ≡ out → All (IsSetOf (extent_at t.ins 0)) (sets_of t.sets 0)
+    → HasShapes out t.ins (pairing_at t n)
+row-shapes t out n named inside one shape own =
+    let row = row_at t.rows n in
+    let sets = sets_of t.sets 0 in
+    let k = number_in row 0 in
+    let d = no_cells no_extent in
+    let is = row-named t n named inside in
+    let below : k < length sets = is.ins 0 (omega (arith, one)) in
+    let right : IsSetOf (extent_at t.ins 0) (set_at sets k) =
+    subst (IsSetOf (extent_at t.ins 0)) (sym (unwrap_or-slice_get sets k d)) (own k d below) in
+    let alone : (pairing_at t n).ins ≡ set_at sets k ∷ [] = ins-alone t.sets row.ins (is.arity ∙ one) below in
+    record {
+      out = shape;
+      ins =
+          ap (map (λ (s : Cells). s.extent)) alone
+          ∙ ap (λ (e : Extent). e ∷ []) right.extent
+          ∙ sym (single no_extent t.ins one);
+    }
 
 -- a row leads from nothing to the lineage of its set
 pub row-next : (t : RowTable) (out : Extent) (n : ℕ) → All (IsRowOf t) t.rows → n < length t.rows → length t.ins ≡ 1

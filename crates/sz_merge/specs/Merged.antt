@@ -1,20 +1,18 @@
 -- What a merged store is: it stands for the same, and its region pairs are the kinds of lineage.
-use Rattle.std.specs.Prelude.{◌≡◌, ℕ, ◌<◌, ◌≤◌, List, [], ◌∷◌, ◌++◌, length, true}
-use Rattle.std.specs.Prelude.{All}
+use Rattle.std.specs.Prelude.{◌≡◌, ℕ, ◌<◌, List, [], ◌∷◌, ◌++◌, length, map, Bool, true, All}
 use Rattle.std.specs.List.{AllZip}
 use Rattle.sz_cells.specs.declared.Cell.{Cell}
 use Rattle.sz_spec.specs.declared.modes.Strategy.{Strategy}
+use Rattle.sz_spec.specs.Modes.{mode_of}
 use Rattle.sz_spec.specs.Shapes.{Site}
-use Rattle.sz_frame.specs.Parts.{Entry, Pairing}
+use Rattle.sz_frame.specs.Parts.{Pairing}
 use Rattle.sz_frame.specs.Stands.{full_stands}
-use Rattle.sz_payload.specs.Begins.{BeginsPayloads}
 use Rattle.sz_cells.specs.Extent.{Extent}
-use Rattle.sz_region.specs.FullBytes.{BeginsRegions, Listed, IsFullWord}
+use Rattle.sz_region.specs.FullBytes.{Listed, IsFullWord}
 use Rattle.sz_region.specs.Putting.{HasShapes}
 use Rattle.sz_store.specs.Kept.{Holding, regions, entries, Keep, NodeLineage, holding_stands}
 use Rattle.sz_store.specs.Kept.{is_whole, stored_in}
 use Rattle.sz_store.specs.Words.{Begins, BeginEach}
-use Rattle.sz_spec.specs.declared.modes.Mode.{Mode}
 use Rattle.sz_merge.specs.Distinct.{AreKinds}
 
 -- two stores stand for the same, each input by itself
@@ -43,43 +41,29 @@ abbrev pub kinds_in : List Keep → List ℕ
 kinds_in [] = []
 kinds_in (f ∷ fs) = kinds_of_holding f.holding ++ kinds_in fs
 
--- A store of a mode that begins at a place of some bytes was merged: its word stands behind the
--- other ones, and its number of kinds behind the other ones.
-pub record IsPartMerged (s : Site) (m : Mode) (bytes : List ℕ) (at next : ℕ) (old new : List ℕ)
-    (kinds after : List ℕ) : Type 0 where
-  pub before : Holding
-  pub kept : Holding
-  pub begins : Begins s m bytes at next before
-  pub inside : next ≤ length bytes
-  pub merged : IsMergedTo s before kept
-  pub word : List ℕ
-  pub added : new ≡ old ++ word
-  pub read : (rest : List ℕ) → Begins s m (new ++ rest) (length old) (length new) kept
-  pub counted : after ≡ kinds ++ kinds_of_holding kept
+-- A store was merged: its word stands behind other bytes, and its number of kinds behind other ones.
+-- Where the flag is true, it was put as it is.
+pub record IsPartMerged (s : Site) (f : Keep) (same : Bool) (old new kinds after : List ℕ) : Type 0
+  where
+    pub kept : Holding
+    pub merged : IsMergedTo s f.holding kept
+    pub word : List ℕ
+    pub added : new ≡ old ++ word
+    pub read : (rest : List ℕ)
+        → Begins s (mode_of f.strategy) (new ++ rest) (length old) (length new) kept
+    pub counted : after ≡ kinds ++ kinds_of_holding kept
+    pub left : same ≡ true → kept ≡ f.holding
 
--- a store of entries that begins at a place of some bytes stands behind others
-pub record AreCopied (s : Site) (bytes : List ℕ) (at next : ℕ) (old new : List ℕ) : Type 0 where
-  pub copied : List Entry
-  pub begins : BeginsPayloads s bytes at next copied
-  pub inside : next ≤ length bytes
-  pub word : List ℕ
-  pub added : new ≡ old ++ word
-  pub read : (rest : List ℕ) → BeginsPayloads s (new ++ rest) (length old) (length new) copied
-
--- a store of a mode begins at a place of some bytes, and ends within them
-abbrev pub HasPart : Site → Mode → List ℕ → ℕ → Type 0
-HasPart s m bytes at = (h : Holding) × (next : ℕ) × Begins s m bytes at next h
-    × (next ≤ length bytes)
-
--- the stores of these strategies were merged, all words and numbers of kinds one after another
-pub record ArePartsMerged (s : Site) (ts : List Strategy) (bytes : List ℕ) (next : ℕ)
-    (new kinds : List ℕ) : Type 0 where
-  pub before : List Keep
-  pub after : List Keep
-  pub begins : BeginEach s ts bytes 0 next before
-  pub merged : AllZip (IsMergedKeep s) before after
-  pub read : (rest : List ℕ) → BeginEach s ts (new ++ rest) 0 (length new) after
-  pub counted : kinds ≡ kinds_in after
+-- The stores were merged, all words and numbers of kinds one after another. Where the flag is true,
+-- each was put as it is.
+pub record ArePartsMerged (s : Site) (fs : List Keep) (same : Bool) (new kinds : List ℕ) : Type 0
+  where
+    pub after : List Keep
+    pub merged : AllZip (IsMergedKeep s) fs after
+    pub read : (rest : List ℕ)
+        → BeginEach s (map (λ f. f.strategy) fs) (new ++ rest) 0 (length new) after
+    pub counted : kinds ≡ kinds_in after
+    pub left : same ≡ true → after ≡ fs
 
 -- the bytes are the words of merged stores, whatever follows, and these are their numbers of kinds
 pub record AreRead (s : Site) (ts : List Strategy) (before : List Keep) (bytes kinds : List ℕ)
@@ -99,15 +83,6 @@ pub record AreMerged (s : Site) (list : List Strategy) (before : List Keep) (aft
   pub read : BeginEach s (stored_in list) bytes 0 (length bytes) after.stores
   pub each : AllZip (IsMergedKeep s) before after.stores
   pub counted : kinds ≡ kinds_in after.stores
-
--- region pairs that are the kinds of those of a store that begins at a place of some bytes
-pub record AreKindsOf (s : Site) (bytes : List ℕ) (at next : ℕ) (ms : List Pairing) : Type 0 where
-  pub before : List Pairing
-  pub begins : BeginsRegions s.out s.ins bytes at next before
-  pub kinds : AreKinds ms
-  pub shapes : All (HasShapes s.out s.ins) ms
-  pub same : (i : ℕ) (o x : Cell) → i < length s.ins
-      → full_stands ms i o x ≡ full_stands before i o x
 
 -- region pairs that are the kinds of some, so many, were put behind other bytes in one word
 pub record AreKindsPut (out : Extent) (ins : List Extent) (before : List Pairing) (count : ℕ)

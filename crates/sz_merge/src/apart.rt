@@ -1,16 +1,61 @@
 //! Region pairs of a table that are kinds of lineage as they are, told one after another: none has
 //! an output cell or the input set of one before it.
 
-ghost use Rattle.std.specs.Prelude.{◌≡◌, ◌<◌, [], ◌∷◌, ◌++◌, List, length, true, false};
-ghost use Rattle.std.specs.Prelude.{slice_index_or, slice_set};
+ghost use Rattle.std.specs.Prelude.{◌≡◌, ◌<◌, ◌≤◌, [], ◌∷◌, ◌++◌, List, length, true, false};
+ghost use Rattle.std.specs.Prelude.{IfOk, slice_index_or, slice_set};
 ghost use Rattle.sz_cells.specs.Cells.{Cells};
 ghost use Rattle.sz_frame.specs.Stands.{set_of};
-ghost use Rattle.sz_tables.specs.Rows.{row_at, number_in, sets_of};
+ghost use Rattle.sz_tables.specs.Rows.{pairings, row_at, number_in, sets_of};
 ghost use Rattle.sz_tables.specs.Scans.{pairing_at};
 ghost use Rattle.sz_merge.specs.Apart.{IsFurther};
+ghost use Rattle.sz_merge.specs.Distinct.{AreKinds};
 
-use sz_cells::CellBits;
+use std::alloc::Global;
+use sz_cells::{CellBits, NoMemory, Shape};
 use sz_tables::RegionTable;
+
+/// Whether the region pairs of a table are kinds as they are. `false` also where that is not seen
+/// from their sets of one input alone.
+///
+/// Costs for each region pair and input what [`is_further`] does.
+pub fn are_kinds(
+    alloc: Global,
+    out: Shape,
+    inputs: u32,
+    table: &RegionTable,
+) -> Result<bool, NoMemory>
+    requires out { table.now.out ≡ out }
+    requires inputs { inputs ≤ length table.now.ins }
+    ensures { IfOk result (λ b. b ≡ true → AreKinds (pairings table.now)) }
+{
+    for input in 0..inputs {
+        if are_kinds_by(alloc, out, table, input)? {
+            return Ok(true);
+        }
+    }
+    Ok(false)
+}
+
+/// Whether the region pairs of a table are kinds, as is seen from their sets of one input.
+fn are_kinds_by(
+    alloc: Global,
+    out: Shape,
+    table: &RegionTable,
+    input: u32,
+) -> Result<bool, NoMemory>
+    requires out { table.now.out ≡ out }
+    requires input { input < length table.now.ins }
+    ensures { IfOk result (λ b. b ≡ true → AreKinds (pairings table.now)) }
+{
+    let mut seen = CellBits::new(alloc, out)?;
+    let mut known = vec![in alloc; false; table.sets_of(input) as usize]?;
+    for row in 0..table.len() {
+        if !is_further(table, row, input, &mut seen, &mut known) {
+            return Ok(false);
+        }
+    }
+    Ok(true)
+}
 
 /// Whether the region pair of a row is one of a kind beside those whose output cells are seen and
 /// the numbers of whose sets of an input are known. Then its cells are seen, and its number is

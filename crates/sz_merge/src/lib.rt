@@ -42,7 +42,6 @@ pub mod laws;
 mod lineages;
 mod marking;
 mod parts;
-mod reading;
 mod tabled;
 mod task;
 
@@ -50,7 +49,7 @@ pub use crate::gate::{MergeGate, NoMergeGate};
 pub use crate::hiring::{
     Receiver, Sender, employ_merger, hand_merge, merge_tasks, one_more_merger,
 };
-use crate::parts::{merge_parts, within_limits};
+use crate::parts::{merge_part, within_limits};
 pub use crate::task::{MergeTask, attend_merges};
 use std::alloc::Global;
 use std::sync::Arc;
@@ -71,7 +70,9 @@ pub struct Merged {
 /// kind of lineage, and stands for the same; those of entries stay.
 ///
 /// Costs a look at each cell of the region pairs' output sets and at the runs of their input sets,
-/// and the reading of the merged stores.
+/// the writing of the merged stores and the reading of these. A store that is given is written only
+/// where it stays as it is, and is read again only where the sets of its region pairs are joined:
+/// where there is not one input, a set of it has no cell, or a cell is in two region pairs.
 pub fn merge(
     alloc: Global,
     at: &Arc<OpAt>,
@@ -88,7 +89,7 @@ pub fn merge(
     within_limits(at);
     let mut bytes = Vec::new(alloc);
     let mut kinds = Vec::new(alloc);
-    put_merged(alloc, at, list, store, &mut bytes, &mut kinds)?;
+    put_merged(alloc, store, &mut bytes, &mut kinds)?;
     let store = read_merged(alloc, at, list, &bytes)?;
     Ok(Merged {
         store,
@@ -136,7 +137,7 @@ pub(crate) fn merge_shared(
     within_limits(at);
     let mut bytes = Vec::new(alloc);
     let mut kinds = Vec::new(alloc);
-    let same = put_merged(alloc, at, list, store, &mut bytes, &mut kinds)?;
+    let same = put_merged(alloc, store, &mut bytes, &mut kinds)?;
     if same {
         let own = Arc::try_clone(store)?;
         return Ok(own);
@@ -146,35 +147,27 @@ pub(crate) fn merge_shared(
     Ok(merged)
 }
 
-/// Puts the words of the merged stores, and their numbers of kinds. Whether the words are those of
-/// the stores that are given.
+/// Puts the words of the stores as they are once they are merged, and their numbers of kinds.
+/// Whether each store is put as it is.
 fn put_merged(
     alloc: Global,
-    at: &OpAt,
-    list: &[Strategy],
     store: &NodeStore,
     to: &mut Vec<u8>,
     kinds: &mut Vec<u32>,
 ) -> Result<bool, NoMemory>
-    requires site { store.now.site ≡ at.now }
-    requires list { store.now.list ≡ list.now }
     requires to { to.old.items ≡ [] }
     requires kinds { kinds.old.items ≡ [] }
-    ensures read { OnOk result
-        (AreRead at.now (stored_in list.now) store.now.stores to.new.items kinds.new.items) }
-    ensures same { IfOk result (λ b. b ≡ true → BeginEach at.now (stored_in list.now) to.new.items
-        0 (length to.new.items) store.now.stores) }
+    ensures read { let s = store.now in OnOk result
+        (AreRead s.site (stored_in s.list) s.stores to.new.items kinds.new.items) }
+    ensures same { let s = store.now in IfOk result (λ b. b ≡ true → BeginEach s.site
+        (stored_in s.list) to.new.items 0 (length to.new.items) s.stores) }
 {
-    within_limits(at);
-    let mut bytes = Vec::new(alloc);
-    store.put_bytes(&mut bytes)?;
-    merge_parts(alloc, at, list, &bytes, to, kinds)?;
-    Ok(are_same(to, &bytes))
-}
-
-/// Whether two lists of bytes are one.
-fn are_same(bytes: &[u8], other: &[u8]) -> bool
-    ensures { result ≡ true → bytes.now ≡ other.now }
-{
-    bytes == other
+    let mut same = true;
+    for place in 0..store.stores() {
+        let left = merge_part(alloc, store, place, to, kinds)?;
+        if !left {
+            same = false;
+        }
+    }
+    Ok(same)
 }

@@ -1,56 +1,48 @@
-//! The stores of a list in bytes, merged one after another.
+//! The stores of a node, each merged by itself.
 
-ghost use Rattle.std.specs.Prelude.{◌≡◌, ◌≤◌, ℕ, List, [], ◌∷◌, ◌++◌, length, map, true, false};
-ghost use Rattle.std.specs.Prelude.{slice_range};
-ghost use Rattle.std.specs.Prelude.{IfOk, OnOk};
+ghost use Rattle.std.specs.Prelude.{◌≡◌, ◌<◌, ◌≤◌, List, ◌∷◌, length, map, All, IfOk};
 ghost use Rattle.std.specs.Arc.{arc_value};
-ghost use Rattle.sz_spec.specs.Modes.{mode_of, is_stored};
+ghost use Rattle.sz_spec.specs.Modes.{mode_of};
 ghost use Rattle.sz_spec.specs.declared.modes.Mode.TheVariants as mode;
 ghost use Rattle.sz_region.specs.LawsStores.{AreRight};
-ghost use Rattle.sz_frame.specs.Parts.{Entry, Pairing};
-ghost use Rattle.sz_region.specs.FullBytes.{BeginsRegions};
-ghost use Rattle.sz_region.specs.PayBytes.{BeginsEntries};
-ghost use Rattle.sz_payload.specs.Begins.{BeginsPayloads};
-ghost use Rattle.sz_store.specs.Kept.{Keep, stored_in};
-ghost use Rattle.sz_store.specs.Words.{BeginEach};
-ghost use Rattle.sz_merge.specs.Distinct.{AreKinds};
-ghost use Rattle.sz_merge.specs.Merged.{IsPartMerged, HasPart, ArePartsMerged, AreCopied};
-ghost use Rattle.sz_merge.specs.Merged.{AreKindsOf};
+ghost use Rattle.sz_region.specs.Putting.{HasShapes};
+ghost use Rattle.sz_frame.specs.Parts.{Pairing};
+ghost use Rattle.sz_tables.specs.Rows.{pairings};
+ghost use Rattle.sz_store.specs.Kept.{regions, keep_at};
+ghost use Rattle.sz_store.specs.Stocks.{IsOfItsMode, IsTableOf};
+ghost use Rattle.sz_merge.specs.Merged.{IsPartMerged, AreKindsPut};
 
+use crate::apart::are_kinds;
 use crate::kinds::kinds_of;
-use crate::reading::{are_kinds, read_table};
 use crate::tabled::put_kinds_of_rows;
 use std::alloc::Global;
 use std::sync::Arc;
-use sz_cells::{NoMemory, Shape};
+use sz_cells::NoMemory;
 use sz_frame::Region;
-use sz_region::{put_regions, shapes_are_within_limits, take_entries, take_regions};
-use sz_spec::{Mode, OpAt, Strategy};
+use sz_region::{put_regions, shapes_are_within_limits, take_regions};
+use sz_spec::OpAt;
+use sz_store::NodeStore;
 use sz_tables::RegionTable;
 
-/// Merges the stores of a list of strategies, whose bytes begin one after another: their words are
-/// put, and the number of kinds of each that has region pairs.
-pub fn merge_parts(
+/// Merges the store at a place: its word is put, and its number of kinds if it has region pairs.
+/// Whether it is put as it is.
+pub fn merge_part(
     alloc: Global,
-    at: &OpAt,
-    list: &[Strategy],
-    bytes: &[u8],
+    store: &NodeStore,
+    place: usize,
     to: &mut Vec<u8>,
     kinds: &mut Vec<u32>,
-) -> Result<(), NoMemory>
-    requires begins { (fs : List Keep)
-        × BeginEach at.now (stored_in list.now) bytes.now 0 (length bytes.now) fs }
-    requires to { to.old.items ≡ [] }
-    requires kinds { kinds.old.items ≡ [] }
-    ensures { OnOk result ((next : ℕ)
-        × ArePartsMerged at.now (stored_in list.now) bytes.now next to.new.items kinds.new.items) }
+) -> Result<bool, NoMemory>
+    requires place { place < length store.now.stores }
+    requires mode { IsOfItsMode (keep_at store.now.stores place) }
+    ensures { let s = store.now in IfOk result (λ same. IsPartMerged s.site
+        (keep_at s.stores place) same to.old.items to.new.items kinds.old.items kinds.new.items) }
 {
-    within_limits(at);
-    let mut place = 0;
-    for strategy in list {
-        place = merge_next(alloc, at, *strategy, bytes, place, to, kinds)?;
-    }
-    Ok(())
+    let Some(table) = store.table(place) else {
+        store.put_store(place, to)?; // entries stay
+        return Ok(true);
+    };
+    merge_pairs(alloc, store, place, table, to, kinds)
 }
 
 /// Every shape of an operator is within the limits.
@@ -61,197 +53,100 @@ pub fn within_limits(at: &OpAt)
     shapes_are_within_limits(&at.out(), at.ins());
 }
 
-/// Merges the store of a strategy, if it has one. Gives the place behind its bytes.
-fn merge_next(
+/// Merges the store at a place, whose region pairs are those of a table. It is put as it is where
+/// they are kinds already.
+fn merge_pairs(
     alloc: Global,
-    at: &OpAt,
-    strategy: Strategy,
-    bytes: &[u8],
-    place: u64,
+    store: &NodeStore,
+    place: usize,
+    table: &RegionTable,
     to: &mut Vec<u8>,
     kinds: &mut Vec<u32>,
-) -> Result<u64, NoMemory>
-    requires within { place ≤ length bytes.now }
-    requires begins { is_stored strategy ≡ true
-        → HasPart at.now (mode_of strategy) bytes.now place }
-    ensures merged { IfOk result (λ next. is_stored strategy ≡ true
-        → IsPartMerged at.now (mode_of strategy) bytes.now place next to.old.items to.new.items
-        kinds.old.items kinds.new.items) }
-    ensures other { IfOk result (λ next. is_stored strategy ≡ false → (next ≡ place)
-        × (to.new.items ≡ to.old.items) × (kinds.new.items ≡ kinds.old.items)) }
+) -> Result<bool, NoMemory>
+    requires place { place < length store.now.stores }
+    requires mode { IsOfItsMode (keep_at store.now.stores place) }
+    requires table { let s = store.now in
+        IsTableOf s.site (keep_at s.stores place).holding table.now }
+    ensures { let s = store.now in IfOk result (λ same. IsPartMerged s.site
+        (keep_at s.stores place) same to.old.items to.new.items kinds.old.items kinds.new.items) }
 {
-    if !strategy.is_stored() {
-        return Ok(place);
-    }
-    match strategy.mode() {
-        Mode::Full => {
-            let next = merge_full(alloc, at, bytes, place, to, kinds)?;
-            Ok(next)
-        }
-        Mode::Pay => {
-            let next = copy_entries(alloc, at, bytes, place, to)?;
-            Ok(next)
-        }
-        Mode::Comp => {
-            let next = copy_entries(alloc, at, bytes, place, to)?;
-            Ok(next)
-        }
-        Mode::Map | Mode::BlackBox => unreachable!(),
-    }
-}
-
-/// Merges a store of region pairs. Its bytes are read into a table, and copied where its region
-/// pairs are kinds as they are. The kinds of region pairs of one input of which no two have an
-/// output cell are put from the table. Only for the other ones the bytes are read again, into
-/// region pairs whose sets can be joined.
-fn merge_full(
-    alloc: Global,
-    at: &OpAt,
-    bytes: &[u8],
-    place: u64,
-    to: &mut Vec<u8>,
-    kinds: &mut Vec<u32>,
-) -> Result<u64, NoMemory>
-    requires within { place ≤ length bytes.now }
-    ensures { IfOk result (λ next. IsPartMerged at.now mode.Full bytes.now place next to.old.items
-        to.new.items kinds.old.items kinds.new.items) }
-{
+    let at = store.site();
     within_limits(at);
-    let (table, next) = read_table(alloc, at.out(), at.ins(), bytes, place)?;
-    if are_kinds(alloc, at.out(), at.ins().len() as u32, &table)? {
-        let count = table.len();
-        drop(table);
-        keep_pairs(at, bytes, place, next, count, to, kinds)?;
-        return Ok(next);
+    if are_kinds(alloc, at.out(), at.ins().len() as u32, table)? {
+        store.put_store(place, to)?;
+        kinds.push(table.len())?;
+        return Ok(true);
     }
-    if let Some(count) = put_kinds_of_rows(alloc, at.out(), at.ins(), table, to)? {
-        kinds.push(count)?;
-        return Ok(next);
-    }
-    merge_pairs(alloc, at, bytes, place, to, kinds)
-}
-
-/// Copies the bytes of a store whose region pairs are kinds as they are, so many.
-fn keep_pairs(
-    at: &OpAt,
-    bytes: &[u8],
-    place: u64,
-    next: u64,
-    count: u32,
-    to: &mut Vec<u8>,
-    kinds: &mut Vec<u32>,
-) -> Result<(), NoMemory>
-    requires place { place ≤ length bytes.now }
-    requires next { next ≤ length bytes.now }
-    requires kinds { (rs : List Pairing)
-        × BeginsRegions at.now.out at.now.ins bytes.now place next rs × AreKinds rs
-        × (length rs ≡ count) }
-    ensures { OnOk result (IsPartMerged at.now mode.Full bytes.now place next to.old.items
-        to.new.items kinds.old.items kinds.new.items) }
-{
-    within_limits(at);
-    append_part(bytes, place, next, to)?;
+    let count = put_kinds(alloc, store, place, table, to)?;
     kinds.push(count)?;
-    Ok(())
+    Ok(false)
 }
 
-/// Puts the kinds of a store, and how many they are.
+/// Puts the kinds of the store at a place, whose region pairs are those of a table, and answers how
+/// many they are. The kinds of region pairs of one input of which no two have an output cell are put
+/// from the table. Only for the other ones the store is read again, into region pairs whose sets can
+/// be joined.
 fn put_kinds(
-    at: &OpAt,
-    bytes: &[u8],
-    place: u64,
-    next: u64,
-    merged: &[Arc<Region>],
+    alloc: Global,
+    store: &NodeStore,
+    place: usize,
+    table: &RegionTable,
     to: &mut Vec<u8>,
-    kinds: &mut Vec<u32>,
-) -> Result<(), NoMemory>
-    requires next { next ≤ length bytes.now }
-    requires kinds { AreKindsOf at.now bytes.now place next (map (λ a. arc_value a) merged.now) }
-    ensures { OnOk result (IsPartMerged at.now mode.Full bytes.now place next to.old.items
-        to.new.items kinds.old.items kinds.new.items) }
+) -> Result<u32, NoMemory>
+    requires place { place < length store.now.stores }
+    requires mode { IsOfItsMode (keep_at store.now.stores place) }
+    requires table { let s = store.now in
+        IsTableOf s.site (keep_at s.stores place).holding table.now }
+    ensures { let s = store.now.site in IfOk result (λ n. AreKindsPut s.out s.ins
+        (pairings table.now) n to.old.items to.new.items) }
 {
+    let at = store.site();
+    if let Some(count) = put_kinds_of_rows(alloc, at.out(), at.ins(), table, to)? {
+        return Ok(count);
+    }
+    put_joined(alloc, store, place, to)
+}
+
+/// Puts the kinds of the store of region pairs at a place, whose sets are joined, and answers how
+/// many they are.
+fn put_joined(
+    alloc: Global,
+    store: &NodeStore,
+    place: usize,
+    to: &mut Vec<u8>,
+) -> Result<u32, NoMemory>
+    requires place { place < length store.now.stores }
+    requires mode { mode_of (keep_at store.now.stores place).strategy ≡ mode.Full }
+    ensures { let s = store.now in IfOk result (λ n. (rs : List Pairing)
+        × ((keep_at s.stores place).holding ≡ regions rs)
+        × AreKindsPut s.site.out s.site.ins rs n to.old.items to.new.items) }
+{
+    let at = store.site();
     within_limits(at);
+    let regions = pairs_of(alloc, store, place)?;
+    let merged = kinds_of(alloc, at.out(), at.ins(), &regions)?;
     if merged.len() > 1_048_576 {
         return Err(NoMemory); // there are no more of them than output cells
     }
-    put_regions(merged, to)?;
-    kinds.push(merged.len() as u32)?;
-    Ok(())
+    put_regions(&merged, to)?;
+    Ok(merged.len() as u32)
 }
 
-/// Merges the region pairs of a store.
-fn merge_pairs(
-    alloc: Global,
-    at: &OpAt,
-    bytes: &[u8],
-    place: u64,
-    to: &mut Vec<u8>,
-    kinds: &mut Vec<u32>,
-) -> Result<u64, NoMemory>
-    ensures { IfOk result (λ next. IsPartMerged at.now mode.Full bytes.now place next to.old.items
-        to.new.items kinds.old.items kinds.new.items) }
+/// The region pairs of the store at a place, with sets of their own: its bytes are put, and read.
+fn pairs_of(alloc: Global, store: &NodeStore, place: usize) -> Result<Vec<Arc<Region>>, NoMemory>
+    requires place { place < length store.now.stores }
+    requires mode { mode_of (keep_at store.now.stores place).strategy ≡ mode.Full }
+    ensures pairs { IfOk result (λ v. (keep_at store.now.stores place).holding
+        ≡ regions (map (λ a. arc_value a) v.items)) }
+    ensures shapes { let s = store.now.site in IfOk result
+        (λ v. All (HasShapes s.out s.ins) (map (λ a. arc_value a) v.items)) }
 {
-    let (regions, next) = take_pairs(alloc, at, bytes, place)?;
-    let merged = kinds_of(alloc, at.out(), at.ins(), &regions)?;
-    put_kinds(at, bytes, place, next, &merged, to, kinds)?;
-    Ok(next)
-}
-
-/// The region pairs of the store that begins at a place, and the place behind it.
-fn take_pairs(
-    alloc: Global,
-    at: &OpAt,
-    bytes: &[u8],
-    place: u64,
-) -> Result<(Vec<Arc<Region>>, u64), NoMemory>
-    ensures begins { IfOk result (λ r. BeginsRegions at.now.out at.now.ins bytes.now place r.1
-        (map (λ a. arc_value a) r.0.items)) }
-    ensures within { IfOk result (λ r. r.1 ≤ length bytes.now) }
-{
-    match take_regions(alloc, at.out(), at.ins(), bytes, place) {
-        Ok(taken) => Ok(taken),
-        Err(_) => Err(NoMemory),
-    }
-}
-
-/// The place behind the store of entries that begins at a place.
-fn entries_end(alloc: Global, at: &OpAt, bytes: &[u8], place: u64) -> Result<u64, NoMemory>
-    ensures begins { IfOk result (λ next. (es : List Entry)
-        × BeginsEntries at.now.out bytes.now place next es) }
-    ensures within { IfOk result (λ next. next ≤ length bytes.now) }
-{
-    match take_entries(alloc, at.out(), bytes, place) {
-        Ok((_, next)) => Ok(next),
-        Err(_) => Err(NoMemory),
-    }
-}
-
-/// Copies the bytes of a store of entries.
-fn copy_entries(
-    alloc: Global,
-    at: &OpAt,
-    bytes: &[u8],
-    place: u64,
-    to: &mut Vec<u8>,
-) -> Result<u64, NoMemory>
-    requires within { place ≤ length bytes.now }
-    requires begins { (es : List Entry) × (next : ℕ) × BeginsPayloads at.now bytes.now place next es
-        × (next ≤ length bytes.now) }
-    ensures { IfOk result (λ next. AreCopied at.now bytes.now place next to.old.items
-        to.new.items) }
-{
+    let at = store.site();
     within_limits(at);
-    let next = entries_end(alloc, at, bytes, place)?;
-    append_part(bytes, place, next, to)?;
-    Ok(next)
-}
-
-/// Appends the bytes between two places.
-fn append_part(bytes: &[u8], from: u64, next: u64, to: &mut Vec<u8>) -> Result<(), NoMemory>
-    requires order { from ≤ next }
-    requires within { next ≤ length bytes.now }
-    ensures { OnOk result (to.new.items ≡ to.old.items ++ slice_range bytes.now from next) }
-{
-    to.extend_from_slice(&bytes[from as usize..next as usize])?;
-    Ok(())
+    let mut bytes = Vec::new(alloc);
+    store.put_store(place, &mut bytes)?;
+    match take_regions(alloc, at.out(), at.ins(), &bytes, 0) {
+        Ok((pairs, _)) => Ok(pairs),
+        Err(_) => Err(NoMemory),
+    }
 }

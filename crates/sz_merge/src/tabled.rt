@@ -3,7 +3,7 @@
 //! No set is made or joined with another, and none is kept.
 
 ghost use Rattle.std.specs.Prelude.{◌≡◌, ◌≢◌, ◌<◌, ◌≤◌, ◌+◌, ◌==◌, ◌^◌, [], ◌∷◌, ℕ, List, length};
-ghost use Rattle.std.specs.Prelude.{true, not, All, IfOk, OnOk, IfSome, IfNone};
+ghost use Rattle.std.specs.Prelude.{true, not, All, IfOk, OnOk, IfSome, OnSome, IfNone};
 ghost use Rattle.sz_cells.specs.Cells.{Cells};
 ghost use Rattle.sz_cells.specs.Extent.{Extent, size_of};
 ghost use Rattle.sz_cells.specs.Runs.{AreRunsFrom, is_in};
@@ -35,26 +35,25 @@ pub fn put_kinds_of_rows(
     alloc: Global,
     out: Shape,
     ins: &[Shape],
-    table: RegionTable,
+    table: &RegionTable,
     to: &mut Vec<u8>,
 ) -> Result<Option<u32>, NoMemory>
-    requires out { table.out ≡ out }
-    requires ins { table.ins ≡ ins.now }
-    requires shapes { All (HasShapes out ins.now) (pairings table) }
+    requires out { table.now.out ≡ out }
+    requires ins { table.now.ins ≡ ins.now }
     ensures put { IfOk result (λ o. IfSome o
-        (λ n. AreKindsPut out ins.now (pairings table) n to.old.items to.new.items)) }
+        (λ n. AreKindsPut out ins.now (pairings table.now) n to.old.items to.new.items)) }
     ensures none { IfOk result (λ o. IfNone o (to.new.items ≡ to.old.items)) }
 {
-    if ins.len() != 1 || table.sets_of(0) > table.len() || !have_cells(&table) {
+    if ins.len() != 1 || table.sets_of(0) > table.len() || !have_cells(table) {
         return Ok(None); // no table has more sets than rows
     }
-    let Some(labels) = label_rows(alloc, out, &table)? else {
+    let Some(labels) = label_rows(alloc, out, table)? else {
         return Ok(None);
     };
-    let behind = table.into_sets();
+    let behind = table.in_sets();
     let groups = group_cells(alloc, behind.len() + 1, &labels)?;
     drop(labels);
-    let kinds = put_kinds(alloc, out, &behind, &groups, to)?;
+    let kinds = put_kinds(alloc, out, behind, &groups, to)?;
     Ok(Some(kinds))
 }
 
@@ -174,10 +173,11 @@ fn have_cells(table: &RegionTable) -> bool
 fn label_rows(alloc: Global, out: Shape, table: &RegionTable) -> Result<Option<Vec<u32>>, NoMemory>
     requires one { length table.now.ins ≡ 1 }
     requires out { table.now.out ≡ out }
-    requires shapes { All (HasShapes out table.now.ins) (pairings table.now) }
     requires sets { All (IsSetOf (extent_at table.now.ins 0)) (sets_of table.now.sets 0) }
-    ensures { IfOk result (λ o. IfSome o (λ v. AreLabels out table.now.ins (pairings table.now)
-        v.items (lists_of table.now.ins (sets_of table.now.sets 0)))) }
+    ensures labels { IfOk result (λ o. IfSome o (λ v. AreLabels out table.now.ins
+        (pairings table.now) v.items (lists_of table.now.ins (sets_of table.now.sets 0)))) }
+    ensures shapes { IfOk result
+        (λ o. OnSome o (All (HasShapes out table.now.ins) (pairings table.now))) }
 {
     let mut labels = vec![in alloc; 0u32; out.size() as usize]?;
     for row in 0..table.len() {
@@ -194,10 +194,11 @@ fn label_row(table: &RegionTable, row: u32, labels: &mut Vec<u32>) -> bool
     requires input { 0 < length table.now.ins }
     requires row { row < length table.now.rows }
     requires size { length labels.old.items ≡ size_of table.now.out }
-    ensures { let r = pairing_at table.now row in result ≡ true
+    ensures marked { let r = pairing_at table.now row in result ≡ true
         → (ins : List Extent) (lists : List (List Cells))
         → IsNext ins r lists 0 (number_in (row_at table.now.rows row) 0 + 1)
         → AreMarked ins r (has_index r) labels.old.items labels.new.items lists lists }
+    ensures shape { result ≡ true → (pairing_at table.now row).out.extent ≡ table.now.out }
 {
     table.len(); // each row names sets of the table
     table.sets_of(0); // of which there are so few that each number has one above it

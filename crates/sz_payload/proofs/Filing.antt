@@ -4,10 +4,12 @@
 use Rattle.std.proofs.Common.{◌≡◌, ◌≢◌, ℕ, zero, suc, ◌+◌, ◌-◌, ◌%◌, ◌<◌, ◌≤◌, ◌==◌, Bool, true, false, true≢false}
 use Rattle.std.proofs.Common.{List, [], ◌∷◌, ◌++◌, length, take, get_or, All, Option, Some, None}
 use Rattle.std.proofs.Common.{refl, sym, ap, subst, ◌∙◌, arith, inl, inr}
-use Rattle.std.proofs.Common.{length-append, eqb-true}
+use Rattle.std.proofs.Common.{append-nil, append_assoc, length-append, eqb-true}
 use Rattle.std.specs.List.{list_any, range_with_len, flat_map, HoldsAt}
 use Rattle.std.proofs.lemmas.Bool.{cases_lt, or_cases}
-use Rattle.std.proofs.lemmas.List.{get_or-append-add, length-map, get_or-map}
+use Rattle.std.proofs.lemmas.List.{get_or-append-add, length-map, get_or-map, map-append, take_more}
+use Rattle.std.proofs.lemmas.List.Concat.{flat_map-append}
+use Rattle.std.proofs.lemmas.List.Elements.{All-nil}
 use Rattle.std.proofs.Math.ListN.{get_or-append}
 use Rattle.sz_cells.specs.declared.Cell.{Cell}
 use Rattle.sz_cells.specs.declared.Run.{Run}
@@ -108,3 +110,45 @@ files-more shape es e set old new row same is at count files =
                 )
           ];
     })
+
+-- ---- entries of a table
+
+-- one run more, whatever the room
+pub rests-run : (keys : ℕ) (front now before : List Filed) (runs : List Run) (i n : ℕ) (d : Run) → i < length runs
+    → before ≡ front ++ rests keys (flat_map indexes_of (take i runs)) n
+    → now ≡ before ++ rests keys (indexes_of (get_or runs i d)) n
+    → now ≡ front ++ rests keys (flat_map indexes_of (take (i + 1) runs)) n
+rests-run keys front now before runs i n d inside so_far more =
+    let first = flat_map indexes_of (take i runs) in
+    let here = indexes_of (get_or runs i d) in
+    let all : flat_map indexes_of (take (i + 1) runs) ≡ first ++ here =
+    rw (take_more runs i d inside, flat_map-append indexes_of (take i runs) (get_or runs i d ∷ []))
+    (ap (λ (ks : List ℕ). first ++ ks) (append-nil here)) in
+    more
+    ∙ ap (λ (fs : List Filed). fs ++ rests keys here n) so_far
+    ∙ append_assoc front (rests keys first n) (rests keys here n)
+    ∙ ap (λ (fs : List Filed). front ++ fs) (sym (map-append (λ (k : ℕ). rest_of n keys k) first here))
+    ∙ ap (λ (ks : List ℕ). front ++ rests keys ks n) (sym all)
+
+-- nothing is filed of no entry
+pub files-none : (shape : Extent) (f : Files) → 0 < f.keys → f.entries ≡ [] → AreFilesOf shape [] f
+files-none shape f keys none = record {
+  keys = keys;
+  items = rw none (All-nil (λ (x : Filed). x.item < 0));
+  each = λ n k inside below there. absurd (omega (arith, inside));
+}
+
+-- one entry more, whatever the room
+pub files-next : (shape : Extent) (es : List Entry) (e : Entry) (old new : Files) (row : ℕ) → e.out.extent ≡ shape
+    → new.keys ≡ old.keys → new.entries ≡ old.entries ++ rests old.keys e.out.indexes row → length es ≡ row
+    → AreFilesOf shape es old → AreFilesOf shape (es ++ e ∷ []) new
+files-next shape es e old new row same keys filed count files =
+    let other = with_cells old e.out.indexes row in
+    let was = files-more shape es e e.out old other row same refl refl count files in
+    record {
+      keys = omega (arith, keys, was.keys);
+      items = rw filed was.items;
+      each = λ n k inside below there.
+          let at = was.each n k inside below there in
+          (at.0, λ d. rw (filed, keys) (at.1 d));
+    }

@@ -3,26 +3,25 @@ use Rattle.std.proofs.Common.{◌≡◌, ℕ, suc, ◌+◌, ◌-◌, ◌^◌, �
 use Rattle.std.proofs.Common.{List, [], ◌∷◌, ◌++◌, length, take, drop, get_or, append_assoc}
 use Rattle.std.proofs.Common.{refl, sym, ap, subst, ◌∙◌, arith, length-append, length-drop, drop-cons}
 use Rattle.std.specs.Prelude.{All}
-use Rattle.std.specs.List.{AllZip, flat_map, slice_range}
+use Rattle.std.specs.List.{flat_map, slice_range}
 use Rattle.std.specs.Int.{w32, from_be_bytes}
 use Rattle.std.proofs.lemmas.List.{drop-drop, get_or-drop, take_more, take_all, take_at}
-use Rattle.std.proofs.lemmas.List.Elements.{All-nil, All-cons}
+use Rattle.std.proofs.lemmas.List.Elements.{All-nil, All-weaker}
 use Rattle.std.proofs.lemmas.Nat.{from_be_bytes-to_be_bytes_4}
 use Rattle.std.proofs.lemmas.Option.{slice_get_within, get_or_from_slice_get}
 use Rattle.std.proofs.Math.Seq.{drop-append_seam}
-use Rattle.sz_cells.specs.Cells.{Cells}
-use Rattle.sz_cells.specs.SetBytes.{four_bytes, IsSetOf, set_bytes}
+use Rattle.sz_cells.specs.SetBytes.{four_bytes, set_bytes}
 use Rattle.sz_spec.specs.Payloads.{is_payload}
 use Rattle.sz_spec.specs.Shapes.{Site}
 use Rattle.sz_region.specs.declared.set_bytes.Take.{Take}
 use Rattle.sz_region.specs.declared.set_bytes.Take.TheVariants.{Bad, NoMemory}
 use Rattle.sz_region.specs.Counted.{counted, rows_bytes}
 use Rattle.sz_frame.specs.Parts.{Entry}
-use Rattle.sz_region.specs.PayBytes.{AreNamesOfEntry, BeginsEntries, IsShort, payload_bytes}
+use Rattle.sz_region.specs.PayBytes.{BeginsEntries, IsShort, payload_bytes}
 use Rattle.sz_region.specs.Stores.{SaysNoEntries}
 use Rattle.sz_region.specs.Taking.{number_at}
 use Rattle.sz_payload.specs.Begins.{AreLawful, BeginsPayloads, IsTableAt, SaysNoPayloads}
-use Rattle.sz_payload.specs.Kept.{IsEntryOf}
+use Rattle.sz_tables.specs.Listed.{IsOneOf}
 use Rattle.sz_payload.proofs.Keeping.{all-end}
 
 -- ---- one payload
@@ -176,34 +175,13 @@ judge s bytes at next es b lawful = record {
   ends = b.ends;
 }
 
--- the entries of such a store are the operator's
-entry-lawful : (s : Site) (sets : List Cells) (payloads : List (List ℕ)) (ns : List ℕ) (e : Entry)
-    → All (IsSetOf s.out) sets → AreLawful s payloads → AreNamesOfEntry sets payloads ns e → IsEntryOf s e
-entry-lawful s sets payloads [] e each lawful named = elim named [ ]
-entry-lawful s sets payloads (a ∷ []) e each lawful named = elim named [ ]
-entry-lawful s sets payloads (a ∷ b ∷ []) e each lawful named = record {
-  out = (subst (IsSetOf s.out) (get_or_from_slice_get sets a e.out e.out named.0)
-      (each a e.out (slice_get_within sets a e.out named.0))).extent;
-  payload = subst (λ (p : List ℕ). is_payload s.op s.ins p ≡ true)
-      (get_or_from_slice_get payloads b e.payload e.payload named.1)
-      (lawful b e.payload (slice_get_within payloads b e.payload named.1));
-}
-entry-lawful s sets payloads (a ∷ b ∷ c ∷ ns) e each lawful named = elim named [ ]
-
-entries-lawful : (s : Site) (sets : List Cells) (payloads : List (List ℕ)) (names : List (List ℕ)) (es : List Entry)
-    → All (IsSetOf s.out) sets → AreLawful s payloads → AllZip (AreNamesOfEntry sets payloads) names es
-    → All (IsEntryOf s) es
-entries-lawful s sets payloads [] [] each lawful named = All-nil (IsEntryOf s)
-entries-lawful s sets payloads [] (e ∷ es) each lawful named = elim named [ ]
-entries-lawful s sets payloads (n ∷ names) [] each lawful named = elim named [ ]
-entries-lawful s sets payloads (n ∷ names) (e ∷ es) each lawful named =
-    All-cons (IsEntryOf s) e es (entry-lawful s sets payloads n e each lawful named.0)
-    (entries-lawful s sets payloads names es each lawful named.1)
-
-pub begun-lawful : (s : Site) (bytes : List ℕ) (at next : ℕ) (es : List Entry) → BeginsPayloads s bytes at next es
-    → All (IsEntryOf s) es
-begun-lawful s bytes at next es b =
-    entries-lawful s b.sets b.payloads b.is_word.names es b.is_word.each b.lawful b.is_word.named
+-- payloads that are of its table are the operator's
+pub lawful-listed : (s : Site) (payloads own : List (List ℕ)) → AreLawful s payloads → All (IsOneOf payloads) own
+    → AreLawful s own
+lawful-listed s payloads own lawful listed =
+    All-weaker (IsOneOf payloads) (λ (p : List ℕ). is_payload s.op s.ins p ≡ true)
+    (λ p at. subst (λ (x : List ℕ). is_payload s.op s.ins x ≡ true) (get_or_from_slice_get payloads at.0 p p at.1)
+    (lawful at.0 p (slice_get_within payloads at.0 p at.1))) own listed
 
 -- where no entries begin, no store of the operator's does
 pub says-none : (s : Site) (bytes : List ℕ) (at : ℕ) (e : Take) → SaysNoEntries s.out bytes at e

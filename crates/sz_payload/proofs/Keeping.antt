@@ -1,19 +1,16 @@
 -- A store's entries, index and room, when an entry more comes behind the others.
-use Rattle.std.proofs.Common.{◌≡◌, ℕ, zero, suc, ◌*◌, ◌<◌, ◌≤◌, Bool, true, false, true≢false}
+use Rattle.std.proofs.Common.{◌≡◌, ℕ, zero, suc, ◌*◌, ◌<◌, ◌≤◌}
 use Rattle.std.proofs.Common.{List, [], ◌∷◌, ◌++◌, length, take, drop, ◌+◌, get_or, append_assoc, length-append}
 use Rattle.std.proofs.Common.{refl, sym, ap, subst, ◌∙◌, arith, inl, inr}
 use Rattle.std.specs.Prelude.{All, sum_by}
 use Rattle.std.proofs.lemmas.List.{take_more, take-append-drop}
 use Rattle.std.proofs.lemmas.List.Elements.{All-nil, All-cons, All-head, All-tail}
-use Rattle.std.proofs.lemmas.Bool.{false_from_ne_true, or_cases, or_left, or_right}
-use Rattle.sz_cells.specs.declared.Cell.{Cell}
-use Rattle.sz_cells.specs.Cells.{has}
 use Rattle.sz_frame.specs.Fits.{AreApart}
 use Rattle.sz_frame.specs.Parts.{Entry}
-use Rattle.sz_frame.specs.Stands.{has_entry}
 use Rattle.sz_spec.specs.Shapes.{Site}
 use Rattle.sz_tables.specs.Tables.{HasAtMostOneMore}
 use Rattle.sz_tables.proofs.Counted.{rest-more}
+use Rattle.sz_tables.proofs.Counting.{apart-front}
 use Rattle.sz_payload.specs.declared.owner.Owner.{Owner}
 use Rattle.sz_payload.specs.declared.owner.Owner.TheVariants.{One, Few, Many}
 use Rattle.sz_tables.specs.Rows.{runs_in}
@@ -35,27 +32,6 @@ all-more P old new x all more here =
       | inl same ↦ subst (All P) (sym same) all
       | inr one ↦ subst (All P) (sym one) (all-end P old x all here)
     ]
-
--- ---- entries that are apart
-
-less : (a b : Bool) → (a ≡ true → b ≡ true) → b ≡ false → a ≡ false
-less a b onward none = false_from_ne_true a (λ some. true≢false (sym (onward some) ∙ none))
-
-wider : (es fs : List Entry) (o : Cell) → has_entry es o ≡ true → has_entry (es ++ fs) o ≡ true
-wider [] fs o some = absurd (true≢false (sym some))
-wider (e ∷ es) fs o some =
-    elim (or_cases (has e.out o) (has_entry es o) some) [
-      | inl here ↦ or_left (has e.out o) (has_entry (es ++ fs) o) here
-      | inr rest ↦ or_right (has e.out o) (has_entry (es ++ fs) o) (wider es fs o rest)
-    ]
-
--- those in front of others
-pub apart-front : (es fs : List Entry) → AreApart (es ++ fs) → AreApart es
-apart-front [] fs apart = tt
-apart-front (e ∷ es) fs apart = (
-  λ o there. less (has_entry es o) (has_entry (es ++ fs) o) (wider es fs o) (apart.0 o there),
-  apart-front es fs apart.1,
-)
 
 -- ---- room
 

@@ -12,7 +12,7 @@ ghost use Rattle.sz_tables.specs.Entries.{entries, entry_at};
 ghost use Rattle.sz_tables.specs.Filed.{told};
 ghost use Rattle.sz_tables.specs.Stores.{cells_in, most_given};
 ghost use Rattle.sz_payload.specs.Owned.{IsIndexOf, IsOwnerOf, AreFilesOf, AreRound, AreSlotsOf};
-ghost use Rattle.sz_payload.specs.Owned.{HasCellRoom, cell_room, room_in, with_cells};
+ghost use Rattle.sz_payload.specs.Owned.{HasCellRoom, cell_room, rests, room_in, with_cells};
 ghost use Rattle.sz_payload.specs.Owned.{owner_capacities};
 
 use std::alloc::Global;
@@ -42,7 +42,26 @@ impl Owner {
         if many {
             Ok(Owner::Many(RTree::new(alloc)?))
         } else {
-            Ok(Owner::Few(Chains::new(alloc, shape.size() / 512 * 2 + 17)?))
+            Ok(Owner::Few(no_files(alloc, shape)?))
+        }
+    }
+
+    /// The index of the entries of a table, as it would be if they were added one by one, without
+    /// room for more.
+    ///
+    /// Costs a visit to each entry; where it is by single cells also to each cell of the entries,
+    /// and where these are many memory for each output cell.
+    pub(crate) fn of_table(alloc: Global, table: &EntryTable, many: bool) -> Result<Owner, NoMemory>
+        ensures { IfOk result (IsIndexOf table.now.out (entries table.now)) }
+    {
+        if many {
+            return Ok(Owner::Many(tree_of(alloc, table)?));
+        }
+        let cells = cells_of(table);
+        if most_filed(table.shape()) < cells {
+            Ok(Owner::One(slots_of(alloc, table)?))
+        } else {
+            Ok(Owner::Few(files_of(alloc, table, cells)?))
         }
     }
 
@@ -52,7 +71,7 @@ impl Owner {
         ensures { IsIndexOf table.now.out (entries table.now) self.old
             → IsIndexOf table.now.out (entries table.now) self.new }
     {
-        let most = table.shape().size() as usize / 16;
+        let most = most_filed(table.shape());
         let crowded = match self {
             Owner::Few(files) => {
                 if most < (files.len() as usize).saturating_add(cells) {
@@ -122,6 +141,73 @@ impl Owner {
             Owner::Many(tree) => search(tree, table, index),
         }
     }
+}
+
+/// How many cells are filed at most: where more are in an entry, each output cell has a slot.
+fn most_filed(shape: Shape) -> usize {
+    shape.size() as usize / 16
+}
+
+/// Files under the rests of the cells of a shape, in which nothing is filed.
+fn no_files(alloc: Global, shape: Shape) -> Result<Chains, NoMemory>
+    ensures keys { IfOk result (λ f. 0 < f.keys) }
+    ensures entries { IfOk result (λ f. f.entries ≡ []) }
+    ensures room { IfOk result (λ f. f.spare ≡ 0) }
+{
+    Chains::new(alloc, shape.size() / 512 * 2 + 17)
+}
+
+/// How many cells the entries of a table have together, as far as it is no more than a `usize` says.
+fn cells_of(table: &EntryTable) -> usize {
+    let mut cells = 0usize;
+    for row in 0..table.len() {
+        for run in table.out_runs(table.set_number(row)) {
+            cells = cells.saturating_add((run.last.saturating_sub(run.first)) as usize + 1);
+        }
+    }
+    cells
+}
+
+/// A rectangle round the set of each entry of a table.
+fn tree_of(alloc: Global, table: &EntryTable) -> Result<RTree, NoMemory>
+    ensures { IfOk result (λ t. AreRound (entries table.now) t.rectangles) }
+{
+    let mut rectangles = Vec::with_capacity(alloc, table.len() as usize)?;
+    for row in 0..table.len() {
+        rectangles.push_reserved(table.out_bounds(row));
+    }
+    RTree::of(alloc, rectangles)
+}
+
+/// The number of its entry in a table under each cell of the entries, which are so many.
+fn files_of(alloc: Global, table: &EntryTable, cells: usize) -> Result<Chains, NoMemory>
+    ensures { IfOk result (AreFilesOf table.now.out (entries table.now)) }
+{
+    let mut files = no_files(alloc, table.shape())?;
+    reserve_cells(&mut files, cells)?;
+    for row in 0..table.len() {
+        file_row(&mut files, table, row)?;
+    }
+    Ok(files)
+}
+
+/// Files the number of a row under each cell of its set, for which there is mostly room.
+fn file_row(files: &mut Chains, table: &EntryTable, row: u32) -> Result<(), NoMemory>
+    requires keys { 0 < files.old.keys }
+    requires row { row < length table.now.rows }
+    ensures keys { files.new.keys ≡ files.old.keys }
+    ensures shape { (entry_at (entries table.now) row).out.extent ≡ table.now.out }
+    ensures filed { OnOk result (files.new.entries ≡ files.old.entries
+        ++ rests files.old.keys (entry_at (entries table.now) row).out.indexes row) }
+{
+    let shape = table.shape();
+    shape.size(); // no index is past a shape
+    let runs = table.out_runs(table.set_number(row));
+    for run in runs {
+        reserve_cells(files, (run.last - run.first + 1) as usize)?;
+        file_run(files, *run, row);
+    }
+    Ok(())
 }
 
 /// For each output cell the number of its entry in a table and one more, or 0.

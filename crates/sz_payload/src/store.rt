@@ -284,8 +284,10 @@ impl<M: Mapper + Drop> PayStore<M> {
     /// The store of the entries whose bytes begin at a place, and the place behind them. Each
     /// payload of the bytes is one of the operator. `Take::Bad` exactly where none begin there.
     ///
-    /// Costs by the bytes that it reads, and by the cells of the entries. The store has room for
-    /// each different set and payload once, and for those of one entry more.
+    /// Costs by the bytes that it reads, by the runs of the entries' sets and by the words of 64
+    /// cells in which these have cells, and where entries are found by single cells by the cells.
+    /// Takes memory for each set and payload once, for each entry and for the index, and while it
+    /// reads a bit for each output cell. The store has no room for more.
     pub fn take_bytes(
         alloc: Global,
         map: M,
@@ -304,44 +306,15 @@ impl<M: Mapper + Drop> PayStore<M> {
         ensures within { IfOk result (λ r. r.1 ≤ length bytes.now) }
         ensures err { IfErr result (λ e. SaysNoPayloads (arc_value at) bytes.now from e) }
     {
-        let (entries, next) = take_lawful(alloc, &at, bytes, from)?;
-        let mut store = PayStore::new(alloc, map, at, many, comp)?;
-        store.keep_all(&entries)?;
+        let (table, next) = take_lawful(alloc, &at, bytes, from)?;
+        let owner = Owner::of_table(alloc, &table, many)?;
+        let store = PayStore {
+            map,
+            at,
+            comp,
+            table,
+            owner,
+        };
         Ok((store, next))
-    }
-
-    /// Adds these entries. The room for each is made when those before it are added, so a set or a
-    /// payload that many of them share is counted once.
-    fn keep_all(&mut self, entries: &[Arc<PayEntry>]) -> Result<(), NoMemory>
-        requires few { length self.old.store.given + length entries.now ≤ most_given }
-        requires entries { All (IsEntryOf self.old.store.site)
-            (map (λ a. arc_value a) entries.now) }
-        requires apart { AreApart
-            (self.old.store.given ++ map (λ a. arc_value a) entries.now) }
-        ensures given { OnOk result (self.new.store.given
-            ≡ self.old.store.given ++ map (λ a. arc_value a) entries.now) }
-        ensures site { self.new.store.site ≡ self.old.store.site }
-        ensures comp { self.new.comp ≡ self.old.comp }
-    {
-        for entry in entries {
-            self.keep(entry)?;
-        }
-        Ok(())
-    }
-
-    /// Makes the room for an entry, and adds it.
-    fn keep(&mut self, entry: &Arc<PayEntry>) -> Result<(), NoMemory>
-        requires few { length self.old.store.given < most_given }
-        requires entry { IsEntryOf self.old.store.site (arc_value entry.now) }
-        requires apart { AreApart (self.old.store.given ++ arc_value entry.now ∷ []) }
-        ensures given { OnOk result
-            (self.new.store.given ≡ self.old.store.given ++ arc_value entry.now ∷ []) }
-        ensures site { self.new.store.site ≡ self.old.store.site }
-        ensures comp { self.new.comp ≡ self.old.comp }
-    {
-        let entries = [Arc::try_clone(entry)?];
-        self.reserve_all(&entries)?;
-        self.add_all(&entries);
-        Ok(())
     }
 }

@@ -1,36 +1,36 @@
 //! Reading the entries of a store, and judging the table of payloads in its bytes.
 
-ghost use Rattle.std.specs.Prelude.{◌≡◌, ◌≤◌, ◌+◌, ℕ, List, length, map, true, false, IfOk, IfErr};
-ghost use Rattle.std.specs.Arc.{arc_value};
+ghost use Rattle.std.specs.Prelude.{◌≡◌, ◌≤◌, ◌+◌, ℕ, List, length, true, false, IfOk, IfErr};
 ghost use Rattle.std.specs.List.{slice_range};
 ghost use Rattle.sz_region.specs.Taking.{number_at};
 ghost use Rattle.sz_spec.specs.Modes.{has_mapping};
+ghost use Rattle.sz_tables.specs.Entries.{entries};
 ghost use Rattle.sz_payload.specs.Begins.{AreLawful, BeginsPayloads, IsTableAt};
 ghost use Rattle.sz_payload.specs.Begins.{SaysNoPayloads};
 
 use crate::runs::number_at;
 use crate::table::is_payload;
 use std::alloc::Global;
-use std::sync::Arc;
-use sz_frame::PayEntry;
-use sz_region::{Take, take_entries};
+use sz_region::Take;
 use sz_spec::OpAt;
+use sz_tables::EntryTable;
 
-/// The entries of the operator's store that begins at a place, and the place behind it. `Bad`
-/// exactly where none begins there.
+/// The table of the entries of the operator's store that begins at a place, and the place behind
+/// it. `Bad` exactly where none begins there.
 pub(crate) fn take_lawful(
     alloc: Global,
     at: &OpAt,
     bytes: &[u8],
     from: u64,
-) -> Result<(Vec<Arc<PayEntry>>, u64), Take>
+) -> Result<(EntryTable, u64), Take>
     requires { has_mapping at.now.op ≡ false }
-    ensures ok { IfOk result (λ r. BeginsPayloads at.now bytes.now from r.1
-        (map (λ x. arc_value x) r.0.items)) }
+    ensures ok { IfOk result (λ r. BeginsPayloads at.now bytes.now from r.1 (entries r.0)) }
+    ensures out { IfOk result (λ r. r.0.out ≡ at.now.out) }
+    ensures lawful { IfOk result (λ r. AreLawful at.now r.0.payloads) }
     ensures within { IfOk result (λ r. r.1 ≤ length bytes.now) }
     ensures err { IfErr result (λ e. SaysNoPayloads at.now bytes.now from e) }
 {
-    match take_entries(alloc, at.out(), bytes, from) {
+    match EntryTable::take_bytes(alloc, at.out(), bytes, from) {
         Ok(taken) => {
             if are_lawful(at, bytes, from) {
                 Ok(taken)

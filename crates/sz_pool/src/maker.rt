@@ -58,7 +58,7 @@ impl<'a> Maker<'a> {
             &mut looked,
         )?;
         tally.add(looked);
-        self.shelf.place(rt, pass, &lineage)?;
+        self.shelf.place_as(rt, pass, &lineage, true)?;
         Ok(())
     }
 }

@@ -2,7 +2,7 @@
 --
 -- The key idea: on numbers, sets and kernels that are written out every definition is a computation. Expected values
 -- by hand.
-use Rattle.std.proofs.Common.{◌≡◌, ◌==◌, ◌||◌, pos, negsuc, true, false, Some, None, [], ◌∷◌, refl}
+use Rattle.std.proofs.Common.{◌≡◌, ◌==◌, ◌||◌, pos, negsuc, true, false, Some, None, [], ◌∷◌, map, refl}
 use Rattle.std.proofs.Common.{arith, true≢false, eqb-true, inl, inr, sym}
 use Rattle.std.proofs.lemmas.Bool.{or_cases}
 use Rattle.sz_cells.specs.Cells.{Cells}
@@ -14,39 +14,18 @@ use Rattle.sz_spec.proofs.RowsArrays.{n, none, grid, kernel, at}
 use Rattle.sz_refresh.specs.Names.{index_above, named, is_at, has_named, is_named, LieWithin, first_of}
 use Rattle.sz_refresh.specs.Whole.{middle_of, has_middle, reaches_all}
 
--- counted from 1, of three cells 1 to 3 name the first to the last
-pub counted-first : index_above 1 3 (pos 1) ≡ Some 0
-counted-first = refl
-
-pub counted-last : index_above 1 3 (pos 3) ≡ Some 2
-counted-last = refl
-
--- and 0, 4 and -1 name none
-pub counted-below : index_above 1 3 (pos 0) ≡ None
-counted-below = refl
-
-pub counted-above : index_above 1 3 (pos 4) ≡ None
-counted-above = refl
-
-pub counted-negative : index_above 1 3 (negsuc 0) ≡ None
-counted-negative = refl
+-- counted from 1, of three cells 1 to 3 name the first to the last, and 0, 4 and -1 name none
+pub counted-from_one : map (index_above 1 3) (pos 1 ∷ pos 3 ∷ pos 0 ∷ pos 4 ∷ negsuc 0 ∷ [])
+    ≡ Some 0 ∷ Some 2 ∷ None ∷ None ∷ None ∷ []
+counted-from_one = refl
 
 -- counted from 0, they are 0 to 2
-pub from-zero : index_above 0 3 (pos 0) ≡ Some 0
-from-zero = refl
-
-pub from-zero_last : index_above 0 3 (pos 2) ≡ Some 2
-from-zero_last = refl
-
-pub from-zero_above : index_above 0 3 (pos 3) ≡ None
-from-zero_above = refl
+pub counted-from_zero : map (index_above 0 3) (pos 0 ∷ pos 2 ∷ pos 3 ∷ []) ≡ Some 0 ∷ Some 2 ∷ None ∷ []
+counted-from_zero = refl
 
 -- a number names its cell, and nothing names none
-pub named-number : named 1 3 (n 2) ≡ Some 1
-named-number = refl
-
-pub named-nothing : named 1 3 none ≡ None
-named-nothing = refl
+pub names-its_cell : map (named 1 3) (n 2 ∷ none ∷ []) ≡ Some 1 ∷ None ∷ []
+names-its_cell = refl
 
 -- an index is at itself, and nowhere where there is none
 pub at-itself : is_at (Some 2) 2 ≡ true
@@ -63,20 +42,9 @@ abbrev two : Cells
 two = at (flat 1 4) (1 ∷ 2 ∷ [])
 
 -- counted from 1, they are named by 2 and 3 alone
-pub named-two : has_named 1 (n 2) two ≡ true
-named-two = refl
-
-pub named-three : has_named 1 (n 3) two ≡ true
-named-three = refl
-
-pub named-one : has_named 1 (n 1) two ≡ false
-named-one = refl
-
-pub named-four : has_named 1 (n 4) two ≡ false
-named-four = refl
-
-pub named-none : has_named 1 none two ≡ false
-named-none = refl
+pub named-alone : map (λ v. has_named 1 v two) (n 2 ∷ n 3 ∷ n 1 ∷ n 4 ∷ none ∷ [])
+    ≡ true ∷ true ∷ false ∷ false ∷ false ∷ []
+named-alone = refl
 
 -- a place names a cell by the old value or by the new one, of the set of each
 pub either-old : is_named 1 (n 2 ∷ n 0 ∷ []) two (n 0 ∷ n 0 ∷ []) two 0 ≡ true

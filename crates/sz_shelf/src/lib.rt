@@ -10,7 +10,8 @@
 //! - [`Shelf::make`] makes a shelf on which nothing is placed, and its first pass.
 //! - [`Shelf::split`] makes one pass more, for one thread more; [`Shelf::join`] puts a pass into
 //!   another, once its thread is done.
-//! - [`Shelf::place`] places the lineage of a piece, once, while the shelf is not sealed.
+//! - [`Shelf::place`] places the lineage of a piece, once, while the shelf is not sealed;
+//!   [`Shelf::place_as`] may tell beside it that its region pairs have the images of output cells.
 //! - [`Shelf::seal`] seals it, where every piece is placed.
 //! - [`Shelf::look`] adds the image of a set of cells, where it is sealed: an unsealed store is
 //!   never read.

@@ -2,6 +2,7 @@
 
 ghost use Rattle.std.specs.Prelude.{◌≡◌, ◌+◌, ◌<◌, ◌++◌, ◌∷◌, [], ◌||◌, length, map, true, false};
 ghost use Rattle.std.specs.Prelude.{not, Ok, Some, IfOk, OnOk, OnErr, IfSome, is_none, Option};
+ghost use Rattle.std.specs.Prelude.{All};
 ghost use Rattle.std.specs.Option.{option_map, option_or};
 ghost use Rattle.std.specs.Arc.{arc_value};
 ghost use Rattle.sz_cells.specs.Cells.{has, with_those};
@@ -14,6 +15,7 @@ ghost use Rattle.sz_core.specs.Events.{look_reply, after_look};
 ghost use Rattle.sz_shelf.specs.Machine.{found_shelf, left_shelf, first_step};
 ghost use Rattle.sz_shelf.specs.Machine.{told_of_place, told_of_seal, told_of_look};
 ghost use Rattle.sz_shelf.specs.Tags.{IsTag, StandsFor, tag_pieces, tag_image};
+ghost use Rattle.sz_shelf.specs.Apart.{HasImages};
 ghost use Rattle.sz_shelf.specs.Steps.{longer};
 ghost use Rattle.sz_shelf.specs.Passes.{TookTurn, newcomer, place_of, with_split, split_off};
 ghost use Rattle.sz_shelf.specs.Answers.{place_answer, seal_answer, look_answer, read_by};
@@ -142,8 +144,41 @@ impl Shelf {
         ensures left { IfOk result (λ _.
             left_shelf pass.new ≡ after_place lineage.now.piece (found_shelf pass.new)) }
     {
+        self.place_as(rt, pass, lineage, false)
+    }
+
+    /// As [`Shelf::place`]. Where `images`, each region pair has the images of an output cell: of
+    /// each input all cells to which that is related. A store of `regions` that was given such
+    /// alone tells a set by its first cell, so that pieces that name one large set cost little;
+    /// else its runs are compared.
+    pub fn place_as<R: Wait>(
+        &self,
+        rt: &R,
+        pass: &mut Pass,
+        lineage: &PieceLineage,
+        images: bool,
+    ) -> Result<Placed, NoMemory>
+        requires own { place_of pass.old ≡ self.now }
+        requires piece { lineage.now.piece < tag_pieces pass.old.tag }
+        requires fits { let t = pass.old.tag in
+            FitsAsNeeded (measure_of t.site t.inputs) t.list lineage.now.piece lineage.now }
+        requires images { let t = pass.old.tag in
+            images ≡ true → All (HasImages t.site t.inputs) lineage.now.regions }
+        ensures turn { TookTurn pass.old pass.new }
+        ensures kept { pass.new.kept ≡ pass.old.kept }
+        ensures answer { IfOk result
+            (λ p. p ≡ place_answer lineage.now.piece pass.new.found pass.new.found_sealed) }
+        ensures new { result ≡ Ok New
+            → pass.new.seen ≡ pass.new.found ++ lineage.now.piece ∷ [] }
+        ensures other { ¬ (result ≡ Ok New) → pass.new.seen ≡ pass.new.found }
+        ensures saw { pass.new.saw ≡ pass.new.found_sealed }
+        ensures told { IfOk result (λ p. told_of_place p
+            ≡ place_reply lineage.now.piece (found_shelf pass.new)) }
+        ensures left { IfOk result (λ _.
+            left_shelf pass.new ≡ after_place lineage.now.piece (found_shelf pass.new)) }
+    {
         self.words.enter(rt, &mut pass.seat);
-        let placed = self.words.place(&mut pass.seat, lineage);
+        let placed = self.words.place(&mut pass.seat, lineage, images);
         self.words.leave(&mut pass.seat);
         placed
     }

@@ -5,7 +5,7 @@
 //! stand for.
 
 ghost use Rattle.std.specs.Prelude.{◌≡◌, ℕ, ◌<◌, ◌≤◌, ◌++◌, ◌∷◌, [], length, true, false};
-ghost use Rattle.std.specs.Prelude.{Some, None, IfOk, OnOk, OnErr};
+ghost use Rattle.std.specs.Prelude.{Some, None, IfOk, OnOk, OnErr, All};
 ghost use Rattle.std.specs.List.{slice_index_or};
 ghost use Rattle.std.specs.Arc.{arc_value};
 ghost use Rattle.sz_cells.specs.Cells.{has, with_those};
@@ -17,6 +17,7 @@ ghost use Rattle.sz_shelf.specs.Tags.{IsTag, StandsFor, tag_pieces, tag_image};
 ghost use Rattle.sz_shelf.specs.Placed.{StandsOnPlaced};
 ghost use Rattle.sz_shelf.specs.Contents.{is_in, missing_in, least_missing};
 ghost use Rattle.sz_shelf.specs.Keeping.{IsFirst};
+ghost use Rattle.sz_shelf.specs.Apart.{HasImages, IsRegions};
 
 use crate::read_by::ReadBy;
 use crate::stored::Stored;
@@ -28,7 +29,7 @@ use std::sync::Arc;
 use sz_cells::laws::a_bitmap_is_its_cells;
 use sz_cells::{CellBits, NoMemory};
 use sz_frame::PieceLineage;
-use sz_spec::{Dir, Strategy, pieces_of};
+use sz_spec::{Dir, Op, Strategy, pieces_of};
 use sz_store::NodeStore;
 
 /// The stores of a shelf, its tag, and the placed pieces.
@@ -43,11 +44,16 @@ pub struct Shelved {
     /// The least piece that is not placed, or the number of pieces.
     first: usize,
     sealed: bool,
+    /// Whether the operator is `regions`, and each region pair in the stores is known to have the
+    /// images of an output cell. The sets of its input are then one or apart.
+    apart: bool,
 }
 
 impl Model for Shelved {
     ghost use Rattle.sz_shelf.specs.Contents.{Contents};
+    ghost use Rattle.std.specs.Prelude.{◌≡◌, true};
     ghost use Rattle.sz_shelf.specs.Keeping.{IsShelved};
+    ghost use Rattle.sz_shelf.specs.Apart.{AreRegionImages};
 
     ghost Value = { Contents };
 
@@ -58,7 +64,8 @@ impl Model for Shelved {
     } };
 
     ghost invariant = { λ s.
-        IsShelved s.tag.value s.placed.items s.sealed s.marks.items s.first s.stored };
+        IsShelved s.tag.value s.placed.items s.sealed s.marks.items s.first s.stored
+        × (s.apart ≡ true → AreRegionImages s.tag.value s.stored) };
 }
 
 impl Shelved {
@@ -75,6 +82,7 @@ impl Shelved {
             list,
         } = tag;
         let pieces = pieces_of(at.out()) as usize;
+        let apart = is_regions(at.op());
         let store = NodeStore::new(alloc, at, &list)?;
         let placed = Vec::with_capacity(alloc, pieces)?;
         let marks = vec![in alloc; false; pieces]?;
@@ -85,6 +93,7 @@ impl Shelved {
             marks,
             first: 0,
             sealed: false,
+            apart,
         })
     }
 
@@ -147,22 +156,26 @@ impl Shelved {
         self.first as u32
     }
 
-    /// Places the lineage of a piece. Where there is no memory, nothing changes. The search for the
-    /// least piece that is missing goes on from where it was, so all of them together go over the
-    /// pieces once.
-    pub(crate) fn place(&mut self, lineage: &PieceLineage) -> Result<(), NoMemory>
+    /// Places the lineage of a piece, of which each region pair has the images of an output cell
+    /// where `images`. Where there is no memory, nothing changes. The search for the least piece
+    /// that is missing goes on from where it was, so all of them together go over the pieces once.
+    pub(crate) fn place(&mut self, lineage: &PieceLineage, images: bool) -> Result<(), NoMemory>
         requires piece { lineage.now.piece < tag_pieces self.old.tag }
         requires fits { let t = self.old.tag in
             FitsAsNeeded (measure_of t.site t.inputs) t.list lineage.now.piece lineage.now }
         requires open { self.old.sealed ≡ false }
         requires new { is_in self.old.placed lineage.now.piece ≡ false }
+        requires images { let t = self.old.tag in
+            images ≡ true → All (HasImages t.site t.inputs) lineage.now.regions }
         ensures ok { OnOk result (self.new ≡ record self.old {
           placed = self.old.placed ++ lineage.now.piece ∷ [];
         }) }
         ensures err { OnErr result (self.new ≡ self.old) }
     {
         self.placed.reserve(1)?;
-        self.stored.place(lineage)?;
+        let apart = both(self.apart, images);
+        self.stored.place(lineage, apart)?;
+        self.apart = apart;
         let piece = lineage.piece();
         self.placed.push_reserved(piece);
         self.marks[piece as usize] = true;
@@ -224,6 +237,21 @@ impl Shelved {
     {
         self.stored = Stored::Shared(store);
     }
+}
+
+/// Whether an operator is `regions`.
+fn is_regions(op: &Op) -> bool
+    ensures { result ≡ true → IsRegions op.now }
+{
+    matches!(op, Op::Regions { .. })
+}
+
+/// Whether both are so.
+fn both(one: bool, other: bool) -> bool
+    ensures one { result ≡ true → one ≡ true }
+    ensures other { result ≡ true → other ≡ true }
+{
+    one && other
 }
 
 /// The first place that is not marked, or the number of places. Each one before `from` is marked.

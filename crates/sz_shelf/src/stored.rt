@@ -1,8 +1,9 @@
 //! The stores of a shelf: open while pieces are placed, and shared once they are handed out.
 
-ghost use Rattle.std.specs.Prelude.{◌≡◌, Some, IfOk, OnOk, OnErr};
+ghost use Rattle.std.specs.Prelude.{◌≡◌, Some, IfOk, OnOk, OnErr, true};
 ghost use Rattle.std.specs.Arc.{arc_value};
 ghost use Rattle.sz_shelf.specs.Keeping.{store_in, IsThere, CanTake, with_more, IsSharedFrom};
+ghost use Rattle.sz_shelf.specs.Apart.{StayApart};
 
 use std::alloc::{AllocFailed, Global};
 use std::sync::Arc;
@@ -34,15 +35,17 @@ impl Stored {
         }
     }
 
-    /// Places the lineage of a piece that is not placed in the stores yet.
-    pub(crate) fn place(&mut self, lineage: &PieceLineage) -> Result<(), NoMemory>
-        requires { CanTake lineage.now self.old }
+    /// Places the lineage of a piece that is not placed in the stores yet. Where `apart`, the sets
+    /// of each input that a store has then are one or apart.
+    pub(crate) fn place(&mut self, lineage: &PieceLineage, apart: bool) -> Result<(), NoMemory>
+        requires take { CanTake lineage.now self.old }
+        requires apart { apart ≡ true → StayApart lineage.now self.old }
         ensures ok { OnOk result (self.new ≡ with_more lineage.now self.old) }
         ensures err { OnErr result (self.new ≡ self.old) }
     {
         match self {
             Stored::Open(store) => {
-                store.place(lineage)?;
+                store.place_as(lineage, apart)?;
                 Ok(())
             }
             Stored::Shared(_) | Stored::Moved => unreachable!(),

@@ -1,7 +1,7 @@
 //! The flag, the count and the slot. Their table is in sight of this file alone, so these calls are
 //! all the steps there are.
 ghost use Rattle.std.specs.Prelude.{◌≡◌, ◌+◌, ◌<◌, ◌≤◌, ◌++◌, ◌∷◌, [], length, false, true, None};
-ghost use Rattle.std.specs.Prelude.{Ok};
+ghost use Rattle.std.specs.Prelude.{Ok, All};
 ghost use Rattle.std.specs.Prelude.{IfOk, OnErr, IfSome, is_none, not};
 ghost use Rattle.std.specs.Arc.{arc_value};
 ghost use Rattle.sz_cells.specs.Cells.{has, with_those};
@@ -11,6 +11,7 @@ ghost use Rattle.sz_store.specs.Needed.{FitsAsNeeded};
 ghost use Rattle.sz_frame.specs.Images.{measure_of};
 ghost use Rattle.sz_shelf.specs.Tags.{StandsFor, tag_pieces, tag_image};
 ghost use Rattle.sz_shelf.specs.Contents.{missing_in};
+ghost use Rattle.sz_shelf.specs.Apart.{HasImages};
 ghost use Rattle.sz_shelf.specs.Rule.{first_view, last_of, count_of, contents};
 ghost use Rattle.sz_shelf.specs.Steps.{after_win, after_release, after_take, after_count};
 ghost use Rattle.sz_shelf.specs.Steps.{after_load, after_split, parted_view, after_join, Grows};
@@ -234,17 +235,21 @@ impl Words {
         self.release(seat);
     }
 
-    /// In a turn: places the lineage of a piece, where the store is not sealed and has it not.
+    /// In a turn: places the lineage of a piece, where the store is not sealed and has it not. Each
+    /// of its region pairs has the images of an output cell where `images`.
     pub(crate) fn place(
         &self,
         seat: &mut Seat<Shelved, View>,
         lineage: &PieceLineage,
+        images: bool,
     ) -> Result<Placed, NoMemory>
         requires own { seat.old.table_id ≡ self.now.table }
         requires out { HasOut seat.old.me }
         requires piece { lineage.now.piece < tag_pieces seat.old.me.0.tag }
         requires fits { let t = seat.old.me.0.tag in
             FitsAsNeeded (measure_of t.site t.inputs) t.list lineage.now.piece lineage.now }
+        requires images { let t = seat.old.me.0.tag in
+            images ≡ true → All (HasImages t.site t.inputs) lineage.now.regions }
         ensures own { seat.new.table_id ≡ seat.old.table_id }
         ensures out { HasOut seat.new.me }
         ensures answer { let v = seat.old.me.0 in
@@ -260,7 +265,7 @@ impl Words {
         if store.has(lineage.piece()) {
             return Ok(Placed::Already);
         }
-        store.place(lineage)?;
+        store.place(lineage, images)?;
         let count = store.count();
         self.count(seat, u64::from(count));
         Ok(Placed::New)

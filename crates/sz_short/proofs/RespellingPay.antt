@@ -13,7 +13,7 @@ use Rattle.sz_cells.specs.Cells.{Cells}
 use Rattle.sz_cells.specs.SetBytes.{IsSetOf, set_bytes, four_bytes}
 use Rattle.sz_frame.specs.Parts.{Entry}
 use Rattle.sz_region.specs.Counted.{counted, rows_bytes, IsAt}
-use Rattle.sz_region.specs.PayBytes.{IsShort, payload_bytes, AreNamesOfEntry, BeginsEntries}
+use Rattle.sz_region.specs.PayBytes.{IsShort, payload_bytes, AreNamesOfEntry, IsPayWord, BeginsEntries}
 use Rattle.sz_region.specs.Stores.{NoneAt, AreFew, NoEntriesBegin}
 use Rattle.sz_region.proofs.Appending.{kept-first}
 use Rattle.sz_region.proofs.Numbering.{zip-length}
@@ -89,13 +89,41 @@ pub pay-begins : (spell : Cells → List ℕ) (out : Extent) (bytes : List ℕ) 
     (sets : List Cells) (names : List (List ℕ)) (entries : List Entry) → ArePayParts out payloads sets names entries
     → IsAt bytes at next (pay_word spell payloads sets names) → BeginsPay spell out bytes at next entries
 pay-begins spell out bytes at next payloads sets names entries are read = record {
+  rest = drop next bytes;
   payloads = payloads;
   sets = sets;
   names = names;
-  rest = drop next bytes;
   are = are;
   spelled = read.spelled;
   ends = refl;
+}
+
+-- the parts of a word with sets of eight bytes a run, and the word of parts
+pub word-parts : (out : Extent) (payloads : List (List ℕ)) (sets : List Cells) (entries : List Entry)
+    → (w : (word : List ℕ) × IsPayWord out payloads sets entries word) → ArePayParts out payloads sets w.1.names entries
+word-parts out payloads sets entries w = record {
+  short = w.1.short;
+  few_payloads = w.1.few_payloads;
+  each = w.1.each;
+  few_sets = w.1.few_sets;
+  few = w.1.few;
+  apart = w.1.apart;
+  named = w.1.named;
+}
+
+pub parts-word : (out : Extent) (payloads : List (List ℕ)) (sets : List Cells) (entries : List Entry)
+    → (w : (names : List (List ℕ)) × ArePayParts out payloads sets names entries)
+    → IsPayWord out payloads sets entries (pay_word set_bytes payloads sets w.0)
+parts-word out payloads sets entries w = record {
+  short = w.1.short;
+  few_payloads = w.1.few_payloads;
+  each = w.1.each;
+  spelled = refl;
+  few_sets = w.1.few_sets;
+  few = w.1.few;
+  apart = w.1.apart;
+  names = w.0;
+  named = w.1.named;
 }
 
 -- a store with sets of eight bytes a run, as it is stated elsewhere
@@ -106,15 +134,7 @@ pay-long out bytes at next entries begins = record {
   sets = begins.sets;
   names = begins.is_word.names;
   rest = begins.rest;
-  are = record {
-    short = begins.is_word.short;
-    few_payloads = begins.is_word.few_payloads;
-    each = begins.is_word.each;
-    few_sets = begins.is_word.few_sets;
-    few = begins.is_word.few;
-    apart = begins.is_word.apart;
-    named = begins.is_word.named;
-  };
+  are = word-parts out begins.payloads begins.sets entries (begins.word, begins.is_word);
   spelled = begins.spelled ∙ ap (λ (w : List ℕ). w ++ begins.rest) begins.is_word.spelled;
   ends = begins.ends;
 }
@@ -126,17 +146,7 @@ long-pay out bytes at next entries begins = record {
   sets = begins.sets;
   word = pay_word set_bytes begins.payloads begins.sets begins.names;
   rest = begins.rest;
-  is_word = record {
-    short = begins.are.short;
-    few_payloads = begins.are.few_payloads;
-    each = begins.are.each;
-    few_sets = begins.are.few_sets;
-    few = begins.are.few;
-    apart = begins.are.apart;
-    names = begins.names;
-    named = begins.are.named;
-    spelled = refl;
-  };
+  is_word = parts-word out begins.payloads begins.sets entries (begins.names, begins.are);
   spelled = begins.spelled;
   ends = begins.ends;
 }

@@ -2,10 +2,10 @@
 use Rattle.std.proofs.Common.{◌≡◌, ℕ, zero, suc, ◌+◌, ◌<◌, ◌≤◌, ◌==◌, Bool, true, false, not, ◌||◌, List, [], ◌∷◌, ◌++◌}
 use Rattle.std.proofs.Common.{length, map, get_or, set, take, drop, refl, sym, ap, ap₂, subst}
 use Rattle.std.proofs.Common.{◌∙◌, true≢false, inl, inr}
-use Rattle.std.proofs.Common.{arith, eqb-true, eq-eqb, get_or-set_other, drop-cons, append-nil}
+use Rattle.std.proofs.Common.{arith, eqb-true, eq-eqb, get_or-set_other, drop-cons, append-nil, All}
 use Rattle.std.specs.List.{list_any}
 use Rattle.std.proofs.lemmas.Bool.{cases_Bool}
-use Rattle.std.proofs.lemmas.List.{get_or-set_same, get_or_default, take_more, take-append-drop}
+use Rattle.std.proofs.lemmas.List.{get_or-set_same, get_or_default, take_more, take-append-drop, get_or-map}
 use Rattle.std.proofs.lemmas.List.Elements.{filter-append}
 use Rattle.sz_spec.specs.declared.modes.Strategy.{Strategy}
 use Rattle.sz_spec.specs.declared.modes.Strategy.TheVariants as strategy
@@ -14,11 +14,12 @@ use Rattle.sz_spec.specs.Shapes.{Site}
 use Rattle.sz_frame.specs.Parts.{Parts}
 use Rattle.sz_region.specs.LawsStores.{AreRight}
 use Rattle.sz_frame.proofs.Passing.{any-map}
-use Rattle.sz_store.specs.Kept.{Keep, keep_with, holding_for, stored_in}
-use Rattle.sz_store.specs.Stocks.{stock_of, keep_of}
+use Rattle.sz_store.specs.Kept.{Keep, NodeLineage, empty_keep, keep_at, keep_with, holding_for, stored_in}
+use Rattle.sz_store.specs.Stocks.{stock_of, keep_of, site_of}
 use Rattle.sz_store.specs.Words.{IsWordOf, AreWordsOf, BeginEach, NoneBegin}
 use Rattle.sz_store.specs.declared.stores.ListedStore.{ListedStore}
 use Rattle.sz_store.proofs.Parting.{or-cases}
+use Rattle.sz_store.proofs.Placing.{all-of_map}
 use Rattle.sz_store.proofs.Reading.{each-behind, each-front, words-append}
 
 -- what the first store of a strategy keeps
@@ -30,6 +31,23 @@ held-first t [] i d inside before here = absurd (omega arith)
 held-first t (l ∷ ls) zero d inside before here = rw here refl
 held-first t (l ∷ ls) (suc i) d inside before here =
     rw (before 0 (omega arith)) (held-first t ls i d (omega arith) (λ k below. before (suc k) (omega arith)) here)
+
+-- ---- the store at a place
+
+-- the operator that it is for
+pub own-site : (stores : List ListedStore) (place : ℕ) (l : ListedStore) (s : Site) (view : NodeLineage)
+    → All (λ x. x ≡ s) (map site_of stores) → place < length stores → l ≡ get_or stores place l → s ≡ view.site
+    → site_of l ≡ view.site
+own-site stores place l s view same inside is seen =
+    ap site_of is ∙ all-of_map (λ (x : Site). x ≡ s) site_of stores same place l inside ∙ seen
+
+-- the store, as the node's stores have it
+pub keep-here : (stores : List ListedStore) (place : ℕ) (l : ListedStore) (view : NodeLineage)
+    → map keep_of stores ≡ view.stores → place < length stores → l ≡ get_or stores place l
+    → keep_of l ≡ keep_at view.stores place
+keep-here stores place l view seen inside is =
+    ap keep_of is ∙ sym (get_or-map keep_of stores place l (empty_keep strategy.Map) inside)
+    ∙ ap (λ (fs : List Keep). keep_at fs place) seen
 
 -- ---- stores with a lineage more
 

@@ -211,6 +211,20 @@ word-begins s (entries true es) before word rest right is =
 word-begins s (entries false es) before word rest right is =
     payloads-written s is.0 is.1 es before word rest is.4 is.5
 
+-- behind other bytes the word of a store begins it, whatever follows
+pub word-read : (s : Site) (f : Keep) (old new word rest : List ℕ) → AreRight (s.out ∷ s.ins) → IsOfItsMode f
+    → IsWordOf s f.holding word → new ≡ old ++ word
+    → Begins s (mode_of f.strategy) (new ++ rest) (length old) (length new) f.holding
+word-read s f old new word rest right mode is added =
+    let h = f.holding in
+    let bytes : old ++ (word ++ rest) ≡ new ++ rest =
+    sym (append_assoc old word rest) ∙ ap (λ (xs : List ℕ). xs ++ rest) (sym added) in
+    let end : length old + length word ≡ length new = sym (ap length added ∙ length-append old word) in
+    subst (λ (m : Mode). Begins s m (new ++ rest) (length old) (length new) h) (sym mode)
+    (subst (λ (bs : List ℕ). Begins s (mode_in h) bs (length old) (length new) h) bytes
+    (subst (λ (n : ℕ). Begins s (mode_in h) (old ++ (word ++ rest)) (length old) n h) end
+    (word-begins s h old word rest right is)))
+
 -- the words of some stores begin them
 pub words-begin : (s : Site) (fs : List Keep) (before words rest : List ℕ) → AreRight (s.out ∷ s.ins)
     → All IsOfItsMode fs → AreWordsOf s fs words

@@ -8,6 +8,7 @@ use Rattle.sz_cells.specs.declared.Cell.{Cell}
 use Rattle.sz_spec.specs.declared.modes.Mode.{Mode}
 use Rattle.sz_spec.specs.declared.modes.Mode.TheVariants as mode
 use Rattle.sz_spec.specs.declared.modes.Strategy.{Strategy}
+use Rattle.sz_spec.specs.declared.modes.Strategy.TheVariants as strategy
 use Rattle.sz_spec.specs.Shapes.{Site}
 use Rattle.sz_spec.specs.Modes.{mode_of, is_stored, number_of}
 use Rattle.sz_spec.specs.Pieces.{pieces_of}
@@ -94,6 +95,10 @@ is_whole s = list_all (λ b. b) s.placed
 -- the least piece that is not placed, or the number of pieces
 abbrev pub missing : NodeLineage → ℕ
 missing s = position_or_len not s.placed
+
+-- the store at a place; behind the last one nothing is kept
+abbrev pub keep_at : List Keep → ℕ → Keep
+keep_at keeps place = slice_index_or keeps place (empty_keep strategy.Map)
 
 -- what the store of a strategy keeps, the first one's where there are several
 abbrev pub holding_for : Strategy → List Keep → Holding

@@ -6,8 +6,10 @@ use Rattle.sz_spec.specs.Shapes.{Site}
 use Rattle.sz_spec.specs.Modes.{mode_of}
 use Rattle.sz_frame.specs.Parts.{Parts}
 use Rattle.sz_frame.specs.Fits.{AreApart}
+use Rattle.sz_tables.specs.Rows.{RowTable, pairings}
 use Rattle.sz_tables.specs.Stores.{Room, IsWithin, IsPairOf, no_room, most_given}
 use Rattle.sz_tables.specs.Stores.{room_for_pairs, room_for_entries}
+use Rattle.sz_tables.specs.Apart.{HaveInputsApart}
 use Rattle.sz_store.specs.Kept.{Holding, regions, entries, Keep, nothing_for}
 use Rattle.sz_payload.specs.Kept.{IsEntryOf, part_of}
 use Rattle.sz_store.specs.declared.kept.KeptStore.{KeptStore}
@@ -68,6 +70,17 @@ mode_in (regions rs) = mode.Full
 mode_in (entries false es) = mode.Pay
 mode_in (entries true es) = mode.Comp
 
+-- what is kept are entries
+abbrev pub AreEntries : Holding → Type 0
+AreEntries (regions rs) = ⊥
+AreEntries (entries comp es) = Unit {0}
+
+-- the table has the region pairs that are kept, between the operator's shapes
+pub record IsTableOf (s : Site) (h : Holding) (t : RowTable) : Type 0 where
+  pub pairs : h ≡ regions (pairings t)
+  pub out : t.out ≡ s.out
+  pub ins : t.ins ≡ s.ins
+
 -- a store keeps what its strategy asks for
 abbrev pub IsOfItsMode : Keep → Type 0
 IsOfItsMode f = mode_of f.strategy ≡ mode_in f.holding
@@ -96,6 +109,12 @@ IsPartOf s p (entries comp es) =
 pub record CanGrow (p : Parts) (k : Stock) : Type 0 where
   pub few : count_in k.holding + more_in p k.holding ≤ most_given
   pub part : IsPartOf k.site p k.holding
+
+-- Where the store keeps region pairs, the sets that these and a lineage's have of an input are one
+-- or apart, any two of them. Of entries nothing is asked.
+abbrev pub StaysApart : Parts → Holding → Type 0
+StaysApart p (regions rs) = HaveInputsApart (rs ++ p.regions)
+StaysApart p (entries comp es) = Unit {0}
 
 -- it has the room for it
 abbrev pub HasRoomFor : Parts → Stock → Type 0

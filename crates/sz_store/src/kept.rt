@@ -5,7 +5,7 @@
 
 ghost use Rattle.std.specs.Prelude.{◌≡◌, ℕ, ◌<◌, ◌≤◌, List, [], ◌++◌, length, true, false};
 ghost use Rattle.std.specs.Prelude.{OnOk, OnErr, IfOk};
-ghost use Rattle.std.specs.Prelude.{IfErr};
+ghost use Rattle.std.specs.Prelude.{IfErr, MatchOption};
 ghost use Rattle.std.specs.Arc.{arc_value};
 ghost use Rattle.sz_cells.specs.Cells.{has, with_those};
 ghost use Rattle.sz_spec.specs.Modes.{is_stored, supports, mode_of, has_mapping};
@@ -15,6 +15,7 @@ ghost use Rattle.sz_tables.specs.Stores.{no_room};
 ghost use Rattle.sz_store.specs.Kept.{entries, holding_stands, nothing_for, with_part};
 ghost use Rattle.sz_store.specs.Checklists.{kept_in, ticked_in};
 ghost use Rattle.sz_store.specs.Stocks.{stock_of, mode_in, empty_stock, CanGrow, HasRoomFor};
+ghost use Rattle.sz_store.specs.Stocks.{AreEntries, IsTableOf, StaysApart};
 ghost use Rattle.sz_store.specs.Words.{IsWordOf, Begins, NoneBegins, SaysNone};
 
 use crate::checklist::StoreChecklist;
@@ -27,6 +28,7 @@ use sz_full_one::FullOne;
 use sz_payload::{PayMap, PayStore};
 use sz_region::Take;
 use sz_spec::{Dir, OpAt, Strategy};
+use sz_tables::RegionTable;
 
 /// A store of one sort.
 #[derive(Drop)]
@@ -73,18 +75,20 @@ impl KeptStore {
         }
     }
 
-    /// Adds the store's part of a lineage. Takes no memory: each capacity stays.
-    pub fn add(&mut self, lineage: &PieceLineage)
+    /// Adds the store's part of a lineage. Takes no memory: each capacity stays. Where `apart`, the
+    /// sets of an input are one or apart, so that runs need not be compared.
+    pub fn add(&mut self, lineage: &PieceLineage, apart: bool)
         requires part { CanGrow lineage.now (stock_of self.old) }
         requires room { HasRoomFor lineage.now (stock_of self.old) }
+        requires apart { apart ≡ true → StaysApart lineage.now (stock_of self.old).holding }
         ensures holding { (stock_of self.new).holding
             ≡ with_part lineage.now (stock_of self.old).holding }
         ensures site { (stock_of self.new).site ≡ (stock_of self.old).site }
         ensures capacities { (stock_of self.new).capacities ≡ (stock_of self.old).capacities }
     {
         match self {
-            KeptStore::One(store) => store.add_piece(lineage),
-            KeptStore::Many(store) => store.add_piece(lineage),
+            KeptStore::One(store) => store.add_piece_as(lineage, apart),
+            KeptStore::Many(store) => store.add_piece_as(lineage, apart),
             KeptStore::Pay(store) => store.add_piece(lineage),
         }
     }
@@ -120,6 +124,18 @@ impl KeptStore {
                     StoreChecklist::Pays(list)
                 }
             }
+        }
+    }
+
+    /// The table of the region pairs. `None` exactly where the store keeps entries.
+    pub fn table(&self) -> Option<&RegionTable>
+        ensures { let k = stock_of self.now in MatchOption result (AreEntries k.holding)
+            (λ t. IsTableOf k.site k.holding t.now) }
+    {
+        match self {
+            KeptStore::One(store) => Some(store.table()),
+            KeptStore::Many(store) => Some(store.table()),
+            KeptStore::Pay(_) => None,
         }
     }
 

@@ -4,12 +4,14 @@
 //! which pieces of the node's output are placed in them. `Map` and `BlackBox` keep nothing.
 //!
 //! - [`NodeStore::new`] makes the stores of a list, which stand for nothing yet.
-//! - [`NodeStore::place`] adds the lineage of a piece to each of them, once a piece.
+//! - [`NodeStore::place`] adds the lineage of a piece to each of them, once a piece, and
+//!   [`NodeStore::place_as`] does so sooner where the sets of an input are one or apart.
 //! - [`NodeStore::is_whole`] and [`NodeStore::missing`] tell whether every piece is placed, and the
 //!   least one that is not.
 //! - [`NodeStore::image`] adds the image of a set of cells by the store of a strategy.
 //! - [`NodeStore::checklist`] tells whether lineages are those that the store of a strategy keeps.
 //! - [`NodeStore::put_bytes`] writes the stores, and [`NodeStore::take_bytes`] reads them again.
+//! - [`NodeStore::stores`], [`NodeStore::table`] and [`NodeStore::put_store`] go over them by place.
 //!
 //! ```
 //! let mut store = NodeStore::new(alloc, at, &[Strategy::FullOneB, Strategy::CompMany])?;
@@ -29,7 +31,7 @@
 #![tactic(auto)]
 
 ghost use Rattle.std.specs.Prelude.{◌≡◌, ℕ, ◌<◌, ◌≤◌, ◌==◌, List, ◌++◌, length, true, not, All};
-ghost use Rattle.std.specs.Prelude.{OnOk, OnErr, IfOk, IfErr};
+ghost use Rattle.std.specs.Prelude.{OnOk, OnErr, IfOk, IfErr, MatchOption, map};
 ghost use Rattle.std.specs.List.{position_or_len};
 ghost use Rattle.std.specs.Arc.{arc_value};
 ghost use Rattle.sz_cells.specs.Cells.{has, with_those};
@@ -38,9 +40,11 @@ ghost use Rattle.sz_spec.specs.Pieces.{pieces_of};
 ghost use Rattle.sz_spec.specs.Sides.{near_side, far_side, image_in};
 ghost use Rattle.sz_store.specs.Kept.{no_lineage, with_lineage, is_placed, is_whole};
 ghost use Rattle.sz_store.specs.Kept.{AreParts, missing, holding_for, holding_stands, stored_in};
-ghost use Rattle.sz_store.specs.Kept.{nothing_for};
+ghost use Rattle.sz_store.specs.Kept.{nothing_for, keep_at};
+ghost use Rattle.sz_store.specs.Stocks.{IsOfItsMode, AreEntries, IsTableOf, StaysApart};
 ghost use Rattle.sz_store.specs.Checklists.{kept_in, ticked_in};
-ghost use Rattle.sz_store.specs.Words.{AreWordsOf, BeginEach, NoneBegin, SaysNone};
+ghost use Rattle.sz_store.specs.Words.{AreWordsOf, IsWordOf, Begins, BeginEach};
+ghost use Rattle.sz_store.specs.Words.{NoneBegin, SaysNone};
 
 mod checklist;
 mod kept;
@@ -56,6 +60,7 @@ use sz_cells::{CellBits, NoMemory};
 use sz_frame::PieceLineage;
 use sz_region::{Take, shapes_are_within_limits};
 use sz_spec::{Dir, OpAt, Strategy, pieces_of};
+use sz_tables::RegionTable;
 
 /// The most region pairs or entries of a store.
 const MOST: u32 = 1_073_741_824;
@@ -137,6 +142,23 @@ impl NodeStore {
         ensures ok { OnOk result (self.new ≡ with_lineage self.old lineage.now) }
         ensures err { OnErr result (self.new ≡ self.old) }
     {
+        self.place_as(lineage, false)
+    }
+
+    /// As [`NodeStore::place`]. Where `apart`, the sets of each input that a store of region pairs
+    /// has then are one or have no cell in common, any two of them.
+    ///
+    /// A set that such a store has costs then a look at some of its runs, where it else costs one
+    /// at each of them.
+    pub fn place_as(&mut self, lineage: &PieceLineage, apart: bool) -> Result<bool, NoMemory>
+        requires piece { lineage.now.piece < pieces_of self.old.site.out }
+        requires parts { AreParts self.old.site self.old.list lineage.now }
+        requires apart { apart ≡ true
+            → All (λ f. StaysApart lineage.now f.holding) self.old.stores }
+        ensures new { IfOk result (λ b. b ≡ not (is_placed self.old.placed lineage.now.piece)) }
+        ensures ok { OnOk result (self.new ≡ with_lineage self.old lineage.now) }
+        ensures err { OnErr result (self.new ≡ self.old) }
+    {
         let piece = lineage.piece() as usize;
         if self.placed[piece] {
             return Ok(false);
@@ -146,7 +168,7 @@ impl NodeStore {
             return Err(NoMemory);
         }
         reserve_all(&mut self.stores, lineage)?;
-        add_all(&mut self.stores, lineage);
+        add_all(&mut self.stores, lineage, apart);
         self.placed[piece] = true;
         self.spare -= most as u32;
         Ok(true)
@@ -226,6 +248,41 @@ impl NodeStore {
             to.truncate(length);
         }
         put
+    }
+
+    /// How many stores there are: one for each stored strategy of the list, in its order.
+    pub fn stores(&self) -> usize
+        ensures count { result ≡ length self.now.stores }
+        ensures strategies { map (λ f. f.strategy) self.now.stores ≡ stored_in self.now.list }
+        ensures modes { All IsOfItsMode self.now.stores }
+    {
+        self.stores.len()
+    }
+
+    /// The table of the region pairs of the store at a place. `None` exactly where it keeps
+    /// entries.
+    pub fn table(&self, place: usize) -> Option<&RegionTable>
+        requires { place < length self.now.stores }
+        ensures { let s = self.now in let h = (keep_at s.stores place).holding in
+            MatchOption result (AreEntries h) (λ t. IsTableOf s.site h t.now) }
+    {
+        self.stores[place].kept.table()
+    }
+
+    /// Appends the bytes of the store at a place: whatever follows them, they are read again as this
+    /// store, and in no other way. After `NoMemory` the bytes are as before.
+    pub fn put_store(&self, place: usize, to: &mut Vec<u8>) -> Result<(), NoMemory>
+        requires { place < length self.now.stores }
+        ensures ok { let s = self.now in OnOk result ((word : List ℕ)
+            × IsWordOf s.site (keep_at s.stores place).holding word
+            × (to.new.items ≡ to.old.items ++ word)) }
+        ensures read { let s = self.now in let f = keep_at s.stores place in
+            OnOk result ((rest : List ℕ) → Begins s.site (mode_of f.strategy)
+            (to.new.items ++ rest) (length to.old.items) (length to.new.items) f.holding) }
+        ensures err { OnErr result (to.new.items ≡ to.old.items) }
+    {
+        shapes_are_within_limits(&self.at.out(), self.at.ins());
+        self.stores[place].kept.put_bytes(to)
     }
 
     /// The stores of a list of strategies of an operator, whose bytes begin one after another at a

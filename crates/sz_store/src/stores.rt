@@ -8,7 +8,7 @@ ghost use Rattle.sz_spec.specs.Shapes.{Site};
 ghost use Rattle.sz_spec.specs.Modes.{supports, is_stored, number_of, mode_of};
 ghost use Rattle.sz_store.specs.Kept.{Keep, empty_keep, stored_in, keep_with, holding_for};
 ghost use Rattle.sz_store.specs.Stocks.{stock_of, keep_of, site_of, CanGrow, HasRoomFor};
-ghost use Rattle.sz_store.specs.Stocks.{capacities_of};
+ghost use Rattle.sz_store.specs.Stocks.{capacities_of, StaysApart};
 ghost use Rattle.sz_store.specs.Words.{AreWordsOf, BeginEach, NoneBegin, SaysNone};
 
 use crate::kept::KeptStore;
@@ -39,14 +39,16 @@ impl ListedStore {
     }
 
     /// Adds the store's part of a lineage. Takes no memory: each capacity stays.
-    fn add(&mut self, lineage: &PieceLineage)
+    fn add(&mut self, lineage: &PieceLineage, apart: bool)
         requires grow { CanGrow lineage.now (stock_of self.old.kept) }
         requires room { HasRoomFor lineage.now (stock_of self.old.kept) }
+        requires apart { apart ≡ true
+            → StaysApart lineage.now (stock_of self.old.kept).holding }
         ensures keep { keep_of self.new ≡ keep_with lineage.now (keep_of self.old) }
         ensures site { site_of self.new ≡ site_of self.old }
         ensures capacities { capacities_of self.new ≡ capacities_of self.old }
     {
-        self.kept.add(lineage);
+        self.kept.add(lineage, apart);
     }
 }
 
@@ -102,17 +104,20 @@ pub fn reserve_all(stores: &mut [ListedStore], lineage: &PieceLineage) -> Result
     Ok(())
 }
 
-/// Adds a lineage to each store. Takes no memory: each capacity stays.
-pub fn add_all(stores: &mut [ListedStore], lineage: &PieceLineage)
+/// Adds a lineage to each store. Takes no memory: each capacity stays. Where `apart`, the sets of
+/// an input are one or apart, store by store.
+pub fn add_all(stores: &mut [ListedStore], lineage: &PieceLineage, apart: bool)
     requires grow { All (λ l. CanGrow lineage.now (stock_of l.kept)) stores.old }
     requires room { All (λ l. HasRoomFor lineage.now (stock_of l.kept)) stores.old }
+    requires apart { apart ≡ true
+        → All (λ l. StaysApart lineage.now (stock_of l.kept).holding) stores.old }
     ensures stores { map keep_of stores.new
         ≡ map (keep_with lineage.now) (map keep_of stores.old) }
     ensures sites { map site_of stores.new ≡ map site_of stores.old }
     ensures capacities { map capacities_of stores.new ≡ map capacities_of stores.old }
 {
     for store in stores.iter_mut() {
-        store.add(lineage);
+        store.add(lineage, apart);
     }
 }
 

@@ -122,7 +122,7 @@ entries-rows rows = record {
 }
 
 -- the numbers of a row are those of its entry's set and payload
-names-are : (sets : List Cells) (payloads : List (List ℕ)) (row : EntryRow) → NamesBoth sets payloads row
+pub names-are : (sets : List Cells) (payloads : List (List ℕ)) (row : EntryRow) → NamesBoth sets payloads row
     → AreNamesOfEntry sets payloads (numbers_of row) (entry_named sets payloads row)
 names-are sets payloads row is =
     let none = no_cells no_extent in (

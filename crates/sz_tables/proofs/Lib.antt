@@ -1,6 +1,6 @@
 -- The lemmas on entries under keys, what is filed and what is one, sets and payloads by number, region pairs and
--- payload entries as rows of these, looks, counts of runs and cells, rectangles round sets, region pairs that are read,
--- and names of region pairs.
+-- payload entries as rows of these, looks, counts of runs and cells, rectangles round sets, sets that are one or
+-- apart, region pairs and entries that are read, entries that are apart, and names of region pairs.
 pub mod Chained
 pub mod Slices
 pub mod Filing
@@ -17,6 +17,9 @@ pub mod Scanned
 pub mod MetRuns
 pub mod Counted
 pub mod Rounding
+pub mod Apart
 pub mod ReadPairs
 pub mod Placing
+pub mod Listed
+pub mod Counting
 pub mod Ticking

@@ -6,10 +6,10 @@ use Rattle.std.proofs.Common.{◌≡◌, ◌≢◌, ℕ, ◌+◌, ◌%◌, ◌<�
 use Rattle.std.proofs.Common.{slice_range, sym, ap, ◌∙◌, arith, Option, Some, unwrap_or}
 use Rattle.std.specs.List.{slice_get, HoldsAt}
 use Rattle.std.proofs.lemmas.List.{length-map, get_or-map}
-use Rattle.std.proofs.lemmas.Option.{slice_get_within, slice_get-get_or, unwrap_or-slice_get}
+use Rattle.std.proofs.lemmas.Option.{slice_get_within, unwrap_or-slice_get}
 use Rattle.std.proofs.lemmas.Option.{get_or_from_slice_get}
 use Rattle.sz_tables.specs.declared.spans.Span.{Span}
-use Rattle.sz_tables.specs.Filed.{Files, IsWidened}
+use Rattle.sz_tables.specs.Filed.{Filed, Files, IsWidened}
 use Rattle.sz_tables.specs.Tables.{slices_by_number}
 use Rattle.sz_tables.specs.Payloads.{AreKept, payload_at, payload_mix, payload_filed}
 use Rattle.sz_tables.proofs.Filing.{filed-push, filed-key, widened-keys, widened-filed}
@@ -49,13 +49,7 @@ payload-at bytes spans n s within read =
     ∙ get_or-map (cut bytes) spans n s [] inside
     ∙ ap (cut bytes) (sym read)
 
--- the payload that has a number is there under it
-pub payload-there : (ps : List (List ℕ)) (n : ℕ) (more : List ℕ) → n < length ps → payload_at ps n ≡ more
-    → slice_get ps n ≡ Some more
-payload-there ps n more within is =
-    slice_get-get_or ps n [] within
-    ∙ ap (λ (x : List ℕ). Some x) (sym (unwrap_or-slice_get ps n []) ∙ is)
-
+-- the payload that has a number
 pub payload-read : (ps : List (List ℕ)) (n : ℕ) (more : List ℕ) → slice_get ps n ≡ Some more → payload_at ps n ≡ more
 payload-read ps n more same = ap (λ (o : Option (List ℕ)). unwrap_or o []) same
 
@@ -75,6 +69,16 @@ filed-at bytes more spans index key n was under same =
     let pieces = slices_by_number bytes spans in
     filed-key payload_mix index pieces n [] more key was.filed (slice_get_within pieces n more same)
     (get_or_from_slice_get pieces n more [] same) under
+
+-- and with what it is mixed to
+pub item-at : (bytes more : List ℕ) (spans : List Span) (index : Files) (n : ℕ) → AreKept bytes spans index
+    → slice_get (slices_by_number bytes spans) n ≡ Some more → HoldsAt (λ f. f.item ≡ payload_mix more) index.entries n
+item-at bytes more spans index n was same d =
+    let pieces = slices_by_number bytes spans in
+    ap (λ (es : List Filed). (get_or es n d).item) was.filed
+    ∙ ap (λ (f : Filed). f.item) (get_or-map (payload_filed index.keys) pieces n [] d (slice_get_within pieces n more
+    same))
+    ∙ ap payload_mix (get_or_from_slice_get pieces n more [] same)
 
 -- ---- more keys
 

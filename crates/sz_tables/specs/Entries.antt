@@ -38,6 +38,19 @@ no_rows out = record {
   capacities = 0 ∷ first_capacities ++ first_capacities;
 }
 
+-- the table of these rows, by these tables of sets and payloads; how much memory it holds is left out
+abbrev pub table_with : SetsByNumber → PayloadsByNumber → List EntryRow → EntryRows
+table_with sets payloads rows = record {
+  out = sets.extent;
+  sets = sets.sets;
+  payloads = payloads.payloads;
+  rows = rows;
+  spare_rows = 0;
+  spare_runs = 0;
+  spare_bytes = 0;
+  capacities = [];
+}
+
 -- the row of a number
 abbrev pub entry_row_at : List EntryRow → ℕ → EntryRow
 entry_row_at rows n = unwrap_or (slice_get rows n) (record { set = 0; payload = 0 })

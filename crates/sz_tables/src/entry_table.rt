@@ -1,7 +1,8 @@
 //! Payload entries as rows of the numbers of their output sets and payloads.
 
 ghost use Rattle.std.specs.Prelude.{◌≡◌, ◌<◌, ◌≤◌, ◌+◌, ◌∷◌, ◌++◌, [], length, max, OnOk, OnErr};
-ghost use Rattle.std.specs.Prelude.{IfOk, IfSome, All, ℕ, List, flat_map};
+ghost use Rattle.std.specs.Prelude.{IfOk, IfSome, All, ℕ, List, flat_map, map};
+ghost use Rattle.std.specs.Arc.{arc_value};
 ghost use Rattle.sz_cells.specs.Cells.{Cells};
 ghost use Rattle.sz_cells.specs.Runs.{runs_of};
 ghost use Rattle.sz_cells.specs.SetBytes.{IsSetOf};
@@ -13,14 +14,18 @@ ghost use Rattle.sz_tables.specs.Payloads.{payload_at};
 ghost use Rattle.sz_tables.specs.Stores.{most_given};
 ghost use Rattle.sz_tables.specs.Entries.{entries, entry_at, entry_row_at, no_rows, numbers_of};
 ghost use Rattle.sz_tables.specs.Entries.{entry_named};
-ghost use Rattle.sz_tables.specs.Entries.{NamesBoth, KeepsEntries};
+ghost use Rattle.sz_tables.specs.Entries.{NamesBoth, KeepsEntries, table_with};
+ghost use Rattle.sz_tables.specs.Listed.{IsOneOf};
+ghost use Rattle.sz_tables.specs.Sets.{IsRound};
 
 use crate::payload_table::PayloadTable;
-use crate::region_table::list_sets;
+use crate::region_table::{bounds_in, list_sets};
 use crate::set_table::SetTable;
+use crate::sets::runs_of_set;
 use std::alloc::Global;
 use std::marker::Model;
-use sz_cells::{NoMemory, Run, Shape};
+use std::sync::Arc;
+use sz_cells::{Bounds, NoMemory, Run, Shape};
 use sz_frame::PayEntry;
 use sz_region::{ListedPayload, put_numbered_entries};
 
@@ -139,6 +144,68 @@ impl EntryTable {
         self.spare_bytes -= bytes.len();
     }
 
+    /// A table of these entries. The room for each is made when those before it are added, so a
+    /// set or a payload that many of them share is counted once.
+    pub(crate) fn of_entries(
+        alloc: Global,
+        out: Shape,
+        given: &[Arc<PayEntry>],
+    ) -> Result<EntryTable, NoMemory>
+        requires few { length given.now ≤ most_given }
+        requires shapes { All (λ e. e.out.extent ≡ out) (map (λ a. arc_value a) given.now) }
+        ensures entries { IfOk result (λ t. entries t ≡ map (λ a. arc_value a) given.now) }
+        ensures payloads { IfOk result (λ t. All
+            (IsOneOf (map (λ e. e.payload) (map (λ a. arc_value a) given.now))) t.payloads) }
+        ensures out { IfOk result (λ t. t.out ≡ out) }
+    {
+        let mut table = EntryTable::new(alloc, out)?;
+        for entry in given {
+            table.keep(entry)?;
+        }
+        Ok(table)
+    }
+
+    /// Makes the room for an entry, and adds it.
+    fn keep(&mut self, entry: &PayEntry) -> Result<(), NoMemory>
+        requires few { length self.old.rows < most_given }
+        requires shape { entry.now.out.extent ≡ self.old.out }
+        ensures out { self.new.out ≡ self.old.out }
+        ensures entries { OnOk result (entries self.new ≡ entries self.old ++ entry.now ∷ []) }
+        ensures payloads { OnOk result
+            (HasAtMostOneMore self.old.payloads self.new.payloads entry.now.payload) }
+    {
+        self.reserve(1, runs_of_set(&entry.out), entry.payload.bytes().len())?;
+        self.add(entry);
+        Ok(())
+    }
+
+    /// The table of these rows, by the sets and payloads of these tables. `None` where there are
+    /// more sets, or more payloads, than rows.
+    pub(crate) fn of_rows(
+        sets: SetTable,
+        payloads: PayloadTable,
+        rows: Vec<EntryRow>,
+    ) -> Option<EntryTable>
+        requires few { length rows.items ≤ most_given }
+        requires named { All (NamesBoth sets.sets payloads.payloads) rows.items }
+        ensures { IfSome result (λ t. t ≡ record (table_with sets payloads rows.items) {
+          capacities = t.capacities;
+        }) }
+    {
+        let count = rows.len() as u32;
+        if count < sets.len() || count < payloads.len() {
+            return None;
+        }
+        Some(EntryTable {
+            sets,
+            payloads,
+            rows,
+            spare_rows: 0,
+            spare_runs: 0,
+            spare_bytes: 0,
+        })
+    }
+
     /// How many entries there are.
     pub fn len(&self) -> u32
         ensures count { result ≡ length self.now.rows }
@@ -218,6 +285,14 @@ impl EntryTable {
         ensures set { IsSetOf self.now.out (set_at self.now.sets number) }
     {
         self.sets.runs(number)
+    }
+
+    /// A rectangle round the output set of a row.
+    pub fn out_bounds(&self, row: u32) -> Bounds
+        requires { row < length self.now.rows }
+        ensures { IsRound result (entry_at (entries self.now) row).out }
+    {
+        bounds_in(&self.sets, self.set_number(row))
     }
 
     /// The bytes of the payload of a number.

@@ -15,8 +15,10 @@
 //! Each takes the room for what is to come beforehand (`reserve`), so that adding takes no memory.
 #![tactic(auto)]
 
+mod apart;
 mod chains;
 mod checklists;
+mod entry_reading;
 mod entry_table;
 mod looks;
 mod payload_table;

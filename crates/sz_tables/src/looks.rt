@@ -55,7 +55,7 @@ impl RegionTable {
 }
 
 /// Adds the cells of runs.
-fn add_runs(runs: &[Run], to: &mut CellBits)
+pub(crate) fn add_runs(runs: &[Run], to: &mut CellBits)
     requires { AreRunsFrom 0 (size_of to.old.extent) runs.now }
     ensures { to.new ≡ union_of to.old (cells_at to.old.extent (covers runs.now)) }
 {

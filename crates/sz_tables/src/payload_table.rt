@@ -169,12 +169,22 @@ impl PayloadTable {
         let key = mix % self.index.keys();
         let mut next = self.index.last(key);
         while let Some(number) = next {
-            if are_same(self.bytes(number), bytes) {
+            if self.is_kept(number, bytes, mix) {
                 return Some(number);
             }
             next = self.index.before(number, key);
         }
         None
+    }
+
+    /// Whether the payload of a number has these bytes, which are mixed to this. The bytes of a
+    /// payload that is mixed to something else are not looked at.
+    fn is_kept(&self, number: u32, bytes: &[u8], mix: u32) -> bool
+        requires number { number < length self.now.payloads }
+        requires mix { mix ≡ payload_mix bytes.now }
+        ensures { Decides result (slice_get self.now.payloads number ≡ Some bytes.now) }
+    {
+        self.index.item(number) == mix && are_same(self.bytes(number), bytes)
     }
 
     /// Adds the payload of these bytes, which is none of the table's. Its number is the count of

@@ -180,7 +180,7 @@ fn add_listed(
 }
 
 /// The number of the set that has these runs, which is added where it is new.
-fn add_read(table: &mut SetTable, runs: &[Run]) -> Result<u32, NoMemory>
+pub(crate) fn add_read(table: &mut SetTable, runs: &[Run]) -> Result<u32, NoMemory>
     requires longest { AreRunsFrom 0 (size_of table.old.extent) runs.now }
     requires few { length table.old.sets + 1 < 2 ^ 32 }
     ensures ok { let set = spelled table.old.extent runs.now in IfOk result (λ n.

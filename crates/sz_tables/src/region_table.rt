@@ -17,6 +17,7 @@ ghost use Rattle.sz_tables.specs.Rows.{Takes, TakeEach};
 ghost use Rattle.sz_tables.specs.Scans.{pairing_at};
 ghost use Rattle.sz_tables.specs.Sets.{IsRound};
 ghost use Rattle.sz_tables.specs.Tables.{AreDifferent, HasAtMostOneMore};
+ghost use Rattle.sz_tables.specs.Apart.{IsOneOrApart, AreOneOrApart};
 ghost use Rattle.sz_frame.specs.Stands.{set_of};
 ghost use Rattle.sz_tables.specs.Listing.{listed_as, numbers_at, shifted, AreSetsOf, AreListed};
 ghost use Rattle.sz_region.specs.FullBytes.{Listed, IsFullWord};
@@ -39,13 +40,16 @@ pub struct RegionTable {
     /// For each row the number of its output set, and then one number for each input.
     names: Vec<u32>,
     count: u32,
+    /// Whether each set of an input is known to be that of a row. Of a table that was read it is
+    /// not.
+    named: bool,
     spare_rows: u32,
     spare_runs: usize,
 }
 
 impl Model for RegionTable {
     ghost use Rattle.std.specs.Prelude.{◌≡◌, ℕ, ◌<◌, ◌≤◌, ◌*◌, ◌+◌, ◌∷◌, map, length, All};
-    ghost use Rattle.std.specs.Prelude.{vec_capacity};
+    ghost use Rattle.std.specs.Prelude.{vec_capacity, true};
     ghost use Rattle.sz_tables.specs.Rows.{RowTable, rows_of, set_capacities};
 
     ghost Value = { RowTable };
@@ -62,10 +66,13 @@ impl Model for RegionTable {
           ∷ set_capacities (t.outs ∷ t.ins.items);
     } };
 
-    ghost use Rattle.sz_tables.specs.Rows.{IsSound};
+    ghost use Rattle.sz_tables.specs.Rows.{IsSound, pairings, table_of};
+    ghost use Rattle.sz_tables.specs.Apart.{AreOfPairs};
 
     ghost invariant = { λ t. IsSound t.outs t.ins.items t.names.items t.count t.spare_rows
-        t.spare_runs (vec_capacity t.names) };
+        t.spare_runs (vec_capacity t.names)
+        × (t.named ≡ true → AreOfPairs (map (λ s. s.sets) t.ins.items)
+        (pairings (table_of t.outs t.ins.items t.names.items t.count 0 0))) };
 }
 
 impl RegionTable {
@@ -78,6 +85,7 @@ impl RegionTable {
             ins: tables_for(alloc, ins)?,
             names: Vec::new(alloc),
             count: 0,
+            named: true,
             spare_rows: 0,
             spare_runs: 0,
         })
@@ -127,10 +135,32 @@ impl RegionTable {
         ensures runs { self.old.spare_runs ≤ self.new.spare_runs + weight_of region.now }
         ensures capacities { self.new.capacities ≡ self.old.capacities }
     {
+        self.add_as(region, false);
+    }
+
+    /// As [`RegionTable::add`]. Where `apart`, the region pair's set of each input is one with that
+    /// of each region pair of the table or has no cell in common with it: which one it is is then
+    /// told by its first cell, in a table that was not read.
+    pub fn add_as(&mut self, region: &Region, apart: bool)
+        requires out { region.now.out.extent ≡ self.old.out }
+        requires ins { map (λ s. s.extent) region.now.ins ≡ self.old.ins }
+        requires rows { 0 < self.old.spare_rows }
+        requires runs { weight_of region.now ≤ self.old.spare_runs }
+        requires apart { apart ≡ true → All (AreOneOrApart region.now) (pairings self.old) }
+        ensures pairings { pairings self.new ≡ pairings self.old ++ region.now ∷ [] }
+        ensures kept { Keeps self.old self.new }
+        ensures sets { (i : ℕ) → i < length self.old.ins → HasAtMostOneMore
+            (sets_of self.old.sets i) (sets_of self.new.sets i) (set_of region.now i) }
+        ensures one { length self.new.rows ≡ length self.old.rows + 1 }
+        ensures room { self.old.spare_rows ≤ self.new.spare_rows + 1 }
+        ensures runs { self.old.spare_runs ≤ self.new.spare_runs + weight_of region.now }
+        ensures capacities { self.new.capacities ≡ self.old.capacities }
+    {
         let number = self.outs.add(&region.out);
         self.names.push_reserved(number);
         let sets = region.ins.as_slice();
-        add_each(&mut self.ins, sets, &mut self.names);
+        let told = both(apart, self.named);
+        add_each(&mut self.ins, sets, told, &mut self.names);
         self.count += 1;
         self.spare_rows -= 1;
         self.spare_runs -= region.out.runs().len() + runs_of_each(sets);
@@ -185,6 +215,7 @@ impl RegionTable {
             ins,
             names,
             count,
+            named: false,
             spare_rows: 0,
             spare_runs: 0,
         })
@@ -281,14 +312,13 @@ impl RegionTable {
         self.ins[input as usize].runs(number)
     }
 
-    /// The sets of the one input. What else the table holds is let go.
-    pub fn into_sets(self) -> SetTable
-        requires { length self.ins ≡ 1 }
-        ensures extent { result.extent ≡ extent_at self.ins 0 }
-        ensures sets { result.sets ≡ sets_of self.sets 0 }
+    /// The sets of the one input.
+    pub fn in_sets(&self) -> &SetTable
+        requires { length self.now.ins ≡ 1 }
+        ensures extent { result.now.extent ≡ extent_at self.now.ins 0 }
+        ensures sets { result.now.sets ≡ sets_of self.now.sets 0 }
     {
-        let mut ins = self.ins;
-        ins.remove(0)
+        &self.ins[0]
     }
 
     /// A rectangle round the output set of a row.
@@ -347,7 +377,7 @@ pub(crate) fn tables_for(alloc: Global, shapes: &[Shape]) -> Result<Vec<SetTable
 }
 
 /// A rectangle round the set of a number.
-fn bounds_in(table: &SetTable, number: u32) -> Bounds
+pub(crate) fn bounds_in(table: &SetTable, number: u32) -> Bounds
     requires { number < length table.now.sets }
     ensures { IsRound result (set_at table.now.sets number) }
 {
@@ -393,31 +423,44 @@ fn runs_of_each(sets: &[Arc<CellSet>]) -> usize
     count
 }
 
+/// Whether both are so.
+fn both(one: bool, other: bool) -> bool
+    ensures one { result ≡ true → one ≡ true }
+    ensures other { result ≡ true → other ≡ true }
+{
+    one && other
+}
+
 /// Appends the numbers that these tables give to these sets, which are added where they are new.
-fn add_each(tables: &mut [SetTable], sets: &[Arc<CellSet>], names: &mut Vec<u32>)
+/// Where `apart`, each is one with each set of its table or apart from it.
+fn add_each(tables: &mut [SetTable], sets: &[Arc<CellSet>], apart: bool, names: &mut Vec<u32>)
     requires extents { map (λ s. s.extent) (map (λ a. arc_value a) sets.now)
         ≡ map (λ t. t.extent) tables.old }
     requires room { let xs = map (λ a. arc_value a) sets.now in
         All (HasRoomFor 1 (sum_by runs_in xs)) tables.old }
     requires names { vec_len names.old + length tables.old ≤ vec_capacity names.old }
+    requires apart { apart ≡ true → (i : ℕ) → All
+        (IsOneOrApart (set_at (map (λ a. arc_value a) sets.now) i))
+        (sets_of (map (λ t. t.sets) tables.old) i) }
     ensures before { take (length names.old.items) names.new.items ≡ names.old.items }
     ensures taken { TakeEach tables.old tables.new (map (λ a. arc_value a) sets.now)
         (drop (length names.old.items) names.new.items) }
     ensures capacity { vec_capacity names.new ≡ vec_capacity names.old }
 {
     for i in 0..tables.len() {
-        let number = add_one(&mut tables[i], &sets[i]);
+        let number = add_one(&mut tables[i], &sets[i], apart);
         names.push_reserved(number);
     }
 }
 
 /// The number that this table gives to this set, which is added where it is new.
-fn add_one(table: &mut SetTable, set: &CellSet) -> u32
+fn add_one(table: &mut SetTable, set: &CellSet, apart: bool) -> u32
     requires extent { set.now.extent ≡ table.old.extent }
     requires room { HasRoomFor 1 (runs_in set.now) table.old }
+    requires apart { apart ≡ true → All (IsOneOrApart set.now) table.old.sets }
     ensures { Takes table.old table.new set.now result }
 {
-    table.add(set)
+    table.add_as(set, apart)
 }
 
 /// Lists the sets of the output and then of each input, and where those of each array begin.

@@ -15,6 +15,13 @@ struct Found {
     runs: usize,
 }
 
+/// How many things are found, each of which begins with a count, and how much they count together.
+#[derive(Clone, Copy)]
+pub(crate) struct Counted {
+    pub things: u32,
+    pub sum: usize,
+}
+
 /// Of how many arrays the sets are counted: an operator has at most two inputs.
 const ARRAYS: usize = 3;
 
@@ -90,4 +97,27 @@ fn find_set(bytes: &[u8], at: u64, found: &mut [Found]) -> Option<u64> {
         own.runs = own.runs.saturating_add(runs as usize);
     }
     Some(next)
+}
+
+/// The things among so many that begin at a place one behind the other, each a count and so many
+/// bytes for each that it counts, as far as the bytes go.
+///
+/// Costs a look at the count of each.
+pub(crate) fn find_counted(bytes: &[u8], count: u32, at: u64, width: u32) -> Counted {
+    let mut found = Counted { things: 0, sum: 0 };
+    let mut place = at;
+    for _index in 0..count {
+        let Some(own) = take_number(bytes, place) else {
+            return found;
+        };
+        place = place
+            .saturating_add(4)
+            .saturating_add(u64::from(own) * u64::from(width));
+        if (bytes.len() as u64) < place {
+            return found;
+        }
+        found.things = found.things.saturating_add(1);
+        found.sum = found.sum.saturating_add(own as usize);
+    }
+    found
 }

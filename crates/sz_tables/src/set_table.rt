@@ -3,13 +3,14 @@
 ghost use Rattle.std.specs.Prelude.{◌≡◌, ◌<◌, ◌≤◌, ◌+◌, ◌-◌, ◌^◌, [], ◌∷◌, ◌++◌};
 ghost use Rattle.std.specs.Prelude.{ℕ, ◌≢◌, MatchOption, vec_len, vec_capacity};
 ghost use Rattle.std.specs.Bool.{Decides};
-ghost use Rattle.std.specs.Prelude.{length, fold, max, OnOk, OnErr, IfOk, Some, true};
+ghost use Rattle.std.specs.Prelude.{length, fold, max, OnOk, OnErr, IfOk, Some, true, All};
 ghost use Rattle.std.specs.List.{slice_get};
 ghost use Rattle.sz_cells.specs.Runs.{runs_of, AreRunsFrom, Spells};
 ghost use Rattle.sz_cells.specs.Extent.{size_of};
 ghost use Rattle.sz_tables.specs.Tables.{AreDifferent, HasAtMostOneMore};
 ghost use Rattle.sz_tables.specs.Tables.{spelled, first_of, mix_of, mixed};
 ghost use Rattle.sz_tables.specs.Rows.{set_at, runs_in, empty_sets};
+ghost use Rattle.sz_tables.specs.Apart.{IsOneOrApart};
 
 use crate::chains::Chains;
 use crate::spans::Span;
@@ -150,6 +151,26 @@ impl SetTable {
         self.add_runs(set.runs())
     }
 
+    /// As [`SetTable::add`]. Where `apart`, the set is one with each set of the table or has no
+    /// cell in common with it, so that its first cell tells which one it is.
+    ///
+    /// Costs then a look at some runs of the set, at each of them where it is added, and at the
+    /// sets that have the same key.
+    pub fn add_as(&mut self, set: &CellSet, apart: bool) -> u32
+        requires shape { set.now.extent ≡ self.old.extent }
+        requires sets { 0 < self.old.spare_sets }
+        requires runs { runs_in set.now ≤ self.old.spare_runs }
+        requires apart { apart ≡ true → All (IsOneOrApart set.now) self.old.sets }
+        ensures number { slice_get self.new.sets result ≡ Some set.now }
+        ensures sets { HasAtMostOneMore self.old.sets self.new.sets set.now }
+        ensures extent { self.new.extent ≡ self.old.extent }
+        ensures room { self.old.spare_sets ≤ self.new.spare_sets + 1 }
+        ensures runs { self.old.spare_runs ≤ self.new.spare_runs + runs_in set.now }
+        ensures capacities { self.new.capacities ≡ self.old.capacities }
+    {
+        self.add_runs_as(set.runs(), apart)
+    }
+
     /// As [`SetTable::add`], of the set that has these runs, which are its longest ones.
     pub fn add_runs(&mut self, runs: &[Run]) -> u32
         requires longest { AreRunsFrom 0 (size_of self.old.extent) runs.now }
@@ -164,11 +185,30 @@ impl SetTable {
         ensures runs { self.old.spare_runs ≤ self.new.spare_runs + length runs.now }
         ensures capacities { self.new.capacities ≡ self.old.capacities }
     {
+        self.add_runs_as(runs, false)
+    }
+
+    /// As [`SetTable::add_as`], of the set that has these runs, which are its longest ones.
+    fn add_runs_as(&mut self, runs: &[Run], apart: bool) -> u32
+        requires longest { AreRunsFrom 0 (size_of self.old.extent) runs.now }
+        requires sets { 0 < self.old.spare_sets }
+        requires runs { length runs.now ≤ self.old.spare_runs }
+        requires apart { apart ≡ true
+            → All (IsOneOrApart (spelled self.old.extent runs.now)) self.old.sets }
+        ensures number { slice_get self.new.sets result
+            ≡ Some (spelled self.old.extent runs.now) }
+        ensures sets { HasAtMostOneMore self.old.sets self.new.sets
+            (spelled self.old.extent runs.now) }
+        ensures extent { self.new.extent ≡ self.old.extent }
+        ensures room { self.old.spare_sets ≤ self.new.spare_sets + 1 }
+        ensures runs { self.old.spare_runs ≤ self.new.spare_runs + length runs.now }
+        ensures capacities { self.new.capacities ≡ self.old.capacities }
+    {
         let mix = mix_of(runs);
         if self.begins_behind(runs) {
             return self.append(runs, mix);
         }
-        match self.find(runs, mix) {
+        match self.find(runs, mix, apart) {
             Some(number) => number,
             None => self.append(runs, mix),
         }
@@ -185,7 +225,7 @@ impl SetTable {
             return None;
         }
         let runs = set.runs();
-        self.find(runs, mix_of(runs))
+        self.find(runs, mix_of(runs), false)
     }
 
     /// Whether these runs begin behind all sets, so that no set has them. Sets that come in the
@@ -198,10 +238,13 @@ impl SetTable {
         self.latest < first_of(runs)
     }
 
-    /// The number of the set that has these runs, which are mixed to this.
-    fn find(&self, runs: &[Run], mix: u32) -> Option<u32>
+    /// The number of the set that has these runs, which are mixed to this. Where `apart`, it is one
+    /// with each set of the table or apart from it.
+    fn find(&self, runs: &[Run], mix: u32, apart: bool) -> Option<u32>
         requires longest { AreRunsFrom 0 (size_of self.now.extent) runs.now }
         requires mix { mix ≡ mix_of runs.now }
+        requires apart { apart ≡ true
+            → All (IsOneOrApart (spelled self.now.extent runs.now)) self.now.sets }
         ensures { let set = spelled self.now.extent runs.now in MatchOption result
             ((n : ℕ) → slice_get self.now.sets n ≢ Some set)
             (λ n. slice_get self.now.sets n ≡ Some set) }
@@ -209,7 +252,7 @@ impl SetTable {
         let key = mix % self.index.keys();
         let mut next = self.index.last(key);
         while let Some(number) = next {
-            if self.is_spelled(number, runs, mix) {
+            if self.is_spelled(number, runs, mix, apart) {
                 return Some(number);
             }
             next = self.index.before(number, key);
@@ -218,14 +261,20 @@ impl SetTable {
     }
 
     /// Whether the set of a number has these runs, which are mixed to this. The runs of a set that
-    /// are mixed to something else are not looked at.
-    fn is_spelled(&self, number: u32, runs: &[Run], mix: u32) -> bool
+    /// are mixed to something else are not looked at; nor are, where `apart`, those behind the
+    /// first one.
+    fn is_spelled(&self, number: u32, runs: &[Run], mix: u32, apart: bool) -> bool
         requires number { number < length self.now.sets }
         requires longest { AreRunsFrom 0 (size_of self.now.extent) runs.now }
         requires mix { mix ≡ mix_of runs.now }
+        requires apart { apart ≡ true
+            → All (IsOneOrApart (spelled self.now.extent runs.now)) self.now.sets }
         ensures { Decides result
             (slice_get self.now.sets number ≡ Some (spelled self.now.extent runs.now)) }
     {
+        if apart {
+            return begin_alike(self.runs(number), runs);
+        }
         self.index.item(number) == mix && are_same(self.runs(number), runs)
     }
 
@@ -331,6 +380,14 @@ fn put_runs(list: &mut Vec<Run>, more: &[Run])
     for run in more {
         list.push_reserved(*run);
     }
+}
+
+/// Whether two lists have as many runs, and the first ones begin with the same cell.
+fn begin_alike(a: &[Run], b: &[Run]) -> bool
+    ensures { Decides result
+        ((length a.now ≡ length b.now) × (first_of a.now ≡ first_of b.now)) }
+{
+    a.len() == b.len() && first_of(a) == first_of(b)
 }
 
 /// Whether two lists of runs are one.

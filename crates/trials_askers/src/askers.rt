@@ -2,17 +2,15 @@
 
 ghost use Rattle.std.specs.Prelude.{◌≡◌, ◌≤◌, IfOk, IfSome};
 ghost use Rattle.sz_commands.specs.Asks.{IsAskLine};
-ghost use Rattle.sz_commands.specs.Logged.{HasLog};
-ghost use Rattle.sz_commands.specs.States.{nothing_held};
 
-use crate::served::{empty_station, is_said};
+use crate::served::{is_begun, is_said};
 use std::alloc::Global;
 use std::sync::atomic::{AtomicU64, Ordering};
 use std::sync::{Arc, Wait};
 use std::test::Fail;
 use std::thread::Threads;
 use sz_catalogue::{Reply, reply_text};
-use sz_outside::{Gate, NoGate, Station};
+use sz_outside::{Gate, NoGate};
 use sz_script::{Command, laws, read_line};
 use sz_session::{AskLine, Session};
 use sz_spec::Tally;
@@ -184,36 +182,6 @@ const BEFORE: [&[u8]; 5] = [
     b"{\"await\":1}",
 ];
 
-/// Whether a session takes the lines before the asks.
-fn is_begun<R: Threads + Wait + Sync>(
-    rt: &R,
-    alloc: Global,
-    session: &mut Session,
-) -> Result<bool, Fail>
-    requires { session.old ≡ nothing_held }
-{
-    let mut station = empty_station(alloc)?;
-    Ok(takes_each(rt, session, &mut station))
-}
-
-/// Whether a session takes the lines before the asks, beside a station.
-fn takes_each<T: Station, R: Threads + Wait + Sync>(
-    rt: &R,
-    session: &mut Session,
-    station: &mut T,
-) -> bool
-    requires { HasLog T.Station session.old.held session.old.end station.old }
-{
-    for line in BEFORE {
-        let mut tally = Tally::new();
-        let taken = session.command(rt, line, 1, station, &NoGate, &mut tally);
-        if taken.is_err() {
-            return false;
-        }
-    }
-    true
-}
-
 /// Whether these are the reply lines to two asks that are given together, as lines 6 and 7, and so
 /// many cells are told as traced for them.
 fn is_told_to_two<R: Threads + Wait + Sync>(
@@ -268,7 +236,7 @@ fn lines_of(alloc: Global, replies: &[Reply]) -> Result<Vec<u8>, Fail> {
 fn asks_have_their_replies_in_order(rt: HostRuntime) -> Result<(), Fail> {
     let alloc = rt.alloc();
     let mut session = Session::fresh(alloc, 1, 3)?;
-    assert!(rt; is_begun(&rt, alloc, &mut session)?);
+    assert!(rt; is_begun(&rt, alloc, &mut session, &BEFORE)?);
     let told = b"6 cells 1 1,0\n7 cells 1 0,1\n";
     assert!(rt; is_told_to_two(&rt, alloc, &mut session, [TRACED, TURNED], told, 8)?);
     let told = b"6 refused 15\n7 refused 16\n";

@@ -6,6 +6,7 @@
 
 #[cfg(test)]
 mod askers;
+#[cfg(test)]
 mod merges;
 #[cfg(test)]
 mod served;

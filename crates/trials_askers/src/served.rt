@@ -1,13 +1,16 @@
 //! Texts that are served, each on a station of its own.
 
-ghost use Rattle.std.specs.Prelude.{◌≤◌};
+ghost use Rattle.std.specs.Prelude.{◌≡◌, ◌≤◌, true};
+ghost use Rattle.sz_commands.specs.Logged.{HasLog};
+ghost use Rattle.sz_commands.specs.States.{nothing_held};
 
 use std::alloc::Global;
 use std::sync::{Arc, Wait};
 use std::test::Fail;
 use std::thread::Threads;
-use sz_outside::{Gate, MemStation, SteadySource};
-use sz_session::{Status, serve};
+use sz_outside::{Gate, MemStation, NoGate, Station, SteadySource};
+use sz_session::{Session, Status, serve};
+use sz_spec::Tally;
 
 /// What a text is served with: the words that call for it, its bytes, and a station.
 #[derive(Drop)]
@@ -66,4 +69,37 @@ pub fn is_said<G: Gate + 'static, R: Threads + Wait + Clone + Send + Sync + 'sta
         gate,
     );
     Ok(status == Status::Done && bench.station.said() == replies)
+}
+
+/// Whether a session does what each of these lines orders, beside a station.
+pub fn takes_each<T: Station, R: Threads + Wait + Sync>(
+    rt: &R,
+    session: &mut Session,
+    lines: &[&[u8]],
+    station: &mut T,
+) -> bool
+    requires { HasLog T.Station session.old.held session.old.end station.old }
+    ensures { result ≡ true → HasLog T.Station session.new.held session.new.end station.new }
+{
+    for line in lines {
+        let mut tally = Tally::new();
+        let taken = session.command(rt, *line, 1, station, &NoGate, &mut tally);
+        if taken.is_err() {
+            return false;
+        }
+    }
+    true
+}
+
+/// Whether a session that holds nothing does what each of these lines orders.
+pub fn is_begun<R: Threads + Wait + Sync>(
+    rt: &R,
+    alloc: Global,
+    session: &mut Session,
+    lines: &[&[u8]],
+) -> Result<bool, Fail>
+    requires { session.old ≡ nothing_held }
+{
+    let mut station = empty_station(alloc)?;
+    Ok(takes_each(rt, session, lines, &mut station))
 }

@@ -1,10 +1,10 @@
 //! Workers beside asks: no clause can see them, so these tests do.
 
-ghost use Rattle.std.specs.Prelude.{◌≡◌, true};
+ghost use Rattle.std.specs.Prelude.{◌≡◌};
 ghost use Rattle.sz_commands.specs.Logged.{HasLog};
 ghost use Rattle.sz_commands.specs.States.{nothing_held};
 
-use crate::served::{empty_station, is_said};
+use crate::served::{empty_station, is_said, takes_each};
 use std::alloc::Global;
 use std::sync::atomic::{AtomicU64, Ordering};
 use std::sync::{Arc, Wait};
@@ -126,10 +126,8 @@ fn is_answered_on<T: Station, R: Threads + Wait + Sync>(
 ) -> bool
     requires { HasLog T.Station session.old.held session.old.end station.old }
 {
-    for line in BEFORE_ASK {
-        if !is_taken(rt, session, line, station) {
-            return false;
-        }
+    if !takes_each(rt, session, &BEFORE_ASK, station) {
+        return false;
     }
     is_traced_no_more(rt, session, station)
 }
@@ -155,22 +153,6 @@ fn is_traced_no_more<T: Station, R: Threads + Wait + Sync>(
         }
     }
     false
-}
-
-/// Whether a session does what a line orders.
-fn is_taken<T: Station, R: Threads + Wait + Sync>(
-    rt: &R,
-    session: &mut Session,
-    line: &[u8],
-    station: &mut T,
-) -> bool
-    requires { HasLog T.Station session.old.held session.old.end station.old }
-    ensures { result ≡ true → HasLog T.Station session.new.held session.new.end station.new }
-{
-    let mut tally = Tally::new();
-    session
-        .command(rt, line, 1, station, &NoGate, &mut tally)
-        .is_ok()
 }
 
 /// An ask of a version that is not awaited is answered by the store, once a worker has built it.

@@ -8,14 +8,4 @@
 #![tactic(auto)]
 
 #[cfg(test)]
-mod claims;
-#[cfg(test)]
-mod generated;
-#[cfg(test)]
-mod groups;
-#[cfg(test)]
-mod sources;
-#[cfg(test)]
-mod stations;
-#[cfg(test)]
-mod words;
+mod tests;

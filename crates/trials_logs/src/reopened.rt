@@ -174,83 +174,50 @@ fn reply_on<T: Station, R: Threads + Wait + Sync>(
     reply_behind(rt, alloc, &mut session, lines, station)
 }
 
-/// Whether this is the reply to the second of two lines in a session of the log with this store,
-/// and so many cells are counted for it.
-fn is_told<R: Threads + Wait + Sync>(
-    rt: &R,
-    alloc: Global,
-    store: &[u8],
-    lines: [&[u8]; 2],
-    told: &[u8],
-    counted: u64,
-) -> Result<bool, Fail> {
-    let mut station = station_with(alloc, store)?;
-    let (text, count) = reply_on(rt, alloc, &mut station, lines)?;
-    Ok(text.as_slice() == told && count == counted)
+/// A store, two lines of a session of the log with it, the reply to the second, and how many cells
+/// are counted for it.
+type Row = (&'static [u8], [&'static [u8]; 2], &'static [u8], u64);
+
+/// A true store answers the relation, and one of nothing answers nothing. The way is the store
+/// whatever it stands for, and values are computed again. A version of a log is awaited already, and
+/// no merge of it was asked; kinds are those of the store. It is refreshed by the relation: the one
+/// cell that a set cell reaches is counted, and nothing is taken from the store.
+const ROWS: [Row; 9] = [
+    (&TRUE_STORE, [b"", ASK], b"1 cells 1 0,0\n", 0),
+    (&EMPTY_STORE, [b"", ASK], b"1 cells 0\n", 0),
+    (
+        &EMPTY_STORE,
+        [b"", EXPLAIN],
+        b"1 explain full_one_b traced 0\n",
+        0,
+    ),
+    (&EMPTY_STORE, [b"", SHOW], b"1 values 1 1 -5\n", 0),
+    (&TRUE_STORE, [b"", AWAIT], b"1 done 1\n", 0),
+    (&TRUE_STORE, [b"", MERGED], b"1 refused 25\n", 0),
+    (&TRUE_STORE, [MERGE, MERGED], b"1 merged 1 1\n", 0),
+    (&EMPTY_STORE, [MERGE, MERGED], b"1 merged 1 0\n", 0),
+    (&EMPTY_STORE, [b"", REFRESH], b"1 refreshed 2 cells 1\n", 1),
+];
+
+/// Whether the reply and the count of a row are told.
+fn is_told<R: Threads + Wait + Sync>(rt: &R, alloc: Global, row: &Row) -> Result<bool, Fail> {
+    let mut station = station_with(alloc, row.0)?;
+    let (text, count) = reply_on(rt, alloc, &mut station, row.1)?;
+    Ok(text.as_slice() == row.2 && count == row.3)
 }
 
-/// Whether this is the reply to a line in a session of the log with this store, and no cell is
-/// counted for it.
-fn is_reply<R: Threads + Wait + Sync>(
-    rt: &R,
-    alloc: Global,
-    store: &[u8],
-    line: &[u8],
-    told: &[u8],
-) -> Result<bool, Fail> {
-    is_told(rt, alloc, store, [b"", line], told, 0)
-}
-
-#[test]
-fn a_true_store_answers_the_relation(rt: HostRuntime) -> Result<(), Fail> {
-    assert!(rt; is_reply(&rt, rt.alloc(), &TRUE_STORE, ASK, b"1 cells 1 0,0\n")?);
-    Ok(())
-}
-
-#[test]
-fn a_store_of_nothing_answers_nothing(rt: HostRuntime) -> Result<(), Fail> {
-    assert!(rt; is_reply(&rt, rt.alloc(), &EMPTY_STORE, ASK, b"1 cells 0\n")?);
-    Ok(())
-}
-
-#[test]
-fn the_way_is_the_store_whatever_it_stands_for(rt: HostRuntime) -> Result<(), Fail> {
-    let told = b"1 explain full_one_b traced 0\n";
-    assert!(rt; is_reply(&rt, rt.alloc(), &EMPTY_STORE, EXPLAIN, told)?);
-    Ok(())
+/// The number of the first row whose reply or count is told otherwise, if any is.
+fn first_other<R: Threads + Wait + Sync>(rt: &R, alloc: Global) -> Result<Option<usize>, Fail> {
+    for number in 0..ROWS.len() {
+        if !is_told(rt, alloc, &ROWS[number])? {
+            return Ok(Some(number));
+        }
+    }
+    Ok(None)
 }
 
 #[test]
-fn values_are_computed_again(rt: HostRuntime) -> Result<(), Fail> {
-    assert!(rt; is_reply(&rt, rt.alloc(), &EMPTY_STORE, SHOW, b"1 values 1 1 -5\n")?);
-    Ok(())
-}
-
-#[test]
-fn a_version_of_a_log_is_awaited_already(rt: HostRuntime) -> Result<(), Fail> {
-    assert!(rt; is_reply(&rt, rt.alloc(), &TRUE_STORE, AWAIT, b"1 done 1\n")?);
-    Ok(())
-}
-
-#[test]
-fn no_merge_of_a_version_of_a_log_was_asked(rt: HostRuntime) -> Result<(), Fail> {
-    assert!(rt; is_reply(&rt, rt.alloc(), &TRUE_STORE, MERGED, b"1 refused 25\n")?);
-    Ok(())
-}
-
-#[test]
-fn kinds_are_those_of_the_store_whatever_it_stands_for(rt: HostRuntime) -> Result<(), Fail> {
-    let alloc = rt.alloc();
-    let lines = [MERGE, MERGED];
-    assert!(rt; is_told(&rt, alloc, &TRUE_STORE, lines, b"1 merged 1 1\n", 0)?);
-    assert!(rt; is_told(&rt, alloc, &EMPTY_STORE, lines, b"1 merged 1 0\n", 0)?);
-    Ok(())
-}
-
-/// The one cell that a set cell reaches is counted, and nothing is taken from the store.
-#[test]
-fn a_version_of_a_log_is_refreshed_by_the_relation(rt: HostRuntime) -> Result<(), Fail> {
-    let told = b"1 refreshed 2 cells 1\n";
-    assert!(rt; is_told(&rt, rt.alloc(), &EMPTY_STORE, [b"", REFRESH], told, 1)?);
+fn a_version_of_a_log_is_answered_by_its_store(rt: HostRuntime) -> Result<(), Fail> {
+    assert_eq!(rt; first_other(&rt, rt.alloc())?, None);
     Ok(())
 }

@@ -6,12 +6,4 @@
 #![tactic(auto)]
 
 #[cfg(test)]
-mod bench;
-#[cfg(test)]
-mod held;
-#[cfg(test)]
-mod hired;
-#[cfg(test)]
-mod small;
-#[cfg(test)]
-mod tasks;
+mod tests;

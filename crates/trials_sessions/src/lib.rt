@@ -6,16 +6,4 @@
 #![tactic(auto)]
 
 #[cfg(test)]
-mod gate;
-#[cfg(test)]
-mod greatest;
-#[cfg(test)]
-mod load;
-#[cfg(test)]
-mod merged;
-#[cfg(test)]
-mod play;
-#[cfg(test)]
-mod refreshed;
-#[cfg(test)]
-mod rows;
+mod tests;

@@ -6,12 +6,4 @@
 #![tactic(auto)]
 
 #[cfg(test)]
-mod bench;
-#[cfg(test)]
-mod rows;
-#[cfg(test)]
-mod stores;
-#[cfg(test)]
-mod threads;
-#[cfg(test)]
-mod views;
+mod tests;

@@ -1,34 +1,55 @@
--- The bytes of the stores are read as these alone, and so are those that were put where they are the same.
-use Rattle.std.proofs.Common.{◌≡◌, ◌∙◌, ℕ, List, [], sym}
-use Rattle.sz_store.specs.Kept.{stored_in}
-use Rattle.sz_merge.proofs.Behind.{begin-whole, all-read}
+-- Each store is merged behind the ones before it, and all words together are read as they are merged.
+use Rattle.std.proofs.Common.{◌≡◌, ◌<◌, ◌≤◌, ◌∙◌, true, true≢false, List, length, sym, subst, arith}
+use Rattle.std.proofs.lemmas.List.{take_all}
+use Rattle.sz_spec.specs.declared.modes.Strategy.TheVariants as strategy
+use Rattle.sz_store.specs.Kept.{Keep, empty_keep}
+use Rattle.sz_merge.specs.Merged.{ArePartsMerged}
+use Rattle.sz_merge.proofs.Behind.{parts-none, parts-more, parts-read, parts-left}
 use Rattle.sz_merge.proofs.put_merged.Goals as goal
+use Rattle.sz_merge.proofs.put_merged.Goals.{then-not-left, else-not-left}
 
-pub merge_parts-requires-clause-begins : goal.merge_parts-requires-clause-begins
-merge_parts-requires-clause-begins c =
-    let s = c.args.store.now in (
-      s.stores,
-      begin-whole c.args.at.now s.site c.args.list.now s.list s.stores c.new-bytes.result.items c.put_bytes.new.to.items
-          c.deref.result.now c.requires.site c.requires.list c.new-bytes.ensures.items c.deref.ensures.value
-          (c.in_ok-put_bytes.ensures.read []),
-    )
+pub merge_part-requires-clause-mode : goal.merge_part-requires-clause-mode
+merge_part-requires-clause-mode c =
+    c.stores-place-end.ensures.modes c.loop-place.place (empty_keep strategy.Map)
+    (omega (arith, c.stores-place-end.ensures.count, c.loop-place-test.true))
+
+pub loop-place-init : goal.loop-place-init
+loop-place-init c =
+    parts-none c.args.store.now.site c.args.to.now.items c.args.kinds.now.items c.requires.to c.requires.kinds
+
+pub loop-place-preserved : goal.loop-place-preserved
+loop-place-preserved c =
+    let s = c.args.store.now in
+    let i = c.loop-place.place in
+    let was = c.loop-place.same in
+    let one = c.in_ok-left.left in
+    let same = c.if-not-left.same in
+    let inside : i < length s.stores = omega (arith, c.stores-place-end.ensures.count, c.loop-place-test.true) in
+    let both : same ≡ true → (was ≡ true) × (one ≡ true) =
+    λ is. elim c.if-not-left.branch [
+      | then-not-left w ↦ absurd (true≢false (sym is ∙ w.same-is))
+      | else-not-left w ↦ (sym w.same-is ∙ is, w.if-not-left.false)
+    ] in
+    parts-more s.site s.stores i (empty_keep strategy.Map) was one same c.loop-place.to.items
+    c.merge_part.new.to.items c.loop-place.kinds.items c.merge_part.new.kinds.items inside both
+    c.loop-place.invariant c.in_ok-left.ensures
 
 pub returns-clause-read : goal.returns-clause-read
 returns-clause-read c =
     let s = c.args.store.now in
-    let parts = c.in_ok-merge_parts.ensures in
-    all-read c.args.at.now (stored_in c.args.list.now) c.deref.result.now parts.0 s.stores c.merge_parts.new.to.items
-    c.merge_parts.new.kinds.items c.within_limits.ensures.right
-    (begin-whole c.args.at.now s.site c.args.list.now s.list s.stores c.new-bytes.result.items c.put_bytes.new.to.items
-    c.deref.result.now c.requires.site c.requires.list c.new-bytes.ensures.items c.deref.ensures.value
-    (c.in_ok-put_bytes.ensures.read [])) parts.1
+    let enough : length s.stores ≤ c.loop-place.place =
+    omega (arith, c.stores-place-end.ensures.count, c.loop-place-test.false) in
+    parts-read s.site _ s.stores c.loop-place.same c.loop-place.to.items c.loop-place.kinds.items
+    c.stores-place-end.ensures.strategies
+    (subst (λ (fs : List Keep). ArePartsMerged s.site fs c.loop-place.same c.loop-place.to.items
+    c.loop-place.kinds.items) (take_all c.loop-place.place s.stores enough) c.loop-place.invariant)
 
 pub returns-clause-same : goal.returns-clause-same
-returns-clause-same c same =
+returns-clause-same c is =
     let s = c.args.store.now in
-    let put : List ℕ = c.merge_parts.new.to.items in
-    let are : put ≡ c.put_bytes.new.to.items =
-    sym c.deref-2.ensures.value ∙ c.are_same.ensures same
-    ∙ c.deref-3.ensures.value in
-    begin-whole c.args.at.now s.site c.args.list.now s.list s.stores c.new-bytes.result.items c.put_bytes.new.to.items
-    put c.requires.site c.requires.list c.new-bytes.ensures.items are (c.in_ok-put_bytes.ensures.read [])
+    let enough : length s.stores ≤ c.loop-place.place =
+    omega (arith, c.stores-place-end.ensures.count, c.loop-place-test.false) in
+    parts-left s.site _ s.stores c.loop-place.same c.loop-place.to.items c.loop-place.kinds.items
+    c.stores-place-end.ensures.strategies
+    (subst (λ (fs : List Keep). ArePartsMerged s.site fs c.loop-place.same c.loop-place.to.items
+    c.loop-place.kinds.items) (take_all c.loop-place.place s.stores enough) c.loop-place.invariant) is

@@ -1,11 +1,15 @@
 -- Each region pair takes its part of the room, and leaves that of those behind it.
 use Rattle.std.proofs.Common.{◌≡◌, ◌≤◌, ◌<◌, ◌+◌, ◌++◌, ℕ, map, take, drop, length, get_or, sym, ap, subst, ◌∙◌}
-use Rattle.std.proofs.Common.{List, arith, length-drop}
+use Rattle.std.proofs.Common.{List, All, refl, arith, length-drop}
 use Rattle.std.specs.Prelude.{sum_by}
 use Rattle.std.specs.Arc.{arc_value}
+use Rattle.std.proofs.lemmas.List.{take-map}
 use Rattle.sz_cells.specs.Extent.{Extent}
 use Rattle.sz_frame.specs.Parts.{Pairing}
 use Rattle.sz_tables.specs.Rows.{pairings, weight_of}
+use Rattle.sz_tables.specs.Apart.{AreOneOrApart}
+use Rattle.sz_tables.proofs.Apart.{apart-next}
+use Rattle.sz_tables.proofs.Counted.{item-made}
 use Rattle.sz_full_one.specs.ByCells.{IsIndexOf, IsPairIn, HasRoom, pair_cells}
 use Rattle.sz_full_one.proofs.Counted.{sum-left, pushed-next}
 use Rattle.sz_full_one.proofs.FoundPairs.{of-map}
@@ -20,6 +24,20 @@ add_region-requires-clause-pair c =
     c.loop-region.region-index c.region-item.result c.loop-region-test.true in
     let pair : IsPairIn c.args.table.now c.deref.result.now = subst (IsPairIn c.args.table.now) is here in
     record { out = pair.out ∙ sym inv.out; ins = pair.ins ∙ sym inv.ins }
+
+pub add_region-requires-clause-apart : goal.add_region-requires-clause-apart
+add_region-requires-clause-apart c told =
+    let items = c.args.regions.now in
+    let rs : List Pairing = map (λ a. arc_value a) items in
+    let i : ℕ = c.loop-region.region-index in
+    let r : Pairing = c.deref.result.now in
+    let front = pairings c.args.table.now in
+    let there = item-made (λ a. arc_value a) items rs i c.region-item.result r refl c.loop-region-test.true
+    c.region-item.is c.deref.ensures in
+    subst (All (AreOneOrApart r))
+    (sym (c.loop-region.invariant.pairings ∙ ap (λ (xs : List Pairing). front ++ xs) (sym (take-map (λ a. arc_value a) i
+    items))))
+    (apart-next front rs i r (c.requires.apart told) there.0 there.1)
 
 pub loop-region-preserved : goal.loop-region-preserved
 loop-region-preserved c =

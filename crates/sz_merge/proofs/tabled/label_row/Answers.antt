@@ -76,8 +76,8 @@ loop-run-preserved c =
           (c.label_run.ensures.marked c.if-not-label_run.false ins r lists next);
     }
 
-pub returns : goal.returns
-returns c is ins lists next =
+pub returns-clause-marked : goal.returns-clause-marked
+returns-clause-marked c is ins lists next =
     let t = c.args.table.now in
     let r = pairing_at t c.args.row in
     let old = c.args.labels.now.items in
@@ -97,3 +97,8 @@ returns c is ins lists next =
     subst (λ (rs : List Run). AreMarked ins r (covers rs) old labels lists lists)
     (take_all c.loop-run.run-index runs c.loop-run-test.false) (c.loop-run.invariant.marked ins r lists first) in
     runs-all ins r runs old labels lists lists spells (c.requires.size ∙ ap size_of (sym own.extent)) marked
+
+pub returns-clause-shape : goal.returns-clause-shape
+returns-clause-shape c is =
+    (subst (λ (n : ℕ). IsSetOf c.args.table.now.out (set_at c.args.table.now.outs n)) c.out_number.ensures
+    c.out_runs-runs.ensures.set).extent

@@ -1,10 +1,14 @@
 -- The walk takes the step of the index.
 use Rattle.std.proofs.Common.{List, ◌+◌, ◌<◌, length, map, get_or, drop, set, ap, sym, ◌∙◌, arith, inr}
+use Rattle.std.specs.List.{AllZip}
 use Rattle.std.proofs.lemmas.List.{length-map, length-set, drop-set-lt, drop-drop}
 use Rattle.sz_cells.specs.Cells.{Cells}
+use Rattle.sz_query.specs.Turns.{MayBeAsked}
 use Rattle.sz_query.specs.Views.{view_of}
 use Rattle.sz_query.proofs.Asked.{none-asked, on-err}
 use Rattle.sz_query.proofs.OnWay.{steps-inputs, sides-length, tried-at, on-next}
+use Rattle.sz_query.proofs.steps.take_steps.Given as given
+use Rattle.sz_query.proofs.steps.take_steps.Goals.{After-step_into}
 use Rattle.sz_query.proofs.steps.take_steps.Goals as goal
 
 pub bounds-sides-index : goal.bounds-sides-index
@@ -26,27 +30,25 @@ bounds-sides-index g c =
 pub returns-in_err-used-clause-tried : goal.returns-in_err-used-clause-tried
 returns-in_err-used-clause-tried g c = on-err c.from_residual.result (none-asked (map view_of c.args.views.now))
 
-pub returns-in_err-how-clause-tried : goal.returns-in_err-how-clause-tried
-returns-in_err-how-clause-tried g c =
+-- where the step of the index fails, or what it tells finds no room, the views up to its own may have been asked
+tried : (g : given.Over) (c : After-step_into g) → AllZip MayBeAsked (map view_of c.args.views.now)
+    (map view_of (set c.loop-index.views c.loop-index.index c.step_into.new.self))
+tried g c =
     let way = c.loop-index.invariant.1 in
     let lt : c.loop-index.index < length c.loop-index.views =
     omega (arith, c.loop-index-test.true, c.loop-index.invariant.0) in
     let here = get_or c.loop-index.views c.loop-index.index in
-    on-err c.from_residual-in_err-how.result
-    (tried-at c.loop-index.index c.args.views.now c.loop-index.views (here c.index-views-index.result)
+    tried-at c.loop-index.index c.args.views.now c.loop-index.views (here c.index-views-index.result)
     c.step_into.new.self lt way.asked.same (ap here c.index-views-index.is) (inr c.step_into.ensures.asked)
-    way.asked.asked way.asked.rest)
+    way.asked.asked way.asked.rest
+
+pub returns-in_err-how-clause-tried : goal.returns-in_err-how-clause-tried
+returns-in_err-how-clause-tried g c =
+    on-err c.from_residual-in_err-how.result (tried g (goal.at.returns-in_err-how-clause-tried g c).After-step_into)
 
 pub returns-in_err-push-clause-tried : goal.returns-in_err-push-clause-tried
 returns-in_err-push-clause-tried g c =
-    let way = c.loop-index.invariant.1 in
-    let lt : c.loop-index.index < length c.loop-index.views =
-    omega (arith, c.loop-index-test.true, c.loop-index.invariant.0) in
-    let here = get_or c.loop-index.views c.loop-index.index in
-    on-err c.from_residual-in_err-push.result
-    (tried-at c.loop-index.index c.args.views.now c.loop-index.views (here c.index-views-index.result)
-    c.step_into.new.self lt way.asked.same (ap here c.index-views-index.is) (inr c.step_into.ensures.asked)
-    way.asked.asked way.asked.rest)
+    on-err c.from_residual-in_err-push.result (tried g (goal.at.returns-in_err-push-clause-tried g c).After-step_into)
 
 pub loop-index-preserved : goal.loop-index-preserved
 loop-index-preserved g c =

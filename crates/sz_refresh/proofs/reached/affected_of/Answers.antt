@@ -64,15 +64,14 @@ returns c =
     let s = c.args.at.now in
     let a : List Grid = map (λ x. arc_value x) c.args.old.now in
     let b : List Grid = map (λ x. arc_value x) c.args.new.now in
-    let from = c.args.from.now in
-    let changes : List Cells = map (changed_from c.args.input c.args.changed.now c.args.sets.now) from in
+    let changes : List Cells = map (changed_from c.args.input c.args.changed.now c.args.sets.now) c.args.from.now in
     let all : c.loop-number.number ≡ length changes =
     omega (
       arith,
       c.loop-number-test.false,
       c.loop-number.auto.number-end,
       ends (goal.at.returns c).At-loop-number,
-      length-map from (changed_from c.args.input c.args.changed.now c.args.sets.now),
+      length-map c.args.from.now (changed_from c.args.input c.args.changed.now c.args.sets.now),
     ) in
     IfOk-weaker c.to_set.result _ _
     (λ set is.

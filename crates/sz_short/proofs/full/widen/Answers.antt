@@ -39,15 +39,13 @@ returns-in_err-find_store-clause-err c =
 
 pub returns-clause-ok : goal.returns-clause-ok
 returns-clause-ok c =
-    let ins = c.args.ins.now in
     let old = c.args.to.now.items in
-    let mid = c.respell_table.new.to.items in
-    let new = c.copy_rows.new.to.items in
     let has = c.in_ok-place.ensures.ok in
-    let more = c.in_ok-next.ensures.ok in
     let begins = c.in_ok-find_store.ensures.ok in
     let begin : c.len-begin.result ≡ length old = first_of (omega arith, search rules) in
-    short-judged c.args.out ins c.args.bytes.now c.args.at c.in_ok-place.place c.in_ok-next.next begins.0 has.0 more.0
-    begins.1 old mid new c.requires has.1 has.2 more.1 more.2 has.3 more.3
-    (subst (λ (xs : List ℕ). BeginsRegions c.args.out ins xs (length old) begins.0 begins.1) c.deref.ensures.value
-    (subst (λ (k : ℕ). BeginsRegions c.args.out ins c.deref.result.now k begins.0 begins.1) begin begins.2))
+    short-judged c.args.out c.args.ins.now c.args.bytes.now c.args.at c.in_ok-place.place c.in_ok-next.next begins.0
+    has.0 c.in_ok-next.ensures.ok.0 begins.1 old c.respell_table.new.to.items c.copy_rows.new.to.items c.requires has.1
+    has.2 c.in_ok-next.ensures.ok.1 c.in_ok-next.ensures.ok.2 has.3 c.in_ok-next.ensures.ok.3
+    (subst (λ (xs : List ℕ). BeginsRegions c.args.out c.args.ins.now xs (length old) begins.0 begins.1)
+    c.deref.ensures.value
+    (subst (λ (k : ℕ). BeginsRegions c.args.out c.args.ins.now c.deref.result.now k begins.0 begins.1) begin begins.2))

@@ -21,8 +21,7 @@ returns-in_err-far-clause-err c =
 
 pub returns-in_err-far-clause-kept : goal.returns-in_err-far-clause-kept
 returns-in_err-far-clause-kept c =
-    let kept = kept-behind c.args.to.now.items _ c.copy_payloads.new.to.items c.respell_sets.new.to.items
-    c.in_ok-place.ensures.ok.3 c.in_err-far.ensures.kept in
+    let kept = kept-behind c.args.to.now.items _ _ _ c.in_ok-place.ensures.ok.3 c.in_err-far.ensures.kept in
     search rules
 
 pub returns-clause-ok : goal.returns-clause-ok

@@ -16,8 +16,7 @@ returns-in_err-far-clause-err c =
 
 pub returns-in_err-far-clause-kept : goal.returns-in_err-far-clause-kept
 returns-in_err-far-clause-kept c =
-    let kept = kept-behind c.args.to.now.items _ c.copy_payloads.new.to.items c.respell_sets.new.to.items
-    c.in_ok-place.ensures.ok.3 c.in_err-far.ensures.kept in
+    let kept = kept-behind c.args.to.now.items _ _ _ c.in_ok-place.ensures.ok.3 c.in_err-far.ensures.kept in
     search rules
 
 pub returns-in_err-next-clause-err : goal.returns-in_err-next-clause-err
@@ -47,16 +46,13 @@ returns-in_err-find_store-clause-err c =
 pub returns-clause-ok : goal.returns-clause-ok
 returns-clause-ok c =
     let old = c.args.to.now.items in
-    let one = c.copy_payloads.new.to.items in
-    let two = c.respell_sets.new.to.items in
-    let new = c.copy_rows.new.to.items in
     let ps = c.in_ok-place.ensures.ok in
     let ss = c.in_ok-far.ensures.ok in
-    let more = c.in_ok-next.ensures.ok in
     let begins = c.in_ok-find_store.ensures.ok in
     let begin : c.len-begin.result ≡ length old = first_of (omega arith, search rules) in
     short-pay-judged c.args.out c.args.bytes.now c.args.at c.in_ok-place.place c.in_ok-far.far c.in_ok-next.next
-    begins.0
-    ps.0 ss.0 more.0 begins.1 old one two new c.requires ps.1 ps.2 ss.1 ss.2 more.1 more.2 ps.3 ss.3 more.3
+    begins.0 ps.0 ss.0 c.in_ok-next.ensures.ok.0 begins.1 old c.copy_payloads.new.to.items c.respell_sets.new.to.items
+    c.copy_rows.new.to.items c.requires ps.1 ps.2 ss.1 ss.2 c.in_ok-next.ensures.ok.1 c.in_ok-next.ensures.ok.2 ps.3
+    ss.3 c.in_ok-next.ensures.ok.3
     (subst (λ (xs : List ℕ). BeginsEntries c.args.out xs (length old) begins.0 begins.1) c.deref.ensures.value
     (subst (λ (k : ℕ). BeginsEntries c.args.out c.deref.result.now k begins.0 begins.1) begin begins.2))

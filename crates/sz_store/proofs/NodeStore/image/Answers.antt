@@ -1,15 +1,14 @@
 -- The store that is found is for the node's operator, and keeps what the first of its strategy keeps.
-use Rattle.std.proofs.Common.{◌≡◌, ◌<◌, ℕ, List, length, map, true, get_or, All, sym, ap, ap₂, subst, ◌∙◌}
+use Rattle.std.proofs.Common.{◌≡◌, ◌<◌, List, length, map, true, get_or, sym, ap, ap₂, subst, ◌∙◌}
 use Rattle.std.specs.Arc.{arc_value}
 use Rattle.sz_cells.specs.Cells.{has, with_those}
 use Rattle.sz_spec.specs.Shapes.{Site}
 use Rattle.sz_spec.specs.Modes.{is_listed}
 use Rattle.sz_spec.specs.Sides.{near_side, far_side, image_in}
 use Rattle.sz_store.specs.Kept.{Holding, NodeLineage, holding_for, holding_stands}
-use Rattle.sz_store.specs.Stocks.{stock_of, keep_of, site_of}
+use Rattle.sz_store.specs.Stocks.{stock_of, keep_of}
 use Rattle.sz_store.specs.declared.stores.ListedStore.{ListedStore}
-use Rattle.sz_store.proofs.Placing.{all-of_map}
-use Rattle.sz_store.proofs.Listed.{store-listed}
+use Rattle.sz_store.proofs.Listed.{store-listed, own-site}
 use Rattle.sz_store.proofs.NodeStore.image.Goals as goal
 
 pub place_of-place-requires : goal.place_of-place-requires
@@ -18,13 +17,6 @@ place_of-place-requires c =
     (store-listed c.args.strategy c.self.inside.list.items c.self.inside.stores.items c.self.invariant.stored
     c.requires.stored
     (subst (λ (x : NodeLineage). is_listed x.list c.args.strategy ≡ true) (sym c.self.view_is) c.requires.listed))
-
--- the operator of the store that is found
-own-site : (stores : List ListedStore) (place : ℕ) (l : ListedStore) (s : Site) (view : NodeLineage)
-    → All (λ x. x ≡ s) (map site_of stores) → place < length stores → l ≡ get_or stores place l → s ≡ view.site
-    → site_of l ≡ view.site
-own-site stores place l s view same inside is seen =
-    ap site_of is ∙ all-of_map (λ (x : Site). x ≡ s) site_of stores same place l inside ∙ seen
 
 pub image-requires-clause-input : goal.image-requires-clause-input
 image-requires-clause-input c =

@@ -1,12 +1,13 @@
 -- The key idea: each turn changes the table at the index and appends its number, and nothing before or behind.
-use Rattle.std.proofs.Common.{◌≡◌, ◌∙◌, length, map, ap, sym, refl, arith}
+use Rattle.std.proofs.Common.{◌≡◌, ◌<◌, ◌∙◌, List, All, length, map, get_or, ap, subst, sym, refl, arith}
 use Rattle.std.specs.Arc.{arc_value}
 use Rattle.std.specs.List.{sum_by}
 use Rattle.sz_cells.specs.Cells.{Cells}
 use Rattle.sz_tables.specs.Tables.{SetsByNumber}
 use Rattle.sz_tables.specs.Rows.{runs_in, set_at}
 use Rattle.sz_tables.proofs.Taking.{read-set, set-light, taken-none, taken-more, as-many, read-many}
-use Rattle.sz_tables.proofs.Taking.{same-extent}
+use Rattle.sz_tables.proofs.Taking.{same-extent, sets-at}
+use Rattle.sz_tables.specs.Apart.{IsOneOrApart}
 use Rattle.sz_tables.proofs.region_table.add_each.Goals as goal
 use Rattle.sz_tables.proofs.region_table.add_each.Goals.{After-deref}
 
@@ -46,6 +47,17 @@ add_one-number-requires-clause-room c =
     let room = c.requires.room i d (omega (arith, on.many)) in
     rw (c.loop-i.invariant.taken.ahead i d (omega (arith, on.many)))
     (record { for_sets = room.for_sets; for_runs = omega (arith, room.for_runs) })
+
+pub add_one-number-requires-clause-apart : goal.add_one-number-requires-clause-apart
+add_one-number-requires-clause-apart c told =
+    let i = c.loop-i.i in
+    let d = c.index-tables-i.result in
+    let on = is-on (goal.at.add_one-number-requires-clause-apart c).After-deref in
+    let inside : i < length c.args.tables.now = omega (arith, on.many) in
+    let parts = subst (λ (xs : List Cells). All (IsOneOrApart (set_at (map (λ a. arc_value a) c.args.sets.now) i)) xs)
+    (sets-at c.args.tables.now i d inside) (c.requires.apart told i) in
+    rw (c.loop-i.invariant.taken.ahead i d (omega (arith, on.many)))
+    (subst (λ (s : Cells). All (IsOneOrApart s) (get_or c.args.tables.now i d).sets) on.is parts)
 
 pub loop-i-preserved : goal.loop-i-preserved
 loop-i-preserved c =

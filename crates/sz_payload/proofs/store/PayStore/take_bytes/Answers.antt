@@ -1,19 +1,28 @@
--- What is read is the operator's.
-use Rattle.std.proofs.Common.{List, map, ap, sym, subst, ◌∙◌, All}
+-- What is read is the operator's, and its index that of its entries.
+use Rattle.std.proofs.Common.{ap, subst, ◌∙◌}
 use Rattle.std.specs.Arc.{arc_value}
-use Rattle.sz_frame.specs.Parts.{Entry}
+use Rattle.sz_cells.specs.Extent.{Extent}
 use Rattle.sz_spec.specs.Shapes.{Site}
-use Rattle.sz_payload.specs.Begins.{BeginsPayloads}
-use Rattle.sz_payload.specs.Kept.{IsEntryOf, PayContents}
-use Rattle.sz_payload.proofs.Judged.{begun-lawful}
+use Rattle.sz_tables.specs.Entries.{entries}
+use Rattle.sz_payload.specs.Begins.{AreLawful, BeginsPayloads}
+use Rattle.sz_payload.specs.Owned.{IsIndexOf}
 use Rattle.sz_payload.proofs.store.PayStore.take_bytes.Goals as goal
 
-pub keep_all-requires-clause-entries : goal.keep_all-requires-clause-entries
-keep_all-requires-clause-entries g c =
-    let es : List Entry = map (λ a. arc_value a) c.in_ok-entries.entries.items in
+pub invariant_of-store : goal.invariant_of-store
+invariant_of-store g c =
+    let s = c.deref.result.now in
+    let t = c.in_ok-table.table in
     let site = arc_value c.args.at in
-    let begins = subst (λ (s : Site). BeginsPayloads s c.args.bytes.now c.args.from c.in_ok-entries.next es)
-    c.deref.ensures c.in_ok-entries.ensures.ok in
-    rw c.deref-2.ensures.value
-    (subst (λ (s : Site). All (IsEntryOf s) es) (sym (ap (λ (k : PayContents). k.store.site) c.in_ok-store.ensures))
-    (begun-lawful site c.args.bytes.now c.args.from c.in_ok-entries.next es begins))
+    let same = c.deref.ensures in
+    let out = c.in_ok-table.ensures.out ∙ ap (λ (x : Site). x.out) same in
+    let begins = subst (λ (x : Site). BeginsPayloads x c.args.bytes.now c.args.from c.in_ok-table.next (entries t)) same
+    c.in_ok-table.ensures.ok in (
+      record {
+        none = c.requires.payloads;
+        out = out;
+        lawful = subst (λ (x : Site). AreLawful x t.payloads) same c.in_ok-table.ensures.lawful;
+        apart = begins.is_word.apart;
+        index = subst (λ (e : Extent). IsIndexOf e (entries t) c.in_ok-owner.owner) out c.in_ok-owner.ensures;
+      },
+      c.requires.map,
+    )

@@ -7,6 +7,7 @@ use Rattle.sz_shelf.specs.Contents.{Contents}
 use Rattle.sz_shelf.specs.Keeping.{AreStores, IsSharedFrom, store_in}
 use Rattle.sz_shelf.specs.declared.stored.Stored.{Stored}
 use Rattle.sz_shelf.proofs.Stores.{stores-shared, stores-whole}
+use Rattle.sz_shelf.proofs.Apart.{apart-shared}
 use Rattle.sz_shelf.proofs.shelved.Shelved.share.Goals as goal
 
 pub invariant_of-self : goal.invariant_of-self
@@ -20,16 +21,18 @@ invariant_of-self c =
     let from : IsSharedFrom old new =
     subst (λ (s : Stored). IsSharedFrom s new) c.replace-own.ensures.value c.share-stored.ensures.form in
     let before : AreStores t placed true old =
-    subst (λ (b : Bool). AreStores t placed b old) sealed c.self.invariant.stores in
-    record {
-      tag = c.self.invariant.tag;
-      marks = c.self.invariant.marks;
-      first = c.self.invariant.first;
-      whole = c.self.invariant.whole;
-      stores =
-          subst (λ (b : Bool). AreStores t placed b new) (sym sealed)
-          (stores-shared t placed old new (c.self.invariant.whole sealed) before from);
-    }
+    subst (λ (b : Bool). AreStores t placed b old) sealed c.self.invariant.0.stores in (
+      record {
+        tag = c.self.invariant.0.tag;
+        marks = c.self.invariant.0.marks;
+        first = c.self.invariant.0.first;
+        whole = c.self.invariant.0.whole;
+        stores =
+            subst (λ (b : Bool). AreStores t placed b new) (sym sealed)
+            (stores-shared t placed old new (c.self.invariant.0.whole sealed) before from);
+      },
+      λ told. apart-shared t old new (c.self.invariant.1 told) from,
+    )
 
 pub returns-clause-ok : goal.returns-clause-ok
 returns-clause-ok c =
@@ -43,6 +46,6 @@ returns-clause-ok c =
     subst (λ (x : Contents). IfOk c.share-stored.result.1 (λ a. StandsFor x.tag (arc_value a))) c.self.view_is
     (IfOk-weaker c.share-stored.result.1 (λ a. store_in old ≡ Some (arc_value a)) (λ a. StandsFor t (arc_value a))
     (λ a is.
-    stores-whole t placed c.self.inside.sealed old (arc_value a) (c.self.invariant.whole sealed) c.self.invariant.stores
-    is)
+    stores-whole t placed c.self.inside.sealed old (arc_value a) (c.self.invariant.0.whole sealed)
+    c.self.invariant.0.stores is)
     told)

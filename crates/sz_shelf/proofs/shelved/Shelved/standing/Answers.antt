@@ -13,7 +13,7 @@ returns-clause-placed c =
     subst (λ (kept : NodeLineage). StandsOnPlaced s.tag s.placed kept) (sym c.of.ensures)
     (subst (λ (x : Contents). StandsOnPlaced x.tag x.placed c.store.result.now) c.self.view_is
     (stores-placed c.self.inside.tag.value c.self.inside.placed.items c.self.inside.sealed c.self.inside.stored
-    c.store.result.now c.self.invariant.whole c.self.invariant.stores c.store.ensures))
+    c.store.result.now c.self.invariant.0.whole c.self.invariant.0.stores c.store.ensures))
 
 pub returns-clause-whole : goal.returns-clause-whole
 returns-clause-whole c =
@@ -22,4 +22,4 @@ returns-clause-whole c =
     (subst (λ (x : Contents). x.sealed ≡ true → StandsFor x.tag c.store.result.now) c.self.view_is
     (λ sealed.
     stores-whole c.self.inside.tag.value c.self.inside.placed.items c.self.inside.sealed c.self.inside.stored
-    c.store.result.now (c.self.invariant.whole sealed) c.self.invariant.stores c.store.ensures))
+    c.store.result.now (c.self.invariant.0.whole sealed) c.self.invariant.0.stores c.store.ensures))

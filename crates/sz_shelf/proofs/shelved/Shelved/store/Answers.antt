@@ -11,4 +11,4 @@ returns c =
     subst (λ (x : Contents). x.sealed ≡ true) (sym c.self.view_is) c.requires in
     subst (λ (x : Contents). StandsFor x.tag c.store.result.now) c.self.view_is
     (stores-whole c.self.inside.tag.value c.self.inside.placed.items c.self.inside.sealed c.self.inside.stored
-    c.store.result.now (c.self.invariant.whole sealed) c.self.invariant.stores c.store.ensures)
+    c.store.result.now (c.self.invariant.0.whole sealed) c.self.invariant.0.stores c.store.ensures)

@@ -1,10 +1,10 @@
 -- The key idea: a payload of these bytes is filed under their key, so the walk over the entries of the key meets it.
-use Rattle.std.proofs.Common.{◌≡◌, ◌≢◌, ℕ, ◌<◌, ◌%◌, ◌∙◌, length, ap, sym, arith}
+use Rattle.std.proofs.Common.{◌≡◌, ◌≢◌, ℕ, ◌%◌, ◌∙◌, ap, sym, arith}
+use Rattle.std.specs.List.{slice_get}
 use Rattle.std.proofs.lemmas.Bool.{false≢true}
-use Rattle.sz_tables.specs.Payloads.{payload_at}
 use Rattle.sz_tables.proofs.Chained.{entry-within}
 use Rattle.sz_tables.proofs.Numbered.{last-reach, last-filed}
-use Rattle.sz_tables.proofs.Payloads.{filed-at, filed-count, payload-there, payload-read}
+use Rattle.sz_tables.proofs.Payloads.{filed-at, filed-count}
 use Rattle.sz_tables.proofs.payload_table.PayloadTable.find.Goals as goal
 
 pub loop-next-init : goal.loop-next-init
@@ -23,26 +23,14 @@ loop-next-init c =
       filed = last-filed index.entries key_now _ c.last-next.result c.last-next.ensures;
     }
 
-pub bytes-requires : goal.bytes-requires
-bytes-requires c =
+pub is_kept-requires-clause-number : goal.is_kept-requires-clause-number
+is_kept-requires-clause-number c =
     let key_now = c.args.mix % c.keys.result in
     let index = c.self.inside.index in
     let filed = rw c.in-Some.is at c.loop-next.invariant.filed in
     let many = entry-within index.entries c.in-Some.number key_now filed in
     let count = filed-count c.self.inside.bytes.items c.self.inside.spans.items index c.self.invariant.0 in
     rw (← c.self.view_is) (omega (arith, many, count))
-
-pub returns-then-are_same : goal.returns-then-are_same
-returns-then-are_same c =
-    let key_now = c.args.mix % c.keys.result in
-    let index = c.self.inside.index in
-    let filed = rw c.in-Some.is at c.loop-next.invariant.filed in
-    let many = entry-within index.entries c.in-Some.number key_now filed in
-    let count = filed-count c.self.inside.bytes.items c.self.inside.spans.items index c.self.invariant.0 in
-    let within : c.in-Some.number < length c.args.self.now.payloads =
-    rw (← c.self.view_is) (omega (arith, many, count)) in
-    let same : c.bytes.result.now ≡ c.args.bytes.now = c.are_same.ensures.0 c.if-are_same.true in
-    payload-there c.args.self.now.payloads c.in-Some.number c.args.bytes.now within (sym c.bytes.ensures ∙ same)
 
 pub loop-next-preserved : goal.loop-next-preserved
 loop-next-preserved c =
@@ -56,9 +44,8 @@ loop-next-preserved c =
           key_is (rw (← c.self.view_is) at same) in
           let ahead = rw c.in-Some.is at c.loop-next.invariant.ahead n same in
           let other : n ≢ c.in-Some.number = λ here.
-          false≢true (sym c.if-are_same.false ∙ c.are_same.ensures.1 (c.bytes.ensures
-          ∙ ap (λ (k : ℕ). payload_at c.args.self.now.payloads k) (sym here)
-          ∙ payload-read c.args.self.now.payloads n c.args.bytes.now same)) in
+          false≢true (sym c.if-is_kept.false ∙ c.is_kept.ensures.1
+          (ap (slice_get c.args.self.now.payloads) (sym here) ∙ same)) in
           last-reach index.entries key_now c.in-Some.number c.before-next.result n c.before-next.ensures key.0
           (omega (arith, ahead));
       key = c.loop-next.invariant.key;

@@ -19,7 +19,7 @@ inside c =
     let same : c.len.result ≡ length t.ins.items = omega (arith, t.ins.ok.0, c.len.ensures) in (
       row,
       input,
-      rw same (row-inside (length t.ins.items) t.count c.args.row t.names.items c.self.invariant.whole row),
+      rw same (row-inside (length t.ins.items) t.count c.args.row t.names.items c.self.invariant.0.whole row),
       same,
     )
 

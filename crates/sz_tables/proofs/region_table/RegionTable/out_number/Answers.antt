@@ -14,7 +14,7 @@ inside c =
     let row : c.args.row < t.count =
     omega (arith, rw (← c.self.view_is, rows-length (length t.ins.items) t.count t.names.items) at c.requires) in
     let same : c.len.result ≡ length t.ins.items = omega (arith, t.ins.ok.0, c.len.ensures) in
-    (row, rw same (row-inside (length t.ins.items) t.count c.args.row t.names.items c.self.invariant.whole row), same)
+    (row, rw same (row-inside (length t.ins.items) t.count c.args.row t.names.items c.self.invariant.0.whole row), same)
 
 pub overflow_mul-row : goal.overflow_mul-row
 overflow_mul-row c = let i = inside c in omega (arith, c.self.inside.names.ok.0, c.self.inside.names.small)

@@ -31,16 +31,16 @@ pub shift_each-requires-clause-whole : goal.shift_each-requires-clause-whole
 shift_each-requires-clause-whole c =
     let t = c.self.inside in
     let long = starts-long t.outs t.ins.items t.names.items t.count t.spare_rows t.spare_runs (vec_capacity t.names)
-    c.list_each.new.sets.items c.list_each.new.starts.items c.self.invariant
+    c.list_each.new.sets.items c.list_each.new.starts.items c.self.invariant.0
     (listed (goal.at.shift_each-requires-clause-whole c).After-deref-3) in
-    rw (c.deref-2.ensures.value, c.deref-3.ensures.value, long) c.self.invariant.whole
+    rw (c.deref-2.ensures.value, c.deref-3.ensures.value, long) c.self.invariant.0.whole
 
 pub shift_each-requires-clause-fits : goal.shift_each-requires-clause-fits
 shift_each-requires-clause-fits c =
     let t = c.self.inside in
     rw (c.deref-2.ensures.value, c.deref-3.ensures.value)
     (listed-fits t.outs t.ins.items t.names.items t.count t.spare_rows t.spare_runs (vec_capacity t.names)
-    c.list_each.new.sets.items c.list_each.new.starts.items c.self.invariant
+    c.list_each.new.sets.items c.list_each.new.starts.items c.self.invariant.0
     (listed (goal.at.shift_each-requires-clause-fits c).After-deref-3) (omega arith))
 
 pub overflow_cast-len : goal.overflow_cast-len
@@ -48,8 +48,8 @@ overflow_cast-len c =
     let t = c.self.inside in
     let s = (goal.at.overflow_cast-len c).After-deref-3 in
     let long = starts-long t.outs t.ins.items t.names.items t.count t.spare_rows t.spare_runs (vec_capacity t.names)
-    c.list_each.new.sets.items c.list_each.new.starts.items c.self.invariant (listed s) in
-    omega (arith, c.self.invariant.inputs (omega arith), c.list_each.new.starts.ok.0)
+    c.list_each.new.sets.items c.list_each.new.starts.items c.self.invariant.0 (listed s) in
+    omega (arith, c.self.invariant.0.inputs (omega arith), c.list_each.new.starts.ok.0)
 
 -- the rows' numbers, in the list of all sets
 abbrev numbers : (c : After-deref-5) → ℕ → List ℕ
@@ -72,7 +72,7 @@ are c is =
     subst (λ (w : ℕ). AreRows w c.deref-5.result.now rows) (sym width)
     (subst (λ (ns : List ℕ). AreRows (length c.list_each.new.starts.items) ns rows) (sym (written c))
     (listed-rows t.outs t.ins.items t.names.items t.count t.spare_rows t.spare_runs (vec_capacity t.names)
-    c.list_each.new.sets.items c.list_each.new.starts.items c.self.invariant is))
+    c.list_each.new.sets.items c.list_each.new.starts.items c.self.invariant.0 is))
 
 pub put_numbered-requires-2-clause-few_sets : goal.put_numbered-requires-2-clause-few_sets
 put_numbered-requires-2-clause-few_sets c =
@@ -80,7 +80,7 @@ put_numbered-requires-2-clause-few_sets c =
     let s = (goal.at.put_numbered-requires-2-clause-few_sets c).After-deref-3 in
     rw c.deref-4.ensures.value
     (listed-short t.outs t.ins.items t.names.items t.count t.spare_rows t.spare_runs (vec_capacity t.names)
-    c.list_each.new.sets.items c.list_each.new.starts.items c.self.invariant (listed s) (omega arith))
+    c.list_each.new.sets.items c.list_each.new.starts.items c.self.invariant.0 (listed s) (omega arith))
 
 pub put_numbered-requires-2-clause-whole : goal.put_numbered-requires-2-clause-whole
 put_numbered-requires-2-clause-whole c =
@@ -93,7 +93,7 @@ put_numbered-requires-2-clause-whole c =
         arith,
         length-map (range_with_len 0 t.count) (numbers s),
         length-range_with_len 0 t.count,
-        c.self.invariant.few,
+        c.self.invariant.0.few,
       ),
     )
 
@@ -112,9 +112,9 @@ returns-clause-ok c =
       sets,
       counted listed_bytes sets ++ rows_bytes rows,
       listed-once t.outs t.ins.items t.names.items t.count t.spare_rows t.spare_runs (vec_capacity t.names) sets starts
-          c.self.invariant (listed r),
+          c.self.invariant.0 (listed r),
       listed-word t.outs t.ins.items t.names.items t.count t.spare_rows t.spare_runs (vec_capacity t.names) sets starts
-          c.self.invariant (listed r) (omega arith),
+          c.self.invariant.0 (listed r) (omega arith),
       put rows (are s (listed r))
           ∙ ap (λ (ls : List Listed). c.args.to.now.items ++ (counted listed_bytes ls ++ rows_bytes rows))
           same,

@@ -1,0 +1,7 @@
+//! The tests, and what they share.
+
+mod bench;
+mod held;
+mod hired;
+mod small;
+mod tasks;
