@@ -17,7 +17,7 @@ pub mod Scanned
 pub mod MetRuns
 pub mod Counted
 pub mod Rounding
-pub mod Apart
+pub mod FirstCells
 pub mod ReadPairs
 pub mod Placing
 pub mod Listed

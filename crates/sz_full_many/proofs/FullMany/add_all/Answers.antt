@@ -9,7 +9,7 @@ use Rattle.sz_tables.specs.Rows.{weight_of}
 use Rattle.sz_tables.specs.Stores.{IsPairOf}
 use Rattle.sz_tables.specs.Apart.{AreOneOrApart}
 use Rattle.sz_tables.proofs.Counted.{item-made, rest-more}
-use Rattle.sz_tables.proofs.Apart.{apart-next}
+use Rattle.sz_tables.proofs.FirstCells.{apart-next}
 use Rattle.sz_full_many.proofs.FullMany.add_all.Goals as goal
 
 pub add-requires-clause-pair : goal.add-requires-clause-pair

@@ -8,7 +8,7 @@ use Rattle.sz_cells.specs.Extent.{Extent}
 use Rattle.sz_frame.specs.Parts.{Pairing}
 use Rattle.sz_tables.specs.Rows.{pairings, weight_of}
 use Rattle.sz_tables.specs.Apart.{AreOneOrApart}
-use Rattle.sz_tables.proofs.Apart.{apart-next}
+use Rattle.sz_tables.proofs.FirstCells.{apart-next}
 use Rattle.sz_tables.proofs.Counted.{item-made}
 use Rattle.sz_full_one.specs.ByCells.{IsIndexOf, IsPairIn, HasRoom, pair_cells}
 use Rattle.sz_full_one.proofs.Counted.{sum-left, pushed-next}

@@ -15,7 +15,7 @@ use Rattle.sz_tables.specs.Tables.{SetsByNumber, HasAtMostOneMore}
 use Rattle.sz_tables.specs.Rows.{TakeEach, RowTable, runs_in, weight_of, empty_sets, set_at, sets_of}
 use Rattle.sz_tables.specs.Rows.{pairings, table_of}
 use Rattle.sz_tables.specs.Apart.{AreOneOrApart, AreOfPairs}
-use Rattle.sz_tables.proofs.Apart.{pairs-more, apart-each}
+use Rattle.sz_tables.proofs.FirstCells.{pairs-more, apart-each}
 use Rattle.sz_tables.proofs.Rows.{Adds, pairings-added, added-keeps, added-sound, rows-length}
 use Rattle.sz_tables.proofs.Taking.{as-many, read-sets, sets-past, each-capacities}
 use Rattle.sz_tables.proofs.region_table.RegionTable.add_as.Goals as goal

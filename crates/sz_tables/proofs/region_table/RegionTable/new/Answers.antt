@@ -1,7 +1,7 @@
 -- The key idea: a table of sets without a set has all that is asked of one.
 use Rattle.std.proofs.Common.{[]}
 use Rattle.sz_tables.proofs.Rows.{sound-none, none-seen}
-use Rattle.sz_tables.proofs.Apart.{pairs-none}
+use Rattle.sz_tables.proofs.FirstCells.{pairs-none}
 use Rattle.sz_tables.proofs.region_table.RegionTable.new.Goals as goal
 
 pub invariant_of-result : goal.invariant_of-result

@@ -4,7 +4,7 @@ use Rattle.std.proofs.Common.{◌≡◌, ◌≤◌, length, ap, arith}
 use Rattle.std.proofs.lemmas.List.{with_items_is, length-map}
 use Rattle.sz_tables.specs.Tables.{SetsByNumber}
 use Rattle.sz_tables.proofs.Rows.{sound-reserved, rows-length}
-use Rattle.sz_tables.proofs.Apart.{pairs-kept}
+use Rattle.sz_tables.proofs.FirstCells.{pairs-kept}
 use Rattle.sz_tables.proofs.region_table.RegionTable.reserve.Goals as goal
 use Rattle.sz_tables.proofs.region_table.RegionTable.reserve.Goals.{After-reserve}
 

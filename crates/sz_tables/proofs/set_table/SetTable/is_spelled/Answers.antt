@@ -6,7 +6,7 @@ use Rattle.std.proofs.lemmas.Bool.{eq-eqb, eqb-true}
 use Rattle.sz_cells.specs.Runs.{indexes_of}
 use Rattle.sz_tables.specs.Filed.{Filed}
 use Rattle.sz_tables.specs.Tables.{first_of}
-use Rattle.sz_tables.proofs.Apart.{begun-met}
+use Rattle.sz_tables.proofs.FirstCells.{begun-met}
 use Rattle.sz_tables.proofs.Numbered.{item-at, set-met, runs-met}
 use Rattle.sz_tables.proofs.set_table.SetTable.is_spelled.Goals as goal
 
