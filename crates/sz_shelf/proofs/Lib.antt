@@ -1,10 +1,10 @@
--- The lemmas: of lineages that fit as needed, of marks of placed pieces, of the stores of a tag, and of whole region
--- pairs; then of lists, of the kinds of step, of a turn, of the machine's replies, and of the laws; and of what crosses
--- threads.
+-- The lemmas: of lineages that fit as needed, of marks of placed pieces, of the stores of a tag, and of region pairs
+-- with the images of cells; then of lists, of the kinds of step, of a turn, of the machine's replies, and of the laws;
+-- and of what crosses threads.
 pub mod Fitting
 pub mod Marks
 pub mod Stores
-pub mod Whole
+pub mod Apart
 pub mod Lists
 mod Moves
 mod Slots

@@ -4,7 +4,7 @@ pub mod Fitting
 pub mod Contents
 pub mod Placed
 pub mod Keeping
-pub mod Whole
+pub mod Apart
 pub mod LawsStores
 pub mod Places
 pub mod Rule
