@@ -131,7 +131,11 @@ turn-of p z z' v w y m k l is same left e s =
     (turn-told z v w y k l e s))
 
 -- the tag is that of the pass
+pub tag-stays : (p : Onlooker) (z : TableId) (v w : View) (k : Option NodeLineage) → onlooker z v k ≡ p → Entered v w
+    → p.tag ≡ w.tag
+tag-stays p z v w k is e = sym (ap (λ (x : View). x.tag) e.after ∙ ap (λ (x : Onlooker). x.tag) is)
+
+-- so a piece of the pass's tag is one of the turn's
 pub inside-tag : (p : Onlooker) (z : TableId) (v w : View) (k : Option NodeLineage) (piece : ℕ) → onlooker z v k ≡ p
     → Entered v w → piece < tag_pieces p.tag → piece < tag_pieces w.tag
-inside-tag p z v w k piece is e h = subst (λ (t : Tag). piece < tag_pieces t)
-    (sym (ap (λ (x : View). x.tag) e.after ∙ ap (λ (x : Onlooker). x.tag) is)) h
+inside-tag p z v w k piece is e h = subst (λ (t : Tag). piece < tag_pieces t) (tag-stays p z v w k is e) h

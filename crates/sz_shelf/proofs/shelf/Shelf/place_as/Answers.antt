@@ -1,11 +1,12 @@
-use Rattle.std.proofs.Common.{sym, subst, ◌∙◌, ◌≡◌, ◌<◌, IfOk}
+use Rattle.std.proofs.Common.{sym, subst, ◌∙◌, ◌≡◌, ◌<◌, IfOk, true, All}
 use Rattle.sz_core.specs.States.{Shelf}
 use Rattle.sz_core.specs.Events.{place_reply, after_place}
 use Rattle.sz_shelf.specs.declared.rule.View.{View}
-use Rattle.sz_shelf.specs.Tags.{tag_pieces}
+use Rattle.sz_shelf.specs.Tags.{Tag, tag_pieces}
+use Rattle.sz_shelf.specs.Apart.{HasImages}
 use Rattle.sz_shelf.specs.Passes.{Stays}
 use Rattle.sz_shelf.specs.Machine.{shelf_of, told_of_place}
-use Rattle.sz_shelf.proofs.Turning.{turn-of, placed-stays, inside-tag}
+use Rattle.sz_shelf.proofs.Turning.{turn-of, placed-stays, tag-stays, inside-tag}
 use Rattle.sz_shelf.proofs.Telling.{place-tells, place-leaves, found-is, left-is}
 use Rattle.sz_shelf.proofs.shelf.Shelf.place_as.Given.{Over}
 use Rattle.sz_shelf.proofs.shelf.Shelf.place_as.Goals.{After-leave}
@@ -20,6 +21,11 @@ stays : (g : Over) (c : After-leave g) → Stays c.enter.new.seat.me.0 c.place-p
 stays g c =
     let placed = c.place-placed.ensures in
     placed-stays _ _ _ _ _ c.enter.ensures.entered (inside g c) placed.answer placed.new placed.other
+
+pub place-placed-requires-clause-images : goal.place-placed-requires-clause-images
+place-placed-requires-clause-images g c =
+    subst (λ (t : Tag). c.args.images ≡ true → All (HasImages t.site t.inputs) c.args.lineage.now.regions)
+    (tag-stays _ _ _ _ _ c.pass.view_is c.enter.ensures.entered) c.requires.images
 
 pub returns-clause-turn : goal.returns-clause-turn
 returns-clause-turn g c =
