@@ -8,7 +8,7 @@ use Rattle.std.proofs.Common.{suc, ◌||◌, is_none, is_some, nat_le, Bool}
 use Rattle.std.specs.Prelude.{Result, Ok, Err}
 use Rattle.std.specs.List.{list_all}
 use Rattle.std.specs.Result.{result_err, result_unwrap_or}
-use Rattle.std.proofs.lemmas.Bool.{and_parts, eqb-true}
+use Rattle.std.proofs.lemmas.Bool.{and_parts, eqb-true, not-true, not-false}
 use Rattle.std.proofs.lemmas.List.{length-map}
 use Rattle.std.proofs.lemmas.List.Elements.{All-cons, All-nil, All-head, All-tail, All-weaker}
 use Rattle.sz_cells.specs.SetBytes.{four_bytes}
@@ -41,14 +41,6 @@ use Rattle.sz_bodies.proofs.Sequence.{list-right}
 use Rattle.sz_bodies.proofs.Written.{flow-found, bases-found, lists-said, written-lawful}
 
 -- ---- tests
-
-off : (b : Bool) → not b ≡ true → b ≡ false
-off true is = absurd (true≢false (sym is))
-off false is = refl
-
-on : (b : Bool) → not (not b) ≡ true → b ≡ true
-on true is = refl
-on false is = absurd (true≢false (sym is))
 
 made : (r : Result (List Extent) ℕ) → not (is_some (result_err r)) ≡ true → (outs : List Extent) × (r ≡ Ok outs)
 made (Ok outs) is = (outs, refl)
@@ -128,8 +120,11 @@ lawful-head format c b bytes is =
     let short = is.spelled.short in
     record {
       number = record { small = short.number; new = is.number };
-      flow = record { right = names.0; held = off (rules.has_no_flow c b.flow_name) is.flow };
-      bases = (bases-held c b.base names.1 short.bases (off (rules.has_no_array c b.base) is.bases), short.few_bases);
+      flow = record { right = names.0; held = not-true (rules.has_no_flow c b.flow_name) is.flow };
+      bases = (
+        bases-held c b.base names.1 short.bases (not-true (rules.has_no_array c b.base) is.bases),
+        short.few_bases,
+      );
       count = short.few_nodes;
     }
 
@@ -210,7 +205,8 @@ lawful-goes format c bytes h place b read is =
     let lists : rules.are_lists_for h.flow.nodes (map (λ (x : NodePart). x.list) b.nodes) ≡ true =
     subst (λ (x : Graph). rules.are_lists_for x.nodes (map (λ (y : NodePart). y.list) b.nodes) ≡ true) flow own.lists in
     let many : length (map named_base h.base) ≡ g.inputs =
-    eqb-true (length (map named_base h.base)) g.inputs (on (length (map named_base h.base) == g.inputs) own.each) in
+    let same = length (map named_base h.base) == g.inputs in
+    eqb-true (length (map named_base h.base)) g.inputs (not-false same (not-true (not same) own.each)) in
     let begin : BeginNodes format (map (site_over (shapes_of h.base) outs) h.flow.nodes) bytes place
     (length bytes) b.nodes =
     subst (λ (k : ℕ). BeginNodes format (map (site_over (shapes_of h.base) outs) h.flow.nodes) bytes k

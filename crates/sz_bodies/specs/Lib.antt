@@ -5,3 +5,4 @@ pub mod Lawful
 pub mod Laws
 pub mod Taking
 pub mod Tries
+mod Terms

@@ -1,17 +1,11 @@
 //! What stands before the nodes in a body, and what is held under the names in it.
 
-ghost use Rattle.std.specs.Prelude.{◌≡◌, ◌<◌, ◌≤◌, ◌+◌, ◌^◌, ◌&&◌, true, length, map, All, Some};
-ghost use Rattle.std.specs.Prelude.{nat_le, option_map, IfOk, IfErr, IfSome, IfNone};
-ghost use Rattle.std.specs.Arc.{arc_value};
-ghost use Rattle.sz_cells.specs.SetBytes.{four_bytes};
-ghost use Rattle.sz_region.specs.Counted.{counted, IsAt};
-ghost use Rattle.sz_region.specs.Stores.{NoneAt, AreFew};
-ghost use Rattle.sz_catalogue.specs.Holdings.{flow_named};
-ghost use Rattle.sz_bodies.specs.Bodies.{name_bytes, base_bytes};
-ghost use Rattle.sz_bodies.specs.Fitting.{named_base};
-ghost use Rattle.sz_bodies.specs.Taking.{IfBad, IsNewNumber, IsHeldName, IsHeldBase, IsHeldHead};
-ghost use Rattle.sz_bodies.specs.Taking.{IsFlowOf, IsArray, AreArrays, IsBegun, said_bytes};
-ghost use Rattle.sz_bodies.specs.Taking.{said_in};
+ghost use Rattle.sz_bodies.specs.Terms.{◌≡◌, ◌<◌, ◌≤◌, ◌+◌, ◌^◌, ◌&&◌, true, length, map, All};
+ghost use Rattle.sz_bodies.specs.Terms.{Some, nat_le, option_map, IfOk, IfErr, IfSome, IfNone};
+ghost use Rattle.sz_bodies.specs.Terms.{arc_value, four_bytes, counted, IsAt, NoneAt, AreFew};
+ghost use Rattle.sz_bodies.specs.Terms.{flow_named, name_bytes, base_bytes, named_base, IfBad};
+ghost use Rattle.sz_bodies.specs.Terms.{IsNewNumber, IsHeldName, IsHeldBase, IsHeldHead, IsFlowOf};
+ghost use Rattle.sz_bodies.specs.Terms.{IsArray, AreArrays, IsBegun, said_bytes, said_in, Begun};
 
 use crate::parts::take_name;
 use crate::reading::TakeFault;
@@ -35,9 +29,6 @@ pub(crate) struct Head {
 }
 
 impl Model for Head {
-    ghost use Rattle.std.specs.Arc.{arc_value};
-    ghost use Rattle.sz_bodies.specs.Taking.{Begun};
-
     ghost Value = { Begun };
 
     ghost view = { λ h. record {

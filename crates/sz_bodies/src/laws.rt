@@ -1,6 +1,6 @@
 //! What may be taken for granted of the bodies. Each function is a law: its clauses say it, and it
 //! does nothing.
-ghost use Rattle.sz_bodies.specs.Laws.{OneBodyAtMost, WrittenBodiesAreLawful};
+ghost use Rattle.sz_bodies.specs.Terms.{OneBodyAtMost, WrittenBodiesAreLawful};
 
 /// Some bytes are the body of at most one version with its stores: what is written is read again,
 /// and in no other way.

@@ -1,19 +1,13 @@
-//! Lists of strategies: reading one, and whether it is one for an operator.
+//! Reading lists of strategies.
 
-ghost use Rattle.std.specs.Prelude.{◌≡◌, map, IfOk, IfErr, IfSome, IfNone};
-ghost use Rattle.std.specs.List.{list_all};
-ghost use Rattle.sz_spec.specs.Modes.{number_of, is_listed, supports};
-ghost use Rattle.sz_region.specs.Counted.{IsAt};
-ghost use Rattle.sz_region.specs.Stores.{NoneAt};
-ghost use Rattle.sz_catalogue.specs.Rules.{are_distinct, is_list_for, names_a_store};
-ghost use Rattle.sz_bodies.specs.Bodies.{list_bytes};
-ghost use Rattle.sz_bodies.specs.Taking.{IfBad, IsShortList, NumberNone};
+ghost use Rattle.sz_bodies.specs.Terms.{◌≡◌, map, IfOk, IfErr, IfSome, IfNone, number_of, IsAt};
+ghost use Rattle.sz_bodies.specs.Terms.{NoneAt, list_bytes, IfBad, IsShortList, NumberNone};
 
 use crate::parts::counted_at;
 use crate::reading::TakeFault;
 use std::alloc::Global;
 use sz_script::StrategyList;
-use sz_spec::{Op, Strategy, supports};
+use sz_spec::Strategy;
 
 /// The list of strategies that stands at a place, and the place behind it.
 pub(crate) fn take_list(
@@ -65,45 +59,4 @@ pub(crate) fn strategy_of(number: u8) -> Option<Strategy>
         10 => Some(Strategy::BlackBox),
         _ => None,
     }
-}
-
-/// Whether a list has one to three different strategies, each supported by the operator.
-pub(crate) fn is_list_for(op: &Op, list: &[Strategy]) -> bool
-    ensures { result ≡ is_list_for op.now list.now }
-{
-    if list.is_empty() || list.len() > 3 {
-        return false;
-    }
-    are_distinct(list) && are_supported(op, list)
-}
-
-/// Whether an operator supports each strategy of a list.
-fn are_supported(op: &Op, list: &[Strategy]) -> bool
-    ensures { result ≡ list_all (supports op.now) list.now }
-{
-    list.iter().all(|strategy| supports(op, *strategy))
-}
-
-/// Whether no strategy stands twice in a list.
-fn are_distinct(list: &[Strategy]) -> bool
-    ensures { result ≡ are_distinct list.now }
-{
-    match list {
-        [] => true,
-        [first, rest @ ..] => !is_listed(rest, *first) && are_distinct(rest),
-    }
-}
-
-/// Whether a strategy is in a list.
-fn is_listed(list: &[Strategy], strategy: Strategy) -> bool
-    ensures { result ≡ is_listed list.now strategy }
-{
-    list.iter().any(|listed| *listed == strategy)
-}
-
-/// Whether a list has a strategy that keeps a store.
-pub(crate) fn names_a_store(list: &[Strategy]) -> bool
-    ensures { result ≡ names_a_store list.now }
-{
-    list.iter().any(|strategy| strategy.is_stored())
 }

@@ -1,26 +1,20 @@
 //! Reading the nodes of a body: the list of each, and its stores.
 
-ghost use Rattle.std.specs.Prelude.{◌≡◌, ℕ, ◌<◌, ◌≤◌, List, ◌∷◌, length, map, true, false, Ok, All};
-ghost use Rattle.std.specs.Prelude.{option_map, IfOk, IfErr};
-ghost use Rattle.std.specs.Arc.{arc_value};
-ghost use Rattle.sz_spec.specs.Modes.{supports};
-ghost use Rattle.sz_store.specs.Kept.{stored_in};
-ghost use Rattle.sz_formats.specs.Formats.{is_format};
-ghost use Rattle.sz_formats.specs.Words.{BeginEachIn, NoneBeginIn};
-ghost use Rattle.sz_bodies.specs.Bodies.{NodePart};
-ghost use Rattle.sz_bodies.specs.Fitting.{FitsNode, FitNodes, IsWholeFor, part_of, parts_of};
-ghost use Rattle.sz_bodies.specs.Fitting.{lineages};
-ghost use Rattle.sz_bodies.specs.Laws.{IsRightSite};
-ghost use Rattle.sz_bodies.specs.Taking.{IfBad, site_over, IsFitting, IsNodeAt, AreNodesAt};
-ghost use Rattle.sz_bodies.specs.Taking.{NoNodeAt, NoNodesAt, IsOnlyNode, AreOnlyNodes};
+ghost use Rattle.sz_bodies.specs.Terms.{◌≡◌, ℕ, ◌<◌, ◌≤◌, List, ◌∷◌, length, map, true, false, Ok};
+ghost use Rattle.sz_bodies.specs.Terms.{All, option_map, IfOk, IfErr, arc_value, supports};
+ghost use Rattle.sz_bodies.specs.Terms.{stored_in, is_format, BeginEachIn, NoneBeginIn, NodePart};
+ghost use Rattle.sz_bodies.specs.Terms.{FitsNode, FitNodes, IsWholeFor, part_of, parts_of};
+ghost use Rattle.sz_bodies.specs.Terms.{lineages, IsRightSite, IfBad, site_over, IsFitting};
+ghost use Rattle.sz_bodies.specs.Terms.{IsNodeAt, AreNodesAt, NoNodeAt, NoNodesAt, IsOnlyNode};
+ghost use Rattle.sz_bodies.specs.Terms.{AreOnlyNodes};
 
-use crate::lists::{is_list_for, names_a_store, take_list};
+use crate::lists::take_list;
 use crate::reading::TakeFault;
 use crate::tries::{take_tried, try_nodes};
 use std::alloc::Global;
 use std::sync::Arc;
 use std::thread::Threads;
-use sz_catalogue::site_over;
+use sz_catalogue::{is_list_for, names_a_store, site_over};
 use sz_cells::{NoMemory, Shape};
 use sz_formats::take_stores;
 use sz_region::{Take, shapes_are_within_limits};

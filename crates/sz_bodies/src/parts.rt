@@ -1,16 +1,11 @@
 //! The names that stand in a body, and other bytes that are counted.
 
-ghost use Rattle.std.specs.Prelude.{◌≡◌, ◌<◌, ◌+◌, true, length, IfOk, IfErr, IfSome, IfNone};
-ghost use Rattle.std.specs.List.{list_all};
-ghost use Rattle.sz_region.specs.Counted.{IsAt};
-ghost use Rattle.sz_region.specs.Stores.{NoneAt};
-ghost use Rattle.sz_script.specs.Names.{is_name, is_name_byte};
-ghost use Rattle.sz_bodies.specs.Bodies.{name_bytes};
-ghost use Rattle.sz_bodies.specs.Taking.{IfBad, IsName, IsAnyText};
+ghost use Rattle.sz_bodies.specs.Terms.{◌<◌, ◌+◌, length, IfOk, IfErr, IfSome, IfNone, IsAt};
+ghost use Rattle.sz_bodies.specs.Terms.{NoneAt, name_bytes, IfBad, IsName, IsAnyText};
 
 use crate::reading::TakeFault;
 use std::alloc::Global;
-use sz_script::Name;
+use sz_script::{Name, is_name};
 
 /// The name that stands at a place, and the place behind it.
 pub(crate) fn take_name(alloc: Global, bytes: &[u8], at: u64) -> Result<(Name, u64), TakeFault>
@@ -34,13 +29,10 @@ fn text_at(bytes: &[u8], at: u64) -> Option<&str>
     ensures none { IfNone result (NoneAt IsName name_bytes bytes.now at) }
 {
     let name = counted_at(bytes, at)?;
-    if !is_name(name) {
+    let Ok(text) = str::from_utf8(name) else {
         return None;
-    }
-    match str::from_utf8(name) {
-        Ok(text) => Some(text),
-        Err(_) => unreachable!(),
-    }
+    };
+    if is_name(text) { Some(text) } else { None }
 }
 
 /// The bytes behind the byte at a place that says how many they are. `None` exactly where there
@@ -62,28 +54,4 @@ pub(crate) fn counted_at(bytes: &[u8], at: u64) -> Option<&[u8]>
     }
     let (text, _) = behind.split_at(count);
     Some(text)
-}
-
-/// The most bytes that a name has.
-const NAME_LIMIT: usize = 32;
-
-/// Whether some bytes are a name: 1 to 32 of a to z, 0 to 9 and _.
-fn is_name(bytes: &[u8]) -> bool
-    ensures { result ≡ is_name bytes.now }
-{
-    if bytes.is_empty() || bytes.len() > NAME_LIMIT {
-        return false;
-    }
-    for byte in bytes {
-        if !is_name_byte(*byte) {
-            return false;
-        }
-    }
-    true
-}
-
-fn is_name_byte(byte: u8) -> bool
-    ensures { result ≡ is_name_byte byte }
-{
-    matches!(byte, b'a'..=b'z' | b'0'..=b'9' | b'_')
 }

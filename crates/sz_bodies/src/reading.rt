@@ -1,13 +1,10 @@
 //! Reading the body of a version.
 
-ghost use Rattle.std.specs.Prelude.{◌≡◌, ◌<◌, ◌≤◌, ◌*◌, ℕ, length, map, true, All, IfOk, IfErr};
-ghost use Rattle.std.specs.Arc.{arc_value};
-ghost use Rattle.sz_cells.specs.Extent.{Extent};
-ghost use Rattle.sz_catalogue.specs.Holdings.{shapes_of, cells_of};
-ghost use Rattle.sz_formats.specs.Formats.{is_format};
-ghost use Rattle.sz_bodies.specs.Fitting.{Fit, body_of};
-ghost use Rattle.sz_bodies.specs.Lawful.{version_said, IsLawful, CanBeAdded};
-ghost use Rattle.sz_bodies.specs.Taking.{IfBad, NoneIsLawful, IsFitting, FitShapes, NoShapesFit};
+ghost use Rattle.sz_bodies.specs.Terms.{◌≡◌, ◌<◌, ℕ, map, true, All, IfOk, IfErr, arc_value};
+ghost use Rattle.sz_bodies.specs.Terms.{Extent, shapes_of, is_format, Fit, body_of, version_said};
+ghost use Rattle.sz_bodies.specs.Terms.{IsLawful, CanBeAdded, IfBad, lineages, Taken};
+ghost use Rattle.sz_bodies.specs.Terms.{NoneIsLawful, IsFitting, FitShapes, NoShapesFit};
+ghost use Rattle.sz_bodies.specs.declared.reading.TakeFault.TheVariants as fault;
 
 use crate::heads::{Head, take_head};
 use crate::nodes::take_nodes;
@@ -15,7 +12,7 @@ use std::alloc::{AllocError, AllocFailed, Global};
 use std::marker::Model;
 use std::sync::Arc;
 use std::thread::Threads;
-use sz_catalogue::{BaseArray, BaseArrays, Catalogue, StrategyLists};
+use sz_catalogue::{BaseArrays, Catalogue, StrategyLists, base_shapes, cells_of};
 use sz_cells::{NoMemory, Shape};
 use sz_script::Name;
 use sz_spec::{Flow, output_shapes};
@@ -35,11 +32,6 @@ pub struct TakenVersion {
 }
 
 impl Model for TakenVersion {
-    ghost use Rattle.std.specs.Prelude.{true};
-    ghost use Rattle.std.specs.Arc.{arc_value};
-    ghost use Rattle.sz_bodies.specs.Fitting.{lineages};
-    ghost use Rattle.sz_bodies.specs.Taking.{Taken};
-
     ghost Value = { Taken };
 
     ghost view = { λ t. record {
@@ -65,10 +57,7 @@ pub enum TakeFault {
 }
 
 impl<T: Drop> From<AllocFailed<T>> for TakeFault {
-    ghost use Rattle.std.specs.Prelude.{◌≡◌};
-    ghost use Rattle.sz_bodies.specs.declared.reading.TakeFault.TheVariants.{NoMemory};
-
-    ghost from_gives = { λ _ e. e ≡ NoMemory };
+    ghost from_gives = { λ _ e. e ≡ fault.NoMemory };
 
     fn from(_error: AllocFailed<T>) -> TakeFault {
         TakeFault::NoMemory
@@ -76,10 +65,7 @@ impl<T: Drop> From<AllocFailed<T>> for TakeFault {
 }
 
 impl From<AllocError> for TakeFault {
-    ghost use Rattle.std.specs.Prelude.{◌≡◌};
-    ghost use Rattle.sz_bodies.specs.declared.reading.TakeFault.TheVariants.{NoMemory};
-
-    ghost from_gives = { λ _ e. e ≡ NoMemory };
+    ghost from_gives = { λ _ e. e ≡ fault.NoMemory };
 
     fn from(_error: AllocError) -> TakeFault {
         TakeFault::NoMemory
@@ -87,9 +73,6 @@ impl From<AllocError> for TakeFault {
 }
 
 impl From<NoMemory> for TakeFault {
-    ghost use Rattle.std.specs.Prelude.{◌≡◌};
-    ghost use Rattle.sz_bodies.specs.declared.reading.TakeFault.TheVariants as fault;
-
     ghost from_gives = { λ _ e. e ≡ fault.NoMemory };
 
     fn from(_error: NoMemory) -> TakeFault {
@@ -164,28 +147,4 @@ fn fit_shapes(
         return Err(TakeFault::Bad);
     }
     Ok((base, outputs))
-}
-
-/// The shapes of base arrays.
-fn base_shapes(alloc: Global, base: &[BaseArray]) -> Result<Vec<Shape>, NoMemory>
-    ensures { IfOk result (λ v. v.items ≡ shapes_of base.now) }
-{
-    let mut shapes = Vec::with_capacity(alloc, base.len())?;
-    for only in base {
-        shapes.push(only.array.shape())?;
-    }
-    Ok(shapes)
-}
-
-/// How many cells some shapes have together.
-fn cells_of(shapes: &[Shape]) -> u64
-    requires { length shapes.now ≤ 1024 }
-    ensures value { result ≡ cells_of shapes.now }
-    ensures few { result ≤ 1048576 * length shapes.now }
-{
-    let mut cells = 0;
-    for shape in shapes {
-        cells += u64::from(shape.size());
-    }
-    cells
 }

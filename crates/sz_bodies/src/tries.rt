@@ -1,15 +1,10 @@
 //! Nodes of a long body that are read side by side, each where it may begin. What was read of one
 //! counts where the node before it ends there.
 
-ghost use Rattle.std.specs.Prelude.{◌≡◌, ◌<◌, ℕ, length, get_or, true, All, None, option_map};
-ghost use Rattle.std.specs.Prelude.{IfOk, IfErr};
-ghost use Rattle.std.specs.Arc.{arc_value};
-ghost use Rattle.sz_formats.specs.Formats.{is_format};
-ghost use Rattle.sz_spec.specs.declared.flow.Node.{Node};
-ghost use Rattle.sz_bodies.specs.declared.tries.TriedNode.{TriedNode};
-ghost use Rattle.sz_bodies.specs.Fitting.{FitsNode, part_of};
-ghost use Rattle.sz_bodies.specs.Taking.{IfBad, site_over, IsFitting, IsNodeAt, NoNodeAt, IsOnlyNode};
-ghost use Rattle.sz_bodies.specs.Tries.{IsTried};
+ghost use Rattle.sz_bodies.specs.Terms.{◌≡◌, ◌<◌, ℕ, length, get_or, true, All, None, option_map};
+ghost use Rattle.sz_bodies.specs.Terms.{IfOk, IfErr, arc_value, is_format, Node, TriedNode};
+ghost use Rattle.sz_bodies.specs.Terms.{FitsNode, part_of, IfBad, site_over, IsFitting, IsNodeAt};
+ghost use Rattle.sz_bodies.specs.Terms.{NoNodeAt, IsOnlyNode, IsTried};
 
 use crate::nodes::take_node;
 use crate::reading::TakeFault;

@@ -1,18 +1,12 @@
 //! Writing the body of a version.
 
-ghost use Rattle.std.specs.Prelude.{◌≡◌, ◌<◌, ◌^◌, ◌++◌, ◌∷◌, ℕ, List, [], length, map, true};
-ghost use Rattle.std.specs.Prelude.{false, All, IfOk, OnOk, option_map};
-ghost use Rattle.std.specs.Arc.{arc_value};
-ghost use Rattle.sz_cells.specs.SetBytes.{four_bytes};
-ghost use Rattle.sz_spec.specs.Shapes.{Site};
-ghost use Rattle.sz_spec.specs.Modes.{number_of};
-ghost use Rattle.sz_region.specs.Counted.{counted};
-ghost use Rattle.sz_catalogue.specs.Rules.{has_no_version, version_of};
-ghost use Rattle.sz_formats.specs.Formats.{is_format};
-ghost use Rattle.sz_bodies.specs.Bodies.{name_bytes, base_bytes, list_bytes};
-ghost use Rattle.sz_bodies.specs.Bodies.{BeginNodes, IsShortName, IsShortBase, IsBodyOf};
-ghost use Rattle.sz_bodies.specs.Fitting.{sites_of, FitsNode, FitNodes, Fit, lineages};
-ghost use Rattle.sz_bodies.specs.Fitting.{part_of, parts_of, named_base, body_of};
+ghost use Rattle.sz_bodies.specs.Terms.{◌≡◌, ◌<◌, ◌^◌, ◌++◌, ◌∷◌, ℕ, List, [], length, map, true};
+ghost use Rattle.sz_bodies.specs.Terms.{false, All, IfOk, OnOk, option_map, arc_value, four_bytes};
+ghost use Rattle.sz_bodies.specs.Terms.{Site, number_of, counted, has_no_version, version_of};
+ghost use Rattle.sz_bodies.specs.Terms.{is_format, name_bytes, base_bytes, list_bytes, BeginNodes};
+ghost use Rattle.sz_bodies.specs.Terms.{IsShortName, IsShortBase, IsBodyOf, sites_of, FitsNode};
+ghost use Rattle.sz_bodies.specs.Terms.{FitNodes, Fit, lineages, part_of, parts_of, named_base};
+ghost use Rattle.sz_bodies.specs.Terms.{body_of};
 
 use std::alloc::Global;
 use std::sync::Arc;

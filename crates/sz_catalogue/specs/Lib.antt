@@ -12,3 +12,4 @@ pub mod Kept
 pub mod Order
 pub mod Seen
 pub mod Laws
+mod Terms

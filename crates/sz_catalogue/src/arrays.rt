@@ -1,12 +1,9 @@
 //! The arrays held, in the order in which they came, with an index by name.
-ghost use Rattle.std.specs.Prelude.{◌≡◌, ℕ, ◌+◌, List, [], ◌∷◌, ◌++◌, length, map, option_map};
-ghost use Rattle.std.specs.Prelude.{if◌then◌else◌, IfOk, OnErr};
-ghost use Rattle.std.specs.Str.{bytes_eq};
-ghost use Rattle.std.specs.Arc.{arc_value};
-ghost use Rattle.sz_cells.specs.Extent.{size_of};
-ghost use Rattle.sz_spec.specs.Values.{Grid};
-ghost use Rattle.sz_catalogue.specs.Holdings.{Named, things_named, thing_numbered};
-ghost use Rattle.sz_catalogue.specs.Kept.{versions_in};
+ghost use Rattle.sz_catalogue.specs.Terms.{◌≡◌, ℕ, ◌+◌, List, [], ◌∷◌, ◌++◌, length, map};
+ghost use Rattle.sz_catalogue.specs.Terms.{option_map, if◌then◌else◌, IfOk, OnErr, bytes_eq};
+ghost use Rattle.sz_catalogue.specs.Terms.{arc_value, size_of, Grid, Named, things_named};
+ghost use Rattle.sz_catalogue.specs.Terms.{thing_numbered, versions_in, IsVersionIndex};
+ghost use Rattle.sz_catalogue.specs.Terms.{string_bytes};
 
 use crate::memory::{another_owner, own_text};
 use std::alloc::Global;
@@ -24,11 +21,6 @@ pub struct HeldArrays {
 }
 
 impl Model for HeldArrays {
-    ghost use Rattle.std.specs.Prelude.{List};
-    ghost use Rattle.sz_spec.specs.Values.{Grid};
-    ghost use Rattle.sz_catalogue.specs.Holdings.{Named};
-    ghost use Rattle.sz_catalogue.specs.Kept.{IsVersionIndex};
-
     ghost Value = { List (Named Grid) };
 
     ghost view = { λ a. a.list.items };
@@ -120,11 +112,6 @@ struct HeldArray {
 }
 
 impl Model for HeldArray {
-    ghost use Rattle.std.specs.Prelude.{string_bytes};
-    ghost use Rattle.std.specs.Arc.{arc_value};
-    ghost use Rattle.sz_spec.specs.Values.{Grid};
-    ghost use Rattle.sz_catalogue.specs.Holdings.{Named};
-
     ghost Value = { Named Grid };
 
     ghost view = { λ x. record { name = string_bytes x.name; thing = arc_value x.array } };

@@ -3,25 +3,17 @@ mod accepting;
 mod judging;
 mod refreshing;
 
-ghost use Rattle.std.specs.Prelude.{◌≡◌, ◌≤◌, ℕ, true, length, map, option_map, Some, None, All};
-ghost use Rattle.std.specs.Prelude.{IfOk, IfSome, OnOk, OnErr, if◌then◌else◌, false};
-ghost use Rattle.std.specs.Arc.{arc_value};
-ghost use Rattle.std.specs.Option.{option_copied};
-ghost use Rattle.std.specs.Result.{result_err};
-ghost use Rattle.sz_spec.specs.Flows.{is_well_formed};
-ghost use Rattle.sz_spec.specs.FlowShapes.{output_shapes};
+ghost use Rattle.sz_catalogue.specs.Terms.{◌≡◌, ◌≤◌, ℕ, true, length, map, option_map, Some, None};
+ghost use Rattle.sz_catalogue.specs.Terms.{All, IfOk, IfSome, OnOk, OnErr, if◌then◌else◌, false};
+ghost use Rattle.sz_catalogue.specs.Terms.{arc_value, option_copied, result_err, is_well_formed};
+ghost use Rattle.sz_catalogue.specs.Terms.{output_shapes, is_right, no_holdings, array_version};
+ghost use Rattle.sz_catalogue.specs.Terms.{flow_named, next_number, version_numbered, shapes_of};
+ghost use Rattle.sz_catalogue.specs.Terms.{cells_of, output_cells, bases_of, IsInOrder, accepted};
+ghost use Rattle.sz_catalogue.specs.Terms.{with_version, IsRun, is_merge_asked, response_of};
+ghost use Rattle.sz_catalogue.specs.Terms.{Judges, Holdings, IsKept};
 ghost use Rattle.sz_script.specs.declared.command.Command.TheVariants as command;
 ghost use Rattle.sz_script.specs.declared.refusal.Refusal.TheVariants as rule;
-ghost use Rattle.sz_script.specs.Right.{is_right};
-ghost use Rattle.sz_catalogue.specs.Holdings.{no_holdings, array_version, flow_named, next_number};
-ghost use Rattle.sz_catalogue.specs.Holdings.{version_numbered, shapes_of, cells_of, output_cells};
-ghost use Rattle.sz_catalogue.specs.Starts.{bases_of};
 ghost use Rattle.sz_catalogue.specs.Rules as rules;
-ghost use Rattle.sz_catalogue.specs.Order.{IsInOrder};
-ghost use Rattle.sz_catalogue.specs.Changes.{accepted, with_version};
-ghost use Rattle.sz_catalogue.specs.Kept.{IsRun};
-ghost use Rattle.sz_catalogue.specs.Merges.{is_merge_asked};
-ghost use Rattle.sz_catalogue.specs.Seen.{response_of, Judges};
 
 use crate::arrays::HeldArrays;
 use crate::flows::{HeldFlow, HeldFlows};
@@ -52,9 +44,6 @@ pub struct Catalogue {
 }
 
 impl Model for Catalogue {
-    ghost use Rattle.sz_catalogue.specs.Holdings.{Holdings};
-    ghost use Rattle.sz_catalogue.specs.Order.{IsKept};
-
     ghost Value = { Holdings };
 
     ghost view = { λ c. record {

@@ -1,17 +1,10 @@
 //! The flows held, by name, each with the strategies that its nodes have.
-ghost use Rattle.std.specs.Prelude.{◌≡◌, ◌<◌, true, [], length, slice_set, option_map, map};
-ghost use Rattle.std.specs.Prelude.{Some, IfOk, IfSome, OnOk, OnErr};
-ghost use Rattle.std.specs.Ordering.{nat_cmp};
-ghost use Rattle.std.specs.Cmp.Lexicographic.{slice_cmp};
-ghost use Rattle.std.specs.Map.{lookup, set_value};
-ghost use Rattle.std.specs.BTreeMap.{is_at, insert_entry};
-ghost use Rattle.std.specs.Arc.{arc_value};
-ghost use Rattle.std.specs.Option.{option_copied};
-ghost use Rattle.sz_spec.specs.Flows.{is_well_formed};
-ghost use Rattle.sz_catalogue.specs.Holdings.{workflow_in};
-ghost use Rattle.sz_catalogue.specs.Starts.{first_lists};
-ghost use Rattle.sz_catalogue.specs.Rules.{is_list_of, are_lists_for};
-ghost use Rattle.sz_catalogue.specs.Changes.{with_list};
+ghost use Rattle.sz_catalogue.specs.Terms.{◌≡◌, ◌<◌, true, [], length, slice_set, option_map, map};
+ghost use Rattle.sz_catalogue.specs.Terms.{Some, IfOk, IfSome, OnOk, OnErr, nat_cmp, slice_cmp};
+ghost use Rattle.sz_catalogue.specs.Terms.{lookup, set_value, is_at, insert_entry, arc_value};
+ghost use Rattle.sz_catalogue.specs.Terms.{option_copied, is_well_formed, workflow_in, first_lists};
+ghost use Rattle.sz_catalogue.specs.Terms.{is_list_of, are_lists_for, with_list, ℕ, List};
+ghost use Rattle.sz_catalogue.specs.Terms.{Workflow, by_bytes, IsWorkflow};
 
 use crate::lists::StrategyLists;
 use crate::memory::{own_text, share_flow};
@@ -31,10 +24,6 @@ pub struct HeldFlows {
 }
 
 impl Model for HeldFlows {
-    ghost use Rattle.std.specs.Prelude.{ℕ, List};
-    ghost use Rattle.sz_catalogue.specs.Holdings.{Workflow};
-    ghost use Rattle.sz_catalogue.specs.Kept.{by_bytes};
-
     ghost Value = { List (List ℕ × Workflow) };
 
     ghost view = { λ f. by_bytes f.by_name.entries };
@@ -96,10 +85,6 @@ pub struct HeldFlow {
 }
 
 impl Model for HeldFlow {
-    ghost use Rattle.std.specs.Arc.{arc_value};
-    ghost use Rattle.sz_catalogue.specs.Holdings.{Workflow};
-    ghost use Rattle.sz_catalogue.specs.Kept.{IsWorkflow};
-
     ghost Value = { Workflow };
 
     ghost view = { λ f. record { graph = arc_value f.flow; lists = f.lists } };

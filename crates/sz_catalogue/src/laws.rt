@@ -1,9 +1,9 @@
 //! What may be taken for granted of judging and of what is held. Each function is a law: its
 //! clauses say it, and it does nothing.
-ghost use Rattle.sz_catalogue.specs.Laws.{RefusedCommandsChangeNothing, OtherCommandsAreTaken};
-ghost use Rattle.sz_catalogue.specs.Laws.{RefusalsAreTheFirst, FirstRulesRefuse};
-ghost use Rattle.sz_catalogue.specs.Laws.{TakenCommandsBreakNoRule, NextNumbersAreNew};
-ghost use Rattle.sz_catalogue.specs.Laws.{PathsStartInTheirArrays, NumbersReadBack};
+ghost use Rattle.sz_catalogue.specs.Terms.{RefusedCommandsChangeNothing, OtherCommandsAreTaken};
+ghost use Rattle.sz_catalogue.specs.Terms.{RefusalsAreTheFirst, FirstRulesRefuse};
+ghost use Rattle.sz_catalogue.specs.Terms.{TakenCommandsBreakNoRule, NextNumbersAreNew};
+ghost use Rattle.sz_catalogue.specs.Terms.{PathsStartInTheirArrays, NumbersReadBack};
 
 /// A refused command changes nothing, and any other is taken.
 pub fn refused_commands_change_nothing()

@@ -43,5 +43,7 @@ mod versions;
 pub use catalogue::Catalogue;
 pub use lists::{BaseArrays, StrategyLists};
 pub use reply::{Reply, reply_text};
+pub use shapes::cells_of;
 pub use sites::site_over;
-pub use version::{BaseArray, HeldVersion};
+pub use strategies::{is_list_for, names_a_store};
+pub use version::{BaseArray, HeldVersion, base_shapes};

@@ -1,5 +1,5 @@
 //! The lists that a held version shows. Contracts see each as the list of what it holds.
-ghost use Rattle.std.specs.Prelude.{◌≡◌, ◌<◌, length, slice_set, IfOk};
+ghost use Rattle.sz_catalogue.specs.Terms.{◌≡◌, ◌<◌, List, length, slice_set, IfOk, Strategy, Base};
 
 use crate::memory::{another_owner, own_list, own_name};
 use crate::version::BaseArray;
@@ -15,9 +15,6 @@ pub struct StrategyLists {
 }
 
 impl Model for StrategyLists {
-    ghost use Rattle.std.specs.Prelude.{List};
-    ghost use Rattle.sz_spec.specs.declared.modes.Strategy.{Strategy};
-
     ghost Value = { List (List Strategy) };
 
     ghost view = { λ l. l.items.items };
@@ -65,9 +62,6 @@ pub struct BaseArrays {
 }
 
 impl Model for BaseArrays {
-    ghost use Rattle.std.specs.Prelude.{List};
-    ghost use Rattle.sz_catalogue.specs.Holdings.{Base};
-
     ghost Value = { List Base };
 
     ghost view = { λ l. l.items.items };

@@ -1,6 +1,5 @@
 //! What takes memory, and answers where there is none.
-ghost use Rattle.std.specs.Prelude.{◌≡◌, string_bytes, IfOk};
-ghost use Rattle.std.specs.Arc.{arc_value};
+ghost use Rattle.sz_catalogue.specs.Terms.{◌≡◌, string_bytes, IfOk, arc_value};
 
 use std::alloc::Global;
 use std::sync::Arc;

@@ -1,13 +1,9 @@
 //! Replies, and the lines that they are written as. Contracts see a reply as a `Response`.
-ghost use Rattle.std.specs.Prelude.{◌≡◌, ◌<◌, ◌≤◌, [], ◌++◌, OnOk, IfOk, string_bytes, flat_map};
-ghost use Rattle.sz_cells.specs.Extent.{size_of};
-ghost use Rattle.sz_cells.specs.Runs.{indexes_of};
-ghost use Rattle.sz_script.specs.Refusals.{before};
-ghost use Rattle.sz_script.specs.Words.{name_of_strategy};
+ghost use Rattle.sz_catalogue.specs.Terms.{◌≡◌, ◌<◌, ◌≤◌, [], ◌++◌, OnOk, IfOk, string_bytes};
+ghost use Rattle.sz_catalogue.specs.Terms.{flat_map, size_of, indexes_of, before, name_of_strategy};
+ghost use Rattle.sz_catalogue.specs.Terms.{cell_text, value_text, shape_text, word_text};
+ghost use Rattle.sz_catalogue.specs.Terms.{number_text, reply_text, reply_line, response_of};
 ghost use Rattle.sz_catalogue.specs.declared.reply.Reply.TheVariants as reply_is;
-ghost use Rattle.sz_catalogue.specs.Responses.{cell_text, value_text, shape_text, word_text};
-ghost use Rattle.sz_catalogue.specs.Responses.{number_text, reply_text, reply_line};
-ghost use Rattle.sz_catalogue.specs.Seen.{response_of};
 
 use std::alloc::{AllocError, Global};
 use std::fmt::Write;

@@ -1,6 +1,5 @@
 //! How many cells shapes have.
-ghost use Rattle.std.specs.Prelude.{◌≡◌, ◌≤◌, ◌*◌, length};
-ghost use Rattle.sz_catalogue.specs.Holdings.{cells_of};
+ghost use Rattle.sz_catalogue.specs.Terms.{◌≡◌, ◌≤◌, ◌*◌, length, cells_of};
 
 use sz_cells::Shape;
 

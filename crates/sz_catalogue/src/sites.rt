@@ -1,6 +1,5 @@
 //! The operators of a flow's nodes, at the shapes between which they work.
-ghost use Rattle.std.specs.Prelude.{◌≡◌, map, All, IfOk};
-ghost use Rattle.sz_catalogue.specs.Sites.{site_over, IsFitting};
+ghost use Rattle.sz_catalogue.specs.Terms.{◌≡◌, map, All, IfOk, site_over, IsFitting};
 
 use std::alloc::Global;
 use sz_cells::{NoMemory, Shape};

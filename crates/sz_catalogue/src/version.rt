@@ -1,15 +1,9 @@
 //! A version as it is held: a run of a flow over base arrays. What is held of its outputs is their
 //! shapes.
-ghost use Rattle.std.specs.Prelude.{◌≡◌, ◌<◌, ◌≤◌, true, length, None, IfOk};
-ghost use Rattle.std.specs.Result.{result_err};
-ghost use Rattle.sz_spec.specs.Values.{extent_at};
-ghost use Rattle.sz_spec.specs.Flows.{is_well_formed};
-ghost use Rattle.sz_spec.specs.FlowShapes.{output_shapes};
-ghost use Rattle.sz_spec.specs.Paths.{source_of, is_there};
-ghost use Rattle.sz_catalogue.specs.Holdings.{shapes_of};
-ghost use Rattle.sz_catalogue.specs.Starts.{outputs_of, inputs_of, step_start};
-ghost use Rattle.sz_catalogue.specs.Rules.{are_lists_for};
-ghost use Rattle.sz_catalogue.specs.Kept.{IsRun};
+ghost use Rattle.sz_catalogue.specs.Terms.{◌≡◌, ◌<◌, ◌≤◌, true, length, None, IfOk, result_err};
+ghost use Rattle.sz_catalogue.specs.Terms.{extent_at, is_well_formed, output_shapes, source_of};
+ghost use Rattle.sz_catalogue.specs.Terms.{is_there, shapes_of, outputs_of, inputs_of, step_start};
+ghost use Rattle.sz_catalogue.specs.Terms.{are_lists_for, IsRun, arc_value, Version, Base};
 
 use crate::lists::{BaseArrays, StrategyLists};
 use crate::paths::source_of;
@@ -32,9 +26,6 @@ pub struct HeldVersion {
 }
 
 impl Model for HeldVersion {
-    ghost use Rattle.std.specs.Arc.{arc_value};
-    ghost use Rattle.sz_catalogue.specs.Holdings.{Version};
-
     ghost Value = { Version };
 
     ghost view = { λ v. record {
@@ -64,9 +55,6 @@ pub struct BaseArray {
 }
 
 impl Model for BaseArray {
-    ghost use Rattle.std.specs.Arc.{arc_value};
-    ghost use Rattle.sz_catalogue.specs.Holdings.{Base};
-
     ghost Value = { Base };
 
     ghost view = { λ b. record { name = b.name; version = b.version; array = arc_value b.array } };
@@ -92,9 +80,6 @@ pub struct Run {
 }
 
 impl Model for Run {
-    ghost use Rattle.sz_catalogue.specs.Holdings.{Version};
-    ghost use Rattle.sz_catalogue.specs.Kept.{IsRun};
-
     ghost Value = { Version };
 
     ghost view = { λ r. r.version };

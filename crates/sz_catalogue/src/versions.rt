@@ -1,12 +1,8 @@
 //! The versions held, by number.
-ghost use Rattle.std.specs.Prelude.{◌≡◌, ◌+◌, ◌<◌, true, [], length, Some, is_some, unwrap_or};
-ghost use Rattle.std.specs.Prelude.{OnOk, OnErr};
-ghost use Rattle.std.specs.Ordering.{nat_cmp};
-ghost use Rattle.std.specs.List.Sorted.{IsStrictlySortedBy};
-ghost use Rattle.std.specs.Map.{lookup, set_value, keys_of};
-ghost use Rattle.std.specs.BTreeMap.{is_at, insert_entry};
-ghost use Rattle.std.specs.Option.{option_copied};
-ghost use Rattle.sz_catalogue.specs.Holdings.{greatest, no_version};
+ghost use Rattle.sz_catalogue.specs.Terms.{◌≡◌, ◌+◌, ◌<◌, true, [], length, Some, is_some};
+ghost use Rattle.sz_catalogue.specs.Terms.{unwrap_or, OnOk, OnErr, nat_cmp, IsStrictlySortedBy};
+ghost use Rattle.sz_catalogue.specs.Terms.{lookup, set_value, keys_of, is_at, insert_entry};
+ghost use Rattle.sz_catalogue.specs.Terms.{option_copied, greatest, no_version, ℕ, List, Version};
 
 use crate::version::Run;
 use std::alloc::Global;
@@ -21,9 +17,6 @@ pub struct HeldVersions {
 }
 
 impl Model for HeldVersions {
-    ghost use Rattle.std.specs.Prelude.{ℕ, List};
-    ghost use Rattle.sz_catalogue.specs.Holdings.{Version};
-
     ghost Value = { List (ℕ × Version) };
 
     ghost view = { λ v. v.by_number.entries };

@@ -10,7 +10,7 @@ use Rattle.std.proofs.Common.{eq-eqb, ne_eqb, lt-ltb, le-ltb, le-leb, append-nil
 use Rattle.std.proofs.Common.{get_or-set_other, true≢false}
 use Rattle.std.specs.List.{filter, find, list_any, range_with_len}
 use Rattle.std.proofs.Math.Bool.{or_assoc, or-false}
-use Rattle.std.proofs.lemmas.Bool.{cases_Bool, cases_eq, cases_lt, and_from, lt-leb}
+use Rattle.std.proofs.lemmas.Bool.{cases_Bool, cases_eq, cases_lt, and_from, and_left, and_right, lt-leb}
 use Rattle.std.proofs.lemmas.List.{get_or_past, get_or-replicate, length-replicate}
 use Rattle.std.proofs.lemmas.List.Folds.{list_any_more}
 use Rattle.std.proofs.lemmas.Nat.Bits.{shr_and_one}
@@ -77,19 +77,26 @@ run_cells-at e r order within =
 
 -- ---- unions with such sets
 
+-- a set was added and another is; what both have, one set has
+pub union-step : (a b c d : Cells) → ((x : Cell) → holds a.extent x ≡ true → (has b x || has c x) ≡ has d x)
+    → union_of (union_of a b) c ≡ union_of a d
+union-step a b c d wide =
+    cells_where-ext a.extent (λ x. has (union_of a b) x || has c x) (λ x. has a x || has d x)
+    (λ x held.
+    ap (λ y. y || has c x) (has-cells_where a.extent (λ z. has a z || has b z) x held)
+    ∙ or_assoc (has a x) (has b x) (has c x)
+    ∙ ap (λ y. has a x || y) (wide x held))
+
 -- one more such set: its test widens the one before
 pub union-more : (a : Cells) (p q r : ℕ → Bool) → ((k : ℕ) → k < size_of a.extent → (p k || q k) ≡ r k)
     → union_of (union_of a (cells_at a.extent p)) (cells_at a.extent q) ≡ union_of a (cells_at a.extent r)
 union-more a p q r wide =
     let e : Extent = a.extent in
-    cells_where-ext e (λ c. has (union_of a (cells_at e p)) c || has (cells_at e q) c)
-    (λ c. has a c || has (cells_at e r) c)
+    union-step a (cells_at e p) (cells_at e q) (cells_at e r)
     (λ c held.
-    ap₂ (λ (x y : Bool). x || y)
-    (has-cells_where e (λ d. has a d || has (cells_at e p) d) c held ∙ ap (λ b. has a c || b)
-    (has-cells_at e p c held)) (has-cells_at e q c held)
-    ∙ or_assoc (has a c) (p (index_of e c)) (q (index_of e c))
-    ∙ ap (λ b. has a c || b) (wide (index_of e c) (index-below e c held) ∙ sym (has-cells_at e r c held)))
+    ap₂ (λ (x y : Bool). x || y) (has-cells_at e p c held) (has-cells_at e q c held)
+    ∙ wide (index_of e c) (index-below e c held)
+    ∙ sym (has-cells_at e r c held))
 
 -- a set of its cells, and none besides
 pub union-none : (a : Cells) (p : ℕ → Bool) → a ≡ cells_where a.extent (has a)
@@ -456,6 +463,14 @@ find-filter p q (x ∷ xs) =
       | inr drops ↦ rw drops (find-filter p q xs)
     ]
 
+-- an index below the start, or at which a test fails, is none at or above the start that passes
+none-from : (test : ℕ → Bool) (from k : ℕ) → (from ≤ k → test k ≡ false) → (test k && nat_le from k) ≡ false
+none-from test from k off =
+    elim (cases_lt k from) [
+      | inl under ↦ and_right (test k) (nat_le from k) (lt-leb from k under)
+      | inr over ↦ and_left (test k) (nat_le from k) (off over)
+    ]
+
 -- the next index of a bitmap is the next bit that is 1, in the range of words that may have one
 pub next-bit : (test : ℕ → Bool) (size low from end : ℕ) (r : Option ℕ)
     → ((k : ℕ) → k < low → test k ≡ false) → ((k : ℕ) → end ≤ k → test k ≡ false)
@@ -467,25 +482,15 @@ next-bit test size low from end None before after past found =
     sym
     (find-filter (nat_le from) test (range_with_len 0 size)
     ∙ find-none (λ k. test k && nat_le from k) size 0
-    (λ k start high.
-    elim (cases_lt k from) [
-      | inl under ↦ rw (lt-leb from k under) (elim (cases_Bool (test k)) [
-        | inl t ↦ rw t refl
-        | inr f ↦
-            rw f refl
-      ])
-      | inr over ↦
-          let off : test k ≡ false =
-          elim (cases_lt k low) [
-            | inl early ↦ before k early
-            | inr later ↦ elim (cases_lt k end) [
-              | inl inside ↦ none k (omega arith) (omega arith)
-              | inr out ↦
-                  after k out
-            ]
-          ] in
-          rw off refl
-    ]))
+    (λ k start high. none-from test from k (λ over.
+    elim (cases_lt k low) [
+      | inl early ↦ before k early
+      | inr later ↦ elim (cases_lt k end) [
+        | inl inside ↦ none k (omega arith) (omega arith)
+        | inr out ↦
+            after k out
+      ]
+    ])))
 next-bit test size low from end (Some i) before after past found =
     let first = find-some test (end - max from low) (max from low) i (sym found) in
     let inside : i < size = elim (cases_lt i size) [
@@ -499,21 +504,11 @@ next-bit test size low from end (Some i) before after past found =
     (record {
       low = omega arith;
       passes = and_from (test i) (nat_le from i) first.0.passes (le-leb from i (omega (arith, first.0.low)));
-      before = λ k start below.
-          elim (cases_lt k from) [
-            | inl under ↦ rw (lt-leb from k under) (elim (cases_Bool (test k)) [
-              | inl t ↦ rw t refl
-              | inr f ↦
-                  rw f refl
-            ])
-            | inr over ↦
-                let off : test k ≡ false = elim (cases_lt k low) [
-                  | inl early ↦ before k early
-                  | inr later ↦
-                      first.0.before k (omega arith) below
-                ] in
-                rw off refl
-          ];
+      before = λ k start below. none-from test from k (λ over.
+          elim (cases_lt k low) [
+            | inl early ↦ before k early
+            | inr later ↦ first.0.before k (omega arith) below
+          ]);
     })
     (omega arith))
 

@@ -4,13 +4,13 @@
 -- the
 -- index of a cell of the shape.
 use Rattle.std.proofs.Common.{◌≡◌, ℕ, ◌+◌, ◌<◌, ◌≤◌}
-use Rattle.std.proofs.Common.{true, false, ◌||◌, ◌==◌, nat_le, List, [], ◌∷◌, ◌++◌, length}
+use Rattle.std.proofs.Common.{Bool, true, false, ◌||◌, ◌==◌, nat_le, List, [], ◌∷◌, ◌++◌, length}
 use Rattle.std.proofs.Common.{fold, Some, None, refl, sym, ap, ap₂, subst, ◌∙◌, arith, inl, inr}
 use Rattle.std.proofs.Common.{true≢false, eq-eqb, eqb-true, leb-true, append_assoc, length-append, length-drop}
 use Rattle.std.proofs.Common.{◌^◌}
 use Rattle.std.specs.List.{find, list_any, flat_map}
 use Rattle.std.specs.Int.{w32, from_be_bytes}
-use Rattle.std.proofs.lemmas.Bool.{cases_Bool, cases_lt, or_cases, or_left, or_right, and_parts, leb-false}
+use Rattle.std.proofs.lemmas.Bool.{cases_Bool, cases_lt, or_cases, or_from, or_left, or_right, and_parts, leb-false}
 use Rattle.std.proofs.lemmas.Bool.{false_from_ne_true}
 use Rattle.std.proofs.lemmas.Nat.{from_be_bytes-to_be_bytes_4}
 use Rattle.std.proofs.lemmas.Option.{same_Some}
@@ -18,7 +18,7 @@ use Rattle.sz_cells.specs.declared.Bounds.{Bounds}
 use Rattle.sz_cells.specs.declared.Cell.{Cell}
 use Rattle.sz_cells.specs.declared.Run.{Run}
 use Rattle.sz_cells.specs.Extent.{Extent, size_of, holds, index_of, cell_of}
-use Rattle.sz_cells.specs.Cells.{Cells, is_same, has}
+use Rattle.sz_cells.specs.Cells.{Cells, cells_where, is_same, has}
 use Rattle.sz_cells.specs.Rising.{AreRising}
 use Rattle.sz_cells.specs.Runs.{AreRunsFrom, indexes_of, runs_of, bounds_of_cell, bounds_with}
 use Rattle.sz_cells.specs.Runs.{bounds_of_indexes}
@@ -50,15 +50,18 @@ sets-rising e test = filter-rising (λ k. test (cell_of e k)) (size_of e) 0 (siz
 has-outside : (set : Cells) (c : Cell) → holds set.extent c ≡ false → has set c ≡ false
 has-outside set c out = rw out refl
 
+-- a set by a test that no cell outside of its shape passes has the cells that pass it
+has-passing : (e : Extent) (p : Cell → Bool) (c : Cell) → (holds e c ≡ false → p c ≡ false)
+    → has (cells_where e p) c ≡ p c
+has-passing e p c outside =
+    has-cells_where_any e p c
+    ∙ (elim (cases_Bool (holds e c)) [ inl held ↦ rw held refl | inr out ↦ rw (out, outside out) refl ])
+
 pub union-has : UnionsHaveTheCellsOfBoth
 union-has a b c same =
-    has-cells_where_any a.extent (λ d. has a d || has b d) c
-    ∙ (elim (cases_Bool (holds a.extent c)) [
-      | inl held ↦ rw held refl
-      | inr out ↦
-          let there : holds b.extent c ≡ false = subst (λ (e : Extent). holds e c ≡ false) (sym same) out in
-          rw (out, there) refl
-    ])
+    has-passing a.extent (λ d. has a d || has b d) c
+    (λ out. or_from (has a c) (has b c) (has-outside a c out)
+    (has-outside b c (subst (λ (e : Extent). holds e c ≡ false) (sym same) out)))
 
 -- a cell outside of a shape is no cell of it
 same-outside : (e : Extent) (c cell : Cell) → holds e cell ≡ true → holds e c ≡ false → is_same c cell
@@ -69,13 +72,8 @@ same-outside e c cell held out =
 
 pub with_cell-has : OneMoreCell
 with_cell-has set cell c held =
-    has-cells_where_any set.extent (λ d. has set d || is_same d cell) c
-    ∙ (elim (cases_Bool (holds set.extent c)) [
-      | inl here ↦ rw here refl
-      | inr out ↦
-          let other : is_same c cell ≡ false = same-outside set.extent c cell held out in
-          rw (out, other) refl
-    ])
+    has-passing set.extent (λ d. has set d || is_same d cell) c
+    (λ out. or_from (has set c) (is_same c cell) (has-outside set c out) (same-outside set.extent c cell held out))
 
 -- ---- the next index
 

@@ -9,7 +9,7 @@ use Rattle.std.proofs.Common.{[], ◌∷◌, ◌++◌, map, fold, refl, sym, ap,
 use Rattle.std.proofs.Common.{inr, ◌⊎◌, ltb-true, lt-ltb, le-leb, leb-true}
 use Rattle.std.proofs.Common.{append-nil}
 use Rattle.std.specs.List.{filter, list_any, range_with_len, flat_map}
-use Rattle.std.proofs.Math.Bool.{or_assoc, or-false}
+use Rattle.std.proofs.Math.Bool.{or-false}
 use Rattle.std.proofs.lemmas.Bool.{cases_Bool, and_parts, and_from, false_from_ne_true}
 use Rattle.std.proofs.lemmas.Bool.Decides.{nat_tests}
 use Rattle.std.proofs.lemmas.Nat.{div-mul-add, mod-mul-add, div-add-mod'}
@@ -25,7 +25,7 @@ use Rattle.sz_cells.specs.Runs.{is_in, run_cells}
 use Rattle.sz_cells.proofs.Sets.{filter-range_ext, index-below}
 use Rattle.sz_cells.proofs.Sets.{has-cells_where, cells_where-ext, same_truth, is_same-flip, index-is_same}
 use Rattle.sz_cells.proofs.Rising.{filter-false, rising-filter}
-use Rattle.sz_cells.proofs.Bitmaps.{run_cells-at, cells_at-ext}
+use Rattle.sz_cells.proofs.Bitmaps.{run_cells-at, cells_at-ext, union-step}
 
 -- ---- lists
 
@@ -285,14 +285,11 @@ pub union-where_more : (a : Cells) (p q r : Cell → Bool) → ((c : Cell) → h
     → union_of (union_of a (cells_where a.extent p)) (cells_where a.extent q) ≡ union_of a (cells_where a.extent r)
 union-where_more a p q r wide =
     let e : Extent = a.extent in
-    cells_where-ext e (λ c. has (union_of a (cells_where e p)) c || has (cells_where e q) c)
-    (λ c. has a c || has (cells_where e r) c)
+    union-step a (cells_where e p) (cells_where e q) (cells_where e r)
     (λ c held.
-    ap₂ (λ (x y : Bool). x || y)
-    (has-cells_where e (λ d. has a d || has (cells_where e p) d) c held ∙ ap (λ b. has a c || b)
-    (has-cells_where e p c held)) (has-cells_where e q c held)
-    ∙ or_assoc (has a c) (p c) (q c)
-    ∙ ap (λ b. has a c || b) (wide c held ∙ sym (has-cells_where e r c held)))
+    ap₂ (λ (x y : Bool). x || y) (has-cells_where e p c held) (has-cells_where e q c held)
+    ∙ wide c held
+    ∙ sym (has-cells_where e r c held))
 
 -- to a set of its cells, none were added
 pub union-where_none : (a : Cells) (p : Cell → Bool) → a ≡ cells_where a.extent (has a)
@@ -336,14 +333,10 @@ run-window e row left right inside some wide =
     and_from _ _ (le-leb run.first k (omega (arith, w.2))) (le-leb k run.last (omega (arith, w.3)))))
 
 and-or : (x y z : Bool) → ((x && z) || (y && z)) ≡ ((x || y) && z)
-and-or true true true = refl
+and-or true y true = refl
 and-or true true false = refl
-and-or true false true = refl
 and-or true false false = refl
-and-or false true true = refl
-and-or false true false = refl
-and-or false false true = refl
-and-or false false false = refl
+and-or false y z = refl
 
 -- the rows of a window so far, and one more
 pub window-more : (top row left right : ℕ) (c : Cell) → top ≤ row

@@ -4,7 +4,7 @@
 -- words knows that no index before them passes; in the first word that has a bit left, the lowest one is the answer.
 use Rattle.std.proofs.Common.{◌≡◌, ℕ, zero, suc, ◌+◌, ◌-◌, ◌*◌, ◌/◌, ◌%◌}
 use Rattle.std.proofs.Common.{◌^◌, ◌<◌, ◌≤◌, Bool, true, false, not, ◌&&◌, ◌||◌}
-use Rattle.std.proofs.Common.{◌==◌, nat_le, List, get_or, bit_and, bit_or, Some}
+use Rattle.std.proofs.Common.{◌==◌, nat_le, min, max, List, get_or, bit_and, bit_or, Some}
 use Rattle.std.proofs.Common.{None, refl, sym, ap, ap₂, ◌∙◌, arith, inl, inr, true≢false}
 use Rattle.std.proofs.Common.{eq-eqb, ne_eqb, leb-true, le-leb, lit<, ◌⊎◌}
 use Rattle.std.specs.Int.{bit_at, bit_not, w64, trailing_zeros}
@@ -26,23 +26,23 @@ bit-cases : (n i : ℕ) → (bit_at n i ≡ 0) ⊎ (bit_at n i ≡ 1)
 bit-cases n i =
     elim (cases_eq (bit_at n i) 0) [ inl none ↦ inl none | inr some ↦ inr (omega (arith, bit_at-lt n i)) ]
 
+-- what holds of 0 and 1 holds of two bits
+of-bits : (P : ℕ → ℕ → Type 0) → P 0 0 → P 0 1 → P 1 0 → P 1 1 → (a b i : ℕ) → P (bit_at a i) (bit_at b i)
+of-bits P none right left both a b i =
+    elim (bit-cases a i) [
+      | inl x ↦ elim (bit-cases b i) [ inl y ↦ rw (x, y) none | inr y ↦ rw (x, y) right ]
+      | inr x ↦ elim (bit-cases b i) [ inl y ↦ rw (x, y) left | inr y ↦ rw (x, y) both ]
+    ]
+
 pub one-or : (a b i : ℕ) → is_one (bit_or a b) i ≡ (is_one a i || is_one b i)
 unfolding is_one
 one-or a b i =
-    rw bit_at_or
-    (elim (bit-cases a i) [
-      | inl x ↦ elim (bit-cases b i) [ inl y ↦ rw (x, y) refl | inr y ↦ rw (x, y) refl ]
-      | inr x ↦ elim (bit-cases b i) [ inl y ↦ rw (x, y) refl | inr y ↦ rw (x, y) refl ]
-    ])
+    rw bit_at_or (of-bits (λ x y. (max x y == 1) ≡ ((x == 1) || (y == 1))) refl refl refl refl a b i)
 
 pub one-and : (a b i : ℕ) → is_one (bit_and a b) i ≡ (is_one a i && is_one b i)
 unfolding is_one
 one-and a b i =
-    rw bit_at_and
-    (elim (bit-cases a i) [
-      | inl x ↦ elim (bit-cases b i) [ inl y ↦ rw (x, y) refl | inr y ↦ rw (x, y) refl ]
-      | inr x ↦ elim (bit-cases b i) [ inl y ↦ rw (x, y) refl | inr y ↦ rw (x, y) refl ]
-    ])
+    rw bit_at_and (of-bits (λ x y. (min x y == 1) ≡ ((x == 1) && (y == 1))) refl refl refl refl a b i)
 
 pub one-not : (n i : ℕ) → n < 2 ^ 64 → i < 64 → is_one (bit_not w64 n) i ≡ not (is_one n i)
 unfolding is_one

@@ -7,3 +7,4 @@ pub mod Words
 pub mod SetBytes
 pub mod SetWords
 pub mod Laws
+mod Terms

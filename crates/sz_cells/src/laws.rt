@@ -4,19 +4,15 @@
 //! The last three say of every shape, set and bitmap what their types keep, for a proof that calls
 //! them.
 
-ghost use Rattle.std.specs.Prelude.{◌≡◌, true};
-ghost use Rattle.sz_cells.specs.Extent.{is_extent};
-ghost use Rattle.sz_cells.specs.Cells.{cells_where, has};
-ghost use Rattle.sz_cells.specs.SetBytes.{IsSetOf};
-ghost use Rattle.sz_cells.specs.Laws.{LayersMakeShapes, OneLayerIsFlat, CellsHavePlaces};
-ghost use Rattle.sz_cells.specs.Laws.{PlacesHaveCells, CellsHaveIndexes, IndexesHaveCells};
-ghost use Rattle.sz_cells.specs.Laws.{SetsAreTheirTests, SetsAreEqualByTheirCells};
-ghost use Rattle.sz_cells.specs.Laws.{RisingIndexesAreSets, SetsHaveRisingIndexes};
-ghost use Rattle.sz_cells.specs.Laws.{UnionsHaveTheCellsOfBoth, OneMoreCell, NextIsLeast};
-ghost use Rattle.sz_cells.specs.Laws.{NoneIsNext};
-ghost use Rattle.sz_cells.specs.Laws.{RunsSpellSets, RunsAreOne, BoundsHaveEachCell};
-ghost use Rattle.sz_cells.specs.Laws.{BoundsAreSmallest, NoBoundsOfNoCell, BytesAreOneSet};
-ghost use Rattle.sz_cells.specs.Laws.{OneSetBegins};
+ghost use Rattle.sz_cells.specs.Terms.{◌≡◌, true, is_extent, cells_where, has, IsSetOf};
+ghost use Rattle.sz_cells.specs.Terms.{LayersMakeShapes, OneLayerIsFlat, CellsHavePlaces};
+ghost use Rattle.sz_cells.specs.Terms.{PlacesHaveCells, CellsHaveIndexes, IndexesHaveCells};
+ghost use Rattle.sz_cells.specs.Terms.{SetsAreTheirTests, SetsAreEqualByTheirCells};
+ghost use Rattle.sz_cells.specs.Terms.{RisingIndexesAreSets, SetsHaveRisingIndexes};
+ghost use Rattle.sz_cells.specs.Terms.{UnionsHaveTheCellsOfBoth, OneMoreCell, NextIsLeast};
+ghost use Rattle.sz_cells.specs.Terms.{NoneIsNext, RunsSpellSets, RunsAreOne, BoundsHaveEachCell};
+ghost use Rattle.sz_cells.specs.Terms.{BoundsAreSmallest, NoBoundsOfNoCell, BytesAreOneSet};
+ghost use Rattle.sz_cells.specs.Terms.{OneSetBegins};
 
 use crate::{CellBits, CellSet, Shape};
 

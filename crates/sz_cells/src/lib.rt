@@ -32,10 +32,10 @@
 //! of those.
 #![tactic(auto)]
 
-ghost use Rattle.std.specs.Prelude.{◌≡◌, ◌<◌, ◌≤◌, ◌*◌, true, if◌then◌else◌, Some, None};
-ghost use Rattle.sz_cells.specs.Extent.{size_of, height_of, is_shape, is_layered, layered, flat};
-ghost use Rattle.sz_cells.specs.Extent.{holds, index_of, cell_of, layer_of, row_in, is_place};
-ghost use Rattle.sz_cells.specs.Extent.{cell_in};
+ghost use Rattle.sz_cells.specs.Terms.{◌≡◌, ◌<◌, ◌≤◌, ◌*◌, true, if◌then◌else◌, Some, None};
+ghost use Rattle.sz_cells.specs.Terms.{size_of, height_of, is_shape, is_layered, layered, flat};
+ghost use Rattle.sz_cells.specs.Terms.{holds, index_of, cell_of, layer_of, row_in, is_place};
+ghost use Rattle.sz_cells.specs.Terms.{cell_in};
 
 pub use cell_bits::CellBits;
 pub use cell_set::CellSet;

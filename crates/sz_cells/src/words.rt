@@ -1,11 +1,9 @@
 //! Words of 64 bits: the bits of a run, the next bit that is 1 or 0, and the longest runs of bits
 //! that are 1.
 
-ghost use Rattle.std.specs.Prelude.{◌≡◌, ◌≢◌, ℕ, ◌+◌, ◌-◌, ◌*◌, ◌/◌, ◌^◌, ◌<◌};
-ghost use Rattle.std.specs.Prelude.{◌≤◌, ◌&&◌, true, false, nat_le, length, IfOk};
-ghost use Rattle.std.specs.List.{find, range_with_len};
-ghost use Rattle.sz_cells.specs.Runs.{is_in, covers, AreRunsFrom};
-ghost use Rattle.sz_cells.specs.Words.{is_one, has_bit};
+ghost use Rattle.sz_cells.specs.Terms.{◌≡◌, ◌≢◌, ℕ, ◌+◌, ◌-◌, ◌*◌, ◌/◌, ◌^◌, ◌<◌, ◌≤◌, ◌&&◌, true};
+ghost use Rattle.sz_cells.specs.Terms.{false, nat_le, length, IfOk, find, range_with_len, is_in};
+ghost use Rattle.sz_cells.specs.Terms.{covers, AreRunsFrom, is_one, has_bit};
 
 use crate::spelling::add_run;
 use crate::{NoMemory, Run};

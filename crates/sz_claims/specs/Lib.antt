@@ -3,3 +3,4 @@ pub mod Changes
 pub mod Claims
 pub mod Owners
 pub mod Rule
+mod Terms

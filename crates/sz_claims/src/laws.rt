@@ -1,10 +1,7 @@
 //! Laws of the steps, for a reader: each function has an empty body, and its contract is the law.
-ghost use Rattle.std.specs.Prelude.{◌≡◌, ℕ};
-ghost use Rattle.sz_claims.specs.declared.rule.View.{View};
-ghost use Rattle.sz_claims.specs.Rule.{Table, IsKept};
-ghost use Rattle.sz_claims.specs.Owners.{WordsTell};
-ghost use Rattle.sz_claims.specs.Changes.{KnowsNothing, IsExchangeOnly, WinsOrLoses, IsOnlyCounted};
-ghost use Rattle.sz_claims.specs.Changes.{SplitsOff, AddsBothUp, NoneLosesFree, NoneWinsClaimed};
+ghost use Rattle.sz_claims.specs.Terms.{◌≡◌, ℕ, View, Table, IsKept, WordsTell, KnowsNothing};
+ghost use Rattle.sz_claims.specs.Terms.{IsExchangeOnly, WinsOrLoses, IsOnlyCounted, SplitsOff};
+ghost use Rattle.sz_claims.specs.Terms.{AddsBothUp, NoneLosesFree, NoneWinsClaimed};
 
 use crate::rule::{Looks, OnePassEach, StartsEmpty, TakesBoth, Tries, View};
 use atomic_table::{Join, Play, Split, TableRule};

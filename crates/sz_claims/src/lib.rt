@@ -64,10 +64,8 @@
 //! cannot tell its caller what the rule says.
 #![tactic(auto)]
 
-ghost use Rattle.std.specs.Prelude.{◌≡◌, ◌<◌, ◌≤◌, ◌+◌, [], ◌∷◌, ◌++◌, IfOk, Contains};
-ghost use Rattle.std.specs.Prelude.{true, false, Some};
-ghost use Rattle.std.specs.Arc.{arc_value};
-ghost use Rattle.sz_claims.specs.Claims.{AreDisjoint, newcomer};
+ghost use Rattle.sz_claims.specs.Terms.{◌≡◌, ◌<◌, ◌≤◌, ◌+◌, [], ◌∷◌, ◌++◌, IfOk, Contains, true};
+ghost use Rattle.sz_claims.specs.Terms.{false, Some, arc_value, AreDisjoint, newcomer};
 
 pub mod laws;
 mod rule;

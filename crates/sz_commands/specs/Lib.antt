@@ -11,3 +11,4 @@ pub mod Carrying
 pub mod Inquiries
 pub mod Refreshing
 pub mod Logged
+mod Terms

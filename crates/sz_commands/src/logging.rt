@@ -7,28 +7,20 @@
 //! before the session notes the await. Nothing else is written. So where there is no memory nothing
 //! was, and where the disk fails the log holds what it held, or what it would.
 
-ghost use Rattle.std.specs.Prelude.{◌≡◌, ◌+◌, ◌*◌, ◌^◌, ◌<◌, ◌≤◌, true, false, None, Some, Ok, Err};
-ghost use Rattle.std.specs.Prelude.{IfOk, OnOk, [], List, ℕ};
-ghost use Rattle.sz_script.specs.Reading.{reading};
-ghost use Rattle.sz_script.specs.Right.{is_right};
+ghost use Rattle.sz_commands.specs.Terms.{◌≡◌, ◌+◌, ◌*◌, ◌^◌, ◌<◌, ◌≤◌, true, false, None, Some};
+ghost use Rattle.sz_commands.specs.Terms.{Ok, Err, IfOk, OnOk, [], List, ℕ, reading, is_right};
+ghost use Rattle.sz_commands.specs.Terms.{array_order, judged, version_of, has_no_version};
+ghost use Rattle.sz_commands.specs.Terms.{has_input, base_at, cells_affected, response_of};
+ghost use Rattle.sz_commands.specs.Terms.{is_of_kind, apart, accepted, after_command, traced_for};
+ghost use Rattle.sz_commands.specs.Terms.{most_for, traced_along, most_along, LineGives, IsRight};
+ghost use Rattle.sz_commands.specs.Terms.{Takes, traced_for_given, most_for_given, AddsEntry};
+ghost use Rattle.sz_commands.specs.Terms.{FinishesEntry, StoredBy, StoredAfter, StoredBehind};
+ghost use Rattle.sz_commands.specs.Terms.{CountsTell, IsLogOf, HasLog, KeepsLog, StopsInLog};
+ghost use Rattle.sz_commands.specs.Terms.{held_after, IsLasting, Appends, IsGroupOf, IsGroupFor};
+ghost use Rattle.sz_commands.specs.Terms.{IsLineGroup, IsVersionGroup, IsArrayGroup, is_refresh};
+ghost use Rattle.sz_commands.specs.Terms.{makes, makes_judged, makes_durable, place_of};
 ghost use Rattle.sz_script.specs.declared.command.Command.TheVariants as order;
-ghost use Rattle.sz_writing.specs.Orders.{array_order};
-ghost use Rattle.sz_catalogue.specs.Rules.{judged, version_of, has_no_version};
-ghost use Rattle.sz_catalogue.specs.Refreshes.{has_input, base_at, cells_affected};
 ghost use Rattle.sz_catalogue.specs.Changes as changes;
-ghost use Rattle.sz_catalogue.specs.Seen.{response_of};
-ghost use Rattle.sz_recover.specs.Logs.{is_of_kind};
-ghost use Rattle.sz_commands.specs.States.{apart, accepted, after_command};
-ghost use Rattle.sz_commands.specs.Commands.{traced_for, most_for, traced_along, most_along};
-ghost use Rattle.sz_commands.specs.Given.{LineGives, IsRight, Takes, traced_for_given};
-ghost use Rattle.sz_commands.specs.Given.{most_for_given};
-ghost use Rattle.sz_commands.specs.Carrying.{AddsEntry, FinishesEntry};
-ghost use Rattle.sz_commands.specs.Carrying.{StoredBy, StoredAfter, StoredBehind};
-ghost use Rattle.sz_commands.specs.Faults.{CountsTell};
-ghost use Rattle.sz_commands.specs.Logged.{IsLogOf, HasLog, KeepsLog, StopsInLog, held_after};
-ghost use Rattle.sz_commands.specs.Logged.{IsLasting, Appends, IsGroupOf, IsGroupFor, IsLineGroup};
-ghost use Rattle.sz_commands.specs.Logged.{IsVersionGroup, IsArrayGroup, is_refresh};
-ghost use Rattle.sz_commands.specs.Logged.{makes, makes_judged, makes_durable, place_of};
 
 use crate::open_log::OpenLog;
 use crate::session::{Given, Session, Stop};

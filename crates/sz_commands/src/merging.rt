@@ -1,12 +1,8 @@
 //! A merge: asked, where it is handed to a thread, and finished, where its numbers are told.
 
-ghost use Rattle.std.specs.Prelude.{◌≡◌, None, IfOk, OnOk, OnErr};
-ghost use Rattle.std.specs.List.{AllZip};
+ghost use Rattle.sz_commands.specs.Terms.{◌≡◌, None, IfOk, OnOk, OnErr, AllZip, judged};
+ghost use Rattle.sz_commands.specs.Terms.{response_of, IsMergedIn, apart, accepted};
 ghost use Rattle.sz_script.specs.declared.command.Command.TheVariants as order;
-ghost use Rattle.sz_catalogue.specs.Rules.{judged};
-ghost use Rattle.sz_catalogue.specs.Seen.{response_of};
-ghost use Rattle.sz_versions.specs.Merging.{IsMergedIn};
-ghost use Rattle.sz_commands.specs.States.{apart, accepted};
 
 use crate::session::Session;
 use std::sync::Wait;

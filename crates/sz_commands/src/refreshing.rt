@@ -1,14 +1,9 @@
 //! A refresh: what it makes of a version, and holding that.
 
-ghost use Rattle.std.specs.Prelude.{◌≡◌, ◌+◌, ◌*◌, ◌^◌, ◌<◌, None, IfOk, OnOk, OnErr};
-ghost use Rattle.std.specs.Arc.{arc_value};
+ghost use Rattle.sz_commands.specs.Terms.{◌≡◌, ◌+◌, ◌*◌, ◌^◌, ◌<◌, None, IfOk, OnOk, OnErr};
+ghost use Rattle.sz_commands.specs.Terms.{arc_value, judged, version_of, cells_affected};
+ghost use Rattle.sz_commands.specs.Terms.{response_of, IsMadeBy, apart, accepted, AddsEntry};
 ghost use Rattle.sz_script.specs.declared.command.Command.TheVariants as order;
-ghost use Rattle.sz_catalogue.specs.Rules.{judged, version_of};
-ghost use Rattle.sz_catalogue.specs.Refreshes.{cells_affected};
-ghost use Rattle.sz_catalogue.specs.Seen.{response_of};
-ghost use Rattle.sz_commands.specs.Refreshing.{IsMadeBy};
-ghost use Rattle.sz_commands.specs.States.{apart, accepted};
-ghost use Rattle.sz_commands.specs.Carrying.{AddsEntry};
 
 use crate::session::Session;
 use std::sync::Wait;

@@ -3,35 +3,25 @@
 //! Contracts see a session as a `SessionState`. Beside the catalogue it has of each version the
 //! runs of its nodes and what is kept of them (`HeldRuns`), so that no value is computed twice.
 
-ghost use Rattle.std.specs.Prelude.{◌≡◌, ◌+◌, ◌*◌, ◌^◌, ◌<◌, ◌≤◌, true, false, None, Err, map};
-ghost use Rattle.std.specs.Prelude.{IfOk, OnOk, OnErr, length, if◌then◌else◌, Some, is_some};
-ghost use Rattle.sz_flow.specs.Executions.{execution_of};
-ghost use Rattle.std.specs.List.{AllZip, AllByRecursion};
-ghost use Rattle.sz_script.specs.Right.{is_right};
+ghost use Rattle.sz_commands.specs.Terms.{◌≡◌, ◌+◌, ◌*◌, ◌^◌, ◌<◌, ◌≤◌, true, false, None, Err};
+ghost use Rattle.sz_commands.specs.Terms.{map, IfOk, OnOk, OnErr, length, if◌then◌else◌, Some};
+ghost use Rattle.sz_commands.specs.Terms.{is_some, execution_of, AllZip, AllByRecursion, is_right};
+ghost use Rattle.sz_commands.specs.Terms.{judged, version_of, has_no_version, is_not_joined};
+ghost use Rattle.sz_commands.specs.Terms.{is_out_of_range, way_of, traced, changes_no_version};
+ghost use Rattle.sz_commands.specs.Terms.{apart, accepted, cells_told, response_of, Responds};
+ghost use Rattle.sz_commands.specs.Terms.{traced_for_line, traced_for, traced_along, most_for_line};
+ghost use Rattle.sz_commands.specs.Terms.{most_for, most_along, most_traced, IsTrailOf};
+ghost use Rattle.sz_commands.specs.Terms.{strategy_told, nothing_held, AreGiven, AddsEntry};
+ghost use Rattle.sz_commands.specs.Terms.{IsFinishedIn, FinishesEntry, StoredBy, StoredBehind};
+ghost use Rattle.sz_commands.specs.Terms.{HasLog, KeepsLog, StopsInLog, held_after, makes_durable};
+ghost use Rattle.sz_commands.specs.Terms.{Appends, IsGroupOf, end_of, reading, CountsTell};
+ghost use Rattle.sz_commands.specs.Terms.{IsInquiryOf, executions_of, is_ask, IsAskLine, IsBegun};
+ghost use Rattle.sz_commands.specs.Terms.{ask_reply, traced_for_asks, most_for_asks, LineGives};
+ghost use Rattle.sz_commands.specs.Terms.{IsRight, IsInService, logged_in, stored_in, place_of};
+ghost use Rattle.sz_commands.specs.Terms.{option_map};
 ghost use Rattle.sz_script.specs.declared.command.Command.TheVariants as order;
-ghost use Rattle.sz_catalogue.specs.Rules.{judged, version_of, has_no_version, is_not_joined};
-ghost use Rattle.sz_catalogue.specs.Rules.{is_out_of_range};
-ghost use Rattle.sz_catalogue.specs.Changes.{way_of, traced, changes_no_version};
-ghost use Rattle.sz_commands.specs.States.{apart, accepted, cells_told};
-ghost use Rattle.sz_catalogue.specs.Seen.{response_of};
-ghost use Rattle.sz_commands.specs.Commands.{Responds, traced_for_line, traced_for, traced_along};
-ghost use Rattle.sz_commands.specs.Commands.{most_for_line, most_for, most_along};
-ghost use Rattle.sz_versions.specs.Efforts.{most_traced};
-ghost use Rattle.sz_versions.specs.Stores.{IsTrailOf};
-ghost use Rattle.sz_versions.specs.Views.{strategy_told};
-ghost use Rattle.sz_commands.specs.States.{nothing_held};
-ghost use Rattle.sz_commands.specs.Carrying.{AreGiven, AddsEntry, IsFinishedIn, FinishesEntry};
-ghost use Rattle.sz_commands.specs.Carrying.{StoredBy, StoredBehind};
-ghost use Rattle.sz_commands.specs.Logged.{HasLog, KeepsLog, StopsInLog, held_after, makes_durable};
-ghost use Rattle.sz_commands.specs.Logged.{Appends, IsGroupOf, end_of};
-ghost use Rattle.sz_script.specs.Reading.{reading};
-ghost use Rattle.sz_commands.specs.Faults.{CountsTell};
-ghost use Rattle.sz_commands.specs.Inquiries.{IsInquiryOf};
-ghost use Rattle.sz_versions.specs.Runs.{executions_of};
-ghost use Rattle.sz_commands.specs.Asks.{is_ask, IsAskLine, IsBegun, ask_reply};
-ghost use Rattle.sz_commands.specs.Asks.{traced_for_asks, most_for_asks};
-ghost use Rattle.sz_commands.specs.Given.{LineGives, IsRight};
 ghost use Rattle.sz_commands.specs.declared.session.Given.TheVariants as given;
+ghost use Rattle.sz_commands.specs.declared.session.Stop.TheVariants as stop;
 
 use crate::asking::{AskLine, Asked, Askers, work_out};
 use crate::blank::is_blank;
@@ -99,9 +89,6 @@ pub enum Stop {
 }
 
 impl From<NoMemory> for Stop {
-    ghost use Rattle.std.specs.Prelude.{◌≡◌};
-    ghost use Rattle.sz_commands.specs.declared.session.Stop.TheVariants as stop;
-
     ghost from_gives = { λ _ e. e ≡ stop.NoMemory };
 
     fn from(_fault: NoMemory) -> Stop {
@@ -111,9 +98,6 @@ impl From<NoMemory> for Stop {
 
 /// A log that was not written.
 impl From<Failed> for Stop {
-    ghost use Rattle.std.specs.Prelude.{◌≡◌};
-    ghost use Rattle.sz_commands.specs.declared.session.Stop.TheVariants as stop;
-
     ghost from_gives = { λ _ e. e ≡ stop.DiskFault };
 
     fn from(_fault: Failed) -> Stop {
@@ -141,20 +125,9 @@ impl Session {
         requires askers { (1 ≤ askers) × (askers ≤ 64) }
         ensures { IfOk result (λ s. s ≡ nothing_held) }
     {
-        let (to, tasks) = tasks(alloc)?;
-        let (to_merge, merges) = merge_tasks(alloc)?;
-        Ok(Session {
-            catalogue: Catalogue::new(alloc),
-            runs: HeldRuns::new(alloc),
-            end: None,
-            alloc,
-            hands: Hands::of(to, workers),
-            tasks,
-            to_merge,
-            merges,
-            askers: Askers::of(askers),
-            spare: Spare::new(alloc),
-        })
+        let catalogue = Catalogue::new(alloc);
+        let runs = HeldRuns::new(alloc);
+        Session::holding(alloc, catalogue, runs, None, workers, askers)
     }
 
     /// A session of a log that was opened: it holds what the log holds, and answers of each version
@@ -186,12 +159,34 @@ impl Session {
         let log = OpenLog { end, format };
         catalogue.is_in_order();
         let runs = HeldRuns::recalled(rt, alloc, &catalogue, stores)?;
+        Session::holding(alloc, catalogue, runs, Some(log), workers, askers)
+    }
+
+    /// A session that holds this, with channels of its own.
+    fn holding(
+        alloc: Global,
+        catalogue: Catalogue,
+        runs: HeldRuns,
+        end: Option<OpenLog>,
+        workers: u32,
+        askers: u32,
+    ) -> Result<Session, NoMemory>
+        requires workers { (1 ≤ workers) × (workers ≤ 64) }
+        requires askers { (1 ≤ askers) × (askers ≤ 64) }
+        requires service { IsInService catalogue runs }
+        ensures { IfOk result (λ s. s ≡ record {
+          held = catalogue;
+          logged = logged_in runs;
+          stored = stored_in runs;
+          end = option_map place_of end;
+        }) }
+    {
         let (to, tasks) = tasks(alloc)?;
         let (to_merge, merges) = merge_tasks(alloc)?;
         Ok(Session {
             catalogue,
             runs,
-            end: Some(log),
+            end,
             alloc,
             hands: Hands::of(to, workers),
             tasks,

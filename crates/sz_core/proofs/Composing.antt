@@ -33,7 +33,8 @@ use Rattle.sz_core.specs.Starts.{start, fits_step}
 use Rattle.sz_core.specs.States.{Shelf, shelf_at, whole_pairs}
 use Rattle.sz_core.proofs.Ending.{states_lemma, ended_lemma}
 use Rattle.sz_core.proofs.Going.{image-extent}
-use Rattle.sz_core.proofs.Starting.{source-there, step-shelf, follow-shape, first-there}
+use Rattle.sz_spec.proofs.Chains.{first-there}
+use Rattle.sz_core.proofs.Starting.{source-there, step-shelf, follow-shape}
 use Rattle.sz_core.proofs.Starting.{equal-extents, fit-parts}
 use Rattle.sz_spec.proofs.FlowShapes.{inputs-shapes, shapes-found}
 use Rattle.sz_spec.proofs.PayloadLineage.{extent-of_input}

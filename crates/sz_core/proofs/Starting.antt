@@ -26,7 +26,7 @@ use Rattle.sz_spec.specs.declared.flow.SourceRef.TheVariants as source
 use Rattle.sz_spec.specs.declared.modes.Dir.{Dir}
 use Rattle.sz_spec.specs.declared.modes.Dir.TheVariants.{Back, Forward}
 use Rattle.sz_spec.specs.declared.op.Op.{Op}
-use Rattle.sz_spec.specs.declared.op.Op.TheVariants.{Add, Sub, Mul, Min, Max, Lookup}
+use Rattle.sz_spec.specs.declared.op.Op.TheVariants.{Lookup}
 use Rattle.sz_spec.specs.Flows.{Graph, is_source, flow_fault}
 use Rattle.sz_spec.specs.FlowShapes.{source_shape, node_inputs, output_shapes}
 use Rattle.sz_spec.specs.LawsFlows.{IsRightNode}
@@ -44,6 +44,7 @@ use Rattle.sz_core.specs.Starts.{is_pair_of}
 use Rattle.sz_core.specs.Starts.{is_shelf, are_shelves, fits_step, is_query, are_queries}
 use Rattle.sz_core.specs.States.{Shelf, Query, shelf_at, no_shelf}
 use Rattle.sz_core.proofs.Relations.{extent-at}
+use Rattle.sz_spec.proofs.Chains.{first-there}
 use Rattle.sz_spec.proofs.FlowOutputs.{well-formed_parts}
 use Rattle.sz_spec.proofs.FlowShapes.{wider, outputs-length}
 
@@ -83,11 +84,6 @@ node-at g n m x none within at order =
 
 -- an operator takes at most two inputs
 pub arity-few : (op : Op) → arity op ≤ 2
-arity-few Add = omega arith
-arity-few Sub = omega arith
-arity-few Mul = omega arith
-arity-few Min = omega arith
-arity-few Max = omega arith
 arity-few Lookup = omega arith
 arity-few _ = omega arith
 
@@ -270,14 +266,6 @@ output-of : (g : Graph) (base : List Extent) (s : Step) (n : ℕ) (r : SourceRef
     → source_shape base (shapes_made g base) r ≡ extent_at (shapes_made g base) n
 output-of g base s n (source.Input i) is = absurd (true≢false (sym is))
 output-of g base s n (source.Node m) is = ap (extent_at (shapes_made g base)) (eqb-true m n is)
-
--- the first step of a joined path is of the flow
-pub first-there : (dir : Dir) (g : Graph) (s : Step) (path : List Step) → are_joined dir g (s ∷ path) ≡ true
-    → is_there (source_of g s) ≡ true
-first-there dir g s [] joined = joined
-first-there dir g s (t ∷ path) joined =
-    (and_parts (is_there (source_of g s)) (follows dir g s t)
-    (and_parts (is_there (source_of g s) && follows dir g s t) (are_joined dir g (t ∷ path)) joined).0).0
 
 -- a step that follows another takes the cells to which that one leads
 pub follow-shape : (dir : Dir) (g : Graph) (base : List Extent) (pairs : List (List (List Pair))) (s t : Step)

@@ -7,3 +7,4 @@ pub mod Links
 pub mod Invariants
 pub mod Laws
 pub mod Examples
+mod Terms

@@ -1,10 +1,7 @@
 //! Asks: queries on their way.
 
-ghost use Rattle.std.specs.Prelude.{◌≡◌, ◌<◌, ◌+◌, length};
-ghost use Rattle.std.specs.Option.{option_map};
-ghost use Rattle.sz_core.specs.Events.{next_step};
-ghost use Rattle.sz_core.specs.Starts.{first_ask};
-ghost use Rattle.sz_core.specs.Steps.{step_of};
+ghost use Rattle.sz_core.specs.Terms.{◌≡◌, ◌<◌, ◌+◌, length, option_map, next_step, first_ask};
+ghost use Rattle.sz_core.specs.Terms.{step_of};
 
 use std::marker::Model;
 use sz_cells::CellSet;

@@ -1,15 +1,11 @@
 //! An index of pairs: from each cell on one side to the cells on the other side.
 
-ghost use Rattle.std.specs.Prelude.{◌≡◌, ℕ, ◌<◌, ◌≤◌, ◌+◌, ◌-◌, ◌==◌, ◌||◌};
-ghost use Rattle.std.specs.Prelude.{◌&&◌, true, [], All, IfOk, OnErr, length, map};
-ghost use Rattle.std.specs.Prelude.{replicate};
-ghost use Rattle.std.specs.List.{list_any, flat_map};
-ghost use Rattle.sz_cells.specs.Extent.{size_of, index_of};
-ghost use Rattle.sz_cells.specs.Cells.{with_those};
-ghost use Rattle.sz_cells.specs.Runs.{AreRunsFrom, indexes_of};
-ghost use Rattle.sz_core.specs.Links.{near_cell, far_cell, leads, groups_lead, pair_leads};
-ghost use Rattle.sz_core.specs.Links.{LiesWithin};
-ghost use Rattle.sz_core.specs.Links.{LeadInto, IsSpelled, is_among, cells_linked, is_linked_from};
+ghost use Rattle.sz_core.specs.Terms.{◌≡◌, ℕ, ◌<◌, ◌≤◌, ◌+◌, ◌-◌, ◌==◌, ◌||◌, ◌&&◌, true, [], All};
+ghost use Rattle.sz_core.specs.Terms.{IfOk, OnErr, length, map, replicate, list_any, flat_map};
+ghost use Rattle.sz_core.specs.Terms.{size_of, index_of, with_those, AreRunsFrom, indexes_of};
+ghost use Rattle.sz_core.specs.Terms.{near_cell, far_cell, leads, groups_lead, pair_leads};
+ghost use Rattle.sz_core.specs.Terms.{LiesWithin, LeadInto, IsSpelled, is_among, cells_linked};
+ghost use Rattle.sz_core.specs.Terms.{is_linked_from};
 
 use crate::pairs::Pair;
 use std::alloc::Global;

@@ -1,10 +1,10 @@
 //! Laws of the machine, for a reader: each function has an empty body, and its contract is the law.
 
-ghost use Rattle.sz_core.specs.Laws.{StatesAreSound, NoEventChangesWhatIsToCome};
-ghost use Rattle.sz_core.specs.Laws.{EndedAsksHoldTheComposition};
-ghost use Rattle.sz_core.specs.Laws.{OrderDoesNotMatter, LooksAreFromStoresThatWereSealed};
-ghost use Rattle.sz_core.specs.Laws.{PlacedPiecesAreNotReadBeforeTheSeal};
-ghost use Rattle.sz_core.specs.Laws.{EndedAsksHoldTheComposedRelation};
+ghost use Rattle.sz_core.specs.Terms.{StatesAreSound, NoEventChangesWhatIsToCome};
+ghost use Rattle.sz_core.specs.Terms.{EndedAsksHoldTheComposition, OrderDoesNotMatter};
+ghost use Rattle.sz_core.specs.Terms.{LooksAreFromStoresThatWereSealed};
+ghost use Rattle.sz_core.specs.Terms.{PlacedPiecesAreNotReadBeforeTheSeal};
+ghost use Rattle.sz_core.specs.Terms.{EndedAsksHoldTheComposedRelation};
 
 /// Each sealed shelf has every piece placed, before any event and after each.
 pub fn states_are_sound()

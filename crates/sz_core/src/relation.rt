@@ -1,13 +1,9 @@
 //! The pairs of a shelf with an index for each input and each direction.
 
-ghost use Rattle.std.specs.Prelude.{◌≡◌, ℕ, ◌<◌, ◌≤◌, ◌^◌, [], ◌∷◌, All, IfOk, length};
-ghost use Rattle.std.specs.Prelude.{map};
-ghost use Rattle.std.specs.List.{flat_map};
-ghost use Rattle.sz_cells.specs.Extent.{size_of};
-ghost use Rattle.sz_spec.specs.Sides.{extent_before, extent_after};
-ghost use Rattle.sz_core.specs.Images.{image_by};
-ghost use Rattle.sz_core.specs.Links.{HasPairs, AreIndexesOf, PairsLieWithin, LiesWithin};
-ghost use Rattle.sz_core.specs.Links.{relation_of};
+ghost use Rattle.sz_core.specs.Terms.{◌≡◌, ℕ, ◌<◌, ◌≤◌, ◌^◌, [], ◌∷◌, All, IfOk, length, map};
+ghost use Rattle.sz_core.specs.Terms.{flat_map, size_of, extent_before, extent_after, image_by};
+ghost use Rattle.sz_core.specs.Terms.{HasPairs, AreIndexesOf, PairsLieWithin, LiesWithin};
+ghost use Rattle.sz_core.specs.Terms.{relation_of};
 
 use crate::index::Index;
 use crate::pairs::Pair;

@@ -1,14 +1,9 @@
 //! The shelf of a node: its pairs, which pieces are placed, and whether it is sealed.
 
-ghost use Rattle.std.specs.Prelude.{◌≡◌, ℕ, ◌<◌, ◌≤◌, ◌^◌, [], true, false, IfOk, OnErr, OnOk};
-ghost use Rattle.std.specs.Prelude.{length, map};
-ghost use Rattle.std.specs.List.{slice_index_or};
-ghost use Rattle.sz_cells.specs.Extent.{size_of};
-ghost use Rattle.sz_core.specs.Events.{place_reply, after_place, seal_reply, after_seal};
-ghost use Rattle.sz_spec.specs.Sides.{extent_before};
-ghost use Rattle.sz_core.specs.Images.{image_by};
-ghost use Rattle.sz_core.specs.Links.{PairsLieWithin, relation_of};
-ghost use Rattle.sz_core.specs.States.{pairs_taken};
+ghost use Rattle.sz_core.specs.Terms.{◌≡◌, ℕ, ◌<◌, ◌≤◌, ◌^◌, [], true, false, IfOk, OnErr, OnOk};
+ghost use Rattle.sz_core.specs.Terms.{length, map, slice_index_or, size_of, place_reply};
+ghost use Rattle.sz_core.specs.Terms.{after_place, seal_reply, after_seal, extent_before, image_by};
+ghost use Rattle.sz_core.specs.Terms.{PairsLieWithin, relation_of, pairs_taken};
 
 use crate::events::Told;
 use crate::pairs::Pair;

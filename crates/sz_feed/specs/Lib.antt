@@ -8,3 +8,4 @@ pub mod Plain
 pub mod Running
 pub mod Calls
 pub mod Laws
+mod Terms

@@ -9,26 +9,19 @@
 //! A session of a log writes what a line makes durable before the line's reply is said, and asks do
 //! not wait there. So a stop finds the replies of so many lines, and a part of the next one's, and
 //! the log of what is durable behind those lines or behind the next one too (`FindsBehind`).
-ghost use Rattle.std.specs.Prelude.{◌≡◌, ℕ, List, Option, ◌<◌, ◌≤◌, ◌+◌, ◌-◌, ◌^◌};
-ghost use Rattle.std.specs.Prelude.{◌++◌, [], ◌∷◌, Err, IfOk, OnOk, OnErr, MatchOption, length};
-ghost use Rattle.std.specs.Prelude.{drop, take, slice_index, true, false, None};
-ghost use Rattle.std.specs.List.{AllByRecursion};
-ghost use Rattle.sz_commands.specs.States.{apart};
-ghost use Rattle.sz_commands.specs.Lines.{is_blank, is_within_line, last_line};
-ghost use Rattle.sz_commands.specs.Transcript.{after_lines};
-ghost use Rattle.sz_script.specs.Right.{is_right};
-ghost use Rattle.sz_feed.specs.Moments.{moment_before, cut_after, told_in, told_at_end, Alike};
-ghost use Rattle.sz_feed.specs.Serving.{Advances, line_to_say};
-ghost use Rattle.sz_commands.specs.States.{nothing_held};
-ghost use Rattle.sz_commands.specs.Asks.{IsAskLine, asks_text};
-ghost use Rattle.sz_commands.specs.Given.{LineGives, IsRight, Takes};
-ghost use Rattle.sz_feed.specs.Waiting.{Lags, SaysBy, told_text};
+ghost use Rattle.sz_feed.specs.Terms.{◌≡◌, ℕ, List, Option, ◌<◌, ◌≤◌, ◌+◌, ◌-◌, ◌^◌, ◌++◌, [], ◌∷◌};
+ghost use Rattle.sz_feed.specs.Terms.{IfOk, OnOk, MatchOption, length, drop, take};
+ghost use Rattle.sz_feed.specs.Terms.{slice_index, true, false, None, AllByRecursion, apart};
+ghost use Rattle.sz_feed.specs.Terms.{is_blank, is_within_line, last_line, after_lines, is_right};
+ghost use Rattle.sz_feed.specs.Terms.{moment_before, cut_after, told_in, told_at_end, Alike};
+ghost use Rattle.sz_feed.specs.Terms.{Advances, line_to_say, nothing_held, IsAskLine, asks_text};
+ghost use Rattle.sz_feed.specs.Terms.{LineGives, IsRight, Takes, Lags, SaysBy, told_text, IsBeside};
+ghost use Rattle.sz_feed.specs.Terms.{SaysText, SaysReplies, IsSaid, IsTaken, IsAnswered};
+ghost use Rattle.sz_feed.specs.Terms.{AreWaiting, stop_halt};
 ghost use Rattle.sz_commands.specs.declared.session.Given.TheVariants as given;
-ghost use Rattle.sz_feed.specs.Running.{IsBeside};
-ghost use Rattle.sz_feed.specs.Calls.{SaysText, SaysReplies, IsSaid, IsTaken, IsAnswered};
-ghost use Rattle.sz_feed.specs.Calls.{AreWaiting};
+ghost use Rattle.sz_feed.specs.declared.feed.Halt.TheVariants as halt;
 
-use std::alloc::{AllocError, Global};
+use std::alloc::Global;
 use std::marker::Model;
 use std::sync::Wait;
 use std::thread::Threads;
@@ -72,9 +65,6 @@ pub enum Halt {
 
 /// A say that failed.
 impl From<Failed> for Halt {
-    ghost use Rattle.std.specs.Prelude.{◌≡◌};
-    ghost use Rattle.sz_feed.specs.declared.feed.Halt.TheVariants as halt;
-
     ghost from_gives = { λ _ e. e ≡ halt.SayFault };
 
     fn from(_fault: Failed) -> Halt {
@@ -84,9 +74,6 @@ impl From<Failed> for Halt {
 
 /// A line that was not taken.
 impl From<Stop> for Halt {
-    ghost use Rattle.std.specs.Prelude.{◌≡◌};
-    ghost use Rattle.sz_feed.specs.Waiting.{stop_halt};
-
     ghost from_gives = { λ stop e. e ≡ stop_halt stop };
 
     fn from(stop: Stop) -> Halt {
@@ -97,21 +84,7 @@ impl From<Stop> for Halt {
     }
 }
 
-impl From<AllocError> for Halt {
-    ghost use Rattle.std.specs.Prelude.{◌≡◌};
-    ghost use Rattle.sz_feed.specs.declared.feed.Halt.TheVariants as halt;
-
-    ghost from_gives = { λ _ e. e ≡ halt.NoMemory };
-
-    fn from(_fault: AllocError) -> Halt {
-        Halt::NoMemory
-    }
-}
-
 impl From<NoMemory> for Halt {
-    ghost use Rattle.std.specs.Prelude.{◌≡◌};
-    ghost use Rattle.sz_feed.specs.declared.feed.Halt.TheVariants as halt;
-
     ghost from_gives = { λ _ e. e ≡ halt.NoMemory };
 
     fn from(_fault: NoMemory) -> Halt {
@@ -214,14 +187,13 @@ impl Feed {
 
     /// Takes in bytes of the line that has not ended. Of a line past the limit no more is kept than
     /// tells its reply.
-    fn extend(&mut self, bytes: &[u8]) -> Result<(), Halt>
+    fn extend(&mut self, bytes: &[u8]) -> Result<(), NoMemory>
         requires { is_within_line bytes.now ≡ true }
         ensures takes { OnOk result (
             (said : Option (List ℕ)) → Advances said said self.old self.new bytes.now) }
         ensures number { self.new.number ≡ self.old.number }
         ensures held { self.new.held ≡ self.old.held }
         ensures end { self.new.end ≡ self.old.end }
-        ensures err { OnErr result (result ≡ Err Halt.NoMemory) }
     {
         let kept = bytes_to_keep(&self.pending, bytes);
         self.pending.extend_from_slice(kept)?;

@@ -1,3 +1,4 @@
 pub mod Executions
 pub mod Laws
 pub mod Nodes
+mod Terms

@@ -1,13 +1,8 @@
 //! What a node takes, and its operator at the shapes of that.
 
-ghost use Rattle.std.specs.Prelude.{◌≡◌, true, length, map, All, Ok, IfOk};
-ghost use Rattle.std.specs.Arc.{arc_value};
-ghost use Rattle.sz_cells.specs.Extent.{Extent};
-ghost use Rattle.sz_spec.specs.Values.{extents_of};
-ghost use Rattle.sz_spec.specs.Shapes.{arity, has_right_parameters, shape_of};
-ghost use Rattle.sz_spec.specs.Flows.{is_source, array_of};
-ghost use Rattle.sz_flow.specs.Executions.{site_over};
-ghost use Rattle.sz_flow.specs.Nodes.{inputs_among};
+ghost use Rattle.sz_flow.specs.Terms.{◌≡◌, true, length, map, All, Ok, IfOk, arc_value, Extent};
+ghost use Rattle.sz_flow.specs.Terms.{extents_of, arity, has_right_parameters, shape_of, is_source};
+ghost use Rattle.sz_flow.specs.Terms.{array_of, site_over, inputs_among};
 
 use crate::node_run::NodeRun;
 use std::alloc::Global;

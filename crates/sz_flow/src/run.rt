@@ -1,11 +1,8 @@
 //! Runs of a flow's nodes, one after another.
 
-ghost use Rattle.std.specs.Prelude.{◌≡◌, true, length, map, IfOk};
-ghost use Rattle.std.specs.Arc.{arc_value};
-ghost use Rattle.sz_spec.specs.Flows.{is_well_formed};
-ghost use Rattle.sz_spec.specs.LawsFlows.{IsRightNode};
-ghost use Rattle.sz_flow.specs.Executions.{execution, executions, execution_of, FlowFits};
-ghost use Rattle.sz_flow.specs.Nodes.{NodeFits, inputs_among};
+ghost use Rattle.sz_flow.specs.Terms.{◌≡◌, true, length, map, IfOk, arc_value, is_well_formed};
+ghost use Rattle.sz_flow.specs.Terms.{IsRightNode, execution, executions, execution_of, FlowFits};
+ghost use Rattle.sz_flow.specs.Terms.{NodeFits, inputs_among};
 
 use crate::inputs::{inputs_of, site_over};
 use crate::node_run::NodeRun;

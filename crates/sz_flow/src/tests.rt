@@ -1,8 +1,6 @@
 //! The values of an array computed side by side, and where they are.
 
-ghost use Rattle.std.specs.Prelude.{◌≡◌, IfOk};
-ghost use Rattle.std.specs.Arc.{arc_value};
-ghost use Rattle.sz_cells.specs.Extent.{flat};
+ghost use Rattle.sz_flow.specs.Terms.{◌≡◌, IfOk, arc_value, flat};
 
 use crate::output::{is_side_by_side, side_by_side};
 use std::alloc::Global;

@@ -3,3 +3,4 @@ pub mod Formats
 pub mod Words
 pub mod Twice
 pub mod Laws
+mod Terms

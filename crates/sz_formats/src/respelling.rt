@@ -1,13 +1,9 @@
 //! The stores of a list in the other format.
 
-ghost use Rattle.std.specs.Prelude.{◌≡◌, ◌∷◌, ◌++◌, [], ℕ, List, length, IfOk, IfErr, OnErr};
-ghost use Rattle.sz_region.specs.LawsStores.{AreRight};
-ghost use Rattle.sz_region.specs.Stores.{OnBad};
-ghost use Rattle.sz_short.specs.ShortStores.{RespellsFull, RespellsPay, NoFullBegins, NoPayBegins};
-ghost use Rattle.sz_store.specs.Kept.{stored_in};
-ghost use Rattle.sz_formats.specs.Formats.{spelling, other_than};
-ghost use Rattle.sz_formats.specs.Words.{NoneBeginIn};
-ghost use Rattle.sz_formats.specs.Twice.{AreTwice, from_format, span};
+ghost use Rattle.sz_formats.specs.Terms.{◌≡◌, ◌∷◌, ◌++◌, [], ℕ, List, length, IfOk, IfErr, OnErr};
+ghost use Rattle.sz_formats.specs.Terms.{AreRight, OnBad, RespellsFull, RespellsPay, NoFullBegins};
+ghost use Rattle.sz_formats.specs.Terms.{NoPayBegins, stored_in, spelling, other_than, NoneBeginIn};
+ghost use Rattle.sz_formats.specs.Terms.{AreTwice, from_format, span};
 
 use std::alloc::Global;
 use sz_region::Take;

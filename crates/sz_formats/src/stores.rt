@@ -1,14 +1,8 @@
 //! The stores of a node, written and read.
 
-ghost use Rattle.std.specs.Prelude.{◌≡◌, ◌≤◌, ◌∷◌, ◌++◌, ℕ, List, length, true, All};
-ghost use Rattle.std.specs.Prelude.{IfOk, IfErr, OnOk, OnErr};
-ghost use Rattle.std.specs.Arc.{arc_value};
-ghost use Rattle.sz_spec.specs.Modes.{supports};
-ghost use Rattle.sz_region.specs.LawsStores.{AreRight};
-ghost use Rattle.sz_region.specs.Stores.{OnBad};
-ghost use Rattle.sz_store.specs.Kept.{stored_in, is_whole};
-ghost use Rattle.sz_formats.specs.Formats.{is_format};
-ghost use Rattle.sz_formats.specs.Words.{BeginEachIn, NoneBeginIn};
+ghost use Rattle.sz_formats.specs.Terms.{◌≡◌, ◌≤◌, ◌∷◌, ◌++◌, ℕ, List, length, true, All, IfOk};
+ghost use Rattle.sz_formats.specs.Terms.{IfErr, OnOk, OnErr, arc_value, supports, AreRight, OnBad};
+ghost use Rattle.sz_formats.specs.Terms.{stored_in, is_whole, is_format, BeginEachIn, NoneBeginIn};
 
 use crate::respelling::respell_each;
 use std::alloc::Global;

@@ -142,6 +142,13 @@ pub traced-unrelated : (dir : Dir) (relation : Cell → Cell → Bool) (from : C
     → any_cell (λ c. relation o c) from ≡ false → traced dir relation from o x ≡ false
 traced-unrelated dir relation from o x forward none = rw (forward, none) refl
 
+-- a cell that leads nowhere adds nothing to a bitmap
+pub traced-none : (dir : Dir) (relation : Cell → Cell → Bool) (from to : Cells) (o : Cell)
+    → AreRising 0 (size_of to.extent) to.indexes → ((x : Cell) → traced dir relation from o x ≡ false)
+    → to ≡ with_those to (traced dir relation from o)
+traced-none dir relation from to o rises none =
+    with-none to (traced dir relation from o) (own-at to to.extent refl rises) (λ x held. none x)
+
 -- the cells of the far side that all output cells add are the image
 image-traced : (dir : Dir) (s : Site) (i : ℕ) (relation : Cell → Cell → Bool) (from : Cells) (x : Cell)
     → from ≡ cells_where (near_side dir s i) (has from) → holds (far_side dir s i) x ≡ true

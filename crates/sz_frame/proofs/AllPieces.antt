@@ -16,8 +16,7 @@ use Rattle.sz_cells.specs.Extent.{Extent, holds, index_of}
 use Rattle.sz_cells.specs.Cells.{has}
 use Rattle.sz_cells.proofs.Sets.{index-below, any-filter_range_at}
 use Rattle.sz_spec.specs.Pieces.{pieces_of, is_in_piece}
-use Rattle.sz_frame.specs.Parts.{Pairing, Entry}
-use Rattle.sz_frame.specs.Stands.{set_of, has_entry}
+use Rattle.sz_frame.specs.Stands.{set_of}
 use Rattle.sz_frame.specs.Fits.{IsRegion, IsEntry}
 use Rattle.sz_frame.specs.Laws.{RegionsOfAllPiecesAreTheRelation}
 use Rattle.sz_frame.specs.Laws.{PayloadsOfAllPiecesAreTheRelation}
@@ -65,65 +64,62 @@ not-inside e j o true other inside =
     absurd (true≢false (sym (eq-eqb j (index_of e o / 64) same) ∙ other))
 
 -- what is looked for of the cell among what another piece has
-none-there : {X : Type 0} (e : Extent) (j : ℕ) (o : Cell) (P : X → Type 0) (here rest : X → Bool) (xs : List X)
-    → (j == index_of e o / 64) ≡ false → ((x : X) → P x → here x ≡ true → is_in_piece e j o ≡ true)
+none-there : {X : Type 0} (e : Extent) (j : ℕ) (o : Cell) (P : X → Type 0) (p : X → Bool) (xs : List X)
+    → (j == index_of e o / 64) ≡ false → ((x : X) → P x → p x ≡ true → is_in_piece e j o ≡ true)
     → All P xs
-    → list_any (λ x. here x && rest x) xs ≡ false
-none-there e j o P here rest [] other inside all = refl
-none-there e j o P here rest (x ∷ xs) other inside all =
-    let out = not-inside e j o (here x) other (inside x (All-head P x xs all)) in
-    rw out (none-there e j o P here rest xs other inside (All-tail P x xs all))
+    → list_any p xs ≡ false
+none-there e j o P p [] other inside all = refl
+none-there e j o P p (x ∷ xs) other inside all =
+    let out = not-inside e j o (p x) other (inside x (All-head P x xs all)) in
+    rw out (none-there e j o P p xs other inside (All-tail P x xs all))
 
-none-had : {X : Type 0} (e : Extent) (j : ℕ) (o : Cell) (P : X → Type 0) (here : X → Bool) (xs : List X)
-    → (j == index_of e o / 64) ≡ false → ((x : X) → P x → here x ≡ true → is_in_piece e j o ≡ true)
-    → All P xs
-    → list_any here xs ≡ false
-none-had e j o P here [] other inside all = refl
-none-had e j o P here (x ∷ xs) other inside all =
-    let out = not-inside e j o (here x) other (inside x (All-head P x xs all)) in
-    rw out (none-had e j o P here xs other inside (All-tail P x xs all))
+-- so among what all pieces have, it is looked for in its own
+any-in_own : {X : Type 0} (e : Extent) (o : Cell) (P : ℕ → X → Type 0) (p : X → Bool) (of : ℕ → List X)
+    → holds e o ≡ true → ((j : ℕ) (x : X) → P j x → p x ≡ true → is_in_piece e j o ≡ true)
+    → ((j : ℕ) → j < pieces_of e → All (P j) (of j))
+    → list_any p (flat_map of (range_with_len 0 (pieces_of e))) ≡ list_any p (of (index_of e o / 64))
+any-in_own e o P p of held inside each =
+    any-flat_map p of (range_with_len 0 (pieces_of e))
+    ∙ any-one (λ j. list_any p (of j)) (pieces_of e) (index_of e o / 64) (own-piece e o held).0
+    (λ j below other. none-there e j o (P j) p (of j) other (inside j) (each j below))
+
+-- and what stands there of those with the cell stands among all
+stands-in_all : {X : Type 0} (e : Extent) (o : Cell) (P : ℕ → X → Type 0) (here rest : X → Bool) (of : ℕ → List X)
+    (found : Bool)
+    → holds e o ≡ true → ((j : ℕ) (x : X) → P j x → here x ≡ true → is_in_piece e j o ≡ true)
+    → ((j : ℕ) → j < pieces_of e → All (P j) (of j))
+    → ((k : ℕ) → k < pieces_of e → is_in_piece e k o ≡ true → list_any (λ x. here x && rest x) (of k) ≡ found)
+    → list_any (λ x. here x && rest x) (flat_map of (range_with_len 0 (pieces_of e))) ≡ found
+stands-in_all e o P here rest of found held inside each stands =
+    let own = own-piece e o held in
+    any-in_own e o P (λ x. here x && rest x) of held
+    (λ j x is both. inside j x is (and_parts (here x) (rest x) both).0) each
+    ∙ stands (index_of e o / 64) own.0 own.1
 
 -- region pairs
 pub regions-all : RegionsOfAllPiecesAreTheRelation
 regions-all m list parts fits need i o x few held there =
-    let k = index_of m.out o / 64 in
-    let own = own-piece m.out o held in
-    let p : Pairing → Bool = λ r. has r.out o && has (set_of r i) x in
-    any-flat_map p (λ j. (parts j).regions) (range_with_len 0 (pieces_of m.out))
-    ∙ any-one (λ j. list_any p (parts j).regions) (pieces_of m.out) k own.0
-    (λ j below other.
-    none-there m.out j o (IsRegion m j) (λ r. has r.out o) (λ r. has (set_of r i) x) (parts j).regions other (λ r
-    is. is.out.inside o) ((fits j below).full need).each)
-    ∙ ((fits k own.0).full need).stands i o x few own.1 there
+    stands-in_all m.out o (IsRegion m) (λ r. has r.out o) (λ r. has (set_of r i) x) (λ j. (parts j).regions) _ held
+    (λ j r is. is.out.inside o) (λ j below. ((fits j below).full need).each)
+    (λ k below own. ((fits k below).full need).stands i o x few own there)
 
 -- payload entries
 pub pays-all : PayloadsOfAllPiecesAreTheRelation
 pays-all m list parts fits need i o x few held there =
-    let k = index_of m.out o / 64 in
-    let own = own-piece m.out o held in
-    let p : Entry → Bool = λ e. has e.out o && m.kept e.payload i o x in
-    any-flat_map p (λ j. (parts j).pays) (range_with_len 0 (pieces_of m.out))
-    ∙ any-one (λ j. list_any p (parts j).pays) (pieces_of m.out) k own.0
-    (λ j below other.
-    none-there m.out j o (IsEntry m j) (λ e. has e.out o) (λ e. m.kept e.payload i o x) (parts j).pays other (λ e
-    is. is.out.inside o) ((fits j below).pay need).each)
-    ∙ ((fits k own.0).pay need).stands i o x few own.1 there
+    stands-in_all m.out o (IsEntry m) (λ e. has e.out o) (λ e. m.kept e.payload i o x) (λ j. (parts j).pays) _ held
+    (λ j e is. is.out.inside o) (λ j below. ((fits j below).pay need).each)
+    (λ k below own. ((fits k below).pay need).stands i o x few own there)
 
 -- composite entries
 pub comps-all : OverridesOfAllPiecesAreTheRelation
 comps-all m list parts fits need i o x few held there =
     let k = index_of m.out o / 64 in
     let own = own-piece m.out o held in
-    let p : Entry → Bool = λ e. has e.out o && m.kept e.payload i o x in
-    let stood = any-flat_map p (λ j. (parts j).comps) (range_with_len 0 (pieces_of m.out))
-    ∙ any-one (λ j. list_any p (parts j).comps) (pieces_of m.out) k own.0
-    (λ j below other.
-    none-there m.out j o (IsEntry m j) (λ e. has e.out o) (λ e. m.kept e.payload i o x) (parts j).comps other (λ e
-    is. is.out.inside o) ((fits j below).comp need).each) in
-    let had = any-flat_map (λ (e : Entry). has e.out o) (λ j. (parts j).comps) (range_with_len 0 (pieces_of m.out))
-    ∙ any-one (λ j. has_entry (parts j).comps o) (pieces_of m.out) k own.0
-    (λ j below other.
-    none-had m.out j o (IsEntry m j) (λ e. has e.out o) (parts j).comps other (λ e is. is.out.inside o) ((fits j
-    below).comp need).each) in
+    let each : (j : ℕ) → j < pieces_of m.out → All (IsEntry m j) (parts j).comps =
+    λ j below. ((fits j below).comp need).each in
+    let stood = any-in_own m.out o (IsEntry m) (λ e. has e.out o && m.kept e.payload i o x) (λ j. (parts j).comps) held
+    (λ j e is both. is.out.inside o (and_parts (has e.out o) (m.kept e.payload i o x) both).0) each in
+    let had = any-in_own m.out o (IsEntry m) (λ e. has e.out o) (λ j. (parts j).comps) held
+    (λ j e is there. is.out.inside o there) each in
     ap₂ (λ (b c : Bool). if b then c else m.default i o x) had stood
     ∙ ((fits k own.0).comp need).stands i o x few own.1 there

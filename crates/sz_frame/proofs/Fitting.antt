@@ -528,13 +528,6 @@ pub all-looked : (e : Extent) (k size end : ℕ) → k < pieces_of e → size �
     → end - k * 64 ≡ cells_in_piece e k
 all-looked e k size end below whole upto = omega (arith, whole, upto)
 
--- so they are few, and of the output
-pub few-looked : (e : Extent) (keep : Cell → Keeping) (k n : ℕ) (kept : List Keeping) → k < pieces_of e
-    → n ≡ cells_in_piece e k → kept ≡ keepings e keep (k * 64) n
-    → (length kept ≤ 64) × (k * 64 + length kept ≤ size_of e)
-few-looked e keep k n kept below all is =
-    let long = keepings-length e keep (k * 64) n kept is in (omega (arith, long, all), omega (arith, long, all))
-
 -- ---- the whole lineage of a piece
 
 -- each part that is needed fits, and each other one is empty

@@ -8,3 +8,4 @@ pub mod Groups
 pub mod Written
 pub mod Folding
 pub mod Laws
+mod Terms

@@ -1,11 +1,7 @@
 //! Folds of the numbers of many cells into one, a number at a time.
 
-ghost use Rattle.std.specs.Prelude.{◌≡◌, ℤ, ◌+◌, ◌<◌, ◌^◌, ◌++◌, ◌∷◌, [], List, length};
-ghost use Rattle.std.specs.Prelude.{Some};
-ghost use Rattle.std.specs.List.{reduce};
-ghost use Rattle.std.specs.Int.{int_min, int_max};
-ghost use Rattle.sz_spec.specs.Operators.Folds.{fold_of};
-ghost use Rattle.sz_frame.specs.Folding.{summary_of, numbers_in};
+ghost use Rattle.sz_frame.specs.Terms.{◌≡◌, ℤ, ◌+◌, ◌<◌, ◌^◌, ◌++◌, ◌∷◌, [], List, length, Some};
+ghost use Rattle.sz_frame.specs.Terms.{reduce, int_min, int_max, fold_of, summary_of, numbers_in};
 
 use std::marker::Model;
 use sz_spec::{Fold, Value};

@@ -1,19 +1,12 @@
 //! The frame of all operators: what a run, a trace, a piece and an image do is written here once,
 //! over what differs from one operator to the next.
 
-ghost use Rattle.std.specs.Prelude.{◌≡◌, ◌<◌, ◌+◌, ◌^◌, List, true, false, length, map, IfOk};
-ghost use Rattle.std.specs.Arc.{arc_value};
-ghost use Rattle.sz_cells.specs.Extent.{holds, index_of, size_of};
-ghost use Rattle.sz_cells.specs.Cells.{any_cell, has, with_those};
-ghost use Rattle.sz_spec.specs.Values.{Grid, extent_at, extents_of, input_at};
-ghost use Rattle.sz_spec.specs.Shapes.{Site, IsSite};
-ghost use Rattle.sz_spec.specs.LawsShapes.{AreExtents};
-ghost use Rattle.sz_spec.specs.Lineage.{related, mapped};
-ghost use Rattle.sz_spec.specs.Evaluation.{value_of, output_of};
-ghost use Rattle.sz_spec.specs.Payloads.{payload_of, overrides};
-ghost use Rattle.sz_spec.specs.Work.{IsAtWork};
-ghost use Rattle.sz_frame.specs.Images.{related_cells};
-ghost use Rattle.sz_frame.specs.Groups.{lineage_kind, payload_kind};
+ghost use Rattle.sz_frame.specs.Terms.{◌≡◌, ◌<◌, ◌+◌, ◌^◌, List, true, false, length, map, IfOk};
+ghost use Rattle.sz_frame.specs.Terms.{arc_value, holds, index_of, size_of, any_cell, has};
+ghost use Rattle.sz_frame.specs.Terms.{with_those, Grid, extent_at, extents_of, input_at, Site};
+ghost use Rattle.sz_frame.specs.Terms.{IsSite, AreExtents, related, mapped, value_of, output_of};
+ghost use Rattle.sz_frame.specs.Terms.{payload_of, overrides, IsAtWork, related_cells};
+ghost use Rattle.sz_frame.specs.Terms.{lineage_kind, payload_kind};
 
 use crate::payload::Payload;
 use std::alloc::Global;

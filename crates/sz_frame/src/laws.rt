@@ -1,10 +1,10 @@
 //! Laws of the definitions, for a reader: each function has an empty body, and its contract is the
 //! law.
 
-ghost use Rattle.sz_frame.specs.Laws.{RegionsOfAllPiecesAreTheRelation};
-ghost use Rattle.sz_frame.specs.Laws.{PayloadsOfAllPiecesAreTheRelation};
-ghost use Rattle.sz_frame.specs.Laws.{OverridesOfAllPiecesAreTheRelation};
-ghost use Rattle.sz_frame.specs.Laws.{WhatIsKeptIsRight, EachCellHasOnePayload};
+ghost use Rattle.sz_frame.specs.Terms.{RegionsOfAllPiecesAreTheRelation};
+ghost use Rattle.sz_frame.specs.Terms.{PayloadsOfAllPiecesAreTheRelation};
+ghost use Rattle.sz_frame.specs.Terms.{OverridesOfAllPiecesAreTheRelation, WhatIsKeptIsRight};
+ghost use Rattle.sz_frame.specs.Terms.{EachCellHasOnePayload};
 
 /// Where the lineage of each piece fits, all of them together stand for exactly the relation.
 pub fn fitting_pieces_make_the_relation()

@@ -1,9 +1,7 @@
 //! The lineage of one piece of an output array.
 
-ghost use Rattle.std.specs.Prelude.{◌≡◌, ◌<◌, ◌++◌, [], ◌∷◌, map, length, OnOk, OnErr};
-ghost use Rattle.std.specs.Prelude.{if◌then◌else◌};
-ghost use Rattle.std.specs.Arc.{arc_value};
-ghost use Rattle.sz_frame.specs.Parts.{no_parts, most_entries};
+ghost use Rattle.sz_frame.specs.Terms.{◌≡◌, ◌<◌, ◌++◌, [], ◌∷◌, map, length, OnOk, OnErr};
+ghost use Rattle.sz_frame.specs.Terms.{if◌then◌else◌, arc_value, no_parts, most_entries};
 
 use crate::payload::PayEntry;
 use crate::region::Region;

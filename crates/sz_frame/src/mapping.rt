@@ -1,16 +1,9 @@
 //! Operators with a mapping of cells: what differs from one to the next is here, and what they
 //! share when they are at work is written once over it.
 
-ghost use Rattle.std.specs.Prelude.{◌≡◌, ◌<◌, true, length, map, IfOk};
-ghost use Rattle.std.specs.Arc.{arc_value};
-ghost use Rattle.sz_cells.specs.Extent.{holds, index_of};
-ghost use Rattle.sz_cells.specs.Cells.{any_cell, cells_where, with_those};
-ghost use Rattle.sz_spec.specs.Values.{extent_at};
-ghost use Rattle.sz_spec.specs.Shapes.{Site};
-ghost use Rattle.sz_spec.specs.Lineage.{mapped};
-ghost use Rattle.sz_spec.specs.Modes.{has_mapping};
-ghost use Rattle.sz_spec.specs.Evaluation.{value_of};
-ghost use Rattle.sz_spec.specs.Work.{IsAtWork};
+ghost use Rattle.sz_frame.specs.Terms.{◌≡◌, ◌<◌, true, length, map, IfOk, arc_value, holds};
+ghost use Rattle.sz_frame.specs.Terms.{index_of, any_cell, cells_where, with_those, extent_at};
+ghost use Rattle.sz_frame.specs.Terms.{Site, mapped, has_mapping, value_of, IsAtWork};
 
 use crate::frame::AtWork;
 use crate::payload::Payload;

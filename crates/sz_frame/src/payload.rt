@@ -1,6 +1,6 @@
 //! Payloads, and the entries that keep them.
 
-ghost use Rattle.std.specs.Prelude.{◌≡◌};
+ghost use Rattle.sz_frame.specs.Terms.{◌≡◌};
 
 use std::marker::Model;
 use std::sync::Arc;

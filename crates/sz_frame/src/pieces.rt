@@ -1,20 +1,13 @@
 //! The lineage of one piece of any operator's output: one walk over the piece's cells says how each
 //! part keeps them, and then each part has one entry for those that are kept together.
 
-ghost use Rattle.std.specs.Prelude.{◌≡◌, ◌<◌, ◌≤◌, ◌+◌, ◌-◌, ◌^◌, ◌&&◌, ◌++◌, ◌∷◌, [], true};
-ghost use Rattle.std.specs.Prelude.{false, length, map, All, IfOk, OnOk, OnErr};
-ghost use Rattle.std.specs.Prelude.{if◌then◌else◌};
-ghost use Rattle.std.specs.Arc.{arc_value};
-ghost use Rattle.sz_cells.specs.Extent.{holds, size_of};
-ghost use Rattle.sz_spec.specs.Work.{IsAtWork};
-ghost use Rattle.sz_spec.specs.Modes.{supports};
-ghost use Rattle.sz_spec.specs.Pieces.{pieces_of};
-ghost use Rattle.sz_frame.specs.Fits.{Fits, is_mode, needs};
-ghost use Rattle.sz_frame.specs.Groups.{leads};
-ghost use Rattle.sz_frame.specs.Images.{measure_of};
-ghost use Rattle.sz_frame.specs.Written.{full_keeping, pay_keeping, comp_keeping, keepings};
-ghost use Rattle.sz_frame.specs.Written.{region_by, regions_by, entry_by, entries_by};
-ghost use Rattle.sz_frame.specs.Written.{with_entries, cells_in_piece, parts_by};
+ghost use Rattle.sz_frame.specs.Terms.{◌≡◌, ◌<◌, ◌≤◌, ◌+◌, ◌-◌, ◌^◌, ◌&&◌, ◌++◌, ◌∷◌, [], true};
+ghost use Rattle.sz_frame.specs.Terms.{false, length, map, All, IfOk, OnOk, OnErr, if◌then◌else◌};
+ghost use Rattle.sz_frame.specs.Terms.{arc_value, holds, size_of, IsAtWork, supports, pieces_of};
+ghost use Rattle.sz_frame.specs.Terms.{Fits, is_mode, needs, leads, measure_of, full_keeping};
+ghost use Rattle.sz_frame.specs.Terms.{pay_keeping, comp_keeping, keepings, region_by, regions_by};
+ghost use Rattle.sz_frame.specs.Terms.{entry_by, entries_by, with_entries, cells_in_piece};
+ghost use Rattle.sz_frame.specs.Terms.{parts_by};
 
 use crate::frame::AtWork;
 use crate::groups::{Keeping, group, keeping_of, leads};
@@ -124,6 +117,8 @@ fn look<A: AtWork>(
         ≡ keepings s.out (pay_keeping wanted.pay s.op (A.inputs at.now)) start (end - start)) }
     ensures comp { let s = A.site at.now in IfOk result (λ l. l.comp.items
         ≡ keepings s.out (comp_keeping wanted.comp s.op (A.inputs at.now)) start (end - start)) }
+    ensures long { IfOk result (λ l. (length l.full.items ≡ end - start)
+        × (length l.pay.items ≡ end - start) × (length l.comp.items ≡ end - start)) }
     ensures ticks { OnOk result (tally.new ≡ tally.old + (end - start)) }
 {
     let shape = at.out();

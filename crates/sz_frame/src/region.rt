@@ -1,7 +1,6 @@
 //! Region pairs.
 
-ghost use Rattle.std.specs.Prelude.{◌≡◌, map};
-ghost use Rattle.std.specs.Arc.{arc_value};
+ghost use Rattle.sz_frame.specs.Terms.{◌≡◌, map, arc_value};
 
 use std::marker::Model;
 use std::sync::Arc;

@@ -1,10 +1,7 @@
 //! Sets of one cell or none.
 
-ghost use Rattle.std.specs.Prelude.{◌≡◌, true, Option, IfSome, IfOk};
-ghost use Rattle.std.specs.Arc.{arc_value};
-ghost use Rattle.sz_cells.specs.Extent.{holds};
-ghost use Rattle.sz_cells.specs.Cells.{any_cell, cells_where, with_those};
-ghost use Rattle.sz_frame.specs.Single.{is_cell};
+ghost use Rattle.sz_frame.specs.Terms.{◌≡◌, true, Option, IfSome, IfOk, arc_value, holds, any_cell};
+ghost use Rattle.sz_frame.specs.Terms.{cells_where, with_those, is_cell};
 
 use std::alloc::Global;
 use std::sync::Arc;

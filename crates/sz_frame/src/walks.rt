@@ -1,15 +1,10 @@
 //! Runs, traces and images of any operator, each one walk over the cells of an array in row-major
 //! order.
 
-ghost use Rattle.std.specs.Prelude.{◌≡◌, ◌<◌, ◌+◌, ◌^◌, true, length, map, IfOk};
-ghost use Rattle.std.specs.Arc.{arc_value};
-ghost use Rattle.sz_cells.specs.Extent.{holds, index_of, cell_of, size_of};
-ghost use Rattle.sz_cells.specs.Cells.{has, with_those};
-ghost use Rattle.sz_spec.specs.Evaluation.{output_of};
-ghost use Rattle.sz_spec.specs.Lineage.{related, mapped};
-ghost use Rattle.sz_spec.specs.Work.{IsAtWork};
-ghost use Rattle.sz_spec.specs.Sides.{near_side, far_side, image_in};
-ghost use Rattle.sz_frame.specs.Walks.{traced, steps, values_before};
+ghost use Rattle.sz_frame.specs.Terms.{◌≡◌, ◌<◌, ◌+◌, ◌^◌, true, length, map, IfOk, arc_value};
+ghost use Rattle.sz_frame.specs.Terms.{holds, index_of, cell_of, size_of, has, with_those};
+ghost use Rattle.sz_frame.specs.Terms.{output_of, related, mapped, IsAtWork, near_side, far_side};
+ghost use Rattle.sz_frame.specs.Terms.{image_in, traced, steps, values_before};
 
 use crate::frame::AtWork;
 use std::alloc::Global;

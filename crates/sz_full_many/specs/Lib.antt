@@ -1,2 +1,3 @@
 -- Region pairs by rectangles round their sets.
 pub mod Indexed
+mod Terms

@@ -1,15 +1,9 @@
 //! Rectangles round sets of cells, and the trees in which they are found.
 
-ghost use Rattle.std.specs.Prelude.{◌≡◌, ℕ, ◌<◌, ◌≤◌, ◌+◌, ◌^◌, [], length, map, true};
-ghost use Rattle.std.specs.Prelude.{IfOk, IfSome, OnOk, All, IsSomeAnd, slice_index_or};
-ghost use Rattle.sz_cells.specs.declared.Cell.{Cell};
-ghost use Rattle.sz_cells.specs.Cells.{has};
-ghost use Rattle.sz_cells.specs.Laws.{IsInBounds};
-ghost use Rattle.sz_rtree.specs.Rectangles.{Rectangles};
-ghost use Rattle.sz_full_many.specs.Indexed.{HasNext, trees_for, AreRound};
-ghost use Rattle.sz_tables.specs.Rows.{pairings};
-ghost use Rattle.sz_tables.specs.Scans.{near_set, pairing_at};
-ghost use Rattle.sz_tables.specs.Sets.{IsRound};
+ghost use Rattle.sz_full_many.specs.Terms.{◌≡◌, ℕ, ◌<◌, ◌≤◌, ◌+◌, ◌^◌, [], length, map, true, IfOk};
+ghost use Rattle.sz_full_many.specs.Terms.{IfSome, OnOk, All, IsSomeAnd, slice_index_or, Cell, has};
+ghost use Rattle.sz_full_many.specs.Terms.{IsInBounds, Rectangles, HasNext, trees_for, AreRound};
+ghost use Rattle.sz_full_many.specs.Terms.{pairings, near_set, pairing_at, IsRound};
 
 use std::alloc::Global;
 use sz_cells::{Bounds, Cell, CellBits, NoMemory};

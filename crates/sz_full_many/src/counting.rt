@@ -1,9 +1,7 @@
 //! How many runs the sets of region pairs have.
 
-ghost use Rattle.std.specs.Prelude.{◌≡◌, ◌≤◌, ◌*◌, ◌+◌, length, map, sum_by, All};
-ghost use Rattle.std.specs.Arc.{arc_value};
-ghost use Rattle.sz_tables.specs.Rows.{weight_of};
-ghost use Rattle.sz_tables.specs.Stores.{cells_in, most_given};
+ghost use Rattle.sz_full_many.specs.Terms.{◌≡◌, ◌≤◌, ◌*◌, ◌+◌, length, map, sum_by, All, arc_value};
+ghost use Rattle.sz_full_many.specs.Terms.{weight_of, cells_in, most_given};
 
 use std::sync::Arc;
 use sz_frame::Region;

@@ -26,18 +26,13 @@
 //! a test, and one that is too narrow is refused.
 #![tactic(auto)]
 
-ghost use Rattle.std.specs.Prelude.{◌≡◌, ℕ, ◌<◌, ◌≤◌, ◌+◌, List, [], ◌∷◌, ◌++◌, length, map};
-ghost use Rattle.std.specs.Prelude.{All, OnOk, OnErr, IfOk, IfErr, true};
-ghost use Rattle.std.specs.Arc.{arc_value};
-ghost use Rattle.sz_cells.specs.Cells.{has, with_those};
-ghost use Rattle.sz_spec.specs.Sides.{near_side, far_side, image_in};
-ghost use Rattle.sz_frame.specs.Stands.{full_stands};
-ghost use Rattle.sz_region.specs.FullBytes.{Listed, IsFullWord, BeginsRegions};
-ghost use Rattle.sz_region.specs.Stores.{SaysNoRegions};
-ghost use Rattle.sz_tables.specs.Rows.{weight_of, pairings};
-ghost use Rattle.sz_tables.specs.Tables.{AreDifferent};
-ghost use Rattle.sz_tables.specs.Apart.{AreOneOrApart, HaveInputsApart};
-ghost use Rattle.sz_tables.specs.Stores.{IsPairOf, IsWithin, room_for_pairs, no_room, most_given};
+ghost use Rattle.sz_full_many.specs.Terms.{◌≡◌, ℕ, ◌<◌, ◌≤◌, ◌+◌, List, [], ◌∷◌, ◌++◌, length, map};
+ghost use Rattle.sz_full_many.specs.Terms.{All, OnOk, OnErr, IfOk, IfErr, true, arc_value, has};
+ghost use Rattle.sz_full_many.specs.Terms.{with_those, near_side, far_side, image_in, full_stands};
+ghost use Rattle.sz_full_many.specs.Terms.{Listed, IsFullWord, BeginsRegions, SaysNoRegions};
+ghost use Rattle.sz_full_many.specs.Terms.{weight_of, pairings, AreDifferent, AreOneOrApart};
+ghost use Rattle.sz_full_many.specs.Terms.{HaveInputsApart, IsPairOf, IsWithin, room_for_pairs};
+ghost use Rattle.sz_full_many.specs.Terms.{no_room, most_given};
 
 mod bounds;
 mod counting;

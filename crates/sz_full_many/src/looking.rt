@@ -1,12 +1,8 @@
 //! Looks by rectangles.
 
-ghost use Rattle.std.specs.Prelude.{◌≡◌, ◌<◌, length};
-ghost use Rattle.sz_cells.specs.Cells.{has, with_those};
-ghost use Rattle.sz_spec.specs.Sides.{extent_before, extent_after, image_between};
-ghost use Rattle.sz_frame.specs.Stands.{full_stands};
-ghost use Rattle.sz_tables.specs.Rows.{pairings};
-ghost use Rattle.sz_tables.specs.Sets.{IsRound};
-ghost use Rattle.sz_full_many.specs.Indexed.{AreRound, tree_for};
+ghost use Rattle.sz_full_many.specs.Terms.{◌≡◌, ◌<◌, length, has, with_those, extent_before};
+ghost use Rattle.sz_full_many.specs.Terms.{extent_after, image_between, full_stands, pairings};
+ghost use Rattle.sz_full_many.specs.Terms.{IsRound, AreRound, tree_for};
 
 use crate::bounds::bounds_of_bits;
 use sz_cells::{Bounds, CellBits};

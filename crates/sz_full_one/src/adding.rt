@@ -1,12 +1,9 @@
 //! Adding region pairs to a table and to its index.
 
-ghost use Rattle.std.specs.Prelude.{◌≡◌, ℕ, ◌<◌, ◌≤◌, ◌+◌, [], ◌∷◌, ◌++◌, length, map, sum_by};
-ghost use Rattle.std.specs.Prelude.{All, true};
-ghost use Rattle.std.specs.Arc.{arc_value};
-ghost use Rattle.sz_tables.specs.Rows.{pairings, weight_of};
-ghost use Rattle.sz_full_one.specs.ByCells.{IsIndexOf, IsPairIn, HasRoom, pair_cells};
-ghost use Rattle.sz_full_one.specs.ByCells.{index_capacities};
-ghost use Rattle.sz_tables.specs.Apart.{AreOneOrApart, HaveInputsApart};
+ghost use Rattle.sz_full_one.specs.Terms.{◌≡◌, ℕ, ◌<◌, ◌≤◌, ◌+◌, [], ◌∷◌, ◌++◌, length, map};
+ghost use Rattle.sz_full_one.specs.Terms.{sum_by, All, true, arc_value, pairings, weight_of};
+ghost use Rattle.sz_full_one.specs.Terms.{IsIndexOf, IsPairIn, HasRoom, pair_cells};
+ghost use Rattle.sz_full_one.specs.Terms.{index_capacities, AreOneOrApart, HaveInputsApart};
 
 use crate::index::Index;
 use std::sync::Arc;

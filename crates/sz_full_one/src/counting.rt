@@ -1,10 +1,7 @@
 //! How many runs and cells the sets of region pairs have.
 
-ghost use Rattle.std.specs.Prelude.{◌≡◌, ◌+◌, map, sum_by, IfOk};
-ghost use Rattle.std.specs.Arc.{arc_value};
-ghost use Rattle.sz_tables.specs.Rows.{runs_in, weight_of};
-ghost use Rattle.sz_tables.specs.Stores.{cells_in};
-ghost use Rattle.sz_full_one.specs.ByCells.{pair_cells};
+ghost use Rattle.sz_full_one.specs.Terms.{◌≡◌, ◌+◌, map, sum_by, IfOk, arc_value, runs_in};
+ghost use Rattle.sz_full_one.specs.Terms.{weight_of, cells_in, pair_cells};
 
 use std::sync::Arc;
 use sz_cells::{CellSet, NoMemory};

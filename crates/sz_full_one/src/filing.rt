@@ -1,9 +1,6 @@
 //! Filing an item under each cell of a set.
 
-ghost use Rattle.std.specs.Prelude.{◌≡◌, ◌<◌, ◌≤◌, length};
-ghost use Rattle.sz_cells.specs.Extent.{size_of};
-ghost use Rattle.sz_cells.specs.Runs.{indexes_of};
-ghost use Rattle.sz_full_one.specs.ByCells.{with_filed};
+ghost use Rattle.sz_full_one.specs.Terms.{◌≡◌, ◌<◌, ◌≤◌, length, size_of, indexes_of, with_filed};
 
 use sz_cells::{CellSet, Run};
 use sz_tables::Chains;

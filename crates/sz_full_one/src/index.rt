@@ -1,14 +1,11 @@
 //! Where region pairs are found: by the cells of the sets from which looks start.
 
-ghost use Rattle.std.specs.Prelude.{◌≡◌, ℕ, ◌<◌, ◌≤◌, ◌+◌, length, All, OnOk, IfOk};
-ghost use Rattle.std.specs.Prelude.{slice_index_or, map};
-ghost use Rattle.sz_cells.specs.Extent.{Extent};
-ghost use Rattle.sz_tables.specs.Rows.{RowTable, empty_rows};
-ghost use Rattle.sz_full_one.specs.ByCells.{IsIndexOf, AreFilesOf, AreFiledByIns, AreSetsFiled};
-ghost use Rattle.sz_full_one.specs.ByCells.{IsGrownBy};
-ghost use Rattle.sz_full_one.specs.ByCells.{HasRoom, HasFileRoom, HasSameEntries, HasSameFiles};
-ghost use Rattle.sz_full_one.specs.ByCells.{pair_cells, side_of, file_capacities};
-ghost use Rattle.sz_full_one.specs.ByCells.{index_capacities};
+ghost use Rattle.sz_full_one.specs.Terms.{◌≡◌, ℕ, ◌<◌, ◌≤◌, ◌+◌, length, All, OnOk, IfOk};
+ghost use Rattle.sz_full_one.specs.Terms.{slice_index_or, map, Extent, RowTable, empty_rows};
+ghost use Rattle.sz_full_one.specs.Terms.{IsIndexOf, AreFilesOf, AreFiledByIns, AreSetsFiled};
+ghost use Rattle.sz_full_one.specs.Terms.{IsGrownBy, HasRoom, HasFileRoom, HasSameEntries};
+ghost use Rattle.sz_full_one.specs.Terms.{HasSameFiles, pair_cells, side_of, file_capacities};
+ghost use Rattle.sz_full_one.specs.Terms.{index_capacities};
 
 use crate::filing::file_set;
 use std::alloc::Global;

@@ -23,18 +23,12 @@
 //! of the set that it handled last (`IsDone`), and begins each ask without one.
 #![tactic(auto)]
 
-ghost use Rattle.std.specs.Prelude.{◌≡◌, ◌<◌, ◌≤◌, ◌+◌, [], ◌∷◌, ◌++◌, length, All};
-ghost use Rattle.std.specs.Prelude.{OnOk, OnErr, IfOk, IfErr, List, ℕ, map, true};
-ghost use Rattle.std.specs.Arc.{arc_value};
-ghost use Rattle.sz_cells.specs.Cells.{has, with_those};
-ghost use Rattle.sz_spec.specs.Sides.{near_side, far_side, image_in};
-ghost use Rattle.sz_region.specs.FullBytes.{Listed, IsFullWord, BeginsRegions};
-ghost use Rattle.sz_frame.specs.Stands.{full_stands};
-ghost use Rattle.sz_region.specs.Stores.{SaysNoRegions};
-ghost use Rattle.sz_tables.specs.Rows.{pairings};
-ghost use Rattle.sz_tables.specs.Stores.{IsPairOf, IsWithin, room_for_pairs, no_room, most_given};
-ghost use Rattle.sz_tables.specs.Tables.{AreDifferent};
-ghost use Rattle.sz_tables.specs.Apart.{HaveInputsApart};
+ghost use Rattle.sz_full_one.specs.Terms.{◌≡◌, ◌<◌, ◌≤◌, ◌+◌, [], ◌∷◌, ◌++◌, length, All, OnOk};
+ghost use Rattle.sz_full_one.specs.Terms.{OnErr, IfOk, IfErr, List, ℕ, map, true, arc_value, has};
+ghost use Rattle.sz_full_one.specs.Terms.{with_those, near_side, far_side, image_in, Listed};
+ghost use Rattle.sz_full_one.specs.Terms.{IsFullWord, BeginsRegions, full_stands, SaysNoRegions};
+ghost use Rattle.sz_full_one.specs.Terms.{pairings, IsPairOf, IsWithin, room_for_pairs, no_room};
+ghost use Rattle.sz_full_one.specs.Terms.{most_given, AreDifferent, HaveInputsApart};
 
 mod adding;
 mod counting;

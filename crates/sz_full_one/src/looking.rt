@@ -1,15 +1,10 @@
 //! Looks at an index: from each asked cell along its entries, and to the sets that these lead to.
 
-ghost use Rattle.std.specs.Prelude.{◌≡◌, ◌<◌, length, IsTrue, ◌↔◌, Some, All};
-ghost use Rattle.sz_cells.specs.Cells.{has, with_those};
-ghost use Rattle.sz_cells.specs.Extent.{size_of, cell_of};
-ghost use Rattle.sz_spec.specs.Sides.{extent_before, extent_after, image_between};
-ghost use Rattle.sz_spec.specs.Values.{extent_at};
-ghost use Rattle.sz_frame.specs.Stands.{full_stands};
-ghost use Rattle.sz_frame.specs.Walks.{steps};
-ghost use Rattle.sz_tables.specs.Rows.{pairings, sets_of, set_at, IsRowOf};
-ghost use Rattle.sz_full_one.specs.ByCells.{IsIndexOf, AreFiledByOuts, AreFiledByIns, IsDone};
-ghost use Rattle.sz_full_one.specs.ByCells.{adds, side_of};
+ghost use Rattle.sz_full_one.specs.Terms.{◌≡◌, ◌<◌, length, IsTrue, ◌↔◌, Some, All, has};
+ghost use Rattle.sz_full_one.specs.Terms.{with_those, size_of, cell_of, extent_before};
+ghost use Rattle.sz_full_one.specs.Terms.{extent_after, image_between, extent_at, full_stands};
+ghost use Rattle.sz_full_one.specs.Terms.{steps, pairings, sets_of, set_at, IsRowOf, IsIndexOf};
+ghost use Rattle.sz_full_one.specs.Terms.{AreFiledByOuts, AreFiledByIns, IsDone, adds, side_of};
 
 use crate::index::{Index, SetFiles};
 use sz_cells::CellBits;

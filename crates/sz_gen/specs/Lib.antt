@@ -4,3 +4,4 @@ pub mod Lists
 pub mod Session
 pub mod Laws
 pub mod Summary
+mod Terms

@@ -1,7 +1,7 @@
 //! Laws of the definitions, for a reader: each function has an empty body, and its contract is the
 //! law.
 
-ghost use Rattle.sz_gen.specs.Laws.{SessionsHave42Lines, DrawsAreBelow};
+ghost use Rattle.sz_gen.specs.Terms.{SessionsHave42Lines, DrawsAreBelow};
 
 /// Every seed and side make 42 lines.
 pub fn sessions_have_42_lines()

@@ -1,8 +1,6 @@
 //! The two texts.
 
-ghost use Rattle.std.specs.Prelude.{◌≡◌, ◌≤◌, IfOk};
-ghost use Rattle.sz_gen.specs.Session.{load_text};
-ghost use Rattle.sz_gen.specs.Summary.{summary_line};
+ghost use Rattle.sz_gen.specs.Terms.{◌≡◌, ◌≤◌, IfOk, load_text, summary_line};
 
 use crate::NoMemory;
 use crate::draft::Draft;

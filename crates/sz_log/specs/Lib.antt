@@ -3,3 +3,4 @@ pub mod Laws
 pub mod Log
 pub mod Places
 pub mod Steps
+mod Terms

@@ -1,12 +1,10 @@
 //! Adding a group to a log.
-ghost use Rattle.std.specs.Prelude.{◌≡◌, ◌≤◌, ◌<◌, ◌+◌, ◌^◌, ◌++◌, ◌∷◌, [], List, ℕ, Some, true};
-ghost use Rattle.std.specs.Prelude.{IfOk, OnOk, is_ok, length, None};
-ghost use Rattle.std.specs.Int.{w64, to_be_bytes};
-ghost use Rattle.sz_outside.specs.Calls.{KeepsOutput, Steps};
-ghost use Rattle.sz_outside.specs.Counts.{faults_after};
-ghost use Rattle.sz_outside.specs.Disk.{Told, Passes, Said, Only, HasPlace, Writes, written};
-ghost use Rattle.sz_log.specs.Log.{LogGroup, EndsAt, is_kind, bytes_behind_gate, group_bytes};
-ghost use Rattle.sz_log.specs.Steps.{Added, AddsOrKeeps, KeepsFront, place_behind};
+ghost use Rattle.sz_log.specs.Terms.{◌≡◌, ◌≤◌, ◌<◌, ◌+◌, ◌^◌, ◌++◌, ◌∷◌, [], List, ℕ, Some, true};
+ghost use Rattle.sz_log.specs.Terms.{IfOk, OnOk, is_ok, length, None, w64, to_be_bytes};
+ghost use Rattle.sz_log.specs.Terms.{KeepsOutput, Steps, faults_after, Told, Passes, Said, Only};
+ghost use Rattle.sz_log.specs.Terms.{HasPlace, Writes, written, LogGroup, EndsAt, is_kind};
+ghost use Rattle.sz_log.specs.Terms.{bytes_behind_gate, group_bytes, Added, AddsOrKeeps};
+ghost use Rattle.sz_log.specs.Terms.{KeepsFront, place_behind};
 
 use crate::LogEnd;
 use crate::writing::{put, write};

@@ -16,7 +16,7 @@
 //! ```
 #![tactic(auto)]
 
-ghost use Rattle.sz_log.specs.Laws.{GroupsAreRead};
+ghost use Rattle.sz_log.specs.Terms.{GroupsAreRead};
 
 mod appending;
 mod groups;

@@ -1,10 +1,8 @@
 //! Making a disk the empty log.
-ghost use Rattle.std.specs.Prelude.{◌≡◌, List, ℕ, Some, [], IfOk, OnOk, is_ok, length};
-ghost use Rattle.sz_outside.specs.Calls.{KeepsOutput, Steps};
-ghost use Rattle.sz_outside.specs.Counts.{faults_after};
-ghost use Rattle.sz_outside.specs.Disk.{Told, Passes, Said, Only, Cut, Same};
-ghost use Rattle.sz_log.specs.Log.{empty_log};
-ghost use Rattle.sz_log.specs.Steps.{Makes, MakesIfFree, JudgesTold, IsMade, Spares, is_no_failure};
+ghost use Rattle.sz_log.specs.Terms.{◌≡◌, List, ℕ, Some, [], IfOk, OnOk, is_ok, length};
+ghost use Rattle.sz_log.specs.Terms.{KeepsOutput, Steps, faults_after, Told, Passes, Said, Only};
+ghost use Rattle.sz_log.specs.Terms.{Cut, Same, empty_log, Makes, MakesIfFree, JudgesTold, IsMade};
+ghost use Rattle.sz_log.specs.Terms.{Spares, is_no_failure};
 
 use crate::groups::is_log;
 use crate::writing::put;

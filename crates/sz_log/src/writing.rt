@@ -1,9 +1,7 @@
 //! Writing at a place of the disk, and putting it where a stop leaves it.
-ghost use Rattle.std.specs.Prelude.{◌≡◌, ◌≤◌, ◌<◌, ◌+◌, ◌^◌, List, ℕ, Some, IfOk, OnOk, is_ok};
-ghost use Rattle.std.specs.Prelude.{length, None};
-ghost use Rattle.sz_outside.specs.Calls.{KeepsOutput, Steps};
-ghost use Rattle.sz_outside.specs.Counts.{faults_after};
-ghost use Rattle.sz_outside.specs.Disk.{Torn, Only, written};
+ghost use Rattle.sz_log.specs.Terms.{◌≡◌, ◌≤◌, ◌<◌, ◌+◌, ◌^◌, List, ℕ, Some, IfOk, OnOk, is_ok};
+ghost use Rattle.sz_log.specs.Terms.{length, None, KeepsOutput, Steps, faults_after, Torn, Only};
+ghost use Rattle.sz_log.specs.Terms.{written};
 
 use sz_outside::{Failed, Station};
 

@@ -11,3 +11,4 @@ pub mod Marks
 pub mod Merged
 pub mod Stood
 pub mod Laws
+mod Terms

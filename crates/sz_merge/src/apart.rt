@@ -1,14 +1,9 @@
 //! Region pairs of a table that are kinds of lineage as they are, told one after another: none has
 //! an output cell or the input set of one before it.
 
-ghost use Rattle.std.specs.Prelude.{◌≡◌, ◌<◌, ◌≤◌, [], ◌∷◌, ◌++◌, List, length, true, false};
-ghost use Rattle.std.specs.Prelude.{IfOk, slice_index_or, slice_set};
-ghost use Rattle.sz_cells.specs.Cells.{Cells};
-ghost use Rattle.sz_frame.specs.Stands.{set_of};
-ghost use Rattle.sz_tables.specs.Rows.{pairings, row_at, number_in, sets_of};
-ghost use Rattle.sz_tables.specs.Scans.{pairing_at};
-ghost use Rattle.sz_merge.specs.Apart.{IsFurther};
-ghost use Rattle.sz_merge.specs.Distinct.{AreKinds};
+ghost use Rattle.sz_merge.specs.Terms.{◌≡◌, ◌<◌, ◌≤◌, [], ◌∷◌, ◌++◌, List, length, true, false};
+ghost use Rattle.sz_merge.specs.Terms.{IfOk, slice_index_or, slice_set, Cells, set_of, pairings};
+ghost use Rattle.sz_merge.specs.Terms.{row_at, number_in, sets_of, pairing_at, IsFurther, AreKinds};
 
 use std::alloc::Global;
 use sz_cells::{CellBits, NoMemory, Shape};

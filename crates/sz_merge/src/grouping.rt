@@ -1,9 +1,8 @@
 //! The cells of each number, as runs.
 
-ghost use Rattle.std.specs.Prelude.{◌≡◌, ◌<◌, ◌≤◌, ◌+◌, ◌^◌, [], length, All, IfOk, OnOk};
-ghost use Rattle.std.specs.Prelude.{slice_index_or};
-ghost use Rattle.std.specs.List.{filter, range_with_len};
-ghost use Rattle.sz_merge.specs.Marks.{AreGroups, HasCellMore, is_kind};
+ghost use Rattle.sz_merge.specs.Terms.{◌≡◌, ◌<◌, ◌≤◌, ◌+◌, ◌^◌, [], length, All, IfOk, OnOk};
+ghost use Rattle.sz_merge.specs.Terms.{slice_index_or, filter, range_with_len, AreGroups};
+ghost use Rattle.sz_merge.specs.Terms.{HasCellMore, is_kind};
 
 use std::alloc::Global;
 use std::marker::Model;

@@ -1,11 +1,7 @@
 //! Lineages joined with the input sets of region pairs.
 
-ghost use Rattle.std.specs.Prelude.{◌≡◌, ◌<◌, map, length, Some, IfOk};
-ghost use Rattle.std.specs.List.{slice_get};
-ghost use Rattle.std.specs.Arc.{arc_value};
-ghost use Rattle.sz_cells.specs.Cells.{union_of};
-ghost use Rattle.sz_merge.specs.Lineages.{joined, list_at, KeepsNumbers};
-ghost use Rattle.sz_merge.specs.Marks.{IsNext};
+ghost use Rattle.sz_merge.specs.Terms.{◌≡◌, ◌<◌, map, length, Some, IfOk, slice_get, arc_value};
+ghost use Rattle.sz_merge.specs.Terms.{union_of, joined, list_at, KeepsNumbers, IsNext};
 
 use crate::lineages::LineageTable;
 use std::alloc::Global;

@@ -1,17 +1,9 @@
 //! Region pairs, one for each kind of lineage.
 
-ghost use Rattle.std.specs.Prelude.{◌≡◌, ◌<◌, ◌^◌, ◌==◌, ◌&&◌, ◌++◌, ℕ, List, [], ◌∷◌, map, length};
-ghost use Rattle.std.specs.Prelude.{All, IfOk, OnOk, not, nat_lt, if◌then◌else◌};
-ghost use Rattle.std.specs.Arc.{arc_value};
-ghost use Rattle.sz_cells.specs.declared.Cell.{Cell};
-ghost use Rattle.sz_cells.specs.Extent.{size_of};
-ghost use Rattle.sz_cells.specs.Runs.{AreRunsFrom};
-ghost use Rattle.sz_region.specs.Putting.{HasShapes};
-ghost use Rattle.sz_frame.specs.Stands.{full_stands};
-ghost use Rattle.sz_tables.specs.Tables.{spelled};
-ghost use Rattle.sz_merge.specs.Distinct.{AreKinds};
-ghost use Rattle.sz_merge.specs.Lineages.{list_at};
-ghost use Rattle.sz_merge.specs.Marks.{kinds_below};
+ghost use Rattle.sz_merge.specs.Terms.{◌≡◌, ◌<◌, ◌^◌, ◌==◌, ◌&&◌, ◌++◌, ℕ, List, [], ◌∷◌, map};
+ghost use Rattle.sz_merge.specs.Terms.{length, All, IfOk, OnOk, not, nat_lt, if◌then◌else◌};
+ghost use Rattle.sz_merge.specs.Terms.{arc_value, Cell, size_of, AreRunsFrom, HasShapes};
+ghost use Rattle.sz_merge.specs.Terms.{full_stands, spelled, AreKinds, list_at, kinds_below};
 
 use crate::grouping::{Grouping, group_cells};
 use crate::lineages::LineageTable;

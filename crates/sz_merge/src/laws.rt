@@ -1,7 +1,7 @@
 //! Laws of the definitions, for a reader: each function has an empty body, and its contract is the
 //! law.
 
-ghost use Rattle.sz_merge.specs.Laws.{NumbersToldAreThoseKept, NumbersToldAreTheKinds};
+ghost use Rattle.sz_merge.specs.Terms.{NumbersToldAreThoseKept, NumbersToldAreTheKinds};
 
 /// The number that is told of each store with region pairs is how many kinds of lineage it had
 /// before it was merged: how many different ones its output cells have by what it stands for, over

@@ -25,12 +25,9 @@
 //! ```
 #![tactic(auto)]
 
-ghost use Rattle.std.specs.Prelude.{◌≡◌, ℕ, List, [], true, length, All, IfOk, OnOk};
-ghost use Rattle.std.specs.Arc.{arc_value};
-ghost use Rattle.sz_spec.specs.Modes.{supports};
-ghost use Rattle.sz_store.specs.Kept.{is_whole, stored_in};
-ghost use Rattle.sz_store.specs.Words.{BeginEach};
-ghost use Rattle.sz_merge.specs.Merged.{AreMerged, AreRead};
+ghost use Rattle.sz_merge.specs.Terms.{◌≡◌, ℕ, List, [], true, length, All, IfOk, OnOk, arc_value};
+ghost use Rattle.sz_merge.specs.Terms.{supports, is_whole, stored_in, BeginEach, AreMerged};
+ghost use Rattle.sz_merge.specs.Terms.{AreRead};
 
 mod apart;
 mod gate;

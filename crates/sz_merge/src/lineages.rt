@@ -1,13 +1,8 @@
 //! Lineages by number, each different one once.
 
-ghost use Rattle.std.specs.Prelude.{◌≡◌, ◌<◌, ◌≤◌, ◌+◌, ◌++◌, All, map, length, true, Some, IfOk};
-ghost use Rattle.std.specs.Prelude.{OnOk};
-ghost use Rattle.std.specs.List.{slice_get};
-ghost use Rattle.std.specs.Arc.{arc_value};
-ghost use Rattle.sz_cells.specs.Extent.{is_extent};
-ghost use Rattle.sz_cells.specs.SetBytes.{IsSetOf};
-ghost use Rattle.sz_tables.specs.Tables.{AreDifferent};
-ghost use Rattle.sz_merge.specs.Lineages.{nothing, spelling, list_at, KeepsNumbers};
+ghost use Rattle.sz_merge.specs.Terms.{◌≡◌, ◌<◌, ◌≤◌, ◌+◌, ◌++◌, All, map, length, true, Some};
+ghost use Rattle.sz_merge.specs.Terms.{IfOk, OnOk, slice_get, arc_value, is_extent, IsSetOf};
+ghost use Rattle.sz_merge.specs.Terms.{AreDifferent, nothing, spelling, list_at, KeepsNumbers};
 
 use std::alloc::Global;
 use std::marker::Model;

@@ -1,13 +1,8 @@
 //! Output cells with the numbers of their lineages: region pair by region pair.
 
-ghost use Rattle.std.specs.Prelude.{◌≡◌, ◌<◌, ◌≤◌, map, length, All, Some, IfOk, OnOk};
-ghost use Rattle.std.specs.List.{slice_get};
-ghost use Rattle.std.specs.Arc.{arc_value};
-ghost use Rattle.sz_cells.specs.Extent.{size_of};
-ghost use Rattle.sz_cells.specs.Runs.{is_in};
-ghost use Rattle.sz_region.specs.Putting.{HasShapes};
-ghost use Rattle.sz_merge.specs.Lineages.{nothing};
-ghost use Rattle.sz_merge.specs.Marks.{IsNext, AreMarked, AreLabels, AreNumbers, has_index};
+ghost use Rattle.sz_merge.specs.Terms.{◌≡◌, ◌<◌, ◌≤◌, map, length, All, Some, IfOk, OnOk};
+ghost use Rattle.sz_merge.specs.Terms.{slice_get, arc_value, size_of, is_in, HasShapes, nothing};
+ghost use Rattle.sz_merge.specs.Terms.{IsNext, AreMarked, AreLabels, AreNumbers, has_index};
 
 use crate::joining::{Step, new_step, step_from};
 use crate::lineages::LineageTable;

@@ -1,16 +1,9 @@
 //! The stores of a node, each merged by itself.
 
-ghost use Rattle.std.specs.Prelude.{◌≡◌, ◌<◌, ◌≤◌, List, ◌∷◌, length, map, All, IfOk};
-ghost use Rattle.std.specs.Arc.{arc_value};
-ghost use Rattle.sz_spec.specs.Modes.{mode_of};
+ghost use Rattle.sz_merge.specs.Terms.{◌≡◌, ◌<◌, ◌≤◌, List, ◌∷◌, length, map, All, IfOk, arc_value};
+ghost use Rattle.sz_merge.specs.Terms.{mode_of, AreRight, HasShapes, Pairing, pairings, regions};
+ghost use Rattle.sz_merge.specs.Terms.{keep_at, IsOfItsMode, IsTableOf, IsPartMerged, AreKindsPut};
 ghost use Rattle.sz_spec.specs.declared.modes.Mode.TheVariants as mode;
-ghost use Rattle.sz_region.specs.LawsStores.{AreRight};
-ghost use Rattle.sz_region.specs.Putting.{HasShapes};
-ghost use Rattle.sz_frame.specs.Parts.{Pairing};
-ghost use Rattle.sz_tables.specs.Rows.{pairings};
-ghost use Rattle.sz_store.specs.Kept.{regions, keep_at};
-ghost use Rattle.sz_store.specs.Stocks.{IsOfItsMode, IsTableOf};
-ghost use Rattle.sz_merge.specs.Merged.{IsPartMerged, AreKindsPut};
 
 use crate::apart::are_kinds;
 use crate::kinds::kinds_of;

@@ -2,21 +2,13 @@
 //! are told by the numbers of their sets, and put as the cells of one after another are gathered.
 //! No set is made or joined with another, and none is kept.
 
-ghost use Rattle.std.specs.Prelude.{◌≡◌, ◌≢◌, ◌<◌, ◌≤◌, ◌+◌, ◌==◌, ◌^◌, [], ◌∷◌, ℕ, List, length};
-ghost use Rattle.std.specs.Prelude.{true, not, All, IfOk, OnOk, IfSome, OnSome, IfNone};
-ghost use Rattle.sz_cells.specs.Cells.{Cells};
-ghost use Rattle.sz_cells.specs.Extent.{Extent, size_of};
-ghost use Rattle.sz_cells.specs.Runs.{AreRunsFrom, is_in};
-ghost use Rattle.sz_cells.specs.SetBytes.{IsSetOf};
-ghost use Rattle.sz_spec.specs.Values.{extent_at};
-ghost use Rattle.sz_region.specs.Putting.{HasShapes};
-ghost use Rattle.sz_frame.specs.Parts.{Pairing};
-ghost use Rattle.sz_tables.specs.Rows.{pairings, row_at, number_in, set_at, sets_of};
-ghost use Rattle.sz_tables.specs.Scans.{pairing_at};
-ghost use Rattle.sz_merge.specs.Lineages.{lists_of};
-ghost use Rattle.sz_merge.specs.Marks.{AreLabels, AreMarked, IsNext, has_index, kinds_behind};
-ghost use Rattle.sz_merge.specs.Marks.{ArePut, IsKindPut, AreSetsPut, IsStorePut, kind_of};
-ghost use Rattle.sz_merge.specs.Merged.{AreKindsPut};
+ghost use Rattle.sz_merge.specs.Terms.{◌≡◌, ◌≢◌, ◌<◌, ◌≤◌, ◌+◌, ◌==◌, ◌^◌, [], ◌∷◌, ℕ, List};
+ghost use Rattle.sz_merge.specs.Terms.{length, true, not, All, IfOk, OnOk, IfSome, OnSome, IfNone};
+ghost use Rattle.sz_merge.specs.Terms.{Cells, Extent, size_of, AreRunsFrom, is_in, IsSetOf};
+ghost use Rattle.sz_merge.specs.Terms.{extent_at, HasShapes, Pairing, pairings, row_at, number_in};
+ghost use Rattle.sz_merge.specs.Terms.{set_at, sets_of, pairing_at, lists_of, AreLabels, AreMarked};
+ghost use Rattle.sz_merge.specs.Terms.{IsNext, has_index, kinds_behind, ArePut, IsKindPut};
+ghost use Rattle.sz_merge.specs.Terms.{AreSetsPut, IsStorePut, kind_of, AreKindsPut};
 
 use crate::grouping::{Grouping, group_cells};
 use std::alloc::Global;

@@ -1,2 +1,3 @@
 -- The number that bytes at a place spell.
 pub mod Numbers
+mod Terms

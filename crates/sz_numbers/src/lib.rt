@@ -9,9 +9,8 @@
 //! Contracts name bytes as std does: `to_be_bytes` and `from_be_bytes`.
 #![tactic(auto)]
 
-ghost use Rattle.std.specs.Prelude.{◌≡◌, ◌≤◌, ◌+◌, length};
-ghost use Rattle.std.specs.Int.{w32, w64, to_be_bytes};
-ghost use Rattle.sz_numbers.specs.Numbers.{four_at, eight_at};
+ghost use Rattle.sz_numbers.specs.Terms.{◌≡◌, ◌≤◌, ◌+◌, length, w32, w64, to_be_bytes, four_at};
+ghost use Rattle.sz_numbers.specs.Terms.{eight_at};
 
 use byteorder::{BigEndian, ByteOrder};
 

@@ -1,2 +1,3 @@
 -- Each file of definitions.
 pub mod Aids
+mod Terms

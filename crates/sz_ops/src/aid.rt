@@ -1,9 +1,7 @@
 //! What is prepared once for an operator at work.
 
-ghost use Rattle.std.specs.Prelude.{◌≡◌, map, true};
-ghost use Rattle.std.specs.Arc.{arc_value};
+ghost use Rattle.sz_ops.specs.Terms.{◌≡◌, map, true, arc_value, aid_of};
 ghost use Rattle.sz_ops_region.specs.Regions as regions;
-ghost use Rattle.sz_ops.specs.Aids.{aid_of};
 
 use std::sync::Arc;
 use sz_spec::{Array, OpAt};

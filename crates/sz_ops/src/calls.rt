@@ -1,19 +1,10 @@
 //! The calls of all operators, each that of the operator's crate.
 
-ghost use Rattle.std.specs.Prelude.{◌≡◌, ◌<◌, ◌+◌, ◌^◌, true, length, map, All, IfOk, OnOk, OnErr};
-ghost use Rattle.std.specs.Arc.{arc_value};
-ghost use Rattle.sz_cells.specs.Extent.{holds, size_of};
-ghost use Rattle.sz_cells.specs.Cells.{has, with_those};
-ghost use Rattle.sz_spec.specs.Values.{extents_of};
-ghost use Rattle.sz_spec.specs.Evaluation.{value_of, output_of};
-ghost use Rattle.sz_spec.specs.Lineage.{related, mapped};
-ghost use Rattle.sz_spec.specs.Modes.{has_mapping, supports};
-ghost use Rattle.sz_spec.specs.Pieces.{pieces_of};
-ghost use Rattle.sz_frame.specs.Fits.{Fits};
-ghost use Rattle.sz_spec.specs.Sides.{near_side, far_side, image_in};
-ghost use Rattle.sz_frame.specs.Images.{measure_of};
-ghost use Rattle.sz_frame.specs.Written.{cells_in_piece, parts_by};
-ghost use Rattle.sz_ops.specs.Aids.{aid_of};
+ghost use Rattle.sz_ops.specs.Terms.{◌≡◌, ◌<◌, ◌+◌, ◌^◌, true, length, map, All, IfOk, OnOk, OnErr};
+ghost use Rattle.sz_ops.specs.Terms.{arc_value, holds, size_of, has, with_those, extents_of};
+ghost use Rattle.sz_ops.specs.Terms.{value_of, output_of, related, mapped, has_mapping, supports};
+ghost use Rattle.sz_ops.specs.Terms.{pieces_of, Fits, near_side, far_side, image_in, measure_of};
+ghost use Rattle.sz_ops.specs.Terms.{cells_in_piece, parts_by, aid_of};
 
 use crate::aid::Aid;
 use crate::table::{at_work, choose, mapping};

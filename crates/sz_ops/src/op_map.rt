@@ -1,8 +1,6 @@
 //! The mapping of an operator that has one.
 
-ghost use Rattle.std.specs.Prelude.{◌≡◌, true};
-ghost use Rattle.std.specs.Arc.{arc_value};
-ghost use Rattle.sz_spec.specs.Modes.{has_mapping};
+ghost use Rattle.sz_ops.specs.Terms.{◌≡◌, true, arc_value, has_mapping};
 
 use crate::table::{choose, mapping};
 use std::marker::Model;
@@ -45,20 +43,12 @@ impl Mapper for OpMap {
 
     fn map_b_into(&self, out: Cell, input: u32, to: &mut CellBits) {
         let at = &*self.at;
-        mapping!(
-            at;
-            elementwise map => map.back_into(out, input, to);
-            mapped map => map.back_into(out, input, to)
-        )
+        mapping!(at; map => map.back_into(out, input, to))
     }
 
     fn map_f_into(&self, cell: Cell, input: u32, to: &mut CellBits) {
         let at = &*self.at;
-        mapping!(
-            at;
-            elementwise map => map.forward_into(cell, input, to);
-            mapped map => map.forward_into(cell, input, to)
-        )
+        mapping!(at; map => map.forward_into(cell, input, to))
     }
 
     fn map_p_into(&self, _out: Cell, _payload: &[u8], _input: u32, _to: &mut CellBits) {

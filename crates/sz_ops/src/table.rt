@@ -105,6 +105,9 @@ macro_rules! at_work {
 
 /// Goes on with the mapping of an operator that has one.
 macro_rules! mapping {
+    ($at:expr; $m:ident => $mapped:expr) => {
+        mapping!($at; elementwise $m => $mapped; mapped $m => $mapped)
+    };
     ($at:expr; elementwise $e:ident => $elementwise:expr; mapped $m:ident => $mapped:expr) => {
         choose!(
             $at, &[];

@@ -1,11 +1,9 @@
 //! Block: windows of each layer, laid side by side, each folded into one cell. The last ones of a
 //! layer may be shorter.
 
-ghost use Rattle.std.specs.Prelude.{◌≡◌, ℕ, ◌+◌, ◌*◌, ◌/◌, ◌<◌, ◌≤◌, [], ◌∷◌, true, IfOk};
-ghost use Rattle.std.specs.Prelude.{length, Some};
+ghost use Rattle.std.specs.Prelude.{◌≡◌, ℕ, ◌+◌, ◌*◌, ◌/◌, ◌<◌, ◌≤◌, [], ◌∷◌, true, IfOk, length};
+ghost use Rattle.std.specs.Prelude.{Some, ◌==◌, ◌&&◌, nat_le, nat_lt, map};
 ghost use Rattle.std.specs.Arc.{arc_value};
-ghost use Rattle.std.specs.Prelude.{◌==◌, ◌&&◌, nat_le, nat_lt};
-ghost use Rattle.std.specs.Prelude.{map};
 ghost use Rattle.sz_cells.specs.declared.Cell.{Cell};
 ghost use Rattle.sz_cells.specs.Extent.{holds, height_of};
 ghost use Rattle.sz_cells.specs.Cells.{any_cell, cells_where, with_those};

@@ -1,17 +1,10 @@
 //! The whole output of an elementwise operator, of the values of its inputs: which arithmetic it
 //! has is looked up once, and each value is written once.
 
-ghost use Rattle.std.specs.Prelude.{◌≡◌, true, map, IfOk};
-ghost use Rattle.std.specs.Arc.{arc_value};
-ghost use Rattle.std.specs.List.{zip};
-ghost use Rattle.sz_cells.specs.declared.Cell.{Cell};
-ghost use Rattle.sz_cells.specs.Extent.{size_of};
-ghost use Rattle.sz_spec.specs.Values.{with_number, with_numbers};
-ghost use Rattle.sz_spec.specs.Shapes.{arity};
-ghost use Rattle.sz_spec.specs.Evaluation.{of_one, of_two, output_of, value_of};
-ghost use Rattle.sz_spec.specs.Work.{IsAtWork};
-ghost use Rattle.sz_frame.specs.Walks.{values_before};
-ghost use Rattle.sz_ops_local.specs.Local.{is_elementwise};
+ghost use Rattle.sz_ops_local.specs.Terms.{◌≡◌, true, map, IfOk, arc_value, zip, Cell, size_of};
+ghost use Rattle.sz_ops_local.specs.Terms.{with_number, with_numbers, arity, of_one, of_two};
+ghost use Rattle.sz_ops_local.specs.Terms.{output_of, value_of, IsAtWork, values_before};
+ghost use Rattle.sz_ops_local.specs.Terms.{is_elementwise};
 
 use crate::numbers::{OfOne, OfTwo, arithmetic};
 use std::alloc::Global;

@@ -1,15 +1,9 @@
 //! Windows of a shape, walked row by row: their cells as a set, and their numbers folded.
 
-ghost use Rattle.std.specs.Prelude.{◌≡◌, ℤ, ◌+◌, ◌<◌, ◌≤◌, ◌++◌, ◌||◌, List, IfOk};
-ghost use Rattle.std.specs.Prelude.{OnOk};
-ghost use Rattle.std.specs.Arc.{arc_value};
-ghost use Rattle.std.specs.List.{list_any};
-ghost use Rattle.sz_cells.specs.declared.Cell.{Cell};
-ghost use Rattle.sz_cells.specs.Cells.{any_cell, cells_where, is_same, with_those};
-ghost use Rattle.sz_spec.specs.Values.{numbers_at};
-ghost use Rattle.sz_spec.specs.Operators.Folds.{fold_of};
-ghost use Rattle.sz_frame.specs.Folding.{summary_of};
-ghost use Rattle.sz_ops_local.specs.Windows.{is_between, is_in, IsWindow};
+ghost use Rattle.sz_ops_local.specs.Terms.{◌≡◌, ℤ, ◌+◌, ◌<◌, ◌≤◌, ◌++◌, ◌||◌, List, IfOk, OnOk};
+ghost use Rattle.sz_ops_local.specs.Terms.{arc_value, list_any, Cell, any_cell, cells_where};
+ghost use Rattle.sz_ops_local.specs.Terms.{is_same, with_those, numbers_at, fold_of, summary_of};
+ghost use Rattle.sz_ops_local.specs.Terms.{is_between, is_in, IsWindow};
 
 use std::alloc::Global;
 use std::sync::Arc;

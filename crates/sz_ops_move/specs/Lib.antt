@@ -1,3 +1,4 @@
 pub mod Moving
 pub mod Turning
 pub mod Entries
+mod Terms

@@ -1,8 +1,7 @@
 //! Lookup: a cell of the first input names a column of the second, which is a table of one row.
 
 ghost use Rattle.std.specs.Prelude.{◌≡◌, ◌<◌, ◌≤◌, ℤ, [], ◌∷◌, true, length, map, Option};
-ghost use Rattle.std.specs.Prelude.{option_map};
-ghost use Rattle.std.specs.Prelude.{IfSome, IfOk, vec_len, vec_capacity};
+ghost use Rattle.std.specs.Prelude.{option_map, IfSome, IfOk, vec_len, vec_capacity};
 ghost use Rattle.std.specs.Arc.{arc_value};
 ghost use Rattle.std.specs.Option.{option_map_or};
 ghost use Rattle.sz_cells.specs.Extent.{holds};

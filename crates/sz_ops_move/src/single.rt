@@ -1,14 +1,9 @@
 //! Cells of which each leads to one cell, or to none.
 
-ghost use Rattle.std.specs.Prelude.{◌≡◌, ◌<◌, true, length, Option, Some, IfSome, IfOk};
-ghost use Rattle.std.specs.Arc.{arc_value};
-ghost use Rattle.sz_cells.specs.Extent.{holds, is_extent};
-ghost use Rattle.sz_cells.specs.Cells.{any_cell, cells_where, with_those};
-ghost use Rattle.sz_spec.specs.Values.{extent_at};
-ghost use Rattle.sz_spec.specs.Shapes.{IsSite};
-ghost use Rattle.sz_spec.specs.Lineage.{mapped};
-ghost use Rattle.sz_frame.specs.Single.{IsOnly};
-ghost use Rattle.sz_ops_move.specs.Moving.{is_mapping, is_single};
+ghost use Rattle.sz_ops_move.specs.Terms.{◌≡◌, ◌<◌, true, length, Option, Some, IfSome, IfOk};
+ghost use Rattle.sz_ops_move.specs.Terms.{arc_value, holds, is_extent, any_cell, cells_where};
+ghost use Rattle.sz_ops_move.specs.Terms.{with_those, extent_at, IsSite, mapped, IsOnly};
+ghost use Rattle.sz_ops_move.specs.Terms.{is_mapping, is_single};
 
 use std::alloc::Global;
 use std::sync::Arc;

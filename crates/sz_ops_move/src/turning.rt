@@ -3,16 +3,10 @@
 //! written a line of memory a cell. The rows of a strip lie a little apart, so that the cells of
 //! one column of it are not all kept at one place of the cache, however many rows the input has.
 
-ghost use Rattle.std.specs.Prelude.{◌≡◌, ◌≢◌, ℕ, ◌+◌, ◌-◌, ◌*◌, ◌/◌, ◌%◌, ◌<◌, ◌≤◌, true};
-ghost use Rattle.std.specs.Prelude.{length, map};
-ghost use Rattle.std.specs.Prelude.{IfOk, OnOk, None, slice_index_or};
-ghost use Rattle.std.specs.Arc.{arc_value};
-ghost use Rattle.sz_cells.specs.Extent.{size_of, height_of, is_extent};
-ghost use Rattle.sz_spec.specs.declared.op.Op.TheVariants.{Transpose};
-ghost use Rattle.sz_spec.specs.Values.{extent_at, input_at};
-ghost use Rattle.sz_spec.specs.Work.{IsAtWork};
-ghost use Rattle.sz_frame.specs.Walks.{values_before};
-ghost use Rattle.sz_ops_move.specs.Turning.{IsStrip};
+ghost use Rattle.sz_ops_move.specs.Terms.{◌≡◌, ◌≢◌, ℕ, ◌+◌, ◌-◌, ◌*◌, ◌/◌, ◌%◌, ◌<◌, ◌≤◌, true};
+ghost use Rattle.sz_ops_move.specs.Terms.{length, map, IfOk, OnOk, None, slice_index_or, arc_value};
+ghost use Rattle.sz_ops_move.specs.Terms.{size_of, height_of, is_extent, Transpose, extent_at};
+ghost use Rattle.sz_ops_move.specs.Terms.{input_at, IsAtWork, values_before, IsStrip};
 
 use crate::single::sides;
 use crate::slice::part;

@@ -39,22 +39,28 @@ some-side e a b near each =
           ]
     ]
 
+-- beside each other in one row, and in one column
+abbrev across : Cell → Cell → Bool
+across a b = (a.row == b.row) && ((a.col + 1 == b.col) || (b.col + 1 == a.col))
+
+abbrev along : Cell → Cell → Bool
+along a b = (a.col == b.col) && ((a.row + 1 == b.row) || (b.row + 1 == a.row))
+
+and-wider : (s x y : Bool) → (s && x) ≡ true → (x ≡ true → y ≡ true) → (s && y) ≡ true
+and-wider s x y on wider = let both = and_parts s x on in and_from s y both.0 (wider both.1)
+
 -- cells of one column and rows that follow, and cells of one row and columns that follow, are neighbours
 col-near : (e : Extent) (a b : Cell) (x : Bool) → ((a.col == b.col) && x) ≡ true
     → (x ≡ true → ((a.row + 1 == b.row) || (b.row + 1 == a.row)) ≡ true)
     → (layer_of e a == layer_of e b) ≡ true → are_neighbours e a b ≡ true
 col-near e a b x on rows layer =
-    let both = and_parts (a.col == b.col) x on in
-    and_from _ _ layer (or_right ((a.row == b.row) && ((a.col + 1 == b.col) || (b.col + 1 == a.col)))
-    ((a.col == b.col) && ((a.row + 1 == b.row) || (b.row + 1 == a.row))) (and_from _ _ both.0 (rows both.1)))
+    and_from _ _ layer (or_right (across a b) (along a b) (and-wider (a.col == b.col) x _ on rows))
 
 row-near : (e : Extent) (a b : Cell) (x : Bool) → ((a.row == b.row) && x) ≡ true
     → (x ≡ true → ((a.col + 1 == b.col) || (b.col + 1 == a.col)) ≡ true)
     → (layer_of e a == layer_of e b) ≡ true → are_neighbours e a b ≡ true
 row-near e a b x on cols layer =
-    let both = and_parts (a.row == b.row) x on in
-    and_from _ _ layer (or_left ((a.row == b.row) && ((a.col + 1 == b.col) || (b.col + 1 == a.col)))
-    ((a.col == b.col) && ((a.row + 1 == b.row) || (b.row + 1 == a.row))) (and_from _ _ both.0 (cols both.1)))
+    and_from _ _ layer (or_left (across a b) (along a b) (and-wider (a.row == b.row) x _ on cols))
 
 -- what is on a side, in the cell's layer, is a neighbour
 pub side-near : (e : Extent) (side : Side) (a b : Cell) → is_on side a b ≡ true
@@ -68,8 +74,7 @@ side-near e Right a b on = row-near e a b (a.col + 1 == b.col) on (or_left (a.co
 pub near-layer : (e : Extent) (a b : Cell) → are_neighbours e a b ≡ true
     → (layer_of e a == layer_of e b) ≡ true
 near-layer e a b near =
-    (and_parts (layer_of e a == layer_of e b) (((a.row == b.row) && ((a.col + 1 == b.col) || (b.col + 1 == a.col)))
-    || ((a.col == b.col) && ((a.row + 1 == b.row) || (b.row + 1 == a.row)))) near).0
+    (and_parts (layer_of e a == layer_of e b) (across a b || along a b) near).0
 
 -- ---- the rows of a layer
 

@@ -193,12 +193,12 @@ IsOnWay first words start at = AreLinks words × HasLink words at × KeepLinks f
     × ((root : ℕ → ℕ) → AreRoots first root → AreRoots words root × (root at ≡ root start))
     × ((k : ℕ) → get_or first k 0 ≡ 1 + k → get_or words k 0 ≡ 1 + k)
 
--- a further turn of it
-pub way-on : (first words : List ℕ) (start at up word : ℕ) → IsOnWay first words start at
+-- a further turn of it, to a cell and on by its word
+turn : (first words : List ℕ) (start at up word : ℕ) → IsOnWay first words start at
     → up ≡ get_or words at 0 - 1 → word ≡ get_or words up 0
     → (up < length words)
     × (up ≢ at → (word - 1 < at) × IsOnWay first (set words at word) start (word - 1))
-way-on first words start at up word way is_up is_word =
+turn first words start at up word way is_up is_word =
     let are = way.0 in
     let over = word - 1 in
     let here : get_or words at 0 ≡ 1 + up = omega (arith, way.1, is_up) in
@@ -231,6 +231,13 @@ way-on first words start at up word way is_up is_word =
         ),
       ),
     )
+
+pub way-on : (first words : List ℕ) (start at : ℕ) → IsOnWay first words start at
+    → let up = get_or words at 0 - 1 in
+    let word = get_or words up 0 in
+    (up < length words) × (up ≢ at → (word - 1 < at) × IsOnWay first (set words at word) start (word - 1))
+way-on first words start at way =
+    let up = get_or words at 0 - 1 in turn first words start at up (get_or words up 0) way refl refl
 
 -- ---- the word for a cell beside others
 

@@ -1,7 +1,8 @@
 -- What follows of words that are made their cells' labels, one after the other.
 --
 -- The key idea: a cell is linked to itself, or to an earlier cell, which has its label by then; and both have one root.
-use Rattle.std.proofs.Common.{◌≡◌, ℕ, ◌+◌, ◌-◌, ◌<◌, ◌≤◌, List, length, get_or, refl, sym, ap, ◌∙◌, arith, inl, inr}
+use Rattle.std.proofs.Common.{◌≡◌, ℕ, ◌+◌, ◌-◌, ◌<◌, ◌≤◌, List, length, get_or, refl, sym, ap, subst, ◌∙◌}
+use Rattle.std.proofs.Common.{arith, inl, inr}
 use Rattle.std.proofs.Common.{get_or-set_other, get_or-set_same}
 use Rattle.std.proofs.Math.ListN.{set, length-set}
 use Rattle.std.proofs.lemmas.Bool.{eq-eqb, ne_eqb}
@@ -53,9 +54,9 @@ settled-label first words root n f roots =
     ]
 
 -- and it is written
-pub settled-next : (first words : List ℕ) (n label : ℕ) → AreSettled first words n → n < length words
+settled-set : (first words : List ℕ) (n label : ℕ) → AreSettled first words n → n < length words
     → label ≡ word_on words n → AreSettled first (set words n label) (n + 1)
-settled-next first words n label f inside is = record {
+settled-set first words n label f inside is = record {
   links = f.links;
   long = length-set words n label ∙ f.long;
   done = λ root roots k below.
@@ -69,5 +70,10 @@ settled-next first words n label f inside is = record {
 }
 
 -- a word that is left leads to no later cell
+pub settled-next : (first words next : List ℕ) (n label : ℕ) → AreSettled first words n → n < length words
+    → label ≡ word_on words n → next ≡ set words n label → AreSettled first next (n + 1)
+settled-next first words next n label f inside is at =
+    subst (λ (ws : List ℕ). AreSettled first ws (n + 1)) (sym at) (settled-set first words n label f inside is)
+
 pub settled-down : (first words : List ℕ) (n p : ℕ) → AreSettled first words n → get_or words n 0 ≡ 1 + p → p ≤ n
 settled-down first words n p f is = f.links.down n p (sym (f.rest n (omega arith)) ∙ is)

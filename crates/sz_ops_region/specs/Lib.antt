@@ -10,3 +10,4 @@ pub mod Parts
 pub mod Tracing
 pub mod Links
 pub mod Linking
+mod Terms

@@ -1,16 +1,9 @@
 //! What is prepared for the operator, and its calls that go by that.
 
-ghost use Rattle.std.specs.Prelude.{◌≡◌, ◌<◌, ◌+◌, ◌^◌, true, map, All, IfOk, OnOk, OnErr};
-ghost use Rattle.std.specs.Arc.{arc_value};
-ghost use Rattle.sz_cells.specs.Extent.{holds};
-ghost use Rattle.sz_spec.specs.Values.{extents_of};
-ghost use Rattle.sz_spec.specs.Evaluation.{value_of, output_of};
-ghost use Rattle.sz_spec.specs.Modes.{supports};
-ghost use Rattle.sz_spec.specs.Pieces.{pieces_of};
-ghost use Rattle.sz_frame.specs.Fits.{Fits};
-ghost use Rattle.sz_frame.specs.Images.{measure_of};
-ghost use Rattle.sz_frame.specs.Written.{cells_in_piece, parts_by};
-ghost use Rattle.sz_ops_region.specs.Regions.{is_regions, aid_of};
+ghost use Rattle.sz_ops_region.specs.Terms.{◌≡◌, ◌<◌, ◌+◌, ◌^◌, true, map, All, IfOk, OnOk, OnErr};
+ghost use Rattle.sz_ops_region.specs.Terms.{arc_value, holds, extents_of, value_of, output_of};
+ghost use Rattle.sz_ops_region.specs.Terms.{supports, pieces_of, Fits, measure_of, cells_in_piece};
+ghost use Rattle.sz_ops_region.specs.Terms.{parts_by, is_regions, aid_of};
 
 use crate::aid::{Aid, Kept};
 use crate::cell_labels::Labels;

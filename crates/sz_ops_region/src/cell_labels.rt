@@ -1,10 +1,7 @@
 //! The label of each cell of an array, found once: one word a cell, and no set.
 
-ghost use Rattle.std.specs.Prelude.{◌≡◌, ◌<◌, pos, length, map, IfOk, Some};
-ghost use Rattle.std.specs.Prelude.{slice_index_or};
-ghost use Rattle.sz_cells.specs.Cells.{Cells};
-ghost use Rattle.sz_spec.specs.Operators.Regions.{label_of};
-ghost use Rattle.sz_ops_region.specs.Regions.{components_of};
+ghost use Rattle.sz_ops_region.specs.Terms.{◌≡◌, ◌<◌, pos, length, map, IfOk, Some, slice_index_or};
+ghost use Rattle.sz_ops_region.specs.Terms.{Cells, label_of, components_of};
 
 use crate::output::value_of;
 use crate::settling::labels_in;

@@ -1,18 +1,10 @@
 //! The components of an array's high cells, found once.
 
-ghost use Rattle.std.specs.Prelude.{◌≡◌, pos, ◌<◌, [], length, map, IfOk, IfSome};
-ghost use Rattle.std.specs.Prelude.{slice_index_or, IfNone};
-ghost use Rattle.std.specs.List.{range_with_len};
-ghost use Rattle.std.specs.Arc.{arc_value};
-ghost use Rattle.sz_cells.specs.Extent.{size_of};
-ghost use Rattle.sz_cells.specs.Cells.{Cells};
-ghost use Rattle.sz_cells.specs.SetBytes.{set_bytes};
-ghost use Rattle.sz_spec.specs.Operators.Regions.{label_of};
-ghost use Rattle.sz_ops_region.specs.Regions.{components_of};
-ghost use Rattle.sz_ops_region.specs.Tracing.{first_index};
-ghost use Rattle.sz_ops_region.specs.Sets.{AreLists, cells_numbered};
-ghost use Rattle.sz_ops_region.specs.Numbers.{AreUsed};
-ghost use Rattle.sz_ops_region.specs.Parts.{IsPartAt};
+ghost use Rattle.sz_ops_region.specs.Terms.{◌≡◌, pos, ◌<◌, [], length, map, IfOk, IfSome};
+ghost use Rattle.sz_ops_region.specs.Terms.{slice_index_or, IfNone, range_with_len, arc_value};
+ghost use Rattle.sz_ops_region.specs.Terms.{size_of, Cells, set_bytes, label_of, components_of};
+ghost use Rattle.sz_ops_region.specs.Terms.{first_index, AreLists, cells_numbered, AreUsed};
+ghost use Rattle.sz_ops_region.specs.Terms.{IsPartAt};
 
 use crate::marks::{Mark, Marks};
 use crate::numbering::numbers_of;

@@ -1,10 +1,7 @@
 //! What is known of each cell while components are numbered: a mark a cell, four bytes each.
 
-ghost use Rattle.std.specs.Prelude.{◌≡◌, ℕ, ◌+◌, ◌<◌, ◌≤◌, length, map, IfOk};
-ghost use Rattle.std.specs.Prelude.{slice_set};
-ghost use Rattle.sz_spec.specs.Operators.Clean.{is_at_least};
-ghost use Rattle.sz_ops_region.specs.Marks.{mark_in, mark_at};
-ghost use Rattle.sz_ops_region.specs.Stretches.{AreStretches};
+ghost use Rattle.sz_ops_region.specs.Terms.{◌≡◌, ℕ, ◌+◌, ◌<◌, ◌≤◌, length, map, IfOk, slice_set};
+ghost use Rattle.sz_ops_region.specs.Terms.{is_at_least, mark_in, mark_at, AreStretches};
 
 use std::alloc::Global;
 use std::marker::Model;

@@ -1,8 +1,8 @@
 //! Numbering the components of an array by the labels of its cells, in one pass: the first cell
 //! with a label is alone until another one has its label, and then both have a number.
 
-ghost use Rattle.std.specs.Prelude.{◌≡◌, ◌+◌, ◌<◌, ◌≤◌, length, IfOk};
-ghost use Rattle.sz_ops_region.specs.Numbers.{AreFirsts, AreGrouped, AreNumbers};
+ghost use Rattle.sz_ops_region.specs.Terms.{◌≡◌, ◌+◌, ◌<◌, ◌≤◌, length, IfOk, AreFirsts};
+ghost use Rattle.sz_ops_region.specs.Terms.{AreGrouped, AreNumbers};
 
 use crate::marks::{Mark, Marks};
 use crate::settling::labels_in;

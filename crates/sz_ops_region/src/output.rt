@@ -1,14 +1,9 @@
 //! The labels of all cells, written straight from their links: no set is made for them.
 
-ghost use Rattle.std.specs.Prelude.{◌≡◌, ℕ, pos, true, map, length, IfOk, Some};
-ghost use Rattle.std.specs.Arc.{arc_value};
-ghost use Rattle.std.specs.List.{range_with_len};
-ghost use Rattle.sz_cells.specs.Extent.{size_of, cell_of};
-ghost use Rattle.sz_spec.specs.Values.{extents_of};
-ghost use Rattle.sz_spec.specs.Evaluation.{output_of};
-ghost use Rattle.sz_spec.specs.Operators.Regions.{labelled_at};
-ghost use Rattle.sz_ops_region.specs.Regions.{is_regions};
-ghost use Rattle.sz_ops_region.specs.Links.{AreLinks, AreRoots, label_by};
+ghost use Rattle.sz_ops_region.specs.Terms.{◌≡◌, ℕ, pos, true, map, length, IfOk, Some, arc_value};
+ghost use Rattle.sz_ops_region.specs.Terms.{range_with_len, size_of, cell_of, extents_of};
+ghost use Rattle.sz_ops_region.specs.Terms.{output_of, labelled_at, is_regions, AreLinks, AreRoots};
+ghost use Rattle.sz_ops_region.specs.Terms.{label_by};
 
 use crate::linking::links_of;
 use crate::links::settle;

@@ -1,10 +1,8 @@
 //! The runs of each component: one pass over the marks of all cells, run by run.
 
-ghost use Rattle.std.specs.Prelude.{◌≡◌, ℕ, ◌+◌, ◌^◌, ◌<◌, ◌≤◌, [], length, IfOk, OnOk, Some};
-ghost use Rattle.sz_cells.specs.Extent.{size_of};
-ghost use Rattle.sz_ops_region.specs.Marks.{number_of};
-ghost use Rattle.sz_ops_region.specs.Stretches.{AreStretches};
-ghost use Rattle.sz_ops_region.specs.Sets.{HasRuns, AreLists, cells_numbered};
+ghost use Rattle.sz_ops_region.specs.Terms.{◌≡◌, ℕ, ◌+◌, ◌^◌, ◌<◌, ◌≤◌, [], length, IfOk, OnOk};
+ghost use Rattle.sz_ops_region.specs.Terms.{Some, size_of, number_of, AreStretches, HasRuns};
+ghost use Rattle.sz_ops_region.specs.Terms.{AreLists, cells_numbered};
 
 use crate::marks::{Mark, Marks};
 use std::alloc::Global;

@@ -1,9 +1,8 @@
 //! The labels of all cells, as words: 1 plus the least index of the cell's component, 0 where the
 //! cell is not high.
 
-ghost use Rattle.std.specs.Prelude.{◌≡◌, ℕ, ◌<◌, length, slice_index, IfOk};
-ghost use Rattle.sz_ops_region.specs.Links.{AreLinks, AreRoots, label_by};
-ghost use Rattle.sz_ops_region.specs.Numbers.{AreLabels};
+ghost use Rattle.sz_ops_region.specs.Terms.{◌≡◌, ℕ, ◌<◌, length, slice_index, IfOk, AreLinks};
+ghost use Rattle.sz_ops_region.specs.Terms.{AreRoots, label_by, AreLabels};
 
 use crate::linking::links_of;
 use crate::links::settle;

@@ -1,11 +1,8 @@
 //! The neighbours of a cell in its layer.
 
-ghost use Rattle.std.specs.Prelude.{◌≡◌, ◌+◌, ◌<◌, ◌≤◌, ◌==◌, ◌&&◌, true, nat_le, nat_lt};
-ghost use Rattle.std.specs.Prelude.{IfSome, Some};
-ghost use Rattle.sz_cells.specs.declared.Cell.{Cell};
-ghost use Rattle.sz_cells.specs.Extent.{holds, layer_of};
-ghost use Rattle.sz_spec.specs.Operators.Regions.{are_neighbours};
-ghost use Rattle.sz_ops_region.specs.Sides.{is_on, IsBandOf};
+ghost use Rattle.sz_ops_region.specs.Terms.{◌≡◌, ◌+◌, ◌<◌, ◌≤◌, ◌==◌, ◌&&◌, true, nat_le, nat_lt};
+ghost use Rattle.sz_ops_region.specs.Terms.{IfSome, Some, Cell, holds, layer_of, are_neighbours};
+ghost use Rattle.sz_ops_region.specs.Terms.{is_on, IsBandOf};
 
 use sz_cells::{Cell, Shape};
 

@@ -1,17 +1,9 @@
 //! Tracing: the image of a set of cells, for which each component is added once.
 
-ghost use Rattle.std.specs.Prelude.{◌≡◌, ◌<◌, ◌+◌, ◌^◌, true, map, length, OnOk};
-ghost use Rattle.std.specs.Arc.{arc_value};
-ghost use Rattle.sz_cells.specs.Extent.{holds, size_of};
-ghost use Rattle.sz_cells.specs.Cells.{has, with_those};
-ghost use Rattle.sz_spec.specs.declared.modes.Dir.TheVariants.{Back};
-ghost use Rattle.sz_spec.specs.Values.{extents_of, input_at};
-ghost use Rattle.sz_spec.specs.Lineage.{related};
-ghost use Rattle.sz_spec.specs.Work.{IsAtWork};
-ghost use Rattle.sz_spec.specs.Sides.{near_side, far_side, image_in};
-ghost use Rattle.sz_frame.specs.Walks.{traced};
-ghost use Rattle.sz_ops_region.specs.Regions.{is_regions};
-ghost use Rattle.sz_ops_region.specs.Tracing.{AreMarked};
+ghost use Rattle.sz_ops_region.specs.Terms.{◌≡◌, ◌<◌, ◌+◌, ◌^◌, true, map, length, OnOk, arc_value};
+ghost use Rattle.sz_ops_region.specs.Terms.{holds, size_of, has, with_those, Back, extents_of};
+ghost use Rattle.sz_ops_region.specs.Terms.{input_at, related, IsAtWork, near_side, far_side};
+ghost use Rattle.sz_ops_region.specs.Terms.{image_in, traced, is_regions, AreMarked};
 
 use crate::work::{Labelling, components_over, threshold};
 use std::alloc::Global;

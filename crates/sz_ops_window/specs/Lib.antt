@@ -3,3 +3,4 @@ pub mod Taps
 pub mod Sums
 pub mod Least
 pub mod Sweeps
+mod Terms

@@ -1,7 +1,7 @@
 //! Convolve: the weighted sum of the cells under a kernel.
 
-ghost use Rattle.std.specs.Prelude.{◌≡◌, ◌≤◌, ◌<◌, ◌+◌, ◌-◌, ◌*◌, ◌/◌, true, IfSome};
-ghost use Rattle.std.specs.Prelude.{ℕ, None, length, map, pos, slice_index_or, IfOk};
+ghost use Rattle.std.specs.Prelude.{◌≡◌, ◌≤◌, ◌<◌, ◌+◌, ◌-◌, ◌*◌, ◌/◌, true, IfSome, ℕ, None};
+ghost use Rattle.std.specs.Prelude.{length, map, pos, slice_index_or, IfOk};
 ghost use Rattle.std.specs.Arc.{arc_value};
 ghost use Rattle.sz_cells.specs.Extent.{holds, is_extent};
 ghost use Rattle.sz_spec.specs.declared.op.Op.TheVariants.{Convolve};

@@ -1,8 +1,7 @@
 //! Kernels that are lent: weights round a middle.
 
-ghost use Rattle.std.specs.Prelude.{◌≡◌, ◌<◌, ◌*◌, true, not};
-ghost use Rattle.sz_spec.specs.Weights.{is_kernel, is_weight, is_zero, tap_at};
-ghost use Rattle.sz_ops_window.specs.Taps.{one, nine};
+ghost use Rattle.sz_ops_window.specs.Terms.{◌≡◌, ◌<◌, ◌*◌, true, not, is_kernel, is_weight};
+ghost use Rattle.sz_ops_window.specs.Terms.{is_zero, tap_at, one, nine};
 
 use std::marker::Model;
 use sz_spec::Kernel;

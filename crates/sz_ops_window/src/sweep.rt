@@ -17,9 +17,8 @@ ghost use Rattle.sz_spec.specs.Weights.{tap_at};
 ghost use Rattle.sz_spec.specs.Work.{IsAtWork};
 ghost use Rattle.sz_frame.specs.Walks.{values_before};
 ghost use Rattle.sz_ops_window.specs.Sums.{reach_of};
-ghost use Rattle.sz_ops_window.specs.Sweeps.{is_small, number_of, ArePlain, IsSmooth};
-ghost use Rattle.sz_ops_window.specs.Sweeps.{AreNumbers, AreSums, AreVoids, AreWhole};
-ghost use Rattle.sz_ops_window.specs.Sweeps.{unless};
+ghost use Rattle.sz_ops_window.specs.Sweeps.{is_small, number_of, ArePlain, IsSmooth, AreNumbers};
+ghost use Rattle.sz_ops_window.specs.Sweeps.{AreSums, AreVoids, AreWhole, unless};
 
 use crate::convolve::{reach_of, value};
 use crate::mask::{Mask, a_mask_is_a_kernel};

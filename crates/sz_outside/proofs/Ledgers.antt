@@ -2,11 +2,13 @@
 -- before, with the call or without, and that is all that its disk, what was said and its stops depend on.
 use Rattle.std.proofs.Common.{◌≡◌, ◌⊎◌, inl, inr, ℕ, List}
 use Rattle.std.proofs.Common.{Result, Ok, Err, OnOk, OnErr, Bool, true, false, is_ok, ◌&&◌, Some}
-use Rattle.std.proofs.Common.{ap, ◌∙◌}
-use Rattle.sz_outside.specs.History.{Scene, step_of, scene_after}
+use Rattle.std.proofs.Common.{⊎_elim, ap, ◌∙◌, subst}
+use Rattle.sz_outside.specs.History.{Scene, MayLeave, step_of, scene_after}
 use Rattle.sz_outside.specs.Memory.{Past, Ledger, now, noted, past_after, disk_of, said_of, PassesIn}
+use Rattle.sz_outside.specs.Memory.{Fits, IsOfDisk, KeepsDisk, event, Found}
 use Rattle.sz_outside.specs.declared.history.Act.{Act}
-use Rattle.sz_outside.proofs.Scenes.{event, Fits, Found, same_disk, same_said, from_call, stays, now_noted}
+use Rattle.sz_outside.specs.declared.history.Act.TheVariants as act
+use Rattle.sz_outside.proofs.Scenes.{from_call, stays, now_noted}
 use Rattle.sz_outside.proofs.Scenes.{said_after, disk_after}
 
 -- a call went over a ledger: the past has it, or is as before
@@ -41,12 +43,12 @@ pub stops : {old new : Ledger} {a : Act} {bytes : List ℕ} {d k : Bool} → Wen
     → Fits a (now old.past) → PassesIn old new (step_of (event a bytes d) a) (Found (now old.past) bytes a)
 stops {old} {new} {a} {bytes} {d} {k} call fits = from_call old.past new.past a bytes d k fits call.past
 
-pub said : {old new : Ledger} {a : Act} {bytes : List ℕ} {d k : Bool} → Went old new a bytes d k → same_said a
+pub said : {old new : Ledger} {a : Act} {bytes : List ℕ} {d k : Bool} → Went old new a bytes d k → IsOfDisk a
     → Some (said_of new) ≡ Some (said_of old)
 said {old} {new} {a} {bytes} {d} {k} call same = ap (λ (l : List ℕ). Some l)
     (stays (λ (s : Scene). s.said) old.past new.past a bytes d k (said_after (now old.past) a bytes d same) call.past)
 
-pub disk : {old new : Ledger} {a : Act} {bytes : List ℕ} {d k : Bool} → Went old new a bytes d k → same_disk a
+pub disk : {old new : Ledger} {a : Act} {bytes : List ℕ} {d k : Bool} → Went old new a bytes d k → KeepsDisk a
     → Some (disk_of new) ≡ Some (disk_of old)
 disk {old} {new} {a} {bytes} {d} {k} call same = ap (λ (l : List ℕ). Some l)
     (stays (λ (s : Scene). s.disk) old.past new.past a bytes d k (disk_after (now old.past) a bytes d same) call.past)
@@ -56,6 +58,19 @@ pub done : {V W P : Type 0} {old new : Ledger} {a : Act} {bytes : List ℕ} {d k
     → (now new.past ≡ scene_after (now old.past) (event a bytes true) → P) → OnOk res P
 done {V} {W} {P} {old} {new} {a} {bytes} {d} {k} call res answer then =
     was_done res old.past new.past a bytes d k answer call.past then
+
+-- of a call that was done, what the disk then is
+pub read : {V W : Type 0} (s t : Scene) (res : Result V W) → OnOk res (s ≡ t) → OnOk res (Some s.disk ≡ Some t.disk)
+read s t (Ok y) is = ap (λ (x : Scene). Some x.disk) is
+read s t (Err y) is = tt
+
+-- and of a sync, that a stop leaves nothing else
+pub only_read : {V W : Type 0} (s t : Scene) (bytes : List ℕ) (res : Result V W)
+    → OnOk res (s ≡ scene_after t (event act.Sync bytes true))
+    → OnOk res ((image : List ℕ) → MayLeave s image → image ≡ t.disk)
+only_read s t bytes (Ok y) is = λ image left.
+    ⊎_elim (λ here. here) (λ here. here) (subst (λ (x : Scene). MayLeave x image) is left)
+only_read s t bytes (Err y) is = tt
 
 pub undone : {V W P : Type 0} {old new : Ledger} {a : Act} {bytes : List ℕ} {d k : Bool} → Went old new a bytes d k
     → (res : Result V W) → is_ok res ≡ (d && k)

@@ -198,14 +198,10 @@ torn_middle = (
   record { before = refl; after = refl; no_shorter = omega arith; no_longer = omega arith },
 )
 
-pub write-new : image_by torn.New (one_write true) ≡ 5 ∷ 9 ∷ 7 ∷ []
-write-new = refl
-
-pub write-old : image_by torn.Old (one_write true) ≡ 5 ∷ 6 ∷ 7 ∷ []
-write-old = refl
-
-pub write-ones : image_by torn.Ones (one_write true) ≡ 5 ∷ 1 ∷ 7 ∷ []
-write-ones = refl
+pub write-images : (image_by torn.New (one_write true) ≡ 5 ∷ 9 ∷ 7 ∷ [])
+    × (image_by torn.Old (one_write true) ≡ 5 ∷ 6 ∷ 7 ∷ [])
+    × (image_by torn.Ones (one_write true) ≡ 5 ∷ 1 ∷ 7 ∷ [])
+write-images = (refl, refl, refl)
 
 pub write-any : MayLeave (one_write true) (5 ∷ 77 ∷ 7 ∷ [])
 write-any = inr torn_middle
@@ -221,11 +217,9 @@ write-shorter (inr (old, was, step)) =
     omega (arith, (subst (λ (l : List ℕ). Torn 1 1 l (5 ∷ 9 ∷ [])) was step).no_shorter)
 
 -- one that fails reads as before, and may be torn
-pub failed_write-new : image_by torn.New (one_write false) ≡ 5 ∷ 6 ∷ 7 ∷ []
-failed_write-new = refl
-
-pub failed_write-ones : image_by torn.Ones (one_write false) ≡ 5 ∷ 1 ∷ 7 ∷ []
-failed_write-ones = refl
+pub failed_write-images : (image_by torn.New (one_write false) ≡ 5 ∷ 6 ∷ 7 ∷ [])
+    × (image_by torn.Ones (one_write false) ≡ 5 ∷ 1 ∷ 7 ∷ [])
+failed_write-images = (refl, refl)
 
 pub failed_write-any : MayLeave (one_write false) (5 ∷ 77 ∷ 7 ∷ [])
 failed_write-any = inr torn_middle

@@ -4,7 +4,6 @@ use Rattle.std.proofs.Common.{◌≡◌, ◌⊎◌, inl, inr, ⊎_elim, ℕ, zer
 use Rattle.std.proofs.Common.{List, [], ◌∷◌, ◌++◌, Result, Ok, Err, OnOk, OnErr, is_err, Bool, true, false}
 use Rattle.std.proofs.Common.{refl, sym, ap, ◌∙◌, subst, length, take, drop, replicate, arith}
 use Rattle.std.proofs.Common.{length-append, length-drop}
-use Rattle.std.specs.Prelude.{⊤}
 use Rattle.std.proofs.Math.Seq.{take-length}
 use Rattle.std.proofs.lemmas.List.{append-nil, append_assoc, take_at, drop_at, length-take, length-take-le}
 use Rattle.std.proofs.lemmas.List.{length-replicate, drop_all, take_all}
@@ -12,7 +11,7 @@ use Rattle.std.proofs.lemmas.Bool.{cases_lt}
 use Rattle.sz_outside.specs.Disk.{Passes, Follows, Torn, written}
 use Rattle.sz_outside.specs.History.{Event, Scene, Shows, scene_before, scene_at, scene_after, with_ones, step_of}
 use Rattle.sz_outside.specs.History.{MayLeave, images_after, LeavesNow, LeavesIn, LeftSince, left_now}
-use Rattle.sz_outside.specs.Memory.{Past, now, noted, past_after}
+use Rattle.sz_outside.specs.Memory.{Past, now, noted, past_after, Fits, IsOfDisk, KeepsDisk, event, Found}
 use Rattle.sz_outside.specs.declared.history.Act.{Act}
 use Rattle.sz_outside.specs.declared.history.Act.TheVariants as act
 
@@ -112,14 +111,6 @@ pub synced_left : (es : List Event) (synced : List ℕ) → images_after es sync
 synced_left [] synced = refl
 synced_left (e ∷ es) synced = (synced, synced_left es synced, step_self e e.act synced)
 
--- what a call asks of a disk
-abbrev pub Fits : Act → Scene → Type 0
-Fits (act.Write at) s = at ≤ length s.disk
-Fits _ s = ⊤
-
-abbrev pub event : Act → List ℕ → Bool → Event
-event a bytes d = record { act = a; bytes = bytes; is_done = d }
-
 -- an image may stay as it was in each call
 pub still : (s : Scene) (a : Act) (bytes : List ℕ) (d : Bool) (image : List ℕ) → MayLeave s image
     → Follows (step_of (event a bytes d) a) (MayLeave s) image
@@ -154,10 +145,6 @@ steps s act.Say bytes true fits image left = (image, left, refl)
 steps s act.Say bytes false fits image left = (image, left, refl)
 
 -- ---- what is found said
-
-abbrev pub Found : Scene → List ℕ → Act → List ℕ → Type 0
-Found s bytes act.Say said = (n : ℕ) × (n ≤ length bytes) × (said ≡ s.said ++ take n bytes)
-Found s bytes _ said = said ≡ s.said
 
 found_still : (s : Scene) (a : Act) (bytes said : List ℕ) → said ≡ s.said → Found s bytes a said
 found_still s act.Look bytes said is = is
@@ -286,11 +273,7 @@ from_call p q a bytes d false fits is = subst (λ (t : Past). From p t a bytes d
 
 -- ---- what is read and said after a call
 
-abbrev pub same_said : Act → Type 0
-same_said act.Say = ⊥
-same_said _ = ⊤
-
-pub said_after : (s : Scene) (a : Act) (bytes : List ℕ) (d : Bool) → same_said a
+pub said_after : (s : Scene) (a : Act) (bytes : List ℕ) (d : Bool) → IsOfDisk a
     → (scene_after s (event a bytes d)).said ≡ s.said
 said_after s act.Look bytes true not_say = refl
 said_after s act.Look bytes false not_say = refl
@@ -302,13 +285,7 @@ said_after s act.Sync bytes true not_say = refl
 said_after s act.Sync bytes false not_say = refl
 said_after s act.Say bytes d not_say = absurd not_say
 
-abbrev pub same_disk : Act → Type 0
-same_disk act.Look = ⊤
-same_disk act.Sync = ⊤
-same_disk act.Say = ⊤
-same_disk _ = ⊥
-
-pub disk_after : (s : Scene) (a : Act) (bytes : List ℕ) (d : Bool) → same_disk a
+pub disk_after : (s : Scene) (a : Act) (bytes : List ℕ) (d : Bool) → KeepsDisk a
     → (scene_after s (event a bytes d)).disk ≡ s.disk
 disk_after s act.Look bytes true same = refl
 disk_after s act.Look bytes false same = refl

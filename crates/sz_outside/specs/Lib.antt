@@ -5,3 +5,4 @@ pub mod Disk
 pub mod History
 pub mod Memory
 pub mod Outside
+mod Terms

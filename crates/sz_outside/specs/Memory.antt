@@ -1,7 +1,8 @@
 -- What the sources and the station in memory are, for contracts, and what one call makes of them.
+use Rattle.std.specs.Prelude.{◌≡◌, ◌≤◌, ⊤}
 use Rattle.std.specs.Prelude.{ℕ, ◌+◌, ◌^◌, ◌==◌, nat_lt, min, Bool, false, not, ◌&&◌, ◌||◌}
 use Rattle.std.specs.Prelude.{if◌then◌else◌}
-use Rattle.std.specs.Prelude.{Option, None, Some, List, [], ◌∷◌, ◌++◌, length, drop}
+use Rattle.std.specs.Prelude.{Option, None, Some, List, [], ◌∷◌, ◌++◌, length, take, drop}
 use Rattle.std.specs.List.{list_any}
 use Rattle.sz_outside.specs.Counts.{count_after, faults_after}
 use Rattle.sz_outside.specs.History.{Event, Scene, scene_before, scene_at, MayLeave, LeftSince}
@@ -114,6 +115,37 @@ is_next_done s = not (fails_next s.disk_fails s.disk_calls || is_stopped s.passe
 -- A write is done only where its bytes end below 2^62.
 abbrev pub is_write_done : Ledger → ℕ → ℕ → Bool
 is_write_done s at n = is_next_done s && nat_lt (at + n) (2 ^ 62)
+
+-- What a call asks of what there is: a write begins within the disk.
+abbrev pub Fits : Act → Scene → Type 0
+Fits (act.Write at) s = at ≤ length s.disk
+Fits _ s = ⊤
+
+-- The call is one of the disk.
+abbrev pub IsOfDisk : Act → Type 0
+IsOfDisk act.Say = ⊥
+IsOfDisk _ = ⊤
+
+-- The call leaves the disk as it reads.
+abbrev pub KeepsDisk : Act → Type 0
+KeepsDisk act.Look = ⊤
+KeepsDisk act.Sync = ⊤
+KeepsDisk act.Say = ⊤
+KeepsDisk _ = ⊥
+
+-- A call with these bytes that is done or fails.
+abbrev pub event : Act → List ℕ → Bool → Event
+event a bytes d = record { act = a; bytes = bytes; is_done = d }
+
+-- What a stop in a call finds said.
+abbrev pub Found : Scene → List ℕ → Act → List ℕ → Type 0
+Found s bytes act.Say said = (n : ℕ) × (n ≤ length bytes) × (said ≡ s.said ++ take n bytes)
+Found s bytes _ said = said ≡ s.said
+
+-- Whether a disk call with so many bytes is done, if it finds memory.
+abbrev pub is_call_done : Ledger → Act → ℕ → Bool
+is_call_done s (act.Write at) n = is_write_done s at n
+is_call_done s _ n = is_next_done s
 
 -- The past after a call that found memory for its record, or did not.
 abbrev pub past_after : Past → Act → List ℕ → Bool → Bool → Past

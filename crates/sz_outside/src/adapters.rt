@@ -3,12 +3,11 @@
 //! Both are written and proved for any reader and any writer, and tell the bytes that their stream
 //! tells. The real streams tell none, but the body that serves them is the same, and cannot tell
 //! them apart from any other.
-ghost use Rattle.std.specs.Prelude.{◌≡◌, ◌≤◌, ◌<◌, ◌+◌, ◌^◌, ⊤, None, IsSomeAnd, length, is_ok};
-ghost use Rattle.std.specs.Prelude.{IfOk, OnOk, OnErr, IsTrue, Some, MatchOption};
-ghost use Rattle.std.specs.Option.{option_map};
-ghost use Rattle.sz_outside.specs.Outside.{Rose, Stood, Gives, Keeps, Says, SaysPart};
-ghost use Rattle.sz_outside.specs.Counts.{faults_after};
-ghost use Rattle.sz_outside.specs.Disk.{HasSize, GivesAt, Writes, WritesPart, Cuts, CutsOrNot};
+ghost use Rattle.sz_outside.specs.Terms.{◌≡◌, ◌≤◌, ◌<◌, ◌+◌, ◌^◌, ⊤, None, IsSomeAnd, length};
+ghost use Rattle.sz_outside.specs.Terms.{is_ok, IfOk, OnOk, OnErr, IsTrue, Some, MatchOption};
+ghost use Rattle.sz_outside.specs.Terms.{option_map, Rose, Stood, Gives, Keeps, Says, SaysPart};
+ghost use Rattle.sz_outside.specs.Terms.{faults_after, HasSize, GivesAt, Writes, WritesPart, Cuts};
+ghost use Rattle.sz_outside.specs.Terms.{CutsOrNot};
 
 use crate::streams::{Outlet, count_fault, read_and_count, write_and_count};
 use crate::volumes::{Volume, read_from, write_to};

@@ -1,10 +1,7 @@
 //! What a station in memory was asked for, and what its disk and its output are.
-ghost use Rattle.std.specs.Prelude.{◌≡◌, ◌≤◌, ◌++◌, ◌∷◌, ℕ, [], List, Bool, true, length};
-ghost use Rattle.std.specs.Prelude.{replicate};
-ghost use Rattle.std.specs.Prelude.{IfOk, OnOk, OnErr};
-ghost use Rattle.sz_outside.specs.Disk.{written};
-ghost use Rattle.sz_outside.specs.History.{Event, MayLeave, scene_at, scene_before};
-ghost use Rattle.sz_outside.specs.Memory.{now, noted};
+ghost use Rattle.sz_outside.specs.Terms.{◌≡◌, ◌≤◌, ◌++◌, ◌∷◌, ℕ, [], List, Bool, true, length};
+ghost use Rattle.sz_outside.specs.Terms.{replicate, IfOk, OnOk, OnErr, written, Event, MayLeave};
+ghost use Rattle.sz_outside.specs.Terms.{Fits, scene_at, scene_before, now, noted};
 ghost use Rattle.sz_outside.specs.declared.history.Act.TheVariants as act;
 
 use crate::NoMemory;
@@ -107,18 +104,29 @@ impl History {
         &self.said
     }
 
-    pub(crate) fn note_look(&mut self, is_done: bool) -> Result<(), NoMemory>
-        ensures ok { OnOk result (self.new ≡ noted self.old act.Look [] is_done) }
+    /// Notes a call with the bytes that come with it, and does it where it is to be done.
+    pub(crate) fn note(&mut self, act: Act, bytes: &[u8], is_done: bool) -> Result<(), NoMemory>
+        requires { Fits act (now self.old) }
+        ensures ok { OnOk result (self.new ≡ noted self.old act bytes.now is_done) }
         ensures err { OnErr result (self.new ≡ self.old) }
     {
-        if is_done {
-            push_call(self.alloc, &mut self.calls, Act::Look, &[], true)
-        } else {
-            push_call(self.alloc, &mut self.calls, Act::Look, &[], false)
+        match act {
+            Act::Look => self.note_look(bytes, is_done),
+            Act::Write { at } => self.note_write(at, bytes, is_done),
+            Act::Cut { size } => self.note_cut(size, bytes, is_done),
+            Act::Sync => self.note_sync(bytes, is_done),
+            Act::Say => self.note_say(bytes, is_done),
         }
     }
 
-    pub(crate) fn note_say(&mut self, bytes: &[u8], is_done: bool) -> Result<(), NoMemory>
+    fn note_look(&mut self, bytes: &[u8], is_done: bool) -> Result<(), NoMemory>
+        ensures ok { OnOk result (self.new ≡ noted self.old act.Look bytes.now is_done) }
+        ensures err { OnErr result (self.new ≡ self.old) }
+    {
+        push_call(self.alloc, &mut self.calls, Act::Look, bytes, is_done)
+    }
+
+    fn note_say(&mut self, bytes: &[u8], is_done: bool) -> Result<(), NoMemory>
         ensures ok { OnOk result (self.new ≡ noted self.old act.Say bytes.now is_done) }
         ensures err { OnErr result (self.new ≡ self.old) }
     {
@@ -134,12 +142,7 @@ impl History {
         kept
     }
 
-    pub(crate) fn note_write(
-        &mut self,
-        at: u64,
-        bytes: &[u8],
-        is_done: bool,
-    ) -> Result<(), NoMemory>
+    fn note_write(&mut self, at: u64, bytes: &[u8], is_done: bool) -> Result<(), NoMemory>
         requires { at ≤ length (now self.old).disk }
         ensures ok { OnOk result (self.new ≡ noted self.old (act.Write at) bytes.now is_done) }
         ensures err { OnErr result (self.new ≡ self.old) }
@@ -159,29 +162,29 @@ impl History {
         Ok(())
     }
 
-    pub(crate) fn note_cut(&mut self, size: u64, is_done: bool) -> Result<(), NoMemory>
-        ensures ok { OnOk result (self.new ≡ noted self.old (act.Cut size) [] is_done) }
+    fn note_cut(&mut self, size: u64, bytes: &[u8], is_done: bool) -> Result<(), NoMemory>
+        ensures ok { OnOk result (self.new ≡ noted self.old (act.Cut size) bytes.now is_done) }
         ensures err { OnErr result (self.new ≡ self.old) }
     {
         if !is_done {
-            return push_call(self.alloc, &mut self.calls, Act::Cut { size }, &[], false);
+            return push_call(self.alloc, &mut self.calls, Act::Cut { size }, bytes, false);
         }
-        push_call(self.alloc, &mut self.calls, Act::Cut { size }, &[], true)?;
+        push_call(self.alloc, &mut self.calls, Act::Cut { size }, bytes, true)?;
         self.disk.truncate(size as usize);
         self.ones.truncate(size as usize);
         Ok(())
     }
 
-    pub(crate) fn note_sync(&mut self, is_done: bool) -> Result<(), NoMemory>
-        ensures ok { OnOk result (self.new ≡ noted self.old act.Sync [] is_done) }
+    fn note_sync(&mut self, bytes: &[u8], is_done: bool) -> Result<(), NoMemory>
+        ensures ok { OnOk result (self.new ≡ noted self.old act.Sync bytes.now is_done) }
         ensures err { OnErr result (self.new ≡ self.old) }
     {
         if !is_done {
-            return push_call(self.alloc, &mut self.calls, Act::Sync, &[], false);
+            return push_call(self.alloc, &mut self.calls, Act::Sync, bytes, false);
         }
         let synced = self.disk.as_slice().to_vec(self.alloc)?;
         let ones = self.disk.as_slice().to_vec(self.alloc)?;
-        push_call(self.alloc, &mut self.calls, Act::Sync, &[], true)?;
+        push_call(self.alloc, &mut self.calls, Act::Sync, bytes, true)?;
         self.synced = synced;
         self.ones = ones;
         Ok(())

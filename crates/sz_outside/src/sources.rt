@@ -1,9 +1,8 @@
 //! Where bytes come from: what a source is, and the two in memory.
-ghost use Rattle.std.specs.Prelude.{◌≡◌, ◌≤◌, ◌++◌, ℕ, List, Option, None, Some, Ok, IfOk, OnOk};
-ghost use Rattle.std.specs.Prelude.{OnErr};
-ghost use Rattle.std.specs.Prelude.{length, take, drop, is_err};
-ghost use Rattle.sz_outside.specs.Outside.{Rose, Stood, Gives, Keeps};
-ghost use Rattle.sz_outside.specs.Memory.{bytes_given, fails_next, tape_after, supply_after};
+ghost use Rattle.sz_outside.specs.Terms.{◌≡◌, ◌≤◌, ◌++◌, ℕ, List, Option, None, Some, Ok, IfOk};
+ghost use Rattle.sz_outside.specs.Terms.{OnOk, OnErr, length, take, drop, is_err, Rose, Stood};
+ghost use Rattle.sz_outside.specs.Terms.{Gives, Keeps, bytes_given, fails_next, tape_after};
+ghost use Rattle.sz_outside.specs.Terms.{supply_after};
 
 use crate::Failed;
 use crate::cursor::Cursor;

@@ -1,18 +1,18 @@
 //! Where bytes go: what a station is, and the one in memory.
-ghost use Rattle.std.specs.Prelude.{◌≡◌, ◌≤◌, ◌<◌, ◌+◌, ◌^◌, ℕ, [], List, Option, Some, None};
-ghost use Rattle.std.specs.Prelude.{Bool, not, ◌&&◌, is_ok, IfOk, OnOk, OnErr, length};
-ghost use Rattle.std.proofs.Common.{refl, inl};
-ghost use Rattle.sz_outside.specs.Outside.{Rose, Stood, Says, SaysPart};
-ghost use Rattle.sz_outside.specs.Counts.{count_after, faults_after};
-ghost use Rattle.sz_outside.specs.Disk.{Told, HasSize, HasPlace, GivesAt, Writes, Cuts, Only, Said};
-ghost use Rattle.sz_outside.specs.Disk.{SaidPart, Torn as TornBy, Cut, Same, Passes, HasImage};
-ghost use Rattle.sz_outside.specs.History.{MayLeave, LeftSince, scene_before, left_now, now_counts};
-ghost use Rattle.sz_outside.specs.Memory.{now, disk_of, said_of, ledger_before, is_next_done};
-ghost use Rattle.sz_outside.specs.Memory.{is_write_done, say_fails_next, after_say};
-ghost use Rattle.sz_outside.specs.Memory.{after_disk_call, image_by, PassesIn};
+ghost use Rattle.sz_outside.specs.Terms.{◌≡◌, ◌≤◌, ◌<◌, ◌+◌, ◌^◌, ℕ, [], List, Option, Some, None};
+ghost use Rattle.sz_outside.specs.Terms.{Bool, not, ◌&&◌, is_ok, IfOk, OnOk, OnErr, length, refl};
+ghost use Rattle.sz_outside.specs.Terms.{inl, Rose, Stood, Says, SaysPart, count_after};
+ghost use Rattle.sz_outside.specs.Terms.{faults_after, Told, HasSize, HasPlace, GivesAt, Writes};
+ghost use Rattle.sz_outside.specs.Terms.{Cuts, Only, Said, SaidPart, TornBy, Cut, Same, Passes};
+ghost use Rattle.sz_outside.specs.Terms.{HasImage, MayLeave, LeftSince, scene_before, left_now};
+ghost use Rattle.sz_outside.specs.Terms.{now_counts, now, disk_of, said_of, ledger_before};
+ghost use Rattle.sz_outside.specs.Terms.{is_next_done, is_write_done, say_fails_next, after_say};
+ghost use Rattle.sz_outside.specs.Terms.{after_disk_call, image_by, PassesIn, event, Fits, Found};
+ghost use Rattle.sz_outside.specs.Terms.{IsOfDisk, KeepsDisk, is_call_done, scene_after, step_of};
+ghost use Rattle.sz_outside.specs.Terms.{true};
 ghost use Rattle.sz_outside.specs.declared.history.Act.TheVariants as act;
 
-use crate::history::History;
+use crate::history::{Act, History};
 use crate::volumes::has_room;
 use crate::{Failed, NoMemory};
 use std::alloc::Global;
@@ -268,14 +268,18 @@ impl MemStation {
         !(self.disk_fails.contains(&self.disk_calls) || is_stopped)
     }
 
-    /// Counts a write as a disk call, and says whether it is to be done.
-    fn next_write(&mut self, at: u64, count: usize) -> bool
-        ensures answer { result ≡ is_write_done self.old at count }
+    /// Counts a disk call with so many bytes, and says whether it is to be done: a write only where
+    /// it has room.
+    fn next_call(&mut self, act: Act, count: usize) -> bool
+        ensures answer { result ≡ is_call_done self.old act count }
         ensures counted { self.new ≡ record self.old {
           disk_calls = count_after self.old.disk_calls;
         } }
     {
-        self.next_disk_call() && has_room(at, count)
+        match act {
+            Act::Write { at } => self.next_disk_call() && has_room(at, count),
+            _ => self.next_disk_call(),
+        }
     }
 
     /// Counts a say, and says whether it is to be done.
@@ -305,19 +309,25 @@ impl MemStation {
         Err(Failed)
     }
 
-    /// Makes a disk call that changes nothing.
-    fn look(&mut self) -> Result<(), Failed>
+    /// Makes a disk call: counts it, notes it, and does it where it is to be done.
+    fn disk_call(&mut self, act: Act, bytes: &[u8]) -> Result<(), Failed>
+        requires disk { IsOfDisk act }
+        requires fits { Fits act (now self.old.past) }
         ensures counted { self.new.disk_faults ≡ faults_after self.old.disk_faults (is_ok result) }
-        ensures disk { Some (disk_of self.new) ≡ Some (disk_of self.old) }
+        ensures done { OnOk result (
+            now self.new.past ≡ scene_after (now self.old.past) (event act bytes.now true)) }
+        ensures disk { KeepsDisk act → Some (disk_of self.new) ≡ Some (disk_of self.old) }
         ensures output { (Some (said_of self.new) ≡ Some (said_of self.old))
             × (self.new.say_faults ≡ self.old.say_faults) }
-        ensures stops { PassesIn self.old self.new Same (Said (Some (said_of self.old))) }
+        ensures stops { PassesIn self.old self.new (step_of (event act bytes.now true) act)
+            (Found (now self.old.past) bytes.now act) }
         ensures after { (is_kept : Bool)
-            × (self.new ≡ after_disk_call self.old act.Look [] (is_next_done self.old) is_kept)
-            × (is_ok result ≡ (is_next_done self.old && is_kept)) }
+            × (self.new ≡ after_disk_call self.old act bytes.now
+            (is_call_done self.old act (length bytes.now)) is_kept)
+            × (is_ok result ≡ (is_call_done self.old act (length bytes.now) && is_kept)) }
     {
-        let is_done = self.next_disk_call();
-        let kept = self.history.note_look(is_done);
+        let is_done = self.next_call(act, bytes.len());
+        let kept = self.history.note(act, bytes, is_done);
         self.end_disk_call(is_done, kept)
     }
 
@@ -378,7 +388,7 @@ impl Station for MemStation {
             × (self.new ≡ after_disk_call self.old act.Look [] (is_next_done self.old) is_kept)
             × (is_ok result ≡ (is_next_done self.old && is_kept)) }
     {
-        self.look()?;
+        self.disk_call(Act::Look, &[])?;
         Ok(self.history.disk().len() as u64)
     }
 
@@ -396,7 +406,7 @@ impl Station for MemStation {
             × (self.new ≡ after_disk_call self.old act.Look [] (is_next_done self.old) is_kept)
             × (is_ok result ≡ (is_next_done self.old && is_kept)) }
     {
-        self.look()?;
+        self.disk_call(Act::Look, &[])?;
         Ok(give_at(self.history.disk(), at, into))
     }
 
@@ -416,9 +426,7 @@ impl Station for MemStation {
             (is_write_done self.old at (length bytes.now)) is_kept)
             × (is_ok result ≡ (is_write_done self.old at (length bytes.now) && is_kept)) }
     {
-        let is_done = self.next_write(at, bytes.len());
-        let kept = self.history.note_write(at, bytes, is_done);
-        self.end_disk_call(is_done, kept)
+        self.disk_call(Act::Write { at }, bytes)
     }
 
     fn cut(&mut self, size: u64) -> Result<(), Failed>
@@ -435,9 +443,7 @@ impl Station for MemStation {
             (is_next_done self.old) is_kept)
             × (is_ok result ≡ (is_next_done self.old && is_kept)) }
     {
-        let is_done = self.next_disk_call();
-        let kept = self.history.note_cut(size, is_done);
-        self.end_disk_call(is_done, kept)
+        self.disk_call(Act::Cut { size }, &[])
     }
 
     fn sync(&mut self) -> Result<(), Failed>
@@ -453,9 +459,7 @@ impl Station for MemStation {
             × (self.new ≡ after_disk_call self.old act.Sync [] (is_next_done self.old) is_kept)
             × (is_ok result ≡ (is_next_done self.old && is_kept)) }
     {
-        let is_done = self.next_disk_call();
-        let kept = self.history.note_sync(is_done);
-        self.end_disk_call(is_done, kept)
+        self.disk_call(Act::Sync, &[])
     }
 
     fn say(&mut self, bytes: &[u8]) -> Result<(), Failed>
@@ -476,7 +480,7 @@ impl Station for MemStation {
             × (is_ok result ≡ (not (say_fails_next self.old) && is_kept)) }
     {
         let is_done = self.next_say();
-        let kept = self.history.note_say(bytes, is_done);
+        let kept = self.history.note(Act::Say, bytes, is_done);
         self.end_say(is_done, kept)
     }
 }

@@ -2,12 +2,9 @@
 //!
 //! A read or a write that a signal broke off is tried again. Any other fault of the stream is
 //! counted and answered as one; the end of the input is no fault.
-ghost use Rattle.std.specs.Prelude.{◌≡◌, ◌≢◌, ◌≤◌, Bool, true, length, is_ok};
-ghost use Rattle.std.specs.Prelude.{Ok, IsTrue, IsErr, IfOk, IfErr, OnOk, OnErr};
-ghost use Rattle.std.specs.IoError.{error_kind};
-ghost use Rattle.std.specs.Io.KnownBytes.{Keeps as KeepsKnown};
-ghost use Rattle.sz_outside.specs.Outside.{Gives, Keeps, Says, SaysPart};
-ghost use Rattle.sz_outside.specs.Counts.{faults_after};
+ghost use Rattle.sz_outside.specs.Terms.{◌≡◌, ◌≢◌, ◌≤◌, Bool, true, length, is_ok, Ok, IsTrue};
+ghost use Rattle.sz_outside.specs.Terms.{IsErr, IfOk, IfErr, OnOk, OnErr, error_kind, KeepsKnown};
+ghost use Rattle.sz_outside.specs.Terms.{Gives, Keeps, Says, SaysPart, faults_after};
 
 use crate::Failed;
 use std::io::{self, ErrorKind, Read, Stdout, Write};

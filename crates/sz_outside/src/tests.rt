@@ -1,5 +1,5 @@
 //! What no clause says of the one read and the one write that serve the real streams.
-ghost use Rattle.std.specs.Prelude.{not};
+ghost use Rattle.sz_outside.specs.Terms.{not};
 
 use crate::Failed;
 use crate::streams::{Outlet, read_and_count, write_and_count};
@@ -33,6 +33,19 @@ fn the_real_input_is_read(rt: HostRuntime) -> Result<(), Fail> {
     Ok(())
 }
 
+/// Breaks a call off by the next signal, or where there is none left, by the next broken pipe.
+fn meet(signals: &mut u8, breaks: &mut u8) -> io::Result<()> {
+    if *signals > 0 {
+        *signals -= 1;
+        return Err(io::Error::from(ErrorKind::Interrupted));
+    }
+    if *breaks > 0 {
+        *breaks -= 1;
+        return Err(io::Error::from(ErrorKind::BrokenPipe));
+    }
+    Ok(())
+}
+
 /// A reader of endless bytes, two at a time, whose next reads a signal breaks off, and the reads
 /// behind them a broken pipe.
 #[derive(Drop)]
@@ -43,14 +56,7 @@ struct Pipe {
 
 impl Read for Pipe {
     fn read(&mut self, into: &mut [u8]) -> io::Result<usize> {
-        if self.signals > 0 {
-            self.signals -= 1;
-            return Err(io::Error::from(ErrorKind::Interrupted));
-        }
-        if self.breaks > 0 {
-            self.breaks -= 1;
-            return Err(io::Error::from(ErrorKind::BrokenPipe));
-        }
+        meet(&mut self.signals, &mut self.breaks)?;
         Ok(into.len().min(2))
     }
 }
@@ -68,14 +74,7 @@ struct Sink {
 
 impl Write for Sink {
     fn write(&mut self, bytes: &[u8]) -> io::Result<usize> {
-        if self.signals > 0 {
-            self.signals -= 1;
-            return Err(io::Error::from(ErrorKind::Interrupted));
-        }
-        if self.breaks > 0 {
-            self.breaks -= 1;
-            return Err(io::Error::from(ErrorKind::BrokenPipe));
-        }
+        meet(&mut self.signals, &mut self.breaks)?;
         let count = bytes.len().min(2);
         if count > self.room {
             return Err(io::Error::from(ErrorKind::StorageFull));

@@ -1,8 +1,7 @@
 //! A read and a write at a place of a file, for any kind of file.
-ghost use Rattle.std.specs.Prelude.{◌≡◌, ◌≤◌, ◌<◌, ◌+◌, ◌^◌, ℕ, List, Option, Bool, None, true};
-ghost use Rattle.std.specs.Prelude.{length, IfOk, OnOk, OnErr, IsTrue, nat_lt};
-ghost use Rattle.sz_outside.specs.Disk.{HasSize, GivesAt, Holds, Writes, WritesPart, Cuts};
-ghost use Rattle.sz_outside.specs.Disk.{CutsOrNot};
+ghost use Rattle.sz_outside.specs.Terms.{◌≡◌, ◌≤◌, ◌<◌, ◌+◌, ◌^◌, ℕ, List, Option, Bool, None};
+ghost use Rattle.sz_outside.specs.Terms.{true, length, IfOk, OnOk, OnErr, IsTrue, nat_lt, HasSize};
+ghost use Rattle.sz_outside.specs.Terms.{GivesAt, Holds, Writes, WritesPart, Cuts, CutsOrNot};
 
 use std::fs::File;
 use std::io::{self, ErrorKind};

@@ -4,3 +4,4 @@ pub mod Words
 pub mod Owned
 pub mod Looks
 pub mod Begins
+mod Terms

@@ -1,16 +1,9 @@
 //! Looks backward: from output cells to the cells of an input that their payloads stand for.
 
-ghost use Rattle.std.specs.Prelude.{◌≡◌, ◌<◌, ◌↔◌, length, true, IsTrue, Some};
-ghost use Rattle.sz_cells.specs.Extent.{holds, size_of, cell_of};
-ghost use Rattle.sz_cells.specs.Cells.{has, with_those};
-ghost use Rattle.sz_spec.specs.declared.modes.Dir.TheVariants.{Back};
-ghost use Rattle.sz_spec.specs.Payloads.{mapped_by_payload};
-ghost use Rattle.sz_spec.specs.Sides.{image_in};
-ghost use Rattle.sz_spec.specs.Values.{extent_at};
-ghost use Rattle.sz_tables.specs.Entries.{entries, entry_at};
-ghost use Rattle.sz_payload.specs.Kept.{entries_stand};
-ghost use Rattle.sz_payload.specs.Owned.{IsHeld};
-ghost use Rattle.sz_payload.specs.Looks.{IsDone};
+ghost use Rattle.sz_payload.specs.Terms.{◌≡◌, ◌<◌, ◌↔◌, length, true, IsTrue, Some, holds, size_of};
+ghost use Rattle.sz_payload.specs.Terms.{cell_of, has, with_those, Back, mapped_by_payload};
+ghost use Rattle.sz_payload.specs.Terms.{image_in, extent_at, entries, entry_at, entries_stand};
+ghost use Rattle.sz_payload.specs.Terms.{IsHeld, IsDone};
 
 use crate::look::Look;
 use crate::table::is_alike;

@@ -1,14 +1,9 @@
 //! Payloads of cleaning: the byte 1 for the square round a cell, and 0 for the cell alone.
 
-ghost use Rattle.std.specs.Prelude.{◌≡◌, ◌<◌, ◌≤◌, ◌==◌, length, true, false, slice_index};
-ghost use Rattle.sz_cells.specs.Extent.{holds};
-ghost use Rattle.sz_cells.specs.Cells.{any_cell, with_those};
-ghost use Rattle.sz_cells.specs.declared.Cell.{Cell};
-ghost use Rattle.sz_spec.specs.Operators.Clean.{is_in_square};
-ghost use Rattle.sz_spec.specs.Rectangles.{is_in_rectangle, is_in_row};
-ghost use Rattle.sz_spec.specs.Values.{extent_at};
-ghost use Rattle.sz_spec.specs.Payloads.{is_payload, mapped_by_payload};
-ghost use Rattle.sz_payload.specs.Kept.{AreAlike, IsClean};
+ghost use Rattle.sz_payload.specs.Terms.{◌≡◌, ◌<◌, ◌≤◌, ◌==◌, length, true, false, slice_index};
+ghost use Rattle.sz_payload.specs.Terms.{holds, any_cell, with_those, Cell, is_in_square};
+ghost use Rattle.sz_payload.specs.Terms.{is_in_rectangle, is_in_row, extent_at, is_payload};
+ghost use Rattle.sz_payload.specs.Terms.{mapped_by_payload, AreAlike, IsClean};
 
 use crate::runs::run_meets;
 use sz_cells::{Bounds, Cell, CellBits, Run, Shape};

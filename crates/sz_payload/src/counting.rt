@@ -1,10 +1,7 @@
 //! How many runs the sets of entries have, and how many bytes their payloads.
 
-ghost use Rattle.std.specs.Prelude.{◌≡◌, ◌<◌, ◌≤◌, ◌*◌, ◌^◌, length, map, sum_by, All};
-ghost use Rattle.std.specs.Arc.{arc_value};
-ghost use Rattle.sz_region.specs.PayBytes.{IsShort};
-ghost use Rattle.sz_tables.specs.Rows.{runs_in};
-ghost use Rattle.sz_tables.specs.Stores.{cells_in, most_given};
+ghost use Rattle.sz_payload.specs.Terms.{◌≡◌, ◌<◌, ◌≤◌, ◌*◌, ◌^◌, length, map, sum_by, All};
+ghost use Rattle.sz_payload.specs.Terms.{arc_value, IsShort, runs_in, cells_in, most_given};
 
 use std::sync::Arc;
 use sz_frame::PayEntry;

@@ -1,20 +1,11 @@
 //! Looks forward: from cells of an input to the output cells whose payloads stand for one of them.
 
-ghost use Rattle.std.specs.Prelude.{◌≡◌, ◌<◌, ◌≤◌, ◌==◌, ◌&&◌, length, true};
-ghost use Rattle.sz_cells.specs.declared.Cell.{Cell};
-ghost use Rattle.sz_cells.specs.Extent.{size_of, cell_of, index_of};
-ghost use Rattle.sz_cells.specs.Cells.{any_cell, has, union_of, with_those};
-ghost use Rattle.sz_cells.specs.Runs.{AreRunsFrom, covers, is_in};
-ghost use Rattle.sz_cells.specs.Words.{cells_at};
-ghost use Rattle.sz_spec.specs.declared.modes.Dir.TheVariants.{Forward};
-ghost use Rattle.sz_spec.specs.Payloads.{is_payload, mapped_by_payload};
-ghost use Rattle.sz_spec.specs.Sides.{image_in};
-ghost use Rattle.sz_spec.specs.Values.{extent_at};
-ghost use Rattle.sz_tables.specs.Entries.{entries, entry_at};
-ghost use Rattle.sz_tables.specs.Payloads.{payload_at};
-ghost use Rattle.sz_payload.specs.Kept.{AreAlike, entries_stand};
-ghost use Rattle.sz_payload.specs.Owned.{IsHeld};
-ghost use Rattle.sz_payload.specs.Looks.{IsTested, entry_adds, entries_add, lone};
+ghost use Rattle.sz_payload.specs.Terms.{◌≡◌, ◌<◌, ◌≤◌, ◌==◌, ◌&&◌, length, true, Cell, size_of};
+ghost use Rattle.sz_payload.specs.Terms.{cell_of, index_of, any_cell, has, union_of, with_those};
+ghost use Rattle.sz_payload.specs.Terms.{AreRunsFrom, covers, is_in, cells_at, Forward, is_payload};
+ghost use Rattle.sz_payload.specs.Terms.{mapped_by_payload, image_in, extent_at, entries, entry_at};
+ghost use Rattle.sz_payload.specs.Terms.{payload_at, AreAlike, entries_stand, IsHeld, IsTested};
+ghost use Rattle.sz_payload.specs.Terms.{entry_adds, entries_add, lone};
 
 use crate::look::Look;
 use crate::table::{is_alike, meets};

@@ -1,13 +1,9 @@
 //! Payloads of lookup: no byte, or four of the column that is named in the table.
 
-ghost use Rattle.std.specs.Prelude.{◌≡◌, ◌<◌, [], length, true, IfSome};
-ghost use Rattle.sz_cells.specs.Extent.{holds};
-ghost use Rattle.sz_cells.specs.Cells.{any_cell, with_those};
-ghost use Rattle.sz_spec.specs.declared.op.Op.TheVariants.{Lookup};
-ghost use Rattle.sz_spec.specs.Values.{extent_at};
-ghost use Rattle.sz_spec.specs.Payloads.{is_payload, mapped_by_payload, is_column, entry_kept};
-ghost use Rattle.sz_frame.specs.Single.{is_cell, IsOnly};
-ghost use Rattle.sz_payload.specs.Kept.{AreAlike};
+ghost use Rattle.sz_payload.specs.Terms.{◌≡◌, ◌<◌, [], length, true, IfSome, holds, any_cell};
+ghost use Rattle.sz_payload.specs.Terms.{with_those, Lookup, extent_at, is_payload};
+ghost use Rattle.sz_payload.specs.Terms.{mapped_by_payload, is_column, entry_kept, is_cell, IsOnly};
+ghost use Rattle.sz_payload.specs.Terms.{AreAlike};
 
 use crate::runs::number_at;
 use sz_cells::{Cell, CellBits, Shape};

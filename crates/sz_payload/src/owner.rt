@@ -1,19 +1,13 @@
 //! Which entry an output cell is in.
 
-ghost use Rattle.std.specs.Prelude.{◌≡◌, ◌<◌, ◌≤◌, ◌+◌, ◌*◌, ◌++◌, ◌∷◌, [], ℕ, List, length, true};
-ghost use Rattle.std.specs.Prelude.{false, if◌then◌else◌};
-ghost use Rattle.std.specs.Prelude.{IfOk, OnOk, slice_index, nat_lt};
-ghost use Rattle.std.specs.List.Sorted.{IsNonDecreasingBy, IsPartitionPoint};
-ghost use Rattle.sz_cells.specs.Extent.{size_of, cell_of, Extent};
-ghost use Rattle.sz_cells.specs.Cells.{has};
-ghost use Rattle.sz_cells.specs.Runs.{AreRunsFrom, covers, indexes_of, is_in};
-ghost use Rattle.sz_frame.specs.Parts.{Entry};
-ghost use Rattle.sz_tables.specs.Entries.{entries, entry_at};
-ghost use Rattle.sz_tables.specs.Filed.{told};
-ghost use Rattle.sz_tables.specs.Stores.{cells_in, most_given};
-ghost use Rattle.sz_payload.specs.Owned.{IsIndexOf, IsOwnerOf, AreFilesOf, AreRound, AreSlotsOf};
-ghost use Rattle.sz_payload.specs.Owned.{HasCellRoom, cell_room, rests, room_in, with_cells};
-ghost use Rattle.sz_payload.specs.Owned.{owner_capacities};
+ghost use Rattle.sz_payload.specs.Terms.{◌≡◌, ◌<◌, ◌≤◌, ◌+◌, ◌*◌, ◌++◌, ◌∷◌, [], ℕ, List, length};
+ghost use Rattle.sz_payload.specs.Terms.{true, false, if◌then◌else◌, IfOk, OnOk, slice_index};
+ghost use Rattle.sz_payload.specs.Terms.{nat_lt, IsNonDecreasingBy, IsPartitionPoint, size_of};
+ghost use Rattle.sz_payload.specs.Terms.{cell_of, Extent, has, AreRunsFrom, covers, indexes_of};
+ghost use Rattle.sz_payload.specs.Terms.{is_in, Entry, entries, entry_at, told, cells_in};
+ghost use Rattle.sz_payload.specs.Terms.{most_given, IsIndexOf, IsOwnerOf, AreFilesOf, AreRound};
+ghost use Rattle.sz_payload.specs.Terms.{AreSlotsOf, HasCellRoom, cell_room, rests, room_in};
+ghost use Rattle.sz_payload.specs.Terms.{with_cells, owner_capacities};
 
 use std::alloc::Global;
 use sz_cells::{Bounds, CellSet, NoMemory, Run, Shape};

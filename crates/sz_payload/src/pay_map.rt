@@ -1,8 +1,6 @@
 //! The mapping of an operator that has payloads.
 
-ghost use Rattle.std.specs.Prelude.{◌≡◌, false};
-ghost use Rattle.std.specs.Arc.{arc_value};
-ghost use Rattle.sz_spec.specs.Modes.{has_mapping};
+ghost use Rattle.sz_payload.specs.Terms.{◌≡◌, false, arc_value, has_mapping};
 
 use crate::table;
 use std::marker::Model;

@@ -1,13 +1,9 @@
 //! Payloads of connected regions: no byte for the cell alone, or the bytes of the region's set.
 
-ghost use Rattle.std.specs.Prelude.{◌≡◌, ◌<◌, length, true, IfSome, IfNone};
-ghost use Rattle.sz_cells.specs.Extent.{holds};
-ghost use Rattle.sz_cells.specs.Cells.{any_cell, has, with_those};
-ghost use Rattle.sz_cells.specs.SetWords.{is_set_word, set_spelled};
-ghost use Rattle.sz_spec.specs.Values.{extent_at};
-ghost use Rattle.sz_spec.specs.Payloads.{is_payload, mapped_by_payload};
-ghost use Rattle.sz_payload.specs.Kept.{AreAlike, IsRegions};
-ghost use Rattle.sz_payload.specs.Words.{IsBodyOf, IsNoWord};
+ghost use Rattle.sz_payload.specs.Terms.{◌≡◌, ◌<◌, length, true, IfSome, IfNone, holds, any_cell};
+ghost use Rattle.sz_payload.specs.Terms.{has, with_those, is_set_word, set_spelled, extent_at};
+ghost use Rattle.sz_payload.specs.Terms.{is_payload, mapped_by_payload, AreAlike, IsRegions};
+ghost use Rattle.sz_payload.specs.Terms.{IsBodyOf, IsNoWord};
 
 use crate::runs::{add_runs, are_longest, number_at, runs_meet};
 use sz_cells::{Cell, CellBits, Shape};

@@ -1,15 +1,10 @@
 //! Runs of cells as they stand in bytes: eight of them a run, four for its first index and four
 //! for its last, big-endian.
 
-ghost use Rattle.std.specs.Prelude.{◌≡◌, ◌<◌, ◌≤◌, ◌+◌, ◌%◌, ◌↔◌, length, IsTrue, Option};
-ghost use Rattle.std.specs.List.{list_any};
-ghost use Rattle.sz_cells.specs.Extent.{size_of};
-ghost use Rattle.sz_cells.specs.Cells.{union_of, next_index};
-ghost use Rattle.sz_cells.specs.Rising.{AreRising};
-ghost use Rattle.sz_cells.specs.Runs.{AreRunsFrom, covers, is_in};
-ghost use Rattle.sz_cells.specs.SetWords.{runs_spelled};
-ghost use Rattle.sz_cells.specs.Words.{cells_at};
-ghost use Rattle.sz_region.specs.Taking.{number_at, run_at};
+ghost use Rattle.sz_payload.specs.Terms.{◌≡◌, ◌<◌, ◌≤◌, ◌+◌, ◌%◌, ◌↔◌, length, IsTrue, Option};
+ghost use Rattle.sz_payload.specs.Terms.{list_any, size_of, union_of, next_index, AreRising};
+ghost use Rattle.sz_payload.specs.Terms.{AreRunsFrom, covers, is_in, runs_spelled, cells_at};
+ghost use Rattle.sz_payload.specs.Terms.{number_at, run_at};
 
 use sz_cells::{CellBits, Run};
 

@@ -1,20 +1,12 @@
 //! Stores of payload and of composite lineage.
 
-ghost use Rattle.std.specs.Prelude.{◌≡◌, ◌<◌, ◌≤◌, ◌+◌, ◌*◌, [], ◌∷◌, ◌++◌, length, map, All};
-ghost use Rattle.std.specs.Prelude.{OnOk, OnErr, IfOk, IfErr, List, ℕ, true, false};
-ghost use Rattle.std.specs.Arc.{arc_value};
-ghost use Rattle.sz_cells.specs.Cells.{Cells, has, with_those};
-ghost use Rattle.sz_spec.specs.Modes.{has_mapping};
-ghost use Rattle.sz_spec.specs.Sides.{near_side, far_side, image_in};
-ghost use Rattle.sz_frame.specs.Fits.{AreApart};
-ghost use Rattle.sz_region.specs.PayBytes.{IsPayWord};
-ghost use Rattle.sz_tables.specs.Entries.{entries};
-ghost use Rattle.sz_tables.specs.Rows.{runs_in};
-ghost use Rattle.sz_tables.specs.Stores.{IsWithin, room_for_entries, no_room, most_given};
-ghost use Rattle.sz_tables.specs.Stores.{cells_in};
-ghost use Rattle.sz_tables.specs.Tables.{AreDifferent};
-ghost use Rattle.sz_payload.specs.Begins.{AreLawful, BeginsPayloads, SaysNoPayloads};
-ghost use Rattle.sz_payload.specs.Kept.{IsEntryOf, entries_stand, part_of};
+ghost use Rattle.sz_payload.specs.Terms.{◌≡◌, ◌<◌, ◌≤◌, ◌+◌, ◌*◌, [], ◌∷◌, ◌++◌, length, map, All};
+ghost use Rattle.sz_payload.specs.Terms.{OnOk, OnErr, IfOk, IfErr, List, ℕ, true, false, arc_value};
+ghost use Rattle.sz_payload.specs.Terms.{Cells, has, with_those, has_mapping, near_side, far_side};
+ghost use Rattle.sz_payload.specs.Terms.{image_in, AreApart, IsPayWord, entries, runs_in, IsWithin};
+ghost use Rattle.sz_payload.specs.Terms.{room_for_entries, no_room, most_given, cells_in};
+ghost use Rattle.sz_payload.specs.Terms.{AreDifferent, AreLawful, BeginsPayloads, SaysNoPayloads};
+ghost use Rattle.sz_payload.specs.Terms.{IsEntryOf, entries_stand, part_of};
 
 use crate::counting::{bytes_of_all, cells_of_all, runs_of_all};
 use crate::look::Look;

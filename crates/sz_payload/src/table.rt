@@ -1,14 +1,9 @@
 //! The table of operators that have payloads: which file speaks of which. A further operator is a
 //! file, and a line here.
 
-ghost use Rattle.std.specs.Prelude.{◌≡◌, ◌<◌, length, true, false};
-ghost use Rattle.sz_cells.specs.Extent.{holds};
-ghost use Rattle.sz_cells.specs.Cells.{any_cell, with_those};
-ghost use Rattle.sz_spec.specs.Values.{extent_at};
-ghost use Rattle.sz_spec.specs.Modes.{has_mapping};
-ghost use Rattle.sz_spec.specs.Lineage.{mapped};
-ghost use Rattle.sz_spec.specs.Payloads.{is_payload, mapped_by_payload};
-ghost use Rattle.sz_payload.specs.Kept.{AreAlike};
+ghost use Rattle.sz_payload.specs.Terms.{◌≡◌, ◌<◌, length, true, false, holds, any_cell};
+ghost use Rattle.sz_payload.specs.Terms.{with_those, extent_at, has_mapping, mapped, is_payload};
+ghost use Rattle.sz_payload.specs.Terms.{mapped_by_payload, AreAlike};
 
 use crate::{clean, lookup, regions};
 use sz_cells::{Cell, CellBits};

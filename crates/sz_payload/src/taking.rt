@@ -1,12 +1,8 @@
 //! Reading the entries of a store, and judging the table of payloads in its bytes.
 
-ghost use Rattle.std.specs.Prelude.{◌≡◌, ◌≤◌, ◌+◌, ℕ, List, length, true, false, IfOk, IfErr};
-ghost use Rattle.std.specs.List.{slice_range};
-ghost use Rattle.sz_region.specs.Taking.{number_at};
-ghost use Rattle.sz_spec.specs.Modes.{has_mapping};
-ghost use Rattle.sz_tables.specs.Entries.{entries};
-ghost use Rattle.sz_payload.specs.Begins.{AreLawful, BeginsPayloads, IsTableAt};
-ghost use Rattle.sz_payload.specs.Begins.{SaysNoPayloads};
+ghost use Rattle.sz_payload.specs.Terms.{◌≡◌, ◌≤◌, ◌+◌, ℕ, List, length, true, false, IfOk, IfErr};
+ghost use Rattle.sz_payload.specs.Terms.{slice_range, number_at, has_mapping, entries, AreLawful};
+ghost use Rattle.sz_payload.specs.Terms.{BeginsPayloads, IsTableAt, SaysNoPayloads};
 
 use crate::runs::number_at;
 use crate::table::is_payload;

@@ -2,3 +2,4 @@ pub mod Choices
 pub mod Offers
 pub mod Costs
 pub mod Laws
+mod Terms

@@ -1,7 +1,7 @@
 //! Laws of the definitions, for a reader: each function has an empty body, and its contract is the
 //! law.
 
-ghost use Rattle.sz_planner.specs.Laws.{ListsAreBestChoices, BestChoicesAreOne};
+ghost use Rattle.sz_planner.specs.Terms.{ListsAreBestChoices, BestChoicesAreOne};
 
 /// Within any limit there is a best choice: the list that is read off from the least costs.
 pub fn lists_are_best_choices()

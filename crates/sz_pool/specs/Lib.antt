@@ -6,3 +6,4 @@ pub mod Making
 pub mod Tries
 pub mod Tasks
 pub mod Replies
+mod Terms

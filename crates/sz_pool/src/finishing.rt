@@ -1,12 +1,7 @@
 //! What workers left undone, done.
 
-ghost use Rattle.std.specs.Prelude.{◌≡◌, ◌+◌, ◌<◌, ◌≤◌, ◌^◌, true, OnOk};
-ghost use Rattle.std.specs.Arc.{arc_value};
-ghost use Rattle.sz_cells.specs.Extent.{size_of};
-ghost use Rattle.sz_shelf.specs.Passes.{place_of};
-ghost use Rattle.sz_pool.specs.Effort.{cells_of, left_over};
-ghost use Rattle.sz_pool.specs.Growing.{Grows};
-ghost use Rattle.sz_pool.specs.Tagged.{tag_over};
+ghost use Rattle.sz_pool.specs.Terms.{◌≡◌, ◌+◌, ◌<◌, ◌≤◌, ◌^◌, true, OnOk, arc_value, size_of};
+ghost use Rattle.sz_pool.specs.Terms.{place_of, cells_of, left_over, Grows, tag_over};
 
 use crate::maker::Maker;
 use std::alloc::Global;

@@ -1,11 +1,7 @@
 //! Tasks for the nodes of a version.
 
-ghost use Rattle.std.specs.Prelude.{◌≡◌, map, IfOk};
-ghost use Rattle.std.specs.Arc.{arc_value};
-ghost use Rattle.sz_spec.specs.Pieces.{pieces_of};
-ghost use Rattle.sz_shelf.specs.Passes.{place_of};
-ghost use Rattle.sz_pool.specs.Tagged.{tag_over};
-ghost use Rattle.sz_pool.specs.Tasks.{IsTaskFor};
+ghost use Rattle.sz_pool.specs.Terms.{◌≡◌, map, IfOk, arc_value, pieces_of, place_of, tag_over};
+ghost use Rattle.sz_pool.specs.Terms.{IsTaskFor};
 
 use crate::task::{StrategyList, Task};
 use std::alloc::Global;

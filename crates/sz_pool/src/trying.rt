@@ -1,11 +1,7 @@
 //! One try of a piece of a task.
 
-ghost use Rattle.std.specs.Prelude.{◌+◌, ◌<◌, ◌^◌};
-ghost use Rattle.std.specs.Arc.{arc_value};
-ghost use Rattle.sz_spec.specs.Pieces.{pieces_of};
-ghost use Rattle.sz_frame.specs.Written.{cells_in_piece};
-ghost use Rattle.sz_pool.specs.Tries.{HasTried};
-ghost use Rattle.sz_pool.specs.Tasks.{IsSameTask};
+ghost use Rattle.sz_pool.specs.Terms.{◌+◌, ◌<◌, ◌^◌, arc_value, pieces_of, cells_in_piece};
+ghost use Rattle.sz_pool.specs.Terms.{HasTried, IsSameTask};
 
 use crate::maker::Maker;
 use crate::task::Task;

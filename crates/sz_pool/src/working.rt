@@ -1,17 +1,10 @@
 //! Work on a task: claim after claim, and a seal.
 
-ghost use Rattle.std.specs.Prelude.{◌≡◌, ◌+◌, ◌<◌, ◌≤◌, ◌^◌, length, true, All, IfOk};
-ghost use Rattle.std.specs.Arc.{arc_value};
-ghost use Rattle.sz_cells.specs.Extent.{size_of};
-ghost use Rattle.sz_spec.specs.Pieces.{pieces_of};
-ghost use Rattle.sz_core.specs.Events.{seal_reply, after_seal};
-ghost use Rattle.sz_shelf.specs.Contents.{is_in};
-ghost use Rattle.sz_shelf.specs.Machine.{found_shelf, left_shelf, told_of_seal};
-ghost use Rattle.sz_pool.specs.Effort.{cells_of};
-ghost use Rattle.sz_pool.specs.Growing.{Grows, GrowsBy, AreReached, claimed_since};
-ghost use Rattle.sz_pool.specs.Replies.{IsReplyOf};
-ghost use Rattle.sz_pool.specs.Tries.{HasTriedAll, refused_after};
-ghost use Rattle.sz_pool.specs.Tasks.{IsSameTask};
+ghost use Rattle.sz_pool.specs.Terms.{◌≡◌, ◌+◌, ◌<◌, ◌≤◌, ◌^◌, length, true, All, IfOk, arc_value};
+ghost use Rattle.sz_pool.specs.Terms.{size_of, pieces_of, seal_reply, after_seal, is_in};
+ghost use Rattle.sz_pool.specs.Terms.{found_shelf, left_shelf, told_of_seal, cells_of, Grows};
+ghost use Rattle.sz_pool.specs.Terms.{GrowsBy, AreReached, claimed_since, IsReplyOf, HasTriedAll};
+ghost use Rattle.sz_pool.specs.Terms.{refused_after, IsSameTask};
 
 use crate::task::Task;
 use crate::trying::{Tried, try_piece};

@@ -4,3 +4,4 @@ pub mod Turns
 pub mod Answers
 pub mod Sides
 pub mod Laws
+mod Terms

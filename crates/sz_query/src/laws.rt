@@ -1,8 +1,8 @@
 //! Laws of answers, for a reader and for whoever holds a flow's outputs: each function has an empty
 //! body, and its contract is the law.
 
-ghost use Rattle.sz_query.specs.Laws.{AnswersGoByParts, AnswersAreTheComposedRelation};
-ghost use Rattle.sz_query.specs.Laws.{JoinedPathsAreSteps, StepsHaveWhatViewsAsk, AskedViewsStay};
+ghost use Rattle.sz_query.specs.Terms.{AnswersGoByParts, AnswersAreTheComposedRelation};
+ghost use Rattle.sz_query.specs.Terms.{JoinedPathsAreSteps, StepsHaveWhatViewsAsk, AskedViewsStay};
 
 /// The answer by views in two parts is the answer by the second part from that by the first.
 pub fn answers_go_by_parts()

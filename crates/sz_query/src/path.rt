@@ -1,10 +1,8 @@
 //! The answer along a path.
 
-ghost use Rattle.std.specs.Prelude.{◌≡◌, ◌+◌, ◌<◌, ◌^◌, map, IfOk, OnOk, OnErr};
-ghost use Rattle.std.specs.List.{AllZip};
-ghost use Rattle.sz_query.specs.Views.{view_of, used_of};
-ghost use Rattle.sz_query.specs.Turns.{IsAsked, MayBeAsked};
-ghost use Rattle.sz_query.specs.Answers.{answered, traced_of, most_traced_of, AreSteps, IsPath};
+ghost use Rattle.sz_query.specs.Terms.{◌≡◌, ◌+◌, ◌<◌, ◌^◌, map, IfOk, OnOk, OnErr, AllZip, view_of};
+ghost use Rattle.sz_query.specs.Terms.{used_of, IsAsked, MayBeAsked, answered, traced_of};
+ghost use Rattle.sz_query.specs.Terms.{most_traced_of, AreSteps, IsPath};
 
 use crate::spare::Spare;
 use crate::steps::{bits_of, sides_of, take_steps};

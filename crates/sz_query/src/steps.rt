@@ -1,11 +1,8 @@
 //! The steps of a path, one after the other.
 
-ghost use Rattle.std.specs.Prelude.{◌≡◌, ◌+◌, ◌<◌, ◌^◌, map, IfOk, OnOk, OnErr};
-ghost use Rattle.std.specs.List.{AllZip};
-ghost use Rattle.sz_query.specs.Views.{view_of, used_of};
-ghost use Rattle.sz_query.specs.Turns.{IsAsked, MayBeAsked};
-ghost use Rattle.sz_query.specs.Answers.{answered, traced_of, most_traced_of, AreSteps};
-ghost use Rattle.sz_query.specs.Sides.{empty_sides};
+ghost use Rattle.sz_query.specs.Terms.{◌≡◌, ◌+◌, ◌<◌, ◌^◌, map, IfOk, OnOk, OnErr, AllZip, view_of};
+ghost use Rattle.sz_query.specs.Terms.{used_of, IsAsked, MayBeAsked, answered, traced_of};
+ghost use Rattle.sz_query.specs.Terms.{most_traced_of, AreSteps, empty_sides};
 
 use crate::spare::Spare;
 use crate::used::UsedList;

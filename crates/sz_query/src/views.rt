@@ -3,17 +3,10 @@
 //! Each call is a table with a line for each kind of view, as are the definitions in `specs/Views`:
 //! a further kind is a further line in each.
 
-ghost use Rattle.std.specs.Prelude.{◌≡◌, ◌+◌, ◌<◌, ◌^◌, length, IfOk, OnOk};
-ghost use Rattle.std.specs.Arc.{arc_value};
-ghost use Rattle.sz_cells.specs.Cells.{no_cells};
-ghost use Rattle.sz_cells.specs.Extent.{size_of};
-ghost use Rattle.sz_spec.specs.Lineage.{related};
-ghost use Rattle.sz_spec.specs.Sides.{near_side, far_side, image_in};
-ghost use Rattle.sz_spec.specs.Values.{extents_of};
-ghost use Rattle.sz_query.specs.declared.used.Used.TheVariants.{Traced};
-ghost use Rattle.sz_query.specs.Views.{view_of, view_site, IsUsable, used_of, traced_by};
-ghost use Rattle.sz_query.specs.Views.{most_traced_by, image_by};
-ghost use Rattle.sz_query.specs.Turns.{IsAsked};
+ghost use Rattle.sz_query.specs.Terms.{◌≡◌, ◌+◌, ◌<◌, ◌^◌, length, IfOk, OnOk, arc_value, no_cells};
+ghost use Rattle.sz_query.specs.Terms.{size_of, related, near_side, far_side, image_in, extents_of};
+ghost use Rattle.sz_query.specs.Terms.{Traced, view_of, view_site, IsUsable, used_of, traced_by};
+ghost use Rattle.sz_query.specs.Terms.{most_traced_by, image_by, IsAsked};
 
 use crate::growing::Growing;
 use crate::used::Used;

@@ -53,7 +53,7 @@ cmp-other : (m n : ℕ) → (n == m) ≡ false → is_at (nat_cmp m) n ≡ false
 cmp-other m n other = unsigned_tied m n ∙ flipped m n other
 
 -- a version that is put under a number is found there
-held-new : (es : List (ℕ × Version)) (n : ℕ) (v : Version)
+pub held-new : (es : List (ℕ × Version)) (n : ℕ) (v : Version)
     → lookup (is_at (nat_cmp n)) (insert_entry nat_cmp es n v) ≡ Some v
 held-new [] n v = rw (cmp-same n) refl
 held-new (e ∷ es) n v = step (nat_cmp n e.0) refl (held-new es n v) where
@@ -66,7 +66,7 @@ held-new (e ∷ es) n v = step (nat_cmp n e.0) refl (held-new es n v) where
   step Greater is rest = rw is rest
 
 -- and what is held under any other number stays
-held-old : (es : List (ℕ × Version)) (n m : ℕ) (v : Version) → (n == m) ≡ false
+pub held-old : (es : List (ℕ × Version)) (n m : ℕ) (v : Version) → (n == m) ≡ false
     → lookup (is_at (nat_cmp m)) (insert_entry nat_cmp es n v) ≡ lookup (is_at (nat_cmp m)) es
 held-old [] n m v other = rw (cmp-other m n other) refl
 held-old (e ∷ es) n m v other = step (nat_cmp n e.0) refl (held-old es n m v other) where

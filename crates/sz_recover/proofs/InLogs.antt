@@ -4,7 +4,7 @@ use Rattle.std.proofs.Common.{◌≡◌, inl, inr, ℕ, List, [], ◌∷◌, len
 use Rattle.std.proofs.Common.{true, false, true≢false, Bool, ◌&&◌, not, ◌==◌, Option, Some, None, is_none, nat_le}
 use Rattle.std.specs.Prelude.{if◌then◌else◌, ◌||◌, Result, Ok, Err}
 use Rattle.std.specs.List.{list_any}
-use Rattle.std.proofs.lemmas.Bool.{and_parts, eqb-true}
+use Rattle.std.proofs.lemmas.Bool.{and_parts, eqb-true, not-true, not-false}
 use Rattle.sz_script.specs.Reading.{reading}
 use Rattle.sz_script.proofs.LawsLines.{are_right}
 use Rattle.sz_script.specs.declared.command.Command.{Command}
@@ -21,14 +21,6 @@ use Rattle.sz_bodies.specs.Lawful.{IsLawful, version_said}
 use Rattle.sz_recover.specs.Logs.{Kept, Acts, ActEach, is_of_kind, held_by}
 use Rattle.sz_recover.specs.Growing.{IsVersionIn, IsInOrder, LogsAreInOrder, FormatsAreByGroups}
 use Rattle.sz_recover.proofs.InOrder.{nothing-in-order, commands-keep, added-in-order, named-in}
-
-off : (b : Bool) → not b ≡ true → b ≡ false
-off true is = absurd (true≢false (sym is))
-off false is = refl
-
-on : (b : Bool) → not (not b) ≡ true → b ≡ true
-on true is = refl
-on false is = absurd (true≢false (sym is))
 
 none-of : {X : Type 0} (o : Option X) → is_none o ≡ true → o ≡ None
 none-of None is = refl
@@ -53,12 +45,13 @@ pub lawful-version : (format : ℕ) (c : Holdings) (b : VersionBody) (bytes : Li
     → IsVersionIn c b.number (version_said c b)
 lawful-version format c b bytes is =
     let number = and_parts (nat_le 1 b.number) (rules.has_no_version c b.number) is.number in
+    let same = length b.base == (workflow_of c b.flow_name).graph.inputs in
     let count : length b.base ≡ (workflow_of c b.flow_name).graph.inputs =
     eqb-true (length b.base) (workflow_of c b.flow_name).graph.inputs
-    (on (length b.base == (workflow_of c b.flow_name).graph.inputs) is.each) in
+    (not-false same (not-true (not same) is.each)) in
     named-in c b.number b.flow_name b.base (version_said c b).lists true number.0 is.names
-    (off (rules.has_no_flow c b.flow_name) is.flow) (off (rules.has_no_array c b.base) is.bases) count
-    (off (rules.has_broken_shapes c b.flow_name b.base) is.shapes) is.lists
+    (not-true (rules.has_no_flow c b.flow_name) is.flow) (not-true (rules.has_no_array c b.base) is.bases) count
+    (not-true (rules.has_broken_shapes c b.flow_name b.base) is.shapes) is.lists
 
 version-in-order : (format : ℕ) (c : Holdings) (b : VersionBody) (bytes : List ℕ) → IsInOrder c
     → IsLawful format c b bytes → IsInOrder (with_version c b.number (version_said c b))

@@ -9,3 +9,4 @@ pub mod Props
 pub mod Comparing
 pub mod Soundness
 pub mod Ticking
+mod Terms

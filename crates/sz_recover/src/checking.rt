@@ -1,30 +1,16 @@
 //! Whether the stores of an opened log stand for what the operators of its versions relate.
 
-ghost use Rattle.std.specs.Prelude.{◌≡◌, ℕ, ◌<◌, ◌≤◌, List, [], ◌∷◌, length, map, true, false, All};
-ghost use Rattle.std.specs.Prelude.{option_map, Some, IfOk, OnOk};
-ghost use Rattle.std.specs.Bool.{Decides};
-ghost use Rattle.std.specs.List.{AllZip};
-ghost use Rattle.std.specs.Arc.{arc_value};
-ghost use Rattle.sz_cells.specs.Extent.{Extent, size_of, holds, cell_of};
-ghost use Rattle.sz_spec.specs.Values.{extents_of, extent_at};
-ghost use Rattle.sz_spec.specs.Shapes.{Site};
-ghost use Rattle.sz_spec.specs.Modes.{supports, is_stored, is_listed};
-ghost use Rattle.sz_spec.specs.Pieces.{pieces_of};
-ghost use Rattle.sz_spec.specs.Sides.{near_side, far_side};
-ghost use Rattle.sz_frame.specs.Parts.{Parts};
-ghost use Rattle.sz_frame.specs.Fits.{Fits};
-ghost use Rattle.sz_frame.specs.Images.{measure_of};
-ghost use Rattle.sz_ops.specs.Aids.{aid_of};
-ghost use Rattle.sz_flow.specs.Executions.{execution_of};
-ghost use Rattle.sz_store.specs.Kept.{holding_for, with_lineage, with_part};
-ghost use Rattle.sz_catalogue.specs.Holdings.{arrays_of};
-ghost use Rattle.sz_catalogue.specs.Kept.{IsRun};
-ghost use Rattle.sz_bodies.specs.Fitting.{FitsNode, FitNodes, Fit, lineages};
-ghost use Rattle.sz_recover.specs.Opened.{HasItsStores, IsEntryOf};
-ghost use Rattle.sz_recover.specs.Soundness.{IsExact, TellsOfNode, TellsOfNodes, TellsOfEntry};
-ghost use Rattle.sz_recover.specs.Soundness.{TellsOfAll, TellsOfStrategy, executions_of};
-ghost use Rattle.sz_recover.specs.Comparing.{IsListAt, IsOneOf, AgreeAt, AgreeOn};
-ghost use Rattle.sz_recover.specs.Comparing.{AgreeOnEach, AreSides};
+ghost use Rattle.sz_recover.specs.Terms.{◌≡◌, ℕ, ◌<◌, ◌≤◌, List, [], ◌∷◌, length, map, true, false};
+ghost use Rattle.sz_recover.specs.Terms.{All, option_map, Some, IfOk, OnOk, Decides, AllZip};
+ghost use Rattle.sz_recover.specs.Terms.{arc_value, Extent, size_of, holds, cell_of, extents_of};
+ghost use Rattle.sz_recover.specs.Terms.{extent_at, Site, supports, is_stored, is_listed};
+ghost use Rattle.sz_recover.specs.Terms.{pieces_of, near_side, far_side, Parts, Fits, measure_of};
+ghost use Rattle.sz_recover.specs.Terms.{aid_of, execution_of, holding_for, with_lineage};
+ghost use Rattle.sz_recover.specs.Terms.{with_part, arrays_of, IsRun, FitsNode, FitNodes, Fit};
+ghost use Rattle.sz_recover.specs.Terms.{lineages, HasItsStores, IsEntryOf, IsExact, TellsOfNode};
+ghost use Rattle.sz_recover.specs.Terms.{TellsOfNodes, TellsOfEntry, TellsOfAll, TellsOfStrategy};
+ghost use Rattle.sz_recover.specs.Terms.{executions_of, IsListAt, IsOneOf, AgreeAt, AgreeOn};
+ghost use Rattle.sz_recover.specs.Terms.{AgreeOnEach, AreSides};
 
 use crate::groups::KeptVersion;
 use crate::opening::Recovered;
@@ -313,9 +299,35 @@ fn are_one(
     ensures { IfOk result (λ r. Decides r
         (AgreeOnEach at.now (holding_for s a.now.stores) (holding_for s b.now.stores))) }
 {
-    let dir = side_of(s);
     for input in 0..at.ins().len() {
-        if !are_one_on(alloc, at, a, b, s, dir, input as u32)? {
+        if !are_one_on(alloc, at, a, b, s, input as u32)? {
+            return Ok(false);
+        }
+    }
+    Ok(true)
+}
+
+/// Whether they stand for the same between the output and one input: whether both give each single
+/// cell, of the side from which they are asked, the same image.
+fn are_one_on(
+    alloc: Global,
+    at: &OpAt,
+    a: &NodeStore,
+    b: &NodeStore,
+    s: Strategy,
+    input: u32,
+) -> Result<bool, NoMemory>
+    requires a { IsOneOf s at.now a.now }
+    requires b { IsOneOf s at.now b.now }
+    requires input { input < length at.now.ins }
+    ensures { IfOk result (λ r. Decides r
+        (AgreeOn at.now (holding_for s a.now.stores) (holding_for s b.now.stores) input)) }
+{
+    let dir = side_of(s);
+    let near = near_shape(at, dir, input);
+    let mut sides = Sides::new(alloc, near, far_shape(at, dir, input))?;
+    for index in 0..near.size() {
+        if !agree_at(alloc, at, a, b, s, dir, input, index, &mut sides)? {
             return Ok(false);
         }
     }
@@ -329,33 +341,6 @@ fn side_of(s: Strategy) -> Dir {
         Strategy::FullManyF => Dir::Forward,
         _ => Dir::Back,
     }
-}
-
-/// Whether they stand for the same between the output and one input: whether both give each single
-/// cell, of the side from which they are asked, the same image.
-fn are_one_on(
-    alloc: Global,
-    at: &OpAt,
-    a: &NodeStore,
-    b: &NodeStore,
-    s: Strategy,
-    dir: Dir,
-    input: u32,
-) -> Result<bool, NoMemory>
-    requires a { IsOneOf s at.now a.now }
-    requires b { IsOneOf s at.now b.now }
-    requires input { input < length at.now.ins }
-    ensures { IfOk result (λ r. Decides r
-        (AgreeOn at.now (holding_for s a.now.stores) (holding_for s b.now.stores) input)) }
-{
-    let near = near_shape(at, dir, input);
-    let mut sides = Sides::new(alloc, near, far_shape(at, dir, input))?;
-    for index in 0..near.size() {
-        if !agree_at(alloc, at, a, b, s, dir, input, index, &mut sides)? {
-            return Ok(false);
-        }
-    }
-    Ok(true)
 }
 
 /// Bitmaps for the set of one cell, and for two images of it.

@@ -1,12 +1,10 @@
 //! What a group of a log does: the line that it has acts as that line does, a version is added, and
 //! the log's format is raised.
 
-ghost use Rattle.std.specs.Prelude.{◌≡◌, ◌++◌, List, [], Some, None, true, IfErr, OnOk};
-ghost use Rattle.sz_formats.specs.Formats.{is_format};
-ghost use Rattle.sz_log.specs.Log.{LogGroup};
-ghost use Rattle.sz_recover.specs.Logs.{Kept, Acts, ActsAsVersion, IsBad, held_behind};
-ghost use Rattle.sz_recover.specs.Logs.{is_of_kind, version_kind};
-ghost use Rattle.sz_bodies.specs.Taking.{IfBad, NoneIsLawful};
+ghost use Rattle.sz_recover.specs.Terms.{◌≡◌, ◌++◌, List, [], Some, None, true, IfErr, OnOk};
+ghost use Rattle.sz_recover.specs.Terms.{is_format, LogGroup, Kept, Acts, ActsAsVersion, IsBad};
+ghost use Rattle.sz_recover.specs.Terms.{held_behind, is_of_kind, version_kind, IfBad};
+ghost use Rattle.sz_recover.specs.Terms.{NoneIsLawful};
 
 use std::alloc::Global;
 use std::marker::Model;

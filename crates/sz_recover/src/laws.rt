@@ -1,20 +1,16 @@
 //! What may be taken for granted of the bodies of what is held, of opened logs, and of how a log
 //! grows beside what a session holds. Each function is a law: its clauses say it, and it does
 //! nothing.
-ghost use Rattle.sz_recover.specs.Growing.{ReadGroupsAreLogs, LogsAreSpelled, WellMadeLogsEnd};
-ghost use Rattle.sz_recover.specs.Growing.{MadeLogsEnd, LogsGrow, MadeLogsGrow, LogsGrowOrStay};
-ghost use Rattle.sz_recover.specs.Growing.{LinesAct};
-ghost use Rattle.sz_recover.specs.Growing.{LinesKeepVersions, AwaitsAct, AwaitsAreOnce};
-ghost use Rattle.sz_recover.specs.Growing.{UpgradesAct, FormatsAreByGroups};
-ghost use Rattle.sz_recover.specs.Growing.{StartsAreNotLogged, NothingIsInOrder};
-ghost use Rattle.sz_recover.specs.Growing.{HeldBodiesAreLawful};
-ghost use Rattle.sz_recover.specs.Growing.{CommandsKeepOrder, LogsAreInOrder};
-ghost use Rattle.sz_recover.specs.Opened.{WellMadeLogsKeepTheirVersions, HeldVersionsHaveEntries};
-ghost use Rattle.sz_recover.specs.Opened.{HeldVersionsAreAwaited};
-ghost use Rattle.sz_recover.specs.Soundness.{WrongStoresAreUnsound, NoneMeansEach, EachMeansNone};
-ghost use Rattle.sz_recover.specs.Soundness.{OneThingIsTold};
-ghost use Rattle.sz_recover.specs.OneReading.{WellMadeLogsAreReadInOneWay, WellMadeLogsAreNotBad};
-ghost use Rattle.sz_recover.specs.OneReading.{LogsAreFirstBadAtOnePlace};
+ghost use Rattle.sz_recover.specs.Terms.{ReadGroupsAreLogs, LogsAreSpelled, WellMadeLogsEnd};
+ghost use Rattle.sz_recover.specs.Terms.{MadeLogsEnd, LogsGrow, MadeLogsGrow, LogsGrowOrStay};
+ghost use Rattle.sz_recover.specs.Terms.{LinesAct, LinesKeepVersions, AwaitsAct, AwaitsAreOnce};
+ghost use Rattle.sz_recover.specs.Terms.{UpgradesAct, FormatsAreByGroups, StartsAreNotLogged};
+ghost use Rattle.sz_recover.specs.Terms.{NothingIsInOrder, HeldBodiesAreLawful, CommandsKeepOrder};
+ghost use Rattle.sz_recover.specs.Terms.{LogsAreInOrder, WellMadeLogsKeepTheirVersions};
+ghost use Rattle.sz_recover.specs.Terms.{HeldVersionsHaveEntries, HeldVersionsAreAwaited};
+ghost use Rattle.sz_recover.specs.Terms.{WrongStoresAreUnsound, NoneMeansEach, EachMeansNone};
+ghost use Rattle.sz_recover.specs.Terms.{OneThingIsTold, WellMadeLogsAreReadInOneWay};
+ghost use Rattle.sz_recover.specs.Terms.{WellMadeLogsAreNotBad, LogsAreFirstBadAtOnePlace};
 
 /// Whatever [`crate::version_body`] writes of a version of what is in order, awaited or not, is
 /// lawful over what is held but for that version, and says it, awaited.

@@ -10,9 +10,10 @@ ghost use Rattle.sz_recover.specs.Logs.{IsMade, SaysWhy, TakesNext, SaysBad, IsN
 ghost use Rattle.sz_recover.specs.Logs.{IsPlain, has_read};
 ghost use Rattle.sz_recover.specs.Opened.{AreOfVersions};
 ghost use Rattle.sz_recover.specs.Props.{own-prop};
+ghost use Rattle.sz_recover.specs.declared.opening.RecoverFault.TheVariants as fault;
 
 use crate::groups::{KeptVersion, act};
-use std::alloc::{AllocError, AllocFailed, Global};
+use std::alloc::Global;
 use std::thread::Threads;
 use sz_bodies::TakeFault;
 use sz_catalogue::Catalogue;
@@ -46,35 +47,10 @@ pub enum RecoverFault {
 }
 
 impl From<Failed> for RecoverFault {
-    ghost use Rattle.std.specs.Prelude.{◌≡◌};
-    ghost use Rattle.sz_recover.specs.declared.opening.RecoverFault.TheVariants as fault;
-
     ghost from_gives = { λ _ e. e ≡ fault.Failed };
 
     fn from(_failed: Failed) -> RecoverFault {
         RecoverFault::Failed
-    }
-}
-
-impl From<AllocError> for RecoverFault {
-    ghost use Rattle.std.specs.Prelude.{◌≡◌};
-    ghost use Rattle.sz_recover.specs.declared.opening.RecoverFault.TheVariants.{NoMemory};
-
-    ghost from_gives = { λ _ e. e ≡ NoMemory };
-
-    fn from(_error: AllocError) -> RecoverFault {
-        RecoverFault::NoMemory
-    }
-}
-
-impl<T: Drop> From<AllocFailed<T>> for RecoverFault {
-    ghost use Rattle.std.specs.Prelude.{◌≡◌};
-    ghost use Rattle.sz_recover.specs.declared.opening.RecoverFault.TheVariants.{NoMemory};
-
-    ghost from_gives = { λ _ e. e ≡ NoMemory };
-
-    fn from(_error: AllocFailed<T>) -> RecoverFault {
-        RecoverFault::NoMemory
     }
 }
 
@@ -214,7 +190,9 @@ fn next_group<T: Station>(alloc: Global, station: &mut T, at: u64) -> Result<Nex
             length,
             next,
         } => {
-            let mut body = vec![in alloc; 0; length as usize]?;
+            let Ok(mut body) = vec![in alloc; 0; length as usize] else {
+                return Err(RecoverFault::NoMemory);
+            };
             let count = station.read_at(place, &mut body)?;
             if count != body.len() {
                 return Ok(Next::Bad); // a disk that is told has the whole group

@@ -2,20 +2,12 @@
 //! up side by side: each is ticked on a checklist of its own, and these are joined in the order of
 //! the pieces.
 
-ghost use Rattle.std.specs.Prelude.{◌≡◌, ℕ, ◌<◌, ◌^◌, ◌∷◌, [], length, get_or, true, All, IfOk};
-ghost use Rattle.sz_spec.specs.Modes.{supports};
-ghost use Rattle.sz_spec.specs.Pieces.{pieces_of};
-ghost use Rattle.sz_frame.specs.Fits.{Fits};
-ghost use Rattle.sz_frame.specs.Images.{measure_of};
-ghost use Rattle.sz_ops.specs.Aids.{aid_of};
-ghost use Rattle.sz_flow.specs.Executions.{execution_of};
-ghost use Rattle.sz_store.specs.Kept.{holding_for};
-ghost use Rattle.sz_store.specs.Checklists.{table_in, ticked_in, joined};
-ghost use Rattle.sz_recover.specs.declared.ticking.PieceTicks.{PieceTicks};
+ghost use Rattle.sz_recover.specs.Terms.{◌≡◌, ℕ, ◌<◌, ◌^◌, ◌∷◌, [], length, get_or, true, All};
+ghost use Rattle.sz_recover.specs.Terms.{IfOk, supports, pieces_of, Fits, measure_of, aid_of};
+ghost use Rattle.sz_recover.specs.Terms.{execution_of, holding_for, table_in, ticked_in, joined};
+ghost use Rattle.sz_recover.specs.Terms.{PieceTicks, IsExact, IsOneOf, IsTicked, IsFork};
+ghost use Rattle.sz_recover.specs.Terms.{AreTicksOf};
 ghost use Rattle.sz_recover.specs.declared.ticking.Told.TheVariants as told;
-ghost use Rattle.sz_recover.specs.Soundness.{IsExact};
-ghost use Rattle.sz_recover.specs.Comparing.{IsOneOf};
-ghost use Rattle.sz_recover.specs.Ticking.{IsTicked, IsFork, AreTicksOf};
 
 use rayon::prelude::*;
 use std::alloc::Global;

@@ -4,3 +4,4 @@ pub mod Changes
 pub mod Names
 pub mod Outputs
 pub mod Whole
+mod Terms

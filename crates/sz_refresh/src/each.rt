@@ -1,9 +1,7 @@
 //! Adding to a set what each cell of another set adds.
 
-ghost use Rattle.std.specs.Prelude.{◌≡◌, Bool, true};
-ghost use Rattle.sz_cells.specs.declared.Cell.{Cell};
-ghost use Rattle.sz_cells.specs.Extent.{Extent, holds};
-ghost use Rattle.sz_cells.specs.Cells.{any_cell, with_those};
+ghost use Rattle.sz_refresh.specs.Terms.{◌≡◌, Bool, true, Cell, Extent, holds, any_cell};
+ghost use Rattle.sz_refresh.specs.Terms.{with_those};
 
 use sz_cells::{Cell, CellBits};
 

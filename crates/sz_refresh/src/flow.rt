@@ -1,13 +1,9 @@
 //! A flow over base arrays that were changed, given its runs over the arrays as they were.
 
-ghost use Rattle.std.specs.Prelude.{◌≡◌, ◌+◌, ◌*◌, ◌<◌, ◌^◌, true, length, map, List, IfOk, OnErr};
-ghost use Rattle.std.specs.Arc.{arc_value};
-ghost use Rattle.sz_spec.specs.Values.{Grid, extents_of, extent_at};
-ghost use Rattle.sz_spec.specs.Flows.{is_well_formed};
-ghost use Rattle.sz_spec.specs.LawsShapes.{AreExtents};
-ghost use Rattle.sz_spec.specs.Affected.{affected, cells_in};
-ghost use Rattle.sz_flow.specs.Executions.{executions, execution_of, FlowFits};
-ghost use Rattle.sz_refresh.specs.Before.{IsBefore};
+ghost use Rattle.sz_refresh.specs.Terms.{◌≡◌, ◌+◌, ◌*◌, ◌<◌, ◌^◌, true, length, map, List, IfOk};
+ghost use Rattle.sz_refresh.specs.Terms.{OnErr, arc_value, Grid, extents_of, extent_at};
+ghost use Rattle.sz_refresh.specs.Terms.{is_well_formed, AreExtents, affected, cells_in};
+ghost use Rattle.sz_refresh.specs.Terms.{executions, execution_of, FlowFits, IsBefore};
 
 use crate::node::refresh_node;
 use std::alloc::Global;

@@ -6,16 +6,9 @@
 //! are looked at, from the first marked cell on until a row of cells has none that names a marked
 //! one: no region is made as a set.
 
-ghost use Rattle.std.specs.Prelude.{◌≡◌, map, IfSome, IfOk, OnOk, true};
-ghost use Rattle.std.specs.Arc.{arc_value};
-ghost use Rattle.sz_cells.specs.Extent.{holds};
-ghost use Rattle.sz_cells.specs.Cells.{any_cell, no_cells, with_those};
-ghost use Rattle.sz_frame.specs.Single.{is_cell};
-ghost use Rattle.sz_spec.specs.Evaluation.{output_of};
-ghost use Rattle.sz_spec.specs.Work.{IsAtWork};
-ghost use Rattle.sz_ops_region.specs.Regions.{is_regions};
-ghost use Rattle.sz_refresh.specs.Changes.{reaches};
-ghost use Rattle.sz_refresh.specs.Names.{first_of};
+ghost use Rattle.sz_refresh.specs.Terms.{◌≡◌, map, IfSome, IfOk, OnOk, true, arc_value, holds};
+ghost use Rattle.sz_refresh.specs.Terms.{any_cell, no_cells, with_those, is_cell, output_of};
+ghost use Rattle.sz_refresh.specs.Terms.{IsAtWork, is_regions, reaches, first_of};
 
 use crate::each::{Adder, add_each};
 use crate::named::{add_named, least_of, named};

@@ -1,10 +1,10 @@
 //! Laws of the definitions, for a reader: each function has an empty body, and its contract is the
 //! law.
 
-ghost use Rattle.sz_refresh.specs.Laws.{AffectedCellsAreReachedForward};
-ghost use Rattle.sz_refresh.specs.Laws.{EachNodeHasItsAffectedCells};
-ghost use Rattle.sz_refresh.specs.Laws.{AffectedCellsAreThoseOfTheirNodes};
-ghost use Rattle.sz_refresh.specs.Laws.{OtherCellsKeepTheirValues};
+ghost use Rattle.sz_refresh.specs.Terms.{AffectedCellsAreReachedForward};
+ghost use Rattle.sz_refresh.specs.Terms.{EachNodeHasItsAffectedCells};
+ghost use Rattle.sz_refresh.specs.Terms.{AffectedCellsAreThoseOfTheirNodes};
+ghost use Rattle.sz_refresh.specs.Terms.{OtherCellsKeepTheirValues};
 
 /// A cell is affected exactly where a changed cell reaches it, by the old relation or by the new
 /// one; of a flow the changed cells of a node are its affected ones.

@@ -1,19 +1,10 @@
 //! A node over arrays of which some cells were changed, given its run over them as they were.
 
-ghost use Rattle.std.specs.Prelude.{◌≡◌, ◌+◌, ◌<◌, ◌^◌, length, map, All, true, false, IfOk};
-ghost use Rattle.std.specs.Prelude.{MatchOption};
-ghost use Rattle.std.specs.Arc.{arc_value};
-ghost use Rattle.sz_cells.specs.Extent.{size_of};
-ghost use Rattle.sz_spec.specs.Values.{extents_of};
-ghost use Rattle.sz_spec.specs.LawsFlows.{IsRightNode};
-ghost use Rattle.sz_spec.specs.Evaluation.{output_of};
-ghost use Rattle.sz_spec.specs.Affected.{affected_by};
-ghost use Rattle.sz_ops_region.specs.Regions.{is_regions};
-ghost use Rattle.sz_ops.specs.Aids.{aid_of};
-ghost use Rattle.sz_flow.specs.Executions.{execution, execution_of};
-ghost use Rattle.sz_flow.specs.Nodes.{inputs_among};
-ghost use Rattle.sz_refresh.specs.Changes.{changed_from, HaveShapes};
-ghost use Rattle.sz_refresh.specs.Outputs.{KeepsOthers};
+ghost use Rattle.sz_refresh.specs.Terms.{◌≡◌, ◌+◌, ◌<◌, ◌^◌, length, map, All, true, false, IfOk};
+ghost use Rattle.sz_refresh.specs.Terms.{MatchOption, arc_value, size_of, extents_of, IsRightNode};
+ghost use Rattle.sz_refresh.specs.Terms.{output_of, affected_by, is_regions, aid_of, execution};
+ghost use Rattle.sz_refresh.specs.Terms.{execution_of, inputs_among, changed_from, HaveShapes};
+ghost use Rattle.sz_refresh.specs.Terms.{KeepsOthers};
 
 use crate::output::output_after;
 use crate::reached::affected_of;

@@ -1,22 +1,12 @@
 //! The affected cells of a node: those that the changed cells of what it takes reach forward, by
 //! the relation of the old arrays or by that of the new ones.
 
-ghost use Rattle.std.specs.Prelude.{◌≡◌, ◌<◌, ◌||◌, ℕ, [], length, map, All, true, false, IfOk};
-ghost use Rattle.std.specs.Prelude.{MatchOption, OnOk};
-ghost use Rattle.std.specs.Arc.{arc_value};
-ghost use Rattle.sz_cells.specs.declared.Cell.{Cell};
-ghost use Rattle.sz_cells.specs.Extent.{holds};
-ghost use Rattle.sz_cells.specs.Cells.{any_cell, has, with_those};
-ghost use Rattle.sz_spec.specs.declared.op.Op.TheVariants.{Clean, Lookup};
-ghost use Rattle.sz_spec.specs.Values.{extents_of, extent_at};
-ghost use Rattle.sz_spec.specs.Lineage.{related};
-ghost use Rattle.sz_spec.specs.Evaluation.{output_of};
-ghost use Rattle.sz_spec.specs.Modes.{has_mapping};
-ghost use Rattle.sz_spec.specs.Affected.{affected_by};
-ghost use Rattle.sz_ops_region.specs.Regions.{is_regions};
-ghost use Rattle.sz_refresh.specs.Changes.{changed_from, is_before, is_changed};
-ghost use Rattle.sz_refresh.specs.Changes.{HaveShapes, reaches};
-ghost use Rattle.sz_refresh.specs.Whole.{reaches_all};
+ghost use Rattle.sz_refresh.specs.Terms.{◌≡◌, ◌<◌, ◌||◌, ℕ, [], length, map, All, true, false};
+ghost use Rattle.sz_refresh.specs.Terms.{IfOk, MatchOption, OnOk, arc_value, Cell, holds, any_cell};
+ghost use Rattle.sz_refresh.specs.Terms.{has, with_those, Clean, Lookup, extents_of, extent_at};
+ghost use Rattle.sz_refresh.specs.Terms.{related, output_of, has_mapping, affected_by, is_regions};
+ghost use Rattle.sz_refresh.specs.Terms.{changed_from, is_before, is_changed, HaveShapes, reaches};
+ghost use Rattle.sz_refresh.specs.Terms.{reaches_all};
 
 use crate::labels::add_joined;
 use crate::named::{add_between, add_named};

@@ -1,11 +1,7 @@
 //! Sets that have every cell of their shape: for them nothing is searched.
 
-ghost use Rattle.std.specs.Prelude.{◌≡◌, true, pos, unwrap_or};
-ghost use Rattle.std.specs.List.{slice_get};
-ghost use Rattle.sz_cells.specs.Extent.{holds};
-ghost use Rattle.sz_cells.specs.Cells.{has};
-ghost use Rattle.sz_cells.specs.declared.Cell.{Cell};
-ghost use Rattle.sz_refresh.specs.Whole.{has_middle, reaches_all};
+ghost use Rattle.sz_refresh.specs.Terms.{◌≡◌, true, pos, unwrap_or, slice_get, holds, has, Cell};
+ghost use Rattle.sz_refresh.specs.Terms.{has_middle, reaches_all};
 
 use sz_cells::CellSet;
 use sz_spec::{Kernel, Op};

@@ -6,3 +6,4 @@ pub mod PayBytes
 pub mod Putting
 pub mod Stores
 pub mod LawsStores
+mod Terms

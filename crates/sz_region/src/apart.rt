@@ -1,12 +1,8 @@
 //! Whether no cell is in two entries, by a bitmap of the cells of the entries so far.
 
-ghost use Rattle.std.specs.Prelude.{◌≡◌, ◌≤◌, ◌<◌, map, length, All, IfOk};
-ghost use Rattle.std.specs.List.{list_any};
-ghost use Rattle.std.specs.Arc.{arc_value};
-ghost use Rattle.sz_cells.specs.Extent.{size_of, cell_of};
-ghost use Rattle.sz_cells.specs.Cells.{has, any_cell};
-ghost use Rattle.sz_cells.specs.Runs.{indexes_of};
-ghost use Rattle.sz_region.specs.Stores.{SaysWhetherApart};
+ghost use Rattle.sz_region.specs.Terms.{◌≡◌, ◌≤◌, ◌<◌, map, length, All, IfOk, list_any, arc_value};
+ghost use Rattle.sz_region.specs.Terms.{size_of, cell_of, has, any_cell, indexes_of};
+ghost use Rattle.sz_region.specs.Terms.{SaysWhetherApart};
 
 use std::alloc::Global;
 use std::sync::Arc;

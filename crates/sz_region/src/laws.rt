@@ -1,9 +1,9 @@
 //! Laws of the definitions, for a reader: each function has an empty body, and its contract is the
 //! law.
 
-ghost use Rattle.sz_region.specs.LawsStores.{WrittenSetsAreRead};
-ghost use Rattle.sz_region.specs.LawsStores.{OneListOfRegionsBegins, WrittenRegionsAreRead};
-ghost use Rattle.sz_region.specs.LawsStores.{OneListOfEntriesBegins, WrittenEntriesAreRead};
+ghost use Rattle.sz_region.specs.Terms.{WrittenSetsAreRead, OneListOfRegionsBegins};
+ghost use Rattle.sz_region.specs.Terms.{WrittenRegionsAreRead, OneListOfEntriesBegins};
+ghost use Rattle.sz_region.specs.Terms.{WrittenEntriesAreRead};
 
 /// What is written of a set is read again whatever follows it, and is read in no other way.
 pub fn written_sets_are_read()

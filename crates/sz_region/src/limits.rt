@@ -1,7 +1,6 @@
 //! Shapes of arrays, which are within the limits.
 
-ghost use Rattle.std.specs.Prelude.{◌≡◌, ◌∷◌, true, All};
-ghost use Rattle.sz_cells.specs.Extent.{is_extent};
+ghost use Rattle.sz_region.specs.Terms.{◌≡◌, ◌∷◌, true, All, is_extent};
 
 use sz_cells::Shape;
 use sz_cells::laws::a_shape_is_within_limits;

@@ -1,10 +1,8 @@
 //! Numbers of four bytes, big-endian: writing them, alone and in rows, and reading one at a place.
 
-ghost use Rattle.std.specs.Prelude.{◌≡◌, ◌<◌, ◌≤◌, ◌+◌, ◌*◌, ◌^◌, ◌++◌, ℕ, List, length, take};
-ghost use Rattle.std.specs.Prelude.{IfSome, IfNone, OnOk, OnErr};
-ghost use Rattle.sz_cells.specs.SetBytes.{four_bytes};
-ghost use Rattle.sz_region.specs.Counted.{rows_bytes, IsAt};
-ghost use Rattle.sz_region.specs.Putting.{AreRows, MakeRows};
+ghost use Rattle.sz_region.specs.Terms.{◌≡◌, ◌<◌, ◌≤◌, ◌+◌, ◌*◌, ◌^◌, ◌++◌, ℕ, List, length, take};
+ghost use Rattle.sz_region.specs.Terms.{IfSome, IfNone, OnOk, OnErr, four_bytes, rows_bytes, IsAt};
+ghost use Rattle.sz_region.specs.Terms.{AreRows, MakeRows};
 
 use sz_cells::NoMemory;
 use sz_numbers::{four_at, four_bytes};

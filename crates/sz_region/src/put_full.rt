@@ -1,14 +1,11 @@
 //! Writing a store of full lineage from region pairs: their sets are numbered first, each with the
 //! number of the one before where it is the same set.
 
-ghost use Rattle.std.specs.Prelude.{◌≡◌, ◌<◌, ◌≤◌, ◌+◌, ◌*◌, ◌^◌, ◌++◌, ◌∷◌, [], ℕ, List, length};
-ghost use Rattle.std.specs.Prelude.{map, true, Some, All, IfSome, OnOk, OnErr};
-ghost use Rattle.std.specs.List.{slice_get};
-ghost use Rattle.std.specs.Arc.{arc_value};
-ghost use Rattle.sz_cells.specs.Extent.{Extent};
-ghost use Rattle.sz_region.specs.FullBytes.{Listed, listed_of, IsFullWord};
-ghost use Rattle.sz_region.specs.Putting.{CanPutRegions, HasShapes, AreNumbered};
-ghost use Rattle.sz_region.specs.Putting.{AreRegionsNumbered};
+ghost use Rattle.sz_region.specs.Terms.{◌≡◌, ◌<◌, ◌≤◌, ◌+◌, ◌*◌, ◌^◌, ◌++◌, ◌∷◌, [], ℕ, List};
+ghost use Rattle.sz_region.specs.Terms.{length, map, true, Some, All, IfSome, OnOk, OnErr};
+ghost use Rattle.sz_region.specs.Terms.{slice_get, arc_value, Extent, Listed, listed_of};
+ghost use Rattle.sz_region.specs.Terms.{IsFullWord, CanPutRegions, HasShapes, AreNumbered};
+ghost use Rattle.sz_region.specs.Terms.{AreRegionsNumbered};
 
 use crate::tables::{ListedSet, put_numbered};
 use std::sync::Arc;

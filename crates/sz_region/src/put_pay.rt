@@ -1,15 +1,10 @@
 //! Writing a store of payloads from entries: their sets and payloads are numbered first, a payload
 //! with the number of the one before where it has the same bytes.
 
-ghost use Rattle.std.specs.Prelude.{◌≡◌, ◌<◌, ◌≤◌, ◌-◌, ◌^◌, ◌++◌, [], ℕ, List, length, map};
-ghost use Rattle.std.specs.Prelude.{All, IfOk, OnOk, OnErr, true, Some};
-ghost use Rattle.std.specs.List.{slice_get};
-ghost use Rattle.std.specs.Arc.{arc_value};
-ghost use Rattle.sz_cells.specs.Cells.{Cells};
-ghost use Rattle.sz_cells.specs.Extent.{Extent};
-ghost use Rattle.sz_region.specs.PayBytes.{IsShort, IsPayWord};
-ghost use Rattle.sz_region.specs.Putting.{CanPutEntries, IsPayloadNumbered, IsEntryNumbered};
-ghost use Rattle.sz_region.specs.Putting.{AreEntriesNumbered};
+ghost use Rattle.sz_region.specs.Terms.{◌≡◌, ◌<◌, ◌≤◌, ◌-◌, ◌^◌, ◌++◌, [], ℕ, List, length, map};
+ghost use Rattle.sz_region.specs.Terms.{All, IfOk, OnOk, OnErr, true, Some, slice_get, arc_value};
+ghost use Rattle.sz_region.specs.Terms.{Cells, Extent, IsShort, IsPayWord, CanPutEntries};
+ghost use Rattle.sz_region.specs.Terms.{IsPayloadNumbered, IsEntryNumbered, AreEntriesNumbered};
 
 use crate::tables::{ListedPayload, ListedSet, put_numbered_entries};
 use std::sync::Arc;

@@ -1,14 +1,10 @@
 //! The bytes of a cell set: writing them, and reading a set where one begins.
 
-ghost use Rattle.std.specs.Prelude.{◌≡◌, ◌≤◌, ◌+◌, ◌%◌, ◌++◌, length, take};
-ghost use Rattle.std.specs.Prelude.{IfOk, OnOk, IfErr, OnErr, IfSome, IfNone};
-ghost use Rattle.sz_cells.specs.Extent.{size_of};
-ghost use Rattle.std.specs.List.{flat_map};
-ghost use Rattle.sz_cells.specs.Runs.{AreRunsFrom, indexes_of};
-ghost use Rattle.sz_cells.specs.SetBytes.{set_bytes, BeginsSet};
-ghost use Rattle.sz_cells.specs.SetWords.{runs_spelled};
-ghost use Rattle.sz_region.specs.Taking.{SaysNoneBegins, runs_bytes, HasBody, HasNoRuns};
-ghost use Rattle.sz_region.specs.Taking.{SaysNoRuns, run_at};
+ghost use Rattle.sz_region.specs.Terms.{◌≡◌, ◌≤◌, ◌+◌, ◌%◌, ◌++◌, length, take, IfOk, OnOk, IfErr};
+ghost use Rattle.sz_region.specs.Terms.{OnErr, IfSome, IfNone, size_of, flat_map, AreRunsFrom};
+ghost use Rattle.sz_region.specs.Terms.{indexes_of, set_bytes, BeginsSet, runs_spelled};
+ghost use Rattle.sz_region.specs.Terms.{SaysNoneBegins, runs_bytes, HasBody, HasNoRuns, SaysNoRuns};
+ghost use Rattle.sz_region.specs.Terms.{run_at};
 
 use std::alloc::{AllocError, AllocFailed, Global};
 use sz_cells::{CellSet, NoMemory, Run, Shape};

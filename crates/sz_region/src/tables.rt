@@ -1,12 +1,8 @@
 //! Stores whose sets and payloads are numbered already: writing their tables as they are.
 
-ghost use Rattle.std.specs.Prelude.{◌≡◌, ◌<◌, ◌≤◌, ◌^◌, ◌++◌, ℕ, List, length, take};
-ghost use Rattle.std.specs.Prelude.{map, OnOk, OnErr};
-ghost use Rattle.sz_cells.specs.SetBytes.{set_bytes};
-ghost use Rattle.sz_region.specs.Counted.{counted, rows_bytes};
-ghost use Rattle.sz_region.specs.FullBytes.{listed_bytes};
-ghost use Rattle.sz_region.specs.PayBytes.{payload_bytes};
-ghost use Rattle.sz_region.specs.Putting.{AreRows, MakeRows};
+ghost use Rattle.sz_region.specs.Terms.{◌≡◌, ◌<◌, ◌≤◌, ◌^◌, ◌++◌, ℕ, List, length, take, map, OnOk};
+ghost use Rattle.sz_region.specs.Terms.{OnErr, set_bytes, counted, rows_bytes, listed_bytes};
+ghost use Rattle.sz_region.specs.Terms.{payload_bytes, AreRows, MakeRows};
 
 use crate::numbers::{put_number, put_rows};
 use crate::set_bytes::put_runs;

@@ -1,18 +1,13 @@
 //! Reading a store of full lineage: the table of sets, and then the region pairs that name them.
 
-ghost use Rattle.std.specs.Prelude.{◌≡◌, ◌<◌, ◌≤◌, ◌+◌, ◌^◌, ◌∷◌, ℕ, List, [], length, map, true, Some};
-ghost use Rattle.std.specs.Prelude.{All, IfOk, IfErr, IfSome, IfNone};
-ghost use Rattle.std.specs.List.{AllZip, flat_map, slice_get};
-ghost use Rattle.std.specs.Arc.{arc_value};
-ghost use Rattle.sz_cells.specs.Extent.{Extent, is_extent, size_of};
-ghost use Rattle.sz_cells.specs.Runs.{AreRunsFrom};
-ghost use Rattle.sz_cells.specs.SetBytes.{four_bytes};
-ghost use Rattle.sz_spec.specs.Values.{extent_at};
-ghost use Rattle.sz_region.specs.Counted.{counted, rows_bytes, IsAt};
-ghost use Rattle.sz_region.specs.FullBytes.{IsListed, listed_bytes, listed_from, AreNumbersOf};
-ghost use Rattle.sz_region.specs.FullBytes.{AreNamesOf, BeginsRegions, listed_by};
-ghost use Rattle.sz_region.specs.Stores.{OnBad, NoRegionsBegin, SaysNoRegions, NoneAt, AreFew};
-ghost use Rattle.sz_region.specs.Stores.{IsNameFor, AreNamesFor, ArePairNames, AreStoreNames};
+ghost use Rattle.sz_region.specs.Terms.{◌≡◌, ◌<◌, ◌≤◌, ◌+◌, ◌^◌, ◌∷◌, ℕ, List, [], length, map};
+ghost use Rattle.sz_region.specs.Terms.{true, Some, All, IfOk, IfErr, IfSome, IfNone, AllZip};
+ghost use Rattle.sz_region.specs.Terms.{flat_map, slice_get, arc_value, Extent, is_extent, size_of};
+ghost use Rattle.sz_region.specs.Terms.{AreRunsFrom, four_bytes, extent_at, counted, rows_bytes};
+ghost use Rattle.sz_region.specs.Terms.{IsAt, IsListed, listed_bytes, listed_from, AreNumbersOf};
+ghost use Rattle.sz_region.specs.Terms.{AreNamesOf, BeginsRegions, listed_by, OnBad};
+ghost use Rattle.sz_region.specs.Terms.{NoRegionsBegin, SaysNoRegions, NoneAt, AreFew, IsNameFor};
+ghost use Rattle.sz_region.specs.Terms.{AreNamesFor, ArePairNames, AreStoreNames};
 
 use crate::limits::shapes_are_within_limits;
 use crate::numbers::take_number;

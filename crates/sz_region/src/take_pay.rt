@@ -1,16 +1,13 @@
 //! Reading a store of payloads: the table of payloads, the table of output sets, and then the
 //! entries that name one of each.
 
-ghost use Rattle.std.specs.Prelude.{◌≡◌, ◌<◌, ◌≤◌, ◌+◌, ◌^◌, ◌∷◌, ℕ, List, length, map, true, Some};
-ghost use Rattle.std.specs.Prelude.{All, IfOk, IfErr};
-ghost use Rattle.std.specs.List.{AllZip, flat_map, slice_get};
-ghost use Rattle.std.specs.Arc.{arc_value};
-ghost use Rattle.sz_cells.specs.Extent.{is_extent};
-ghost use Rattle.sz_cells.specs.SetBytes.{four_bytes, set_bytes, IsSetOf};
-ghost use Rattle.sz_region.specs.Counted.{counted, rows_bytes, IsAt};
-ghost use Rattle.sz_region.specs.PayBytes.{IsShort, payload_bytes, AreNamesOfEntry, BeginsEntries};
-ghost use Rattle.sz_region.specs.Stores.{OnBad, NoEntriesBegin, SaysNoEntries, NoneAt, AreFew};
-ghost use Rattle.sz_region.specs.Stores.{IsNumberIn, AreEntryNames, AreEntriesNames};
+ghost use Rattle.sz_region.specs.Terms.{◌≡◌, ◌<◌, ◌≤◌, ◌+◌, ◌^◌, ◌∷◌, ℕ, List, length, map, true};
+ghost use Rattle.sz_region.specs.Terms.{Some, All, IfOk, IfErr, AllZip, flat_map, slice_get};
+ghost use Rattle.sz_region.specs.Terms.{arc_value, is_extent, four_bytes, set_bytes, IsSetOf};
+ghost use Rattle.sz_region.specs.Terms.{counted, rows_bytes, IsAt, IsShort, payload_bytes};
+ghost use Rattle.sz_region.specs.Terms.{AreNamesOfEntry, BeginsEntries, OnBad, NoEntriesBegin};
+ghost use Rattle.sz_region.specs.Terms.{SaysNoEntries, NoneAt, AreFew, IsNumberIn, AreEntryNames};
+ghost use Rattle.sz_region.specs.Terms.{AreEntriesNames};
 
 use crate::apart::are_apart;
 use crate::numbers::take_number;

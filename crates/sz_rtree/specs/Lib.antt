@@ -2,3 +2,4 @@
 pub mod Rectangles
 pub mod Laws
 pub mod Levels
+mod Terms

@@ -1,7 +1,7 @@
 //! Laws of the definitions, for a reader: each function has an empty body, and its contract is the
 //! law.
 
-ghost use Rattle.sz_rtree.specs.Laws.{OverlapsShareACell, NextHitsAreOne};
+ghost use Rattle.sz_rtree.specs.Terms.{OverlapsShareACell, NextHitsAreOne};
 
 /// Two rectangles that are not turned over overlap exactly where a cell lies in both.
 pub fn overlaps_share_a_cell()

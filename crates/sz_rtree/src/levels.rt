@@ -4,13 +4,10 @@
 //! All that a look may rest on is `Covers`, that a box is round all its rectangles; `HasRoom` is
 //! what lets a rectangle be added without memory.
 
-ghost use Rattle.std.specs.Prelude.{◌≡◌, ◌<◌, ◌≤◌, ◌+◌, ◌^◌, ◌*◌, ◌++◌, [], ◌∷◌};
-ghost use Rattle.std.specs.Prelude.{ℕ, List, length, slice_index_or, OnOk, IfOk, IfSome, All};
-ghost use Rattle.std.specs.Prelude.{IsTrue, ◌↔◌};
-ghost use Rattle.std.specs.Prelude.{vec_len, vec_capacity};
-ghost use Rattle.sz_cells.specs.declared.Bounds.{Bounds};
-ghost use Rattle.sz_rtree.specs.Rectangles.{Overlaps};
-ghost use Rattle.sz_rtree.specs.Levels.{IsInside, Covers, HasRoom, MissesUpTo, box_capacities};
+ghost use Rattle.sz_rtree.specs.Terms.{◌≡◌, ◌<◌, ◌≤◌, ◌+◌, ◌^◌, ◌*◌, ◌++◌, [], ◌∷◌, ℕ, List};
+ghost use Rattle.sz_rtree.specs.Terms.{length, slice_index_or, OnOk, IfOk, IfSome, All, IsTrue};
+ghost use Rattle.sz_rtree.specs.Terms.{◌↔◌, vec_len, vec_capacity, Bounds, Overlaps, IsInside};
+ghost use Rattle.sz_rtree.specs.Terms.{Covers, HasRoom, MissesUpTo, box_capacities};
 
 use std::alloc::Global;
 use sz_cells::{Bounds, NoMemory};

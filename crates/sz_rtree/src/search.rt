@@ -1,10 +1,7 @@
 //! The search for the next rectangle that overlaps.
 
-ghost use Rattle.std.specs.Prelude.{◌≡◌, ◌<◌, ◌≤◌, ◌+◌, ◌^◌, ℕ, length, MatchOption, IfSome};
-ghost use Rattle.std.specs.Prelude.{All};
-ghost use Rattle.std.specs.List.{HoldsAt};
-ghost use Rattle.sz_rtree.specs.Rectangles.{Overlaps, IsNextHit};
-ghost use Rattle.sz_rtree.specs.Levels.{Covers, MissesUpTo};
+ghost use Rattle.sz_rtree.specs.Terms.{◌≡◌, ◌<◌, ◌≤◌, ◌+◌, ◌^◌, ℕ, length, MatchOption, IfSome};
+ghost use Rattle.sz_rtree.specs.Terms.{All, HoldsAt, Overlaps, IsNextHit, Covers, MissesUpTo};
 
 use crate::levels::{FAN_BITS, Level, overlap};
 use sz_cells::Bounds;

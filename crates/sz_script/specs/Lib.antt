@@ -13,3 +13,4 @@ pub mod Questions
 pub mod Forms
 pub mod Reading
 pub mod Laws
+mod Terms

@@ -1,6 +1,7 @@
 //! What a line orders. Contracts see a command as it is, its lists as lists.
 
-ghost use Rattle.std.specs.Prelude.{◌≡◌};
+ghost use Rattle.sz_script.specs.Terms.{◌≡◌};
+ghost use Rattle.sz_script.specs.declared.command.LineFault.TheVariants as fault;
 
 use crate::lists::{BaseList, NamedCells, NewCells, Path, StrategyList};
 use crate::name::Name;
@@ -151,11 +152,7 @@ pub const NO_FORM: LineFault = LineFault::Refused(Refusal::NoForm);
 pub const BAD_NAME: LineFault = LineFault::Refused(Refusal::BadName);
 
 impl From<AllocError> for LineFault {
-    ghost use Rattle.std.specs.Prelude.{◌≡◌};
-    ghost use Rattle.sz_script.specs.declared.command.LineFault.{LineFault};
-    ghost use Rattle.sz_script.specs.declared.command.LineFault.TheVariants.{NoMemory};
-
-    ghost from_gives = { λ _ e. e ≡ NoMemory };
+    ghost from_gives = { λ _ e. e ≡ fault.NoMemory };
 
     fn from(_error: AllocError) -> LineFault {
         LineFault::NoMemory
@@ -163,11 +160,7 @@ impl From<AllocError> for LineFault {
 }
 
 impl<T: Drop> From<AllocFailed<T>> for LineFault {
-    ghost use Rattle.std.specs.Prelude.{◌≡◌};
-    ghost use Rattle.sz_script.specs.declared.command.LineFault.{LineFault};
-    ghost use Rattle.sz_script.specs.declared.command.LineFault.TheVariants.{NoMemory};
-
-    ghost from_gives = { λ _ e. e ≡ NoMemory };
+    ghost from_gives = { λ _ e. e ≡ fault.NoMemory };
 
     fn from(_error: AllocFailed<T>) -> LineFault {
         LineFault::NoMemory

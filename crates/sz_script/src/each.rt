@@ -1,8 +1,6 @@
 //! Lists of a line, read item by item.
 
-ghost use Rattle.std.specs.Prelude.{◌≡◌, map, option_map, IfOk};
-ghost use Rattle.serde_json.specs.View.{view};
-ghost use Rattle.sz_script.specs.Fields.{each_of, list_at};
+ghost use Rattle.sz_script.specs.Terms.{◌≡◌, map, option_map, IfOk, view, each_of, list_at};
 
 use crate::fields;
 use serde_json::Value;

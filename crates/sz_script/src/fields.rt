@@ -1,10 +1,8 @@
 //! Fields, numbers, texts and lists of a JSON value.
 
-ghost use Rattle.std.specs.Prelude.{◌≡◌, map, length, option_map, option_and_then};
-ghost use Rattle.serde_json.specs.Find.{get, as_str};
-ghost use Rattle.serde_json.specs.View.{view};
-ghost use Rattle.sz_script.specs.Fields.{has_fields, number_in, whole_in, list_in, two_in};
-ghost use Rattle.sz_script.specs.Fields.{numbers_in, items_in, first_length, at};
+ghost use Rattle.sz_script.specs.Terms.{◌≡◌, map, length, option_map, option_and_then, get, as_str};
+ghost use Rattle.sz_script.specs.Terms.{view, has_fields, number_in, whole_in, list_in, two_in};
+ghost use Rattle.sz_script.specs.Terms.{numbers_in, items_in, first_length, at};
 
 use serde_json::Value;
 

@@ -6,11 +6,7 @@ mod flows;
 mod question;
 mod versions;
 
-ghost use Rattle.std.specs.Prelude.{◌≡◌};
-ghost use Rattle.serde_json.specs.View.{view};
-ghost use Rattle.sz_script.specs.Drafts.{reading_of_form};
-ghost use Rattle.sz_script.specs.Forms.{draft_of};
-ghost use Rattle.sz_script.specs.Reading.{Reads};
+ghost use Rattle.sz_script.specs.Terms.{◌≡◌, view, reading_of_form, draft_of, Reads};
 
 use crate::command::{Command, LineFault, NO_FORM};
 use crate::fields::has_fields;

@@ -1,10 +1,10 @@
 //! Laws of the definitions, for a reader: each function has an empty body, and its contract is the
 //! law.
 
-ghost use Rattle.sz_script.specs.Laws.{TooLongExactly, NoJsonExactly, NoFormExactly};
-ghost use Rattle.sz_script.specs.Laws.{BadNameExactly, BadCellsExactly, TooManyCellsExactly};
-ghost use Rattle.sz_script.specs.Laws.{BadFlowExactly, ReadExactly, NoOtherRefusal};
-ghost use Rattle.sz_script.specs.Laws.{CommandsAreRight, WordsNameTheirStrategies};
+ghost use Rattle.sz_script.specs.Terms.{TooLongExactly, NoJsonExactly, NoFormExactly};
+ghost use Rattle.sz_script.specs.Terms.{BadNameExactly, BadCellsExactly, TooManyCellsExactly};
+ghost use Rattle.sz_script.specs.Terms.{BadFlowExactly, ReadExactly, NoOtherRefusal};
+ghost use Rattle.sz_script.specs.Terms.{CommandsAreRight, WordsNameTheirStrategies};
 
 /// Each refusal of a line comes exactly where its rule holds and none before it, there are no
 /// others, and a line is a command exactly where no rule holds.

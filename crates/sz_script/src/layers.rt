@@ -1,14 +1,10 @@
 //! The cells of an array: layers of rows of values.
 
-ghost use Rattle.std.specs.Prelude.{◌≡◌, ◌≤◌, ◌<◌, true, map, length, ◌++◌, if◌then◌else◌};
-ghost use Rattle.std.specs.Prelude.{Some, None, IfOk, IfSome};
-ghost use Rattle.std.specs.List.{list_all, flat_map};
-ghost use Rattle.serde_json.specs.View.{view};
-ghost use Rattle.sz_cells.specs.Extent.{is_layered, layered};
-ghost use Rattle.sz_script.specs.Layers.{value_in, is_value, is_row, is_layer, height_of, width_of};
-ghost use Rattle.sz_script.specs.Layers.{value_of, values_of_row, values_of_layer, array_in};
-ghost use Rattle.sz_script.specs.Layers.{are_counted, filled};
-ghost use Rattle.sz_script.specs.Reading.{Reads};
+ghost use Rattle.sz_script.specs.Terms.{◌≡◌, ◌≤◌, ◌<◌, true, map, length, ◌++◌, if◌then◌else◌};
+ghost use Rattle.sz_script.specs.Terms.{Some, None, IfOk, IfSome, list_all, flat_map, view};
+ghost use Rattle.sz_script.specs.Terms.{is_layered, layered, value_in, is_value, is_row, is_layer};
+ghost use Rattle.sz_script.specs.Terms.{height_of, width_of, value_of, values_of_row};
+ghost use Rattle.sz_script.specs.Terms.{values_of_layer, array_in, are_counted, filled, Reads};
 
 use crate::command::LineFault;
 use crate::fields;

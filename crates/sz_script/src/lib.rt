@@ -33,7 +33,7 @@ mod words;
 
 pub use command::{BaseName, Command, LineFault, NamedCell, NewCell, PathStep};
 pub use lists::{BaseList, NamedCells, NewCells, Path, StrategyList};
-pub use name::Name;
+pub use name::{Name, is_name};
 pub use reading::{LINE_LIMIT, read_line};
 pub use refusal::{Printed, Refusal};
 pub use words::{strategy_name, strategy_named};

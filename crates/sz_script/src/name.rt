@@ -1,7 +1,6 @@
 //! Names of arrays and flows.
 
-ghost use Rattle.std.specs.Prelude.{◌≡◌, string_bytes};
-ghost use Rattle.sz_script.specs.Names.{is_name, is_name_byte};
+ghost use Rattle.sz_script.specs.Terms.{◌≡◌, string_bytes, is_name, is_name_byte};
 
 use std::marker::Model;
 

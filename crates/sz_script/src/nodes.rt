@@ -1,12 +1,9 @@
 //! Nodes of a flow: a table of operators by their words, and each one's parameters.
 
-ghost use Rattle.std.specs.Prelude.{◌≡◌, ◌∷◌, codes, IfOk};
-ghost use Rattle.serde_json.specs.View.{view};
-ghost use Rattle.sz_script.specs.Fields.{at};
-ghost use Rattle.sz_script.specs.Words.{fold_in};
-ghost use Rattle.sz_script.specs.Nodes.{has_parameters, alone, one_whole, clip_in, sides_in};
-ghost use Rattle.sz_script.specs.Nodes.{slice_in, block_in, fold_layers_in, convolve_in, operators};
-ghost use Rattle.sz_script.specs.Nodes.{op_by, op_in, source_in, node_in};
+ghost use Rattle.sz_script.specs.Terms.{◌≡◌, ◌∷◌, codes, IfOk, view, at, fold_in, has_parameters};
+ghost use Rattle.sz_script.specs.Terms.{alone, one_whole, clip_in, sides_in, slice_in, block_in};
+ghost use Rattle.sz_script.specs.Terms.{fold_layers_in, convolve_in, operators, op_by, op_in};
+ghost use Rattle.sz_script.specs.Terms.{source_in, node_in};
 
 use crate::each::{Listed, each_at};
 use crate::{fields, kernels, words};

@@ -1,10 +1,7 @@
 //! Reading one line as a command.
 
-ghost use Rattle.std.specs.Prelude.{◌≡◌, ◌⊎◌, Some, None, Err, IfOk, IfErr};
-ghost use Rattle.serde_json.specs.View.{view};
-ghost use Rattle.sz_script.specs.Reading.{json_of, reading, Reads};
-ghost use Rattle.sz_script.specs.declared.command.LineFault.TheVariants.{Refused};
-ghost use Rattle.sz_script.specs.declared.refusal.Refusal.TheVariants.{NoJson};
+ghost use Rattle.sz_script.specs.Terms.{◌≡◌, ◌⊎◌, Some, None, Err, IfOk, IfErr, view, json_of};
+ghost use Rattle.sz_script.specs.Terms.{reading, Reads, Refused, NoJson};
 
 use crate::command::{Command, LineFault};
 use crate::forms;

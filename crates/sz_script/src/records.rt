@@ -1,13 +1,10 @@
 //! The cells of an array as a comma-separated text gives them.
 
-ghost use Rattle.std.specs.Prelude.{◌≡◌, ◌<◌, ◌≤◌, ℕ, List, [], ◌∷◌, ◌++◌, true, length, map};
-ghost use Rattle.std.specs.Prelude.{get_or, Err, IfOk, OnOk, MatchResult};
-ghost use Rattle.std.specs.List.{list_all};
-ghost use Rattle.csv.specs.Reading.{error_kind};
-ghost use Rattle.csv.specs.Records.{fields_of};
-ghost use Rattle.sz_script.specs.Reading.{Reads};
-ghost use Rattle.sz_script.specs.Records.{records_in, value_in, value_of, is_value, table_in};
-ghost use Rattle.sz_script.specs.Records.{first_values, IsTable, fault_of};
+ghost use Rattle.sz_script.specs.Terms.{◌≡◌, ◌<◌, ◌≤◌, ℕ, List, [], ◌∷◌, ◌++◌, true, length, map};
+ghost use Rattle.sz_script.specs.Terms.{get_or, Err, IfOk, OnOk, MatchResult, list_all, error_kind};
+ghost use Rattle.sz_script.specs.Terms.{fields_of, Reads, records_in, table_in, first_values};
+ghost use Rattle.sz_script.specs.Terms.{IsTable, fault_of};
+ghost use Rattle.sz_script.specs.Records.{value_in, value_of, is_value};
 
 use crate::command::LineFault;
 use crate::layers;

@@ -5,3 +5,4 @@ pub mod Statuses
 pub mod Sessions
 pub mod Continuing
 pub mod Modes
+mod Terms

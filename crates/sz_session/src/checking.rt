@@ -1,21 +1,16 @@
 //! Mode check: the log of the station is opened, its stores are compared with what the operators of
 //! its versions relate, and one line says what was found. Nothing is written to the disk.
-ghost use Rattle.std.specs.Prelude.{◌≡◌, ◌++◌, IfOk, OnOk, length, string_bytes};
-ghost use Rattle.sz_script.specs.Words.{name_of_strategy};
-ghost use Rattle.sz_catalogue.specs.Responses.{word_text};
-ghost use Rattle.sz_recover.specs.Logs.{IsMade};
-ghost use Rattle.sz_session.specs.Statuses.{ChecksLog, AreCounted};
-ghost use Rattle.sz_session.specs.Checking.{check_line, sound_line, unsound_line, node_words};
-ghost use Rattle.sz_session.specs.Checking.{TellsLine};
-ghost use Rattle.sz_session.specs.Checking.{StopsChecking};
-ghost use Rattle.sz_outside.specs.Outside.{Stood};
+ghost use Rattle.sz_session.specs.Terms.{◌≡◌, ◌++◌, IfOk, OnOk, length, string_bytes};
+ghost use Rattle.sz_session.specs.Terms.{name_of_strategy, word_text, IsMade, ChecksLog};
+ghost use Rattle.sz_session.specs.Terms.{AreCounted, check_line, sound_line, unsound_line};
+ghost use Rattle.sz_session.specs.Terms.{node_words, TellsLine, StopsChecking, Stood};
 
 use crate::serving::Status;
 use std::alloc::{AllocError, Global};
 use std::thread::Threads;
 use sz_cells::NoMemory;
 use sz_outside::{Failed, Station};
-use sz_recover::{RecoverFault, Recovered, WrongStore, catalogue_of, unsound};
+use sz_recover::{Recovered, WrongStore, catalogue_of, unsound};
 use sz_script::strategy_name;
 use sz_spec::Strategy;
 
@@ -116,21 +111,4 @@ fn push_strategy(text: &mut String, s: Strategy) -> Result<(), AllocError>
 {
     let name = strategy_name(s);
     write!(text, " {name}")
-}
-
-/// A log that was not opened.
-impl From<RecoverFault> for Status {
-    ghost use Rattle.std.specs.Prelude.{◌≡◌};
-    ghost use Rattle.sz_session.specs.Statuses.{recover_status};
-
-    ghost from_gives = { λ fault s. s ≡ recover_status fault };
-
-    fn from(fault: RecoverFault) -> Status {
-        match fault {
-            RecoverFault::Failed => Status::DiskFault,
-            RecoverFault::NotALog => Status::NotALog,
-            RecoverFault::BadLog { at } => Status::BadLog { at },
-            RecoverFault::NoMemory => Status::NoMemory,
-        }
-    }
 }

@@ -6,24 +6,17 @@
 //! status that the call ended with; `before` and `after` are its source, and `old` and `new` its
 //! station, as it began and as it ended.
 
-ghost use Rattle.std.specs.Prelude.{◌≡◌, ◌⊎◌, ◌^◌, ℕ, true, false, [], None};
-ghost use Rattle.sz_outside.specs.Outside.{Rose, Stood, Says, SaysPart};
-ghost use Rattle.sz_commands.specs.States.{nothing_held};
-ghost use Rattle.sz_feed.specs.Serving.{Done, SaidOfRead, SaidToLimit, SaidInPart, SaidInLines};
-ghost use Rattle.sz_feed.specs.Serving.{IsPastLimit, IsWithinLimit};
-ghost use Rattle.sz_feed.specs.Making.{ready_line, IsFree, IfBarred, HasMade, IsSpared, IsSilent};
-ghost use Rattle.sz_feed.specs.Disks.{DiskStays, StaysFinding, OnlySays, FoundInPart};
-ghost use Rattle.sz_feed.specs.Disks.{StopsMaking};
-ghost use Rattle.sz_session.specs.Statuses.{log_status, is_of_disk, status_number};
-ghost use Rattle.sz_session.specs.declared.serving.Status.{Status as StatusOf};
-ghost use Rattle.sz_session.specs.Checking.{SaysLine, SaysPartOfLine, IfNoLog, BeginsAsLog};
-ghost use Rattle.sz_session.specs.Checking.{StopsChecking, IsUnlike, IsBadLog, IfBadLog};
-ghost use Rattle.sz_session.specs.Checking.{IsWellMadeLog};
-ghost use Rattle.sz_session.specs.Raising.{raised_line, HasRaised, IsLeftAlone, StopsRaising};
-ghost use Rattle.sz_session.specs.Continuing.{EndsOnLog};
-ghost use Rattle.sz_session.specs.Modes.{AsksFor, IfLoad, OfEachCall};
-ghost use Rattle.sz_session.specs.Modes.{is_for, is_of_lines, is_opened};
-ghost use Rattle.sz_words.specs.Job.{is_on_log};
+ghost use Rattle.sz_session.specs.Terms.{◌≡◌, ◌⊎◌, ◌^◌, ℕ, true, false, [], None, Rose, Stood};
+ghost use Rattle.sz_session.specs.Terms.{Says, SaysPart, nothing_held, Done, SaidOfRead};
+ghost use Rattle.sz_session.specs.Terms.{SaidToLimit, SaidInPart, SaidInLines, IsPastLimit};
+ghost use Rattle.sz_session.specs.Terms.{IsWithinLimit, ready_line, IsFree, IfBarred, HasMade};
+ghost use Rattle.sz_session.specs.Terms.{IsSpared, IsSilent, DiskStays, StaysFinding, OnlySays};
+ghost use Rattle.sz_session.specs.Terms.{FoundInPart, StopsMaking, log_status, is_of_disk};
+ghost use Rattle.sz_session.specs.Terms.{status_number, StatusOf, SaysLine, SaysPartOfLine};
+ghost use Rattle.sz_session.specs.Terms.{IfNoLog, BeginsAsLog, StopsChecking, IsUnlike, IsBadLog};
+ghost use Rattle.sz_session.specs.Terms.{IfBadLog, IsWellMadeLog, raised_line, HasRaised};
+ghost use Rattle.sz_session.specs.Terms.{IsLeftAlone, StopsRaising, EndsOnLog, AsksFor, IfLoad};
+ghost use Rattle.sz_session.specs.Terms.{OfEachCall, is_for, is_of_lines, is_opened, is_on_log};
 
 use crate::serving::Status;
 use sz_log::LogFault;

@@ -1,9 +1,6 @@
 //! A station that gathers what is said, and what a feed says to it.
-ghost use Rattle.std.specs.Prelude.{◌≡◌, [], None, Some, ⊤, IfOk};
-ghost use Rattle.sz_outside.specs.Counts.{count_after};
-ghost use Rattle.sz_commands.specs.States.{nothing_held};
-ghost use Rattle.sz_commands.specs.Transcript.{transcript};
-ghost use Rattle.sz_feed.specs.Moments.{moment_before};
+ghost use Rattle.sz_session.specs.Terms.{◌≡◌, [], None, Some, ⊤, IfOk, count_after, nothing_held};
+ghost use Rattle.sz_session.specs.Terms.{transcript, moment_before};
 
 use std::alloc::Global;
 use std::sync::Wait;

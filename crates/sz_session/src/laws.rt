@@ -1,15 +1,14 @@
 //! Laws of the definitions, for a reader: each function does nothing, and its contract is the law.
 
-ghost use Rattle.sz_feed.specs.Laws.{LinesAreThoseJoined, BytesLeftAreTheLastLine};
-ghost use Rattle.sz_feed.specs.Laws.{EachTextIsLines, CutsAreThoseJoined, LinesAreTheCut};
-ghost use Rattle.sz_feed.specs.Laws.{CutsGoByParts, CutsBehindAreOfBoth, TellingGoesByParts};
-ghost use Rattle.sz_feed.specs.Laws.{MomentsGoByParts, WholeLinesAreTold, TranscriptsAreTold};
-ghost use Rattle.sz_feed.specs.Laws.{AlikeTellTheSame, AlikeStayAlike, AlikeEndTheSame};
-ghost use Rattle.sz_feed.specs.Laws.{FirstRepliesAreAPart, RepliesGoOn, TranscriptsGoOn};
-ghost use Rattle.sz_feed.specs.Laws.{BlankLinesAreCounted, OtherLinesHaveOneReply};
-ghost use Rattle.sz_feed.specs.Laws.{SessionsOfNoLogArePlain, SoundLogsArePlain};
-ghost use Rattle.sz_commands.specs.Logged.{OpenedLogsStand};
-ghost use Rattle.sz_session.specs.Checking.{OneLineIsTold, SoundLinesMeanEach};
+ghost use Rattle.sz_session.specs.Terms.{LinesAreThoseJoined, BytesLeftAreTheLastLine};
+ghost use Rattle.sz_session.specs.Terms.{EachTextIsLines, CutsAreThoseJoined, LinesAreTheCut};
+ghost use Rattle.sz_session.specs.Terms.{CutsGoByParts, CutsBehindAreOfBoth, TellingGoesByParts};
+ghost use Rattle.sz_session.specs.Terms.{MomentsGoByParts, WholeLinesAreTold, TranscriptsAreTold};
+ghost use Rattle.sz_session.specs.Terms.{AlikeTellTheSame, AlikeStayAlike, AlikeEndTheSame};
+ghost use Rattle.sz_session.specs.Terms.{FirstRepliesAreAPart, RepliesGoOn, TranscriptsGoOn};
+ghost use Rattle.sz_session.specs.Terms.{BlankLinesAreCounted, OtherLinesHaveOneReply};
+ghost use Rattle.sz_session.specs.Terms.{SessionsOfNoLogArePlain, SoundLogsArePlain};
+ghost use Rattle.sz_session.specs.Terms.{OpenedLogsStand, OneLineIsTold, SoundLinesMeanEach};
 
 use sz_versions::sound_stores_tell_the_kinds;
 

@@ -2,13 +2,8 @@
 //!
 //! Its lines go through a [`Feed`], like those of a source, and the replies are said to a station
 //! that gathers them (`gathering`).
-ghost use Rattle.std.specs.Prelude.{◌≡◌, IfOk};
-ghost use Rattle.sz_commands.specs.Transcript.{transcript};
-ghost use Rattle.sz_feed.specs.Serving.{lines_in, load_line};
-ghost use Rattle.sz_commands.specs.States.{nothing_held};
-ghost use Rattle.sz_session.specs.Statuses.{SaysSummary, AreCounted};
-ghost use Rattle.sz_feed.specs.Disks.{OnlySays};
-ghost use Rattle.sz_words.specs.Job.{IsInRange};
+ghost use Rattle.sz_session.specs.Terms.{◌≡◌, IfOk, transcript, lines_in, load_line, nothing_held};
+ghost use Rattle.sz_session.specs.Terms.{SaysSummary, AreCounted, OnlySays, IsInRange};
 
 use crate::gathering::told_by;
 use crate::serving::Status;

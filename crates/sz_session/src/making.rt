@@ -1,11 +1,9 @@
 //! Mode init: the disk of the station is made the empty log, and one line says so.
-ghost use Rattle.std.specs.Prelude.{◌≡◌};
-ghost use Rattle.sz_session.specs.Statuses.{MakesLog, AreCounted, log_status};
-ghost use Rattle.sz_feed.specs.Disks.{StopsMaking};
-ghost use Rattle.sz_feed.specs.Making.{ready_line};
+ghost use Rattle.sz_session.specs.Terms.{◌≡◌, MakesLog, AreCounted, StopsMaking};
+ghost use Rattle.sz_session.specs.Terms.{ready_line};
 
 use crate::serving::Status;
-use sz_log::{LogFault, init};
+use sz_log::init;
 use sz_outside::{Failed, Station};
 
 /// Makes the disk the empty log, and says that it is ready. Takes no memory.
@@ -28,20 +26,4 @@ fn ready_line() -> &'static [u8]
     ensures { result.now ≡ ready_line }
 {
     b"log ready\n"
-}
-
-/// A disk that was not made a log.
-impl From<LogFault> for Status {
-    ghost use Rattle.std.specs.Prelude.{◌≡◌};
-    ghost use Rattle.sz_session.specs.Statuses.{log_status};
-
-    ghost from_gives = { λ fault s. s ≡ log_status fault };
-
-    fn from(fault: LogFault) -> Status {
-        match fault {
-            LogFault::Failed => Status::DiskFault,
-            LogFault::NotALog => Status::NotALog,
-            LogFault::AlreadyALog => Status::AlreadyALog,
-        }
-    }
 }

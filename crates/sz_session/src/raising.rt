@@ -1,13 +1,8 @@
 //! Mode upgrade: the log of the station is opened, and raised to format 2 where it has format 1, by
 //! one group more; and one line says its format. Nothing else is written to the disk.
-ghost use Rattle.std.specs.Prelude.{◌≡◌, OnOk, is_ok};
-ghost use Rattle.sz_outside.specs.Counts.{faults_after};
-ghost use Rattle.sz_outside.specs.Disk.{Only, Said};
-ghost use Rattle.sz_recover.specs.Logs.{IsMade};
-ghost use Rattle.sz_commands.specs.Stops.{StopsFinding};
-ghost use Rattle.sz_session.specs.Statuses.{AreCounted};
-ghost use Rattle.sz_session.specs.Raising.{raised_line, RaisesLog, HasRaised};
-ghost use Rattle.sz_session.specs.Raising.{RaisesOrStays, StopsRaising};
+ghost use Rattle.sz_session.specs.Terms.{◌≡◌, OnOk, is_ok, faults_after, Only, Said, IsMade};
+ghost use Rattle.sz_session.specs.Terms.{StopsFinding, AreCounted, raised_line, RaisesLog};
+ghost use Rattle.sz_session.specs.Terms.{HasRaised, RaisesOrStays, StopsRaising};
 
 use crate::serving::Status;
 use std::alloc::Global;

@@ -4,23 +4,17 @@
 //! what was said so far is the replies of all whole lines read so far, from the start of the
 //! session, and gives the same with the bytes read: so no read is made while a reply is still to be
 //! said.
-ghost use Rattle.std.specs.Prelude.{◌≡◌, ◌⊎◌, ◌<◌, ◌≤◌, ◌+◌, ◌-◌, ◌^◌};
-ghost use Rattle.std.specs.Prelude.{false, Ok, Err, IfOk, IfErr, OnOk, OnErr, length};
-ghost use Rattle.std.specs.Prelude.{map, string_bytes, None, Some};
-ghost use Rattle.sz_outside.specs.Outside.{Rose, Stood, Gives, Keeps};
-ghost use Rattle.sz_session.specs.Statuses.{end_status, words_status, status_number};
-ghost use Rattle.sz_session.specs.Statuses.{Ends, AreCounted};
-ghost use Rattle.sz_session.specs.Sessions.{opening_of, TurnsOn, EndsTurn, EndsSession};
-ghost use Rattle.sz_session.specs.Continuing.{EndsOnLog};
-ghost use Rattle.sz_session.specs.Modes.{AsksFor, IfLoad, is_for, is_of_lines};
-ghost use Rattle.sz_session.specs.Modes.{EndsPlay, EndsLoad, EndsInit, EndsCheck, EndsUpgrade};
-ghost use Rattle.sz_session.specs.Modes.{EndsRun};
-ghost use Rattle.sz_commands.specs.States.{nothing_held};
-ghost use Rattle.sz_commands.specs.Logged.{IsLogOf, end_of};
-ghost use Rattle.sz_feed.specs.Running.{IsBeside, state_of_log};
-ghost use Rattle.sz_feed.specs.Serving.{load_line, Opening, Answered, AreAll};
-ghost use Rattle.sz_feed.specs.Disks.{StaysFinding, FoundInPart};
-ghost use Rattle.sz_words.specs.Job.{job_of, IsInRange};
+ghost use Rattle.sz_session.specs.Terms.{◌≡◌, ◌⊎◌, ◌<◌, ◌≤◌, ◌+◌, ◌-◌, ◌^◌, false, Ok, Err, IfOk};
+ghost use Rattle.sz_session.specs.Terms.{IfErr, OnOk, OnErr, length, map, string_bytes, None, Some};
+ghost use Rattle.sz_session.specs.Terms.{Rose, Stood, Gives, Keeps, end_status, words_status};
+ghost use Rattle.sz_session.specs.Terms.{halt_status, log_status, recover_status};
+ghost use Rattle.sz_session.specs.Terms.{status_number, Ends, AreCounted, opening_of, TurnsOn};
+ghost use Rattle.sz_session.specs.Terms.{EndsTurn, EndsSession, EndsOnLog, AsksFor, IfLoad, is_for};
+ghost use Rattle.sz_session.specs.Terms.{is_of_lines, EndsPlay, EndsLoad, EndsInit, EndsCheck};
+ghost use Rattle.sz_session.specs.Terms.{EndsUpgrade, EndsRun, nothing_held, IsLogOf, end_of};
+ghost use Rattle.sz_session.specs.Terms.{IsBeside, state_of_log, load_line, Opening, Answered};
+ghost use Rattle.sz_session.specs.Terms.{AreAll, StaysFinding, FoundInPart, job_of, IsInRange};
+ghost use Rattle.sz_session.specs.declared.serving.Status.TheVariants.{ReadFault};
 
 use crate::checking::check_log;
 use crate::load::load;
@@ -32,8 +26,9 @@ use std::sync::{Arc, Wait};
 use std::thread::Threads;
 use sz_commands::Session;
 use sz_feed::{Feed, Halt};
+use sz_log::LogFault;
 use sz_outside::{Failed, Gate, Source, Station};
-use sz_recover::{Recovered, catalogue_of};
+use sz_recover::{RecoverFault, Recovered, catalogue_of};
 use sz_words::{Job, JobMode, WordsFault, read_words};
 
 /// How a call of `serve` ended.
@@ -83,10 +78,7 @@ impl Status {
 
 /// A read that failed. What fails of a say comes as a [`Halt`].
 impl From<Failed> for Status {
-    ghost use Rattle.std.specs.Prelude.{◌≡◌};
-    ghost use Rattle.sz_session.specs.declared.serving.Status.TheVariants as status;
-
-    ghost from_gives = { λ _ s. s ≡ status.ReadFault };
+    ghost from_gives = { λ _ s. s ≡ ReadFault };
 
     fn from(_fault: Failed) -> Status {
         Status::ReadFault
@@ -95,9 +87,6 @@ impl From<Failed> for Status {
 
 /// A session that stopped.
 impl From<Halt> for Status {
-    ghost use Rattle.std.specs.Prelude.{◌≡◌};
-    ghost use Rattle.sz_session.specs.Statuses.{halt_status};
-
     ghost from_gives = { λ halt s. s ≡ halt_status halt };
 
     fn from(halt: Halt) -> Status {
@@ -105,6 +94,33 @@ impl From<Halt> for Status {
             Halt::SayFault => Status::SayFault,
             Halt::DiskFault => Status::DiskFault,
             Halt::NoMemory => Status::NoMemory,
+        }
+    }
+}
+
+/// A disk that was not made a log.
+impl From<LogFault> for Status {
+    ghost from_gives = { λ fault s. s ≡ log_status fault };
+
+    fn from(fault: LogFault) -> Status {
+        match fault {
+            LogFault::Failed => Status::DiskFault,
+            LogFault::NotALog => Status::NotALog,
+            LogFault::AlreadyALog => Status::AlreadyALog,
+        }
+    }
+}
+
+/// A log that was not opened.
+impl From<RecoverFault> for Status {
+    ghost from_gives = { λ fault s. s ≡ recover_status fault };
+
+    fn from(fault: RecoverFault) -> Status {
+        match fault {
+            RecoverFault::Failed => Status::DiskFault,
+            RecoverFault::NotALog => Status::NotALog,
+            RecoverFault::BadLog { at } => Status::BadLog { at },
+            RecoverFault::NoMemory => Status::NoMemory,
         }
     }
 }

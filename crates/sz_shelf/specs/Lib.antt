@@ -16,3 +16,4 @@ pub mod Machine
 pub mod LawsMachine
 pub mod Rules
 pub mod Changes
+mod Terms

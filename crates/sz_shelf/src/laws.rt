@@ -4,14 +4,9 @@
 //! pass means what these laws say. That no other kind of step is made is read in `src/words.rt`:
 //! that file alone reaches the table.
 
-ghost use Rattle.std.specs.Prelude.{◌≡◌, ℕ};
-ghost use Rattle.sz_shelf.specs.Rule.{Table, first_view};
-ghost use Rattle.sz_shelf.specs.Rules.{Rules};
-ghost use Rattle.sz_shelf.specs.Changes.{WinsOrLoses, Takes as TakesStore, Counts as CountsOne};
-ghost use Rattle.sz_shelf.specs.Changes.{GivesBack as GivesStoreBack, Releases as EndsTurn};
-ghost use Rattle.sz_shelf.specs.Changes.{Loads as LoadsCount, Splits, Joins};
-ghost use Rattle.std.specs.declared.snapshot.Snapshot.{Snapshot};
-ghost use Rattle.sz_shelf.specs.declared.tag.TagParts.{TagParts};
+ghost use Rattle.sz_shelf.specs.Terms.{◌≡◌, ℕ, Table, first_view, Rules, WinsOrLoses, TakesStore};
+ghost use Rattle.sz_shelf.specs.Terms.{CountsOne, GivesStoreBack, EndsTurn, LoadsCount, Splits};
+ghost use Rattle.sz_shelf.specs.Terms.{Joins, Snapshot, TagParts};
 
 use crate::rule::{
     Copies, Counts, GivesBack, Loads, OneAtATime, Releases, Takes, TakesBoth, Tries, View,

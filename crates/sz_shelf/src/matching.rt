@@ -2,8 +2,8 @@
 //! its contract is the law. They tie the pairs that the machine is given to the tag's relation, so
 //! what the machine's looks hold is what [`Shelf::look`](crate::Shelf::look) adds.
 
-ghost use Rattle.sz_shelf.specs.LawsMachine.{PairsSayTheRelation};
-ghost use Rattle.sz_shelf.specs.LawsMachine.{AsksComeToTheTagsImage, LooksHoldTheTagsImage};
+ghost use Rattle.sz_shelf.specs.Terms.{PairsSayTheRelation, AsksComeToTheTagsImage};
+ghost use Rattle.sz_shelf.specs.Terms.{LooksHoldTheTagsImage};
 
 /// The pairs of all pieces say exactly the tag's relation.
 pub fn pairs_say_the_relation()

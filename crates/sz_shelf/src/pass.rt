@@ -1,9 +1,7 @@
 //! A pass: the right to take turns at one shelf, and what it knows of it.
 
-ghost use Rattle.std.specs.Prelude.{◌≡◌, IfSome, OnOk, OnErr};
-ghost use Rattle.std.specs.Option.{option_map, option_or};
-ghost use Rattle.std.specs.Arc.{arc_value};
-ghost use Rattle.sz_shelf.specs.Tags.{IsTag, StandsFor};
+ghost use Rattle.sz_shelf.specs.Terms.{◌≡◌, IfSome, OnOk, OnErr, option_map, option_or, arc_value};
+ghost use Rattle.sz_shelf.specs.Terms.{IsTag, StandsFor};
 
 use crate::rule::View;
 use crate::shelved::Shelved;

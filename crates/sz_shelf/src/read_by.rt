@@ -3,11 +3,9 @@
 //! Nothing is known here of what stores stand for: two of them may differ. So the mark, which this
 //! file alone makes, names the one that was read, and no other that would have answered the same.
 
-ghost use Rattle.std.specs.Prelude.{◌≡◌, ◌<◌, length, true};
-ghost use Rattle.sz_cells.specs.Cells.{has, with_those};
-ghost use Rattle.sz_spec.specs.Modes.{is_listed, is_stored};
-ghost use Rattle.sz_spec.specs.Sides.{near_side, far_side, image_in};
-ghost use Rattle.sz_store.specs.Kept.{holding_for, holding_stands};
+ghost use Rattle.sz_shelf.specs.Terms.{◌≡◌, ◌<◌, length, true, has, with_those, is_listed};
+ghost use Rattle.sz_shelf.specs.Terms.{is_stored, near_side, far_side, image_in, holding_for};
+ghost use Rattle.sz_shelf.specs.Terms.{holding_stands};
 
 use sz_cells::CellBits;
 use sz_spec::{Dir, Strategy};

@@ -1,7 +1,7 @@
 //! What a seat knows, the rule that ties it to the words and to the slot, and the kinds of step.
-ghost use Rattle.sz_shelf.specs.Rule.{IsKept, first_view, spent_view};
-ghost use Rattle.sz_shelf.specs.Steps.{IsTry, IsTaking, IsCounting, IsGiving, IsReleasing, IsLoad};
-ghost use Rattle.sz_shelf.specs.Steps.{after_split, parted_view, after_join};
+ghost use Rattle.sz_shelf.specs.Terms.{IsKept, first_view, spent_view, IsTry, IsTaking, IsCounting};
+ghost use Rattle.sz_shelf.specs.Terms.{IsGiving, IsReleasing, IsLoad, after_split, parted_view};
+ghost use Rattle.sz_shelf.specs.Terms.{after_join};
 
 use crate::shelved::Shelved;
 use crate::tag::TagParts;

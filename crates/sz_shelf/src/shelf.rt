@@ -1,26 +1,16 @@
 //! A shelf, and the calls by which passes use it.
 
-ghost use Rattle.std.specs.Prelude.{◌≡◌, ◌+◌, ◌<◌, ◌++◌, ◌∷◌, [], ◌||◌, length, map, true, false};
-ghost use Rattle.std.specs.Prelude.{not, Ok, Some, IfOk, OnOk, OnErr, IfSome, is_none, Option};
-ghost use Rattle.std.specs.Prelude.{All};
-ghost use Rattle.std.specs.Option.{option_map, option_or};
-ghost use Rattle.std.specs.Arc.{arc_value};
-ghost use Rattle.sz_cells.specs.Cells.{has, with_those};
-ghost use Rattle.sz_spec.specs.Modes.{is_listed, is_stored};
-ghost use Rattle.sz_spec.specs.Sides.{near_side, far_side};
-ghost use Rattle.sz_store.specs.Needed.{FitsAsNeeded};
-ghost use Rattle.sz_frame.specs.Images.{measure_of};
-ghost use Rattle.sz_core.specs.Events.{place_reply, after_place, seal_reply, after_seal};
-ghost use Rattle.sz_core.specs.Events.{look_reply, after_look};
-ghost use Rattle.sz_shelf.specs.Machine.{found_shelf, left_shelf, first_step};
-ghost use Rattle.sz_shelf.specs.Machine.{told_of_place, told_of_seal, told_of_look};
-ghost use Rattle.sz_shelf.specs.Tags.{IsTag, StandsFor, tag_pieces, tag_image};
-ghost use Rattle.sz_shelf.specs.Apart.{HasImages};
-ghost use Rattle.sz_shelf.specs.Steps.{longer};
-ghost use Rattle.sz_shelf.specs.Passes.{TookTurn, newcomer, place_of, with_split, split_off};
-ghost use Rattle.sz_shelf.specs.Answers.{place_answer, seal_answer, look_answer, read_by};
-ghost use Rattle.sz_shelf.specs.declared.answers.Placed.TheVariants.{New};
-ghost use Rattle.sz_shelf.specs.declared.answers.SealReply.TheVariants.{Sealed as SealedNow};
+ghost use Rattle.sz_shelf.specs.Terms.{◌≡◌, ◌+◌, ◌<◌, ◌++◌, ◌∷◌, [], ◌||◌, length, map, true};
+ghost use Rattle.sz_shelf.specs.Terms.{false, not, Ok, Some, IfOk, OnOk, OnErr, IfSome, is_none};
+ghost use Rattle.sz_shelf.specs.Terms.{Option, All, option_map, option_or, arc_value, has};
+ghost use Rattle.sz_shelf.specs.Terms.{with_those, is_listed, is_stored, near_side, far_side};
+ghost use Rattle.sz_shelf.specs.Terms.{FitsAsNeeded, measure_of, place_reply, after_place};
+ghost use Rattle.sz_shelf.specs.Terms.{seal_reply, after_seal, look_reply, after_look, found_shelf};
+ghost use Rattle.sz_shelf.specs.Terms.{left_shelf, first_step, told_of_place, told_of_seal};
+ghost use Rattle.sz_shelf.specs.Terms.{told_of_look, IsTag, StandsFor, tag_pieces, tag_image};
+ghost use Rattle.sz_shelf.specs.Terms.{HasImages, longer, TookTurn, newcomer, place_of, with_split};
+ghost use Rattle.sz_shelf.specs.Terms.{split_off, place_answer, seal_answer, look_answer, read_by};
+ghost use Rattle.sz_shelf.specs.Terms.{New, SealedNow};
 
 use crate::answers::{Look, Placed, SealReply};
 use crate::pass::Pass;

@@ -4,20 +4,12 @@
 //! whether it is sealed; the stores themselves are seen by [`Shelved::store`], which says what they
 //! stand for.
 
-ghost use Rattle.std.specs.Prelude.{◌≡◌, ℕ, ◌<◌, ◌≤◌, ◌++◌, ◌∷◌, [], length, true, false};
-ghost use Rattle.std.specs.Prelude.{Some, None, IfOk, OnOk, OnErr, All};
-ghost use Rattle.std.specs.List.{slice_index_or};
-ghost use Rattle.std.specs.Arc.{arc_value};
-ghost use Rattle.sz_cells.specs.Cells.{has, with_those};
-ghost use Rattle.sz_spec.specs.Modes.{is_listed, is_stored};
-ghost use Rattle.sz_spec.specs.Sides.{near_side, far_side};
-ghost use Rattle.sz_store.specs.Needed.{FitsAsNeeded};
-ghost use Rattle.sz_frame.specs.Images.{measure_of};
-ghost use Rattle.sz_shelf.specs.Tags.{IsTag, StandsFor, tag_pieces, tag_image};
-ghost use Rattle.sz_shelf.specs.Placed.{StandsOnPlaced};
-ghost use Rattle.sz_shelf.specs.Contents.{is_in, missing_in, least_missing};
-ghost use Rattle.sz_shelf.specs.Keeping.{IsFirst};
-ghost use Rattle.sz_shelf.specs.Apart.{HasImages, IsRegions};
+ghost use Rattle.sz_shelf.specs.Terms.{◌≡◌, ℕ, ◌<◌, ◌≤◌, ◌++◌, ◌∷◌, [], length, true, false, Some};
+ghost use Rattle.sz_shelf.specs.Terms.{None, IfOk, OnOk, OnErr, All, slice_index_or, arc_value};
+ghost use Rattle.sz_shelf.specs.Terms.{has, with_those, is_listed, is_stored, near_side, far_side};
+ghost use Rattle.sz_shelf.specs.Terms.{FitsAsNeeded, measure_of, IsTag, StandsFor, tag_pieces};
+ghost use Rattle.sz_shelf.specs.Terms.{tag_image, StandsOnPlaced, is_in, missing_in, least_missing};
+ghost use Rattle.sz_shelf.specs.Terms.{IsFirst, HasImages, IsRegions};
 
 use crate::read_by::ReadBy;
 use crate::stored::Stored;

@@ -2,12 +2,10 @@
 //! its contract is the law. What the stores in a shelf's slot stand for is said by
 //! [`Shelved::store`](crate::Shelved::store).
 
-ghost use Rattle.sz_shelf.specs.Fitting.{FittingLineagesFitAsNeeded, NeededPartsCanBePlaced};
-ghost use Rattle.sz_shelf.specs.LawsStores.{LineagesStandOnTheirPieces};
-ghost use Rattle.sz_shelf.specs.LawsStores.{EachStrategyStandsForTheTag};
-ghost use Rattle.sz_shelf.specs.LawsStores.{LineagesOfAllPiecesStandForTheTag};
-ghost use Rattle.sz_shelf.specs.LawsStores.{WholeStoresStandOnPlacedPieces};
-ghost use Rattle.sz_shelf.specs.LawsStores.{ImagesByStoresAreTheTags};
+ghost use Rattle.sz_shelf.specs.Terms.{FittingLineagesFitAsNeeded, NeededPartsCanBePlaced};
+ghost use Rattle.sz_shelf.specs.Terms.{LineagesStandOnTheirPieces, EachStrategyStandsForTheTag};
+ghost use Rattle.sz_shelf.specs.Terms.{LineagesOfAllPiecesStandForTheTag};
+ghost use Rattle.sz_shelf.specs.Terms.{WholeStoresStandOnPlacedPieces, ImagesByStoresAreTheTags};
 
 /// A lineage that fits its piece fits as needed. One that does can be placed, whatever else it has.
 pub fn needed_parts_can_be_placed()

@@ -1,9 +1,7 @@
 //! The stores of a shelf: open while pieces are placed, and shared once they are handed out.
 
-ghost use Rattle.std.specs.Prelude.{◌≡◌, Some, IfOk, OnOk, OnErr, true};
-ghost use Rattle.std.specs.Arc.{arc_value};
-ghost use Rattle.sz_shelf.specs.Keeping.{store_in, IsThere, CanTake, with_more, IsSharedFrom};
-ghost use Rattle.sz_shelf.specs.Apart.{StayApart};
+ghost use Rattle.sz_shelf.specs.Terms.{◌≡◌, Some, IfOk, OnOk, OnErr, true, arc_value, store_in};
+ghost use Rattle.sz_shelf.specs.Terms.{IsThere, CanTake, with_more, IsSharedFrom, StayApart};
 
 use std::alloc::{AllocFailed, Global};
 use std::sync::Arc;

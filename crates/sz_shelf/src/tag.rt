@@ -5,8 +5,7 @@
 //!
 //! [`Snapshot`]: std::snapshot::Snapshot
 
-ghost use Rattle.std.specs.Prelude.{◌≡◌, map, IfOk};
-ghost use Rattle.std.specs.Arc.{arc_value};
+ghost use Rattle.sz_shelf.specs.Terms.{◌≡◌, map, IfOk, arc_value};
 
 use std::alloc::Global;
 use std::marker::Model;

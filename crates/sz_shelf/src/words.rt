@@ -1,8 +1,7 @@
 //! The flag, the count and the slot. Their table is in sight of this file alone, so these calls are
 //! all the steps there are.
 ghost use Rattle.std.specs.Prelude.{◌≡◌, ◌+◌, ◌<◌, ◌≤◌, ◌++◌, ◌∷◌, [], length, false, true, None};
-ghost use Rattle.std.specs.Prelude.{Ok, All};
-ghost use Rattle.std.specs.Prelude.{IfOk, OnErr, IfSome, is_none, not};
+ghost use Rattle.std.specs.Prelude.{Ok, All, IfOk, OnErr, IfSome, is_none, not};
 ghost use Rattle.std.specs.Arc.{arc_value};
 ghost use Rattle.sz_cells.specs.Cells.{has, with_those};
 ghost use Rattle.sz_spec.specs.Modes.{is_listed, is_stored};

@@ -3,3 +3,4 @@ pub mod ShortSets
 pub mod Ways
 pub mod ShortStores
 pub mod Laws
+mod Terms

@@ -1,19 +1,13 @@
 //! Stores of full lineage in the other form: the table of sets is spelled again, and what names
 //! its sets is copied.
 
-ghost use Rattle.std.specs.Prelude.{◌≡◌, ◌≤◌, ◌<◌, ◌+◌, ◌++◌, ◌∷◌, ℕ, List, length, take, true};
-ghost use Rattle.std.specs.Prelude.{All, IfOk, IfErr, OnOk, OnErr, IfSome, IfNone};
-ghost use Rattle.sz_cells.specs.Extent.{is_extent};
-ghost use Rattle.sz_cells.specs.SetBytes.{set_bytes};
-ghost use Rattle.sz_spec.specs.Values.{extent_at};
-ghost use Rattle.sz_region.specs.Counted.{IsAt, counted};
-ghost use Rattle.sz_region.specs.FullBytes.{Listed, IsListed, BeginsRegions};
-ghost use Rattle.sz_frame.specs.Parts.{Pairing};
-ghost use Rattle.sz_region.specs.Stores.{OnBad, NoneAt, AreFew, NoRegionsBegin, SaysNoRegions};
-ghost use Rattle.sz_short.specs.ShortSets.{short_set_bytes};
-ghost use Rattle.sz_short.specs.ShortStores.{listed_by, RespellsFull, SaysNoShortFull};
-ghost use Rattle.sz_short.specs.ShortStores.{NoFullBegins};
-ghost use Rattle.sz_short.specs.Ways.{read_bytes, written_bytes};
+ghost use Rattle.sz_short.specs.Terms.{◌≡◌, ◌≤◌, ◌<◌, ◌+◌, ◌++◌, ◌∷◌, ℕ, List, length, take, true};
+ghost use Rattle.sz_short.specs.Terms.{All, IfOk, IfErr, OnOk, OnErr, IfSome, IfNone, is_extent};
+ghost use Rattle.sz_short.specs.Terms.{set_bytes, extent_at, IsAt, counted, Listed, IsListed};
+ghost use Rattle.sz_short.specs.Terms.{BeginsRegions, Pairing, OnBad, NoneAt, AreFew};
+ghost use Rattle.sz_short.specs.Terms.{NoRegionsBegin, SaysNoRegions, short_set_bytes, listed_by};
+ghost use Rattle.sz_short.specs.Terms.{RespellsFull, SaysNoShortFull, NoFullBegins, read_bytes};
+ghost use Rattle.sz_short.specs.Terms.{written_bytes};
 
 use crate::parts::{copy_part, copy_rows, take_number};
 use crate::ways::{Way, respell_set};

@@ -1,10 +1,10 @@
 //! Laws of the definitions, for a reader: each function has an empty body, and its contract is the
 //! law.
 
-ghost use Rattle.sz_short.specs.Laws.{NumbersHaveShortSpellings, ShortSpellingsAreNumbers};
-ghost use Rattle.sz_short.specs.Laws.{BytesAreOneShortNumber, BytesAreOneShortSet};
-ghost use Rattle.sz_short.specs.Laws.{OneShortSetBegins, WrittenShortSetsAreRead};
-ghost use Rattle.sz_short.specs.Laws.{LongFullIsFull, LongPayIsPay};
+ghost use Rattle.sz_short.specs.Terms.{NumbersHaveShortSpellings, ShortSpellingsAreNumbers};
+ghost use Rattle.sz_short.specs.Terms.{BytesAreOneShortNumber, BytesAreOneShortSet};
+ghost use Rattle.sz_short.specs.Terms.{OneShortSetBegins, WrittenShortSetsAreRead, LongFullIsFull};
+ghost use Rattle.sz_short.specs.Terms.{LongPayIsPay};
 
 /// The bytes of a number are exactly its one short spelling.
 pub fn numbers_have_one_short_spelling()

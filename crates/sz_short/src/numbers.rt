@@ -1,9 +1,7 @@
 //! Short numbers: writing one, and reading one where it begins.
 
-ghost use Rattle.std.specs.Prelude.{◌≡◌, ◌+◌, ◌++◌, length, take, IfSome, IfNone, OnOk, OnErr};
-ghost use Rattle.sz_region.specs.Counted.{IsAt};
-ghost use Rattle.sz_region.specs.Stores.{NoneAt};
-ghost use Rattle.sz_short.specs.ShortNumber.{short_within, short_number, IsWithin, IsSmall};
+ghost use Rattle.sz_short.specs.Terms.{◌≡◌, ◌+◌, ◌++◌, length, take, IfSome, IfNone, OnOk, OnErr};
+ghost use Rattle.sz_short.specs.Terms.{IsAt, NoneAt, short_within, short_number, IsWithin, IsSmall};
 
 use sz_cells::NoMemory;
 

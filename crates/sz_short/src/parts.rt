@@ -1,12 +1,9 @@
 //! The parts of stores that are the same bytes in either form: counts, payloads and names.
 
-ghost use Rattle.std.specs.Prelude.{◌≡◌, ◌<◌, ◌≤◌, ◌+◌, ◌^◌, ◌++◌, ℕ, List, length};
-ghost use Rattle.std.specs.Prelude.{IfSome, IfNone, IfOk, IfErr, OnOk, OnErr};
-ghost use Rattle.sz_cells.specs.SetBytes.{four_bytes};
-ghost use Rattle.sz_region.specs.Counted.{IsAt, counted, rows_bytes};
-ghost use Rattle.sz_region.specs.PayBytes.{IsShort, payload_bytes};
-ghost use Rattle.sz_region.specs.Stores.{OnBad, NoneAt, AreFew};
-ghost use Rattle.sz_short.specs.ShortStores.{AreRowsOf, IsBlock};
+ghost use Rattle.sz_short.specs.Terms.{◌≡◌, ◌<◌, ◌≤◌, ◌+◌, ◌^◌, ◌++◌, ℕ, List, length, IfSome};
+ghost use Rattle.sz_short.specs.Terms.{IfNone, IfOk, IfErr, OnOk, OnErr, four_bytes, IsAt, counted};
+ghost use Rattle.sz_short.specs.Terms.{rows_bytes, IsShort, payload_bytes, OnBad, NoneAt, AreFew};
+ghost use Rattle.sz_short.specs.Terms.{AreRowsOf, IsBlock};
 
 use sz_cells::NoMemory;
 use sz_numbers::four_at;

@@ -1,18 +1,11 @@
 //! Stores of payloads in the other form: the table of output sets is spelled again, and the
 //! payloads and what names both are copied.
 
-ghost use Rattle.std.specs.Prelude.{◌≡◌, ◌≤◌, ◌<◌, ◌+◌, ◌++◌, ℕ, List, length, take, true};
-ghost use Rattle.std.specs.Prelude.{IfOk, IfErr, OnOk, OnErr};
-ghost use Rattle.sz_cells.specs.Cells.{Cells};
-ghost use Rattle.sz_cells.specs.Extent.{is_extent};
-ghost use Rattle.sz_cells.specs.SetBytes.{set_bytes, IsSetOf};
-ghost use Rattle.sz_region.specs.Counted.{IsAt, counted};
-ghost use Rattle.sz_frame.specs.Parts.{Entry};
-ghost use Rattle.sz_region.specs.PayBytes.{BeginsEntries};
-ghost use Rattle.sz_region.specs.Stores.{OnBad, NoneAt, AreFew, NoEntriesBegin, SaysNoEntries};
-ghost use Rattle.sz_short.specs.ShortSets.{short_set_bytes};
-ghost use Rattle.sz_short.specs.ShortStores.{RespellsPay, SaysNoShortPay, NoPayBegins};
-ghost use Rattle.sz_short.specs.Ways.{read_bytes, written_bytes};
+ghost use Rattle.sz_short.specs.Terms.{◌≡◌, ◌≤◌, ◌<◌, ◌+◌, ◌++◌, ℕ, List, length, take, true, IfOk};
+ghost use Rattle.sz_short.specs.Terms.{IfErr, OnOk, OnErr, Cells, is_extent, set_bytes, IsSetOf};
+ghost use Rattle.sz_short.specs.Terms.{IsAt, counted, Entry, BeginsEntries, OnBad, NoneAt, AreFew};
+ghost use Rattle.sz_short.specs.Terms.{NoEntriesBegin, SaysNoEntries, short_set_bytes, RespellsPay};
+ghost use Rattle.sz_short.specs.Terms.{SaysNoShortPay, NoPayBegins, read_bytes, written_bytes};
 
 use crate::parts::{copy_part, copy_payloads, copy_rows, take_number};
 use crate::ways::{Way, respell_set};

@@ -1,13 +1,9 @@
 //! Short cell sets: writing one, and reading one where it begins.
 
-ghost use Rattle.std.specs.Prelude.{◌≡◌, ◌≤◌, ◌++◌, length, take};
-ghost use Rattle.std.specs.Prelude.{IfOk, OnOk, IfErr, OnErr, IfSome, IfNone};
-ghost use Rattle.sz_cells.specs.Extent.{size_of};
-ghost use Rattle.sz_cells.specs.Runs.{AreRunsFrom};
-ghost use Rattle.sz_region.specs.Counted.{IsAt};
-ghost use Rattle.sz_region.specs.Stores.{NoneAt};
-ghost use Rattle.sz_short.specs.ShortSets.{short_run, short_runs_bytes, short_set_bytes};
-ghost use Rattle.sz_short.specs.ShortSets.{BeginsShortSet, SaysNoShortSet, IsRunFrom};
+ghost use Rattle.sz_short.specs.Terms.{◌≡◌, ◌≤◌, ◌++◌, length, take, IfOk, OnOk, IfErr, OnErr};
+ghost use Rattle.sz_short.specs.Terms.{IfSome, IfNone, size_of, AreRunsFrom, IsAt, NoneAt};
+ghost use Rattle.sz_short.specs.Terms.{short_run, short_runs_bytes, short_set_bytes};
+ghost use Rattle.sz_short.specs.Terms.{BeginsShortSet, SaysNoShortSet, IsRunFrom};
 
 use crate::numbers::{put_short, take_short};
 use std::alloc::Global;

@@ -1,11 +1,7 @@
 //! The two ways in which a store is spelled again, and one of its sets.
 
-ghost use Rattle.std.specs.Prelude.{◌≡◌, ◌++◌, IfOk, IfErr, OnErr};
-ghost use Rattle.sz_cells.specs.Cells.{Cells};
-ghost use Rattle.sz_cells.specs.SetBytes.{IsSetOf};
-ghost use Rattle.sz_region.specs.Counted.{IsAt};
-ghost use Rattle.sz_region.specs.Stores.{OnBad, NoneAt};
-ghost use Rattle.sz_short.specs.Ways.{read_bytes, written_bytes};
+ghost use Rattle.sz_short.specs.Terms.{◌≡◌, ◌++◌, IfOk, IfErr, OnErr, Cells, IsSetOf, IsAt, OnBad};
+ghost use Rattle.sz_short.specs.Terms.{NoneAt, read_bytes, written_bytes};
 
 use crate::sets::{put_set_2, take_set_2};
 use std::alloc::Global;

@@ -85,49 +85,46 @@ Led dir flow base outputs s d test =
     × ((y : Cell) → ((holds e y && t y) ≡ true)
     ↔ ((c : Cell) × (holds d c ≡ true) × (test c ≡ true) × StepLeads dir flow base outputs s c y))
 
+-- some cell of a set leads to a cell of a shape by the node that is there exactly where one of them does by some
+-- node that is
+led-by : (o : Option Node) (node : Node) → o ≡ Some node → (e d : Extent) (test : Cell → Bool)
+    (leads : Node → Cell → Cell → Bool) (y : Cell)
+    → ((holds e y && any_cell (λ c. leads node c y) (cells_where d test)) ≡ true)
+    ↔ ((c : Cell) × (holds d c ≡ true) × (test c ≡ true)
+    × ((x : Node) × (o ≡ Some x) × (holds e y ≡ true) × (leads x c y ≡ true)))
+led-by o node there e d test leads y = (
+  λ inside.
+      let both = and_parts (holds e y) (any_cell (λ c. leads node c y) (cells_where d test)) inside in
+      let found = any_cell-true d test (λ c. leads node c y) both.1 in
+      (found.0, found.1, found.2, (node, there, both.0, found.3)),
+  λ known.
+      let same : known.3.0 ≡ node = let one = known.3.1 in let two = there in (cc) in
+      and_from (holds e y) (any_cell (λ c. leads node c y) (cells_where d test)) known.3.2
+      (any_cell-from d test (λ c. leads node c y) known.0 known.1 known.2
+      (ap (λ (x : Node). leads x known.0 y) (sym same) ∙ known.3.3)),
+)
+
 step-led : (dir : Dir) (flow : Graph) (base outputs : List Grid) (s : Step) (d : Extent) (test : Cell → Bool)
     → is_there (source_of flow s) ≡ true → Led dir flow base outputs s d test
 step-led Back flow base outputs s d test there =
     let node = node-there flow s there in
     let inputs = inputs_of flow base outputs s.node in
     let e = extent_of inputs s.input in
-    let relation : Cell → Cell → Bool = related (node.0).op inputs s.input in
-    let passes : Cell → Bool = λ y. any_cell (λ o. relation o y) (cells_where d test) in (
+    let leads : Node → Cell → Cell → Bool = λ x c y. related x.op inputs s.input c y in (
       e,
-      passes,
+      λ y. any_cell (λ c. leads node.0 c y) (cells_where d test),
       image-back flow base outputs s node.0 (cells_where d test) node.1,
-      λ y. (
-        λ inside.
-            let both = and_parts (holds e y) (passes y) inside in
-            let found = any_cell-true d test (λ o. relation o y) both.1 in
-            (found.0, found.1, found.2, (node.0, node.1, both.0, found.3)),
-        λ known.
-            let same : known.3.0 ≡ node.0 = let one = known.3.1 in let two = node.1 in (cc) in
-            and_from (holds e y) (passes y) known.3.2
-            (any_cell-from d test (λ o. relation o y) known.0 known.1 known.2
-            (ap (λ (x : Node). related x.op inputs s.input known.0 y) (sym same) ∙ known.3.3)),
-      ),
+      led-by (slice_get flow.nodes s.node) node.0 node.1 e d test leads,
     )
 step-led Forward flow base outputs s d test there =
     let node = node-there flow s there in
     let inputs = inputs_of flow base outputs s.node in
     let e = extent_of outputs s.node in
-    let relation : Cell → Cell → Bool = related (node.0).op inputs s.input in
-    let passes : Cell → Bool = λ y. any_cell (λ x. relation y x) (cells_where d test) in (
+    let leads : Node → Cell → Cell → Bool = λ x c y. related x.op inputs s.input y c in (
       e,
-      passes,
+      λ y. any_cell (λ c. leads node.0 c y) (cells_where d test),
       image-forward flow base outputs s node.0 (cells_where d test) node.1,
-      λ y. (
-        λ inside.
-            let both = and_parts (holds e y) (passes y) inside in
-            let found = any_cell-true d test (λ x. relation y x) both.1 in
-            (found.0, found.1, found.2, (node.0, node.1, both.0, found.3)),
-        λ known.
-            let same : known.3.0 ≡ node.0 = let one = known.3.1 in let two = node.1 in (cc) in
-            and_from (holds e y) (passes y) known.3.2
-            (any_cell-from d test (λ x. relation y x) known.0 known.1 known.2
-            (ap (λ (x : Node). related x.op inputs s.input y known.0) (sym same) ∙ known.3.3)),
-      ),
+      led-by (slice_get flow.nodes s.node) node.0 node.1 e d test leads,
     )
 
 -- ---- a path

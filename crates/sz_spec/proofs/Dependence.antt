@@ -10,7 +10,7 @@ use Rattle.std.proofs.Common.{◌≡◌, ℕ, zero, suc, ◌+◌, ◌-◌, ◌/�
 use Rattle.std.proofs.Common.{◌&&◌, ◌||◌, ◌==◌}
 use Rattle.std.proofs.Common.{nat_lt, nat_le, if◌then◌else◌, List, [], ◌∷◌, length, All, Option}
 use Rattle.std.proofs.Common.{Some, None, Ok, refl}
-use Rattle.std.proofs.Common.{sym, ap, ap₂, ◌∙◌, arith, inl, inr, lt-ltb, ltb-true, eq-eqb, le-leb}
+use Rattle.std.proofs.Common.{sym, ap, ap₂, subst, ◌∙◌, arith, inl, inr, lt-ltb, ltb-true, eq-eqb, le-leb}
 use Rattle.std.proofs.Common.{get_or, neg_ℤ, ◌+ℤ◌, ◌-ℤ◌, ◌*ℤ◌}
 use Rattle.std.proofs.Common.{Result}
 use Rattle.std.specs.Prelude.{option_and_then, option_map, not, int_le}
@@ -105,13 +105,16 @@ in-layer_agree : (e : Extent) (layer row col : ℕ) (a b : Grid) (test : Cell �
 in-layer_agree e layer row col a b test right place passes same =
     same (cell_in e layer row col) (place-has_cell e layer row col right place).0 passes
 
--- a cell of a shape has a layer and a row in it
-place-of : (e : Extent) (c : Cell) → is_extent e ≡ true → holds e c ≡ true
-    → (layer_of e c < e.layers) × (row_in e c < height_of e)
+-- a cell of a shape has a layer, a row in it and a column
+pub place-of : (e : Extent) (c : Cell) → is_extent e ≡ true → holds e c ≡ true
+    → (layer_of e c < e.layers) × (row_in e c < height_of e) × (c.col < e.cols)
 place-of e c right held =
-    let place = (cell-has_place e c right held).0 in
-    let inner = and_parts _ _ (and_parts _ (nat_lt c.col e.cols) place).0 in
-    (ltb-true (layer_of e c) e.layers inner.0, ltb-true (row_in e c) (height_of e) inner.1)
+    let outer = and_parts _ (nat_lt c.col e.cols) (cell-has_place e c right held).0 in
+    let inner = and_parts _ _ outer.0 in (
+      ltb-true (layer_of e c) e.layers inner.0,
+      ltb-true (row_in e c) (height_of e) inner.1,
+      ltb-true c.col e.cols outer.1,
+    )
 
 -- the test that a place is one of a shape
 place-from : (e : Extent) (layer row col : ℕ) → layer < e.layers → row < height_of e → col < e.cols
@@ -121,14 +124,16 @@ place-from e layer row col deep low wide =
 
 -- ---- convolution
 
--- where a tap in range lies is a cell of the shape, and related
-under-agree : (e : Extent) (w : Weights) (o : Cell) (t : Tap) (a b : Grid) → is_extent e ≡ true
-    → holds e o ≡ true
-    → is_in_range e w o t ≡ true
-    → ((test : Tap → Bool) → test t ≡ true → list_any test (taps_of w) ≡ true)
-    → AgreeOn e (is_convolved e w o) a b
-    → value_at a (cell_under e w o t) ≡ value_at b (cell_under e w o t)
-under-agree e w o t a b right held inside member same =
+-- where a tap in range lies: on a cell of the shape
+pub record IsThere (e : Extent) (w : Weights) (o : Cell) (t : Tap) : Type 0 where
+  pub held : holds e (cell_under e w o t) ≡ true
+  pub layer : layer_of e (cell_under e w o t) ≡ layer_of e o
+  pub row : row_in e (cell_under e w o t) + w.rows / 2 ≡ row_in e o + t.row
+  pub col : (cell_under e w o t).col + w.cols / 2 ≡ o.col + t.col
+
+pub tap-there : (e : Extent) (w : Weights) (o : Cell) (t : Tap) → is_extent e ≡ true → holds e o ≡ true
+    → is_in_range e w o t ≡ true → IsThere e w o t
+tap-there e w o t right held inside =
     let outer = and_parts _ (nat_lt (o.col + t.col) (e.cols + w.cols / 2)) inside in
     let middle = and_parts _ (nat_le (w.cols / 2) (o.col + t.col)) outer.0 in
     let inner = and_parts (nat_le (w.rows / 2) (row_in e o + t.row))
@@ -140,15 +145,24 @@ under-agree e w o t a b right held inside member same =
     let here = place-of e o right held in
     let row = (row_in e o + t.row) - w.rows / 2 in
     let col = (o.col + t.col) - w.cols / 2 in
-    let x = cell_under e w o t in
     let place = place-from e (layer_of e o) row col here.0 (omega arith) (omega arith) in
     let there = place-has_cell e (layer_of e o) row col right place in
-    let down : row_in e x + w.rows / 2 ≡ row_in e o + t.row = omega (arith, there.2) in
-    let along : x.col + w.cols / 2 ≡ o.col + t.col = omega arith in
+    record { held = there.0; layer = there.1; row = omega (arith, there.2); col = omega arith }
+
+-- that cell is related
+under-agree : (e : Extent) (w : Weights) (o : Cell) (t : Tap) (a b : Grid) → is_extent e ≡ true
+    → holds e o ≡ true
+    → is_in_range e w o t ≡ true
+    → ((test : Tap → Bool) → test t ≡ true → list_any test (taps_of w) ≡ true)
+    → AgreeOn e (is_convolved e w o) a b
+    → value_at a (cell_under e w o t) ≡ value_at b (cell_under e w o t)
+under-agree e w o t a b right held inside member same =
+    let x = cell_under e w o t in
+    let there = tap-there e w o t right held inside in
     let under : is_under e w o x t ≡ true =
-    and_from _ _ (and_from _ _ (eq-eqb (layer_of e x) (layer_of e o) there.1) (eq-eqb _ _ down))
-    (eq-eqb _ _ along) in
-    same x there.0 (member (is_under e w o x) under)
+    and_from _ _ (and_from _ _ (eq-eqb (layer_of e x) (layer_of e o) there.layer) (eq-eqb _ _ there.row))
+    (eq-eqb _ _ there.col) in
+    same x there.held (member (is_under e w o x) under)
 
 convolved-agree : (e : Extent) (w : Weights) (o : Cell) (vs ws : List (Option ℤ)) → is_extent e ≡ true
     → holds e o ≡ true
@@ -492,54 +506,46 @@ found-agree ins out old new o known =
       λ i x. ap (λ (m : Option ℕ). ((i == 0) && is_same x o) || ((i == 1) && is_entry m x)) one,
     )
 
+-- what holds of the values of two arrays as arrays of their shape holds of them
+over-sheets : (P : Grid → Grid → Type 0) (e : Extent) (a b : Grid) → a.extent ≡ e → b.extent ≡ e
+    → P (sheet e a.values) (sheet e b.values) → P a b
+over-sheets P e a b first second known =
+    subst (λ (g : Grid). P a g) (sym (as-sheet b e second))
+    (subst (λ (g : Grid). P g (sheet e b.values)) (sym (as-sheet a e first)) known)
+
+-- an input of the output's shape holds the cell
+own-held : (ins : List Extent) (out : Extent) (o : Cell)
+    → (let r : Result Extent ShapeFault = Ok (extent_at ins 0) in r ≡ Ok out) → holds out o ≡ true
+    → holds (extent_at ins 0) o ≡ true
+own-held ins out o told held =
+    let shape : extent_at ins 0 ≡ out = cc in ap (λ (d : Extent). holds d o) shape ∙ held
+
 -- regions
 labelled-agree : (t : ℤ) (ins : List Extent) (out : Extent) (old new : List Grid) (o : Cell)
     → Known (Regions t) ins out old new o → IsOne (Regions t) out old new o
 labelled-agree t ins out old new o known =
     let inside : 0 < length ins = omega (arith, known.few) in
     let e = extent_at ins 0 in
-    let a = input_at old 0 in
-    let b = input_at new 0 in
-    let first = as-sheet a e (known.old_extent 0) in
-    let second = as-sheet b e (known.new_extent 0) in
-    let shape : e ≡ out = let told = known.told in cc in
-    let held : holds e o ≡ true = ap (λ (d : Extent). holds d o) shape ∙ known.held in
-    let relation : Grid → Cell → Bool = λ g x. connected_or_own t g o x in
-    let same : AgreeOn e (relation (sheet e a.values)) a b =
-    λ x there passes. known.agree 0 x inside there (ap (λ (g : Grid). relation g x) first ∙ passes) in
-    let also : AgreeOn e (relation (sheet e b.values)) a b =
-    λ x there passes. known.also refl 0 x inside there (ap (λ (g : Grid). relation g x) second ∙ passes) in
-    let both = regions-agree e t o a.values b.values held
-    (sheets-agree e (relation (sheet e a.values)) a b (known.old_extent 0) (known.new_extent 0) same)
-    (sheets-agree e (relation (sheet e b.values)) a b (known.old_extent 0) (known.new_extent 0) also) in (
-      ap (λ (g : Grid). labelled_at t g o) first ∙ both.0 ∙ sym (ap (λ (g : Grid). labelled_at t g o) second),
-      λ i x.
-          ap (λ (c : Bool). (i == 0) && c)
-          (ap (λ (g : Grid). relation g x) first ∙ both.1 x ∙ sym (ap (λ (g : Grid). relation g x) second)),
-    )
+    let both = over-sheets (λ g h. AgreeOn e (connected_or_own t g o) g h → AgreeOn e (connected_or_own t h o) g h
+    → (labelled_at t g o ≡ labelled_at t h o)
+    × ((x : Cell) → connected_or_own t g o x ≡ connected_or_own t h o x))
+    e (input_at old 0) (input_at new 0) (known.old_extent 0) (known.new_extent 0)
+    (regions-agree e t o (input_at old 0).values (input_at new 0).values (own-held ins out o known.told known.held))
+    (λ x. known.agree 0 x inside) (λ x. known.also refl 0 x inside) in
+    (both.0, λ i x. ap (λ (c : Bool). (i == 0) && c) (both.1 x))
 
 -- clean
 tidied-agree : (t : ℤ) (ins : List Extent) (out : Extent) (old new : List Grid) (o : Cell)
     → Known (Clean t) ins out old new o → IsOne (Clean t) out old new o
 tidied-agree t ins out old new o known =
-    let inside : 0 < length ins = omega (arith, known.few) in
     let e = extent_at ins 0 in
-    let a = input_at old 0 in
-    let b = input_at new 0 in
-    let first = as-sheet a e (known.old_extent 0) in
-    let second = as-sheet b e (known.new_extent 0) in
-    let shape : e ≡ out = let told = known.told in cc in
-    let held : holds e o ≡ true = ap (λ (d : Extent). holds d o) shape ∙ known.held in
-    let relation : Grid → Cell → Bool = λ g x. cleaned_round t g o x in
-    let same : AgreeOn e (relation (sheet e a.values)) a b =
-    λ x there passes. known.agree 0 x inside there (ap (λ (g : Grid). relation g x) first ∙ passes) in
-    let both = cleaned-agree e t o a.values b.values held
-    (sheets-agree e (relation (sheet e a.values)) a b (known.old_extent 0) (known.new_extent 0) same) in (
-      ap (λ (g : Grid). cleaned_at t g o) first ∙ both.0 ∙ sym (ap (λ (g : Grid). cleaned_at t g o) second),
-      λ i x.
-          ap (λ (c : Bool). (i == 0) && c)
-          (ap (λ (g : Grid). relation g x) first ∙ both.1 x ∙ sym (ap (λ (g : Grid). relation g x) second)),
-    )
+    let both = over-sheets (λ g h. AgreeOn e (cleaned_round t g o) g h
+    → (cleaned_at t g o ≡ cleaned_at t h o)
+    × ((x : Cell) → cleaned_round t g o x ≡ cleaned_round t h o x))
+    e (input_at old 0) (input_at new 0) (known.old_extent 0) (known.new_extent 0)
+    (cleaned-agree e t o (input_at old 0).values (input_at new 0).values (own-held ins out o known.told known.held))
+    (λ x. known.agree 0 x (omega (arith, known.few))) in
+    (both.0, λ i x. ap (λ (c : Bool). (i == 0) && c) (both.1 x))
 
 -- an operator of one input of its own shape
 one-agree : (op : Op) (ins : List Extent) (out : Extent) (old new : List Grid) (o : Cell)

@@ -18,9 +18,7 @@ use Rattle.sz_cells.specs.Extent.{Extent, holds, is_extent}
 use Rattle.sz_cells.specs.Cells.{is_same}
 use Rattle.sz_cells.proofs.Sets.{is_same-refl}
 use Rattle.sz_spec.specs.declared.op.Op.{Op}
-use Rattle.sz_spec.specs.declared.op.Op.TheVariants.{Neg, Abs, AddK, MulK, Clip, Add, Sub, Mul, Min}
-use Rattle.sz_spec.specs.declared.op.Op.TheVariants.{Max, Transpose, Slice, Convolve, Block, Lookup}
-use Rattle.sz_spec.specs.declared.op.Op.TheVariants.{Regions, Clean, FoldLayers}
+use Rattle.sz_spec.specs.declared.op.Op.TheVariants.{Lookup}
 use Rattle.sz_spec.specs.declared.flow.Node.{Node}
 use Rattle.sz_spec.specs.declared.flow.SourceRef.{SourceRef}
 use Rattle.sz_spec.specs.declared.flow.SourceRef.TheVariants as source
@@ -438,24 +436,8 @@ down leads fine flow old new n i x o y (source.Node m) right there takes held le
 
 -- a node takes something
 arity-some : (op : Op) → 0 < arity op
-arity-some Neg = omega arith
-arity-some Abs = omega arith
-arity-some (AddK k) = omega arith
-arity-some (MulK k) = omega arith
-arity-some (Clip lo hi) = omega arith
-arity-some Add = omega arith
-arity-some Sub = omega arith
-arity-some Mul = omega arith
-arity-some Min = omega arith
-arity-some Max = omega arith
-arity-some Transpose = omega arith
-arity-some (Slice r0 c0 h w) = omega arith
-arity-some (Convolve kernel) = omega arith
-arity-some (Block fold h w) = omega arith
 arity-some Lookup = omega arith
-arity-some (Regions t) = omega arith
-arity-some (Clean t) = omega arith
-arity-some (FoldLayers fold) = omega arith
+arity-some _ = omega arith
 
 -- so a node is on a path
 fine-here : (fine : Node → Type 0) (flow : Graph) (n : ℕ) (x : Node) → is_well_formed flow ≡ true

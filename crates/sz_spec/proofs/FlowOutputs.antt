@@ -213,13 +213,19 @@ outputs-at base outputs (y ∷ nodes) (suc k) x there =
     let rest = outputs-at base (outputs ++ o ∷ []) nodes k x there in
     (rest.0, rest.1, omega (arith, rest.2, length-append outputs (o ∷ [])), rest.3)
 
--- a source of a right node stands for the same array among all outputs
-source-same : (base front more : List Grid) (inputs n : ℕ) (s : SourceRef) → length front ≡ n
-    → is_source inputs n s ≡ true → array_of base front s ≡ array_of base (front ++ more) s
-source-same base front more inputs n (source.Input i) long right = refl
-source-same base front more inputs n (source.Node m) long right =
+-- what a source stands for, among what there is for the base arrays and for the nodes
+abbrev pub standing : {X : Type 0} → X → List X → List X → SourceRef → X
+standing none base outputs (source.Input i) = unwrap_or (slice_get base i) none
+standing none base outputs (source.Node m) = unwrap_or (slice_get outputs m) none
+
+-- a source of a right node stands for the same among all outputs
+pub standing-same : {X : Type 0} (none : X) (base front more : List X) (inputs n : ℕ) (s : SourceRef)
+    → length front ≡ n → is_source inputs n s ≡ true
+    → standing none base front s ≡ standing none base (front ++ more) s
+standing-same {X} none base front more inputs n (source.Input i) long right = refl
+standing-same {X} none base front more inputs n (source.Node m) long right =
     let below : m < n = ltb-true m n right in
-    ap (λ (o : Option Grid). unwrap_or o no_grid) (sym (slice_get-left front more m (omega arith)))
+    ap (λ (o : Option X). unwrap_or o none) (sym (slice_get-left front more m (omega arith)))
 
 -- ---- the other laws
 
@@ -241,7 +247,7 @@ evaluations-at g base n x well there =
     map-agree (array_of base parts.0) (array_of base (parts.0 ++ alone ∷ parts.1)) x.from
     (All-weaker (λ s. is_source g.inputs n s ≡ true)
     (λ s. array_of base parts.0 s ≡ array_of base (parts.0 ++ alone ∷ parts.1) s)
-    (λ s one. source-same base parts.0 (alone ∷ parts.1) g.inputs n s long one) x.from right.1) in
+    (λ s one. standing-same no_grid base parts.0 (alone ∷ parts.1) g.inputs n s long one) x.from right.1) in
     ap (λ (os : List Grid). slice_get os n) whole
     ∙ slice_get-seam parts.0 alone parts.1 n long
     ∙ ap (λ (gs : List Grid). Some (output_of x.op gs)) sources

@@ -5,7 +5,7 @@
 -- its rule gives of them.
 use Rattle.std.proofs.Common.{◌≡◌, ℕ, zero, suc, ◌+◌, ◌<◌, ◌≤◌, true, List, [], ◌∷◌, ◌++◌, map, Option, Some, None}
 use Rattle.std.proofs.Common.{length, inl, inr, refl, sym, ap, ap₂, ◌∙◌, take, drop, get_or, arith, add-one}
-use Rattle.std.proofs.Common.{length-append, All, subst, append-nil, append_assoc, ltb-true, option_and_then}
+use Rattle.std.proofs.Common.{length-append, All, subst, append-nil, append_assoc, option_and_then}
 use Rattle.std.proofs.lemmas.Bool.Decides.{nat_tests}
 use Rattle.std.proofs.lemmas.List.Elements.{All-weaker}
 use Rattle.std.proofs.Math.Seq.{take-suc}
@@ -14,7 +14,7 @@ use Rattle.std.proofs.lemmas.List.Sums.{fold-append}
 use Rattle.std.proofs.lemmas.Option.{slice_get-get_or}
 use Rattle.sz_spec.specs.Flows.{is_well_formed, is_source}
 use Rattle.sz_spec.specs.LawsFlows.{IsRightNode}
-use Rattle.sz_spec.proofs.FlowOutputs.{well-formed_parts, map-agree, slice_get-left, slice_get-seam}
+use Rattle.sz_spec.proofs.FlowOutputs.{well-formed_parts, map-agree, slice_get-seam, standing-same}
 use Rattle.std.specs.Prelude.{◌⊎◌}
 use Rattle.std.specs.Prelude.{Result, Ok, Err, fold, unwrap_or}
 use Rattle.std.specs.List.{slice_get}
@@ -225,14 +225,6 @@ shapes-begin base outputs (x ∷ nodes) shapes h =
     let rest = shapes-begin base (outputs ++ made.0 ∷ []) nodes shapes made.2 in
     (made.0 ∷ rest.0, rest.1 ∙ append_assoc outputs (made.0 ∷ []) rest.0)
 
--- a source among the shapes so far has the same shape among all
-source-kept : (base outputs more : List Extent) (inputs n : ℕ) (s : SourceRef) → length outputs ≡ n
-    → is_source inputs n s ≡ true → source_shape base outputs s ≡ source_shape base (outputs ++ more) s
-source-kept base outputs more inputs n (source.Input i) long right = refl
-source-kept base outputs more inputs n (source.Node m) long right =
-    let inside : m < n = ltb-true m n right in
-    ap (λ (o : Option Extent). unwrap_or o no_extent) (sym (slice_get-left outputs more m (omega arith)))
-
 -- the rule of a node gives the shape of its output, of the shapes of its sources
 shape-from : (base outputs : List Extent) (nodes : List Node) (shapes : List Extent) (inputs k n : ℕ) (x : Node)
     → fold (with_node base) (Ok outputs) nodes ≡ Ok shapes → slice_get nodes k ≡ Some x → length outputs + k ≡ n
@@ -250,7 +242,7 @@ shape-from base outputs (y ∷ nodes) shapes inputs zero n x h there at right =
     map-agree (source_shape base outputs) (source_shape base (outputs ++ e ∷ begins.0)) x.from
     (All-weaker (λ s. is_source inputs n s ≡ true)
     (λ s. source_shape base outputs s ≡ source_shape base (outputs ++ e ∷ begins.0) s)
-    (λ s one. source-kept base outputs (e ∷ begins.0) inputs n s long one) x.from right) in
+    (λ s one. standing-same no_extent base outputs (e ∷ begins.0) inputs n s long one) x.from right) in
     ap (λ (es : List Extent). shape_of x.op (node_inputs base es x)) whole
     ∙ ap (shape_of x.op) (sym taken)
     ∙ ap (λ (z : Node). shape_of z.op (node_inputs base outputs z)) (sym same)

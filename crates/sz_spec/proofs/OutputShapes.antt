@@ -13,9 +13,9 @@ use Rattle.sz_cells.specs.Extent.{Extent, height_of, layered, flat, is_extent}
 use Rattle.sz_cells.proofs.Shapes.{sides, sides-within, whole-layers, within-sides}
 use Rattle.sz_cells.proofs.Shapes.{layered-is_extent}
 use Rattle.sz_spec.specs.declared.op.Op.{Op}
-use Rattle.sz_spec.specs.declared.op.Op.TheVariants.{Neg, Abs, AddK, MulK, Clip, Add, Sub, Mul, Min}
-use Rattle.sz_spec.specs.declared.op.Op.TheVariants.{Max, Transpose, Slice, Convolve, Block, Lookup}
-use Rattle.sz_spec.specs.declared.op.Op.TheVariants.{Regions, Clean, FoldLayers}
+use Rattle.sz_spec.specs.declared.op.Op.TheVariants.{Add, Sub, Mul, Min}
+use Rattle.sz_spec.specs.declared.op.Op.TheVariants.{Max, Transpose, Slice, Block, Lookup}
+use Rattle.sz_spec.specs.declared.op.Op.TheVariants.{FoldLayers}
 use Rattle.sz_spec.specs.declared.shapes.ShapeFault.{ShapeFault}
 use Rattle.sz_spec.specs.Values.{extent_at, no_extent}
 use Rattle.sz_spec.specs.Operators.Folds.{blocks_over}
@@ -107,30 +107,20 @@ ok-same : (a b : Extent) → is_extent a ≡ true → (let r : Result Extent Sha
     → is_extent b ≡ true
 ok-same a b right same = let one : a ≡ b = cc in subst (λ (e : Extent). is_extent e ≡ true) one right
 
+-- of arrays of one shape
+of-same_shape : (ins : List Extent) (out : Extent) → 0 < length ins → same_shape ins ≡ Ok out → AreExtents ins
+    → is_extent out ≡ true
+of-same_shape ins out some told right =
+    subst (λ (e : Extent). is_extent e ≡ true) (same-shape_first ins out told) (extent-right ins 0 right some)
+
 output-of_op : (op : Op) (ins : List Extent) (out : Extent) → length ins ≡ arity op
     → has_right_parameters op ≡ true
     → shape_of op ins ≡ Ok out → AreExtents ins → is_extent out ≡ true
-output-of_op Neg ins out few params told right = ok-same _ out (extent-right ins 0 right (omega arith)) told
-output-of_op Abs ins out few params told right = ok-same _ out (extent-right ins 0 right (omega arith)) told
-output-of_op (AddK k) ins out few params told right = ok-same _ out (extent-right ins 0 right (omega arith)) told
-output-of_op (MulK k) ins out few params told right = ok-same _ out (extent-right ins 0 right (omega arith)) told
-output-of_op (Clip lo hi) ins out few params told right = ok-same _ out
-    (extent-right ins 0 right (omega arith)) told
-output-of_op Add ins out few params told right =
-    subst (λ (e : Extent). is_extent e ≡ true) (same-shape_first ins out told)
-    (extent-right ins 0 right (omega arith))
-output-of_op Sub ins out few params told right =
-    subst (λ (e : Extent). is_extent e ≡ true) (same-shape_first ins out told)
-    (extent-right ins 0 right (omega arith))
-output-of_op Mul ins out few params told right =
-    subst (λ (e : Extent). is_extent e ≡ true) (same-shape_first ins out told)
-    (extent-right ins 0 right (omega arith))
-output-of_op Min ins out few params told right =
-    subst (λ (e : Extent). is_extent e ≡ true) (same-shape_first ins out told)
-    (extent-right ins 0 right (omega arith))
-output-of_op Max ins out few params told right =
-    subst (λ (e : Extent). is_extent e ≡ true) (same-shape_first ins out told)
-    (extent-right ins 0 right (omega arith))
+output-of_op Add ins out few params told right = of-same_shape ins out (omega arith) told right
+output-of_op Sub ins out few params told right = of-same_shape ins out (omega arith) told right
+output-of_op Mul ins out few params told right = of-same_shape ins out (omega arith) told right
+output-of_op Min ins out few params told right = of-same_shape ins out (omega arith) told right
+output-of_op Max ins out few params told right = of-same_shape ins out (omega arith) told right
 output-of_op Transpose ins out few params told right =
     ok-same _ out (turned-right (extent_at ins 0) (extent-right ins 0 right (omega arith))) told
 output-of_op (Slice r0 c0 h w) ins out few params told right =
@@ -140,8 +130,6 @@ output-of_op (Slice r0 c0 h w) ins out few params told right =
     (layered-is_extent (extent_at ins 0).layers h w
     (sides-fewer (extent_at ins 0) h w (extent-right ins 0 right (omega arith)) (leb-true 1 h some.0)
     (leb-true 1 w some.1) (omega (arith, within.0)) (omega (arith, within.1))))
-output-of_op (Convolve kernel) ins out few params told right = ok-same _ out
-    (extent-right ins 0 right (omega arith)) told
 output-of_op (Block fold h w) ins out few params told right =
     let e = extent_at ins 0 in
     let some = and_parts (nat_le 1 h) (nat_le 1 w) params in
@@ -151,10 +139,9 @@ output-of_op (Block fold h w) ins out few params told right =
 output-of_op Lookup ins out few params told right =
     subst (λ (e : Extent). is_extent e ≡ true) (looked-up_shape ins out told).1
     (extent-right ins 0 right (omega arith))
-output-of_op (Regions t) ins out few params told right = ok-same _ out (extent-right ins 0 right (omega arith)) told
-output-of_op (Clean t) ins out few params told right = ok-same _ out (extent-right ins 0 right (omega arith)) told
 output-of_op (FoldLayers fold) ins out few params told right =
     ok-same _ out (folded-right (extent_at ins 0) (extent-right ins 0 right (omega arith))) told
+output-of_op _ ins out few params told right = ok-same _ out (extent-right ins 0 right (omega arith)) told
 
 -- of right shapes an operator makes a right shape
 pub output-right : OutputsAreShapes

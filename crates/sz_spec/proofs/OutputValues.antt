@@ -41,7 +41,7 @@ fit-empty (negsuc n) outside =
     ]
 
 -- a total taken from a number on
-total-from : (a : ℤ) (zs : List ℤ) → fold (λ b z. b +ℤ z) a zs ≡ a +ℤ total zs
+pub total-from : (a : ℤ) (zs : List ℤ) → fold (λ b z. b +ℤ z) a zs ≡ a +ℤ total zs
 total-from a [] = omega (arith, ints)
 total-from a (z ∷ zs) =
     let rest = total-from (a +ℤ z) zs in

@@ -21,8 +21,8 @@ use Rattle.sz_cells.specs.SetBytes.{set_bytes, four_bytes}
 use Rattle.sz_cells.specs.SetWords.{set_spelled, is_set_word}
 use Rattle.sz_cells.proofs.Shapes.{sides}
 use Rattle.sz_spec.specs.declared.op.Op.{Op}
-use Rattle.sz_spec.specs.declared.op.Op.TheVariants.{Neg, Abs, AddK, MulK, Clip, Add, Sub, Mul, Min}
-use Rattle.sz_spec.specs.declared.op.Op.TheVariants.{Max, Transpose, Slice, Convolve, Block, Lookup}
+use Rattle.sz_spec.specs.declared.op.Op.TheVariants.{Add, Sub, Mul, Min}
+use Rattle.sz_spec.specs.declared.op.Op.TheVariants.{Max, Transpose, Slice, Block, Lookup}
 use Rattle.sz_spec.specs.declared.op.Op.TheVariants.{Regions, Clean, FoldLayers}
 use Rattle.sz_spec.specs.Values.{Grid, value_at, input_at, extent_at, extents_of}
 use Rattle.sz_spec.specs.Shapes.{Site, arity}
@@ -63,24 +63,10 @@ extent-of_site s inputs i known =
 
 -- of an operator with a mapping the relation is the mapping
 pub related-mapped : MappingsAreTheRelation
-related-mapped Neg inputs i o x h = refl
-related-mapped Abs inputs i o x h = refl
-related-mapped (AddK k) inputs i o x h = refl
-related-mapped (MulK k) inputs i o x h = refl
-related-mapped (Clip lo hi) inputs i o x h = refl
-related-mapped Add inputs i o x h = refl
-related-mapped Sub inputs i o x h = refl
-related-mapped Mul inputs i o x h = refl
-related-mapped Min inputs i o x h = refl
-related-mapped Max inputs i o x h = refl
-related-mapped Transpose inputs i o x h = refl
-related-mapped (Slice r0 c0 height width) inputs i o x h = refl
-related-mapped (Convolve kernel) inputs i o x h = refl
-related-mapped (Block fold height width) inputs i o x h = refl
 related-mapped Lookup inputs i o x h = absurd (false≢true h)
 related-mapped (Regions t) inputs i o x h = absurd (false≢true h)
 related-mapped (Clean t) inputs i o x h = absurd (false≢true h)
-related-mapped (FoldLayers fold) inputs i o x h = refl
+related-mapped _ inputs i o x h = refl
 
 -- ---- the inputs that a cell is related to
 
@@ -92,11 +78,6 @@ of-both i b h = ltb-true i 2 (and_parts (nat_lt i 2) b h).0
 
 -- a cell is related to cells of the operator's inputs alone
 pub related-inputs : RelatedCellsAreOfInputs
-related-inputs Neg inputs i o x h = of-first i _ h
-related-inputs Abs inputs i o x h = of-first i _ h
-related-inputs (AddK k) inputs i o x h = of-first i _ h
-related-inputs (MulK k) inputs i o x h = of-first i _ h
-related-inputs (Clip lo hi) inputs i o x h = of-first i _ h
 related-inputs Add inputs i o x h = of-both i _ h
 related-inputs Sub inputs i o x h = of-both i _ h
 related-inputs Mul inputs i o x h = of-both i _ h
@@ -104,7 +85,6 @@ related-inputs Min inputs i o x h = of-both i _ h
 related-inputs Max inputs i o x h = of-both i _ h
 related-inputs Transpose inputs i o x h = of-first i _ (and_parts _ _ (and_parts _ _ h).0).0
 related-inputs (Slice r0 c0 height width) inputs i o x h = of-first i _ (and_parts _ _ (and_parts _ _ h).0).0
-related-inputs (Convolve kernel) inputs i o x h = of-first i _ h
 related-inputs (Block fold height width) inputs i o x h = of-first i _ (and_parts _ _ (and_parts _ _ h).0).0
 related-inputs Lookup inputs i o x h =
     let entry = is_entry (match_of (input_at inputs 0) (input_at inputs 1) o) x in
@@ -112,9 +92,8 @@ related-inputs Lookup inputs i o x h =
       | inl own ↦ let first : i < 1 = of-first i (is_same x o) own in omega arith
       | inr other ↦ let second : i ≡ 1 = eqb-true i 1 (and_parts (i == 1) entry other).0 in omega arith
     ]
-related-inputs (Regions t) inputs i o x h = of-first i _ h
-related-inputs (Clean t) inputs i o x h = of-first i _ h
 related-inputs (FoldLayers fold) inputs i o x h = of-first i _ (and_parts _ _ h).0
+related-inputs _ inputs i o x h = of-first i _ h
 
 -- ---- lookup
 
@@ -206,20 +185,6 @@ lawful-of : (op : Op) (ins : List Extent) (inputs : List Grid) (o : Cell) → le
     → ((i : ℕ) → (input_at inputs i).extent ≡ extent_at ins i) → AreExtents ins
     → has_mapping op ≡ false
     → is_payload op ins (payload_of op inputs o) ≡ true
-lawful-of Neg ins inputs o few same right h = absurd (true≢false h)
-lawful-of Abs ins inputs o few same right h = absurd (true≢false h)
-lawful-of (AddK k) ins inputs o few same right h = absurd (true≢false h)
-lawful-of (MulK k) ins inputs o few same right h = absurd (true≢false h)
-lawful-of (Clip lo hi) ins inputs o few same right h = absurd (true≢false h)
-lawful-of Add ins inputs o few same right h = absurd (true≢false h)
-lawful-of Sub ins inputs o few same right h = absurd (true≢false h)
-lawful-of Mul ins inputs o few same right h = absurd (true≢false h)
-lawful-of Min ins inputs o few same right h = absurd (true≢false h)
-lawful-of Max ins inputs o few same right h = absurd (true≢false h)
-lawful-of Transpose ins inputs o few same right h = absurd (true≢false h)
-lawful-of (Slice r0 c0 height width) ins inputs o few same right h = absurd (true≢false h)
-lawful-of (Convolve kernel) ins inputs o few same right h = absurd (true≢false h)
-lawful-of (Block fold height width) ins inputs o few same right h = absurd (true≢false h)
 lawful-of Lookup ins inputs o few same right h =
     let below = match-within (input_at inputs 0) (input_at inputs 1) o (extent_at ins 1) (same 1) in
     column-lawful (extent_at ins 1) (match_of (input_at inputs 0) (input_at inputs 1) o)
@@ -236,26 +201,12 @@ lawful-of (Regions t) ins inputs o few same right h =
     ]
 lawful-of (Clean t) ins inputs o few same right h =
     elim (cases_Bool (is_hot t (input_at inputs 0) o)) [ inl hot ↦ rw hot refl | inr cold ↦ rw cold refl ]
-lawful-of (FoldLayers fold) ins inputs o few same right h = absurd (true≢false h)
+lawful-of _ ins inputs o few same right h = absurd (true≢false h)
 
 stands-of : (op : Op) (ins : List Extent) (inputs : List Grid) (i : ℕ) (o x : Cell) → length ins ≡ arity op
     → ((j : ℕ) → (input_at inputs j).extent ≡ extent_at ins j) → AreExtents ins
     → has_mapping op ≡ false
     → mapped_by_payload op ins (payload_of op inputs o) i o x ≡ related op inputs i o x
-stands-of Neg ins inputs i o x few same right h = absurd (true≢false h)
-stands-of Abs ins inputs i o x few same right h = absurd (true≢false h)
-stands-of (AddK k) ins inputs i o x few same right h = absurd (true≢false h)
-stands-of (MulK k) ins inputs i o x few same right h = absurd (true≢false h)
-stands-of (Clip lo hi) ins inputs i o x few same right h = absurd (true≢false h)
-stands-of Add ins inputs i o x few same right h = absurd (true≢false h)
-stands-of Sub ins inputs i o x few same right h = absurd (true≢false h)
-stands-of Mul ins inputs i o x few same right h = absurd (true≢false h)
-stands-of Min ins inputs i o x few same right h = absurd (true≢false h)
-stands-of Max ins inputs i o x few same right h = absurd (true≢false h)
-stands-of Transpose ins inputs i o x few same right h = absurd (true≢false h)
-stands-of (Slice r0 c0 height width) ins inputs i o x few same right h = absurd (true≢false h)
-stands-of (Convolve kernel) ins inputs i o x few same right h = absurd (true≢false h)
-stands-of (Block fold height width) ins inputs i o x few same right h = absurd (true≢false h)
 stands-of Lookup ins inputs i o x few same right h =
     let below = match-within (input_at inputs 0) (input_at inputs 1) o (extent_at ins 1) (same 1) in
     ap (λ (b : Bool). ((i == 0) && is_same x o) || ((i == 1) && b))
@@ -278,30 +229,16 @@ stands-of (Clean t) ins inputs i o x few same right h =
       | inl hot ↦ rw hot (ap (λ (e : Extent). (i == 0) && is_in_square e o x) (sym (same 0)))
       | inr cold ↦ rw cold refl
     ]
-stands-of (FoldLayers fold) ins inputs i o x few same right h = absurd (true≢false h)
+stands-of _ ins inputs i o x few same right h = absurd (true≢false h)
 
 default-of : (op : Op) (inputs : List Grid) (i : ℕ) (o x : Cell) → overrides op inputs o ≡ false
     → related op inputs i o x ≡ mapped op (extents_of inputs) i o x
-default-of Neg inputs i o x h = refl
-default-of Abs inputs i o x h = refl
-default-of (AddK k) inputs i o x h = refl
-default-of (MulK k) inputs i o x h = refl
-default-of (Clip lo hi) inputs i o x h = refl
-default-of Add inputs i o x h = refl
-default-of Sub inputs i o x h = refl
-default-of Mul inputs i o x h = refl
-default-of Min inputs i o x h = refl
-default-of Max inputs i o x h = refl
-default-of Transpose inputs i o x h = refl
-default-of (Slice r0 c0 height width) inputs i o x h = refl
-default-of (Convolve kernel) inputs i o x h = refl
-default-of (Block fold height width) inputs i o x h = refl
 default-of Lookup inputs i o x h =
     rw (column-default (match_of (input_at inputs 0) (input_at inputs 1) o) x h)
     (none-more ((i == 0) && is_same x o) (i == 1))
 default-of (Regions t) inputs i o x h = rw h refl
 default-of (Clean t) inputs i o x h = rw h refl
-default-of (FoldLayers fold) inputs i o x h = refl
+default-of _ inputs i o x h = refl
 
 -- ---- the laws
 

@@ -20,6 +20,7 @@ use Rattle.sz_spec.specs.Values.{Grid, value_at, input_at}
 use Rattle.sz_spec.specs.Flows.{Graph, evaluations}
 use Rattle.sz_spec.specs.Paths.{Step, source_of, is_there, is_output_of, follows, are_joined, is_joined}
 use Rattle.sz_spec.specs.Paths.{compose, extent_of}
+use Rattle.sz_spec.specs.LawsShapes.{AreExtents}
 use Rattle.sz_spec.specs.LawsDependence.{GoesBack, CanRun, StepLeads, LeadsAlong, AgreeWhereReached}
 use Rattle.sz_spec.specs.LawsDependence.{PassesNoRegions, is_regions, LeadsInEither, AgreeWhereReachedInEither}
 use Rattle.sz_spec.specs.Lineage.{related}
@@ -66,13 +67,11 @@ before = grid 1 3 (n 1 ∷ n 2 ∷ n 3 ∷ []) ∷ []
 abbrev after : List Grid
 after = grid 1 3 (n 7 ∷ n 2 ∷ none ∷ []) ∷ []
 
+pub of-three : AreExtents (flat 1 3 ∷ [])
+of-three = All-cons (λ e. is_extent e ≡ true) (flat 1 3) [] refl (All-nil (λ e. is_extent e ≡ true))
+
 pub can-run : CanRun picking before
-can-run = record {
-  right = refl;
-  count = refl;
-  limits = All-cons (λ e. is_extent e ≡ true) (flat 1 3) [] refl (All-nil (λ e. is_extent e ≡ true));
-  fits = refl;
-}
+can-run = record { right = refl; count = refl; limits = of-three; fits = refl }
 
 -- backward the middle cell is led to, and forward from it
 pub leads-back : LeadsAlong (StepLeads Back picking before (evaluations picking before)) (step 0 0 ∷ []) (cell 0 0)

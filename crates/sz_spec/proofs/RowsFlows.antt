@@ -112,55 +112,31 @@ parameter-last = refl
 
 -- ---- parameters
 
-pub clip-equal : has_right_parameters (op.Clip (pos 3) (pos 3)) ≡ true
-clip-equal = refl
+pub clips : map has_right_parameters
+    (op.Clip (pos 3) (pos 3) ∷ op.Clip (pos 3) (pos 2) ∷ op.Clip (negsuc 4) (negsuc 3) ∷ [])
+    ≡ true ∷ false ∷ true ∷ []
+clips = refl
 
-pub clip-turned : has_right_parameters (op.Clip (pos 3) (pos 2)) ≡ false
-clip-turned = refl
+-- a slice and a block have a row and a column
+pub slices : map has_right_parameters (op.Slice 0 0 1 1 ∷ op.Slice 1 1 0 1 ∷ op.Slice 1 1 1 0 ∷ [])
+    ≡ true ∷ false ∷ false ∷ []
+slices = refl
 
-pub clip-below : has_right_parameters (op.Clip (negsuc 4) (negsuc 3)) ≡ true
-clip-below = refl
-
-pub slice-least : has_right_parameters (op.Slice 0 0 1 1) ≡ true
-slice-least = refl
-
-pub slice-no_rows : has_right_parameters (op.Slice 1 1 0 1) ≡ false
-slice-no_rows = refl
-
-pub slice-no_cols : has_right_parameters (op.Slice 1 1 1 0) ≡ false
-slice-no_cols = refl
-
-pub block-least : has_right_parameters (op.Block fold.Sum 1 1) ≡ true
-block-least = refl
-
-pub block-no_rows : has_right_parameters (op.Block fold.Sum 0 1) ≡ false
-block-no_rows = refl
-
-pub block-no_cols : has_right_parameters (op.Block fold.Sum 1 0) ≡ false
-block-no_cols = refl
+pub blocks : map (λ (sides : ℕ × ℕ). has_right_parameters (op.Block fold.Sum sides.0 sides.1))
+    ((1, 1) ∷ (0, 1) ∷ (1, 0) ∷ [])
+    ≡ true ∷ false ∷ false ∷ []
+blocks = refl
 
 -- a kernel of ones
 abbrev ones : ℕ → ℕ → Weights
 ones rows cols = kernel rows cols (map (λ k. pos 1) (range_with_len 0 (rows * cols)))
 
-pub kernel-one : is_kernel (ones 1 1) ≡ true
-kernel-one = refl
+-- sides are odd and at most 9
+pub kernel-sides : map is_kernel (ones 1 1 ∷ ones 9 9 ∷ ones 11 1 ∷ ones 1 11 ∷ ones 2 3 ∷ ones 3 2 ∷ [])
+    ≡ true ∷ true ∷ false ∷ false ∷ false ∷ false ∷ []
+kernel-sides = refl
 
-pub kernel-nine : is_kernel (ones 9 9) ≡ true
-kernel-nine = refl
-
-pub kernel-eleven_rows : is_kernel (ones 11 1) ≡ false
-kernel-eleven_rows = refl
-
-pub kernel-eleven_cols : is_kernel (ones 1 11) ≡ false
-kernel-eleven_cols = refl
-
-pub kernel-even_rows : is_kernel (ones 2 3) ≡ false
-kernel-even_rows = refl
-
-pub kernel-even_cols : is_kernel (ones 3 2) ≡ false
-kernel-even_cols = refl
-
+-- there are as many weights as cells
 pub kernel-ragged : is_kernel (kernel 3 0 (pos 1 ∷ pos 2 ∷ [])) ≡ false
 kernel-ragged = refl
 
@@ -173,17 +149,11 @@ kernel-too_few = refl
 pub kernel-too_many : is_kernel (kernel 1 1 (pos 1 ∷ pos 1 ∷ [])) ≡ false
 kernel-too_many = refl
 
-pub weight-greatest : is_kernel (kernel 1 1 (pos (2 ^ 31 - 1) ∷ [])) ≡ true
-weight-greatest = refl
-
-pub weight-past : is_kernel (kernel 1 1 (pos (2 ^ 31) ∷ [])) ≡ false
-weight-past = refl
-
-pub weight-least : is_kernel (kernel 1 1 (negsuc (2 ^ 31 - 1) ∷ [])) ≡ true
-weight-least = refl
-
-pub weight-below : is_kernel (kernel 1 1 (negsuc (2 ^ 31) ∷ [])) ≡ false
-weight-below = refl
+-- a weight is within 32 bits
+pub weights : map (λ weight. is_kernel (kernel 1 1 (weight ∷ [])))
+    (pos (2 ^ 31 - 1) ∷ pos (2 ^ 31) ∷ negsuc (2 ^ 31 - 1) ∷ negsuc (2 ^ 31) ∷ [])
+    ≡ true ∷ false ∷ true ∷ false ∷ []
+weights = refl
 
 pub weight-last : is_kernel (kernel 1 3 (pos 1 ∷ pos 1 ∷ pos (2 ^ 31) ∷ [])) ≡ false
 weight-last = refl

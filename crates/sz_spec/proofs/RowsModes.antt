@@ -3,7 +3,7 @@
 --
 -- The key idea: on written-out lists, arrays and bytes every definition is a computation, so each row is its
 -- own proof. Expected values by hand.
-use Rattle.std.proofs.Common.{◌≡◌, ℕ, Bool, pos, true, false, List, [], ◌∷◌, refl}
+use Rattle.std.proofs.Common.{◌≡◌, ℕ, Bool, pos, true, false, List, [], ◌∷◌, map, refl}
 use Rattle.std.specs.List.{flat_map}
 use Rattle.sz_cells.specs.Extent.{Extent, flat, layered, cell_of}
 use Rattle.sz_spec.specs.declared.op.Op.{Op}
@@ -20,41 +20,24 @@ use Rattle.sz_spec.proofs.RowsArrays.{n, none, grid, hills}
 
 -- ---- the way
 
--- backward what is indexed for backward queries comes first, forward what is indexed for forward ones
-pub way-two_indexes : way (strategy.FullOneF ∷ strategy.FullOneB ∷ []) Back ≡ strategy.FullOneB
-way-two_indexes = refl
+-- what is indexed for queries of the direction comes first; one cell comes before many; the mapping comes before all,
+-- and running again is last
+pub ways-back : map (λ list. way list Back)
+    ((strategy.FullOneF ∷ strategy.FullOneB ∷ []) ∷ (strategy.FullManyF ∷ strategy.FullManyB ∷ [])
+    ∷ (strategy.FullManyB ∷ strategy.FullOneB ∷ [])
+    ∷ (strategy.BlackBox ∷ strategy.FullOneB ∷ strategy.Map ∷ [])
+    ∷ (strategy.BlackBox ∷ strategy.FullManyF ∷ []) ∷ (strategy.BlackBox ∷ []) ∷ [])
+    ≡ strategy.FullOneB ∷ strategy.FullManyB ∷ strategy.FullOneB ∷ strategy.Map ∷ strategy.FullManyF
+    ∷ strategy.BlackBox ∷ []
+ways-back = refl
 
-pub way-two_indexes_forward : way (strategy.FullOneB ∷ strategy.FullOneF ∷ []) Forward ≡ strategy.FullOneF
-way-two_indexes_forward = refl
-
-pub way-many : way (strategy.FullManyF ∷ strategy.FullManyB ∷ []) Back ≡ strategy.FullManyB
-way-many = refl
-
-pub way-many_forward : way (strategy.FullManyB ∷ strategy.FullManyF ∷ []) Forward ≡ strategy.FullManyF
-way-many_forward = refl
-
--- one cell comes before many
-pub way-one_of_many : way (strategy.FullManyB ∷ strategy.FullOneB ∷ []) Back ≡ strategy.FullOneB
-way-one_of_many = refl
-
-pub way-one_of_many_forward : way (strategy.FullManyF ∷ strategy.FullOneF ∷ []) Forward ≡ strategy.FullOneF
-way-one_of_many_forward = refl
-
--- the mapping comes first, and running again last
-pub way-map : way (strategy.BlackBox ∷ strategy.FullOneB ∷ strategy.Map ∷ []) Back ≡ strategy.Map
-way-map = refl
-
-pub way-map_forward : way (strategy.FullOneF ∷ strategy.Map ∷ strategy.BlackBox ∷ []) Forward ≡ strategy.Map
-way-map_forward = refl
-
-pub way-last : way (strategy.BlackBox ∷ strategy.FullManyF ∷ []) Back ≡ strategy.FullManyF
-way-last = refl
-
-pub way-last_forward : way (strategy.BlackBox ∷ strategy.CompMany ∷ []) Forward ≡ strategy.CompMany
-way-last_forward = refl
-
-pub way-black_box : way (strategy.BlackBox ∷ []) Back ≡ strategy.BlackBox
-way-black_box = refl
+pub ways-forward : map (λ list. way list Forward)
+    ((strategy.FullOneB ∷ strategy.FullOneF ∷ []) ∷ (strategy.FullManyB ∷ strategy.FullManyF ∷ [])
+    ∷ (strategy.FullManyF ∷ strategy.FullOneF ∷ [])
+    ∷ (strategy.FullOneF ∷ strategy.Map ∷ strategy.BlackBox ∷ [])
+    ∷ (strategy.BlackBox ∷ strategy.CompMany ∷ []) ∷ [])
+    ≡ strategy.FullOneF ∷ strategy.FullManyF ∷ strategy.FullOneF ∷ strategy.Map ∷ strategy.CompMany ∷ []
+ways-forward = refl
 
 -- backward payloads come before what is indexed for forward queries, forward after all pairs
 pub way-payload : way (strategy.FullOneF ∷ strategy.FullManyF ∷ strategy.CompMany ∷ []) Back

@@ -84,26 +84,18 @@ crossed-forward = refl
 abbrev left : Weights
 left = kernel 1 3 (pos 2 ∷ pos 0 ∷ pos 0 ∷ [])
 
-pub moved : output_of (op.Convolve left) (six ∷ [])
-    ≡ grid 2 3 (n 0 ∷ n 2 ∷ n 4 ∷ n 0 ∷ n 8 ∷ n 10 ∷ [])
-moved = refl
-
-pub moved-back : back_of (op.Convolve left) (six ∷ []) 0 (0 ∷ 4 ∷ []) ≡ at (flat 2 3) (3 ∷ [])
-moved-back = refl
-
-pub moved-forward : forward_of (op.Convolve left) (six ∷ []) 0 (0 ∷ 5 ∷ []) ≡ at (flat 2 3) (1 ∷ [])
-moved-forward = refl
+pub moved : (output_of (op.Convolve left) (six ∷ []) ≡ grid 2 3 (n 0 ∷ n 2 ∷ n 4 ∷ n 0 ∷ n 8 ∷ n 10 ∷ []))
+    × (back_of (op.Convolve left) (six ∷ []) 0 (0 ∷ 4 ∷ []) ≡ at (flat 2 3) (3 ∷ []))
+    × (forward_of (op.Convolve left) (six ∷ []) 0 (0 ∷ 5 ∷ []) ≡ at (flat 2 3) (1 ∷ []))
+moved = (refl, refl, refl)
 
 -- the same upward: each cell takes the number below it, the last row 0
 abbrev under : Weights
 under = kernel 3 1 (pos 0 ∷ pos 0 ∷ pos 1 ∷ [])
 
-pub raised : output_of (op.Convolve under) (six ∷ [])
-    ≡ grid 2 3 (n 4 ∷ n 5 ∷ n 6 ∷ n 0 ∷ n 0 ∷ n 0 ∷ [])
-raised = refl
-
-pub raised-back : back_of (op.Convolve under) (six ∷ []) 0 (1 ∷ 4 ∷ []) ≡ at (flat 2 3) (4 ∷ [])
-raised-back = refl
+pub raised : (output_of (op.Convolve under) (six ∷ []) ≡ grid 2 3 (n 4 ∷ n 5 ∷ n 6 ∷ n 0 ∷ n 0 ∷ n 0 ∷ []))
+    × (back_of (op.Convolve under) (six ∷ []) 0 (1 ∷ 4 ∷ []) ≡ at (flat 2 3) (4 ∷ []))
+raised = (refl, refl)
 
 -- a kernel of three rows that is symmetric in no way is laid on as it is: its first row meets the row above
 abbrev rising : Weights

@@ -25,24 +25,18 @@ sum = flow 1 (node op.Neg (Input 0 ∷ []) ∷ node op.Add (Output 0 ∷ Input 0
 -- ---- joined
 
 -- backward a path goes from later nodes to earlier ones, and forward from earlier ones to later
-pub joined-back : is_joined Back sum (step 1 0 ∷ step 0 0 ∷ []) ≡ true
-joined-back = refl
+pub joined : (is_joined Back sum (step 1 0 ∷ step 0 0 ∷ []) ≡ true)
+    × (is_joined Forward sum (step 0 0 ∷ step 1 0 ∷ []) ≡ true)
+joined = (refl, refl)
 
-pub joined-forward : is_joined Forward sum (step 0 0 ∷ step 1 0 ∷ []) ≡ true
-joined-forward = refl
-
-pub turned-back : is_joined Back sum (step 0 0 ∷ step 1 0 ∷ []) ≡ false
-turned-back = refl
-
-pub turned-forward : is_joined Forward sum (step 1 0 ∷ step 0 0 ∷ []) ≡ false
-turned-forward = refl
+pub turned-paths : (is_joined Back sum (step 0 0 ∷ step 1 0 ∷ []) ≡ false)
+    × (is_joined Forward sum (step 1 0 ∷ step 0 0 ∷ []) ≡ false)
+turned-paths = (refl, refl)
 
 -- input 1 of the sum comes from a base array, and not from the negation
-pub other-input_back : is_joined Back sum (step 1 1 ∷ step 0 0 ∷ []) ≡ false
-other-input_back = refl
-
-pub other-input_forward : is_joined Forward sum (step 0 0 ∷ step 1 1 ∷ []) ≡ false
-other-input_forward = refl
+pub other-input : (is_joined Back sum (step 1 1 ∷ step 0 0 ∷ []) ≡ false)
+    × (is_joined Forward sum (step 0 0 ∷ step 1 1 ∷ []) ≡ false)
+other-input = (refl, refl)
 
 -- each input of the sum is one step
 pub each-input : (is_joined Back sum (step 1 1 ∷ []) ≡ true)

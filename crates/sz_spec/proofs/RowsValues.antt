@@ -4,6 +4,8 @@
 -- The key idea: on written-out numbers every definition is a computation, so each row is its own proof.
 use Rattle.std.proofs.Common.{◌≡◌, ℕ, ◌-◌, ◌^◌, ℤ, pos, negsuc, List, [], ◌∷◌, Option, Some}
 use Rattle.std.proofs.Common.{None, refl}
+use Rattle.sz_cells.specs.Extent.{flat}
+use Rattle.sz_spec.specs.declared.op.Op.{Op}
 use Rattle.sz_spec.specs.declared.op.Op.TheVariants as op
 use Rattle.sz_spec.specs.Values.{Grid, fit, total}
 use Rattle.sz_spec.specs.Evaluation.{output_of}
@@ -99,35 +101,23 @@ pub greater : output_of op.Max (a ∷ b ∷ []) ≡ row 6 (n 9 ∷ n 7 ∷ none 
 greater = refl
 
 -- the lineage is the same cell: of the one input, or of each of the two, also where the value is empty
-pub negated-back : back_of op.Neg (a ∷ []) 0 (0 ∷ 2 ∷ []) ≡ at a.extent (0 ∷ 2 ∷ [])
-negated-back = refl
+abbrev OwnBack : Op → List Grid → ℕ → List ℕ → Type 0
+OwnBack o inputs input cells = back_of o inputs input cells ≡ at (flat 1 6) cells
 
-pub absolutes-forward : forward_of op.Abs (a ∷ []) 0 (5 ∷ []) ≡ at a.extent (5 ∷ [])
-absolutes-forward = refl
+abbrev OwnForward : Op → List Grid → ℕ → List ℕ → Type 0
+OwnForward o inputs input cells = forward_of o inputs input cells ≡ at (flat 1 6) cells
 
-pub more-back : back_of (op.AddK (pos 2)) (a ∷ []) 0 (1 ∷ []) ≡ at a.extent (1 ∷ [])
-more-back = refl
+pub own-back_of_one : OwnBack op.Neg (a ∷ []) 0 (0 ∷ 2 ∷ [])
+    × OwnBack (op.AddK (pos 2)) (a ∷ []) 0 (1 ∷ [])
+    × OwnBack (op.MulK (pos 0)) (a ∷ []) 0 (1 ∷ [])
+    × OwnBack (op.Clip (pos 0) (pos 0)) (a ∷ []) 0 (1 ∷ [])
+own-back_of_one = (refl, refl, refl, refl)
 
-pub times-back : back_of (op.MulK (pos 0)) (a ∷ []) 0 (1 ∷ []) ≡ at a.extent (1 ∷ [])
-times-back = refl
+pub own-back_of_two : OwnBack op.Add (a ∷ b ∷ []) 0 (4 ∷ []) × OwnBack op.Add (a ∷ b ∷ []) 1 (4 ∷ [])
+    × OwnBack op.Sub (a ∷ b ∷ []) 1 (2 ∷ [])
+    × OwnBack op.Mul (a ∷ b ∷ []) 1 (2 ∷ [])
+own-back_of_two = (refl, refl, refl, refl)
 
-pub clipped-back : back_of (op.Clip (pos 0) (pos 0)) (a ∷ []) 0 (1 ∷ []) ≡ at a.extent (1 ∷ [])
-clipped-back = refl
-
-pub added-back_first : back_of op.Add (a ∷ b ∷ []) 0 (4 ∷ []) ≡ at a.extent (4 ∷ [])
-added-back_first = refl
-
-pub added-back_second : back_of op.Add (a ∷ b ∷ []) 1 (4 ∷ []) ≡ at b.extent (4 ∷ [])
-added-back_second = refl
-
-pub taken-back_second : back_of op.Sub (a ∷ b ∷ []) 1 (2 ∷ []) ≡ at b.extent (2 ∷ [])
-taken-back_second = refl
-
-pub multiplied-back_second : back_of op.Mul (a ∷ b ∷ []) 1 (2 ∷ []) ≡ at b.extent (2 ∷ [])
-multiplied-back_second = refl
-
-pub lesser-forward_second : forward_of op.Min (a ∷ b ∷ []) 1 (0 ∷ []) ≡ at a.extent (0 ∷ [])
-lesser-forward_second = refl
-
-pub greater-forward_first : forward_of op.Max (a ∷ b ∷ []) 0 (1 ∷ []) ≡ at a.extent (1 ∷ [])
-greater-forward_first = refl
+pub own-forward : OwnForward op.Abs (a ∷ []) 0 (5 ∷ []) × OwnForward op.Min (a ∷ b ∷ []) 1 (0 ∷ [])
+    × OwnForward op.Max (a ∷ b ∷ []) 0 (1 ∷ [])
+own-forward = (refl, refl, refl)

@@ -24,3 +24,4 @@ pub mod LawsDependence
 pub mod Supports
 pub mod Affected
 pub mod Kinds
+mod Terms

@@ -1,9 +1,7 @@
 //! Arrays: what each cell of a shape holds.
 
-ghost use Rattle.std.specs.Prelude.{◌≡◌, true, ◌==◌, if◌then◌else◌, Some, None, length, map};
-ghost use Rattle.std.specs.Arc.{arc_value};
-ghost use Rattle.sz_cells.specs.Extent.{size_of, holds};
-ghost use Rattle.sz_spec.specs.Values.{value_at};
+ghost use Rattle.sz_spec.specs.Terms.{◌≡◌, true, ◌==◌, if◌then◌else◌, Some, None, length, map};
+ghost use Rattle.sz_spec.specs.Terms.{arc_value, size_of, holds, value_at};
 
 use std::marker::Model;
 use std::sync::Arc;

@@ -1,15 +1,14 @@
 //! Flows: acyclic graphs of operators, and whether they are well formed.
 
-ghost use Rattle.std.specs.Prelude.{◌≡◌, ◌<◌, ◌^◌, length};
-ghost use Rattle.std.specs.Result.{result_err};
-ghost use Rattle.sz_spec.specs.Flows.{flow_fault, nodes_fault, node_fault, source_fault, is_source};
+ghost use Rattle.sz_spec.specs.Terms.{◌≡◌, ◌<◌, ◌^◌, length, result_err, flow_fault, nodes_fault};
+ghost use Rattle.sz_spec.specs.Terms.{node_fault, source_fault, is_source};
 
 use crate::op::{Op, arity, has_right_parameters};
 use std::marker::Model;
 
 /// A flow: how many base arrays it takes, and its nodes. It holds what it is given: `check` judges
 /// it.
-#[derive(Debug, Drop)]
+#[derive(Drop)]
 pub struct Flow {
     inputs: u32,
     nodes: Vec<Node>,
@@ -134,7 +133,7 @@ fn check_sources(inputs: u32, number: u32, from: &[SourceRef]) -> Result<(), Flo
 }
 
 /// A node of a flow: an operator, and where it takes its inputs from.
-#[derive(Debug, Drop)]
+#[derive(Drop)]
 pub struct Node {
     pub op: Op,
     pub from: SourceList,
@@ -163,7 +162,7 @@ impl SourceRef {
 
 /// The sources of a node: one for each input of its operator, in their order. Contracts see the
 /// list of them.
-#[derive(Debug, Drop)]
+#[derive(Drop)]
 pub struct SourceList {
     items: Vec<SourceRef>,
 }

@@ -1,8 +1,6 @@
 //! The shapes of a flow's outputs, found from the shapes of its base arrays alone.
-ghost use Rattle.std.specs.Prelude.{◌≡◌, All, true, length, map, IfOk};
-ghost use Rattle.std.specs.Result.{result_map_both};
-ghost use Rattle.sz_spec.specs.Flows.{is_well_formed, is_source};
-ghost use Rattle.sz_spec.specs.FlowShapes.{source_shape, output_shapes};
+ghost use Rattle.sz_spec.specs.Terms.{◌≡◌, All, true, length, map, IfOk, result_map_both};
+ghost use Rattle.sz_spec.specs.Terms.{is_well_formed, is_source, source_shape, output_shapes};
 
 use crate::flow::{Flow, SourceRef};
 use crate::shapes::shape_of;

@@ -1,8 +1,6 @@
 //! Kernels: the weights of a convolution.
 
-ghost use Rattle.std.specs.Prelude.{◌≡◌, IfOk};
-ghost use Rattle.std.specs.List.{list_all};
-ghost use Rattle.sz_spec.specs.Weights.{is_kernel, is_odd_side, is_weight};
+ghost use Rattle.sz_spec.specs.Terms.{◌≡◌, IfOk, list_all, is_kernel, is_odd_side, is_weight};
 
 use std::alloc::Global;
 use std::marker::Model;
@@ -10,7 +8,7 @@ use sz_cells::NoMemory;
 
 /// The weights of a convolution, row by row. It holds what it is given: [`Kernel::is_right`] judges
 /// it. Contracts see the weights with the numbers of rows and columns.
-#[derive(Debug, Drop)]
+#[derive(Drop)]
 pub struct Kernel {
     rows: u32,
     cols: u32,

@@ -1,41 +1,34 @@
 //! Laws of the definitions, for a reader: each function has an empty body, and its contract is the
 //! law.
 
-ghost use Rattle.sz_spec.specs.LawsValues.{I64sAreValues, OtherNumbersAreEmpty};
-ghost use Rattle.sz_spec.specs.LawsValues.{SumsOfNumbersAreTotals, SumsWithAnEmptyOneAreEmpty};
-ghost use Rattle.sz_spec.specs.LawsValues.{OutputsHaveAValueForEachCell, OutputsHoldTheirValues};
-ghost use Rattle.sz_spec.specs.LawsShapes.{OutputsAreShapes, EachCellIsInOnePiece};
-ghost use Rattle.sz_spec.specs.LawsShapes.{PiecesAreOfTheShape, PiecesAreFew};
-ghost use Rattle.sz_spec.specs.LawsImages.{ImagesBackAreTheRelatedCells};
-ghost use Rattle.sz_spec.specs.LawsImages.{ImagesForwardAreTheRelatedCells, ImagesBackSayThereIs};
-ghost use Rattle.sz_spec.specs.LawsImages.{ImagesForwardSayThereIs, ImagesBackOfUnions};
-ghost use Rattle.sz_spec.specs.LawsImages.{ImagesForwardOfUnions, ImagesBackAgree};
-ghost use Rattle.sz_spec.specs.LawsImages.{ImagesForwardAgree, PathsComposeByTheirParts};
-ghost use Rattle.sz_spec.specs.LawsRegions.{ConnectedCellsAreLedTo, ConnectedCellsAreHigh};
-ghost use Rattle.sz_spec.specs.LawsRegions.{HighCellsAreConnectedToThemselves};
-ghost use Rattle.sz_spec.specs.LawsRegions.{ConnectionIsSymmetric, ConnectionGoesByParts};
-ghost use Rattle.sz_spec.specs.LawsRegions.{ComponentsAreClosed, ComponentsAreWhole};
-ghost use Rattle.sz_spec.specs.LawsRegions.{ConnectedCellsHaveOneComponent};
-ghost use Rattle.sz_spec.specs.LawsRegions.{OtherCellsAreLabelledZero};
-ghost use Rattle.sz_spec.specs.LawsRegions.{HighCellsAreLabelledByTheLeast};
-ghost use Rattle.sz_spec.specs.LawsLineage.{RelatedCellsAreOfInputs, MappingsAreTheRelation};
-ghost use Rattle.sz_spec.specs.LawsLineage.{PayloadsAreLawful, PayloadsAreTheRelation};
-ghost use Rattle.sz_spec.specs.LawsLineage.{DefaultsAreTheRelation};
-ghost use Rattle.sz_spec.specs.LawsDependence.{ValuesDependOnRelatedCells};
-ghost use Rattle.sz_spec.specs.LawsDependence.{RelationsDependOnRelatedCells};
-ghost use Rattle.sz_spec.specs.LawsDependence.{ValuesDependOnEitherRelation};
-ghost use Rattle.sz_spec.specs.LawsDependence.{RelationsDependOnEitherRelation};
-ghost use Rattle.sz_spec.specs.LawsDependence.{ComposedCellsAreLedTo, ValuesDependOnReachedCells};
-ghost use Rattle.sz_spec.specs.LawsDependence.{ValuesDependOnCellsReachedInEither};
-ghost use Rattle.sz_spec.specs.LawsFlows.{WellFormedFlowsAreRight, EachNodeHasAnOutput};
-ghost use Rattle.sz_spec.specs.LawsFlows.{OutputsAreThoseOfTheirNodes};
-ghost use Rattle.sz_spec.specs.LawsFlows.{ShapesFoundAreThoseOfTheOutputs};
-ghost use Rattle.sz_spec.specs.LawsModes.{ThreeHaveNoMapping, MappedOperatorsSupport};
-ghost use Rattle.sz_spec.specs.LawsModes.{OtherOperatorsSupport, MappedOperatorsSupportForward};
-ghost use Rattle.sz_spec.specs.LawsModes.{OtherOperatorsSupportForward};
-ghost use Rattle.sz_spec.specs.LawsModes.{NumbersTellStrategiesApart};
-ghost use Rattle.sz_spec.specs.LawsModes.{OrdersHaveEachStrategyOnce, ListedStrategiesAreInTheList};
-ghost use Rattle.sz_spec.specs.LawsModes.{WaysAreInTheList, WaysAreTheFirst};
+ghost use Rattle.sz_spec.specs.Terms.{I64sAreValues, OtherNumbersAreEmpty, SumsOfNumbersAreTotals};
+ghost use Rattle.sz_spec.specs.Terms.{SumsWithAnEmptyOneAreEmpty, OutputsHaveAValueForEachCell};
+ghost use Rattle.sz_spec.specs.Terms.{OutputsHoldTheirValues, OutputsAreShapes};
+ghost use Rattle.sz_spec.specs.Terms.{EachCellIsInOnePiece, PiecesAreOfTheShape, PiecesAreFew};
+ghost use Rattle.sz_spec.specs.Terms.{ImagesBackAreTheRelatedCells};
+ghost use Rattle.sz_spec.specs.Terms.{ImagesForwardAreTheRelatedCells, ImagesBackSayThereIs};
+ghost use Rattle.sz_spec.specs.Terms.{ImagesForwardSayThereIs, ImagesBackOfUnions};
+ghost use Rattle.sz_spec.specs.Terms.{ImagesForwardOfUnions, ImagesBackAgree, ImagesForwardAgree};
+ghost use Rattle.sz_spec.specs.Terms.{PathsComposeByTheirParts, ConnectedCellsAreLedTo};
+ghost use Rattle.sz_spec.specs.Terms.{ConnectedCellsAreHigh, HighCellsAreConnectedToThemselves};
+ghost use Rattle.sz_spec.specs.Terms.{ConnectionIsSymmetric, ConnectionGoesByParts};
+ghost use Rattle.sz_spec.specs.Terms.{ComponentsAreClosed, ComponentsAreWhole};
+ghost use Rattle.sz_spec.specs.Terms.{ConnectedCellsHaveOneComponent, OtherCellsAreLabelledZero};
+ghost use Rattle.sz_spec.specs.Terms.{HighCellsAreLabelledByTheLeast, RelatedCellsAreOfInputs};
+ghost use Rattle.sz_spec.specs.Terms.{MappingsAreTheRelation, PayloadsAreLawful};
+ghost use Rattle.sz_spec.specs.Terms.{PayloadsAreTheRelation, DefaultsAreTheRelation};
+ghost use Rattle.sz_spec.specs.Terms.{ValuesDependOnRelatedCells, RelationsDependOnRelatedCells};
+ghost use Rattle.sz_spec.specs.Terms.{ValuesDependOnEitherRelation};
+ghost use Rattle.sz_spec.specs.Terms.{RelationsDependOnEitherRelation, ComposedCellsAreLedTo};
+ghost use Rattle.sz_spec.specs.Terms.{ValuesDependOnReachedCells};
+ghost use Rattle.sz_spec.specs.Terms.{ValuesDependOnCellsReachedInEither, WellFormedFlowsAreRight};
+ghost use Rattle.sz_spec.specs.Terms.{EachNodeHasAnOutput, OutputsAreThoseOfTheirNodes};
+ghost use Rattle.sz_spec.specs.Terms.{ShapesFoundAreThoseOfTheOutputs, ThreeHaveNoMapping};
+ghost use Rattle.sz_spec.specs.Terms.{MappedOperatorsSupport, OtherOperatorsSupport};
+ghost use Rattle.sz_spec.specs.Terms.{MappedOperatorsSupportForward, OtherOperatorsSupportForward};
+ghost use Rattle.sz_spec.specs.Terms.{NumbersTellStrategiesApart, OrdersHaveEachStrategyOnce};
+ghost use Rattle.sz_spec.specs.Terms.{ListedStrategiesAreInTheList, WaysAreInTheList};
+ghost use Rattle.sz_spec.specs.Terms.{WaysAreTheFirst};
 
 /// A whole number that is an i64 is a value, and any other is empty.
 pub fn values_are_the_i64s()

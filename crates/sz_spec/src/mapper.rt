@@ -1,13 +1,7 @@
 //! Mappings of cells: the lineage of an operator that is known without its values.
 
-ghost use Rattle.std.specs.Prelude.{◌≡◌, ◌<◌, true, length};
-ghost use Rattle.sz_cells.specs.Extent.{holds};
-ghost use Rattle.sz_cells.specs.Cells.{with_those};
-ghost use Rattle.sz_spec.specs.Values.{extent_at};
-ghost use Rattle.sz_spec.specs.Shapes.{Site};
-ghost use Rattle.sz_spec.specs.Lineage.{mapped};
-ghost use Rattle.sz_spec.specs.Modes.{has_mapping};
-ghost use Rattle.sz_spec.specs.Payloads.{is_payload, mapped_by_payload};
+ghost use Rattle.sz_spec.specs.Terms.{◌≡◌, ◌<◌, true, length, holds, with_those, extent_at, Site};
+ghost use Rattle.sz_spec.specs.Terms.{mapped, has_mapping, is_payload, mapped_by_payload};
 
 use sz_cells::{Cell, CellBits};
 

@@ -1,7 +1,6 @@
 //! The family of operators: how many inputs each takes, and which parameters are right.
 
-ghost use Rattle.std.specs.Prelude.{◌≡◌, IfOk};
-ghost use Rattle.sz_spec.specs.Shapes.{arity, has_right_parameters};
+ghost use Rattle.sz_spec.specs.Terms.{◌≡◌, IfOk, arity, has_right_parameters};
 
 use crate::kernel::Kernel;
 use std::alloc::Global;
@@ -10,7 +9,7 @@ use sz_cells::NoMemory;
 /// An operator of a flow: it makes one array of its inputs. An empty cell of an input gives an
 /// empty cell where nothing else is said, and so does a number that is no i64. Each takes one input
 /// where two are not said.
-#[derive(Debug, Drop)]
+#[derive(Drop)]
 pub enum Op {
     /// Each cell negated.
     Neg,

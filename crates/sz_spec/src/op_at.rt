@@ -1,7 +1,7 @@
 //! Operators with the shapes that they work between.
 
-ghost use Rattle.std.specs.Prelude.{◌≡◌, true, length, Ok};
-ghost use Rattle.sz_spec.specs.Shapes.{arity, has_right_parameters, shape_of, site_of};
+ghost use Rattle.sz_spec.specs.Terms.{◌≡◌, true, length, Ok, arity, has_right_parameters, shape_of};
+ghost use Rattle.sz_spec.specs.Terms.{site_of};
 
 use crate::op::Op;
 use crate::shapes::{ShapeFault, shape_of};
@@ -10,7 +10,7 @@ use sz_cells::Shape;
 
 /// An operator with the shapes of its inputs and of its output. It has as many inputs as it takes,
 /// its parameters are right, and the output has the shape that its rule gives.
-#[derive(Debug, Drop)]
+#[derive(Drop)]
 pub struct OpAt {
     op: Op,
     ins: Vec<Shape>,

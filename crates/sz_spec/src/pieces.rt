@@ -1,7 +1,6 @@
 //! Pieces: the parts of an output array by which its lineage is kept.
 
-ghost use Rattle.std.specs.Prelude.{◌≡◌};
-ghost use Rattle.sz_spec.specs.Pieces.{pieces_of};
+ghost use Rattle.sz_spec.specs.Terms.{◌≡◌, pieces_of};
 
 use sz_cells::Shape;
 

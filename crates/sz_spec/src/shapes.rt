@@ -1,10 +1,8 @@
 //! Shapes of outputs: the shape rule of each operator.
 
-ghost use Rattle.std.specs.Prelude.{◌≡◌, ◌<◌, ◌==◌, true, length, if◌then◌else◌, Ok, Err};
-ghost use Rattle.sz_cells.specs.Extent.{height_of, flat, is_layered};
-ghost use Rattle.sz_spec.specs.Shapes.{arity, has_right_parameters, shape_of, each_layer, sliced};
-ghost use Rattle.sz_spec.specs.Shapes.{are_equal};
-ghost use Rattle.sz_spec.specs.Operators.Folds.{blocks_over};
+ghost use Rattle.sz_spec.specs.Terms.{◌≡◌, ◌<◌, ◌==◌, true, length, if◌then◌else◌, Ok, Err};
+ghost use Rattle.sz_spec.specs.Terms.{height_of, flat, is_layered, arity, has_right_parameters};
+ghost use Rattle.sz_spec.specs.Terms.{shape_of, each_layer, sliced, are_equal, blocks_over};
 
 use crate::op::Op;
 use sz_cells::Shape;

@@ -1,11 +1,7 @@
 //! The 3 by 3 square of cells round a cell, within its layer: a rectangle, added row by row.
 
-ghost use Rattle.std.specs.Prelude.{◌≡◌, ◌≤◌, ◌<◌, true};
-ghost use Rattle.sz_cells.specs.declared.Cell.{Cell};
-ghost use Rattle.sz_cells.specs.Extent.{holds};
-ghost use Rattle.sz_cells.specs.Cells.{with_those};
-ghost use Rattle.sz_spec.specs.Operators.Clean.{is_in_square};
-ghost use Rattle.sz_spec.specs.Rectangles.{is_in_rectangle, is_in_row};
+ghost use Rattle.sz_spec.specs.Terms.{◌≡◌, ◌≤◌, ◌<◌, true, Cell, holds, with_those, is_in_square};
+ghost use Rattle.sz_spec.specs.Terms.{is_in_rectangle, is_in_row};
 
 use sz_cells::{Bounds, Cell, CellBits, Run, Shape};
 

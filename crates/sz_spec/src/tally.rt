@@ -1,6 +1,6 @@
 //! Counts of steps.
 
-ghost use Rattle.std.specs.Prelude.{◌≡◌, ◌+◌, ◌^◌, ◌<◌};
+ghost use Rattle.sz_spec.specs.Terms.{◌≡◌, ◌+◌, ◌^◌, ◌<◌};
 
 use std::marker::Model;
 

@@ -8,3 +8,4 @@ pub mod Stocked
 pub mod Needed
 pub mod Checklists
 pub mod Laws
+mod Terms

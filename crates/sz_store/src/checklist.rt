@@ -1,9 +1,7 @@
 //! Whether lineages are those that one store keeps.
 
-ghost use Rattle.std.specs.Prelude.{◌≡◌, true, IfOk, OnOk};
-ghost use Rattle.sz_store.specs.Kept.{with_part};
-ghost use Rattle.sz_store.specs.Checklists.{table_in, kept_in, ticked_in, emptied, joined};
-ghost use Rattle.sz_store.specs.Checklists.{AreOneList};
+ghost use Rattle.sz_store.specs.Terms.{◌≡◌, true, IfOk, OnOk, with_part, table_in, kept_in};
+ghost use Rattle.sz_store.specs.Terms.{ticked_in, emptied, joined, AreOneList};
 
 use sz_cells::NoMemory;
 use sz_frame::PieceLineage;

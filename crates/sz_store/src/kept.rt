@@ -3,20 +3,15 @@
 //! Each call is a table with a line for each sort or strategy, as are the definitions in
 //! `specs/Stocks` and `specs/Words`: a further stored strategy is a further line in each.
 
-ghost use Rattle.std.specs.Prelude.{◌≡◌, ℕ, ◌<◌, ◌≤◌, List, [], ◌++◌, length, true, false};
-ghost use Rattle.std.specs.Prelude.{OnOk, OnErr, IfOk};
-ghost use Rattle.std.specs.Prelude.{IfErr, MatchOption};
-ghost use Rattle.std.specs.Arc.{arc_value};
-ghost use Rattle.sz_cells.specs.Cells.{has, with_those};
-ghost use Rattle.sz_spec.specs.Modes.{is_stored, supports, mode_of, has_mapping};
+ghost use Rattle.sz_store.specs.Terms.{◌≡◌, ℕ, ◌<◌, ◌≤◌, List, [], ◌++◌, length, true, false, OnOk};
+ghost use Rattle.sz_store.specs.Terms.{OnErr, IfOk, IfErr, MatchOption, arc_value, has, with_those};
+ghost use Rattle.sz_store.specs.Terms.{is_stored, supports, mode_of, has_mapping, near_side};
+ghost use Rattle.sz_store.specs.Terms.{far_side, image_in, no_room, entries, holding_stands};
+ghost use Rattle.sz_store.specs.Terms.{nothing_for, with_part, kept_in, ticked_in, stock_of};
+ghost use Rattle.sz_store.specs.Terms.{mode_in, empty_stock, CanGrow, HasRoomFor, AreEntries};
+ghost use Rattle.sz_store.specs.Terms.{IsTableOf, StaysApart, IsWordOf, Begins, NoneBegins};
+ghost use Rattle.sz_store.specs.Terms.{SaysNone};
 ghost use Rattle.sz_spec.specs.declared.modes.Mode.TheVariants as mode;
-ghost use Rattle.sz_spec.specs.Sides.{near_side, far_side, image_in};
-ghost use Rattle.sz_tables.specs.Stores.{no_room};
-ghost use Rattle.sz_store.specs.Kept.{entries, holding_stands, nothing_for, with_part};
-ghost use Rattle.sz_store.specs.Checklists.{kept_in, ticked_in};
-ghost use Rattle.sz_store.specs.Stocks.{stock_of, mode_in, empty_stock, CanGrow, HasRoomFor};
-ghost use Rattle.sz_store.specs.Stocks.{AreEntries, IsTableOf, StaysApart};
-ghost use Rattle.sz_store.specs.Words.{IsWordOf, Begins, NoneBegins, SaysNone};
 
 use crate::checklist::StoreChecklist;
 use std::alloc::Global;

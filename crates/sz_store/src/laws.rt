@@ -1,9 +1,9 @@
 //! Laws of the definitions, for a reader: each function has an empty body, and its contract is the
 //! law.
 
-ghost use Rattle.sz_store.specs.Laws.{FittingLineagesCanBePlaced, PlacedPiecesMakeTheRelation};
-ghost use Rattle.sz_store.specs.Laws.{OneListOfStoresBegins, WrittenStoresAreRead};
-ghost use Rattle.sz_store.specs.Checklists.{OtherOrdersStandForTheSame};
+ghost use Rattle.sz_store.specs.Terms.{FittingLineagesCanBePlaced, PlacedPiecesMakeTheRelation};
+ghost use Rattle.sz_store.specs.Terms.{OneListOfStoresBegins, WrittenStoresAreRead};
+ghost use Rattle.sz_store.specs.Terms.{OtherOrdersStandForTheSame};
 
 /// A lineage that fits its piece can be placed.
 pub fn fitting_lineages_can_be_placed()

@@ -30,21 +30,15 @@
 //! of a further piece have none of theirs. A store that was read is whole, and is given nothing.
 #![tactic(auto)]
 
-ghost use Rattle.std.specs.Prelude.{◌≡◌, ℕ, ◌<◌, ◌≤◌, ◌==◌, List, ◌++◌, length, true, not, All};
-ghost use Rattle.std.specs.Prelude.{OnOk, OnErr, IfOk, IfErr, MatchOption, map};
-ghost use Rattle.std.specs.List.{position_or_len};
-ghost use Rattle.std.specs.Arc.{arc_value};
-ghost use Rattle.sz_cells.specs.Cells.{has, with_those};
-ghost use Rattle.sz_spec.specs.Modes.{supports, is_listed, is_stored, mode_of};
-ghost use Rattle.sz_spec.specs.Pieces.{pieces_of};
-ghost use Rattle.sz_spec.specs.Sides.{near_side, far_side, image_in};
-ghost use Rattle.sz_store.specs.Kept.{no_lineage, with_lineage, is_placed, is_whole};
-ghost use Rattle.sz_store.specs.Kept.{AreParts, missing, holding_for, holding_stands, stored_in};
-ghost use Rattle.sz_store.specs.Kept.{nothing_for, keep_at};
-ghost use Rattle.sz_store.specs.Stocks.{IsOfItsMode, AreEntries, IsTableOf, StaysApart};
-ghost use Rattle.sz_store.specs.Checklists.{kept_in, ticked_in};
-ghost use Rattle.sz_store.specs.Words.{AreWordsOf, IsWordOf, Begins, BeginEach};
-ghost use Rattle.sz_store.specs.Words.{NoneBegin, SaysNone};
+ghost use Rattle.sz_store.specs.Terms.{◌≡◌, ℕ, ◌<◌, ◌≤◌, ◌==◌, List, ◌++◌, length, true, not, All};
+ghost use Rattle.sz_store.specs.Terms.{OnOk, OnErr, IfOk, IfErr, MatchOption, map, position_or_len};
+ghost use Rattle.sz_store.specs.Terms.{arc_value, has, with_those, supports, is_listed, is_stored};
+ghost use Rattle.sz_store.specs.Terms.{mode_of, pieces_of, near_side, far_side, image_in};
+ghost use Rattle.sz_store.specs.Terms.{no_lineage, with_lineage, is_placed, is_whole, AreParts};
+ghost use Rattle.sz_store.specs.Terms.{missing, holding_for, holding_stands, stored_in};
+ghost use Rattle.sz_store.specs.Terms.{nothing_for, keep_at, IsOfItsMode, AreEntries, IsTableOf};
+ghost use Rattle.sz_store.specs.Terms.{StaysApart, kept_in, ticked_in, AreWordsOf, IsWordOf};
+ghost use Rattle.sz_store.specs.Terms.{Begins, BeginEach, NoneBegin, SaysNone};
 
 mod checklist;
 mod kept;

@@ -1,15 +1,12 @@
 //! The stores of a list, one for each of its stored strategies.
 
-ghost use Rattle.std.specs.Prelude.{◌≡◌, ℕ, ◌<◌, ◌≤◌, ◌==◌, List, [], ◌∷◌, ◌++◌, length, map, true};
-ghost use Rattle.std.specs.Prelude.{All, OnOk, OnErr, IfOk, IfErr, take, slice_index_or};
-ghost use Rattle.std.specs.List.{list_any};
-ghost use Rattle.std.specs.Arc.{arc_value};
-ghost use Rattle.sz_spec.specs.Shapes.{Site};
-ghost use Rattle.sz_spec.specs.Modes.{supports, is_stored, number_of, mode_of};
-ghost use Rattle.sz_store.specs.Kept.{Keep, empty_keep, stored_in, keep_with, holding_for};
-ghost use Rattle.sz_store.specs.Stocks.{stock_of, keep_of, site_of, CanGrow, HasRoomFor};
-ghost use Rattle.sz_store.specs.Stocks.{capacities_of, StaysApart};
-ghost use Rattle.sz_store.specs.Words.{AreWordsOf, BeginEach, NoneBegin, SaysNone};
+ghost use Rattle.sz_store.specs.Terms.{◌≡◌, ℕ, ◌<◌, ◌≤◌, ◌==◌, List, [], ◌∷◌, ◌++◌, length, map};
+ghost use Rattle.sz_store.specs.Terms.{true, All, OnOk, OnErr, IfOk, IfErr, take, slice_index_or};
+ghost use Rattle.sz_store.specs.Terms.{list_any, arc_value, Site, supports, is_stored, number_of};
+ghost use Rattle.sz_store.specs.Terms.{mode_of, Keep, empty_keep, stored_in, keep_with};
+ghost use Rattle.sz_store.specs.Terms.{holding_for, stock_of, keep_of, site_of, CanGrow};
+ghost use Rattle.sz_store.specs.Terms.{HasRoomFor, capacities_of, StaysApart, AreWordsOf};
+ghost use Rattle.sz_store.specs.Terms.{BeginEach, NoneBegin, SaysNone};
 
 use crate::kept::KeptStore;
 use std::alloc::Global;

@@ -5,10 +5,10 @@
 use Rattle.std.proofs.Common.{◌≡◌, ℕ, zero, suc, ◌+◌, ◌-◌, ◌*◌, ◌/◌, ◌<◌, ◌≤◌, ℤ, pos, negsuc, ◌+ℤ◌, ◌*ℤ◌, Bool, true}
 use Rattle.std.proofs.Common.{false, not, ◌&&◌, ◌==◌, List, [], ◌∷◌, ◌++◌, map, Option, Some, None, refl, sym, ap}
 use Rattle.std.proofs.Common.{ap₂, ◌∙◌}
-use Rattle.std.proofs.Common.{arith, inl, inr, eqb-true, ltb-true, lt-ltb, le-leb, nat_lt, nat_le, length}
+use Rattle.std.proofs.Common.{arith, inl, inr, eqb-true, lt-ltb, le-leb, length}
 use Rattle.std.proofs.Math.IntN.{*ℤ-zero}
 use Rattle.std.proofs.Math.Nat.{eq_of_mul-eq-mul_left, mul-zero}
-use Rattle.std.proofs.lemmas.Bool.{cases_Bool, and_parts, and_from, or_cases, leb-true}
+use Rattle.std.proofs.lemmas.Bool.{cases_Bool, and_parts, and_from, or_cases}
 use Rattle.std.proofs.lemmas.Bool.{true≢false, false_from_ne_true, eqb-false}
 use Rattle.std.proofs.lemmas.Int.{ints, unsigned_abs-mul}
 use Rattle.std.proofs.lemmas.List.{map-append}
@@ -17,10 +17,10 @@ use Rattle.std.specs.Prelude.{option_and_then, option_map}
 use Rattle.std.specs.Int.RustNames.{unsigned_abs}
 use Rattle.std.specs.List.{filter, list_any, range_with_len}
 use Rattle.sz_cells.specs.declared.Cell.{Cell}
-use Rattle.sz_cells.specs.Extent.{Extent, height_of, is_extent, holds, layer_of, row_in, cell_in, is_place}
+use Rattle.sz_cells.specs.Extent.{Extent, height_of, is_extent, holds, layer_of, row_in, cell_in}
 use Rattle.sz_cells.specs.Cells.{is_same}
 use Rattle.sz_cells.proofs.Sets.{is_same-true, index-cell}
-use Rattle.sz_cells.proofs.Shapes.{cell-has_place, place-has_cell}
+use Rattle.sz_cells.proofs.Shapes.{cell-has_place}
 use Rattle.sz_cells.proofs.Windows.{range-append}
 use Rattle.sz_spec.specs.declared.op.Op.{Op}
 use Rattle.sz_spec.specs.declared.op.Op.TheVariants.{Convolve}
@@ -33,6 +33,7 @@ use Rattle.sz_spec.specs.Operators.Convolve.{sum_of_all, convolved_at}
 use Rattle.sz_spec.specs.Supports.{supports}
 use Rattle.sz_spec.proofs.OutputShapes.{extent-right}
 use Rattle.sz_spec.proofs.PayloadLineage.{extent-of_input, extent-of_site}
+use Rattle.sz_spec.proofs.Dependence.{place-of, tap-there}
 use Rattle.sz_support.specs.Changes.{IsSupported, with_value, changed_at}
 use Rattle.sz_support.specs.LawsMatter.{ConvolvedCellsMatter}
 use Rattle.sz_support.proofs.ChangedInputs.{with-there, with-others, changed-there, inputs-many}
@@ -146,47 +147,6 @@ weighed-sharp w (Some q) weighs z r first second =
     by-weight w z weighs (omega (arith, ints))
 
 -- ---- the tap that lies on x
-
--- a cell of a shape has a layer and a row in it
-place-of : (e : Extent) (c : Cell) → is_extent e ≡ true → holds e c ≡ true
-    → (layer_of e c < e.layers) × (row_in e c < height_of e) × (c.col < e.cols)
-place-of e c right held =
-    let outer = and_parts _ (nat_lt c.col e.cols) (cell-has_place e c right held).0 in
-    let inner = and_parts _ _ outer.0 in (
-      ltb-true (layer_of e c) e.layers inner.0,
-      ltb-true (row_in e c) (height_of e) inner.1,
-      ltb-true c.col e.cols outer.1,
-    )
-
--- where a tap in range lies, and that it is a cell of the shape
-record IsThere (e : Extent) (w : Weights) (o : Cell) (t : Tap) : Type 0 where
-  held : holds e (cell_under e w o t) ≡ true
-  row : row_in e (cell_under e w o t) + w.rows / 2 ≡ row_in e o + t.row
-  col : (cell_under e w o t).col + w.cols / 2 ≡ o.col + t.col
-
-tap-there : (e : Extent) (w : Weights) (o : Cell) (t : Tap) → is_extent e ≡ true → holds e o ≡ true
-    → is_in_range e w o t ≡ true → IsThere e w o t
-tap-there e w o t right held inside =
-    let outer = and_parts _ (nat_lt (o.col + t.col) (e.cols + w.cols / 2)) inside in
-    let middle = and_parts _ (nat_le (w.cols / 2) (o.col + t.col)) outer.0 in
-    let inner = and_parts (nat_le (w.rows / 2) (row_in e o + t.row))
-    (nat_lt (row_in e o + t.row) (height_of e + w.rows / 2)) middle.0 in
-    let top = leb-true (w.rows / 2) (row_in e o + t.row) inner.0 in
-    let bottom = ltb-true (row_in e o + t.row) (height_of e + w.rows / 2) inner.1 in
-    let left = leb-true (w.cols / 2) (o.col + t.col) middle.1 in
-    let far = ltb-true (o.col + t.col) (e.cols + w.cols / 2) outer.1 in
-    let here = place-of e o right held in
-    let row = (row_in e o + t.row) - w.rows / 2 in
-    let col = (o.col + t.col) - w.cols / 2 in
-    let place : is_place e (layer_of e o) row col ≡ true =
-    and_from _ _ (and_from _ _ (lt-ltb (layer_of e o) e.layers here.0)
-    (lt-ltb row (height_of e) (omega arith))) (lt-ltb col e.cols (omega arith)) in
-    let there = place-has_cell e (layer_of e o) row col right place in
-    record {
-      held = there.0;
-      row = omega (arith, there.2);
-      col = omega arith;
-    }
 
 -- a tap that lies on a cell of the shape is in range, and its cell is that one
 tap-on : (e : Extent) (w : Weights) (o x : Cell) (t : Tap) → is_extent e ≡ true → holds e x ≡ true

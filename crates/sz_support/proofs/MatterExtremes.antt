@@ -206,21 +206,20 @@ extremes-matter op fold m end folding chooses towards fits some s inputs i o x i
           gathered-idle m end towards p (λ _. true) refl s inputs o x gathers matters (others.1 other),
     )
 
+least-of : (op : Op) → IsFolding op Min → EachMattersUnlessAnother op least_i64
+least-of op folding = extremes-matter op Min int_min least_i64 folding (λ zs. refl) least-end refl (λ h. cc)
+
+greatest-of : (op : Op) → IsFolding op Max → EachMattersUnlessAnother op greatest_i64
+greatest-of op folding = extremes-matter op Max int_max greatest_i64 folding (λ zs. refl) greatest-end refl (λ h. cc)
+
 pub least-matter : CellsOfLeastMatter
-least-matter height width =
-    extremes-matter (Block Min height width) Min int_min least_i64 (folding-block Min height width) (λ zs. refl)
-    least-end refl (λ h. cc)
+least-matter height width = least-of (Block Min height width) (folding-block Min height width)
 
 pub least-of_layers_matter : CellsOfLeastOfLayersMatter
-least-of_layers_matter =
-    extremes-matter (FoldLayers Min) Min int_min least_i64 (folding-layers Min) (λ zs. refl) least-end refl (λ h. cc)
+least-of_layers_matter = least-of (FoldLayers Min) (folding-layers Min)
 
 pub greatest-matter : CellsOfGreatestMatter
-greatest-matter height width =
-    extremes-matter (Block Max height width) Max int_max greatest_i64 (folding-block Max height width) (λ zs. refl)
-    greatest-end refl (λ h. cc)
+greatest-matter height width = greatest-of (Block Max height width) (folding-block Max height width)
 
 pub greatest-of_layers_matter : CellsOfGreatestOfLayersMatter
-greatest-of_layers_matter =
-    extremes-matter (FoldLayers Max) Max int_max greatest_i64 (folding-layers Max) (λ zs. refl) greatest-end refl
-    (λ h. cc)
+greatest-of_layers_matter = greatest-of (FoldLayers Max) (folding-layers Max)

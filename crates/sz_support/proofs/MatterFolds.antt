@@ -23,6 +23,7 @@ use Rattle.sz_spec.specs.Lineage.{mapped, related}
 use Rattle.sz_spec.specs.Evaluation.{value_of, mapped_numbers}
 use Rattle.sz_spec.specs.Operators.Folds.{fold_of}
 use Rattle.sz_spec.specs.Supports.{supports}
+use Rattle.sz_spec.proofs.OutputValues.{total-from}
 use Rattle.sz_spec.proofs.PayloadLineage.{related-inputs, extent-of_site}
 use Rattle.sz_support.specs.Changes.{with_value, changed_at, IsSupported}
 use Rattle.sz_support.specs.LawsMatter.{EachMattersByPresence, EachMattersWhereNumber, CountedCellsMatter}
@@ -182,14 +183,6 @@ pub counts-of_layers_matter : CountedCellsOfLayersMatter
 counts-of_layers_matter = counted-matter (FoldLayers Count) (folding-layers Count)
 
 -- ---- sums
-
--- a total taken from a number on
-total-from : (a : ℤ) (zs : List ℤ) → fold (λ b z. b +ℤ z) a zs ≡ a +ℤ total zs
-total-from a [] = omega (arith, ints)
-total-from a (z ∷ zs) =
-    let rest = total-from (a +ℤ z) zs in
-    let first = total-from (pos 0 +ℤ z) zs in
-    omega (arith, ints)
 
 total-cons : (z : ℤ) (zs : List ℤ) → total (z ∷ zs) ≡ z +ℤ total zs
 total-cons z zs = let first = total-from (pos 0 +ℤ z) zs in omega (arith, ints)

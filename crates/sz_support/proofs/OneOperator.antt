@@ -13,9 +13,7 @@ use Rattle.sz_cells.specs.Cells.{is_same, any_cell}
 use Rattle.sz_cells.proofs.Sets.{cells_where-ext, any_cell-true, any_cell-from}
 use Rattle.sz_cells.proofs.Sets.{is_same-true, is_same-refl, is_same-from}
 use Rattle.sz_spec.specs.declared.op.Op.{Op}
-use Rattle.sz_spec.specs.declared.op.Op.TheVariants.{Neg, Abs, AddK, MulK, Clip, Add, Sub, Mul, Min}
-use Rattle.sz_spec.specs.declared.op.Op.TheVariants.{Max, Transpose, Slice, Convolve, Block, Lookup}
-use Rattle.sz_spec.specs.declared.op.Op.TheVariants.{Regions, Clean, FoldLayers}
+use Rattle.sz_spec.specs.declared.op.Op.TheVariants.{Regions}
 use Rattle.sz_spec.specs.Values.{Grid, value_at, input_at, extent_at}
 use Rattle.sz_spec.specs.Shapes.{Site, arity, shape_of}
 use Rattle.sz_spec.specs.Lineage.{related}
@@ -108,6 +106,19 @@ led-old e t o vs ws same c (d ∷ cells) x inside led =
     let high : is_high t a d ≡ true = high-agree t a b d (same d first.0 beside) ∙ first.1 in
     led-old e t o vs ws same d cells x (component-closed t a o c d inside first.0 high led.2) led.3
 
+-- the cell is high in both arrays, or in neither
+high-in_both : (e : Extent) (t : ℤ) (o : Cell) (vs ws : List (Option ℤ)) → holds e o ≡ true
+    → AgreeOn e (fixes t (sheet e vs) o) (sheet e vs) (sheet e ws)
+    → ((is_high t (sheet e vs) o ≡ true) × (is_high t (sheet e ws) o ≡ true))
+    ⊎ ((is_high t (sheet e vs) o ≡ false) × (is_high t (sheet e ws) o ≡ false))
+high-in_both e t o vs ws held same =
+    let a = sheet e vs in
+    let alike = high-agree t a (sheet e ws) o (same o held (fixes-own t a o held)) in
+    elim (cases_Bool (is_high t a o)) [
+      | inl high ↦ inl (high, sym alike ∙ high)
+      | inr low ↦ inr (low, sym alike ∙ low)
+    ]
+
 -- what fixes the cell in the old array agrees in the new one: then what the cell is related to in the new array
 -- fixes it in the old one
 joins-old : (e : Extent) (t : ℤ) (o x : Cell) (vs ws : List (Option ℤ)) → holds e o ≡ true
@@ -116,18 +127,14 @@ joins-old : (e : Extent) (t : ℤ) (o x : Cell) (vs ws : List (Option ℤ)) → 
 joins-old e t o x vs ws held same joined =
     let a = sheet e vs in
     let b = sheet e ws in
-    let alike : is_high t a o ≡ is_high t b o = high-agree t a b o (same o held (fixes-own t a o held)) in
-    elim (cases_Bool (is_high t a o)) [
+    elim (high-in_both e t o vs ws held same) [
       | inl high ↦
-          let high_b : is_high t b o ≡ true = sym alike ∙ high in
-          let inside : is_connected t b o x ≡ true = rw high_b at joined in
+          let inside : is_connected t b o x ≡ true = rw high.1 at joined in
           let near : AgreeOn e (is_of_or_beside t a o) a b =
-          λ y there beside. same y there (rw high beside) in
+          λ y there beside. same y there (rw high.0 beside) in
           let led = connected-led t b o x inside in
-          rw high (led-old e t o vs ws near o led.0 x (connected-self t a o held high) led.1)
-      | inr low ↦
-          let low_b : is_high t b o ≡ false = sym alike ∙ low in
-          rw low (rw low_b at joined)
+          rw high.0 (led-old e t o vs ws near o led.0 x (connected-self t a o held high.0) led.1)
+      | inr low ↦ rw low.0 (rw low.1 at joined)
     ]
 
 -- so the cells that fix it are one, where those to which it is related are
@@ -138,64 +145,28 @@ fixes-same : (e : Extent) (t : ℤ) (o : Cell) (vs ws : List (Option ℤ)) → h
 fixes-same e t o vs ws held same one x =
     let a = sheet e vs in
     let b = sheet e ws in
-    let alike : is_high t a o ≡ is_high t b o = high-agree t a b o (same o held (fixes-own t a o held)) in
-    elim (cases_Bool (is_high t a o)) [
+    elim (high-in_both e t o vs ws held same) [
       | inl high ↦
-          let high_b : is_high t b o ≡ true = sym alike ∙ high in
           let inner : (y : Cell) → is_connected t a o y ≡ is_connected t b o y =
-          λ y. rw (high, high_b) at (one y) in
+          λ y. rw (high.0, high.1) at (one y) in
           let component : component_of t a o ≡ component_of t b o =
           component-made t a o
           ∙ cells_where-ext e (is_connected t a o) (is_connected t b o) (λ y inside. inner y)
           ∙ sym (component-made t b o) in
-          rw (high, high_b) (ap (any_cell (λ c. is_same c x || are_neighbours e c x)) component)
-      | inr low ↦
-          let low_b : is_high t b o ≡ false = sym alike ∙ low in
-          rw (low, low_b) refl
+          rw (high.0, high.1) (ap (any_cell (λ c. is_same c x || are_neighbours e c x)) component)
+      | inr low ↦ rw (low.0, low.1) refl
     ]
 
 -- ---- operator by operator
 
 pub supports-related : RelationsSupport
-supports-related Neg inputs i o x h = refl
-supports-related Abs inputs i o x h = refl
-supports-related (AddK k) inputs i o x h = refl
-supports-related (MulK k) inputs i o x h = refl
-supports-related (Clip lo hi) inputs i o x h = refl
-supports-related Add inputs i o x h = refl
-supports-related Sub inputs i o x h = refl
-supports-related Mul inputs i o x h = refl
-supports-related Min inputs i o x h = refl
-supports-related Max inputs i o x h = refl
-supports-related Transpose inputs i o x h = refl
-supports-related (Slice r0 c0 height width) inputs i o x h = refl
-supports-related (Convolve kernel) inputs i o x h = refl
-supports-related (Block fold height width) inputs i o x h = refl
-supports-related Lookup inputs i o x h = refl
 supports-related (Regions t) inputs i o x h = (cc)
-supports-related (Clean t) inputs i o x h = refl
-supports-related (FoldLayers fold) inputs i o x h = refl
+supports-related _ inputs i o x h = refl
 
 -- an operator is regions or not
 regions-or_not : (op : Op) → ((t : ℤ) × (op ≡ Regions t)) ⊎ (is_regions op ≡ false)
-regions-or_not Neg = inr refl
-regions-or_not Abs = inr refl
-regions-or_not (AddK k) = inr refl
-regions-or_not (MulK k) = inr refl
-regions-or_not (Clip lo hi) = inr refl
-regions-or_not Add = inr refl
-regions-or_not Sub = inr refl
-regions-or_not Mul = inr refl
-regions-or_not Min = inr refl
-regions-or_not Max = inr refl
-regions-or_not Transpose = inr refl
-regions-or_not (Slice r0 c0 height width) = inr refl
-regions-or_not (Convolve kernel) = inr refl
-regions-or_not (Block fold height width) = inr refl
-regions-or_not Lookup = inr refl
 regions-or_not (Regions t) = inl (t, refl)
-regions-or_not (Clean t) = inr refl
-regions-or_not (FoldLayers fold) = inr refl
+regions-or_not _ = inr refl
 
 -- a related cell supports
 pub related-supports : RelatedCellsSupport

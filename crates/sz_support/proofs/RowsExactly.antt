@@ -106,17 +106,11 @@ abbrev product : Option ℤ → Option ℤ → Option ℤ
 product v w = value_of op.Mul (grid 1 1 (v ∷ []) ∷ grid 1 1 (w ∷ []) ∷ []) (cell 0 0)
 
 -- beside 0 a cell matters by being empty, and beside an empty one by nothing
-pub product-zero : product (n 3) (n 0) ≡ n 0
-product-zero = refl
+pub product-zero : (product (n 3) (n 0) ≡ n 0) × (product none (n 0) ≡ none)
+product-zero = (refl, refl)
 
-pub product-zero_emptied : product none (n 0) ≡ none
-product-zero_emptied = refl
-
-pub product-empty : product (n 3) none ≡ none
-product-empty = refl
-
-pub product-empty_emptied : product none none ≡ none
-product-empty_emptied = refl
+pub product-empty : (product (n 3) none ≡ none) × (product none none ≡ none)
+product-empty = (refl, refl)
 
 -- where the table holds a number, the cell that names an empty column matters, and where it holds none, it does not
 abbrev found : Option ℤ → Option ℤ → Option ℤ
@@ -232,11 +226,8 @@ clean-sound_alone = refl
 abbrev nearly : Option ℤ → Option ℤ
 nearly v = value_of (op.Clean (neg_ℤ (pos (2 ^ 63 - 1)))) (grid 1 2 (v ∷ least ∷ []) ∷ []) (cell 0 0)
 
-pub nearly-least : nearly least ≡ least
-nearly-least = refl
-
-pub nearly-hot : nearly (n 0) ≡ least
-nearly-hot = refl
+pub nearly-number : (nearly least ≡ least) × (nearly (n 0) ≡ least)
+nearly-number = (refl, refl)
 
 pub nearly-emptied : nearly none ≡ none
 nearly-emptied = refl
@@ -245,14 +236,8 @@ nearly-emptied = refl
 abbrev never : Option ℤ → Option ℤ → Option ℤ
 never v w = value_of (op.Clean (neg_ℤ (pos (2 ^ 63)))) (grid 1 2 (v ∷ w ∷ []) ∷ []) (cell 0 0)
 
-pub never-least : never least (n 1) ≡ none
-never-least = refl
-
-pub never-number : never (n 0) least ≡ none
-never-number = refl
-
-pub never-emptied : never none least ≡ none
-never-emptied = refl
+pub never-any : (never least (n 1) ≡ none) × (never (n 0) least ≡ none) × (never none least ≡ none)
+never-any = (refl, refl, refl)
 
 -- the laws at such rows: a cell beside the hot one, alone and with the least i64 on its other side
 abbrev clean_three : Option ℤ → Grid

@@ -2,13 +2,12 @@
 --
 -- The key idea: on written-out flows and arrays every definition is a computation. Expected values by hand. Sets are
 -- given by the row-major indexes of their cells.
-use Rattle.std.proofs.Common.{◌≡◌, ℕ, zero, suc, ℤ, pos, true, List, [], ◌∷◌, map, Option}
+use Rattle.std.proofs.Common.{◌≡◌, ℕ, zero, suc, ℤ, pos, List, [], ◌∷◌, map, Option}
 use Rattle.std.proofs.Common.{None, Bool, ◌==◌, refl, sym, ◌∙◌, arith, unwrap_or, eq-eqb}
 use Rattle.std.specs.List.{slice_get}
 use Rattle.std.proofs.lemmas.Bool.{and_from, true≢false}
-use Rattle.std.proofs.lemmas.List.Elements.{All-cons, All-nil}
 use Rattle.sz_cells.specs.declared.Cell.{Cell}
-use Rattle.sz_cells.specs.Extent.{flat, index_of, is_extent}
+use Rattle.sz_cells.specs.Extent.{flat, index_of}
 use Rattle.sz_cells.specs.Cells.{Cells, is_same}
 use Rattle.sz_spec.specs.declared.op.Op.TheVariants as op
 use Rattle.sz_spec.specs.declared.flow.SourceRef.TheVariants.{Input, Node as Output}
@@ -16,6 +15,7 @@ use Rattle.sz_spec.specs.Values.{Grid, value_at, input_at}
 use Rattle.sz_spec.specs.Flows.{Graph, evaluations}
 use Rattle.sz_spec.specs.LawsDependence.{CanRun}
 use Rattle.sz_spec.proofs.RowsArrays.{node, flow, n, grid, at, kernel}
+use Rattle.sz_spec.proofs.RowsDependence.{of-three}
 use Rattle.sz_support.specs.LawsSupports.{IsLedTo}
 use Rattle.sz_support.specs.Suspects.{suspects}
 use Rattle.sz_support.specs.LawsSuspects.{AgreeElsewhere, support_of}
@@ -128,12 +128,7 @@ abbrev after : List Grid
 after = grid 1 3 (n 8 ∷ n 0 ∷ n 9 ∷ []) ∷ []
 
 pub can-run : CanRun regions before
-can-run = record {
-  right = refl;
-  count = refl;
-  limits = All-cons (λ e. is_extent e ≡ true) (flat 1 3) [] refl (All-nil (λ e. is_extent e ≡ true));
-  fits = refl;
-}
+can-run = record { right = refl; count = refl; limits = of-three; fits = refl }
 
 abbrev the_first : Cell → Bool
 the_first c = is_same c (cell 0 0)

@@ -31,7 +31,7 @@ use Rattle.sz_spec.specs.Affected.{set_at, changed_of, changed_in, arrays_for}
 use Rattle.sz_spec.specs.Supports.{supports}
 use Rattle.sz_spec.specs.LawsDependence.{LeadsAlong, BeginsAt, EndsIn}
 use Rattle.sz_spec.proofs.Chains.{inputs-at, rest-joined}
-use Rattle.sz_spec.proofs.FlowOutputs.{well-formed_parts, slice_get-left, slice_get-seam, map-agree}
+use Rattle.sz_spec.proofs.FlowOutputs.{well-formed_parts, slice_get-seam, map-agree, standing-same}
 use Rattle.sz_spec.proofs.FlowDependence.{step, output-there, node-held, source-there, taken-at, earlier, joined-on}
 use Rattle.sz_spec.proofs.FlowDependence.{output-of_node, path-whole}
 use Rattle.sz_spec.proofs.FlowShapes.{each-at}
@@ -102,14 +102,6 @@ suspects-parts inputs base sets (y ∷ nodes) (suc k) x there =
     let rest = suspects-parts inputs base (sets ++ here ∷ []) nodes k x there in
     (rest.0, rest.1, omega (arith, rest.2, length-append sets (here ∷ [])), rest.3)
 
--- a source of a right node has the same set among all
-set-same : (base front more : List Cells) (inputs n : ℕ) (s : SourceRef) → length front ≡ n
-    → is_source inputs n s ≡ true → changed_in base front s ≡ changed_in base (front ++ more) s
-set-same base front more inputs n (source.Input i) long right = refl
-set-same base front more inputs n (source.Node m) long right =
-    let below : m < n = ltb-true m n right in
-    ap (λ (o : Option Cells). unwrap_or o (no_cells no_extent)) (sym (slice_get-left front more m (omega arith)))
-
 -- the suspects of a node are those of its operator over the sets of its sources
 suspects-at : (flow : Graph) (base : List Grid) (b n : ℕ) (set : Cells) (x : Node) → is_well_formed flow ≡ true
     → slice_get flow.nodes n ≡ Some x
@@ -128,7 +120,8 @@ suspects-at flow base b n set x well there =
     map-agree (changed_in first parts.0) (changed_in first (parts.0 ++ alone ∷ parts.1)) x.from
     (All-weaker (λ s. is_source flow.inputs n s ≡ true)
     (λ s. changed_in first parts.0 s ≡ changed_in first (parts.0 ++ alone ∷ parts.1) s)
-    (λ s one. set-same first parts.0 (alone ∷ parts.1) flow.inputs n s long one) x.from right.1) in
+    (λ s one. standing-same (no_cells no_extent) first parts.0 (alone ∷ parts.1) flow.inputs n s long one) x.from
+    right.1) in
     ap (λ (sets : List Cells). set_at sets n) whole
     ∙ ap (λ (o : Option Cells). unwrap_or o (no_cells no_extent)) (slice_get-seam parts.0 alone parts.1 n long)
     ∙ ap (λ (sets : List Cells). suspects_by x.op (arrays x) sets) sources

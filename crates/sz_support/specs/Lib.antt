@@ -4,3 +4,4 @@ pub mod LawsSuspects
 pub mod Changes
 pub mod LawsMatter
 pub mod LawsExactly
+mod Terms

@@ -19,38 +19,33 @@
 //! Were pixel 2 high, each label would be 1, though no lineage of the last one has pixel 2.
 #![tactic(auto)]
 
-ghost use Rattle.sz_support.specs.LawsSupports.{RelatedCellsSupport, RelationsSupport};
-ghost use Rattle.sz_support.specs.LawsSupports.{RegionsRestOnTheirRims, LowCellsRestOnThemselves};
-ghost use Rattle.sz_support.specs.LawsSupports.{ValuesDependOnSupportingCells};
-ghost use Rattle.sz_support.specs.LawsSupports.{SupportsDependOnSupportingCells};
-ghost use Rattle.sz_support.specs.LawsSupports.{ValuesDependOnCellsLedTo};
-ghost use Rattle.sz_support.specs.LawsSuspects.{SuspectsAreLedFrom, OtherCellsKeepTheirValues};
-ghost use Rattle.sz_support.specs.LawsSuspects.{SuspectsAreUnionsOfImages, SupportIsLedTo};
-ghost use Rattle.sz_support.specs.LawsSuspects.{ValuesDependOnSupport};
-ghost use Rattle.sz_support.specs.LawsMatter.{ChangedInputsDifferThere, NegatedCellsMatter};
-ghost use Rattle.sz_support.specs.LawsMatter.{CellsOfAbsMatter, CellsOfAddKMatter};
-ghost use Rattle.sz_support.specs.LawsMatter.{CellsOfMulKMatter, CellsOfMulKMatterByPresence};
-ghost use Rattle.sz_support.specs.LawsMatter.{CellsOfClipMatter, CellsOfClipMatterByPresence};
-ghost use Rattle.sz_support.specs.LawsMatter.{TransposedCellsMatter, SlicedCellsMatter};
-ghost use Rattle.sz_support.specs.LawsMatter.{CountedCellsMatter, CountedCellsOfLayersMatter};
-ghost use Rattle.sz_support.specs.LawsMatter.{SummedCellsMatter, SummedCellsOfLayersMatter};
-ghost use Rattle.sz_support.specs.LawsMatter.{ConvolvedCellsMatter, NumbersCanBeNumbers};
-ghost use Rattle.sz_support.specs.LawsMatter.{AddedCellsMatter, SubtractedCellsMatter};
-ghost use Rattle.sz_support.specs.LawsMatter.{MultipliedCellsMatter, LesserCellsMatter};
-ghost use Rattle.sz_support.specs.LawsMatter.{GreaterCellsMatter, MatchedCellsMatter};
-ghost use Rattle.sz_support.specs.LawsMatter.{MatchingCellsMatter, OwnCellsOfRegionsMatter};
-ghost use Rattle.sz_support.specs.LawsMatter.{RimCellsBeforeMatter};
-ghost use Rattle.sz_support.specs.LawsExactly.{CellsOfLeastMatter, CellsOfLeastOfLayersMatter};
-ghost use Rattle.sz_support.specs.LawsExactly.{CellsOfGreatestMatter};
-ghost use Rattle.sz_support.specs.LawsExactly.{CellsOfGreatestOfLayersMatter};
-ghost use Rattle.sz_support.specs.LawsExactly.{OwnCellsOfCleanMatter, CellsRoundHotOnesMatter};
-ghost use Rattle.sz_support.specs.LawsExactly.{SummedCellsMatterOnlyThere};
-ghost use Rattle.sz_support.specs.LawsExactly.{SummedCellsOfLayersMatterOnlyThere};
-ghost use Rattle.sz_support.specs.LawsExactly.{ConvolvedCellsMatterOnlyThere};
-ghost use Rattle.sz_support.specs.LawsExactly.{PairedCellsMatterOnlyThere, NamingCellsMatter};
-ghost use Rattle.sz_support.specs.LawsExactly.{MultipliedCellsMatterByPresence};
-ghost use Rattle.sz_support.specs.LawsExactly.{RegionsHaveFirstCells, InnerCellsOfRegionsMatter};
-ghost use Rattle.sz_support.specs.LawsExactly.{RimCellsOfRegionsMatter};
+ghost use Rattle.sz_support.specs.Terms.{RelatedCellsSupport, RelationsSupport};
+ghost use Rattle.sz_support.specs.Terms.{RegionsRestOnTheirRims, LowCellsRestOnThemselves};
+ghost use Rattle.sz_support.specs.Terms.{ValuesDependOnSupportingCells};
+ghost use Rattle.sz_support.specs.Terms.{SupportsDependOnSupportingCells, ValuesDependOnCellsLedTo};
+ghost use Rattle.sz_support.specs.Terms.{SuspectsAreLedFrom, OtherCellsKeepTheirValues};
+ghost use Rattle.sz_support.specs.Terms.{SuspectsAreUnionsOfImages, SupportIsLedTo};
+ghost use Rattle.sz_support.specs.Terms.{ValuesDependOnSupport, ChangedInputsDifferThere};
+ghost use Rattle.sz_support.specs.Terms.{NegatedCellsMatter, CellsOfAbsMatter, CellsOfAddKMatter};
+ghost use Rattle.sz_support.specs.Terms.{CellsOfMulKMatter, CellsOfMulKMatterByPresence};
+ghost use Rattle.sz_support.specs.Terms.{CellsOfClipMatter, CellsOfClipMatterByPresence};
+ghost use Rattle.sz_support.specs.Terms.{TransposedCellsMatter, SlicedCellsMatter};
+ghost use Rattle.sz_support.specs.Terms.{CountedCellsMatter, CountedCellsOfLayersMatter};
+ghost use Rattle.sz_support.specs.Terms.{SummedCellsMatter, SummedCellsOfLayersMatter};
+ghost use Rattle.sz_support.specs.Terms.{ConvolvedCellsMatter, NumbersCanBeNumbers};
+ghost use Rattle.sz_support.specs.Terms.{AddedCellsMatter, SubtractedCellsMatter};
+ghost use Rattle.sz_support.specs.Terms.{MultipliedCellsMatter, LesserCellsMatter};
+ghost use Rattle.sz_support.specs.Terms.{GreaterCellsMatter, MatchedCellsMatter};
+ghost use Rattle.sz_support.specs.Terms.{MatchingCellsMatter, OwnCellsOfRegionsMatter};
+ghost use Rattle.sz_support.specs.Terms.{RimCellsBeforeMatter, CellsOfLeastMatter};
+ghost use Rattle.sz_support.specs.Terms.{CellsOfLeastOfLayersMatter, CellsOfGreatestMatter};
+ghost use Rattle.sz_support.specs.Terms.{CellsOfGreatestOfLayersMatter, OwnCellsOfCleanMatter};
+ghost use Rattle.sz_support.specs.Terms.{CellsRoundHotOnesMatter, SummedCellsMatterOnlyThere};
+ghost use Rattle.sz_support.specs.Terms.{SummedCellsOfLayersMatterOnlyThere};
+ghost use Rattle.sz_support.specs.Terms.{ConvolvedCellsMatterOnlyThere, PairedCellsMatterOnlyThere};
+ghost use Rattle.sz_support.specs.Terms.{NamingCellsMatter, MultipliedCellsMatterByPresence};
+ghost use Rattle.sz_support.specs.Terms.{RegionsHaveFirstCells, InnerCellsOfRegionsMatter};
+ghost use Rattle.sz_support.specs.Terms.{RimCellsOfRegionsMatter};
 
 /// The cells to which an output cell is related support it, and no others but for regions: a cell
 /// of a region rests on the region and on the neighbours of the region's cells, and a cell that is

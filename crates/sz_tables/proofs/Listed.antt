@@ -120,8 +120,8 @@ is-read out bytes at first second next sets payloads rows capacities outs bodies
       each = each;
       sets_at = b;
       named =
-          zip-map (AreNamesOfRow outs bodies) (AreNamesOfEntry own listed) (entry_named sets.sets payloads.payloads) names
-          rows (row-names sets.sets own payloads.payloads listed outs bodies placed numbered) named;
+          zip-map (AreNamesOfRow outs bodies) (AreNamesOfEntry own listed) (entry_named sets.sets payloads.payloads)
+          names rows (row-names sets.sets own payloads.payloads listed outs bodies placed numbered) named;
       few = omega (arith, few, zip-length (AreNamesOfRow outs bodies) names rows named);
       names_at = c;
       payloads = each_listed;

@@ -14,3 +14,4 @@ pub mod Scans
 pub mod Sets
 pub mod Apart
 pub mod Checklists
+mod Terms

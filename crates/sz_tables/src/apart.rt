@@ -1,11 +1,8 @@
 //! Whether no cell is in two entries of a table. Only sets that are apart have together as many
 //! cells as each has by itself, so it is enough to count.
 
-ghost use Rattle.std.specs.Prelude.{◌≡◌, ◌≤◌, length, IfOk};
-ghost use Rattle.std.specs.List.{flat_map};
-ghost use Rattle.sz_cells.specs.Runs.{AreRunsFrom, indexes_of};
-ghost use Rattle.sz_region.specs.Stores.{SaysWhetherApart};
-ghost use Rattle.sz_tables.specs.Entries.{entries};
+ghost use Rattle.sz_tables.specs.Terms.{◌≡◌, ◌≤◌, length, IfOk, flat_map, AreRunsFrom, indexes_of};
+ghost use Rattle.sz_tables.specs.Terms.{SaysWhetherApart, entries};
 
 use crate::entry_table::EntryTable;
 use crate::looks::add_runs;

@@ -1,9 +1,8 @@
 //! Entries under keys, each entry linked to the one before it of the same key.
 
-ghost use Rattle.std.specs.Prelude.{◌≡◌, ◌<◌, ◌≤◌, ◌+◌, ◌-◌, ◌^◌, [], ◌∷◌, ◌++◌};
-ghost use Rattle.std.specs.Prelude.{length, map, max, OnOk, OnErr, IfOk, replicate, vec_capacity};
-ghost use Rattle.std.specs.List.{HoldsAt};
-ghost use Rattle.sz_tables.specs.Filed.{IsLastBelow, IsWidened, rest_under, told};
+ghost use Rattle.sz_tables.specs.Terms.{◌≡◌, ◌<◌, ◌≤◌, ◌+◌, ◌-◌, ◌^◌, [], ◌∷◌, ◌++◌, length, map};
+ghost use Rattle.sz_tables.specs.Terms.{max, OnOk, OnErr, IfOk, replicate, vec_capacity, HoldsAt};
+ghost use Rattle.sz_tables.specs.Terms.{IsLastBelow, IsWidened, rest_under, told};
 
 use std::alloc::Global;
 use std::marker::Model;

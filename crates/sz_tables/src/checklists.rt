@@ -2,15 +2,10 @@
 //! known by the numbers of its sets, so that none of them is looked at cell by cell. Several lists of
 //! one table can be ticked side by side, and are joined then.
 
-ghost use Rattle.std.specs.Prelude.{◌≡◌, ◌<◌, ◌≤◌, [], ◌∷◌, ◌++◌, length, map, true, Some};
-ghost use Rattle.std.specs.Prelude.{IsPermutation, IfOk, IfSome, OnOk};
-ghost use Rattle.std.specs.Arc.{arc_value};
-ghost use Rattle.std.specs.Bool.{Decides};
-ghost use Rattle.std.specs.List.{slice_get};
-ghost use Rattle.sz_tables.specs.Rows.{pairings, sets_of, set_at, row_at, number_in};
-ghost use Rattle.sz_tables.specs.Scans.{pairing_at};
-ghost use Rattle.sz_tables.specs.Entries.{entries, entry_named};
-ghost use Rattle.sz_tables.specs.Checklists.{pair_named};
+ghost use Rattle.sz_tables.specs.Terms.{◌≡◌, ◌<◌, ◌≤◌, [], ◌∷◌, ◌++◌, length, map, true, Some};
+ghost use Rattle.sz_tables.specs.Terms.{IsPermutation, IfOk, IfSome, OnOk, arc_value, Decides};
+ghost use Rattle.sz_tables.specs.Terms.{slice_get, pairings, sets_of, set_at, row_at, number_in};
+ghost use Rattle.sz_tables.specs.Terms.{pairing_at, entries, entry_named, pair_named};
 
 use crate::entry_table::{EntryRow, EntryTable};
 use crate::region_table::RegionTable;

@@ -3,19 +3,14 @@
 //! more sets or payloads are listed than entries, these are kept one by one until it is known which
 //! of them are named.
 
-ghost use Rattle.std.specs.Prelude.{◌≡◌, ◌<◌, ◌≤◌, ◌+◌, ◌^◌, [], ℕ, List, true, length, All, OnOk};
-ghost use Rattle.std.specs.Prelude.{IfOk, IfErr, IfSome, IfNone, Some};
-ghost use Rattle.std.specs.List.{AllZip, flat_map, slice_get};
-ghost use Rattle.sz_cells.specs.Cells.{Cells};
-ghost use Rattle.sz_cells.specs.Extent.{is_extent};
-ghost use Rattle.sz_cells.specs.SetBytes.{four_bytes, set_bytes, IsSetOf};
-ghost use Rattle.sz_region.specs.Counted.{counted, rows_bytes, IsAt};
-ghost use Rattle.sz_region.specs.PayBytes.{BeginsEntries, IsShort, payload_bytes};
-ghost use Rattle.sz_region.specs.Stores.{OnBad, NoEntriesBegin, SaysNoEntries, NoneAt, AreFew};
-ghost use Rattle.sz_region.specs.Stores.{IsNumberIn, AreEntryNames, AreEntriesNames};
-ghost use Rattle.sz_tables.specs.Entries.{entries};
-ghost use Rattle.sz_tables.specs.Listed.{AreNamesOfRow, BeginsTable, HasNumber, IsOneOf, IsRead};
-ghost use Rattle.sz_tables.specs.Tables.{HasAtMostOneMore};
+ghost use Rattle.sz_tables.specs.Terms.{◌≡◌, ◌<◌, ◌≤◌, ◌+◌, ◌^◌, [], ℕ, List, true, length, All};
+ghost use Rattle.sz_tables.specs.Terms.{OnOk, IfOk, IfErr, IfSome, IfNone, Some, AllZip, flat_map};
+ghost use Rattle.sz_tables.specs.Terms.{slice_get, Cells, is_extent, four_bytes, set_bytes};
+ghost use Rattle.sz_tables.specs.Terms.{IsSetOf, counted, rows_bytes, IsAt, BeginsEntries, IsShort};
+ghost use Rattle.sz_tables.specs.Terms.{payload_bytes, OnBad, NoEntriesBegin, SaysNoEntries};
+ghost use Rattle.sz_tables.specs.Terms.{NoneAt, AreFew, IsNumberIn, AreEntryNames, AreEntriesNames};
+ghost use Rattle.sz_tables.specs.Terms.{entries, AreNamesOfRow, BeginsTable, HasNumber, IsOneOf};
+ghost use Rattle.sz_tables.specs.Terms.{IsRead, HasAtMostOneMore};
 
 use crate::apart::are_apart;
 use crate::entry_table::{EntryRow, EntryTable};

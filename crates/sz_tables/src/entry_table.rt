@@ -1,22 +1,13 @@
 //! Payload entries as rows of the numbers of their output sets and payloads.
 
-ghost use Rattle.std.specs.Prelude.{◌≡◌, ◌<◌, ◌≤◌, ◌+◌, ◌∷◌, ◌++◌, [], length, max, OnOk, OnErr};
-ghost use Rattle.std.specs.Prelude.{IfOk, IfSome, All, ℕ, List, flat_map, map};
-ghost use Rattle.std.specs.Arc.{arc_value};
-ghost use Rattle.sz_cells.specs.Cells.{Cells};
-ghost use Rattle.sz_cells.specs.Runs.{runs_of};
-ghost use Rattle.sz_cells.specs.SetBytes.{IsSetOf};
-ghost use Rattle.sz_frame.specs.Fits.{AreApart};
-ghost use Rattle.sz_region.specs.PayBytes.{IsShort, IsPayWord};
-ghost use Rattle.sz_tables.specs.Tables.{AreDifferent, HasAtMostOneMore};
-ghost use Rattle.sz_tables.specs.Rows.{set_at, runs_in};
-ghost use Rattle.sz_tables.specs.Payloads.{payload_at};
-ghost use Rattle.sz_tables.specs.Stores.{most_given};
-ghost use Rattle.sz_tables.specs.Entries.{entries, entry_at, entry_row_at, no_rows, numbers_of};
-ghost use Rattle.sz_tables.specs.Entries.{entry_named};
-ghost use Rattle.sz_tables.specs.Entries.{NamesBoth, KeepsEntries, table_with};
-ghost use Rattle.sz_tables.specs.Listed.{IsOneOf};
-ghost use Rattle.sz_tables.specs.Sets.{IsRound};
+ghost use Rattle.sz_tables.specs.Terms.{◌≡◌, ◌<◌, ◌≤◌, ◌+◌, ◌∷◌, ◌++◌, [], length, max, OnOk};
+ghost use Rattle.sz_tables.specs.Terms.{OnErr, IfOk, IfSome, All, ℕ, List, map, arc_value, Cells};
+ghost use Rattle.sz_tables.specs.Terms.{runs_of, IsSetOf, AreApart, IsShort, IsPayWord};
+ghost use Rattle.sz_tables.specs.Terms.{AreDifferent, HasAtMostOneMore, set_at, runs_in};
+ghost use Rattle.sz_tables.specs.Terms.{payload_at, most_given, entries, entry_at, entry_row_at};
+ghost use Rattle.sz_tables.specs.Terms.{no_rows, numbers_of, entry_named, NamesBoth, KeepsEntries};
+ghost use Rattle.sz_tables.specs.Terms.{table_with, IsOneOf, IsRound};
+ghost use Rattle.std.specs.Prelude.{flat_map};
 
 use crate::payload_table::PayloadTable;
 use crate::region_table::{bounds_in, list_sets};

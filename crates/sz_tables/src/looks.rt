@@ -1,14 +1,8 @@
 //! Sets of a table as cells of bitmaps: adding one, and whether one has an asked cell.
 
-ghost use Rattle.std.specs.Prelude.{◌≡◌, ◌<◌, ◌≤◌, length};
-ghost use Rattle.std.specs.List.{list_any};
-ghost use Rattle.sz_cells.specs.Cells.{any_cell, has, next_index, union_of, with_those};
-ghost use Rattle.sz_cells.specs.Extent.{size_of};
-ghost use Rattle.sz_cells.specs.Rising.{AreRising};
-ghost use Rattle.sz_cells.specs.Runs.{AreRunsFrom, covers, is_in};
-ghost use Rattle.sz_cells.specs.Words.{cells_at};
-ghost use Rattle.sz_spec.specs.Values.{extent_at};
-ghost use Rattle.sz_tables.specs.Rows.{set_at, sets_of};
+ghost use Rattle.sz_tables.specs.Terms.{◌≡◌, ◌<◌, ◌≤◌, length, list_any, any_cell, has, next_index};
+ghost use Rattle.sz_tables.specs.Terms.{union_of, with_those, size_of, AreRising, AreRunsFrom};
+ghost use Rattle.sz_tables.specs.Terms.{covers, is_in, cells_at, extent_at, set_at, sets_of};
 
 use crate::region_table::RegionTable;
 use sz_cells::{CellBits, Run};

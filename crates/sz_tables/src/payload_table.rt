@@ -1,12 +1,10 @@
 //! Payloads by number, each different one once.
 
-ghost use Rattle.std.specs.Prelude.{◌≡◌, ◌<◌, ◌≤◌, ◌+◌, ◌-◌, ◌^◌, [], ◌∷◌, ◌++◌};
-ghost use Rattle.std.specs.Prelude.{ℕ, ◌≢◌, MatchOption, vec_len, vec_capacity};
-ghost use Rattle.std.specs.Bool.{Decides};
-ghost use Rattle.std.specs.Prelude.{length, fold, max, OnOk, OnErr, IfOk, Some};
-ghost use Rattle.std.specs.List.{slice_get};
-ghost use Rattle.sz_tables.specs.Tables.{AreDifferent, HasAtMostOneMore, first_capacities};
-ghost use Rattle.sz_tables.specs.Payloads.{payload_at, payload_mix, mixed_byte};
+ghost use Rattle.sz_tables.specs.Terms.{◌≡◌, ◌<◌, ◌≤◌, ◌+◌, ◌-◌, ◌^◌, [], ◌∷◌, ◌++◌, ℕ, ◌≢◌};
+ghost use Rattle.sz_tables.specs.Terms.{MatchOption, vec_len, vec_capacity, Decides, length, fold};
+ghost use Rattle.sz_tables.specs.Terms.{max, OnOk, OnErr, IfOk, Some, slice_get, AreDifferent};
+ghost use Rattle.sz_tables.specs.Terms.{HasAtMostOneMore, first_capacities, payload_at};
+ghost use Rattle.sz_tables.specs.Terms.{payload_mix, mixed_byte};
 
 use crate::chains::Chains;
 use crate::spans::Span;

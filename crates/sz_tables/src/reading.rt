@@ -2,20 +2,15 @@
 //! and a region pair is a row of the numbers that its sets have there. Only where more sets are
 //! listed than region pairs, the sets are kept until it is known which of them are named.
 
-ghost use Rattle.std.specs.Prelude.{◌≡◌, ◌<◌, ◌≤◌, ◌+◌, ◌*◌, ◌^◌, ◌++◌, ◌∷◌, [], ℕ, List, true};
-ghost use Rattle.std.specs.Prelude.{length, map, All, OnOk, IfOk, IfErr, IfSome, Some};
-ghost use Rattle.std.specs.List.{AllZip, flat_map, slice_get};
-ghost use Rattle.sz_cells.specs.Extent.{is_extent, size_of};
-ghost use Rattle.sz_cells.specs.Runs.{AreRunsFrom};
-ghost use Rattle.sz_cells.specs.SetBytes.{four_bytes};
-ghost use Rattle.sz_spec.specs.Values.{extent_at};
-ghost use Rattle.sz_region.specs.Counted.{counted, rows_bytes, IsAt};
-ghost use Rattle.sz_region.specs.FullBytes.{Listed, IsListed, listed_bytes, BeginsRegions};
-ghost use Rattle.sz_region.specs.Stores.{OnBad, NoRegionsBegin, SaysNoRegions, NoneAt, AreFew};
-ghost use Rattle.sz_region.specs.Stores.{IsNameFor, ArePairNames, AreStoreNames};
-ghost use Rattle.sz_tables.specs.Tables.{HasAtMostOneMore, spelled};
-ghost use Rattle.sz_tables.specs.Rows.{Row, pairings, rows_of};
-ghost use Rattle.sz_tables.specs.Placing.{IsPlaced, IsOfArray, Gets, IsRowNamed, place_for};
+ghost use Rattle.sz_tables.specs.Terms.{◌≡◌, ◌<◌, ◌≤◌, ◌+◌, ◌*◌, ◌^◌, ◌++◌, ◌∷◌, [], ℕ, List, true};
+ghost use Rattle.sz_tables.specs.Terms.{length, map, All, OnOk, IfOk, IfErr, IfSome, Some, AllZip};
+ghost use Rattle.sz_tables.specs.Terms.{flat_map, slice_get, is_extent, size_of, AreRunsFrom};
+ghost use Rattle.sz_tables.specs.Terms.{four_bytes, extent_at, counted, rows_bytes, IsAt, Listed};
+ghost use Rattle.sz_tables.specs.Terms.{IsListed, listed_bytes, BeginsRegions, OnBad};
+ghost use Rattle.sz_tables.specs.Terms.{NoRegionsBegin, SaysNoRegions, NoneAt, AreFew, IsNameFor};
+ghost use Rattle.sz_tables.specs.Terms.{ArePairNames, AreStoreNames, HasAtMostOneMore, spelled};
+ghost use Rattle.sz_tables.specs.Terms.{Row, pairings, rows_of, IsPlaced, IsOfArray, Gets};
+ghost use Rattle.sz_tables.specs.Terms.{IsRowNamed, place_for};
 
 use crate::region_table::{RegionTable, tables_for};
 use crate::room::make_room;

@@ -1,27 +1,17 @@
 //! Region pairs as rows of the numbers of their sets.
 
-ghost use Rattle.std.specs.Prelude.{◌≡◌, ◌<◌, ◌≤◌, ◌+◌, ◌-◌, ◌^◌, [], ◌∷◌, ◌++◌};
-ghost use Rattle.std.specs.Prelude.{length, map, max, OnOk, OnErr, IfOk, Some, All, ℕ, take, drop};
-ghost use Rattle.std.specs.Prelude.{sum_by, vec_len, vec_capacity, ◌*◌, List, slice_index_or};
-ghost use Rattle.std.specs.Prelude.{flat_map, IfSome, MatchOption, ◌≢◌, true};
-ghost use Rattle.std.specs.List.{range_with_len, slice_get};
-ghost use Rattle.std.specs.Arc.{arc_value};
-ghost use Rattle.sz_cells.specs.Runs.{runs_of};
-ghost use Rattle.sz_spec.specs.Values.{extent_at};
-ghost use Rattle.sz_cells.specs.SetBytes.{IsSetOf};
-ghost use Rattle.sz_tables.specs.Rows.{pairings, weight_of, empty_rows, Keeps, IsRowOf};
-ghost use Rattle.sz_tables.specs.Rows.{row_at, number_in, rows_of, table_of};
-ghost use Rattle.sz_tables.specs.Stores.{most_given};
-ghost use Rattle.sz_tables.specs.Rows.{set_at, sets_of, empty_sets, runs_in, HasRoomFor};
-ghost use Rattle.sz_tables.specs.Rows.{Takes, TakeEach};
-ghost use Rattle.sz_tables.specs.Scans.{pairing_at};
-ghost use Rattle.sz_tables.specs.Sets.{IsRound};
-ghost use Rattle.sz_tables.specs.Tables.{AreDifferent, HasAtMostOneMore};
-ghost use Rattle.sz_tables.specs.Apart.{IsOneOrApart, AreOneOrApart};
-ghost use Rattle.sz_frame.specs.Stands.{set_of};
-ghost use Rattle.sz_tables.specs.Listing.{listed_as, numbers_at, shifted, AreSetsOf, AreListed};
-ghost use Rattle.sz_region.specs.FullBytes.{Listed, IsFullWord};
-ghost use Rattle.sz_region.specs.Putting.{HasShapes};
+ghost use Rattle.sz_tables.specs.Terms.{◌≡◌, ◌<◌, ◌≤◌, ◌+◌, ◌-◌, ◌^◌, [], ◌∷◌, ◌++◌, length, map};
+ghost use Rattle.sz_tables.specs.Terms.{max, OnOk, OnErr, IfOk, Some, All, ℕ, take, drop, sum_by};
+ghost use Rattle.sz_tables.specs.Terms.{vec_len, vec_capacity, ◌*◌, List, slice_index_or, IfSome};
+ghost use Rattle.sz_tables.specs.Terms.{MatchOption, ◌≢◌, true, range_with_len, slice_get};
+ghost use Rattle.sz_tables.specs.Terms.{arc_value, runs_of, extent_at, IsSetOf, pairings};
+ghost use Rattle.sz_tables.specs.Terms.{weight_of, empty_rows, Keeps, IsRowOf, row_at, number_in};
+ghost use Rattle.sz_tables.specs.Terms.{rows_of, table_of, most_given, set_at, sets_of, empty_sets};
+ghost use Rattle.sz_tables.specs.Terms.{runs_in, HasRoomFor, Takes, TakeEach, pairing_at, IsRound};
+ghost use Rattle.sz_tables.specs.Terms.{AreDifferent, HasAtMostOneMore, IsOneOrApart};
+ghost use Rattle.sz_tables.specs.Terms.{AreOneOrApart, set_of, listed_as, numbers_at, shifted};
+ghost use Rattle.sz_tables.specs.Terms.{AreSetsOf, AreListed, Listed, IsFullWord, HasShapes};
+ghost use Rattle.std.specs.Prelude.{flat_map};
 
 use crate::set_table::SetTable;
 use crate::sets::{bounds_of_runs, runs_of_region};

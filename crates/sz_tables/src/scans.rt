@@ -4,15 +4,11 @@
 //! Rows that follow one another mostly share sets. So a look keeps what its last row showed
 //! ([`Seen`]), and a set is not tested again, nor added again, right after it was.
 
-ghost use Rattle.std.specs.Prelude.{◌≡◌, ◌<◌, length, true, Some, None, IfSome};
-ghost use Rattle.sz_cells.specs.Extent.{holds};
-ghost use Rattle.sz_cells.specs.declared.Cell.{Cell};
-ghost use Rattle.sz_cells.specs.Cells.{any_cell, has, with_those};
-ghost use Rattle.sz_spec.specs.Sides.{extent_before, extent_after, image_between};
-ghost use Rattle.sz_frame.specs.Stands.{full_stands};
-ghost use Rattle.sz_tables.specs.Rows.{pairings, row_at, set_at};
-ghost use Rattle.sz_tables.specs.Scans.{near_sets, far_sets, near_number, far_number};
-ghost use Rattle.sz_tables.specs.Scans.{pair_adds, pairing_at, HasSeen};
+ghost use Rattle.sz_tables.specs.Terms.{◌≡◌, ◌<◌, length, true, Some, None, IfSome, holds, Cell};
+ghost use Rattle.sz_tables.specs.Terms.{any_cell, has, with_those, extent_before, extent_after};
+ghost use Rattle.sz_tables.specs.Terms.{image_between, full_stands, pairings, row_at, set_at};
+ghost use Rattle.sz_tables.specs.Terms.{near_sets, far_sets, near_number, far_number, pair_adds};
+ghost use Rattle.sz_tables.specs.Terms.{pairing_at, HasSeen};
 
 use crate::region_table::RegionTable;
 use sz_cells::CellBits;

@@ -1,16 +1,11 @@
 //! Sets of cells of one shape by number, each different set once.
 
-ghost use Rattle.std.specs.Prelude.{◌≡◌, ◌<◌, ◌≤◌, ◌+◌, ◌-◌, ◌^◌, [], ◌∷◌, ◌++◌};
-ghost use Rattle.std.specs.Prelude.{ℕ, ◌≢◌, MatchOption, vec_len, vec_capacity};
-ghost use Rattle.std.specs.Bool.{Decides};
-ghost use Rattle.std.specs.Prelude.{length, fold, max, OnOk, OnErr, IfOk, Some, true, All};
-ghost use Rattle.std.specs.List.{slice_get};
-ghost use Rattle.sz_cells.specs.Runs.{runs_of, AreRunsFrom, Spells};
-ghost use Rattle.sz_cells.specs.Extent.{size_of};
-ghost use Rattle.sz_tables.specs.Tables.{AreDifferent, HasAtMostOneMore};
-ghost use Rattle.sz_tables.specs.Tables.{spelled, first_of, mix_of, mixed};
-ghost use Rattle.sz_tables.specs.Rows.{set_at, runs_in, empty_sets};
-ghost use Rattle.sz_tables.specs.Apart.{IsOneOrApart};
+ghost use Rattle.sz_tables.specs.Terms.{◌≡◌, ◌<◌, ◌≤◌, ◌+◌, ◌-◌, ◌^◌, [], ◌∷◌, ◌++◌, ℕ, ◌≢◌};
+ghost use Rattle.sz_tables.specs.Terms.{MatchOption, vec_len, vec_capacity, Decides, length, fold};
+ghost use Rattle.sz_tables.specs.Terms.{max, OnOk, OnErr, IfOk, Some, true, All, slice_get};
+ghost use Rattle.sz_tables.specs.Terms.{runs_of, AreRunsFrom, Spells, size_of, AreDifferent};
+ghost use Rattle.sz_tables.specs.Terms.{HasAtMostOneMore, spelled, first_of, mix_of, mixed, set_at};
+ghost use Rattle.sz_tables.specs.Terms.{runs_in, empty_sets, IsOneOrApart};
 
 use crate::chains::Chains;
 use crate::spans::Span;

@@ -1,12 +1,8 @@
 //! What a store asks of a set before it keeps it.
 
-ghost use Rattle.std.specs.Prelude.{◌≡◌, ◌<◌, ◌≤◌, ◌+◌, ◌*◌, length, sum_by};
-ghost use Rattle.sz_cells.specs.Extent.{size_of};
-ghost use Rattle.sz_cells.specs.Runs.{AreRunsFrom};
-ghost use Rattle.sz_tables.specs.Rows.{runs_in, weight_of};
-ghost use Rattle.sz_tables.specs.Stores.{cells_in};
-ghost use Rattle.sz_tables.specs.Sets.{IsRound};
-ghost use Rattle.sz_tables.specs.Tables.{spelled};
+ghost use Rattle.sz_tables.specs.Terms.{◌≡◌, ◌<◌, ◌≤◌, ◌+◌, ◌*◌, length, sum_by, size_of};
+ghost use Rattle.sz_tables.specs.Terms.{AreRunsFrom, runs_in, weight_of, cells_in, IsRound};
+ghost use Rattle.sz_tables.specs.Terms.{spelled};
 
 use sz_cells::{Bounds, CellSet, Run, Shape, bounds_with_run};
 use sz_frame::Region;

@@ -20,6 +20,7 @@ use Rattle.sz_catalogue.specs.Rules.{judged, has_no_version, version_of}
 use Rattle.sz_catalogue.specs.Changes.{accepted, with_version, with_await, changes_no_version}
 use Rattle.sz_recover.specs.Logs.{Kept}
 use Rattle.sz_recover.specs.Opened.{entries_under, versions_under, AreOfVersions}
+use Rattle.sz_recover.proofs.Entries.{held-new}
 use Rattle.sz_versions.specs.Runs.{AreSound}
 use Rattle.sz_versions.specs.Stores.{Trail, IsTrailOf}
 use Rattle.sz_versions.specs.Residents.{Resident, stores_read, IsTrailBy, IsResident, residents_under}
@@ -27,7 +28,7 @@ use Rattle.sz_versions.specs.Residents.{AreResidents, AskedWereAwaited, IsInServ
 use Rattle.sz_versions.specs.Residents.{logged_under, logged_of}
 use Rattle.sz_versions.specs.Residents.{Stored, stored_in, replaced_in, IsStill, AreStill}
 use Rattle.sz_versions.proofs.Keeps.{can-start, keeps-start, keeps-awaited}
-use Rattle.sz_versions.proofs.Stays.{SameStay, accepted-stay, awaited-stay, insert-here, insert-other, started-new}
+use Rattle.sz_versions.proofs.Stays.{SameStay, accepted-stay, awaited-stay, insert-other, started-new}
 use Rattle.sz_versions.proofs.Stays.{await-here, await-other, find-passes, found-all, is-equal}
 use Rattle.sz_versions.proofs.Asked.{asked-accepted, asked-more, asked-awaited}
 use Rattle.sz_versions.proofs.Still.{trail-same, by-still, stores-still, stored-still}
@@ -377,7 +378,7 @@ service-more c rs v t k sound own =
         each = All-append (IsResident d) rs (new ∷ [])
             (All-weaker (IsResident c) (IsResident d) stays rs k.residents.each)
             (All-cons (IsResident d) new []
-            (resident-new d n v t (insert-here c.versions n v) own) (All-nil (IsResident d)));
+            (resident-new d n v t (held-new c.versions n v) own) (All-nil (IsResident d)));
         once = λ m. count m (n == m) refl;
       };
     } where
@@ -402,7 +403,7 @@ service-more c rs v t k sound own =
           ∙ ap (λ (b : Bool). if b then 0 else 1) (ap (has_no_version c) (sym same) ∙ started-new c) in
           let there : versions_under (with_version c n v) m ≡ 1 =
           subst (λ (q : ℕ). versions_under (with_version c n v) q ≡ 1) same
-          (ap (λ (o : Option Version). if is_none o then 0 else 1) (insert-here c.versions n v)) in
+          (ap (λ (o : Option Version). if is_none o then 0 else 1) (held-new c.versions n v)) in
           let step : weight (n == m) ≡ 1 = ap weight is in
           omega (arith, under-more m rs new, no, there, step)
       count m false is =

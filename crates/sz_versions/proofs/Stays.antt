@@ -7,7 +7,7 @@ use Rattle.std.proofs.Common.{sym, ap, ◌∙◌, ◌++◌}
 use Rattle.std.proofs.lemmas.Bool.Decides.{nat_tests}
 use Rattle.std.proofs.Common.{true≢false, subst, arith, Option, Some, None, cond, eqb-true}
 use Rattle.std.specs.Prelude.{All, ◌==◌, is_none, find, nat_lt, if◌then◌else◌}
-use Rattle.std.specs.Ordering.{nat_cmp, is_eq, match_ordering}
+use Rattle.std.specs.Ordering.{nat_cmp, is_eq}
 use Rattle.std.proofs.Common.{Ordering, Less, Equal, Greater}
 use Rattle.std.specs.Cmp.{nat_cmp_is}
 use Rattle.std.specs.Map.{lookup, set_value, values_of}
@@ -21,6 +21,7 @@ use Rattle.sz_catalogue.specs.Changes as changes
 use Rattle.sz_catalogue.specs.Changes.{with_await, changes_no_version}
 use Rattle.sz_catalogue.proofs.Numbers.{next-is_new}
 use Rattle.sz_catalogue.specs.Order.{IsInOrder, IsVersionIn}
+use Rattle.sz_recover.proofs.Entries.{held-old}
 use Rattle.sz_versions.specs.Runs.{AreSound, IsSoundVersion}
 use Rattle.sz_versions.proofs.Keeps.{version-found}
 
@@ -138,30 +139,10 @@ is-other q n differ = at (is_eq (nat_cmp q n)) refl where
 -- under another number is found what was
 pub insert-other : (es : List (ℕ × Version)) (n q : ℕ) (v : Version) → (q ≡ n → ⊥)
     → lookup (is_at (nat_cmp q)) (insert_entry nat_cmp es n v) ≡ lookup (is_at (nat_cmp q)) es
-insert-other [] n q v differ = rw (is-other q n differ) refl
-insert-other (e ∷ es) n q v differ = step (nat_cmp n e.0) refl (insert-other es n q v differ) where
-  step : (o : Ordering) → nat_cmp n e.0 ≡ o
-      → lookup (is_at (nat_cmp q)) (insert_entry nat_cmp es n v) ≡ lookup (is_at (nat_cmp q)) es
-      → lookup (is_at (nat_cmp q)) (match_ordering o ((n, v) ∷ e ∷ es) ((e.0, v) ∷ es)
-      (e ∷ insert_entry nat_cmp es n v)) ≡ lookup (is_at (nat_cmp q)) (e ∷ es)
-  step Less is rest = rw (is-other q n differ) refl
-  step Equal is rest =
-      let same : n ≡ e.0 = tied n e.0 (ap is_eq is) in
-      let other : is_eq (nat_cmp q e.0) ≡ false = is-other q e.0 (λ h. differ (h ∙ sym same)) in rw other refl
-  step Greater is rest = ap (λ (o : Option Version). cond (is_eq (nat_cmp q e.0)) (Some e.1) o) rest
-
--- and under its own the one that is put in
-pub insert-here : (es : List (ℕ × Version)) (n : ℕ) (v : Version)
-    → lookup (is_at (nat_cmp n)) (insert_entry nat_cmp es n v) ≡ Some v
-insert-here [] n v = rw (is-self n) refl
-insert-here (e ∷ es) n v = step (nat_cmp n e.0) refl (insert-here es n v) where
-  step : (o : Ordering) → nat_cmp n e.0 ≡ o
-      → lookup (is_at (nat_cmp n)) (insert_entry nat_cmp es n v) ≡ Some v
-      → lookup (is_at (nat_cmp n)) (match_ordering o ((n, v) ∷ e ∷ es) ((e.0, v) ∷ es)
-      (e ∷ insert_entry nat_cmp es n v)) ≡ Some v
-  step Less is rest = rw (is-self n) refl
-  step Equal is rest = rw is refl
-  step Greater is rest = rw is rest
+insert-other es n q v differ = held-old es n q v (at (n == q) refl) where
+  at : (b : Bool) → (n == q) ≡ b → (n == q) ≡ false
+  at true is = absurd (differ (sym (eqb-true n q is)))
+  at false is = is
 
 -- a version that is started has a number that is new
 pub started-new : (c : Holdings) → has_no_version c (next_number c) ≡ true

@@ -11,3 +11,4 @@ pub mod Inquiries
 pub mod Residents
 pub mod Merging
 pub mod Bodies
+mod Terms

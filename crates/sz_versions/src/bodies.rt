@@ -1,12 +1,8 @@
 //! The body that a log gets of a version, once that is awaited.
 
-ghost use Rattle.std.specs.Prelude.{◌≡◌, map, true, false, IfOk, option_map};
-ghost use Rattle.std.specs.Arc.{arc_value};
-ghost use Rattle.sz_catalogue.specs.Rules.{has_no_version, version_of};
-ghost use Rattle.sz_formats.specs.Formats.{is_format};
-ghost use Rattle.sz_bodies.specs.Fitting.{lineages};
-ghost use Rattle.sz_versions.specs.Bodies.{IsSoundBody, store_in};
-ghost use Rattle.sz_versions.specs.Stores.{IsTrailOf, keeping_of};
+ghost use Rattle.sz_versions.specs.Terms.{◌≡◌, map, true, false, IfOk, option_map, arc_value};
+ghost use Rattle.sz_versions.specs.Terms.{has_no_version, version_of, is_format, lineages};
+ghost use Rattle.sz_versions.specs.Terms.{IsSoundBody, store_in, IsTrailOf, keeping_of};
 
 use crate::runs::{NodeKeeping, VersionRun};
 use std::alloc::Global;

@@ -2,16 +2,11 @@
 //! strategy that keeps one has a shelf, on which workers may place what they make; and at its await
 //! what is missing is made, and the stores are shared off it. Nothing else in this crate says when.
 
-ghost use Rattle.std.specs.Prelude.{◌≡◌, true, false, map, IfOk};
-ghost use Rattle.std.specs.List.{list_all};
-ghost use Rattle.sz_spec.specs.Modes.{supports};
-ghost use Rattle.sz_flow.specs.Executions.{execution_of};
-ghost use Rattle.sz_shelf.specs.Places.{ShelfPlace};
-ghost use Rattle.sz_shelf.specs.Passes.{place_of};
-ghost use Rattle.std.specs.Arc.{arc_value};
-ghost use Rattle.sz_versions.specs.Stores.{IsKeptOf, AreKeptOf, AreListed, AreStoresFor};
-ghost use Rattle.sz_versions.specs.Stores.{has_stored, keeping_of, IsShelfFor};
-ghost use Rattle.sz_versions.specs.Lending.{IsKeptStill, AreKeptStill, IsTrailStill};
+ghost use Rattle.sz_versions.specs.Terms.{◌≡◌, true, false, map, IfOk, list_all, supports};
+ghost use Rattle.sz_versions.specs.Terms.{execution_of, ShelfPlace, place_of, arc_value, IsKeptOf};
+ghost use Rattle.sz_versions.specs.Terms.{AreKeptOf, AreListed, AreStoresFor, has_stored};
+ghost use Rattle.sz_versions.specs.Terms.{keeping_of, IsShelfFor, IsKeptStill, AreKeptStill};
+ghost use Rattle.sz_versions.specs.Terms.{IsTrailStill};
 
 use crate::built::Built;
 use crate::runs::{NodeKeeping, VersionRun};
@@ -148,13 +143,9 @@ fn whole_stores<R: Wait>(
 {
     let mut stores = Vec::with_capacity(alloc, runs.len())?;
     for node in 0..runs.len() {
-        stores.push(end(
-            alloc,
-            rt,
-            &runs[node],
-            lists[node].as_slice(),
-            &mut begun[node],
-        )?)?;
+        let run = &runs[node];
+        let list = lists[node].as_slice();
+        stores.push(end(alloc, rt, run, list, &mut begun[node])?)?;
     }
     Ok(stores)
 }

@@ -1,24 +1,16 @@
 //! What is asked along a path of a version.
 
-ghost use Rattle.std.specs.Prelude.{◌≡◌, ◌*◌, ◌≤◌, true, length, map, IfOk, OnOk, OnErr};
-ghost use Rattle.std.specs.List.{list_all};
-ghost use Rattle.std.specs.Arc.{arc_value};
-ghost use Rattle.sz_cells.specs.Extent.{holds};
-ghost use Rattle.sz_cells.specs.Cells.{named_in};
-ghost use Rattle.sz_spec.specs.Paths.{is_joined, source_of, is_there};
-ghost use Rattle.sz_flow.specs.Executions.{execution_of};
-ghost use Rattle.sz_shelf.specs.Passes.{place_of, with_split, split_off};
-ghost use Rattle.sz_query.specs.Views.{view_of, by_map, by_trace, by_store, by_growth};
-ghost use Rattle.sz_query.specs.Views.{most_traced_by};
-ghost use Rattle.sz_query.specs.Answers.{most_traced_of, AreSteps};
-ghost use Rattle.sz_catalogue.specs.Starts.{step_start, path_start, cell_named};
-ghost use Rattle.sz_catalogue.specs.Rules.{has_named_cell};
-ghost use Rattle.sz_versions.specs.Runs.{IsSoundVersion};
-ghost use Rattle.sz_versions.specs.Stores.{IsOwn, keeping_of};
-ghost use Rattle.sz_versions.specs.Views.{view_by, view_kept, are_there};
-ghost use Rattle.sz_versions.specs.Lending.{lent, once_viewed, once_asked, IsTrailStill};
-ghost use Rattle.sz_versions.specs.Along.{view_in, views_along, search_along, IsTrailFor};
+ghost use Rattle.sz_versions.specs.Terms.{◌≡◌, ◌*◌, ◌≤◌, true, length, map, IfOk, OnOk, OnErr};
+ghost use Rattle.sz_versions.specs.Terms.{list_all, arc_value, named_in, is_joined};
+ghost use Rattle.sz_versions.specs.Terms.{source_of, is_there, execution_of, place_of, with_split};
+ghost use Rattle.sz_versions.specs.Terms.{split_off, view_of, by_map, by_trace, by_store};
+ghost use Rattle.sz_versions.specs.Terms.{by_growth, most_traced_by, most_traced_of, AreSteps};
+ghost use Rattle.sz_versions.specs.Terms.{step_start, path_start, cell_named, has_named_cell};
+ghost use Rattle.sz_versions.specs.Terms.{IsSoundVersion, IsOwn, keeping_of, view_by, view_kept};
+ghost use Rattle.sz_versions.specs.Terms.{are_there, lent, once_viewed, once_asked, IsTrailStill};
+ghost use Rattle.sz_versions.specs.Terms.{view_in, views_along, search_along, IsTrailFor};
 
+use crate::cells::cell_of;
 use crate::inquiry::Inquiry;
 use crate::runs::{NodeKeeping, VersionRun};
 use std::alloc::Global;
@@ -88,22 +80,9 @@ fn cells_at(alloc: Global, shape: Shape, named: &[NamedCell]) -> Result<CellSet,
 {
     let mut cells: Vec<Cell> = Vec::with_capacity(alloc, named.len())?;
     for one in named {
-        cells.push(cell_at(shape, *one))?;
+        cells.push(cell_of(shape, one.layer, one.row, one.col))?;
     }
     CellSet::from_cells(alloc, shape, &cells)
-}
-
-/// The cell of a shape that is named.
-fn cell_at(shape: Shape, named: NamedCell) -> Cell
-    requires { has_named_cell shape named ≡ true }
-    ensures cell { result ≡ cell_named shape named }
-    ensures held { holds shape result ≡ true }
-{
-    laws::a_shape_is_within_limits(&shape);
-    match shape.cell_in(named.layer, named.row, named.col) {
-        Some(cell) => cell,
-        None => unreachable!(),
-    }
 }
 
 /// The number of each step's input.

@@ -1,23 +1,16 @@
 //! What a session carries of the versions that it holds: of each one run, whether it was started
 //! here or a log gave it.
 
-ghost use Rattle.std.specs.Prelude.{◌≡◌, ◌≤◌, ◌<◌, ◌==◌, ◌++◌, ◌∷◌, [], List, find, map, length};
-ghost use Rattle.std.specs.Prelude.{true, false, Some, None, All, IfOk, OnOk, OnErr};
-ghost use Rattle.std.specs.Prelude.{IfSome, IfNone};
-ghost use Rattle.std.specs.List.{list_all, slice_get};
-ghost use Rattle.sz_spec.specs.Paths.{is_joined};
-ghost use Rattle.sz_flow.specs.Executions.{execution_of};
-ghost use Rattle.sz_catalogue.specs.Holdings.{Holdings, version_numbered};
-ghost use Rattle.sz_catalogue.specs.Starts.{path_start};
-ghost use Rattle.sz_catalogue.specs.Rules.{version_of, has_no_version, is_not_joined};
-ghost use Rattle.sz_catalogue.specs.Rules.{is_out_of_range, has_named_cell};
-ghost use Rattle.sz_recover.specs.Opened.{AreOfVersions};
-ghost use Rattle.sz_versions.specs.Runs.{executions_of, IsSoundVersion};
-ghost use Rattle.sz_versions.specs.Stores.{IsTrailOf};
-ghost use Rattle.sz_versions.specs.Inquiries.{IsInquiryBy};
-ghost use Rattle.sz_versions.specs.Residents.{Resident, AreResidents, IsInService, IsTrailBy};
-ghost use Rattle.sz_versions.specs.Residents.{residents_under, logged_in, logged_under, logged_of};
-ghost use Rattle.sz_versions.specs.Residents.{stored_in, replaced_in, IsStill};
+ghost use Rattle.sz_versions.specs.Terms.{◌≡◌, ◌≤◌, ◌<◌, ◌==◌, ◌++◌, ◌∷◌, [], List, find, map};
+ghost use Rattle.sz_versions.specs.Terms.{length, true, false, Some, None, All, IfOk, OnOk, OnErr};
+ghost use Rattle.sz_versions.specs.Terms.{IfSome, IfNone, list_all, slice_get, is_joined};
+ghost use Rattle.sz_versions.specs.Terms.{execution_of, Holdings, version_numbered, path_start};
+ghost use Rattle.sz_versions.specs.Terms.{version_of, has_no_version, is_not_joined};
+ghost use Rattle.sz_versions.specs.Terms.{is_out_of_range, has_named_cell, AreOfVersions};
+ghost use Rattle.sz_versions.specs.Terms.{executions_of, IsSoundVersion, IsTrailOf, IsInquiryBy};
+ghost use Rattle.sz_versions.specs.Terms.{Resident, AreResidents, IsInService, IsTrailBy};
+ghost use Rattle.sz_versions.specs.Terms.{residents_under, logged_in, logged_under, logged_of};
+ghost use Rattle.sz_versions.specs.Terms.{stored_in, replaced_in, IsStill};
 
 use crate::building::ended;
 use crate::finding::inquiry_along;

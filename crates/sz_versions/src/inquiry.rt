@@ -1,7 +1,6 @@
 //! What is asked along a path, ready to be answered by any thread.
 
-ghost use Rattle.std.specs.Prelude.{◌≡◌, ◌+◌, ◌^◌, ◌<◌, IfOk, OnErr};
-ghost use Rattle.sz_versions.specs.Searches.{IsAnswerTo};
+ghost use Rattle.sz_versions.specs.Terms.{◌≡◌, ◌+◌, ◌^◌, ◌<◌, IfOk, OnErr, IsAnswerTo};
 
 use std::alloc::Global;
 use std::marker::Model;

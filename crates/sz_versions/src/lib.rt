@@ -47,6 +47,7 @@
 mod bodies;
 mod building;
 mod built;
+mod cells;
 mod finding;
 mod held;
 mod inquiry;

@@ -3,24 +3,16 @@
 //! and in what is carried; those that a log gave stay as they were read, and are merged for their
 //! numbers alone.
 
-ghost use Rattle.std.specs.Prelude.{◌≡◌, ◌++◌, [], map, true, false, All, IfOk, OnOk, OnErr};
-ghost use Rattle.std.specs.List.{list_all, AllZip};
-ghost use Rattle.std.specs.Arc.{arc_value};
-ghost use Rattle.sz_spec.specs.Kinds.{kinds_of};
-ghost use Rattle.sz_spec.specs.Modes.{supports};
-ghost use Rattle.sz_flow.specs.Executions.{execution_of};
-ghost use Rattle.sz_shelf.specs.Passes.{place_of};
-ghost use Rattle.sz_shelf.specs.Tags.{StandsFor};
-ghost use Rattle.sz_merge.specs.Laws.{paired_in};
-ghost use Rattle.sz_catalogue.specs.Rules.{has_no_version, version_of};
-ghost use Rattle.sz_bodies.specs.Fitting.{IsWholeFor};
-ghost use Rattle.sz_versions.specs.Runs.{IsSoundVersion};
-ghost use Rattle.sz_versions.specs.Stores.{AreListed, AreStoresFor, has_stored, keeping_of, read};
-ghost use Rattle.sz_versions.specs.Residents.{IsInService, IsTrailBy, logged_in, logged_under};
-ghost use Rattle.sz_versions.specs.Residents.{logged_of, stored_in, stored_of, IsStill};
-ghost use Rattle.sz_versions.specs.Merging.{kinds_by, kinds_in_kept, kinds_in_nodes, HasKinds};
-ghost use Rattle.sz_versions.specs.Merging.{IsMergeable, AreMergeable, IsMergedNode};
-ghost use Rattle.sz_versions.specs.Merging.{AreMergedNodes, IsMergedStored, IsMergedIn, IsKeptUp};
+ghost use Rattle.sz_versions.specs.Terms.{◌≡◌, ◌++◌, [], map, true, false, All, IfOk, OnOk, OnErr};
+ghost use Rattle.sz_versions.specs.Terms.{list_all, AllZip, arc_value, kinds_of, supports};
+ghost use Rattle.sz_versions.specs.Terms.{execution_of, place_of, StandsFor, paired_in};
+ghost use Rattle.sz_versions.specs.Terms.{has_no_version, version_of, IsWholeFor, IsSoundVersion};
+ghost use Rattle.sz_versions.specs.Terms.{AreListed, AreStoresFor, has_stored, keeping_of, read};
+ghost use Rattle.sz_versions.specs.Terms.{IsInService, IsTrailBy, logged_in, logged_under};
+ghost use Rattle.sz_versions.specs.Terms.{logged_of, stored_in, stored_of, IsStill, kinds_by};
+ghost use Rattle.sz_versions.specs.Terms.{kinds_in_kept, kinds_in_nodes, HasKinds, IsMergeable};
+ghost use Rattle.sz_versions.specs.Terms.{AreMergeable, IsMergedNode, AreMergedNodes};
+ghost use Rattle.sz_versions.specs.Terms.{IsMergedStored, IsMergedIn, IsKeptUp};
 
 use crate::built::Built;
 use crate::held::{HeldRun, HeldRuns};
@@ -263,14 +255,9 @@ fn merge_each<R: Wait>(
 {
     let mut merged = Vec::with_capacity(alloc, runs.len())?;
     for node in 0..runs.len() {
-        merged.push(merge_node(
-            alloc,
-            rt,
-            &runs[node],
-            lists[node].as_slice(),
-            &mut kept[node],
-            kinds,
-        )?)?;
+        let run = &runs[node];
+        let list = lists[node].as_slice();
+        merged.push(merge_node(alloc, rt, run, list, &mut kept[node], kinds)?)?;
     }
     Ok(merged)
 }

@@ -1,13 +1,9 @@
 //! The versions that a log gave: of each the runs of its nodes, computed again, beside the stores
 //! that were read of it.
 
-ghost use Rattle.std.specs.Prelude.{◌≡◌, map, true, All, option_map, IfOk};
-ghost use Rattle.std.specs.Arc.{arc_value};
-ghost use Rattle.sz_catalogue.specs.Holdings.{arrays_of};
-ghost use Rattle.sz_bodies.specs.Fitting.{lineages};
-ghost use Rattle.sz_recover.specs.Opened.{IsEntryOf};
-ghost use Rattle.sz_versions.specs.Stores.{keeping_of, keeping_from};
-ghost use Rattle.sz_versions.specs.Residents.{IsResident, kept_of};
+ghost use Rattle.sz_versions.specs.Terms.{◌≡◌, map, true, All, option_map, IfOk, arc_value};
+ghost use Rattle.sz_versions.specs.Terms.{arrays_of, lineages, IsEntryOf, keeping_of, keeping_from};
+ghost use Rattle.sz_versions.specs.Terms.{IsResident, kept_of};
 
 use crate::held::HeldRun;
 use crate::runs::{NodeKeeping, VersionRun};

@@ -1,21 +1,15 @@
 //! What is carried of the version that a refresh makes.
 
-ghost use Rattle.std.specs.Prelude.{◌≡◌, ◌+◌, ◌*◌, ◌^◌, ◌<◌, true, false, None, IfOk, OnOk};
-ghost use Rattle.std.specs.Prelude.{map, length, slice_set};
-ghost use Rattle.std.specs.List.{list_all};
-ghost use Rattle.std.specs.Arc.{arc_value};
-ghost use Rattle.sz_cells.specs.Extent.{holds, cell_in};
+ghost use Rattle.sz_versions.specs.Terms.{◌≡◌, ◌+◌, ◌*◌, ◌^◌, ◌<◌, true, false, None, IfOk, OnOk};
+ghost use Rattle.sz_versions.specs.Terms.{map, length, slice_set, list_all, arc_value};
+ghost use Rattle.sz_versions.specs.Terms.{execution_of, Holdings, arrays_of, judged};
+ghost use Rattle.sz_versions.specs.Terms.{version_of, has_input, base_at, has_new_cell, with_cells};
+ghost use Rattle.sz_versions.specs.Terms.{cells_set, array_refreshed, version_refreshed};
+ghost use Rattle.sz_versions.specs.Terms.{cells_affected, executions_of, IsSoundVersion};
+ghost use Rattle.sz_versions.specs.Terms.{IsInService, IsTrailOf};
 ghost use Rattle.sz_script.specs.declared.command.Command.TheVariants as order;
-ghost use Rattle.sz_flow.specs.Executions.{execution_of};
-ghost use Rattle.sz_catalogue.specs.Holdings.{Holdings, arrays_of};
-ghost use Rattle.sz_catalogue.specs.Rules.{judged, version_of};
-ghost use Rattle.sz_catalogue.specs.Refreshes.{has_input, base_at, has_new_cell, with_cells};
-ghost use Rattle.sz_catalogue.specs.Refreshes.{cells_set};
-ghost use Rattle.sz_catalogue.specs.Refreshes.{array_refreshed, version_refreshed, cells_affected};
-ghost use Rattle.sz_versions.specs.Runs.{executions_of, IsSoundVersion};
-ghost use Rattle.sz_versions.specs.Residents.{IsInService};
-ghost use Rattle.sz_versions.specs.Stores.{IsTrailOf};
 
+use crate::cells::cell_of;
 use crate::held::{HeldRuns, version_held};
 use crate::recalled::arrays_of;
 use crate::runs::VersionRun;
@@ -25,7 +19,7 @@ use std::alloc::Global;
 use std::sync::{Arc, Wait};
 use std::thread::Threads;
 use sz_catalogue::{BaseArray, Catalogue, HeldVersion};
-use sz_cells::{Cell, CellSet, NoMemory, Shape, laws};
+use sz_cells::{Cell, CellSet, NoMemory, Shape};
 use sz_flow::NodeRun;
 use sz_refresh::refresh;
 use sz_script::NewCell;
@@ -176,7 +170,7 @@ fn array_with(alloc: Global, array: &Array, set: &[NewCell]) -> Result<Array, No
     let shape = array.shape();
     let mut cells = Vec::from_slice(alloc, array.cells())?;
     for one in set {
-        let place = shape.index(new_cell(shape, *one));
+        let place = shape.index(cell_of(shape, one.layer, one.row, one.col));
         cells[place as usize] = one.value;
     }
     match Array::make(shape, cells) {
@@ -192,22 +186,9 @@ fn cells_set(alloc: Global, shape: Shape, set: &[NewCell]) -> Result<CellSet, No
 {
     let mut cells: Vec<Cell> = Vec::with_capacity(alloc, set.len())?;
     for one in set {
-        cells.push(new_cell(shape, *one))?;
+        cells.push(cell_of(shape, one.layer, one.row, one.col))?;
     }
     CellSet::from_cells(alloc, shape, &cells)
-}
-
-/// The cell of a shape that is set.
-fn new_cell(shape: Shape, set: NewCell) -> Cell
-    requires { has_new_cell shape set ≡ true }
-    ensures cell { result ≡ cell_in shape set.layer set.row set.col }
-    ensures held { holds shape result ≡ true }
-{
-    laws::a_shape_is_within_limits(&shape);
-    match shape.cell_in(set.layer, set.row, set.col) {
-        Some(cell) => cell,
-        None => unreachable!(),
-    }
 }
 
 /// Base arrays, with another in the place of an input's.

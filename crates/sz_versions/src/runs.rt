@@ -1,8 +1,6 @@
 //! What is carried of a version: the runs of its nodes, and what is kept of each.
 
-ghost use Rattle.std.specs.Prelude.{◌≡◌, map, IfOk};
-ghost use Rattle.sz_flow.specs.Executions.{execution_of};
-ghost use Rattle.sz_versions.specs.Stores.{keeping_of};
+ghost use Rattle.sz_versions.specs.Terms.{◌≡◌, map, IfOk, execution_of, keeping_of};
 
 use crate::built::Built;
 use std::alloc::Global;

@@ -1,15 +1,10 @@
 //! What is carried of a version that is started.
 
-ghost use Rattle.std.specs.Prelude.{◌≡◌, All, false, map, None, IfOk};
-ghost use Rattle.std.specs.Arc.{arc_value};
-ghost use Rattle.std.specs.Map.{values_of};
+ghost use Rattle.sz_versions.specs.Terms.{◌≡◌, All, false, map, None, IfOk, arc_value, values_of};
+ghost use Rattle.sz_versions.specs.Terms.{arrays_of, bases_of, version_started, judged};
+ghost use Rattle.sz_versions.specs.Terms.{has_no_array, IsWorkflow, execution_of, IsTrailOf};
+ghost use Rattle.sz_versions.specs.Terms.{AreListed, AreKeptOf};
 ghost use Rattle.sz_script.specs.declared.command.Command.TheVariants as order;
-ghost use Rattle.sz_catalogue.specs.Holdings.{arrays_of};
-ghost use Rattle.sz_catalogue.specs.Starts.{bases_of, version_started};
-ghost use Rattle.sz_catalogue.specs.Rules.{judged, has_no_array};
-ghost use Rattle.sz_catalogue.specs.Kept.{IsWorkflow};
-ghost use Rattle.sz_flow.specs.Executions.{execution_of};
-ghost use Rattle.sz_versions.specs.Stores.{IsTrailOf, AreListed, AreKeptOf};
 
 use crate::building::{begun, prepared};
 use crate::runs::VersionRun;

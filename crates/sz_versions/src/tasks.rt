@@ -2,12 +2,9 @@
 //! worker. A task for which there is no memory is left out, and what it would have done is done at
 //! the await.
 
-ghost use Rattle.std.specs.Prelude.{◌≡◌, ◌+◌, ◌≤◌, ℕ, false, map};
-ghost use Rattle.std.specs.Arc.{arc_value};
-ghost use Rattle.sz_spec.specs.Pieces.{pieces_of};
-ghost use Rattle.sz_flow.specs.Executions.{execution_of};
-ghost use Rattle.sz_versions.specs.Stores.{IsKeptOf, AreKeptOf, IsShelfFor, keeping_of};
-ghost use Rattle.sz_versions.specs.Lending.{IsLentTo, AreLent};
+ghost use Rattle.sz_versions.specs.Terms.{◌≡◌, ◌+◌, ◌≤◌, ℕ, false, map, arc_value, pieces_of};
+ghost use Rattle.sz_versions.specs.Terms.{execution_of, IsKeptOf, AreKeptOf, IsShelfFor};
+ghost use Rattle.sz_versions.specs.Terms.{keeping_of, IsLentTo, AreLent};
 
 use crate::runs::{NodeKeeping, VersionRun};
 use std::alloc::Global;

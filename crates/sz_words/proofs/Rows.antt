@@ -22,6 +22,10 @@ job mode workers askers seed side =
 abbrev load_with : Text → Text → List Text
 load_with option number = codes "load" ∷ option ∷ number ∷ []
 
+-- the jobs of these with one option and each of some numbers
+abbrev loads : Text → List Text → List (Option Job)
+loads option numbers = map (λ number. job_of (load_with option number)) numbers
+
 -- a mode and a PLACE
 abbrev with_place : Text → List Text
 with_place mode = mode ∷ codes "x" ∷ []
@@ -60,37 +64,20 @@ two_places = refl
 
 -- ---- options
 
--- 1 to 64
-pub limits_of_workers : map (λ number. job_of (load_with (codes "--workers") number))
-    (codes "0" ∷ codes "1" ∷ codes "64" ∷ codes "65" ∷ [])
-    ≡ None ∷ job Load 1 1 1 64 ∷ job Load 64 1 1 64 ∷ None ∷ []
+-- both sides of each limit: 1 to 64 workers, 1 to 64 askers, a seed from 0 to 4,294,967,295, and sides of 1 to 512
+pub limits : (loads (codes "--workers") (codes "0" ∷ codes "1" ∷ codes "64" ∷ codes "65" ∷ [])
+    ≡ None ∷ job Load 1 1 1 64 ∷ job Load 64 1 1 64 ∷ None ∷ [])
+    × (loads (codes "--askers") (codes "0" ∷ codes "1" ∷ codes "64" ∷ codes "65" ∷ [])
+    ≡ None ∷ job Load 4 1 1 64 ∷ job Load 4 64 1 64 ∷ None ∷ [])
+    × (loads (codes "--seed") (codes "0" ∷ codes "4294967295" ∷ codes "4294967296" ∷ codes "-1" ∷ [])
+    ≡ job Load 4 1 0 64 ∷ job Load 4 1 4294967295 64 ∷ None ∷ None ∷ [])
+    × (loads (codes "--side") (codes "0" ∷ codes "1" ∷ codes "512" ∷ codes "513" ∷ [])
+    ≡ None ∷ job Load 4 1 1 1 ∷ job Load 4 1 1 512 ∷ None ∷ [])
 unfolding clap_on_literals job_of mode_of faults_of matches_in
-limits_of_workers = refl
-
--- 1 to 64
-pub limits_of_askers : map (λ number. job_of (load_with (codes "--askers") number))
-    (codes "0" ∷ codes "1" ∷ codes "64" ∷ codes "65" ∷ [])
-    ≡ None ∷ job Load 4 1 1 64 ∷ job Load 4 64 1 64 ∷ None ∷ []
-unfolding clap_on_literals job_of mode_of faults_of matches_in
-limits_of_askers = refl
-
--- 0 to 4,294,967,295
-pub limits_of_seed : map (λ number. job_of (load_with (codes "--seed") number))
-    (codes "0" ∷ codes "4294967295" ∷ codes "4294967296" ∷ codes "-1" ∷ [])
-    ≡ job Load 4 1 0 64 ∷ job Load 4 1 4294967295 64 ∷ None ∷ None ∷ []
-unfolding clap_on_literals job_of mode_of faults_of matches_in
-limits_of_seed = refl
-
--- 1 to 512
-pub limits_of_side : map (λ number. job_of (load_with (codes "--side") number))
-    (codes "0" ∷ codes "1" ∷ codes "512" ∷ codes "513" ∷ [])
-    ≡ None ∷ job Load 4 1 1 1 ∷ job Load 4 1 1 512 ∷ None ∷ []
-unfolding clap_on_literals job_of mode_of faults_of matches_in
-limits_of_side = refl
+limits = (refl, refl, refl, refl)
 
 -- a plus and leading noughts are allowed, a point and nothing at all are not
-pub spellings : map (λ number. job_of (load_with (codes "--side") number))
-    (codes "+5" ∷ codes "05" ∷ codes "5.0" ∷ [] ∷ [])
+pub spellings : loads (codes "--side") (codes "+5" ∷ codes "05" ∷ codes "5.0" ∷ [] ∷ [])
     ≡ job Load 4 1 1 5 ∷ job Load 4 1 1 5 ∷ None ∷ None ∷ []
 unfolding clap_on_literals job_of mode_of faults_of matches_in
 spellings = refl

@@ -3,3 +3,4 @@ pub mod Command
 pub mod Numbers
 pub mod Job
 pub mod Place
+mod Terms

@@ -4,13 +4,11 @@
 //! The command is built once for each reading of words. What stands in its matches is read by the
 //! names of its arguments, so a name that is written here stands in `command` too.
 
-ghost use Rattle.std.specs.Prelude.{◌≡◌, ◌≢◌, ◌≤◌, [], Err, IfOk, OnOk, false, map};
-ghost use Rattle.std.specs.Prelude.{option_map, pos, string_bytes};
-ghost use Rattle.clap.specs.Words.{app_of, found_of, first_of, one_of, rows_of, rule_of};
-ghost use Rattle.sz_words.specs.Command.{faults_of, matches_in, number_option, subzero};
-ghost use Rattle.sz_words.specs.Job.{fitting_mode, is_on_log, mode_named};
-ghost use Rattle.sz_words.specs.Numbers.{HasNumbers, IsNumberIn, number_of};
-ghost use Rattle.sz_words.specs.Place.{makes_log};
+ghost use Rattle.sz_words.specs.Terms.{◌≡◌, ◌≢◌, ◌≤◌, [], Err, IfOk, OnOk, false, map, option_map};
+ghost use Rattle.sz_words.specs.Terms.{pos, string_bytes, app_of, found_of, first_of, one_of};
+ghost use Rattle.sz_words.specs.Terms.{rows_of, rule_of, faults_of, matches_in, number_option};
+ghost use Rattle.sz_words.specs.Terms.{subzero, fitting_mode, is_on_log, mode_named, HasNumbers};
+ghost use Rattle.sz_words.specs.Terms.{IsNumberIn, number_of, makes_log};
 
 use crate::WordsFault;
 use clap::error::ErrorKind;

@@ -28,12 +28,9 @@
 //! ```
 #![tactic(auto)]
 
-ghost use Rattle.std.specs.Prelude.{◌≡◌, IfOk, OnOk, Err, None, Some, map};
-ghost use Rattle.std.specs.Prelude.{option_map, string_bytes};
-ghost use Rattle.sz_words.specs.Command.{matches_in};
-ghost use Rattle.sz_words.specs.Job.{IsInRange, job_of};
-ghost use Rattle.sz_words.specs.Numbers.{HasNumbers};
-ghost use Rattle.sz_words.specs.Place.{place_of, path_and_make};
+ghost use Rattle.sz_words.specs.Terms.{◌≡◌, IfOk, OnOk, Err, None, Some, map, option_map};
+ghost use Rattle.sz_words.specs.Terms.{string_bytes, matches_in, IsInRange, job_of, HasNumbers};
+ghost use Rattle.sz_words.specs.Terms.{place_of, path_and_make};
 
 mod arguments;
 

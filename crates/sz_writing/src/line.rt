@@ -1,11 +1,7 @@
 //! The line that orders an array to be held.
 
-ghost use Rattle.std.specs.Prelude.{◌≡◌, true, IfOk, Ok};
-ghost use Rattle.serde_json.specs.View.{view};
-ghost use Rattle.sz_script.specs.Names.{is_name};
-ghost use Rattle.sz_script.specs.Reading.{reading};
-ghost use Rattle.sz_writing.specs.Orders.{array_order};
-ghost use Rattle.sz_writing.specs.Written.{IsOrder, order_data};
+ghost use Rattle.sz_writing.specs.Terms.{◌≡◌, true, IfOk, Ok, view, is_name, reading, array_order};
+ghost use Rattle.sz_writing.specs.Terms.{IsOrder, order_data};
 
 use crate::cells;
 use serde_json::{Value, json};

@@ -3,9 +3,9 @@
 ghost use Rattle.std.specs.Prelude.{◌≡◌, ◌≤◌, IfOk, IfSome};
 ghost use Rattle.sz_commands.specs.Asks.{IsAskLine};
 
-use crate::served::{is_begun, is_said};
+use crate::served::{Counts, is_begun, is_said};
 use std::alloc::Global;
-use std::sync::atomic::{AtomicU64, Ordering};
+use std::sync::atomic::Ordering;
 use std::sync::{Arc, Wait};
 use std::test::Fail;
 use std::thread::Threads;
@@ -15,28 +15,18 @@ use sz_script::{Command, laws, read_line};
 use sz_session::{AskLine, Session};
 use sz_spec::Tally;
 
-/// For how many turns something is waited for.
-const LIMIT: u64 = 1_000_000_000;
-
-/// A gate that holds each answered ask until a second one was answered, and counts those for which
-/// none came.
+/// A gate that holds each answered ask until a second one was answered.
 #[derive(Drop)]
 struct Meeting {
-    asks: AtomicU64,
-    missed: AtomicU64,
+    counts: Counts,
 }
 
 impl Gate for Meeting {
     fn at_piece(&self, _version: u32, _node: u32, _piece: u32) {}
 
     fn after_ask(&self, _line: u64) {
-        self.asks.fetch_add(1, Ordering::SeqCst);
-        for _ in 0..LIMIT {
-            if self.asks.load(Ordering::SeqCst) > 1 {
-                return;
-            }
-        }
-        self.missed.fetch_add(1, Ordering::SeqCst);
+        self.counts.asks.fetch_add(1, Ordering::SeqCst);
+        self.counts.wait_above(&self.counts.asks, 1);
     }
 }
 
@@ -128,13 +118,10 @@ fn any_number_of_askers_says_the_same(rt: HostRuntime) -> Result<(), Fail> {
 #[test]
 fn two_asks_are_answered_at_the_same_time(rt: HostRuntime) -> Result<(), Fail> {
     let alloc = rt.alloc();
-    let meeting = Meeting {
-        asks: AtomicU64::new(0),
-        missed: AtomicU64::new(0),
-    };
-    let gate = Arc::new(alloc, meeting)?;
+    let counts = Counts::new();
+    let gate = Arc::new(alloc, Meeting { counts })?;
     assert!(rt; says_the_replies(&rt, alloc, "2", 65_536, &gate)?);
-    assert_eq!(rt; gate.missed.load(Ordering::SeqCst), 0);
+    assert_eq!(rt; gate.counts.missed.load(Ordering::SeqCst), 0);
     Ok(())
 }
 

@@ -1,16 +1,50 @@
-//! Texts that are served, each on a station of its own.
+//! Texts that are served, each on a station of its own, and what a gate counts meanwhile.
 
 ghost use Rattle.std.specs.Prelude.{◌≡◌, ◌≤◌, true};
 ghost use Rattle.sz_commands.specs.Logged.{HasLog};
 ghost use Rattle.sz_commands.specs.States.{nothing_held};
 
 use std::alloc::Global;
+use std::sync::atomic::{AtomicU64, Ordering};
 use std::sync::{Arc, Wait};
 use std::test::Fail;
 use std::thread::Threads;
 use sz_outside::{Gate, MemStation, NoGate, Station, SteadySource};
 use sz_session::{Session, Status, serve};
 use sz_spec::Tally;
+
+/// For how many turns something is waited for.
+const LIMIT: u64 = 1_000_000_000;
+
+/// What a gate counts: pieces and answered asks at which it was called, and how often something
+/// that it waited for did not come.
+#[derive(Drop)]
+pub struct Counts {
+    pub pieces: AtomicU64,
+    pub asks: AtomicU64,
+    pub missed: AtomicU64,
+}
+
+impl Counts {
+    /// Nothing was counted yet.
+    pub fn new() -> Counts {
+        Counts {
+            pieces: AtomicU64::new(0),
+            asks: AtomicU64::new(0),
+            missed: AtomicU64::new(0),
+        }
+    }
+
+    /// Waits until one of the counts is above a number.
+    pub fn wait_above(&self, count: &AtomicU64, number: u64) {
+        for _ in 0..LIMIT {
+            if count.load(Ordering::SeqCst) > number {
+                return;
+            }
+        }
+        self.missed.fetch_add(1, Ordering::SeqCst);
+    }
+}
 
 /// What a text is served with: the words that call for it, its bytes, and a station.
 #[derive(Drop)]

@@ -4,9 +4,9 @@ ghost use Rattle.std.specs.Prelude.{◌≡◌};
 ghost use Rattle.sz_commands.specs.Logged.{HasLog};
 ghost use Rattle.sz_commands.specs.States.{nothing_held};
 
-use crate::served::{empty_station, is_said, takes_each};
+use crate::served::{Counts, empty_station, is_said, takes_each};
 use std::alloc::Global;
-use std::sync::atomic::{AtomicU64, Ordering};
+use std::sync::atomic::Ordering;
 use std::sync::{Arc, Wait};
 use std::test::Fail;
 use std::thread::Threads;
@@ -15,43 +15,25 @@ use sz_pool::employ;
 use sz_session::Session;
 use sz_spec::Tally;
 
-/// For how many turns something is waited for.
-const LIMIT: u64 = 1_000_000_000;
-
 /// A gate that holds each piece until an ask was answered, and each answered ask until a piece was
-/// taken up. It counts how often the one or the other did not come, and pieces of others than node
-/// 0 of version 1 and its piece 0.
+/// taken up. Pieces of others than node 0 of version 1 and its piece 0 count as missed too.
 #[derive(Drop)]
 struct Holding {
-    pieces: AtomicU64,
-    asks: AtomicU64,
-    missed: AtomicU64,
-}
-
-impl Holding {
-    /// Waits until one was counted.
-    fn wait_for(&self, count: &AtomicU64) {
-        for _ in 0..LIMIT {
-            if count.load(Ordering::SeqCst) != 0 {
-                return;
-            }
-        }
-        self.missed.fetch_add(1, Ordering::SeqCst);
-    }
+    counts: Counts,
 }
 
 impl Gate for Holding {
     fn at_piece(&self, version: u32, node: u32, piece: u32) {
         if version != 1 || node != 0 || piece != 0 {
-            self.missed.fetch_add(1, Ordering::SeqCst);
+            self.counts.missed.fetch_add(1, Ordering::SeqCst);
         }
-        self.pieces.fetch_add(1, Ordering::SeqCst);
-        self.wait_for(&self.asks);
+        self.counts.pieces.fetch_add(1, Ordering::SeqCst);
+        self.counts.wait_above(&self.counts.asks, 0);
     }
 
     fn after_ask(&self, _line: u64) {
-        self.wait_for(&self.pieces);
-        self.asks.fetch_add(1, Ordering::SeqCst);
+        self.counts.wait_above(&self.counts.pieces, 0);
+        self.counts.asks.fetch_add(1, Ordering::SeqCst);
     }
 }
 
@@ -80,15 +62,11 @@ const REPLIES: &[u8] = b"1 array a 1
 #[test]
 fn a_worker_is_at_its_piece_while_an_ask_is_answered(rt: HostRuntime) -> Result<(), Fail> {
     let alloc = rt.alloc();
-    let holding = Holding {
-        pieces: AtomicU64::new(0),
-        asks: AtomicU64::new(0),
-        missed: AtomicU64::new(0),
-    };
-    let gate = Arc::new(alloc, holding)?;
+    let counts = Counts::new();
+    let gate = Arc::new(alloc, Holding { counts })?;
     assert!(rt; is_said(&rt, alloc, &["play"], TEXT, 65_536, &gate, REPLIES)?);
-    let missed = gate.missed.load(Ordering::SeqCst);
-    assert_eq!(rt; (missed, gate.pieces.load(Ordering::SeqCst)), (0, 1));
+    let missed = gate.counts.missed.load(Ordering::SeqCst);
+    assert_eq!(rt; (missed, gate.counts.pieces.load(Ordering::SeqCst)), (0, 1));
     Ok(())
 }
 
@@ -115,21 +93,10 @@ fn is_answered_by_the_store<R: Threads + Wait + Sync>(
     requires { session.old ≡ nothing_held }
 {
     let mut station = empty_station(alloc)?;
-    Ok(is_answered_on(rt, session, &mut station))
-}
-
-/// The same beside a station.
-fn is_answered_on<T: Station, R: Threads + Wait + Sync>(
-    rt: &R,
-    session: &mut Session,
-    station: &mut T,
-) -> bool
-    requires { HasLog T.Station session.old.held session.old.end station.old }
-{
-    if !takes_each(rt, session, &BEFORE_ASK, station) {
-        return false;
-    }
-    is_traced_no_more(rt, session, station)
+    Ok(
+        takes_each(rt, session, &BEFORE_ASK, &mut station)
+            && is_traced_no_more(rt, session, &mut station),
+    )
 }
 
 /// Whether the ask, given again and again, is answered by the store at last.

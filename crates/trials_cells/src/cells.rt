@@ -103,14 +103,16 @@ fn is_set(set: &CellSet, count: u32, runs: &[Run]) -> bool {
     set.count() == count && set.runs() == runs
 }
 
+/// Whether a set has each of some cells, and none of others.
+fn has_but(set: &CellSet, inside: &[Cell], outside: &[Cell]) -> bool {
+    inside.iter().all(|at| set.has(*at)) && outside.iter().all(|at| !set.has(*at))
+}
+
 /// Whether a set has the cells of a list, which names one twice, and two others not, of which the
 /// shape does not hold one.
 fn has_those_listed(set: &CellSet) -> bool {
-    set.has(cell(0, 0))
-        && set.has(cell(0, 1))
-        && set.has(cell(1, 2))
-        && !set.has(cell(1, 1))
-        && !set.has(cell(2, 0))
+    let inside = [cell(0, 0), cell(0, 1), cell(1, 2)];
+    has_but(set, &inside, &[cell(1, 1), cell(2, 0)])
 }
 
 /// Whether the bounds of a set are the whole of two rows and three columns.

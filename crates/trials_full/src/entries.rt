@@ -4,28 +4,13 @@ ghost use Rattle.std.specs.Prelude.{◌≡◌, ◌<◌, ◌≤◌, ◌+◌, [], 
 ghost use Rattle.std.specs.Arc.{arc_value};
 ghost use Rattle.sz_cells.specs.Extent.{flat};
 
+use crate::samples::{one_cell, row_of_20};
 use std::alloc::Global;
 use std::sync::Arc;
 use std::test::Fail;
-use sz_cells::{Cell, CellSet, NoMemory, Run, Shape};
+use sz_cells::{NoMemory, Run};
 use sz_frame::{PayEntry, Payload};
 use sz_tables::{EntryChecklist, EntryTable};
-
-/// A shape of one row of 20 columns.
-fn row_of_20() -> Result<Shape, Fail>
-    ensures { IfOk result (λ s. s ≡ flat 1 20) }
-{
-    Ok(Shape::make(1, 20).ok_or("a row of 20 is a shape")?)
-}
-
-/// The set of one cell of such a row.
-fn one_cell(alloc: Global, col: u32) -> Result<Arc<CellSet>, Fail>
-    requires { col < 20 }
-    ensures { IfOk result (λ s. (arc_value s).extent ≡ flat 1 20) }
-{
-    let set = CellSet::from_cells(alloc, row_of_20()?, &[Cell { row: 0, col }])?;
-    Ok(Arc::new(alloc, set)?)
-}
 
 /// A payload of one byte.
 fn payload_of(alloc: Global, byte: u8) -> Result<Arc<Payload>, NoMemory> {

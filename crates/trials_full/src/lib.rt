@@ -15,4 +15,6 @@ mod one;
 #[cfg(test)]
 mod regions;
 #[cfg(test)]
+mod samples;
+#[cfg(test)]
 mod tables;

@@ -17,7 +17,6 @@ ghost use Rattle.std.specs.Prelude.{◌≡◌, ◌<◌, ◌≤◌, ◌+◌, [], 
 ghost use Rattle.std.specs.Arc.{arc_value};
 ghost use Rattle.sz_cells.specs.Extent.{flat, size_of};
 ghost use Rattle.sz_spec.specs.Sides.{near_side, far_side};
-ghost use Rattle.sz_tables.specs.Stores.{IsPairOf};
 
 use std::alloc::Global;
 use std::sync::Arc;
@@ -92,20 +91,6 @@ fn pair_of(alloc: Global, runs: Runs) -> Result<Region, Fail>
     Ok(Region { out, ins })
 }
 
-/// Gives a store one region pair.
-fn give(alloc: Global, store: &mut FullMany, region: Region) -> Result<(), Fail>
-    requires pair { IsPairOf store.old.site region }
-    requires few { length store.old.given < 100 }
-    ensures site { store.new.site ≡ store.old.site }
-    ensures one { OnOk result (length store.new.given ≡ length store.old.given + 1) }
-{
-    let mut lineage = PieceLineage::new(alloc, 0);
-    lineage.lwrite(region)?;
-    store.reserve_piece(&lineage)?;
-    store.add_piece(&lineage);
-    Ok(())
-}
-
 /// Gives a store the region pair of these runs.
 fn give_runs(alloc: Global, store: &mut FullMany, runs: Runs) -> Result<(), Fail>
     requires to { store.old.site.out ≡ flat 2 3 }
@@ -114,8 +99,11 @@ fn give_runs(alloc: Global, store: &mut FullMany, runs: Runs) -> Result<(), Fail
     ensures site { store.new.site ≡ store.old.site }
     ensures one { OnOk result (length store.new.given ≡ length store.old.given + 1) }
 {
-    let region = pair_of(alloc, runs)?;
-    give(alloc, store, region)
+    let mut lineage = PieceLineage::new(alloc, 0);
+    lineage.lwrite(pair_of(alloc, runs)?)?;
+    store.reserve_piece(&lineage)?;
+    store.add_piece(&lineage);
+    Ok(())
 }
 
 /// Gives a store the region pairs of these runs.
@@ -281,17 +269,10 @@ fn a_store_indexed_forward_answers_both_ways(rt: HostRuntime) -> Result<(), Fail
     Ok(())
 }
 
-/// Adds the bytes of the store to others.
-fn put(alloc: Global, bytes: &mut Vec<u8>) -> Result<(), Fail> {
-    let store = store(alloc, Dir::Back)?;
-    store.put_bytes(bytes)?;
-    Ok(())
-}
-
-/// The bytes of the store, between a 7 and a 9.
-fn written(alloc: Global) -> Result<Vec<u8>, Fail> {
+/// The bytes of a store, between a 7 and a 9.
+fn written(alloc: Global, store: &FullMany) -> Result<Vec<u8>, Fail> {
     let mut bytes = vec![in alloc; 7u8]?;
-    put(alloc, &mut bytes)?;
+    store.put_bytes(&mut bytes)?;
     bytes.push(9)?;
     Ok(bytes)
 }
@@ -305,7 +286,8 @@ fn is_read(alloc: Global, bytes: &[u8]) -> Result<bool, Fail> {
 #[test]
 fn what_is_written_is_read_again(rt: HostRuntime) -> Result<(), Fail> {
     let alloc = rt.alloc();
-    let bytes = written(alloc)?;
+    let store = store(alloc, Dir::Back)?;
+    let bytes = written(alloc, &store)?;
     assert!(rt; is_read(alloc, &bytes)?);
     Ok(())
 }

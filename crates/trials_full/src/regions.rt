@@ -4,28 +4,13 @@ ghost use Rattle.std.specs.Prelude.{◌≡◌, ◌<◌, ◌+◌, [], ◌∷◌, 
 ghost use Rattle.std.specs.Arc.{arc_value};
 ghost use Rattle.sz_cells.specs.Extent.{flat};
 
+use crate::samples::{one_cell, row_of_20};
 use std::alloc::Global;
 use std::sync::Arc;
 use std::test::Fail;
-use sz_cells::{Cell, CellSet, NoMemory, Run, Shape};
+use sz_cells::{CellSet, NoMemory, Run};
 use sz_frame::{Region, SetList};
 use sz_tables::{PairChecklist, RegionTable};
-
-/// A shape of one row of 20 columns.
-fn row_of_20() -> Result<Shape, Fail>
-    ensures { IfOk result (λ s. s ≡ flat 1 20) }
-{
-    Ok(Shape::make(1, 20).ok_or("a row of 20 is a shape")?)
-}
-
-/// The set of one cell of such a row.
-fn one_cell(alloc: Global, col: u32) -> Result<Arc<CellSet>, Fail>
-    requires { col < 20 }
-    ensures { IfOk result (λ s. (arc_value s).extent ≡ flat 1 20) }
-{
-    let set = CellSet::from_cells(alloc, row_of_20()?, &[Cell { row: 0, col }])?;
-    Ok(Arc::new(alloc, set)?)
-}
 
 /// A table of no region pair, of an output and two inputs.
 fn no_pairs(alloc: Global) -> Result<RegionTable, Fail>
@@ -177,18 +162,6 @@ fn two_pairs(alloc: Global) -> Result<RegionTable, Fail>
     Ok(table)
 }
 
-/// Their bytes.
-const TWO_PAIRS: [u8; 84] = [
-    0, 0, 0, 4, // four sets
-    0, 0, 0, 0, 1, 0, 0, 0, 1, 0, 0, 0, 1, // output: 1
-    1, 0, 0, 0, 1, 0, 0, 0, 2, 0, 0, 0, 2, // input 0: 2
-    1, 0, 0, 0, 1, 0, 0, 0, 3, 0, 0, 0, 3, // input 0: 3
-    2, 0, 0, 0, 1, 0, 0, 0, 3, 0, 0, 0, 3, // input 1: 3
-    0, 0, 0, 2, // two rows
-    0, 0, 0, 0, 0, 0, 0, 1, 0, 0, 0, 3, //
-    0, 0, 0, 0, 0, 0, 0, 2, 0, 0, 0, 3,
-];
-
 /// What is written of some region pairs.
 fn bytes_of(alloc: Global, table: &RegionTable) -> Result<Vec<u8>, NoMemory> {
     let mut bytes = Vec::new(alloc);
@@ -196,13 +169,54 @@ fn bytes_of(alloc: Global, table: &RegionTable) -> Result<Vec<u8>, NoMemory> {
     Ok(bytes)
 }
 
+/// The bytes of the sets of region pairs, and of their rows.
+type Spelled = [&'static [u8]; 2];
+
+/// Whether bytes are those of sets and rows.
+fn are_spelled(bytes: &[u8], spelled: Spelled) -> bool {
+    let [sets, rows] = spelled;
+    bytes.get(..sets.len()) == Some(sets) && bytes.get(sets.len()..) == Some(rows)
+}
+
+/// The sets of the two region pairs.
+const FOUR_SETS: &[u8] = &[
+    0, 0, 0, 4, // four sets
+    0, 0, 0, 0, 1, 0, 0, 0, 1, 0, 0, 0, 1, // output: 1
+    1, 0, 0, 0, 1, 0, 0, 0, 2, 0, 0, 0, 2, // input 0: 2
+    1, 0, 0, 0, 1, 0, 0, 0, 3, 0, 0, 0, 3, // input 0: 3
+    2, 0, 0, 0, 1, 0, 0, 0, 3, 0, 0, 0, 3, // input 1: 3
+];
+
+/// Their rows, the first row twice, and it alone.
+const BOTH_ROWS: &[u8] = &[
+    0, 0, 0, 2, // two rows
+    0, 0, 0, 0, 0, 0, 0, 1, 0, 0, 0, 3, //
+    0, 0, 0, 0, 0, 0, 0, 2, 0, 0, 0, 3,
+];
+
+const ROW_TWICE: &[u8] = &[
+    0, 0, 0, 2, // two rows
+    0, 0, 0, 0, 0, 0, 0, 1, 0, 0, 0, 3, //
+    0, 0, 0, 0, 0, 0, 0, 1, 0, 0, 0, 3,
+];
+
+const ONE_ROW: &[u8] = &[0, 0, 0, 1, 0, 0, 0, 0, 0, 0, 0, 1, 0, 0, 0, 3];
+
 #[test]
 fn each_set_of_an_array_is_written_once(rt: HostRuntime) -> Result<(), Fail> {
     let alloc = rt.alloc();
     let table = two_pairs(alloc)?;
     let bytes = bytes_of(alloc, &table)?;
-    assert!(rt; bytes.as_slice() == TWO_PAIRS.as_slice());
+    assert!(rt; are_spelled(&bytes, [FOUR_SETS, BOTH_ROWS]));
     Ok(())
+}
+
+/// The bytes of sets and rows.
+fn spell(alloc: Global, spelled: Spelled) -> Result<Vec<u8>, NoMemory> {
+    let [sets, rows] = spelled;
+    let mut bytes = sets.to_vec(alloc)?;
+    bytes.extend_from_slice(rows)?;
+    Ok(bytes)
 }
 
 /// What is written of the region pairs that some bytes are.
@@ -212,51 +226,36 @@ fn written_again(alloc: Global, bytes: &[u8]) -> Result<Vec<u8>, Fail> {
     Ok(bytes_of(alloc, &table)?)
 }
 
-/// Two region pairs with the same sets, and a set of input 0 that neither names.
-const A_SET_MORE: [u8; 84] = [
-    0, 0, 0, 4, // four sets
-    0, 0, 0, 0, 1, 0, 0, 0, 1, 0, 0, 0, 1, // output: 1
-    1, 0, 0, 0, 1, 0, 0, 0, 2, 0, 0, 0, 2, // input 0: 2
-    1, 0, 0, 0, 1, 0, 0, 0, 3, 0, 0, 0, 3, // input 0: 3
-    2, 0, 0, 0, 1, 0, 0, 0, 3, 0, 0, 0, 3, // input 1: 3
-    0, 0, 0, 2, // two rows
-    0, 0, 0, 0, 0, 0, 0, 1, 0, 0, 0, 3, //
-    0, 0, 0, 0, 0, 0, 0, 1, 0, 0, 0, 3,
-];
+/// Whether the region pairs of some sets and rows are written as others.
+fn is_written_as(alloc: Global, from: Spelled, to: Spelled) -> Result<bool, Fail> {
+    let bytes = spell(alloc, from)?;
+    let again = written_again(alloc, &bytes)?;
+    Ok(are_spelled(&again, to))
+}
 
+/// No row names the second set of input 0.
 #[test]
 fn a_set_that_no_pair_names_is_kept(rt: HostRuntime) -> Result<(), Fail> {
-    let again = written_again(rt.alloc(), &A_SET_MORE)?;
-    assert!(rt; again.as_slice() == A_SET_MORE.as_slice());
+    let twice = [FOUR_SETS, ROW_TWICE];
+    assert!(rt; is_written_as(rt.alloc(), twice, twice)?);
     Ok(())
 }
 
-/// The first of these region pairs alone, behind the same sets: of input 0 they are more than the
-/// pairs.
-const MORE_SETS_THAN_PAIRS: [u8; 72] = [
-    0, 0, 0, 4, // four sets
-    0, 0, 0, 0, 1, 0, 0, 0, 1, 0, 0, 0, 1, // output: 1
-    1, 0, 0, 0, 1, 0, 0, 0, 2, 0, 0, 0, 2, // input 0: 2
-    1, 0, 0, 0, 1, 0, 0, 0, 3, 0, 0, 0, 3, // input 0: 3
-    2, 0, 0, 0, 1, 0, 0, 0, 3, 0, 0, 0, 3, // input 1: 3
-    0, 0, 0, 1, // one row
-    0, 0, 0, 0, 0, 0, 0, 1, 0, 0, 0, 3,
-];
-
-/// It without the set that it does not name.
-const ONE_PAIR: [u8; 59] = [
+/// The sets without the second one of input 0, and the first row behind them.
+const THREE_SETS: &[u8] = &[
     0, 0, 0, 3, // three sets
     0, 0, 0, 0, 1, 0, 0, 0, 1, 0, 0, 0, 1, // output: 1
     1, 0, 0, 0, 1, 0, 0, 0, 2, 0, 0, 0, 2, // input 0: 2
     2, 0, 0, 0, 1, 0, 0, 0, 3, 0, 0, 0, 3, // input 1: 3
-    0, 0, 0, 1, // one row
-    0, 0, 0, 0, 0, 0, 0, 1, 0, 0, 0, 2,
 ];
 
+const ONE_ROW_BEHIND: &[u8] = &[0, 0, 0, 1, 0, 0, 0, 0, 0, 0, 0, 1, 0, 0, 0, 2];
+
+/// Of input 0 there are more sets than rows.
 #[test]
 fn sets_in_place_of_pairs_are_left_out(rt: HostRuntime) -> Result<(), Fail> {
-    let again = written_again(rt.alloc(), &MORE_SETS_THAN_PAIRS)?;
-    assert!(rt; again.as_slice() == ONE_PAIR.as_slice());
+    let left = [THREE_SETS, ONE_ROW_BEHIND];
+    assert!(rt; is_written_as(rt.alloc(), [FOUR_SETS, ONE_ROW], left)?);
     Ok(())
 }
 

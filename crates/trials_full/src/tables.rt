@@ -1,11 +1,12 @@
 //! Entries under three keys, and sets by number: each call once, with memory to spare.
 
 ghost use Rattle.std.specs.Prelude.{◌≡◌, ◌<◌, ◌≤◌, ◌+◌, [], ◌∷◌, true, length, All, IfOk};
-ghost use Rattle.sz_cells.specs.Extent.{holds};
+ghost use Rattle.sz_cells.specs.Extent.{flat};
 
+use crate::samples::row_of_20;
 use std::alloc::Global;
 use std::test::Fail;
-use sz_cells::{Cell, CellSet, NoMemory, Run, Shape};
+use sz_cells::{Cell, CellSet, NoMemory, Run};
 use sz_tables::{Chains, SetTable};
 
 /// Three entries, two under the first of three keys and one under the last.
@@ -44,16 +45,9 @@ fn walks_from_the_last_entry_of_a_key_to_its_first(rt: HostRuntime) -> Result<()
     Ok(())
 }
 
-/// A shape of one row of 20 columns.
-fn row_of_20() -> Result<Shape, Fail>
-    ensures { IfOk result (λ s. s ≡ record { layers = 1; rows = 1; cols = 20 }) }
-{
-    Ok(Shape::make(1, 20).ok_or("a row of 20 is a shape")?)
-}
-
 /// The number of the set of three cells of a row.
 fn number_of(alloc: Global, table: &mut SetTable, cols: [u32; 3]) -> Result<u32, NoMemory>
-    requires extent { table.old.extent ≡ record { layers = 1; rows = 1; cols = 20 } }
+    requires extent { table.old.extent ≡ flat 1 20 }
     requires cols { All (λ c. c < 20) cols }
     requires few { length table.old.sets < 100 }
     ensures extent { table.new.extent ≡ table.old.extent }
@@ -80,7 +74,7 @@ fn number_of(alloc: Global, table: &mut SetTable, cols: [u32; 3]) -> Result<u32,
 
 /// The numbers of two sets that are added four times.
 fn numbers_of(alloc: Global, table: &mut SetTable) -> Result<[u32; 4], NoMemory>
-    requires extent { table.old.extent ≡ record { layers = 1; rows = 1; cols = 20 } }
+    requires extent { table.old.extent ≡ flat 1 20 }
     requires none { table.old.sets ≡ [] }
 {
     let first = number_of(alloc, table, [0, 5, 10])?;
@@ -102,7 +96,7 @@ fn are_kept(table: &SetTable) -> bool {
 
 /// Whether equal sets have one number, and are kept once.
 fn have_one_number(alloc: Global, table: &mut SetTable) -> Result<bool, NoMemory>
-    requires extent { table.old.extent ≡ record { layers = 1; rows = 1; cols = 20 } }
+    requires extent { table.old.extent ≡ flat 1 20 }
     requires none { table.old.sets ≡ [] }
 {
     let numbers = numbers_of(alloc, table)?;

@@ -426,17 +426,15 @@ fn numbers(alloc: Global, rows: u32, cols: u32, numbers: &[i64]) -> Result<Arc<A
     for number in numbers {
         values.push(Some(*number))?;
     }
-    layers(alloc, 1, rows, cols, &values)
+    layers(alloc, (1, rows, cols), &values)
 }
 
-/// An array of so many layers of equal sides that holds these values, row by row.
-fn layers(
-    alloc: Global,
-    layers: u32,
-    height: u32,
-    cols: u32,
-    values: &[Value],
-) -> Result<Arc<Array>, Fail> {
+/// The sides of an array: how many layers it has, the height of each, and its columns.
+type Sides = (u32, u32, u32);
+
+/// An array of these sides that holds these values, row by row.
+fn layers(alloc: Global, sides: Sides, values: &[Value]) -> Result<Arc<Array>, Fail> {
+    let (layers, height, cols) = sides;
     let shape = Shape::make_layers(layers, height, cols).ok_or("the sides are those of a shape")?;
     let array = Array::make(shape, values.to_vec(alloc)?).ok_or("each cell has a value")?;
     Ok(Arc::new(alloc, array)?)

@@ -1,9 +1,10 @@
 //! Small flows: where a cell leads along a path, by mappings and by traces, how each step was
 //! taken, and how much was traced.
 
-ghost use Rattle.std.specs.Prelude.{◌≡◌, ◌∷◌, ◌<◌, ◌^◌, [], true, length, map, IfOk};
+ghost use Rattle.std.specs.Prelude.{◌≡◌, ◌∷◌, ◌<◌, ◌^◌, [], true, length, map, Ok, IfOk};
 ghost use Rattle.std.specs.Arc.{arc_value};
 ghost use Rattle.sz_cells.specs.Extent.{flat, layered};
+ghost use Rattle.sz_spec.specs.Shapes.{arity, has_right_parameters, site_of};
 ghost use Rattle.sz_spec.specs.Sides.{near_side};
 ghost use Rattle.sz_spec.specs.Values.{extents_of};
 ghost use Rattle.sz_query.specs.Views.{view_of, by_map, view_site, IsUsable};
@@ -33,26 +34,24 @@ fn array(alloc: Global, shape: Shape, cells: &[Value]) -> Result<Arc<Array>, Fai
     }
 }
 
+/// An operator between inputs of these shapes, which it takes.
+fn operator(alloc: Global, op: Op, ins: Vec<Shape>) -> Result<Arc<OpAt>, Fail>
+    requires arity { length ins.items ≡ arity op }
+    requires parameters { has_right_parameters op ≡ true }
+    ensures { IfOk result (λ a. site_of op ins.items ≡ Ok (arc_value a)) }
+{
+    match OpAt::of(op, ins) {
+        Ok(at) => Ok(Arc::new(alloc, at)?),
+        Err(_) => Err("the operator takes these shapes".into()),
+    }
+}
+
 /// The negation of one cell.
 fn negation(alloc: Global) -> Result<Arc<OpAt>, Fail>
     ensures { IfOk result (λ a. arc_value a
         ≡ record { op = Op.Neg; ins = flat 1 1 ∷ []; out = flat 1 1 }) }
 {
-    match OpAt::of(Op::Neg, vec![in alloc; shape(1, 1)?]?) {
-        Ok(at) => Ok(Arc::new(alloc, at)?),
-        Err(_) => Err("every shape can be negated".into()),
-    }
-}
-
-/// The sum of one cell and one cell.
-fn sum(alloc: Global) -> Result<Arc<OpAt>, Fail>
-    ensures { IfOk result (λ a. arc_value a
-        ≡ record { op = Op.Add; ins = flat 1 1 ∷ flat 1 1 ∷ []; out = flat 1 1 }) }
-{
-    match OpAt::of(Op::Add, vec![in alloc; shape(1, 1)?, shape(1, 1)?]?) {
-        Ok(at) => Ok(Arc::new(alloc, at)?),
-        Err(_) => Err("the shapes are one".into()),
-    }
+    Ok(operator(alloc, Op::Neg, vec![in alloc; shape(1, 1)?]?)?)
 }
 
 /// The transpose of two rows of three.
@@ -60,21 +59,7 @@ fn transpose(alloc: Global) -> Result<Arc<OpAt>, Fail>
     ensures { IfOk result (λ a. arc_value a
         ≡ record { op = Op.Transpose; ins = flat 2 3 ∷ []; out = flat 3 2 }) }
 {
-    match OpAt::of(Op::Transpose, vec![in alloc; shape(2, 3)?]?) {
-        Ok(at) => Ok(Arc::new(alloc, at)?),
-        Err(_) => Err("every shape can be transposed".into()),
-    }
-}
-
-/// Three cells looked up in a table of two.
-fn lookup(alloc: Global) -> Result<Arc<OpAt>, Fail>
-    ensures { IfOk result (λ a. arc_value a
-        ≡ record { op = Op.Lookup; ins = flat 1 3 ∷ flat 1 2 ∷ []; out = flat 1 3 }) }
-{
-    match OpAt::of(Op::Lookup, vec![in alloc; shape(1, 3)?, shape(1, 2)?]?) {
-        Ok(at) => Ok(Arc::new(alloc, at)?),
-        Err(_) => Err("the table has one row".into()),
-    }
+    Ok(operator(alloc, Op::Transpose, vec![in alloc; shape(2, 3)?]?)?)
 }
 
 /// The set of one cell.
@@ -88,8 +73,16 @@ fn single(alloc: Global, rows: u32, cols: u32, cell: Cell) -> Result<CellSet, Fa
     Ok(CellSet::from_cells(alloc, shape, &[cell])?)
 }
 
-/// Whether cells lead along a path to one run, by these steps, of which so many cells are told and
-/// counted as traced.
+/// The run from one index to another.
+fn run(first: u32, last: u32) -> Run {
+    Run { first, last }
+}
+
+/// How an answer is told: the run that its cells are, how each step was taken, and how many cells
+/// were traced.
+type Told<'a> = (Run, &'a [Used], u64);
+
+/// Whether cells lead along a path so, and so many cells are counted as traced.
 fn leads<R: Wait>(
     alloc: Global,
     rt: &R,
@@ -97,14 +90,13 @@ fn leads<R: Wait>(
     inputs: &[u32],
     dir: Dir,
     cells: &CellSet,
-    to: Run,
-    used: &[Used],
-    traced: u64,
+    told: Told<'_>,
 ) -> Result<bool, Fail>
     requires path { IsPath (map view_of views.old) }
     requires steps { AreSteps dir (map view_of views.old) inputs.now cells.now.extent }
     requires room { most_traced_of (map view_of views.old) < 2 ^ 63 }
 {
+    let (to, used, traced) = told;
     let mut tally = Tally::new();
     let found = answer(alloc, rt, views, inputs, dir, cells, &mut tally)?;
     Ok(
@@ -135,7 +127,7 @@ fn sum_of(alloc: Global, first: Arc<Array>, second: Arc<Array>) -> Result<NodeRu
         ≡ record { op = Op.Add; ins = flat 1 1 ∷ flat 1 1 ∷ []; out = flat 1 1 }) }
     ensures inputs { IfOk result (λ r. extents_of r.inputs ≡ flat 1 1 ∷ flat 1 1 ∷ []) }
 {
-    let at = sum(alloc)?;
+    let at = operator(alloc, Op::Add, vec![in alloc; shape(1, 1)?, shape(1, 1)?]?)?;
     let inputs = ArrayList::of(vec![in alloc; first, second]?);
     Ok(NodeRunRef { at, inputs })
 }
@@ -165,21 +157,8 @@ fn a_path_goes_forward_by_traces(rt: HostRuntime) -> Result<(), Fail> {
         NodeView::Traced { run: first },
         NodeView::Traced { run: second },
     ];
-    let used = [Used::Traced, Used::Traced];
-    let to = Run { first: 0, last: 0 };
-    assert!(rt;
-        leads(
-            alloc,
-            &rt,
-            &mut views,
-            &[0, 0],
-            Dir::Forward,
-            &cells,
-            to,
-            &used,
-            2
-        )?
-    );
+    let told = (run(0, 0), [Used::Traced, Used::Traced].as_slice(), 2);
+    assert!(rt; leads(alloc, &rt, &mut views, &[0, 0], Dir::Forward, &cells, told)?);
     Ok(())
 }
 
@@ -189,21 +168,8 @@ fn a_transposed_cell_comes_from_its_place(rt: HostRuntime) -> Result<(), Fail> {
     let cells = single(alloc, 3, 2, Cell { row: 2, col: 0 })?;
     let at = transpose(alloc)?;
     let mut views = [NodeView::Mapped { at }];
-    let used = [Used::By(Strategy::Map)];
-    let to = Run { first: 2, last: 2 };
-    assert!(rt;
-        leads(
-            alloc,
-            &rt,
-            &mut views,
-            &[0],
-            Dir::Back,
-            &cells,
-            to,
-            &used,
-            0
-        )?
-    );
+    let told = (run(2, 2), [Used::By(Strategy::Map)].as_slice(), 0);
+    assert!(rt; leads(alloc, &rt, &mut views, &[0], Dir::Back, &cells, told)?);
     Ok(())
 }
 
@@ -216,7 +182,8 @@ fn lookup_of(alloc: Global) -> Result<NodeRunRef, Fail>
     let columns = array(alloc, shape(1, 3)?, &[Some(0), Some(0), Some(1)])?;
     let table = array(alloc, shape(1, 2)?, &[Some(10), Some(20)])?;
     let inputs = ArrayList::of(vec![in alloc; columns, table]?);
-    let at = lookup(alloc)?;
+    let shapes = vec![in alloc; shape(1, 3)?, shape(1, 2)?]?;
+    let at = operator(alloc, Op::Lookup, shapes)?;
     Ok(NodeRunRef { at, inputs })
 }
 
@@ -224,23 +191,10 @@ fn lookup_of(alloc: Global) -> Result<NodeRunRef, Fail>
 fn a_cell_of_a_table_leads_to_those_that_it_matches(rt: HostRuntime) -> Result<(), Fail> {
     let alloc = rt.alloc();
     let cells = single(alloc, 1, 2, Cell { row: 0, col: 0 })?;
-    let run = lookup_of(alloc)?;
-    let mut views = [NodeView::Traced { run }];
-    let used = [Used::Traced];
-    let to = Run { first: 0, last: 1 };
-    assert!(rt;
-        leads(
-            alloc,
-            &rt,
-            &mut views,
-            &[1],
-            Dir::Forward,
-            &cells,
-            to,
-            &used,
-            3
-        )?
-    );
+    let looked_up = lookup_of(alloc)?;
+    let mut views = [NodeView::Traced { run: looked_up }];
+    let told = (run(0, 1), [Used::Traced].as_slice(), 3);
+    assert!(rt; leads(alloc, &rt, &mut views, &[1], Dir::Forward, &cells, told)?);
     Ok(())
 }
 
@@ -261,11 +215,7 @@ fn maps_to<R: Wait>(
     let mut tally = Tally::new();
     let mut views = [NodeView::Mapped { at }];
     let found = answer_with(alloc, rt, spare, &mut views, &[0], dir, cells, &mut tally)?;
-    let run = Run {
-        first: index,
-        last: index,
-    };
-    Ok(found.cells.runs() == [run].as_slice())
+    Ok(found.cells.runs() == [run(index, index)].as_slice())
 }
 
 /// Whether a cell of three rows of two leads back to its place by the transpose.
@@ -283,15 +233,8 @@ fn stays<R: Wait>(alloc: Global, rt: &R, spare: &mut Spare) -> Result<bool, Fail
 /// Whether a cell of two rows of three leads forward to its place by the transpose.
 fn goes_on<R: Wait>(alloc: Global, rt: &R, spare: &mut Spare) -> Result<bool, Fail> {
     let middle = single(alloc, 2, 3, Cell { row: 1, col: 1 })?;
-    maps_to(
-        alloc,
-        rt,
-        spare,
-        transpose(alloc)?,
-        Dir::Forward,
-        &middle,
-        3,
-    )
+    let at = transpose(alloc)?;
+    maps_to(alloc, rt, spare, at, Dir::Forward, &middle, 3)
 }
 
 #[test]

@@ -77,84 +77,99 @@ fn holds_both(alloc: Global) -> Result<Catalogue, Fail> {
     Ok(held)
 }
 
-/// What a body says, in format 2 where it is short and else in format 1.
-fn taken(
-    rt: &(impl Threads + Sync),
+/// What reads bodies: threads, memory, and the catalogue by which they are judged.
+#[derive(Drop)]
+struct Reader<'a, R> {
+    rt: &'a R,
     alloc: Global,
-    held: &Catalogue,
-    body: &[u8],
-    is_short: bool,
-) -> Result<TakenVersion, TakeFault>
-    ensures added { IfOk result (λ t. CanBeAdded held.now t.number t.version) }
-    ensures fit { IfOk result (λ t. Fit t.version t.stores) }
+    held: &'a Catalogue,
+}
+
+/// A reader by a catalogue.
+fn body_reader<'a, R>(rt: &'a R, alloc: Global, held: &'a Catalogue) -> Reader<'a, R>
+    ensures { result.held.now ≡ held.now }
 {
-    if is_short {
-        take_version_body(rt, alloc, held, body, 2)
-    } else {
-        take_version_body(rt, alloc, held, body, 1)
-    }
+    Reader { rt, alloc, held }
 }
 
-/// Whether a body is bad in its format.
-fn is_bad(
-    rt: &(impl Threads + Sync),
-    alloc: Global,
-    held: &Catalogue,
-    body: &[u8],
-    is_short: bool,
-) -> Result<bool, Fail> {
-    match taken(rt, alloc, held, body, is_short) {
-        Ok(_) => Ok(false),
-        Err(TakeFault::Bad) => Ok(true),
-        Err(TakeFault::NoMemory) => Err(Fail::from("no memory")),
-    }
-}
-
-/// Whether the body is bad with another byte at a place.
-fn breaks(
-    rt: &(impl Threads + Sync),
-    alloc: Global,
-    held: &Catalogue,
-    place: usize,
-    byte: u8,
-) -> Result<bool, Fail> {
-    if place >= 64 {
-        return Err(Fail::from("no such place"));
-    }
-    let mut body = BODY;
-    body[place] = byte;
-    is_bad(rt, alloc, held, &body, false)
-}
-
-/// Whether it is bad with each of these bytes at its place.
-fn each_breaks(
-    rt: &(impl Threads + Sync),
-    alloc: Global,
-    held: &Catalogue,
-    rows: &[(usize, u8)],
-) -> Result<bool, Fail> {
-    for row in rows {
-        if !breaks(rt, alloc, held, row.0, row.1)? {
-            return Ok(false);
+impl<'a, R: Threads + Sync> Reader<'a, R> {
+    /// What a body says, in format 2 where it is short and else in format 1.
+    fn taken(&self, body: &[u8], is_short: bool) -> Result<TakenVersion, TakeFault>
+        ensures added { IfOk result (λ t. CanBeAdded self.now.held.now t.number t.version) }
+        ensures fit { IfOk result (λ t. Fit t.version t.stores) }
+    {
+        if is_short {
+            take_version_body(self.rt, self.alloc, self.held, body, 2)
+        } else {
+            take_version_body(self.rt, self.alloc, self.held, body, 1)
         }
     }
-    Ok(true)
-}
 
-/// The version that a body says in its format.
-fn read(
-    rt: &(impl Threads + Sync),
-    alloc: Global,
-    held: &Catalogue,
-    body: &[u8],
-    is_short: bool,
-) -> Result<TakenVersion, Fail>
-    ensures added { IfOk result (λ t. CanBeAdded held.now t.number t.version) }
-    ensures fit { IfOk result (λ t. Fit t.version t.stores) }
-{
-    match taken(rt, alloc, held, body, is_short) {
-        Ok(taken) => Ok(taken),
-        Err(_) => Err(Fail::from("not read")),
+    /// The version that the body says, in the format of the short one or in the other.
+    fn read(&self, is_short: bool) -> Result<TakenVersion, Fail>
+        ensures added { IfOk result (λ t. CanBeAdded self.now.held.now t.number t.version) }
+        ensures fit { IfOk result (λ t. Fit t.version t.stores) }
+    {
+        let body = if is_short { &SHORT_BODY[..] } else { &BODY[..] };
+        match self.taken(body, is_short) {
+            Ok(taken) => Ok(taken),
+            Err(_) => Err(Fail::from("not read")),
+        }
+    }
+
+    /// Whether a body is bad in its format.
+    fn is_bad(&self, body: &[u8], is_short: bool) -> Result<bool, Fail> {
+        match self.taken(body, is_short) {
+            Ok(_) => Ok(false),
+            Err(TakeFault::Bad) => Ok(true),
+            Err(TakeFault::NoMemory) => Err(Fail::from("no memory")),
+        }
+    }
+
+    /// Whether the body is bad with another byte at a place.
+    fn breaks(&self, place: usize, byte: u8) -> Result<bool, Fail> {
+        if place >= 64 {
+            return Err(Fail::from("no such place"));
+        }
+        let mut body = BODY;
+        body[place] = byte;
+        self.is_bad(&body, false)
+    }
+
+    /// Whether it is bad with each of these bytes at its place.
+    fn each_breaks(&self, rows: &[(usize, u8)]) -> Result<bool, Fail> {
+        for row in rows {
+            if !self.breaks(row.0, row.1)? {
+                return Ok(false);
+            }
+        }
+        Ok(true)
+    }
+
+    /// Whether it is bad with a byte more.
+    fn breaks_with_more(&self) -> Result<bool, Fail> {
+        let body = longer(self.alloc)?;
+        self.is_bad(&body, false)
+    }
+
+    /// Whether a byte more, a byte fewer, and no byte, is bad.
+    fn breaks_at_the_end(&self) -> Result<bool, Fail> {
+        Ok(self.breaks_with_more()? && self.is_bad(&BODY[..63], false)? && self.is_bad(&[], false)?)
+    }
+
+    /// Whether the body is bad where a condition is broken. Version 9 in place of 1 is lawful.
+    fn is_bad_where_broken(&self) -> Result<bool, Fail> {
+        Ok(
+            !self.breaks(3, 9)?
+                && self.each_breaks(&BROKEN)?
+                && self.each_breaks(&BROKEN_NODE)?
+                && self.breaks_at_the_end()?,
+        )
+    }
+
+    /// Whether the body is bad, and lawful with number 2.
+    fn number_is_held(&self) -> Result<bool, Fail> {
+        Ok(self.is_bad(&BODY, false)? && !self.breaks(3, 2)?)
     }
 }
 
@@ -219,74 +234,23 @@ fn longer(alloc: Global) -> Result<Vec<u8>, NoMemory> {
     Ok(body)
 }
 
-/// Whether it is bad with a byte more.
-fn breaks_with_more(
-    rt: &(impl Threads + Sync),
-    alloc: Global,
-    held: &Catalogue,
-) -> Result<bool, Fail> {
-    let body = longer(alloc)?;
-    is_bad(rt, alloc, held, &body, false)
-}
-
-/// Whether a byte more, a byte fewer, and no byte, is bad.
-fn breaks_at_the_end(
-    rt: &(impl Threads + Sync),
-    alloc: Global,
-    held: &Catalogue,
-) -> Result<bool, Fail> {
-    Ok(
-        breaks_with_more(rt, alloc, held)?
-            && is_bad(rt, alloc, held, &BODY[..63], false)?
-            && is_bad(rt, alloc, held, &[], false)?,
-    )
-}
-
-/// Whether the body is read as the version that it says.
-fn is_read(rt: &(impl Threads + Sync), alloc: Global, held: &Catalogue) -> Result<bool, Fail> {
-    let taken = read(rt, alloc, held, &BODY, false)?;
-    Ok(is_right(&taken))
-}
-
-/// Whether it is by a catalogue that holds what it names.
-fn body_is_read(rt: &(impl Threads + Sync), alloc: Global) -> Result<bool, Fail> {
-    let held = holds_both(alloc)?;
-    is_read(rt, alloc, &held)
-}
-
 #[test]
 fn a_body_is_read(rt: HostRuntime) -> Result<(), Fail> {
-    assert!(rt; body_is_read(&rt, rt.alloc())?);
+    let held = holds_both(rt.alloc())?;
+    let taken = body_reader(&rt, rt.alloc(), &held).read(false)?;
+    assert!(rt; is_right(&taken));
     Ok(())
-}
-
-/// Whether the body is bad where a condition is broken. Version 9 in place of 1 is lawful.
-fn is_bad_where_broken(
-    rt: &(impl Threads + Sync),
-    alloc: Global,
-    held: &Catalogue,
-) -> Result<bool, Fail> {
-    Ok(
-        !breaks(rt, alloc, held, 3, 9)?
-            && each_breaks(rt, alloc, held, &BROKEN)?
-            && each_breaks(rt, alloc, held, &BROKEN_NODE)?
-            && breaks_at_the_end(rt, alloc, held)?,
-    )
-}
-
-/// Whether it is for a catalogue that holds what it names.
-fn broken_body_is_bad(rt: &(impl Threads + Sync), alloc: Global) -> Result<bool, Fail> {
-    let held = holds_both(alloc)?;
-    is_bad_where_broken(rt, alloc, &held)
 }
 
 #[test]
 fn a_body_with_a_broken_condition_is_bad(rt: HostRuntime) -> Result<(), Fail> {
-    assert!(rt; broken_body_is_bad(&rt, rt.alloc())?);
+    let held = holds_both(rt.alloc())?;
+    assert!(rt; body_reader(&rt, rt.alloc(), &held).is_bad_where_broken()?);
     Ok(())
 }
 
-/// Whether a version that is held, with these stores, is written as the body.
+/// Whether a version that is held, with these stores, is written as the body, and in format 2 as
+/// the short one.
 fn is_written(
     alloc: Global,
     held: &Catalogue,
@@ -296,35 +260,9 @@ fn is_written(
     requires held { has_no_version held.now number ≡ false }
     requires fit { Fit (version_of held.now number) (lineages stores.now) }
 {
-    let written = version_body(alloc, held, number, stores, 1)?;
-    Ok(written.as_slice() == BODY.as_slice())
-}
-
-/// Whether it is written in format 2 as the short one.
-fn is_written_short(
-    alloc: Global,
-    held: &Catalogue,
-    number: u32,
-    stores: &[Option<Arc<NodeStore>>],
-) -> Result<bool, NoMemory>
-    requires held { has_no_version held.now number ≡ false }
-    requires fit { Fit (version_of held.now number) (lineages stores.now) }
-{
-    let written = version_body(alloc, held, number, stores, 2)?;
-    Ok(written.as_slice() == SHORT_BODY.as_slice())
-}
-
-/// Whether it is written as both.
-fn is_written_as_both(
-    alloc: Global,
-    held: &Catalogue,
-    number: u32,
-    stores: &[Option<Arc<NodeStore>>],
-) -> Result<bool, NoMemory>
-    requires held { has_no_version held.now number ≡ false }
-    requires fit { Fit (version_of held.now number) (lineages stores.now) }
-{
-    Ok(is_written(alloc, held, number, stores)? && is_written_short(alloc, held, number, stores)?)
+    let long = version_body(alloc, held, number, stores, 1)?;
+    let short = version_body(alloc, held, number, stores, 2)?;
+    Ok(long.as_slice() == BODY.as_slice() && short.as_slice() == SHORT_BODY.as_slice())
 }
 
 /// Whether a version that was read is added, and written as both bodies.
@@ -334,78 +272,47 @@ fn is_added(alloc: Global, held: &mut Catalogue, taken: TakenVersion) -> Result<
 {
     let number = taken.number;
     let stores = add(held, taken)?;
-    is_written_as_both(alloc, held, number, &stores)
+    is_written(alloc, held, number, &stores)
 }
 
-/// Whether the body is read, added and written. Then its number is held: it is bad, and lawful with
-/// another number.
-fn is_taken(rt: &(impl Threads + Sync), alloc: Global, held: &mut Catalogue) -> Result<bool, Fail> {
-    let taken = read(rt, alloc, held, &BODY, false)?;
-    Ok(
-        is_added(alloc, held, taken)?
-            && is_bad(rt, alloc, held, &BODY, false)?
-            && !breaks(rt, alloc, held, 3, 2)?,
-    )
-}
-
-/// Whether it is by a catalogue that holds what it names.
-fn body_is_taken(rt: &(impl Threads + Sync), alloc: Global) -> Result<bool, Fail> {
-    let mut held = holds_both(alloc)?;
-    is_taken(rt, alloc, &mut held)
-}
-
-#[test]
-fn a_version_that_was_read_is_added_and_written(rt: HostRuntime) -> Result<(), Fail> {
-    assert!(rt; body_is_taken(&rt, rt.alloc())?);
-    Ok(())
-}
-
-/// Whether the body in format 2 is read as the version that it says, added and written.
-fn is_taken_short(
+/// Whether the body, in either format, is read as the version that it says, added and written.
+fn is_taken(
     rt: &(impl Threads + Sync),
     alloc: Global,
     held: &mut Catalogue,
+    is_short: bool,
 ) -> Result<bool, Fail> {
-    let taken = read(rt, alloc, held, &SHORT_BODY, true)?;
+    let taken = body_reader(rt, alloc, held).read(is_short)?;
     if !is_right(&taken) {
         return Ok(false);
     }
     Ok(is_added(alloc, held, taken)?)
 }
 
-/// Whether it is by a catalogue that holds what it names.
-fn short_body_is_taken(rt: &(impl Threads + Sync), alloc: Global) -> Result<bool, Fail> {
+/// Then its number is held.
+#[test]
+fn a_version_that_was_read_is_added_and_written(rt: HostRuntime) -> Result<(), Fail> {
+    let alloc = rt.alloc();
     let mut held = holds_both(alloc)?;
-    is_taken_short(rt, alloc, &mut held)
+    assert!(rt; is_taken(&rt, alloc, &mut held, false)?);
+    assert!(rt; body_reader(&rt, alloc, &held).number_is_held()?);
+    Ok(())
 }
 
 #[test]
 fn a_body_of_format_2_is_read_added_and_written(rt: HostRuntime) -> Result<(), Fail> {
-    assert!(rt; short_body_is_taken(&rt, rt.alloc())?);
+    let mut held = holds_both(rt.alloc())?;
+    assert!(rt; is_taken(&rt, rt.alloc(), &mut held, true)?);
     Ok(())
 }
 
-/// Whether each body is bad in the other format, and the short one without its last byte.
-fn is_bad_in_the_other(
-    rt: &(impl Threads + Sync),
-    alloc: Global,
-    held: &Catalogue,
-) -> Result<bool, Fail> {
-    Ok(
-        is_bad(rt, alloc, held, &SHORT_BODY, false)?
-            && is_bad(rt, alloc, held, &BODY, true)?
-            && is_bad(rt, alloc, held, &SHORT_BODY[..45], true)?,
-    )
-}
-
-/// Whether they are for a catalogue that holds what they name.
-fn bodies_are_bad_in_the_other(rt: &(impl Threads + Sync), alloc: Global) -> Result<bool, Fail> {
-    let held = holds_both(alloc)?;
-    is_bad_in_the_other(rt, alloc, &held)
-}
-
+/// So is the short one without its last byte.
 #[test]
 fn a_body_is_bad_in_the_other_format(rt: HostRuntime) -> Result<(), Fail> {
-    assert!(rt; bodies_are_bad_in_the_other(&rt, rt.alloc())?);
+    let held = holds_both(rt.alloc())?;
+    let reader = body_reader(&rt, rt.alloc(), &held);
+    assert!(rt; reader.is_bad(&SHORT_BODY, false)?);
+    assert!(rt; reader.is_bad(&BODY, true)?);
+    assert!(rt; reader.is_bad(&SHORT_BODY[..45], true)?);
     Ok(())
 }

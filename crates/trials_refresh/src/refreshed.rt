@@ -140,27 +140,6 @@ fn changed_of(
     }
 }
 
-/// What a refresh gives of a flow that was run over the arrays before, and how many cells it
-/// counts.
-fn counted<R: Threads + Sync>(
-    rt: &R,
-    alloc: Global,
-    flow: &Flow,
-    before: &[Arc<Array>],
-    base: &[Arc<Array>],
-    input: u32,
-    changed: &CellSet,
-) -> Result<(Refreshed, u64), Fail> {
-    let old = run_over(rt, alloc, flow, before)?;
-    let mut tally = Tally::new();
-    match refresh_after(
-        rt, alloc, flow, before, &old, base, input, changed, &mut tally,
-    )? {
-        Some(made) => Ok((made, tally.count())),
-        None => Err("other cells are changed too".into()),
-    }
-}
-
 /// How many cells some sets have together.
 fn cells_of(sets: &[CellSet]) -> u64 {
     let mut count = 0u64;
@@ -194,9 +173,14 @@ fn refreshed<R: Threads + Sync>(
     indexes: &[u32],
 ) -> Result<Refreshed, Fail> {
     let changed = changed_of(alloc, base, input, indexes)?;
-    let (made, count) = counted(rt, alloc, flow, before, base, input, &changed)?;
+    let old = run_over(rt, alloc, flow, before)?;
+    let mut tally = Tally::new();
+    let made = refresh_after(
+        rt, alloc, flow, before, &old, base, input, &changed, &mut tally,
+    )?;
+    let made = made.ok_or("other cells are changed too")?;
     let anew = run_over(rt, alloc, flow, base)?;
-    compare(&made, &anew, count)?;
+    compare(&made, &anew, tally.count())?;
     Ok(made)
 }
 

@@ -1,25 +1,17 @@
 //! What commands that no rule refuses change.
-ghost use Rattle.std.specs.Prelude.{◌≡◌, ◌≤◌, ◌+◌, false, true, is_some, [], ◌++◌, length};
-ghost use Rattle.std.specs.Prelude.{Some, None, All, option_map, IfOk, OnOk, OnErr};
-ghost use Rattle.std.specs.Arc.{arc_value};
-ghost use Rattle.std.specs.List.{cons_option};
-ghost use Rattle.std.specs.Result.{result_err};
-ghost use Rattle.sz_spec.specs.Flows.{is_well_formed};
-ghost use Rattle.sz_spec.specs.FlowShapes.{output_shapes};
+ghost use Rattle.sz_catalogue.specs.Terms.{◌≡◌, ◌≤◌, ◌+◌, false, true, is_some, [], ◌++◌, length};
+ghost use Rattle.sz_catalogue.specs.Terms.{Some, None, All, option_map, IfOk, OnOk, OnErr};
+ghost use Rattle.sz_catalogue.specs.Terms.{arc_value, cons_option, result_err, is_well_formed};
+ghost use Rattle.sz_catalogue.specs.Terms.{output_shapes, is_name, is_right, array_version};
+ghost use Rattle.sz_catalogue.specs.Terms.{flow_named, version_numbered, shapes_of, output_cells};
+ghost use Rattle.sz_catalogue.specs.Terms.{things_named, base_of, bases_of, workflow_of};
+ghost use Rattle.sz_catalogue.specs.Terms.{version_started, judged, has_room, are_lists_for};
+ghost use Rattle.sz_catalogue.specs.Terms.{has_no_version, version_of, has_no_flow, has_no_array};
+ghost use Rattle.sz_catalogue.specs.Terms.{has_wrong_base, has_broken_shapes};
+ghost use Rattle.sz_catalogue.specs.Terms.{has_no_room_for_array, sites_of, accepted};
+ghost use Rattle.sz_catalogue.specs.Terms.{changes_no_version, with_array, with_version, plan_over};
+ghost use Rattle.sz_catalogue.specs.Terms.{plan_for, response_of};
 ghost use Rattle.sz_script.specs.declared.command.Command.TheVariants as command;
-ghost use Rattle.sz_script.specs.Names.{is_name};
-ghost use Rattle.sz_script.specs.Right.{is_right};
-ghost use Rattle.sz_catalogue.specs.Holdings.{array_version, flow_named, version_numbered};
-ghost use Rattle.sz_catalogue.specs.Holdings.{shapes_of, output_cells, things_named};
-ghost use Rattle.sz_catalogue.specs.Starts.{base_of, bases_of, workflow_of, version_started};
-ghost use Rattle.sz_catalogue.specs.Rules.{judged, has_room, are_lists_for, has_no_version};
-ghost use Rattle.sz_catalogue.specs.Rules.{version_of, has_no_flow, has_no_array, has_wrong_base};
-ghost use Rattle.sz_catalogue.specs.Rules.{has_broken_shapes, has_no_room_for_array};
-ghost use Rattle.sz_catalogue.specs.Sites.{sites_of};
-ghost use Rattle.sz_catalogue.specs.Changes.{accepted, changes_no_version, with_array};
-ghost use Rattle.sz_catalogue.specs.Changes.{with_version};
-ghost use Rattle.sz_catalogue.specs.Plans.{plan_over, plan_for};
-ghost use Rattle.sz_catalogue.specs.Seen.{response_of};
 
 use super::Catalogue;
 use crate::flows::HeldFlow;

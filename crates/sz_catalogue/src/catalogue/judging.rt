@@ -1,21 +1,15 @@
 //! Which commands are refused: the rules of each, in their order.
-ghost use Rattle.std.specs.Prelude.{◌≡◌, ℕ, ◌≤◌, true, length, List, [], ◌∷◌, Ok, IfOk};
-ghost use Rattle.std.specs.Prelude.{if◌then◌else◌, Some, None};
-ghost use Rattle.std.specs.List.{list_all};
-ghost use Rattle.sz_spec.specs.Flows.{Graph, is_well_formed};
-ghost use Rattle.sz_spec.specs.FlowShapes.{output_shapes};
+ghost use Rattle.sz_catalogue.specs.Terms.{◌≡◌, ℕ, ◌≤◌, true, length, List, [], ◌∷◌, Ok, IfOk};
+ghost use Rattle.sz_catalogue.specs.Terms.{if◌then◌else◌, Some, None, list_all, Graph};
+ghost use Rattle.sz_catalogue.specs.Terms.{is_well_formed, output_shapes, shapes_of, bases_of};
+ghost use Rattle.sz_catalogue.specs.Terms.{judged, first_of, has_no_array, has_named_cell};
+ghost use Rattle.sz_catalogue.specs.Terms.{is_not_awaited, has_too_many_units, version_of};
+ghost use Rattle.sz_catalogue.specs.Terms.{has_no_room_to_set, has_no_room_to_refresh};
+ghost use Rattle.sz_catalogue.specs.Terms.{names_an_input, base_at, has_new_cell, refusal_by};
+ghost use Rattle.sz_catalogue.specs.Terms.{is_of_room, is_open, refusal_on_version, Judges};
+ghost use Rattle.sz_catalogue.specs.Terms.{is_right};
 ghost use Rattle.sz_script.specs.declared.command.Command.TheVariants as command;
 ghost use Rattle.sz_script.specs.declared.refusal.Refusal.TheVariants as rule;
-ghost use Rattle.sz_catalogue.specs.Holdings.{shapes_of};
-ghost use Rattle.sz_catalogue.specs.Starts.{bases_of};
-ghost use Rattle.sz_catalogue.specs.Rules.{judged, first_of, has_no_array, has_named_cell};
-ghost use Rattle.sz_catalogue.specs.Rules.{is_not_awaited, has_too_many_units, version_of};
-ghost use Rattle.sz_catalogue.specs.Rules.{has_no_room_to_set, has_no_room_to_refresh};
-ghost use Rattle.sz_catalogue.specs.Rules.{names_an_input};
-ghost use Rattle.sz_catalogue.specs.Refreshes.{base_at, has_new_cell};
-ghost use Rattle.sz_catalogue.specs.Kept.{refusal_by, is_of_room, is_open, refusal_on_version};
-ghost use Rattle.sz_catalogue.specs.Seen.{Judges};
-ghost use Rattle.sz_script.specs.Right.{is_right};
 
 use super::{
     Catalogue, GREATEST_NUMBER, MOST_ARRAYS, MOST_CELLS, MOST_FLOWS, MOST_UNITS, MOST_VERSIONS,

@@ -1,13 +1,9 @@
 //! The array and the version that a refresh makes.
-ghost use Rattle.std.specs.Prelude.{◌≡◌, ◌<◌, true, false, length, slice_set, IfOk, OnOk, OnErr};
-ghost use Rattle.std.specs.Arc.{arc_value};
-ghost use Rattle.sz_spec.specs.Values.{Grid};
-ghost use Rattle.sz_catalogue.specs.Holdings.{Version, Holdings, next_number};
-ghost use Rattle.sz_catalogue.specs.Rules.{has_no_version, version_of, has_no_room_to_set};
-ghost use Rattle.sz_catalogue.specs.Rules.{has_no_room_to_refresh};
-ghost use Rattle.sz_catalogue.specs.Refreshes.{has_input, base_at, base_on, version_on};
-ghost use Rattle.sz_catalogue.specs.Order.{IsInOrder};
-ghost use Rattle.sz_catalogue.specs.Changes.{with_array, with_refreshed};
+ghost use Rattle.sz_catalogue.specs.Terms.{◌≡◌, ◌<◌, true, false, length, slice_set, IfOk, OnOk};
+ghost use Rattle.sz_catalogue.specs.Terms.{OnErr, arc_value, Grid, Version, Holdings, next_number};
+ghost use Rattle.sz_catalogue.specs.Terms.{has_no_version, version_of, has_no_room_to_set};
+ghost use Rattle.sz_catalogue.specs.Terms.{has_no_room_to_refresh, has_input, base_at, base_on};
+ghost use Rattle.sz_catalogue.specs.Terms.{version_on, IsInOrder, with_array, with_refreshed};
 
 use super::Catalogue;
 use crate::lists::BaseArrays;

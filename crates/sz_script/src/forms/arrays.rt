@@ -1,14 +1,8 @@
 //! The forms that hold an array: of one layer, the same as comma-separated text, and of several
 //! layers.
 
-ghost use Rattle.std.specs.Prelude.{◌≡◌, [], ◌∷◌, option_map};
-ghost use Rattle.serde_json.specs.View.{view};
-ghost use Rattle.sz_script.specs.Drafts.{reading_of_form};
-ghost use Rattle.sz_script.specs.Fields.{at};
-ghost use Rattle.sz_script.specs.Forms.Array.{array_form, one_layer};
-ghost use Rattle.sz_script.specs.Forms.Csv.{csv_form};
-ghost use Rattle.sz_script.specs.Forms.Layers.{layers_form};
-ghost use Rattle.sz_script.specs.Reading.{Reads};
+ghost use Rattle.sz_script.specs.Terms.{◌≡◌, [], ◌∷◌, option_map, view, reading_of_form, at};
+ghost use Rattle.sz_script.specs.Terms.{array_form, one_layer, csv_form, layers_form, Reads};
 
 use crate::command::{BAD_NAME, Command, LineFault, NO_FORM};
 use crate::name::{Name, is_name};

@@ -1,17 +1,10 @@
 //! The forms that speak of a flow by its name: hold one, set the strategies of its nodes, and start
 //! or plan it on base arrays.
 
-ghost use Rattle.std.specs.Prelude.{◌≡◌, ◌∷◌, map, IfOk};
-ghost use Rattle.std.specs.List.{list_all};
-ghost use Rattle.serde_json.specs.View.{view};
-ghost use Rattle.sz_script.specs.Names.{is_name};
-ghost use Rattle.sz_script.specs.Words.{strategy_in};
-ghost use Rattle.sz_script.specs.Drafts.{reading_of_draft, reading_of_form};
-ghost use Rattle.sz_script.specs.Forms.Flow.{flow_form};
-ghost use Rattle.sz_script.specs.Forms.Strategy.{strategy_form};
-ghost use Rattle.sz_script.specs.Forms.Start.{start_form, base_in, with_base};
-ghost use Rattle.sz_script.specs.Forms.Plan.{plan_form, within_units};
-ghost use Rattle.sz_script.specs.Reading.{Reads};
+ghost use Rattle.sz_script.specs.Terms.{◌≡◌, ◌∷◌, map, IfOk, list_all, view, is_name, strategy_in};
+ghost use Rattle.sz_script.specs.Terms.{reading_of_draft, reading_of_form, flow_form};
+ghost use Rattle.sz_script.specs.Terms.{strategy_form, start_form, base_in, with_base, plan_form};
+ghost use Rattle.sz_script.specs.Terms.{within_units, Reads};
 
 use crate::command::{BAD_NAME, BaseName, Command, LineFault, NO_FORM};
 use crate::each::{Listed, each_at};

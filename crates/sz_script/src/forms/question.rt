@@ -1,15 +1,9 @@
 //! The forms that ask along a path, for its cells or for the ways of its steps: a version, a
 //! direction, a path and cells.
 
-ghost use Rattle.std.specs.Prelude.{◌≡◌, IfOk};
-ghost use Rattle.serde_json.specs.View.{view};
-ghost use Rattle.sz_script.specs.Fields.{at};
-ghost use Rattle.sz_script.specs.Words.{dir_in};
-ghost use Rattle.sz_script.specs.Drafts.{reading_of_form};
-ghost use Rattle.sz_script.specs.Forms.Ask.{ask_form};
-ghost use Rattle.sz_script.specs.Forms.Explain.{explain_form};
-ghost use Rattle.sz_script.specs.Questions.{question_in, step_in, named_cell_in, named_cell_at};
-ghost use Rattle.sz_script.specs.Reading.{Reads};
+ghost use Rattle.sz_script.specs.Terms.{◌≡◌, IfOk, view, at, dir_in, reading_of_form, ask_form};
+ghost use Rattle.sz_script.specs.Terms.{explain_form, question_in, step_in, named_cell_in};
+ghost use Rattle.sz_script.specs.Terms.{named_cell_at, Reads};
 
 use crate::command::{Command, LineFault, NO_FORM, NamedCell, PathStep};
 use crate::each::{Listed, each_at};

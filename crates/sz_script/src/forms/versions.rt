@@ -1,14 +1,8 @@
 //! The forms that speak of a version by its number: refresh, merge, merged, await and show.
 
-ghost use Rattle.std.specs.Prelude.{◌≡◌, IfOk};
-ghost use Rattle.serde_json.specs.View.{view};
-ghost use Rattle.sz_script.specs.Drafts.{reading_of_form};
-ghost use Rattle.sz_script.specs.Forms.Refresh.{refresh_form, new_cell_in, new_cell_at};
-ghost use Rattle.sz_script.specs.Forms.Merge.{merge_form};
-ghost use Rattle.sz_script.specs.Forms.Merged.{merged_form};
-ghost use Rattle.sz_script.specs.Forms.Await.{await_form};
-ghost use Rattle.sz_script.specs.Forms.Show.{show_form};
-ghost use Rattle.sz_script.specs.Reading.{Reads};
+ghost use Rattle.sz_script.specs.Terms.{◌≡◌, IfOk, view, reading_of_form, refresh_form};
+ghost use Rattle.sz_script.specs.Terms.{new_cell_in, new_cell_at, merge_form, merged_form};
+ghost use Rattle.sz_script.specs.Terms.{await_form, show_form, Reads};
 
 use crate::command::{Command, LineFault, NO_FORM, NewCell};
 use crate::each::{Listed, each_at};

@@ -207,12 +207,9 @@ fn is_added_whole(alloc: Global, passes: u64) -> Result<bool, NoMemory> {
 
 #[test]
 fn a_stop_leaves_the_log_without_the_group_or_with_it(rt: HostRuntime) {
-    for passes in 0..APPEND_CALLS + 1 {
-        assert!(rt;
-            is_added_whole(rt.alloc(), passes) == Ok(true),
-            "behind {passes}"
-        );
-    }
+    let alloc = rt.alloc();
+    let other = (0..=APPEND_CALLS).find(|passes| is_added_whole(alloc, *passes) != Ok(true));
+    assert_eq!(rt; other, None);
 }
 
 /// Whether a stop of `init` leaves what it may of these bytes.
@@ -243,12 +240,9 @@ fn is_made_whole(alloc: Global, old: &[u8], passes: u64) -> Result<bool, NoMemor
 
 #[test]
 fn a_stop_of_a_making_leaves_old_bytes_or_no_log_or_the_empty_log(rt: HostRuntime) {
-    for passes in 0..INIT_CALLS + 1 {
-        assert!(rt;
-            is_made_whole(rt.alloc(), &[7; 5], passes) == Ok(true),
-            "behind {passes}"
-        );
-    }
+    let alloc = rt.alloc();
+    let other = (0..=INIT_CALLS).find(|passes| is_made_whole(alloc, &[7; 5], *passes) != Ok(true));
+    assert_eq!(rt; other, None);
 }
 
 /// Whether an adding fails where its disk call of one number does.
@@ -265,18 +259,11 @@ fn making_fails(alloc: Global, call: u64) -> Result<bool, NoMemory> {
 
 #[test]
 fn each_disk_call_that_fails_is_answered(rt: HostRuntime) {
-    for call in 1..APPEND_CALLS + 1 {
-        assert!(rt;
-            adding_fails(rt.alloc(), call) == Ok(true),
-            "adding, call {call}"
-        );
-    }
-    for call in 1..INIT_CALLS + 1 {
-        assert!(rt;
-            making_fails(rt.alloc(), call) == Ok(true),
-            "making, call {call}"
-        );
-    }
+    let alloc = rt.alloc();
+    let adding = (1..=APPEND_CALLS).find(|call| adding_fails(alloc, *call) != Ok(true));
+    assert_eq!(rt; adding, None);
+    let making = (1..=INIT_CALLS).find(|call| making_fails(alloc, *call) != Ok(true));
+    assert_eq!(rt; making, None);
 }
 
 /// Whether a making on these bytes ends so, and leaves them as they are.

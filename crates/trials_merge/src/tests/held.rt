@@ -1,10 +1,10 @@
 //! A merge that is held between its two turns, while asks are answered.
 
-ghost use Rattle.std.specs.Prelude.{◌≡◌, true};
+ghost use Rattle.std.specs.Prelude.{◌≡◌};
 ghost use Rattle.sz_shelf.specs.Passes.{place_of};
 
 use super::bench::Bench;
-use super::tasks::{fill, finds_all, given, pairs};
+use super::tasks::{finds_all, given, pairs, ready};
 use crossbeam_channel::Receiver;
 use std::alloc::Global;
 use std::sync::Wait;
@@ -126,53 +126,35 @@ fn sent<R: Wait>(alloc: Global, rt: &R, task: MergeTask) -> Result<Receiver<Merg
     Ok(from)
 }
 
-/// Whether asks are answered before the merge, beside it and behind it.
-fn answers<R: Threads + Wait + Sync>(
-    rt: &R,
-    alloc: Global,
-    bench: &Bench,
-    other: &mut Pass,
-    tasks: Receiver<MergeTask>,
-    gate: &Holding,
-) -> Result<bool, Fail>
-    requires { place_of other.old ≡ bench.now }
-{
-    Ok(
-        is_answered(alloc, rt, bench, other, 3)?
-            && merge_beside_asks(rt, alloc, bench, other, tasks, gate)?
-            && is_answered(alloc, rt, bench, other, 1)?,
-    )
-}
-
 /// Whether one merge was held, and nothing was missed.
 fn held_one(gate: &Holding) -> bool {
     gate.held.load(Ordering::SeqCst) == 1 && gate.missed.load(Ordering::SeqCst) == 0
 }
 
-/// Whether a pass's task is held so, while another pass asks.
+/// Whether the task of a shelf is held so, and asks beside the merge are answered.
 fn is_held<R: Threads + Wait + Sync>(
     rt: &R,
     alloc: Global,
     bench: &Bench,
-    pass: Pass,
-    other: &mut Pass,
+    pass: &mut Pass,
+    task: MergeTask,
 ) -> Result<bool, Fail>
-    requires pass { place_of pass ≡ bench.now }
-    requires saw { pass.saw ≡ true }
-    requires other { place_of other.old ≡ bench.now }
+    requires { place_of pass.old ≡ bench.now }
+    ensures { place_of pass.new ≡ place_of pass.old }
 {
-    let task = bench.task(alloc, pass)?;
     let tasks = sent(alloc, rt, task)?;
     let gate = Holding::new();
-    Ok(answers(rt, alloc, bench, other, tasks, &gate)? && held_one(&gate))
+    Ok(merge_beside_asks(rt, alloc, bench, pass, tasks, &gate)? && held_one(&gate))
 }
 
-/// Whether that of a new shelf is.
+/// Whether asks of a new shelf are answered before its merge, beside it and behind it.
 fn asks_are_answered<R: Threads + Wait + Sync>(rt: &R, alloc: Global) -> Result<bool, Fail> {
-    let (bench, mut pass) = Bench::new(alloc)?;
-    fill(alloc, rt, &bench, &mut pass)?;
-    let mut other = bench.split(&mut pass)?;
-    is_held(rt, alloc, &bench, pass, &mut other)
+    let (bench, task, mut other) = ready(alloc, rt)?;
+    Ok(
+        is_answered(alloc, rt, &bench, &mut other, 3)?
+            && is_held(rt, alloc, &bench, &mut other, task)?
+            && is_answered(alloc, rt, &bench, &mut other, 1)?,
+    )
 }
 
 #[test]

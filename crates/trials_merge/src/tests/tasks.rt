@@ -30,7 +30,7 @@ const ALL: [Run; 1] = [Run {
 }];
 
 /// Places each piece, and seals.
-pub fn fill<R: Wait>(alloc: Global, rt: &R, bench: &Bench, pass: &mut Pass) -> Result<(), Fail>
+fn fill<R: Wait>(alloc: Global, rt: &R, bench: &Bench, pass: &mut Pass) -> Result<(), Fail>
     requires { place_of pass.old ≡ bench.now }
     ensures own { place_of pass.new ≡ place_of pass.old }
     ensures saw { IfOk result (λ _. pass.new.saw ≡ true) }
@@ -111,20 +111,6 @@ fn attend<R: Wait>(alloc: Global, rt: &R, task: MergeTask) -> Result<bool, NoMem
     Ok(sent)
 }
 
-/// The stores of a shelf that is filled first.
-fn filled<R: Wait>(
-    alloc: Global,
-    rt: &R,
-    bench: &Bench,
-    pass: &mut Pass,
-) -> Result<Arc<NodeStore>, Fail>
-    requires { place_of pass.old ≡ bench.now }
-    ensures { IfOk result (λ a. StandsFor bench.now.tag (arc_value a)) }
-{
-    fill(alloc, rt, bench, pass)?;
-    given(alloc, rt, bench, pass)
-}
-
 /// Whether some stores have one region pair, with these bytes.
 fn is_one(alloc: Global, store: &NodeStore) -> Result<bool, Fail> {
     let bytes = spelled(alloc, store)?;
@@ -151,7 +137,8 @@ fn three_become_one(alloc: Global, bench: &Bench, store: &NodeStore) -> Result<b
 /// Whether those of a new shelf are.
 fn is_merged<R: Wait>(alloc: Global, rt: &R) -> Result<bool, Fail> {
     let (bench, mut pass) = Bench::new(alloc)?;
-    let store = filled(alloc, rt, &bench, &mut pass)?;
+    fill(alloc, rt, &bench, &mut pass)?;
+    let store = given(alloc, rt, &bench, &mut pass)?;
     three_become_one(alloc, &bench, &store)
 }
 
@@ -161,54 +148,54 @@ fn three_pairs_of_one_region_become_one(rt: HostRuntime) -> Result<(), Fail> {
     Ok(())
 }
 
-/// Whether a shelf's task is sent and attended to, and the stores have one region pair then.
-fn merges<R: Wait>(
-    alloc: Global,
-    rt: &R,
-    bench: &Bench,
-    pass: Pass,
-    other: &mut Pass,
-) -> Result<bool, Fail>
-    requires pass { place_of pass ≡ bench.now }
-    requires saw { pass.saw ≡ true }
-    requires other { place_of other.old ≡ bench.now }
+/// A new shelf that is filled, its task, and another pass of it.
+pub fn ready<R: Wait>(alloc: Global, rt: &R) -> Result<(Bench, MergeTask, Pass), Fail>
+    ensures { IfOk result (λ r. place_of r.2 ≡ r.0) }
 {
+    let (bench, mut pass) = Bench::new(alloc)?;
+    fill(alloc, rt, &bench, &mut pass)?;
+    let other = bench.split(&mut pass)?;
     let task = bench.task(alloc, pass)?;
-    if !attend(alloc, rt, task)? || !finds_all(alloc, rt, bench, other)? {
-        return Ok(false);
-    }
-    let after = given(alloc, rt, bench, other)?;
-    is_one(alloc, &after)
+    Ok((bench, task, other))
 }
 
-/// Whether stores that were handed out before stay as they were.
+/// Whether a pass finds all by stores of one region pair.
+fn finds_one<R: Wait>(alloc: Global, rt: &R, bench: &Bench, pass: &mut Pass) -> Result<bool, Fail>
+    requires { place_of pass.old ≡ bench.now }
+{
+    if !finds_all(alloc, rt, bench, pass)? {
+        return Ok(false);
+    }
+    let store = given(alloc, rt, bench, pass)?;
+    is_one(alloc, &store)
+}
+
+/// Whether a shelf's stores are merged by its task, and those that were handed out before stay as
+/// they were.
 fn merges_beside<R: Wait>(
     alloc: Global,
     rt: &R,
     bench: &Bench,
-    pass: Pass,
+    task: MergeTask,
     other: &mut Pass,
 ) -> Result<bool, Fail>
-    requires pass { place_of pass ≡ bench.now }
-    requires saw { pass.saw ≡ true }
-    requires other { place_of other.old ≡ bench.now }
+    requires { place_of other.old ≡ bench.now }
 {
     let before = given(alloc, rt, bench, other)?;
     Ok(
         pairs(alloc, &before)? == 3
-            && merges(alloc, rt, bench, pass, other)?
+            && attend(alloc, rt, task)?
+            && finds_one(alloc, rt, bench, other)?
             && pairs(alloc, &before)? == 3,
     )
 }
 
 /// Whether the stores of a new shelf are merged by its task, beside another pass.
 fn is_merged_by_task<R: Wait>(alloc: Global, rt: &R) -> Result<bool, Fail> {
-    let (bench, mut pass) = Bench::new(alloc)?;
-    fill(alloc, rt, &bench, &mut pass)?;
-    let mut other = bench.split(&mut pass)?;
+    let (bench, task, mut other) = ready(alloc, rt)?;
     Ok(
         finds_all(alloc, rt, &bench, &mut other)?
-            && merges_beside(alloc, rt, &bench, pass, &mut other)?,
+            && merges_beside(alloc, rt, &bench, task, &mut other)?,
     )
 }
 

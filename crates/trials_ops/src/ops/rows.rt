@@ -1,14 +1,11 @@
 //! The rows: what each operator makes of small arrays, and where their cells lead.
 
-use super::{BACK, Example, ON, kept_by, layers, numbers};
+use super::{BACK, Example, ON, Sides, kept_by, layers, numbers};
 use std::alloc::Global;
 use std::sync::Arc;
 use std::test::Fail;
 use sz_frame::PayEntry;
 use sz_spec::{Array, Fold, Kernel, Op, Value};
-
-/// An array of a row: how many layers it has, the height of each, and its columns.
-type Sides = (u32, u32, u32);
 
 /// A row: the operator makes an array of these sides and values of its inputs, and the steps of a
 /// table are true.
@@ -19,7 +16,7 @@ fn row(
     output: &[Value],
     steps: &[u32],
 ) -> Result<bool, Fail> {
-    let output = layers(alloc, sides.0, sides.1, sides.2, output)?;
+    let output = layers(alloc, sides, output)?;
     Ok(example.makes(alloc, &output)? && example.leads_all(alloc, steps)?)
 }
 
@@ -33,7 +30,7 @@ fn over(
     output: &[Value],
     steps: &[u32],
 ) -> Result<bool, Fail> {
-    let array = layers(alloc, from.0, from.1, from.2, cells)?;
+    let array = layers(alloc, from, cells)?;
     let example = Example::of_one(alloc, op, array)?;
     row(alloc, &example, to, output, steps)
 }
@@ -75,7 +72,7 @@ fn of_one(alloc: Global, op: Op, output: &[Value]) -> Result<bool, Fail> {
 /// A row of an operator over the row 5, -2, an empty cell and the greatest number, and the row 3,
 /// 4, 9 and 1.
 fn of_two(alloc: Global, op: Op, output: &[Value]) -> Result<bool, Fail> {
-    let first = layers(alloc, 1, 1, 4, &[Some(5), Some(-2), None, GREATEST])?;
+    let first = layers(alloc, (1, 1, 4), &[Some(5), Some(-2), None, GREATEST])?;
     let second = numbers(alloc, 1, 4, &[3, 4, 9, 1])?;
     let example = Example::of_two(alloc, op, first, second)?;
     let steps = [
@@ -215,30 +212,12 @@ fn cells_round_a_cell_stay_in_its_layer(rt: HostRuntime) -> Result<(), Fail> {
     let cells = [Some(300), Some(100), Some(100), Some(99)];
     let output = [None, None, Some(99), Some(99)];
     let steps = [BACK, 0, 1, 1, 2, 0, 1, ON, 0, 3, 3, 2, 2, 3];
-    assert!(rt;
-        over(
-            alloc,
-            Op::Clean { t: 100 },
-            sides,
-            &cells,
-            sides,
-            &output,
-            &steps
-        )?
-    );
+    let op = Op::Clean { t: 100 };
+    assert!(rt; over(alloc, op, sides, &cells, sides, &output, &steps)?);
     let output = [Some(1), Some(1), Some(3), LOW];
     let steps = [BACK, 0, 1, 1, 2, 0, 1, ON, 0, 2, 2, 1, 2];
-    assert!(rt;
-        over(
-            alloc,
-            Op::Regions { t: 100 },
-            sides,
-            &cells,
-            sides,
-            &output,
-            &steps
-        )?
-    );
+    let op = Op::Regions { t: 100 };
+    assert!(rt; over(alloc, op, sides, &cells, sides, &output, &steps)?);
     let op = under(alloc, 3, 1, &[1, 1, 2])?;
     let steps = [BACK, 0, 1, 1, 1, 1, ON, 0, 2, 2, 1, 2];
     assert!(rt; over(alloc, op, sides, &cells, sides, &cells, &steps)?);
@@ -262,7 +241,7 @@ fn kept_is(alloc: Global, entries: &[Arc<PayEntry>], numbers: &[u32]) -> Result<
 /// Two rows of three columns, one of them empty, looked up in a table of 10 and 20.
 fn looked_up(alloc: Global) -> Result<Example, Fail> {
     let columns = [Some(1), Some(0), Some(1), Some(-1), Some(0), None];
-    let columns = layers(alloc, 1, 2, 3, &columns)?;
+    let columns = layers(alloc, (1, 2, 3), &columns)?;
     let table = numbers(alloc, 1, 2, &[10, 20])?;
     Example::of_two(alloc, Op::Lookup, columns, table)
 }
@@ -375,7 +354,7 @@ fn uneven(alloc: Global) -> Result<Arc<Array>, Fail> {
             Some(i64::from(index * 7 % 23) - 9)
         })?;
     }
-    layers(alloc, 2, 3, 37, &cells)
+    layers(alloc, (2, 3, 37), &cells)
 }
 
 /// Whether an operator over the uneven array is run as its cells say.

@@ -1,21 +1,14 @@
 //! Sessions in which the stores of a version are merged: each row is a text and the replies that
 //! are said of it.
 
-use super::rows::{Row, first_other};
-use std::test::Fail;
+use super::rows::Row;
 
 /// The rows.
-const ROWS: [Row; 3] = [
+pub const ROWS: [Row; 3] = [
     ("BESIDE", BESIDE, BESIDE_REPLIES),
     ("KINDS", KINDS, KINDS_REPLIES),
     ("REFRESHED", REFRESHED, REFRESHED_REPLIES),
 ];
-
-#[test]
-fn merged_versions_say_their_replies(rt: HostRuntime) -> Result<(), Fail> {
-    assert_eq!(rt; first_other(&rt, rt.alloc(), &ROWS)?, None);
-    Ok(())
-}
 
 /// The same is asked before a merge, beside it and behind it, and a merge that is asked again
 /// changes nothing: a region of three cells, one of one, and five cells that are not high.

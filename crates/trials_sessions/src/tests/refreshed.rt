@@ -1,22 +1,15 @@
 //! Sessions in which a version is refreshed: each row is a text and the replies that are said of
 //! it.
 
-use super::rows::{Row, first_other};
-use std::test::Fail;
+use super::rows::Row;
 
 /// The rows.
-const ROWS: [Row; 4] = [
+pub const ROWS: [Row; 4] = [
     ("SET", SET, SET_REPLIES),
     ("JOINED", JOINED, JOINED_REPLIES),
     ("IN_LAYERS", IN_LAYERS, IN_LAYERS_REPLIES),
     ("OF_TWO", OF_TWO, OF_TWO_REPLIES),
 ];
-
-#[test]
-fn refreshed_versions_say_their_replies(rt: HostRuntime) -> Result<(), Fail> {
-    assert_eq!(rt; first_other(&rt, rt.alloc(), &ROWS)?, None);
-    Ok(())
-}
 
 /// One cell, set behind the await, twice in one line and to be empty. The versions of the array's
 /// name count on, and the version that was refreshed stays as it was.

@@ -1,6 +1,7 @@
 //! Whole sessions: each row is a text and the replies that are said of it.
 
 use super::play::session;
+use super::{merged, refreshed};
 use std::alloc::Global;
 use std::sync::Wait;
 use std::test::Fail;
@@ -20,7 +21,7 @@ fn says<R: Threads + Wait + Clone + Send + Sync + 'static>(
 }
 
 /// The name of the first of these sessions that says other replies, if any does.
-pub fn first_other<R: Threads + Wait + Clone + Send + Sync + 'static>(
+fn first_other<R: Threads + Wait + Clone + Send + Sync + 'static>(
     rt: &R,
     alloc: Global,
     rows: &[Row],
@@ -33,25 +34,30 @@ pub fn first_other<R: Threads + Wait + Clone + Send + Sync + 'static>(
     Ok(None)
 }
 
+/// The rows.
+const ROWS: [Row; 14] = [
+    ("MOVED", MOVED, MOVED_REPLIES),
+    ("FOLDED", FOLDED, FOLDED_REPLIES),
+    ("NEIGHBOURS", NEIGHBOURS, NEIGHBOURS_REPLIES),
+    ("TWO_INPUTS", TWO_INPUTS, TWO_INPUTS_REPLIES),
+    ("REFUSED", REFUSED, REFUSED_REPLIES),
+    ("LAYERS", LAYERS, LAYERS_REPLIES),
+    ("ASKED", ASKED, ASKED_REPLIES),
+    ("NAMED", NAMED, NAMED_REPLIES),
+    ("TURNED", TURNED, TURNED_REPLIES),
+    ("APART", APART, APART_REPLIES),
+    ("STORED", STORED, STORED_REPLIES),
+    ("LISTED", LISTED, LISTED_REPLIES),
+    ("UNEVEN", UNEVEN, UNEVEN_REPLIES),
+    ("EMPTY", b"", b""),
+];
+
 #[test]
 fn sessions_say_their_replies(rt: HostRuntime) -> Result<(), Fail> {
-    let rows: [Row; 14] = [
-        ("MOVED", MOVED, MOVED_REPLIES),
-        ("FOLDED", FOLDED, FOLDED_REPLIES),
-        ("NEIGHBOURS", NEIGHBOURS, NEIGHBOURS_REPLIES),
-        ("TWO_INPUTS", TWO_INPUTS, TWO_INPUTS_REPLIES),
-        ("REFUSED", REFUSED, REFUSED_REPLIES),
-        ("LAYERS", LAYERS, LAYERS_REPLIES),
-        ("ASKED", ASKED, ASKED_REPLIES),
-        ("NAMED", NAMED, NAMED_REPLIES),
-        ("TURNED", TURNED, TURNED_REPLIES),
-        ("APART", APART, APART_REPLIES),
-        ("STORED", STORED, STORED_REPLIES),
-        ("LISTED", LISTED, LISTED_REPLIES),
-        ("UNEVEN", UNEVEN, UNEVEN_REPLIES),
-        ("EMPTY", b"", b""),
-    ];
-    assert_eq!(rt; first_other(&rt, rt.alloc(), &rows)?, None);
+    let alloc = rt.alloc();
+    assert_eq!(rt; first_other(&rt, alloc, &ROWS)?, None);
+    assert_eq!(rt; first_other(&rt, alloc, &merged::ROWS)?, None);
+    assert_eq!(rt; first_other(&rt, alloc, &refreshed::ROWS)?, None);
     Ok(())
 }
 

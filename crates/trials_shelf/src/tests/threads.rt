@@ -163,28 +163,16 @@ fn a_thread_places_while_another_looks(rt: HostRuntime) -> Result<(), Fail> {
     Ok(())
 }
 
-/// Whether two threads place one piece each, and the shelf is full then.
-fn is_filled_in_two<R: Threads + Wait + Sync>(
-    rt: &R,
-    alloc: Global,
-    bench: &Bench,
-    pass: &mut Pass,
-) -> Result<bool, Fail>
-    requires { place_of pass.old ≡ bench.now }
-{
-    let told = place_in_two(rt, alloc, bench, pass)?;
+/// Whether two threads place one piece each of a new shelf, and it is full then.
+fn two_fill_it<R: Threads + Wait + Sync>(rt: &R, alloc: Global) -> Result<bool, Fail> {
+    let (bench, mut pass) = Bench::new(alloc)?;
+    let told = place_in_two(rt, alloc, &bench, &mut pass)?;
     Ok(
         told.0
             && told.1
-            && bench.place(alloc, rt, pass, 1)? == Placed::Already
-            && bench.seal(rt, pass) == SealReply::Sealed,
+            && bench.place(alloc, rt, &mut pass, 1)? == Placed::Already
+            && bench.seal(rt, &mut pass) == SealReply::Sealed,
     )
-}
-
-/// Whether they do so with a new shelf.
-fn two_fill_it<R: Threads + Wait + Sync>(rt: &R, alloc: Global) -> Result<bool, Fail> {
-    let (bench, mut pass) = Bench::new(alloc)?;
-    is_filled_in_two(rt, alloc, &bench, &mut pass)
 }
 
 #[test]

@@ -1,5 +1,5 @@
 //! Logs of which a byte was changed, and logs that were cut: where each is bad.
-use super::ended::{Ended, log_of, served_on};
+use super::ended::{log_of, says_on, served_on};
 use std::alloc::Global;
 use std::sync::Wait;
 use std::test::Fail;
@@ -34,12 +34,7 @@ fn both_end<R: Threads + Wait + Clone + Send + Sync + 'static>(
 ) -> Result<bool, Fail> {
     let checked = served_on(rt, alloc, "check", VERSION, disk)?;
     let answered = served_on(rt, alloc, "run", VERSION, disk)?;
-    Ok(is_barred(&checked, disk, status) && is_barred(&answered, disk, status))
-}
-
-/// Whether a call ended so, said nothing and left this disk.
-fn is_barred(ended: &Ended, disk: &[u8], status: Status) -> bool {
-    ended.is(status, b"") && ended.has(disk)
+    Ok(checked.leaves(status, b"", disk) && answered.leaves(status, b"", disk))
 }
 
 /// A disk with other bytes at a place. Fails where it is not that long.
@@ -154,22 +149,12 @@ fn first_other_cut<R: Threads + Wait + Clone + Send + Sync + 'static>(
     Ok(None)
 }
 
-/// Whether the array is put again on a log that has it.
-fn is_put_again<R: Threads + Wait + Clone + Send + Sync + 'static>(
-    rt: &R,
-    alloc: Global,
-    log: &[u8],
-) -> Result<bool, Fail> {
-    let whole = served_on(rt, alloc, "run", ARRAY, log)?;
-    Ok(whole.is(Status::Done, b"1 array a 2\n"))
-}
-
 /// To each length.
 #[test]
 fn a_log_that_is_cut_is_bad_where_it_breaks_off(rt: HostRuntime) -> Result<(), Fail> {
     let log = log_of(&rt, rt.alloc(), ARRAY)?;
     assert_eq!(rt; first_other_cut(&rt, rt.alloc(), &log)?, None);
-    assert!(rt; is_put_again(&rt, rt.alloc(), &log)?);
+    assert!(rt; says_on(&rt, rt.alloc(), "run", ARRAY, &log, b"1 array a 2\n")?);
     Ok(())
 }
 

@@ -179,6 +179,19 @@ pub fn served_on<R: Threads + Wait + Clone + Send + Sync + 'static>(
     served_by(rt, alloc, [mode, "1"], text, disk)
 }
 
+/// Whether a mode on a disk, with this text as its input, is done and says this.
+pub fn says_on<R: Threads + Wait + Clone + Send + Sync + 'static>(
+    rt: &R,
+    alloc: Global,
+    mode: &str,
+    text: &[u8],
+    disk: &[u8],
+    said: &[u8],
+) -> Result<bool, Fail> {
+    let ended = served_on(rt, alloc, mode, text, disk)?;
+    Ok(ended.is(Status::Done, said))
+}
+
 /// A log that holds nothing.
 fn empty_log<R: Threads + Wait + Clone + Send + Sync + 'static>(
     rt: &R,

@@ -1,6 +1,6 @@
 //! A log on which a version was refreshed: the array of a refresh lasts at once, and its version
 //! from its await on. That a merge was asked does not last.
-use super::ended::{first_lines, log_of, served_on};
+use super::ended::{first_lines, log_of, says_on, served_on};
 use super::rows::REFRESHED;
 use std::alloc::Global;
 use std::sync::Wait;
@@ -81,22 +81,12 @@ fn behind<R: Threads + Wait + Clone + Send + Sync + 'static>(
     Ok(ended.read)
 }
 
-/// Whether a check of a log finds two versions sound.
-fn has_two<R: Threads + Wait + Clone + Send + Sync + 'static>(
-    rt: &R,
-    alloc: Global,
-    log: &[u8],
-) -> Result<bool, Fail> {
-    let checked = served_on(rt, alloc, "check", b"", log)?;
-    Ok(checked.is(Status::Done, b"sound 2\n"))
-}
-
 #[test]
 fn a_refreshed_version_lasts_from_its_await_on(rt: HostRuntime) -> Result<(), Fail> {
     let alloc = rt.alloc();
     let log = log_of(&rt, alloc, first_lines(REFRESHED.text, BEFORE_AWAIT))?;
     let first = behind(&rt, alloc, &log, FIRST, FIRST_REPLIES)?;
     let second = behind(&rt, alloc, &first, SECOND, SECOND_REPLIES)?;
-    assert!(rt; has_two(&rt, alloc, &second)?);
+    assert!(rt; says_on(&rt, alloc, "check", b"", &second, b"sound 2\n")?);
     Ok(())
 }

@@ -1,11 +1,10 @@
 -- Each part knows of one cell more how it keeps it.
-use Rattle.std.proofs.Common.{◌≡◌, ◌+◌, ◌-◌, ◌≤◌, true, arith, ◌∙◌, sym, subst}
+use Rattle.std.proofs.Common.{◌≡◌, ◌-◌, List, length, arith, ◌∙◌}
 use Rattle.sz_cells.specs.declared.Cell.{Cell}
-use Rattle.sz_cells.specs.Extent.{holds}
-use Rattle.sz_cells.proofs.Sets.{cell-held}
-use Rattle.sz_frame.specs.Written.{full_keeping, pay_keeping, comp_keeping}
+use Rattle.sz_frame.specs.declared.groups.Keeping.{Keeping}
+use Rattle.sz_frame.specs.Written.{full_keeping, pay_keeping, comp_keeping, keepings}
 use Rattle.sz_frame.proofs.Added.{cell-next}
-use Rattle.sz_frame.proofs.Grouping.{keepings-next}
+use Rattle.sz_frame.proofs.Grouping.{keepings-length, keepings-next}
 use Rattle.sz_frame.proofs.pieces.look.Goals as goal
 
 pub loop-index-preserved : goal.loop-index-preserved
@@ -30,3 +29,17 @@ loop-index-preserved g c =
           c.loop-index.cell c.loop-index.comp.items c.push-in-loop-index-2.new.self.items c.comp_keeping.result low
           inv.comp inv.cell c.comp_keeping.ensures c.in_ok-push-3.ensures.items;
     }
+
+pub returns-clause-long : goal.returns-clause-long
+returns-clause-long g c =
+    let s = g.A.AtWork.site c.args.at.now in
+    let inv = c.loop-index.invariant in
+    let long : (keep : Cell → Keeping) (kept : List Keeping)
+    → kept ≡ keepings s.out keep c.args.start (c.loop-index.index - c.args.start)
+    → length kept ≡ c.args.end - c.args.start =
+    λ keep kept is. keepings-length s.out keep c.args.start _ kept is ∙ omega arith in
+    let inputs = g.A.AtWork.inputs c.args.at.now in (
+      long (full_keeping c.args.wanted.full s.op inputs) c.loop-index.full.items inv.full,
+      long (pay_keeping c.args.wanted.pay s.op inputs) c.loop-index.pay.items inv.pay,
+      long (comp_keeping c.args.wanted.comp s.op inputs) c.loop-index.comp.items inv.comp,
+    )

@@ -1,9 +1,9 @@
 -- The label of each cell is that of its root.
-use Rattle.std.proofs.Common.{ℕ, ◌+◌, List, Option, ◌++◌, ◌∷◌, [], Some, refl, ap, ap₂, sym, subst, ◌∙◌, arith}
+use Rattle.std.proofs.Common.{ℕ, List, Option, ◌++◌, ◌∷◌, [], Some, refl, ap, ap₂, sym, ◌∙◌, arith}
 use Rattle.std.specs.Prelude.{ℤ, pos}
 use Rattle.std.proofs.lemmas.List.FromFn.{map-range_with_len_more}
 use Rattle.sz_ops_region.specs.Links.{label_by}
-use Rattle.sz_ops_region.proofs.Settled.{AreSettled, settled-first, settled-label, settled-next, settled-down}
+use Rattle.sz_ops_region.proofs.Settled.{settled-first, settled-label, settled-next, settled-down}
 use Rattle.sz_ops_region.proofs.output.labels_of.Goals as goal
 
 pub settle-label-requires-clause-down : goal.settle-label-requires-clause-down
@@ -17,9 +17,8 @@ loop-index-preserved c =
     let n = c.loop-index.index in
     record {
       end = inv.end ∙ sym c.settle-label.auto.words;
-      settled = subst (λ (ws : List ℕ). AreSettled first ws (n + 1)) (sym c.settle-label.ensures.words)
-          (settled-next first c.loop-index.words n c.settle-label.result inv.settled
-          (omega (arith, inv.end, c.loop-index-test.true)) c.settle-label.ensures.word);
+      settled = settled-next first c.loop-index.words c.settle-label.new.words n c.settle-label.result inv.settled
+          (omega (arith, inv.end, c.loop-index-test.true)) c.settle-label.ensures.word c.settle-label.ensures.words;
       made = λ root roots. c.in_ok-push.ensures.items
           ∙ ap₂ (λ (xs : List (Option ℤ)) (v : Option ℤ). xs ++ v ∷ []) (inv.made root roots)
           (c.value_of.ensures ∙ ap (λ (k : ℕ). Some (pos k)) (c.settle-label.ensures.word

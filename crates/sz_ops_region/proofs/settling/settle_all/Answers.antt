@@ -1,6 +1,6 @@
 -- A word is made its cell's label by those before it, and in the end all are.
-use Rattle.std.proofs.Common.{ℕ, ◌+◌, List, refl, sym, subst, ◌∙◌, arith}
-use Rattle.sz_ops_region.proofs.Settled.{AreSettled, settled-first, settled-next, settled-down}
+use Rattle.std.proofs.Common.{refl, sym, ◌∙◌, arith}
+use Rattle.sz_ops_region.proofs.Settled.{settled-first, settled-next, settled-down}
 use Rattle.sz_ops_region.proofs.settling.settle_all.Goals as goal
 
 pub settle-requires-clause-down : goal.settle-requires-clause-down
@@ -10,13 +10,10 @@ settle-requires-clause-down c p is =
 pub loop-index-preserved : goal.loop-index-preserved
 loop-index-preserved c =
     let inv = c.loop-index.invariant in
-    let first = c.args.words.now in
-    let n = c.loop-index.index in
     record {
       end = inv.end ∙ sym c.settle.auto.words;
-      settled = subst (λ (ws : List ℕ). AreSettled first ws (n + 1)) (sym c.settle.ensures.words)
-          (settled-next first c.loop-index.words n c.settle.result inv.settled
-          (omega (arith, inv.end, c.loop-index-test.true)) c.settle.ensures.word);
+      settled = settled-next c.args.words.now c.loop-index.words c.settle.new.words c.loop-index.index c.settle.result
+          inv.settled (omega (arith, inv.end, c.loop-index-test.true)) c.settle.ensures.word c.settle.ensures.words;
     }
 
 pub loop-index-init : goal.loop-index-init

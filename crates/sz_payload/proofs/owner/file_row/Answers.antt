@@ -78,7 +78,8 @@ loop-run-preserved c =
       keys = ap (λ (f : Files). f.keys) c.file_run.ensures ∙ keys;
       filed = rests-run c.args.files.now.keys c.args.files.now.entries c.file_run.new.files.entries
           c.reserve_cells.new.files.entries runs i c.args.row none c.loop-run-test.true before
-          (now ∙ ap (λ (m : ℕ). c.reserve_cells.new.files.entries ++ rests m (indexes_of (get_or runs i none)) c.args.row)
+          (now
+          ∙ ap (λ (m : ℕ). c.reserve_cells.new.files.entries ++ rests m (indexes_of (get_or runs i none)) c.args.row)
           keys);
     }
 

@@ -13,7 +13,7 @@ returns-then-not-branch c =
     let at = c.in_ok-agree_at.ensures.agree in (
       λ no. absurd (true≢false (sym no)),
       λ same.
-          let yes = at.1 (agree-at c.args.dir c.args.at.now a b c.args.input c.loop-index.index same) in
+          let yes = at.1 (agree-at c.side_of-dir.result c.args.at.now a b c.args.input c.loop-index.index same) in
           grind (arith, yes, c.if-not-branch.true),
     )
 
@@ -29,10 +29,10 @@ pub returns : goal.returns
 returns c =
     let a = holding_for c.args.s c.args.a.now.stores in
     let b = holding_for c.args.s c.args.b.now.stores in
-    let near = near_side c.args.dir c.args.at.now c.args.input in
+    let near = near_side c.side_of-dir.result c.args.at.now c.args.input in
     let size = c.size-index-end.ensures.value ∙ ap size_of c.near_shape-near.ensures in (
       λ yes.
-          agree-all c.args.dir c.args.at.now a b c.args.input
+          agree-all c.side_of-dir.result c.args.at.now a b c.args.input
           (λ k below.
           let inside : k < c.loop-index.index = omega (arith, below, size, c.loop-index-test.false) in
           c.loop-index.invariant.each k inside),

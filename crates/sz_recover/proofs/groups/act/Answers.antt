@@ -9,30 +9,28 @@ use Rattle.sz_recover.proofs.Acting.{upgrade-bad}
 use Rattle.sz_bodies.proofs.HeadParts.{if_bad-weaker}
 use Rattle.sz_recover.proofs.groups.act.Goals as goal
 
-pub returns-then-kind-own-clause-ok : goal.returns-then-kind-own-clause-ok
-returns-then-kind-own-clause-ok g c =
+pub returns-then-kind-own : goal.returns-then-kind-own
+returns-then-kind-own g c =
     let f = c.args.format.now in
     let held = c.args.catalogue.now in
     let body = c.args.body.now in
     let kind : c.args.kind ≡ version_kind f = c.if-kind-own.true ∙ c.version_kind-own.ensures in
     let did = c.act_as_version in
-    on_ok_weaker did.result
-    (λ (done : (more : List Kept) × ActsAsVersion f held (entry_of (version_kind f) body) did.new.catalogue more
-    × (did.new.kept.items ≡ c.args.kept.now.items ++ more)).
-    (done.0, version-acts f c.args.kind held did.new.catalogue body done.0 kind done.1, done.2)) did.ensures.ok
-
-pub returns-then-kind-own-clause-err : goal.returns-then-kind-own-clause-err
-returns-then-kind-own-clause-err g c =
-    let f = c.args.format.now in
-    let held = c.args.catalogue.now in
-    let body = c.args.body.now in
-    let kind : c.args.kind ≡ version_kind f = c.if-kind-own.true ∙ c.version_kind-own.ensures in
-    IfErr-weaker c.act_as_version.result (λ e. IfBad e (NoneIsLawful f held body))
-    (λ e. IfBad e (IsBad f held (entry_of c.args.kind body)))
-    (λ e says. if_bad-weaker e
-    (λ (none : NoneIsLawful f held body). subst (λ (k : ℕ). IsBad f held (entry_of k body))
-    (sym kind) (version-bad f held body none)) says)
-    c.act_as_version.ensures.err
+    record {
+      ok =
+          on_ok_weaker did.result
+          (λ (done : (more : List Kept) × ActsAsVersion f held (entry_of (version_kind f) body) did.new.catalogue more
+          × (did.new.kept.items ≡ c.args.kept.now.items ++ more)).
+          (done.0, version-acts f c.args.kind held did.new.catalogue body done.0 kind done.1, done.2)) did.ensures.ok;
+      format = on_ok_weaker did.result (λ done. c.requires) did.ensures.ok;
+      err =
+          IfErr-weaker did.result (λ e. IfBad e (NoneIsLawful f held body))
+          (λ e. IfBad e (IsBad f held (entry_of c.args.kind body)))
+          (λ e says. if_bad-weaker e
+          (λ (none : NoneIsLawful f held body). subst (λ (k : ℕ). IsBad f held (entry_of k body))
+          (sym kind) (version-bad f held body none)) says)
+          did.ensures.err;
+    }
 
 pub returns-then-kind-eq-UPGRADE_KIND-clause-ok : goal.returns-then-kind-eq-UPGRADE_KIND-clause-ok
 returns-then-kind-eq-UPGRADE_KIND-clause-ok g c =

@@ -19,7 +19,7 @@ stands g c =
 
 -- there is room for its body
 room : (g : Over) (c : In_ok-count-in-Whole g) → length c.deref_mut.result.now ≡ c.in-Whole.length
-room g c = c.deref_mut.ensures.len ∙ c.in_ok-body-in-Whole.ensures.len
+room g c = c.deref_mut.ensures.len ∙ c.in-Ok.ensures.len
 
 -- and so many bytes of it were read
 gives : (g : Over) (c : In_ok-count-in-Whole g) → GivesAt (g.T.Station.disk c.group_at.new.station) c.in-Whole.place
@@ -34,7 +34,7 @@ returns-then-count-len-clause-next g c =
     let w = c.in-Whole in
     not-bad (g.T.Station.disk c.args.station.now) (g.T.Station.disk c.group_at.new.station) c.args.at w.kind w.place
     w.length w.next c.in_ok-count-in-Whole.count c.read_at.new.into c.group_at.ensures.disk (stands g s) (gives g s)
-    (λ is. omega (arith, is, c.len.ensures, c.in_ok-body-in-Whole.ensures.len, c.if-count-len.true))
+    (λ is. omega (arith, is, c.len.ensures, c.in-Ok.ensures.len, c.if-count-len.true))
 
 pub returns-else-next-at-clause-next : goal.returns-else-next-at-clause-next
 returns-else-next-at-clause-next g c =
@@ -44,13 +44,13 @@ returns-else-next-at-clause-next g c =
     let w = c.in-Whole in
     let count = c.in_ok-count-in-Whole.count in
     let into = c.read_at.new.into in
-    let body = c.in_ok-body-in-Whole.body in
+    let body = c.in-Ok.body in
     let spelled : SpellsAt o c.args.at (group.Whole w.kind w.place w.length w.next) =
     subst (λ (x : Group). SpellsAt o c.args.at x) w.is c.in_ok-group_at.ensures.spelled in
     let size : length into ≡ w.length = c.read_at.auto.into ∙ room g s in
     let all : count ≡ w.length =
-    omega (arith, c.len.ensures, c.in_ok-body-in-Whole.ensures.len, c.if-count-len.false) in
-    let long : length into ≡ body.len = size ∙ sym c.in_ok-body-in-Whole.ensures.len in
+    omega (arith, c.len.ensures, c.in-Ok.ensures.len, c.if-count-len.false) in
+    let long : length into ≡ body.len = size ∙ sym c.in-Ok.ensures.len in
     subst (λ (xs : List ℕ). IsEntryAt o c.args.at w.kind xs w.next)
     (sym (front into (drop (length into) body.items) body.len long))
     (entry-there o p c.args.at w.kind w.place w.length w.next count into c.group_at.ensures.disk (stands g s) spelled

@@ -7,6 +7,7 @@ use Rattle.sz_cells.specs.Extent.{Extent}
 use Rattle.sz_spec.specs.Shapes.{shape_of}
 use Rattle.sz_spec.specs.FlowShapes.{node_inputs, source_shape, with_node}
 use Rattle.sz_spec.proofs.FlowShapes.{node-right, node-fits, node-breaks}
+use Rattle.sz_spec.proofs.flow_shapes.output_shapes.Goals.{After-shape_of}
 use Rattle.sz_spec.proofs.flow_shapes.output_shapes.Goals as goal
 
 pub input_shapes-requires : goal.input_shapes-requires
@@ -29,15 +30,20 @@ shape_of-requires-in-loop-number-clause-parameters c =
     c.requires.right c.nodes-node-items.ensures c.loop-number-test.true c.node-item.is in
     right.2
 
-pub returns-in-Err : goal.returns-in-Err
-returns-in-Err c =
-    let inputs : c.deref-in-loop-number.result.now
-    ≡ node_inputs c.args.base.now c.loop-number.outputs.items c.node-item.result =
-    c.deref-in-loop-number.ensures.value ∙ c.in_ok-inputs.ensures
+-- the shape rule was asked about the shapes of the node's inputs
+asked : (c : After-shape_of) → shape_of c.node-item.result.op (node_inputs c.args.base.now c.loop-number.outputs.items
+    c.node-item.result) ≡ c.shape_of.result
+asked c =
+    ap (shape_of c.node-item.result.op)
+    (sym (c.deref-in-loop-number.ensures.value ∙ c.in_ok-inputs.ensures
     ∙ ap (λ (outputs : List Extent). map (source_shape c.args.base.now outputs) c.as_slice.result.now)
     c.deref.ensures.value
-    ∙ ap (map (source_shape c.args.base.now c.loop-number.outputs.items)) c.as_slice.ensures in
-    let breaks = ap (shape_of c.node-item.result.op) (sym inputs) ∙ sym c.shape_of.ensures ∙ c.in-Err.is in
+    ∙ ap (map (source_shape c.args.base.now c.loop-number.outputs.items)) c.as_slice.ensures))
+    ∙ sym c.shape_of.ensures
+
+pub returns-in-Err : goal.returns-in-Err
+returns-in-Err c =
+    let breaks = asked (goal.at.returns-in-Err c).After-shape_of ∙ c.in-Err.is in
     sym (ap (fold (with_node c.args.base.now) (Ok [])) (sym c.nodes-node-items.ensures)
     ∙ node-breaks c.args.base.now c.loop-number.outputs.items c.nodes-node-items.result.now c.loop-number.number
     c.node-item.result _ c.loop-number-test.true c.node-item.is c.loop-number.invariant.0
@@ -45,13 +51,7 @@ returns-in-Err c =
 
 pub loop-number-preserved : goal.loop-number-preserved
 loop-number-preserved c =
-    let inputs : c.deref-in-loop-number.result.now
-    ≡ node_inputs c.args.base.now c.loop-number.outputs.items c.node-item.result =
-    c.deref-in-loop-number.ensures.value ∙ c.in_ok-inputs.ensures
-    ∙ ap (λ (outputs : List Extent). map (source_shape c.args.base.now outputs) c.as_slice.result.now)
-    c.deref.ensures.value
-    ∙ ap (map (source_shape c.args.base.now c.loop-number.outputs.items)) c.as_slice.ensures in
-    let fits = ap (shape_of c.node-item.result.op) (sym inputs) ∙ sym c.shape_of.ensures ∙ c.in-Ok.is in
+    let fits = asked (goal.at.loop-number-preserved c).After-shape_of ∙ c.in-Ok.is in
     let more = node-fits c.args.base.now c.loop-number.outputs.items c.nodes-node-items.result.now
     c.loop-number.number c.node-item.result c.in-Ok.shape c.loop-number-test.true c.node-item.is
     c.loop-number.invariant.0 fits in (

@@ -44,7 +44,8 @@ loop-run-preserved c =
 pub returns : goal.returns
 returns c =
     let all = c.loop-run.invariant
-    ∙ ap (λ rs. length (flat_map indexes_of rs)) (take_all c.loop-run.run-index c.args.runs.now c.loop-run-test.false) in
+    ∙ ap (λ rs. length (flat_map indexes_of rs))
+    (take_all c.loop-run.run-index c.args.runs.now c.loop-run-test.false) in
     record {
       count = all;
       few = omega (arith, all, spelled-length c.args.size c.args.runs.now c.requires.longest);

@@ -1,4 +1,5 @@
--- The listed payloads and sets stand in the tables, and the rows that were read spell the entries that their names name.
+-- The listed payloads and sets stand in the tables, and the rows that were read spell the entries that their names
+-- name.
 use Rattle.std.proofs.Common.{◌≡◌, ℕ, List, length, ap, sym, subst, ◌∙◌, arith, rules}
 use Rattle.std.specs.List.{AllZip}
 use Rattle.sz_region.proofs.Numbering.{zip-length}

@@ -7,7 +7,7 @@ use Rattle.sz_versions.specs.declared.runs.NodeKeeping.{NodeKeeping}
 use Rattle.sz_versions.proofs.Keeping.{IsListedAt, list-below, listed-run, kept-length, kept-read, kept-one, kept-all}
 use Rattle.sz_versions.proofs.Still.{stills-same, long-still, keeps-still, stills-set}
 use Rattle.sz_versions.proofs.building.whole_stores.Given.{Over}
-use Rattle.sz_versions.proofs.building.whole_stores.Goals.{After-as_slice}
+use Rattle.sz_versions.proofs.building.whole_stores.Goals.{After-as_slice-list}
 use Rattle.sz_versions.proofs.building.whole_stores.Goals as goal
 
 pub loop-node-init : goal.loop-node-init
@@ -37,7 +37,7 @@ bounds-begun-node g c =
     )
 
 -- the run, and the list at its place
-here : (g : Over) (c : After-as_slice g) → IsListedAt c.args.runs.now c.args.lists.now c.loop-node.node
+here : (g : Over) (c : After-as_slice-list g) → IsListedAt c.args.runs.now c.args.lists.now c.loop-node.node
     c.index-runs-node.result c.index-lists-node.result
 here g c =
     listed-run c.args.runs.now c.args.lists.now c.loop-node.node c.index-runs-node.result c.index-lists-node.result
@@ -50,14 +50,14 @@ end-requires g c =
     let lists = c.args.lists.now in
     let run = c.index-runs-node.result in
     let list = c.index-lists-node.result in
-    let h = here g (goal.at.end-requires g c).After-as_slice in
+    let h = here g (goal.at.end-requires g c).After-as_slice-list in
     let own = keeps-still false es lists (map keeping_of c.args.begun.now) (map keeping_of c.loop-node.begun)
     c.loop-node.invariant.still c.requires.kept in
     let kept = kept-read false es lists c.loop-node.begun c.loop-node.node (execution_of run) list
     c.index-begun-node.result own h.here h.listed c.index-begun-node.is in
     record {
-      supported = rw c.as_slice.ensures h.supported;
-      kept = rw c.as_slice.ensures
+      supported = rw c.as_slice-list.ensures h.supported;
+      kept = rw c.as_slice-list.ensures
           (subst (λ (x : NodeKeeping). IsKeptOf false (execution_of run) list (keeping_of x))
           c.index-begun-node.is kept);
     }
@@ -67,8 +67,8 @@ loop-node-preserved g c = record {
   end = refl;
   whole = rw c.in_ok-push.ensures.items
       (kept-one true c.loop-node.stores.items c.in_ok-end.field-0
-      (here g (goal.at.loop-node-preserved g c).After-as_slice) c.loop-node.invariant.whole
-      (rw c.as_slice.ensures at c.in_ok-end.ensures.whole));
+      (here g (goal.at.loop-node-preserved g c).After-as_slice-list) c.loop-node.invariant.whole
+      (rw c.as_slice-list.ensures at c.in_ok-end.ensures.whole));
   still = stills-set (map keeping_of c.args.begun.now) c.loop-node.begun c.loop-node.node c.end.new.begun
       c.index-begun-node.result c.loop-node.invariant.still c.in_ok-end.ensures.still;
 }

@@ -40,10 +40,10 @@ merge_node-requires g c =
     c.index-runs-node.result list c.index-kept-node.result c.requires.mergeable c.loop-node.invariant.same few
     c.index-runs-node.is c.index-lists-node.is c.index-kept-node.is in
     record {
-      supported = rw c.as_slice.ensures
+      supported = rw c.as_slice-list.ensures
           (listed-at (map execution_of runs) c.args.lists.now c.loop-node.node e list c.requires.listed here.here
           here.listed);
-      mergeable = rw c.as_slice.ensures
+      mergeable = rw c.as_slice-list.ensures
           (subst (λ (x : NodeKeeping). IsMergeable true e list (keeping_of x)) c.index-kept-node.is here.own);
     }
 
@@ -63,10 +63,10 @@ loop-node-preserved g c =
     c.loop-node.invariant.same few c.index-runs-node.is c.index-lists-node.is c.index-kept-node.is in
     let next : suc n ≡ n + 1 = omega arith in
     let one = subst (λ (x : NodeKeeping). IsMergedNode (execution_of run) list (keeping_of x) (keeping_of new))
-    (sym c.index-kept-node.is) (rw c.as_slice.ensures at c.in_ok-merge_node.ensures.merged) in
+    (sym c.index-kept-node.is) (rw c.as_slice-list.ensures at c.in_ok-merge_node.ensures.merged) in
     let own = subst (λ (x : NodeKeeping). c.merge_node.new.kinds.items
     ≡ c.loop-node.kinds.items ++ kinds_in_kept (execution_of run) list (keeping_of x))
-    (sym c.index-kept-node.is) (rw c.as_slice.ensures at c.in_ok-merge_node.ensures.kinds) in
+    (sym c.index-kept-node.is) (rw c.as_slice-list.ensures at c.in_ok-merge_node.ensures.kinds) in
     let news = ap (λ xs. map keeping_of xs) c.in_ok-push.ensures.items
     ∙ map-append keeping_of c.loop-node.merged.items (new ∷ []) in
     record {

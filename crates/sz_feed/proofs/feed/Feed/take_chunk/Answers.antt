@@ -8,6 +8,7 @@ use Rattle.sz_feed.specs.Serving.{Advances}
 use Rattle.sz_feed.specs.Disks.{OnlySays}
 use Rattle.sz_feed.specs.Waiting.{Waits}
 use Rattle.sz_feed.specs.Running.{StaysBeside}
+use Rattle.sz_feed.specs.declared.feed.Halt.TheVariants as halt
 use Rattle.sz_feed.specs.Calls.{SaysReplies, FindsBehind, WritesOne}
 use Rattle.sz_feed.proofs.Turns.{take-line}
 use Rattle.sz_feed.proofs.Disks.{stays-still}
@@ -117,7 +118,7 @@ pub returns-in_err-extend-clause-says : goal.returns-in_err-extend-clause-says
 returns-in_err-extend-clause-says g c =
     let p = err_from_is_err_and c.from_residual.result c.from_residual.ensures.1 in
     rw (p.1, p.2)
-    (replies-memory _ _ _ _ _ _ c.in_err-extend.ensures.err
+    (replies-memory halt.NoMemory _ _ _ _ _ refl
     (first-taken _ _ c.args.self.now c.args.chunk.now c.loop-at.start c.loop-at.invariant.waits.first))
 
 pub returns-in_err-extend-clause-answered : goal.returns-in_err-extend-clause-answered
@@ -125,8 +126,8 @@ returns-in_err-extend-clause-answered g c =
     let so_far = c.loop-at.invariant.answered in
     let p = err_from_is_err_and c.from_residual.result c.from_residual.ensures.1 in
     rw (p.1, p.2)
-    (answered-memory g.T.Station _ c.args.self.now _ [] _ c.args.station.now c.loop-at.station
-    c.in_err-extend.ensures.err so_far.counted
+    (answered-memory g.T.Station halt.NoMemory c.args.self.now _ [] _ c.args.station.now c.loop-at.station
+    refl so_far.counted
     (behind-front g.T.Station c.args.self.now c.args.chunk.now c.loop-at.start c.args.station.now c.loop-at.station
     so_far.found))
 
@@ -134,7 +135,7 @@ pub returns-in_err-extend-2-clause-says : goal.returns-in_err-extend-2-clause-sa
 returns-in_err-extend-2-clause-says g c =
     let p = err_from_is_err_and c.from_residual-in_err-extend-2.result c.from_residual-in_err-extend-2.ensures.1 in
     rw (p.1, p.2)
-    (replies-memory _ _ _ _ _ _ c.in_err-extend-2.ensures.err
+    (replies-memory halt.NoMemory _ _ _ _ _ refl
     (first-taken _ _ c.args.self.now c.args.chunk.now c.loop-at.start c.loop-at.invariant.waits.first))
 
 pub returns-in_err-extend-2-clause-answered : goal.returns-in_err-extend-2-clause-answered
@@ -142,8 +143,8 @@ returns-in_err-extend-2-clause-answered g c =
     let so_far = c.loop-at.invariant.answered in
     let p = err_from_is_err_and c.from_residual-in_err-extend-2.result c.from_residual-in_err-extend-2.ensures.1 in
     rw (p.1, p.2)
-    (answered-memory g.T.Station _ c.args.self.now _ [] _ c.args.station.now c.loop-at.station
-    c.in_err-extend-2.ensures.err so_far.counted
+    (answered-memory g.T.Station halt.NoMemory c.args.self.now _ [] _ c.args.station.now c.loop-at.station
+    refl so_far.counted
     (behind-front g.T.Station c.args.self.now c.args.chunk.now c.loop-at.start c.args.station.now c.loop-at.station
     so_far.found))
 

@@ -1,29 +1,6 @@
 -- A cut that is done leaves the front of the disk.
-use Rattle.std.proofs.Common.{[], Some, is_ok, ap, ◌∙◌}
-use Rattle.sz_outside.specs.History.{Scene}
-use Rattle.sz_outside.specs.Memory.{Ledger}
-use Rattle.sz_outside.specs.declared.history.Act.TheVariants as act
-use Rattle.sz_outside.proofs.Ledgers.{Went, went, stops, said, done}
-use Rattle.sz_outside.proofs.stations.MemStationStation.cut.Goals.{After-end_disk_call}
+use Rattle.sz_outside.proofs.Ledgers.{read}
 use Rattle.sz_outside.proofs.stations.MemStationStation.cut.Goals as goal
 
-cut_off : (c : After-end_disk_call) → Went c.args.self.now c.end_disk_call.new.self (act.Cut c.args.size) []
-    c.next_disk_call-is_done.result (is_ok c.note_cut-kept.result)
-cut_off c = went c.note_cut-kept.result _ _ _ _ _ _ _
-    (ap (λ (s : Ledger). s.past) (c.self.view_is ∙ c.next_disk_call-is_done.ensures.counted))
-    (ap (λ (s : Ledger). s.past) c.end_disk_call.ensures.counted) c.note_cut-kept.ensures.ok c.note_cut-kept.ensures.err
-
-pub returns-clause-output : goal.returns-clause-output
-returns-clause-output c = (
-  said (cut_off (goal.at.returns-clause-output c).After-end_disk_call) tt,
-  ap (λ (s : Ledger). s.say_faults) c.end_disk_call.ensures.counted ∙ ap (λ (s : Ledger). s.say_faults)
-      (c.self.view_is ∙ c.next_disk_call-is_done.ensures.counted),
-)
-
-pub returns-clause-stops : goal.returns-clause-stops
-returns-clause-stops c = stops (cut_off (goal.at.returns-clause-stops c).After-end_disk_call) tt
-
 pub returns-clause-cut : goal.returns-clause-cut
-returns-clause-cut c =
-    done (cut_off (goal.at.returns-clause-cut c).After-end_disk_call) c.end_disk_call.result
-    c.end_disk_call.ensures.answer (λ then. ap (λ (s : Scene). Some s.disk) then)
+returns-clause-cut c = read _ _ c.disk_call.result c.disk_call.ensures.done

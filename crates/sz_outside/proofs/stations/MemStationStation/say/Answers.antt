@@ -10,10 +10,10 @@ use Rattle.sz_outside.proofs.stations.MemStationStation.say.Goals.{After-end_say
 use Rattle.sz_outside.proofs.stations.MemStationStation.say.Goals as goal
 
 told : (c : After-end_say) → Went c.args.self.now c.end_say.new.self act.Say c.args.bytes.now
-    c.next_say-is_done.result (is_ok c.note_say-kept.result)
-told c = went c.note_say-kept.result _ _ _ _ _ _ _
+    c.next_say-is_done.result (is_ok c.note-kept.result)
+told c = went c.note-kept.result _ _ _ _ _ _ _
     (ap (λ (s : Ledger). s.past) (c.self.view_is ∙ c.next_say-is_done.ensures.counted))
-    (ap (λ (s : Ledger). s.past) c.end_say.ensures.counted) c.note_say-kept.ensures.ok c.note_say-kept.ensures.err
+    (ap (λ (s : Ledger). s.past) c.end_say.ensures.counted) c.note-kept.ensures.ok c.note-kept.ensures.err
 
 pub returns-clause-disk : goal.returns-clause-disk
 returns-clause-disk c = (

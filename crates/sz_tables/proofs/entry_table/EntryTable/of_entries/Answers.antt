@@ -76,4 +76,5 @@ returns-clause-payloads c =
     let es : List Entry = map (λ a. arc_value a) c.args.given.now in
     let long = length-map c.args.given.now (λ a. arc_value a) in
     subst (λ (xs : List Entry). All (IsOneOf (map (λ (x : Entry). x.payload) xs)) c.loop-entry.table.payloads)
-    (take_all c.loop-entry.entry-index es (omega (arith, long, c.loop-entry-test.false))) c.loop-entry.invariant.payloads
+    (take_all c.loop-entry.entry-index es (omega (arith, long, c.loop-entry-test.false)))
+    c.loop-entry.invariant.payloads
