@@ -1,9 +1,8 @@
 -- The words that clauses of this crate are written in, each from the file that defines it.
 pub use Rattle.std.specs.Arc.{arc_value}
 pub use Rattle.std.specs.List.{list_all}
-pub use Rattle.std.specs.Prelude.{◌&&◌, ◌*◌, ◌++◌, ◌+◌, ◌<◌, ◌^◌, ◌∷◌, ◌≡◌, ◌≤◌, All, IfErr, IfNone}
-pub use Rattle.std.specs.Prelude.{IfOk, IfSome, List, None, Ok, OnOk, Some, [], false, get_or}
-pub use Rattle.std.specs.Prelude.{length, map, nat_le, option_map, true, ℕ}
+pub use Rattle.std.specs.Prelude.{All, IfErr, IfNone, IfOk, IfSome, List, None, Ok, OnOk, Some, []}
+pub use Rattle.std.specs.Prelude.{false, get_or, length, map, nat_le, option_map, true, ℕ}
 pub use Rattle.sz_catalogue.specs.Holdings.{cells_of, flow_named, shapes_of}
 pub use Rattle.sz_catalogue.specs.Rules.{are_distinct, has_no_version, is_list_for, names_a_store}
 pub use Rattle.sz_catalogue.specs.Rules.{version_of}

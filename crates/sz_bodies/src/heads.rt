@@ -1,11 +1,12 @@
 //! What stands before the nodes in a body, and what is held under the names in it.
 
-ghost use Rattle.sz_bodies.specs.Terms.{◌≡◌, ◌<◌, ◌≤◌, ◌+◌, ◌^◌, ◌&&◌, true, length, map, All};
-ghost use Rattle.sz_bodies.specs.Terms.{Some, nat_le, option_map, IfOk, IfErr, IfSome, IfNone};
-ghost use Rattle.sz_bodies.specs.Terms.{arc_value, four_bytes, counted, IsAt, NoneAt, AreFew};
-ghost use Rattle.sz_bodies.specs.Terms.{flow_named, name_bytes, base_bytes, named_base, IfBad};
-ghost use Rattle.sz_bodies.specs.Terms.{IsNewNumber, IsHeldName, IsHeldBase, IsHeldHead, IsFlowOf};
-ghost use Rattle.sz_bodies.specs.Terms.{IsArray, AreArrays, IsBegun, said_bytes, said_in, Begun};
+ghost use Rattle.std.specs.Prelude.{◌≡◌, ◌<◌, ◌≤◌, ◌+◌, ◌^◌, ◌&&◌};
+ghost use Rattle.sz_bodies.specs.Terms.{true, length, map, All, Some, nat_le, option_map, IfOk};
+ghost use Rattle.sz_bodies.specs.Terms.{IfErr, IfSome, IfNone, arc_value, four_bytes, counted};
+ghost use Rattle.sz_bodies.specs.Terms.{IsAt, NoneAt, AreFew, flow_named, name_bytes, base_bytes};
+ghost use Rattle.sz_bodies.specs.Terms.{named_base, IfBad, IsNewNumber, IsHeldName, IsHeldBase};
+ghost use Rattle.sz_bodies.specs.Terms.{IsHeldHead, IsFlowOf, IsArray, AreArrays, IsBegun};
+ghost use Rattle.sz_bodies.specs.Terms.{said_bytes, said_in, Begun};
 
 use crate::parts::take_name;
 use crate::reading::TakeFault;

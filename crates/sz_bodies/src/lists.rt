@@ -1,7 +1,8 @@
 //! Reading lists of strategies.
 
-ghost use Rattle.sz_bodies.specs.Terms.{◌≡◌, map, IfOk, IfErr, IfSome, IfNone, number_of, IsAt};
-ghost use Rattle.sz_bodies.specs.Terms.{NoneAt, list_bytes, IfBad, IsShortList, NumberNone};
+ghost use Rattle.std.specs.Prelude.{◌≡◌};
+ghost use Rattle.sz_bodies.specs.Terms.{map, IfOk, IfErr, IfSome, IfNone, number_of, IsAt, NoneAt};
+ghost use Rattle.sz_bodies.specs.Terms.{list_bytes, IfBad, IsShortList, NumberNone};
 
 use crate::parts::counted_at;
 use crate::reading::TakeFault;

@@ -1,12 +1,12 @@
 //! Reading the nodes of a body: the list of each, and its stores.
 
-ghost use Rattle.sz_bodies.specs.Terms.{◌≡◌, ℕ, ◌<◌, ◌≤◌, List, ◌∷◌, length, map, true, false, Ok};
-ghost use Rattle.sz_bodies.specs.Terms.{All, option_map, IfOk, IfErr, arc_value, supports};
-ghost use Rattle.sz_bodies.specs.Terms.{stored_in, is_format, BeginEachIn, NoneBeginIn, NodePart};
-ghost use Rattle.sz_bodies.specs.Terms.{FitsNode, FitNodes, IsWholeFor, part_of, parts_of};
-ghost use Rattle.sz_bodies.specs.Terms.{lineages, IsRightSite, IfBad, site_over, IsFitting};
-ghost use Rattle.sz_bodies.specs.Terms.{IsNodeAt, AreNodesAt, NoNodeAt, NoNodesAt, IsOnlyNode};
-ghost use Rattle.sz_bodies.specs.Terms.{AreOnlyNodes};
+ghost use Rattle.std.specs.Prelude.{◌≡◌, ◌<◌, ◌≤◌, ◌∷◌};
+ghost use Rattle.sz_bodies.specs.Terms.{ℕ, List, length, map, true, false, Ok, All, option_map};
+ghost use Rattle.sz_bodies.specs.Terms.{IfOk, IfErr, arc_value, supports, stored_in, is_format};
+ghost use Rattle.sz_bodies.specs.Terms.{BeginEachIn, NoneBeginIn, NodePart, FitsNode, FitNodes};
+ghost use Rattle.sz_bodies.specs.Terms.{IsWholeFor, part_of, parts_of, lineages, IsRightSite};
+ghost use Rattle.sz_bodies.specs.Terms.{IfBad, site_over, IsFitting, IsNodeAt, AreNodesAt};
+ghost use Rattle.sz_bodies.specs.Terms.{NoNodeAt, NoNodesAt, IsOnlyNode, AreOnlyNodes};
 
 use crate::lists::take_list;
 use crate::reading::TakeFault;

@@ -1,7 +1,8 @@
 //! The names that stand in a body, and other bytes that are counted.
 
-ghost use Rattle.sz_bodies.specs.Terms.{◌<◌, ◌+◌, length, IfOk, IfErr, IfSome, IfNone, IsAt};
-ghost use Rattle.sz_bodies.specs.Terms.{NoneAt, name_bytes, IfBad, IsName, IsAnyText};
+ghost use Rattle.std.specs.Prelude.{◌<◌, ◌+◌};
+ghost use Rattle.sz_bodies.specs.Terms.{length, IfOk, IfErr, IfSome, IfNone, IsAt, NoneAt};
+ghost use Rattle.sz_bodies.specs.Terms.{name_bytes, IfBad, IsName, IsAnyText};
 
 use crate::reading::TakeFault;
 use std::alloc::Global;

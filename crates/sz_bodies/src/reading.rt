@@ -1,9 +1,10 @@
 //! Reading the body of a version.
 
-ghost use Rattle.sz_bodies.specs.Terms.{◌≡◌, ◌<◌, ℕ, map, true, All, IfOk, IfErr, arc_value};
-ghost use Rattle.sz_bodies.specs.Terms.{Extent, shapes_of, is_format, Fit, body_of, version_said};
-ghost use Rattle.sz_bodies.specs.Terms.{IsLawful, CanBeAdded, IfBad, lineages, Taken};
-ghost use Rattle.sz_bodies.specs.Terms.{NoneIsLawful, IsFitting, FitShapes, NoShapesFit};
+ghost use Rattle.std.specs.Prelude.{◌≡◌, ◌<◌};
+ghost use Rattle.sz_bodies.specs.Terms.{ℕ, map, true, All, IfOk, IfErr, arc_value, Extent};
+ghost use Rattle.sz_bodies.specs.Terms.{shapes_of, is_format, Fit, body_of, version_said, IsLawful};
+ghost use Rattle.sz_bodies.specs.Terms.{CanBeAdded, IfBad, lineages, Taken, NoneIsLawful};
+ghost use Rattle.sz_bodies.specs.Terms.{IsFitting, FitShapes, NoShapesFit};
 ghost use Rattle.sz_bodies.specs.declared.reading.TakeFault.TheVariants as fault;
 
 use crate::heads::{Head, take_head};

@@ -2,7 +2,8 @@
 //! fraction of what reading it costs. Nothing rests on what is told, since whoever reads a node says
 //! where it ends.
 
-ghost use Rattle.sz_bodies.specs.Terms.{◌≤◌, length, IfSome};
+ghost use Rattle.std.specs.Prelude.{◌≤◌};
+ghost use Rattle.sz_bodies.specs.Terms.{length, IfSome};
 
 use crate::lists::strategy_of;
 use crate::parts::counted_at;

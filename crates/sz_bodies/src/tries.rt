@@ -1,10 +1,11 @@
 //! Nodes of a long body that are read side by side, each where it may begin. What was read of one
 //! counts where the node before it ends there.
 
-ghost use Rattle.sz_bodies.specs.Terms.{◌≡◌, ◌<◌, ℕ, length, get_or, true, All, None, option_map};
-ghost use Rattle.sz_bodies.specs.Terms.{IfOk, IfErr, arc_value, is_format, Node, TriedNode};
-ghost use Rattle.sz_bodies.specs.Terms.{FitsNode, part_of, IfBad, site_over, IsFitting, IsNodeAt};
-ghost use Rattle.sz_bodies.specs.Terms.{NoNodeAt, IsOnlyNode, IsTried};
+ghost use Rattle.std.specs.Prelude.{◌≡◌, ◌<◌};
+ghost use Rattle.sz_bodies.specs.Terms.{ℕ, length, get_or, true, All, None, option_map, IfOk};
+ghost use Rattle.sz_bodies.specs.Terms.{IfErr, arc_value, is_format, Node, TriedNode, FitsNode};
+ghost use Rattle.sz_bodies.specs.Terms.{part_of, IfBad, site_over, IsFitting, IsNodeAt, NoNodeAt};
+ghost use Rattle.sz_bodies.specs.Terms.{IsOnlyNode, IsTried};
 
 use crate::nodes::take_node;
 use crate::reading::TakeFault;

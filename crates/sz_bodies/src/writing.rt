@@ -1,12 +1,12 @@
 //! Writing the body of a version.
 
-ghost use Rattle.sz_bodies.specs.Terms.{◌≡◌, ◌<◌, ◌^◌, ◌++◌, ◌∷◌, ℕ, List, [], length, map, true};
-ghost use Rattle.sz_bodies.specs.Terms.{false, All, IfOk, OnOk, option_map, arc_value, four_bytes};
-ghost use Rattle.sz_bodies.specs.Terms.{Site, number_of, counted, has_no_version, version_of};
-ghost use Rattle.sz_bodies.specs.Terms.{is_format, name_bytes, base_bytes, list_bytes, BeginNodes};
-ghost use Rattle.sz_bodies.specs.Terms.{IsShortName, IsShortBase, IsBodyOf, sites_of, FitsNode};
-ghost use Rattle.sz_bodies.specs.Terms.{FitNodes, Fit, lineages, part_of, parts_of, named_base};
-ghost use Rattle.sz_bodies.specs.Terms.{body_of};
+ghost use Rattle.std.specs.Prelude.{◌≡◌, ◌<◌, ◌^◌, ◌++◌, ◌∷◌};
+ghost use Rattle.sz_bodies.specs.Terms.{ℕ, List, [], length, map, true, false, All, IfOk, OnOk};
+ghost use Rattle.sz_bodies.specs.Terms.{option_map, arc_value, four_bytes, Site, number_of};
+ghost use Rattle.sz_bodies.specs.Terms.{counted, has_no_version, version_of, is_format, name_bytes};
+ghost use Rattle.sz_bodies.specs.Terms.{base_bytes, list_bytes, BeginNodes, IsShortName};
+ghost use Rattle.sz_bodies.specs.Terms.{IsShortBase, IsBodyOf, sites_of, FitsNode, FitNodes, Fit};
+ghost use Rattle.sz_bodies.specs.Terms.{lineages, part_of, parts_of, named_base, body_of};
 
 use std::alloc::Global;
 use std::sync::Arc;

@@ -7,10 +7,9 @@ pub use Rattle.std.specs.List.Sorted.{IsStrictlySortedBy}
 pub use Rattle.std.specs.Map.{keys_of, lookup, set_value}
 pub use Rattle.std.specs.Option.{option_copied}
 pub use Rattle.std.specs.Ordering.{nat_cmp}
-pub use Rattle.std.specs.Prelude.{◌*◌, ◌++◌, ◌+◌, ◌<◌, ◌∷◌, ◌≡◌, ◌≤◌, All, IfOk, IfSome, List, None}
-pub use Rattle.std.specs.Prelude.{Ok, OnErr, OnOk, Some, [], false, flat_map, if◌then◌else◌}
-pub use Rattle.std.specs.Prelude.{is_some, length, map, option_map, slice_set, string_bytes, true}
-pub use Rattle.std.specs.Prelude.{unwrap_or, ℕ}
+pub use Rattle.std.specs.Prelude.{All, IfOk, IfSome, List, None, Ok, OnErr, OnOk, Some, [], false}
+pub use Rattle.std.specs.Prelude.{flat_map, is_some, length, map, option_map, slice_set}
+pub use Rattle.std.specs.Prelude.{string_bytes, true, unwrap_or, ℕ}
 pub use Rattle.std.specs.Result.{result_err}
 pub use Rattle.std.specs.Str.{bytes_eq}
 pub use Rattle.sz_cells.specs.Extent.{size_of}

@@ -1,7 +1,7 @@
 //! The arrays held, in the order in which they came, with an index by name.
-ghost use Rattle.sz_catalogue.specs.Terms.{◌≡◌, ℕ, ◌+◌, List, [], ◌∷◌, ◌++◌, length, map};
-ghost use Rattle.sz_catalogue.specs.Terms.{option_map, if◌then◌else◌, IfOk, OnErr, bytes_eq};
-ghost use Rattle.sz_catalogue.specs.Terms.{arc_value, size_of, Grid, Named, things_named};
+ghost use Rattle.std.specs.Prelude.{◌≡◌, ◌+◌, ◌∷◌, ◌++◌, if◌then◌else◌};
+ghost use Rattle.sz_catalogue.specs.Terms.{ℕ, List, [], length, map, option_map, IfOk, OnErr};
+ghost use Rattle.sz_catalogue.specs.Terms.{bytes_eq, arc_value, size_of, Grid, Named, things_named};
 ghost use Rattle.sz_catalogue.specs.Terms.{thing_numbered, versions_in, IsVersionIndex};
 ghost use Rattle.sz_catalogue.specs.Terms.{string_bytes};
 

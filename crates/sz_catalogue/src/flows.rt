@@ -1,10 +1,11 @@
 //! The flows held, by name, each with the strategies that its nodes have.
-ghost use Rattle.sz_catalogue.specs.Terms.{◌≡◌, ◌<◌, true, [], length, slice_set, option_map, map};
-ghost use Rattle.sz_catalogue.specs.Terms.{Some, IfOk, IfSome, OnOk, OnErr, nat_cmp, slice_cmp};
-ghost use Rattle.sz_catalogue.specs.Terms.{lookup, set_value, is_at, insert_entry, arc_value};
+ghost use Rattle.std.specs.Prelude.{◌≡◌, ◌<◌};
+ghost use Rattle.sz_catalogue.specs.Terms.{true, [], length, slice_set, option_map, map, Some};
+ghost use Rattle.sz_catalogue.specs.Terms.{IfOk, IfSome, OnOk, OnErr, nat_cmp, slice_cmp, lookup};
+ghost use Rattle.sz_catalogue.specs.Terms.{set_value, is_at, insert_entry, arc_value};
 ghost use Rattle.sz_catalogue.specs.Terms.{option_copied, is_well_formed, workflow_in, first_lists};
-ghost use Rattle.sz_catalogue.specs.Terms.{is_list_of, are_lists_for, with_list, ℕ, List};
-ghost use Rattle.sz_catalogue.specs.Terms.{Workflow, by_bytes, IsWorkflow};
+ghost use Rattle.sz_catalogue.specs.Terms.{is_list_of, are_lists_for, with_list, ℕ, List, Workflow};
+ghost use Rattle.sz_catalogue.specs.Terms.{by_bytes, IsWorkflow};
 
 use crate::lists::StrategyLists;
 use crate::memory::{own_text, share_flow};

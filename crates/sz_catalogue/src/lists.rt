@@ -1,5 +1,6 @@
 //! The lists that a held version shows. Contracts see each as the list of what it holds.
-ghost use Rattle.sz_catalogue.specs.Terms.{◌≡◌, ◌<◌, List, length, slice_set, IfOk, Strategy, Base};
+ghost use Rattle.std.specs.Prelude.{◌≡◌, ◌<◌};
+ghost use Rattle.sz_catalogue.specs.Terms.{List, length, slice_set, IfOk, Strategy, Base};
 
 use crate::memory::{another_owner, own_list, own_name};
 use crate::version::BaseArray;

@@ -1,5 +1,6 @@
 //! What takes memory, and answers where there is none.
-ghost use Rattle.sz_catalogue.specs.Terms.{◌≡◌, string_bytes, IfOk, arc_value};
+ghost use Rattle.std.specs.Prelude.{◌≡◌};
+ghost use Rattle.sz_catalogue.specs.Terms.{string_bytes, IfOk, arc_value};
 
 use std::alloc::Global;
 use std::sync::Arc;

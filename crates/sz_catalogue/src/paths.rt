@@ -1,6 +1,6 @@
 //! Paths through a flow: whether one is joined.
-ghost use Rattle.sz_catalogue.specs.Terms.{◌≡◌, source_of, is_output_of, follows, are_joined};
-ghost use Rattle.sz_catalogue.specs.Terms.{is_joined};
+ghost use Rattle.std.specs.Prelude.{◌≡◌};
+ghost use Rattle.sz_catalogue.specs.Terms.{source_of, is_output_of, follows, are_joined, is_joined};
 
 use sz_script::PathStep;
 use sz_spec::{Dir, Flow, SourceRef};

@@ -1,8 +1,9 @@
 //! Replies, and the lines that they are written as. Contracts see a reply as a `Response`.
-ghost use Rattle.sz_catalogue.specs.Terms.{◌≡◌, ◌<◌, ◌≤◌, [], ◌++◌, OnOk, IfOk, string_bytes};
-ghost use Rattle.sz_catalogue.specs.Terms.{flat_map, size_of, indexes_of, before, name_of_strategy};
-ghost use Rattle.sz_catalogue.specs.Terms.{cell_text, value_text, shape_text, word_text};
-ghost use Rattle.sz_catalogue.specs.Terms.{number_text, reply_text, reply_line, response_of};
+ghost use Rattle.std.specs.Prelude.{◌≡◌, ◌<◌, ◌≤◌, ◌++◌};
+ghost use Rattle.sz_catalogue.specs.Terms.{[], OnOk, IfOk, string_bytes, flat_map, size_of};
+ghost use Rattle.sz_catalogue.specs.Terms.{indexes_of, before, name_of_strategy, cell_text};
+ghost use Rattle.sz_catalogue.specs.Terms.{value_text, shape_text, word_text, number_text};
+ghost use Rattle.sz_catalogue.specs.Terms.{reply_text, reply_line, response_of};
 ghost use Rattle.sz_catalogue.specs.declared.reply.Reply.TheVariants as reply_is;
 
 use std::alloc::{AllocError, Global};

@@ -1,5 +1,6 @@
 //! How many cells shapes have.
-ghost use Rattle.sz_catalogue.specs.Terms.{◌≡◌, ◌≤◌, ◌*◌, length, cells_of};
+ghost use Rattle.std.specs.Prelude.{◌≡◌, ◌≤◌, ◌*◌};
+ghost use Rattle.sz_catalogue.specs.Terms.{length, cells_of};
 
 use sz_cells::Shape;
 

@@ -1,5 +1,6 @@
 //! The operators of a flow's nodes, at the shapes between which they work.
-ghost use Rattle.sz_catalogue.specs.Terms.{◌≡◌, map, All, IfOk, site_over, IsFitting};
+ghost use Rattle.std.specs.Prelude.{◌≡◌};
+ghost use Rattle.sz_catalogue.specs.Terms.{map, All, IfOk, site_over, IsFitting};
 
 use std::alloc::Global;
 use sz_cells::{NoMemory, Shape};

@@ -1,8 +1,8 @@
 //! Lists of strategies: those that a node has until others are set, and whether a list is one for
 //! its operator.
-ghost use Rattle.sz_catalogue.specs.Terms.{◌≡◌, map, IfOk, list_all, is_listed, supports};
-ghost use Rattle.sz_catalogue.specs.Terms.{first_list, are_distinct, is_list_for, is_list_of};
-ghost use Rattle.sz_catalogue.specs.Terms.{names_a_store};
+ghost use Rattle.std.specs.Prelude.{◌≡◌};
+ghost use Rattle.sz_catalogue.specs.Terms.{map, IfOk, list_all, is_listed, supports, first_list};
+ghost use Rattle.sz_catalogue.specs.Terms.{are_distinct, is_list_for, is_list_of, names_a_store};
 
 use crate::lists::StrategyLists;
 use std::alloc::Global;

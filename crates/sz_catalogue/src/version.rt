@@ -1,8 +1,9 @@
 //! A version as it is held: a run of a flow over base arrays. What is held of its outputs is their
 //! shapes.
-ghost use Rattle.sz_catalogue.specs.Terms.{◌≡◌, ◌<◌, ◌≤◌, true, length, None, IfOk, result_err};
-ghost use Rattle.sz_catalogue.specs.Terms.{extent_at, is_well_formed, output_shapes, source_of};
-ghost use Rattle.sz_catalogue.specs.Terms.{is_there, shapes_of, outputs_of, inputs_of, step_start};
+ghost use Rattle.std.specs.Prelude.{◌≡◌, ◌<◌, ◌≤◌};
+ghost use Rattle.sz_catalogue.specs.Terms.{true, length, None, IfOk, result_err, extent_at};
+ghost use Rattle.sz_catalogue.specs.Terms.{is_well_formed, output_shapes, source_of, is_there};
+ghost use Rattle.sz_catalogue.specs.Terms.{shapes_of, outputs_of, inputs_of, step_start};
 ghost use Rattle.sz_catalogue.specs.Terms.{are_lists_for, IsRun, arc_value, Version, Base};
 
 use crate::lists::{BaseArrays, StrategyLists};

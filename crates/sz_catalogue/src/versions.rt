@@ -1,8 +1,9 @@
 //! The versions held, by number.
-ghost use Rattle.sz_catalogue.specs.Terms.{◌≡◌, ◌+◌, ◌<◌, true, [], length, Some, is_some};
-ghost use Rattle.sz_catalogue.specs.Terms.{unwrap_or, OnOk, OnErr, nat_cmp, IsStrictlySortedBy};
-ghost use Rattle.sz_catalogue.specs.Terms.{lookup, set_value, keys_of, is_at, insert_entry};
-ghost use Rattle.sz_catalogue.specs.Terms.{option_copied, greatest, no_version, ℕ, List, Version};
+ghost use Rattle.std.specs.Prelude.{◌≡◌, ◌+◌, ◌<◌};
+ghost use Rattle.sz_catalogue.specs.Terms.{true, [], length, Some, is_some, unwrap_or, OnOk, OnErr};
+ghost use Rattle.sz_catalogue.specs.Terms.{nat_cmp, IsStrictlySortedBy, lookup, set_value, keys_of};
+ghost use Rattle.sz_catalogue.specs.Terms.{is_at, insert_entry, option_copied, greatest};
+ghost use Rattle.sz_catalogue.specs.Terms.{no_version, ℕ, List, Version};
 
 use crate::version::Run;
 use std::alloc::Global;

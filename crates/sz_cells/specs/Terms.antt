@@ -1,9 +1,8 @@
 -- The words that clauses of this crate are written in, each from the file that defines it.
 pub use Rattle.std.specs.List.{find, flat_map, list_any, range_with_len}
 pub use Rattle.std.specs.List.Sorted.{IsNonDecreasingBy, IsPartitionPoint}
-pub use Rattle.std.specs.Prelude.{◌&&◌, ◌*◌, ◌+◌, ◌-◌, ◌/◌, ◌<◌, ◌==◌, ◌^◌, ◌||◌, ◌↔◌, ◌≡◌, ◌≢◌}
-pub use Rattle.std.specs.Prelude.{◌≤◌, ◌⊎◌, All, IfOk, IsTrue, None, OnErr, OnOk, Some, [], false}
-pub use Rattle.std.specs.Prelude.{fold, if◌then◌else◌, length, map, nat_le, nat_lt, true, ℕ}
+pub use Rattle.std.specs.Prelude.{All, IfOk, IsTrue, None, OnErr, OnOk, Some, [], false, fold}
+pub use Rattle.std.specs.Prelude.{length, map, nat_le, nat_lt, true, ℕ}
 pub use Rattle.sz_cells.specs.Cells.{cells_where, has, named_in, next_index, no_cells, union_of}
 pub use Rattle.sz_cells.specs.Cells.{with_cell}
 pub use Rattle.sz_cells.specs.Extent.{cell_in, cell_of, flat, height_of, holds, index_of, is_extent}

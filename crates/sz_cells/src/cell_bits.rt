@@ -1,9 +1,9 @@
 //! Sets of cells of one shape that are added to: bitmaps, in words of 64 cells.
 
-ghost use Rattle.sz_cells.specs.Terms.{◌≡◌, ℕ, ◌<◌, ◌≤◌, ◌==◌, ◌↔◌, true, false, [], IsTrue, IfOk};
-ghost use Rattle.sz_cells.specs.Terms.{list_any, size_of, holds, has, no_cells, with_cell};
-ghost use Rattle.sz_cells.specs.Terms.{union_of, next_index, AreRising, run_cells, is_in_word};
-ghost use Rattle.sz_cells.specs.Terms.{words_for, cells_at};
+ghost use Rattle.std.specs.Prelude.{◌≡◌, ◌<◌, ◌≤◌, ◌==◌, ◌↔◌};
+ghost use Rattle.sz_cells.specs.Terms.{ℕ, true, false, [], IsTrue, IfOk, list_any, size_of, holds};
+ghost use Rattle.sz_cells.specs.Terms.{has, no_cells, with_cell, union_of, next_index, AreRising};
+ghost use Rattle.sz_cells.specs.Terms.{run_cells, is_in_word, words_for, cells_at};
 
 use crate::words::{bits_of_run, clear_words, longest_runs, next_one};
 use crate::{Cell, CellSet, NoMemory, Run, Shape};

@@ -1,8 +1,9 @@
 //! Sets of cells of one shape, made once and kept as the longest runs of their row-major indexes.
 
-ghost use Rattle.sz_cells.specs.Terms.{◌≡◌, ◌==◌, true, length, All, IfOk, list_any, flat_map};
-ghost use Rattle.sz_cells.specs.Terms.{size_of, holds, has, named_in, union_of, AreRising, Spells};
-ghost use Rattle.sz_cells.specs.Terms.{AreRunsFrom, indexes_of, runs_of, bounds_of};
+ghost use Rattle.std.specs.Prelude.{◌≡◌, ◌==◌};
+ghost use Rattle.sz_cells.specs.Terms.{true, length, All, IfOk, list_any, flat_map, size_of, holds};
+ghost use Rattle.sz_cells.specs.Terms.{has, named_in, union_of, AreRising, Spells, AreRunsFrom};
+ghost use Rattle.sz_cells.specs.Terms.{indexes_of, runs_of, bounds_of};
 
 use crate::spelling::{add_run, bounds_with_run, count_of, is_left_next, place_of, rising_indexes};
 use crate::{Bounds, Cell, NoMemory, Run, Shape};

@@ -4,7 +4,8 @@
 //! The last three say of every shape, set and bitmap what their types keep, for a proof that calls
 //! them.
 
-ghost use Rattle.sz_cells.specs.Terms.{◌≡◌, true, is_extent, cells_where, has, IsSetOf};
+ghost use Rattle.std.specs.Prelude.{◌≡◌};
+ghost use Rattle.sz_cells.specs.Terms.{true, is_extent, cells_where, has, IsSetOf};
 ghost use Rattle.sz_cells.specs.Terms.{LayersMakeShapes, OneLayerIsFlat, CellsHavePlaces};
 ghost use Rattle.sz_cells.specs.Terms.{PlacesHaveCells, CellsHaveIndexes, IndexesHaveCells};
 ghost use Rattle.sz_cells.specs.Terms.{SetsAreTheirTests, SetsAreEqualByTheirCells};

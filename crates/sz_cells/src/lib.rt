@@ -32,10 +32,10 @@
 //! of those.
 #![tactic(auto)]
 
-ghost use Rattle.sz_cells.specs.Terms.{◌≡◌, ◌<◌, ◌≤◌, ◌*◌, true, if◌then◌else◌, Some, None};
-ghost use Rattle.sz_cells.specs.Terms.{size_of, height_of, is_shape, is_layered, layered, flat};
-ghost use Rattle.sz_cells.specs.Terms.{holds, index_of, cell_of, layer_of, row_in, is_place};
-ghost use Rattle.sz_cells.specs.Terms.{cell_in};
+ghost use Rattle.std.specs.Prelude.{◌≡◌, ◌<◌, ◌≤◌, ◌*◌, if◌then◌else◌};
+ghost use Rattle.sz_cells.specs.Terms.{true, Some, None, size_of, height_of, is_shape, is_layered};
+ghost use Rattle.sz_cells.specs.Terms.{layered, flat, holds, index_of, cell_of, layer_of, row_in};
+ghost use Rattle.sz_cells.specs.Terms.{is_place, cell_in};
 
 pub use cell_bits::CellBits;
 pub use cell_set::CellSet;

@@ -1,11 +1,12 @@
 //! From a list of cells to the rising indexes that they name, from those to the longest runs that
 //! spell them, and from the runs of two sets to those of both.
 
-ghost use Rattle.sz_cells.specs.Terms.{◌≡◌, ℕ, ◌<◌, ◌≤◌, ◌||◌, ◌⊎◌, true, false, nat_lt, length};
-ghost use Rattle.sz_cells.specs.Terms.{map, fold, All, IfOk, OnOk, OnErr, flat_map};
-ghost use Rattle.sz_cells.specs.Terms.{IsNonDecreasingBy, IsPartitionPoint, size_of, holds};
-ghost use Rattle.sz_cells.specs.Terms.{index_of, cell_of, named_in, indexes_of, is_in, covers};
-ghost use Rattle.sz_cells.specs.Terms.{first_at, bounds_with, AreRunsFrom, AreRising};
+ghost use Rattle.std.specs.Prelude.{◌≡◌, ◌<◌, ◌≤◌, ◌||◌, ◌⊎◌};
+ghost use Rattle.sz_cells.specs.Terms.{ℕ, true, false, nat_lt, length, map, fold, All, IfOk, OnOk};
+ghost use Rattle.sz_cells.specs.Terms.{OnErr, flat_map, IsNonDecreasingBy, IsPartitionPoint};
+ghost use Rattle.sz_cells.specs.Terms.{size_of, holds, index_of, cell_of, named_in, indexes_of};
+ghost use Rattle.sz_cells.specs.Terms.{is_in, covers, first_at, bounds_with, AreRunsFrom};
+ghost use Rattle.sz_cells.specs.Terms.{AreRising};
 
 use crate::{Bounds, Cell, NoMemory, Run, Shape};
 use std::alloc::Global;

@@ -1,9 +1,9 @@
 //! Words of 64 bits: the bits of a run, the next bit that is 1 or 0, and the longest runs of bits
 //! that are 1.
 
-ghost use Rattle.sz_cells.specs.Terms.{◌≡◌, ◌≢◌, ℕ, ◌+◌, ◌-◌, ◌*◌, ◌/◌, ◌^◌, ◌<◌, ◌≤◌, ◌&&◌, true};
-ghost use Rattle.sz_cells.specs.Terms.{false, nat_le, length, IfOk, find, range_with_len, is_in};
-ghost use Rattle.sz_cells.specs.Terms.{covers, AreRunsFrom, is_one, has_bit};
+ghost use Rattle.std.specs.Prelude.{◌≡◌, ◌≢◌, ◌+◌, ◌-◌, ◌*◌, ◌/◌, ◌^◌, ◌<◌, ◌≤◌, ◌&&◌};
+ghost use Rattle.sz_cells.specs.Terms.{ℕ, true, false, nat_le, length, IfOk, find, range_with_len};
+ghost use Rattle.sz_cells.specs.Terms.{is_in, covers, AreRunsFrom, is_one, has_bit};
 
 use crate::spelling::add_run;
 use crate::{NoMemory, Run};

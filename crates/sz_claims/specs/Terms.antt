@@ -1,7 +1,6 @@
 -- The words that clauses of this crate are written in, each from the file that defines it.
 pub use Rattle.std.specs.Arc.{arc_value}
-pub use Rattle.std.specs.Prelude.{◌++◌, ◌+◌, ◌<◌, ◌∷◌, ◌≡◌, ◌≢◌, ◌≤◌, Contains, IfOk, Some, []}
-pub use Rattle.std.specs.Prelude.{false, true, ℕ}
+pub use Rattle.std.specs.Prelude.{Contains, IfOk, Some, [], false, true, ℕ}
 pub use Rattle.sz_claims.specs.Changes.{AddsBothUp, IsExchangeOnly, IsOnlyCounted, KnowsNothing}
 pub use Rattle.sz_claims.specs.Changes.{NoneLosesFree, NoneWinsClaimed, SplitsOff, WinsOrLoses}
 pub use Rattle.sz_claims.specs.Claims.{AreDisjoint, newcomer}

@@ -1,5 +1,6 @@
 //! Laws of the steps, for a reader: each function has an empty body, and its contract is the law.
-ghost use Rattle.sz_claims.specs.Terms.{◌≡◌, ℕ, View, Table, IsKept, WordsTell, KnowsNothing};
+ghost use Rattle.std.specs.Prelude.{◌≡◌};
+ghost use Rattle.sz_claims.specs.Terms.{ℕ, View, Table, IsKept, WordsTell, KnowsNothing};
 ghost use Rattle.sz_claims.specs.Terms.{IsExchangeOnly, WinsOrLoses, IsOnlyCounted, SplitsOff};
 ghost use Rattle.sz_claims.specs.Terms.{AddsBothUp, NoneLosesFree, NoneWinsClaimed};
 

@@ -64,8 +64,9 @@
 //! cannot tell its caller what the rule says.
 #![tactic(auto)]
 
-ghost use Rattle.sz_claims.specs.Terms.{◌≡◌, ◌<◌, ◌≤◌, ◌+◌, [], ◌∷◌, ◌++◌, IfOk, Contains, true};
-ghost use Rattle.sz_claims.specs.Terms.{false, Some, arc_value, AreDisjoint, newcomer};
+ghost use Rattle.std.specs.Prelude.{◌≡◌, ◌<◌, ◌≤◌, ◌+◌, ◌∷◌, ◌++◌};
+ghost use Rattle.sz_claims.specs.Terms.{[], IfOk, Contains, true, false, Some, arc_value};
+ghost use Rattle.sz_claims.specs.Terms.{AreDisjoint, newcomer};
 
 pub mod laws;
 mod rule;

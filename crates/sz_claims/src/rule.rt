@@ -1,7 +1,7 @@
 //! What a seat knows, the rule that ties it to the words, and the four kinds of step: a try, a
 //! look, a split, a join.
-ghost use Rattle.sz_claims.specs.Terms.{◌+◌, IsKept, IsTry, IsLook, empty_view, after_split};
-ghost use Rattle.sz_claims.specs.Terms.{after_join};
+ghost use Rattle.std.specs.Prelude.{◌+◌};
+ghost use Rattle.sz_claims.specs.Terms.{IsKept, IsTry, IsLook, empty_view, after_split, after_join};
 
 use atomic_table::{Join, Play, Split, TableRule};
 use std::collections::LinkedList;

@@ -1,9 +1,8 @@
 -- The words that clauses of this crate are written in, each from the file that defines it.
 pub use Rattle.std.specs.Arc.{arc_value}
 pub use Rattle.std.specs.List.{AllByRecursion, AllZip}
-pub use Rattle.std.specs.Prelude.{◌*◌, ◌+◌, ◌<◌, ◌^◌, ◌≡◌, ◌≤◌, Err, IfOk, List, None, Ok, OnErr}
-pub use Rattle.std.specs.Prelude.{OnOk, Some, [], false, if◌then◌else◌, is_some, length, map}
-pub use Rattle.std.specs.Prelude.{option_map, true, ℕ}
+pub use Rattle.std.specs.Prelude.{Err, IfOk, List, None, Ok, OnErr, OnOk, Some, [], false, is_some}
+pub use Rattle.std.specs.Prelude.{length, map, option_map, true, ℕ}
 pub use Rattle.sz_catalogue.specs.Changes.{changes_no_version, traced, way_of}
 pub use Rattle.sz_catalogue.specs.Refreshes.{base_at, cells_affected, has_input}
 pub use Rattle.sz_catalogue.specs.Rules.{has_no_version, is_not_joined, is_out_of_range, judged}

@@ -1,6 +1,7 @@
 //! Blank lines.
 
-ghost use Rattle.sz_commands.specs.Terms.{◌≡◌, is_blank};
+ghost use Rattle.std.specs.Prelude.{◌≡◌};
+ghost use Rattle.sz_commands.specs.Terms.{is_blank};
 
 /// Whether a line is of spaces, tabs and bytes 13 alone.
 pub fn is_blank(line: &[u8]) -> bool

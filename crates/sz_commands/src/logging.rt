@@ -7,18 +7,19 @@
 //! before the session notes the await. Nothing else is written. So where there is no memory nothing
 //! was, and where the disk fails the log holds what it held, or what it would.
 
-ghost use Rattle.sz_commands.specs.Terms.{◌≡◌, ◌+◌, ◌*◌, ◌^◌, ◌<◌, ◌≤◌, true, false, None, Some};
-ghost use Rattle.sz_commands.specs.Terms.{Ok, Err, IfOk, OnOk, [], List, ℕ, reading, is_right};
-ghost use Rattle.sz_commands.specs.Terms.{array_order, judged, version_of, has_no_version};
-ghost use Rattle.sz_commands.specs.Terms.{has_input, base_at, cells_affected, response_of};
-ghost use Rattle.sz_commands.specs.Terms.{is_of_kind, apart, accepted, after_command, traced_for};
-ghost use Rattle.sz_commands.specs.Terms.{most_for, traced_along, most_along, LineGives, IsRight};
-ghost use Rattle.sz_commands.specs.Terms.{Takes, traced_for_given, most_for_given, AddsEntry};
-ghost use Rattle.sz_commands.specs.Terms.{FinishesEntry, StoredBy, StoredAfter, StoredBehind};
-ghost use Rattle.sz_commands.specs.Terms.{CountsTell, IsLogOf, HasLog, KeepsLog, StopsInLog};
-ghost use Rattle.sz_commands.specs.Terms.{held_after, IsLasting, Appends, IsGroupOf, IsGroupFor};
-ghost use Rattle.sz_commands.specs.Terms.{IsLineGroup, IsVersionGroup, IsArrayGroup, is_refresh};
-ghost use Rattle.sz_commands.specs.Terms.{makes, makes_judged, makes_durable, place_of};
+ghost use Rattle.std.specs.Prelude.{◌≡◌, ◌+◌, ◌*◌, ◌^◌, ◌<◌, ◌≤◌};
+ghost use Rattle.sz_commands.specs.Terms.{true, false, None, Some, Ok, Err, IfOk, OnOk, [], List};
+ghost use Rattle.sz_commands.specs.Terms.{ℕ, reading, is_right, array_order, judged, version_of};
+ghost use Rattle.sz_commands.specs.Terms.{has_no_version, has_input, base_at, cells_affected};
+ghost use Rattle.sz_commands.specs.Terms.{response_of, is_of_kind, apart, accepted, after_command};
+ghost use Rattle.sz_commands.specs.Terms.{traced_for, most_for, traced_along, most_along};
+ghost use Rattle.sz_commands.specs.Terms.{LineGives, IsRight, Takes, traced_for_given};
+ghost use Rattle.sz_commands.specs.Terms.{most_for_given, AddsEntry, FinishesEntry, StoredBy};
+ghost use Rattle.sz_commands.specs.Terms.{StoredAfter, StoredBehind, CountsTell, IsLogOf, HasLog};
+ghost use Rattle.sz_commands.specs.Terms.{KeepsLog, StopsInLog, held_after, IsLasting, Appends};
+ghost use Rattle.sz_commands.specs.Terms.{IsGroupOf, IsGroupFor, IsLineGroup, IsVersionGroup};
+ghost use Rattle.sz_commands.specs.Terms.{IsArrayGroup, is_refresh, makes, makes_judged};
+ghost use Rattle.sz_commands.specs.Terms.{makes_durable, place_of};
 ghost use Rattle.sz_script.specs.declared.command.Command.TheVariants as order;
 ghost use Rattle.sz_catalogue.specs.Changes as changes;
 

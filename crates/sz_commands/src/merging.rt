@@ -1,7 +1,8 @@
 //! A merge: asked, where it is handed to a thread, and finished, where its numbers are told.
 
-ghost use Rattle.sz_commands.specs.Terms.{◌≡◌, None, IfOk, OnOk, OnErr, AllZip, judged};
-ghost use Rattle.sz_commands.specs.Terms.{response_of, IsMergedIn, apart, accepted};
+ghost use Rattle.std.specs.Prelude.{◌≡◌};
+ghost use Rattle.sz_commands.specs.Terms.{None, IfOk, OnOk, OnErr, AllZip, judged, response_of};
+ghost use Rattle.sz_commands.specs.Terms.{IsMergedIn, apart, accepted};
 ghost use Rattle.sz_script.specs.declared.command.Command.TheVariants as order;
 
 use crate::session::Session;

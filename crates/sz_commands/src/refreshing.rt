@@ -1,8 +1,9 @@
 //! A refresh: what it makes of a version, and holding that.
 
-ghost use Rattle.sz_commands.specs.Terms.{◌≡◌, ◌+◌, ◌*◌, ◌^◌, ◌<◌, None, IfOk, OnOk, OnErr};
-ghost use Rattle.sz_commands.specs.Terms.{arc_value, judged, version_of, cells_affected};
-ghost use Rattle.sz_commands.specs.Terms.{response_of, IsMadeBy, apart, accepted, AddsEntry};
+ghost use Rattle.std.specs.Prelude.{◌≡◌, ◌+◌, ◌*◌, ◌^◌, ◌<◌};
+ghost use Rattle.sz_commands.specs.Terms.{None, IfOk, OnOk, OnErr, arc_value, judged, version_of};
+ghost use Rattle.sz_commands.specs.Terms.{cells_affected, response_of, IsMadeBy, apart, accepted};
+ghost use Rattle.sz_commands.specs.Terms.{AddsEntry};
 ghost use Rattle.sz_script.specs.declared.command.Command.TheVariants as order;
 
 use crate::session::Session;

@@ -3,22 +3,22 @@
 //! Contracts see a session as a `SessionState`. Beside the catalogue it has of each version the
 //! runs of its nodes and what is kept of them (`HeldRuns`), so that no value is computed twice.
 
-ghost use Rattle.sz_commands.specs.Terms.{◌≡◌, ◌+◌, ◌*◌, ◌^◌, ◌<◌, ◌≤◌, true, false, None, Err};
-ghost use Rattle.sz_commands.specs.Terms.{map, IfOk, OnOk, OnErr, length, if◌then◌else◌, Some};
-ghost use Rattle.sz_commands.specs.Terms.{is_some, execution_of, AllZip, AllByRecursion, is_right};
-ghost use Rattle.sz_commands.specs.Terms.{judged, version_of, has_no_version, is_not_joined};
-ghost use Rattle.sz_commands.specs.Terms.{is_out_of_range, way_of, traced, changes_no_version};
-ghost use Rattle.sz_commands.specs.Terms.{apart, accepted, cells_told, response_of, Responds};
-ghost use Rattle.sz_commands.specs.Terms.{traced_for_line, traced_for, traced_along, most_for_line};
-ghost use Rattle.sz_commands.specs.Terms.{most_for, most_along, most_traced, IsTrailOf};
-ghost use Rattle.sz_commands.specs.Terms.{strategy_told, nothing_held, AreGiven, AddsEntry};
-ghost use Rattle.sz_commands.specs.Terms.{IsFinishedIn, FinishesEntry, StoredBy, StoredBehind};
-ghost use Rattle.sz_commands.specs.Terms.{HasLog, KeepsLog, StopsInLog, held_after, makes_durable};
-ghost use Rattle.sz_commands.specs.Terms.{Appends, IsGroupOf, end_of, reading, CountsTell};
-ghost use Rattle.sz_commands.specs.Terms.{IsInquiryOf, executions_of, is_ask, IsAskLine, IsBegun};
-ghost use Rattle.sz_commands.specs.Terms.{ask_reply, traced_for_asks, most_for_asks, LineGives};
-ghost use Rattle.sz_commands.specs.Terms.{IsRight, IsInService, logged_in, stored_in, place_of};
-ghost use Rattle.sz_commands.specs.Terms.{option_map};
+ghost use Rattle.std.specs.Prelude.{◌≡◌, ◌+◌, ◌*◌, ◌^◌, ◌<◌, ◌≤◌, if◌then◌else◌};
+ghost use Rattle.sz_commands.specs.Terms.{true, false, None, Err, map, IfOk, OnOk, OnErr, length};
+ghost use Rattle.sz_commands.specs.Terms.{Some, is_some, execution_of, AllZip, AllByRecursion};
+ghost use Rattle.sz_commands.specs.Terms.{is_right, judged, version_of, has_no_version};
+ghost use Rattle.sz_commands.specs.Terms.{is_not_joined, is_out_of_range, way_of, traced};
+ghost use Rattle.sz_commands.specs.Terms.{changes_no_version, apart, accepted, cells_told};
+ghost use Rattle.sz_commands.specs.Terms.{response_of, Responds, traced_for_line, traced_for};
+ghost use Rattle.sz_commands.specs.Terms.{traced_along, most_for_line, most_for, most_along};
+ghost use Rattle.sz_commands.specs.Terms.{most_traced, IsTrailOf, strategy_told, nothing_held};
+ghost use Rattle.sz_commands.specs.Terms.{AreGiven, AddsEntry, IsFinishedIn, FinishesEntry};
+ghost use Rattle.sz_commands.specs.Terms.{StoredBy, StoredBehind, HasLog, KeepsLog, StopsInLog};
+ghost use Rattle.sz_commands.specs.Terms.{held_after, makes_durable, Appends, IsGroupOf, end_of};
+ghost use Rattle.sz_commands.specs.Terms.{reading, CountsTell, IsInquiryOf, executions_of, is_ask};
+ghost use Rattle.sz_commands.specs.Terms.{IsAskLine, IsBegun, ask_reply, traced_for_asks};
+ghost use Rattle.sz_commands.specs.Terms.{most_for_asks, LineGives, IsRight, IsInService};
+ghost use Rattle.sz_commands.specs.Terms.{logged_in, stored_in, place_of, option_map};
 ghost use Rattle.sz_script.specs.declared.command.Command.TheVariants as order;
 ghost use Rattle.sz_commands.specs.declared.session.Given.TheVariants as given;
 ghost use Rattle.sz_commands.specs.declared.session.Stop.TheVariants as stop;

@@ -1,8 +1,7 @@
 -- The words that clauses of this crate are written in, each from the file that defines it.
 pub use Rattle.std.specs.List.{flat_map, list_any, slice_get, slice_index_or}
 pub use Rattle.std.specs.Option.{option_copied, option_map, option_map_or}
-pub use Rattle.std.specs.Prelude.{◌&&◌, ◌+◌, ◌-◌, ◌<◌, ◌==◌, ◌^◌, ◌||◌, ◌∷◌, ◌≡◌, ◌≤◌, All, IfOk}
-pub use Rattle.std.specs.Prelude.{None, Ok, OnErr, OnOk, [], false, if◌then◌else◌, length, map}
+pub use Rattle.std.specs.Prelude.{All, IfOk, None, Ok, OnErr, OnOk, [], false, length, map}
 pub use Rattle.std.specs.Prelude.{replicate, take, true, ℕ}
 pub use Rattle.sz_cells.specs.Cells.{with_those}
 pub use Rattle.sz_cells.specs.Extent.{index_of, size_of}

@@ -1,7 +1,7 @@
 //! Asks: queries on their way.
 
-ghost use Rattle.sz_core.specs.Terms.{◌≡◌, ◌<◌, ◌+◌, length, option_map, next_step, first_ask};
-ghost use Rattle.sz_core.specs.Terms.{step_of};
+ghost use Rattle.std.specs.Prelude.{◌≡◌, ◌<◌, ◌+◌};
+ghost use Rattle.sz_core.specs.Terms.{length, option_map, next_step, first_ask, step_of};
 
 use std::marker::Model;
 use sz_cells::CellSet;

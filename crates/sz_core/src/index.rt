@@ -1,11 +1,11 @@
 //! An index of pairs: from each cell on one side to the cells on the other side.
 
-ghost use Rattle.sz_core.specs.Terms.{◌≡◌, ℕ, ◌<◌, ◌≤◌, ◌+◌, ◌-◌, ◌==◌, ◌||◌, ◌&&◌, true, [], All};
-ghost use Rattle.sz_core.specs.Terms.{IfOk, OnErr, length, map, replicate, list_any, flat_map};
-ghost use Rattle.sz_core.specs.Terms.{size_of, index_of, with_those, AreRunsFrom, indexes_of};
-ghost use Rattle.sz_core.specs.Terms.{near_cell, far_cell, leads, groups_lead, pair_leads};
-ghost use Rattle.sz_core.specs.Terms.{LiesWithin, LeadInto, IsSpelled, is_among, cells_linked};
-ghost use Rattle.sz_core.specs.Terms.{is_linked_from};
+ghost use Rattle.std.specs.Prelude.{◌≡◌, ◌<◌, ◌≤◌, ◌+◌, ◌-◌, ◌==◌, ◌||◌, ◌&&◌};
+ghost use Rattle.sz_core.specs.Terms.{ℕ, true, [], All, IfOk, OnErr, length, map, replicate};
+ghost use Rattle.sz_core.specs.Terms.{list_any, flat_map, size_of, index_of, with_those};
+ghost use Rattle.sz_core.specs.Terms.{AreRunsFrom, indexes_of, near_cell, far_cell, leads};
+ghost use Rattle.sz_core.specs.Terms.{groups_lead, pair_leads, LiesWithin, LeadInto, IsSpelled};
+ghost use Rattle.sz_core.specs.Terms.{is_among, cells_linked, is_linked_from};
 
 use crate::pairs::Pair;
 use std::alloc::Global;

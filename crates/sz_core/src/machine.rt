@@ -1,12 +1,13 @@
 //! The machine: its shelves, its asks, and the events that change them.
 
-ghost use Rattle.sz_core.specs.Terms.{◌≡◌, ℕ, ◌<◌, ◌^◌, true, Ok, None, IfOk, OnErr, OnOk, length};
-ghost use Rattle.sz_core.specs.Terms.{map, take, if◌then◌else◌, slice_get, option_copied};
-ghost use Rattle.sz_core.specs.Terms.{option_map, option_map_or, flow_fault, reply, next_state};
-ghost use Rattle.sz_core.specs.Terms.{replies, last_state, change_at, place_reply, after_place};
-ghost use Rattle.sz_core.specs.Terms.{seal_reply, after_seal, look_reply, after_look, CanGoOn};
-ghost use Rattle.sz_core.specs.Terms.{start, first_ask, is_shelf, are_shelves, are_queries};
-ghost use Rattle.sz_core.specs.Terms.{first_shelves, shelf_of, shapes_fit, shapes_made};
+ghost use Rattle.std.specs.Prelude.{◌≡◌, ◌<◌, ◌^◌, if◌then◌else◌};
+ghost use Rattle.sz_core.specs.Terms.{ℕ, true, Ok, None, IfOk, OnErr, OnOk, length, map, take};
+ghost use Rattle.sz_core.specs.Terms.{slice_get, option_copied, option_map, option_map_or};
+ghost use Rattle.sz_core.specs.Terms.{flow_fault, reply, next_state, replies, last_state};
+ghost use Rattle.sz_core.specs.Terms.{change_at, place_reply, after_place, seal_reply, after_seal};
+ghost use Rattle.sz_core.specs.Terms.{look_reply, after_look, CanGoOn, start, first_ask, is_shelf};
+ghost use Rattle.sz_core.specs.Terms.{are_shelves, are_queries, first_shelves, shelf_of};
+ghost use Rattle.sz_core.specs.Terms.{shapes_fit, shapes_made};
 
 use crate::asks::{CoreAsk, MovingAsk};
 use crate::events::{Event, Told};

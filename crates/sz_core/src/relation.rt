@@ -1,9 +1,9 @@
 //! The pairs of a shelf with an index for each input and each direction.
 
-ghost use Rattle.sz_core.specs.Terms.{◌≡◌, ℕ, ◌<◌, ◌≤◌, ◌^◌, [], ◌∷◌, All, IfOk, length, map};
-ghost use Rattle.sz_core.specs.Terms.{flat_map, size_of, extent_before, extent_after, image_by};
-ghost use Rattle.sz_core.specs.Terms.{HasPairs, AreIndexesOf, PairsLieWithin, LiesWithin};
-ghost use Rattle.sz_core.specs.Terms.{relation_of};
+ghost use Rattle.std.specs.Prelude.{◌≡◌, ◌<◌, ◌≤◌, ◌^◌, ◌∷◌};
+ghost use Rattle.sz_core.specs.Terms.{ℕ, [], All, IfOk, length, map, flat_map, size_of};
+ghost use Rattle.sz_core.specs.Terms.{extent_before, extent_after, image_by, HasPairs};
+ghost use Rattle.sz_core.specs.Terms.{AreIndexesOf, PairsLieWithin, LiesWithin, relation_of};
 
 use crate::index::Index;
 use crate::pairs::Pair;

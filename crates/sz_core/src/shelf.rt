@@ -1,8 +1,9 @@
 //! The shelf of a node: its pairs, which pieces are placed, and whether it is sealed.
 
-ghost use Rattle.sz_core.specs.Terms.{◌≡◌, ℕ, ◌<◌, ◌≤◌, ◌^◌, [], true, false, IfOk, OnErr, OnOk};
-ghost use Rattle.sz_core.specs.Terms.{length, map, slice_index_or, size_of, place_reply};
-ghost use Rattle.sz_core.specs.Terms.{after_place, seal_reply, after_seal, extent_before, image_by};
+ghost use Rattle.std.specs.Prelude.{◌≡◌, ◌<◌, ◌≤◌, ◌^◌};
+ghost use Rattle.sz_core.specs.Terms.{ℕ, [], true, false, IfOk, OnErr, OnOk, length, map};
+ghost use Rattle.sz_core.specs.Terms.{slice_index_or, size_of, place_reply, after_place};
+ghost use Rattle.sz_core.specs.Terms.{seal_reply, after_seal, extent_before, image_by};
 ghost use Rattle.sz_core.specs.Terms.{PairsLieWithin, relation_of, pairs_taken};
 
 use crate::events::Told;

@@ -1,8 +1,7 @@
 -- The words that clauses of this crate are written in, each from the file that defines it.
 pub use Rattle.std.specs.List.{AllByRecursion}
-pub use Rattle.std.specs.Prelude.{◌++◌, ◌+◌, ◌-◌, ◌<◌, ◌^◌, ◌∷◌, ◌≡◌, ◌≤◌, Err, IfOk, List}
-pub use Rattle.std.specs.Prelude.{MatchOption, None, OnErr, OnOk, Option, [], drop, false, length}
-pub use Rattle.std.specs.Prelude.{slice_index, take, true, ℕ}
+pub use Rattle.std.specs.Prelude.{Err, IfOk, List, MatchOption, None, OnErr, OnOk, Option, [], drop}
+pub use Rattle.std.specs.Prelude.{false, length, slice_index, take, true, ℕ}
 pub use Rattle.sz_commands.specs.Asks.{IsAskLine, asks_text}
 pub use Rattle.sz_commands.specs.Given.{IsRight, LineGives, Takes}
 pub use Rattle.sz_commands.specs.Lines.{is_blank, is_within_line, last_line}

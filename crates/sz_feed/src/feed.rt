@@ -9,9 +9,9 @@
 //! A session of a log writes what a line makes durable before the line's reply is said, and asks do
 //! not wait there. So a stop finds the replies of so many lines, and a part of the next one's, and
 //! the log of what is durable behind those lines or behind the next one too (`FindsBehind`).
-ghost use Rattle.sz_feed.specs.Terms.{◌≡◌, ℕ, List, Option, ◌<◌, ◌≤◌, ◌+◌, ◌-◌, ◌^◌, ◌++◌, [], ◌∷◌};
-ghost use Rattle.sz_feed.specs.Terms.{IfOk, OnOk, MatchOption, length, drop, take};
-ghost use Rattle.sz_feed.specs.Terms.{slice_index, true, false, None, AllByRecursion, apart};
+ghost use Rattle.std.specs.Prelude.{◌≡◌, ◌<◌, ◌≤◌, ◌+◌, ◌-◌, ◌^◌, ◌++◌, ◌∷◌};
+ghost use Rattle.sz_feed.specs.Terms.{ℕ, List, Option, [], IfOk, OnOk, MatchOption, length, drop};
+ghost use Rattle.sz_feed.specs.Terms.{take, slice_index, true, false, None, AllByRecursion, apart};
 ghost use Rattle.sz_feed.specs.Terms.{is_blank, is_within_line, last_line, after_lines, is_right};
 ghost use Rattle.sz_feed.specs.Terms.{moment_before, cut_after, told_in, told_at_end, Alike};
 ghost use Rattle.sz_feed.specs.Terms.{Advances, line_to_say, nothing_held, IsAskLine, asks_text};

@@ -1,6 +1,6 @@
 -- The words that clauses of this crate are written in, each from the file that defines it.
 pub use Rattle.std.specs.Arc.{arc_value}
-pub use Rattle.std.specs.Prelude.{◌<◌, ◌^◌, ◌≡◌, All, IfOk, Ok, length, map, true}
+pub use Rattle.std.specs.Prelude.{All, IfOk, Ok, length, map, true}
 pub use Rattle.sz_cells.specs.Extent.{Extent, cell_of, flat, size_of}
 pub use Rattle.sz_frame.specs.Walks.{values_before}
 pub use Rattle.sz_ops.specs.Aids.{aid_of}

@@ -1,6 +1,7 @@
 //! What a node takes, and its operator at the shapes of that.
 
-ghost use Rattle.sz_flow.specs.Terms.{◌≡◌, true, length, map, All, Ok, IfOk, arc_value, Extent};
+ghost use Rattle.std.specs.Prelude.{◌≡◌};
+ghost use Rattle.sz_flow.specs.Terms.{true, length, map, All, Ok, IfOk, arc_value, Extent};
 ghost use Rattle.sz_flow.specs.Terms.{extents_of, arity, has_right_parameters, shape_of, is_source};
 ghost use Rattle.sz_flow.specs.Terms.{array_of, site_over, inputs_among};
 

@@ -1,6 +1,7 @@
 //! What a node's run needs before pieces of its lineage are made.
 
-ghost use Rattle.sz_flow.specs.Terms.{◌≡◌, execution_of};
+ghost use Rattle.std.specs.Prelude.{◌≡◌};
+ghost use Rattle.sz_flow.specs.Terms.{execution_of};
 
 use crate::node_run::NodeRun;
 use std::alloc::Global;

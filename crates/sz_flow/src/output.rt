@@ -1,9 +1,9 @@
 //! The output of an operator over its inputs, and how its values are computed: one after another,
 //! or side by side.
 
-ghost use Rattle.sz_flow.specs.Terms.{◌≡◌, ◌<◌, ◌^◌, true, length, map, IfOk, arc_value, size_of};
-ghost use Rattle.sz_flow.specs.Terms.{cell_of, extents_of, value_of, output_of, values_before};
-ghost use Rattle.sz_flow.specs.Terms.{aid_of};
+ghost use Rattle.std.specs.Prelude.{◌≡◌, ◌<◌, ◌^◌};
+ghost use Rattle.sz_flow.specs.Terms.{true, length, map, IfOk, arc_value, size_of, cell_of};
+ghost use Rattle.sz_flow.specs.Terms.{extents_of, value_of, output_of, values_before, aid_of};
 
 use rayon::prelude::*;
 use std::alloc::Global;

@@ -1,6 +1,7 @@
 //! Runs of a flow's nodes, one after another.
 
-ghost use Rattle.sz_flow.specs.Terms.{◌≡◌, true, length, map, IfOk, arc_value, is_well_formed};
+ghost use Rattle.std.specs.Prelude.{◌≡◌};
+ghost use Rattle.sz_flow.specs.Terms.{true, length, map, IfOk, arc_value, is_well_formed};
 ghost use Rattle.sz_flow.specs.Terms.{IsRightNode, execution, executions, execution_of, FlowFits};
 ghost use Rattle.sz_flow.specs.Terms.{NodeFits, inputs_among};
 

@@ -1,6 +1,7 @@
 //! The values of an array computed side by side, and where they are.
 
-ghost use Rattle.sz_flow.specs.Terms.{◌≡◌, IfOk, arc_value, flat};
+ghost use Rattle.std.specs.Prelude.{◌≡◌};
+ghost use Rattle.sz_flow.specs.Terms.{IfOk, arc_value, flat};
 
 use crate::output::{is_side_by_side, side_by_side};
 use std::alloc::Global;

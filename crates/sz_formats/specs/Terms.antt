@@ -1,7 +1,6 @@
 -- The words that clauses of this crate are written in, each from the file that defines it.
 pub use Rattle.std.specs.Arc.{arc_value}
-pub use Rattle.std.specs.Prelude.{◌++◌, ◌∷◌, ◌≡◌, ◌≤◌, All, IfErr, IfOk, List, OnErr, OnOk, []}
-pub use Rattle.std.specs.Prelude.{length, true, ℕ}
+pub use Rattle.std.specs.Prelude.{All, IfErr, IfOk, List, OnErr, OnOk, [], length, true, ℕ}
 pub use Rattle.sz_region.specs.LawsStores.{AreRight}
 pub use Rattle.sz_region.specs.Stores.{OnBad}
 pub use Rattle.sz_short.specs.ShortStores.{NoFullBegins, NoPayBegins, RespellsFull, RespellsPay}

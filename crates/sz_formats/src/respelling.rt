@@ -1,9 +1,10 @@
 //! The stores of a list in the other format.
 
-ghost use Rattle.sz_formats.specs.Terms.{◌≡◌, ◌∷◌, ◌++◌, [], ℕ, List, length, IfOk, IfErr, OnErr};
-ghost use Rattle.sz_formats.specs.Terms.{AreRight, OnBad, RespellsFull, RespellsPay, NoFullBegins};
-ghost use Rattle.sz_formats.specs.Terms.{NoPayBegins, stored_in, spelling, other_than, NoneBeginIn};
-ghost use Rattle.sz_formats.specs.Terms.{AreTwice, from_format, span};
+ghost use Rattle.std.specs.Prelude.{◌≡◌, ◌∷◌, ◌++◌};
+ghost use Rattle.sz_formats.specs.Terms.{[], ℕ, List, length, IfOk, IfErr, OnErr, AreRight, OnBad};
+ghost use Rattle.sz_formats.specs.Terms.{RespellsFull, RespellsPay, NoFullBegins, NoPayBegins};
+ghost use Rattle.sz_formats.specs.Terms.{stored_in, spelling, other_than, NoneBeginIn, AreTwice};
+ghost use Rattle.sz_formats.specs.Terms.{from_format, span};
 
 use std::alloc::Global;
 use sz_region::Take;

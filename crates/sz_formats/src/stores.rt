@@ -1,8 +1,9 @@
 //! The stores of a node, written and read.
 
-ghost use Rattle.sz_formats.specs.Terms.{◌≡◌, ◌≤◌, ◌∷◌, ◌++◌, ℕ, List, length, true, All, IfOk};
-ghost use Rattle.sz_formats.specs.Terms.{IfErr, OnOk, OnErr, arc_value, supports, AreRight, OnBad};
-ghost use Rattle.sz_formats.specs.Terms.{stored_in, is_whole, is_format, BeginEachIn, NoneBeginIn};
+ghost use Rattle.std.specs.Prelude.{◌≡◌, ◌≤◌, ◌∷◌, ◌++◌};
+ghost use Rattle.sz_formats.specs.Terms.{ℕ, List, length, true, All, IfOk, IfErr, OnOk, OnErr};
+ghost use Rattle.sz_formats.specs.Terms.{arc_value, supports, AreRight, OnBad, stored_in, is_whole};
+ghost use Rattle.sz_formats.specs.Terms.{is_format, BeginEachIn, NoneBeginIn};
 
 use crate::respelling::respell_each;
 use std::alloc::Global;

@@ -2,9 +2,8 @@
 pub use Rattle.std.specs.Arc.{arc_value}
 pub use Rattle.std.specs.Int.{int_max, int_min}
 pub use Rattle.std.specs.List.{list_any, reduce}
-pub use Rattle.std.specs.Prelude.{◌&&◌, ◌++◌, ◌+◌, ◌-◌, ◌<◌, ◌^◌, ◌∷◌, ◌≡◌, ◌≤◌, All, IfOk, IfSome}
-pub use Rattle.std.specs.Prelude.{List, OnErr, OnOk, Option, Some, [], false, if◌then◌else◌, length}
-pub use Rattle.std.specs.Prelude.{map, true, ℕ, ℤ}
+pub use Rattle.std.specs.Prelude.{All, IfOk, IfSome, List, OnErr, OnOk, Option, Some, [], false}
+pub use Rattle.std.specs.Prelude.{length, map, true, ℕ, ℤ}
 pub use Rattle.sz_cells.specs.Cells.{any_cell, cells_where, has, with_those}
 pub use Rattle.sz_cells.specs.Extent.{cell_of, holds, index_of, size_of}
 pub use Rattle.sz_cells.specs.Runs.{AreRunsFrom, covers}

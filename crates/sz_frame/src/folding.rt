@@ -1,7 +1,8 @@
 //! Folds of the numbers of many cells into one, a number at a time.
 
-ghost use Rattle.sz_frame.specs.Terms.{◌≡◌, ℤ, ◌+◌, ◌<◌, ◌^◌, ◌++◌, ◌∷◌, [], List, length, Some};
-ghost use Rattle.sz_frame.specs.Terms.{reduce, int_min, int_max, fold_of, summary_of, numbers_in};
+ghost use Rattle.std.specs.Prelude.{◌≡◌, ◌+◌, ◌<◌, ◌^◌, ◌++◌, ◌∷◌};
+ghost use Rattle.sz_frame.specs.Terms.{ℤ, [], List, length, Some, reduce, int_min, int_max};
+ghost use Rattle.sz_frame.specs.Terms.{fold_of, summary_of, numbers_in};
 
 use std::marker::Model;
 use sz_spec::{Fold, Value};

@@ -1,12 +1,12 @@
 //! The frame of all operators: what a run, a trace, a piece and an image do is written here once,
 //! over what differs from one operator to the next.
 
-ghost use Rattle.sz_frame.specs.Terms.{◌≡◌, ◌<◌, ◌+◌, ◌^◌, List, true, false, length, map, IfOk};
-ghost use Rattle.sz_frame.specs.Terms.{arc_value, holds, index_of, size_of, any_cell, has};
-ghost use Rattle.sz_frame.specs.Terms.{with_those, Grid, extent_at, extents_of, input_at, Site};
-ghost use Rattle.sz_frame.specs.Terms.{IsSite, AreExtents, related, mapped, value_of, output_of};
-ghost use Rattle.sz_frame.specs.Terms.{payload_of, overrides, IsAtWork, related_cells};
-ghost use Rattle.sz_frame.specs.Terms.{lineage_kind, payload_kind};
+ghost use Rattle.std.specs.Prelude.{◌≡◌, ◌<◌, ◌+◌, ◌^◌};
+ghost use Rattle.sz_frame.specs.Terms.{List, true, false, length, map, IfOk, arc_value, holds};
+ghost use Rattle.sz_frame.specs.Terms.{index_of, size_of, any_cell, has, with_those, Grid};
+ghost use Rattle.sz_frame.specs.Terms.{extent_at, extents_of, input_at, Site, IsSite, AreExtents};
+ghost use Rattle.sz_frame.specs.Terms.{related, mapped, value_of, output_of, payload_of, overrides};
+ghost use Rattle.sz_frame.specs.Terms.{IsAtWork, related_cells, lineage_kind, payload_kind};
 
 use crate::payload::Payload;
 use std::alloc::Global;

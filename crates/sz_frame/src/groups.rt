@@ -1,9 +1,10 @@
 //! Which output cells of a piece are kept together: those of one kind share a region pair, or an
 //! entry.
 
-ghost use Rattle.sz_frame.specs.Terms.{◌≡◌, ◌<◌, ◌≤◌, ◌+◌, ℕ, length, true, IfOk, arc_value};
-ghost use Rattle.sz_frame.specs.Terms.{list_any, size_of, AreRunsFrom, covers, keeping_of, is_kind};
-ghost use Rattle.sz_frame.specs.Terms.{is_first, leads, is_with, group_at};
+ghost use Rattle.std.specs.Prelude.{◌≡◌, ◌<◌, ◌≤◌, ◌+◌};
+ghost use Rattle.sz_frame.specs.Terms.{ℕ, length, true, IfOk, arc_value, list_any, size_of};
+ghost use Rattle.sz_frame.specs.Terms.{AreRunsFrom, covers, keeping_of, is_kind, is_first, leads};
+ghost use Rattle.sz_frame.specs.Terms.{is_with, group_at};
 
 use std::alloc::Global;
 use std::sync::Arc;

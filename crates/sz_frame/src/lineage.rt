@@ -1,7 +1,8 @@
 //! The lineage of one piece of an output array.
 
-ghost use Rattle.sz_frame.specs.Terms.{◌≡◌, ◌<◌, ◌++◌, [], ◌∷◌, map, length, OnOk, OnErr};
-ghost use Rattle.sz_frame.specs.Terms.{if◌then◌else◌, arc_value, no_parts, most_entries};
+ghost use Rattle.std.specs.Prelude.{◌≡◌, ◌<◌, ◌++◌, ◌∷◌, if◌then◌else◌};
+ghost use Rattle.sz_frame.specs.Terms.{[], map, length, OnOk, OnErr, arc_value, no_parts};
+ghost use Rattle.sz_frame.specs.Terms.{most_entries};
 
 use crate::payload::PayEntry;
 use crate::region::Region;

@@ -1,9 +1,10 @@
 //! Operators with a mapping of cells: what differs from one to the next is here, and what they
 //! share when they are at work is written once over it.
 
-ghost use Rattle.sz_frame.specs.Terms.{◌≡◌, ◌<◌, true, length, map, IfOk, arc_value, holds};
-ghost use Rattle.sz_frame.specs.Terms.{index_of, any_cell, cells_where, with_those, extent_at};
-ghost use Rattle.sz_frame.specs.Terms.{Site, mapped, has_mapping, value_of, IsAtWork};
+ghost use Rattle.std.specs.Prelude.{◌≡◌, ◌<◌};
+ghost use Rattle.sz_frame.specs.Terms.{true, length, map, IfOk, arc_value, holds, index_of};
+ghost use Rattle.sz_frame.specs.Terms.{any_cell, cells_where, with_those, extent_at, Site, mapped};
+ghost use Rattle.sz_frame.specs.Terms.{has_mapping, value_of, IsAtWork};
 
 use crate::frame::AtWork;
 use crate::payload::Payload;

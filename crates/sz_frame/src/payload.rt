@@ -1,6 +1,6 @@
 //! Payloads, and the entries that keep them.
 
-ghost use Rattle.sz_frame.specs.Terms.{◌≡◌};
+ghost use Rattle.std.specs.Prelude.{◌≡◌};
 
 use std::marker::Model;
 use std::sync::Arc;

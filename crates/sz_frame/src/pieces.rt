@@ -1,8 +1,8 @@
 //! The lineage of one piece of any operator's output: one walk over the piece's cells says how each
 //! part keeps them, and then each part has one entry for those that are kept together.
 
-ghost use Rattle.sz_frame.specs.Terms.{◌≡◌, ◌<◌, ◌≤◌, ◌+◌, ◌-◌, ◌^◌, ◌&&◌, ◌++◌, ◌∷◌, [], true};
-ghost use Rattle.sz_frame.specs.Terms.{false, length, map, All, IfOk, OnOk, OnErr, if◌then◌else◌};
+ghost use Rattle.std.specs.Prelude.{◌≡◌, ◌<◌, ◌≤◌, ◌+◌, ◌-◌, ◌^◌, ◌&&◌, ◌++◌, ◌∷◌, if◌then◌else◌};
+ghost use Rattle.sz_frame.specs.Terms.{[], true, false, length, map, All, IfOk, OnOk, OnErr};
 ghost use Rattle.sz_frame.specs.Terms.{arc_value, holds, size_of, IsAtWork, supports, pieces_of};
 ghost use Rattle.sz_frame.specs.Terms.{Fits, is_mode, needs, leads, measure_of, full_keeping};
 ghost use Rattle.sz_frame.specs.Terms.{pay_keeping, comp_keeping, keepings, region_by, regions_by};

@@ -1,6 +1,7 @@
 //! Region pairs.
 
-ghost use Rattle.sz_frame.specs.Terms.{◌≡◌, map, arc_value};
+ghost use Rattle.std.specs.Prelude.{◌≡◌};
+ghost use Rattle.sz_frame.specs.Terms.{map, arc_value};
 
 use std::marker::Model;
 use std::sync::Arc;

@@ -1,6 +1,7 @@
 //! Sets of one cell or none.
 
-ghost use Rattle.sz_frame.specs.Terms.{◌≡◌, true, Option, IfSome, IfOk, arc_value, holds, any_cell};
+ghost use Rattle.std.specs.Prelude.{◌≡◌};
+ghost use Rattle.sz_frame.specs.Terms.{true, Option, IfSome, IfOk, arc_value, holds, any_cell};
 ghost use Rattle.sz_frame.specs.Terms.{cells_where, with_those, is_cell};
 
 use std::alloc::Global;

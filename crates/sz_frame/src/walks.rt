@@ -1,10 +1,11 @@
 //! Runs, traces and images of any operator, each one walk over the cells of an array in row-major
 //! order.
 
-ghost use Rattle.sz_frame.specs.Terms.{◌≡◌, ◌<◌, ◌+◌, ◌^◌, true, length, map, IfOk, arc_value};
-ghost use Rattle.sz_frame.specs.Terms.{holds, index_of, cell_of, size_of, has, with_those};
-ghost use Rattle.sz_frame.specs.Terms.{output_of, related, mapped, IsAtWork, near_side, far_side};
-ghost use Rattle.sz_frame.specs.Terms.{image_in, traced, steps, values_before};
+ghost use Rattle.std.specs.Prelude.{◌≡◌, ◌<◌, ◌+◌, ◌^◌};
+ghost use Rattle.sz_frame.specs.Terms.{true, length, map, IfOk, arc_value, holds, index_of};
+ghost use Rattle.sz_frame.specs.Terms.{cell_of, size_of, has, with_those, output_of, related};
+ghost use Rattle.sz_frame.specs.Terms.{mapped, IsAtWork, near_side, far_side, image_in, traced};
+ghost use Rattle.sz_frame.specs.Terms.{steps, values_before};
 
 use crate::frame::AtWork;
 use std::alloc::Global;

@@ -1,8 +1,7 @@
 -- The words that clauses of this crate are written in, each from the file that defines it.
 pub use Rattle.std.specs.Arc.{arc_value}
-pub use Rattle.std.specs.Prelude.{◌*◌, ◌++◌, ◌+◌, ◌<◌, ◌^◌, ◌∷◌, ◌≡◌, ◌≤◌, All, IfErr, IfOk, IfSome}
-pub use Rattle.std.specs.Prelude.{IsSomeAnd, List, OnErr, OnOk, [], length, map, slice_index_or}
-pub use Rattle.std.specs.Prelude.{sum_by, true, ℕ}
+pub use Rattle.std.specs.Prelude.{All, IfErr, IfOk, IfSome, IsSomeAnd, List, OnErr, OnOk, []}
+pub use Rattle.std.specs.Prelude.{length, map, slice_index_or, sum_by, true, ℕ}
 pub use Rattle.sz_cells.specs.Cells.{has, with_those}
 pub use Rattle.sz_cells.specs.Laws.{IsInBounds}
 pub use Rattle.sz_cells.specs.declared.Cell.{Cell}

@@ -1,9 +1,10 @@
 //! Rectangles round sets of cells, and the trees in which they are found.
 
-ghost use Rattle.sz_full_many.specs.Terms.{◌≡◌, ℕ, ◌<◌, ◌≤◌, ◌+◌, ◌^◌, [], length, map, true, IfOk};
-ghost use Rattle.sz_full_many.specs.Terms.{IfSome, OnOk, All, IsSomeAnd, slice_index_or, Cell, has};
-ghost use Rattle.sz_full_many.specs.Terms.{IsInBounds, Rectangles, HasNext, trees_for, AreRound};
-ghost use Rattle.sz_full_many.specs.Terms.{pairings, near_set, pairing_at, IsRound};
+ghost use Rattle.std.specs.Prelude.{◌≡◌, ◌<◌, ◌≤◌, ◌+◌, ◌^◌};
+ghost use Rattle.sz_full_many.specs.Terms.{ℕ, [], length, map, true, IfOk, IfSome, OnOk, All};
+ghost use Rattle.sz_full_many.specs.Terms.{IsSomeAnd, slice_index_or, Cell, has, IsInBounds};
+ghost use Rattle.sz_full_many.specs.Terms.{Rectangles, HasNext, trees_for, AreRound, pairings};
+ghost use Rattle.sz_full_many.specs.Terms.{near_set, pairing_at, IsRound};
 
 use std::alloc::Global;
 use sz_cells::{Bounds, Cell, CellBits, NoMemory};

@@ -1,7 +1,8 @@
 //! How many runs the sets of region pairs have.
 
-ghost use Rattle.sz_full_many.specs.Terms.{◌≡◌, ◌≤◌, ◌*◌, ◌+◌, length, map, sum_by, All, arc_value};
-ghost use Rattle.sz_full_many.specs.Terms.{weight_of, cells_in, most_given};
+ghost use Rattle.std.specs.Prelude.{◌≡◌, ◌≤◌, ◌*◌, ◌+◌};
+ghost use Rattle.sz_full_many.specs.Terms.{length, map, sum_by, All, arc_value, weight_of};
+ghost use Rattle.sz_full_many.specs.Terms.{cells_in, most_given};
 
 use std::sync::Arc;
 use sz_frame::Region;

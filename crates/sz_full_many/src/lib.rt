@@ -26,13 +26,13 @@
 //! a test, and one that is too narrow is refused.
 #![tactic(auto)]
 
-ghost use Rattle.sz_full_many.specs.Terms.{◌≡◌, ℕ, ◌<◌, ◌≤◌, ◌+◌, List, [], ◌∷◌, ◌++◌, length, map};
-ghost use Rattle.sz_full_many.specs.Terms.{All, OnOk, OnErr, IfOk, IfErr, true, arc_value, has};
-ghost use Rattle.sz_full_many.specs.Terms.{with_those, near_side, far_side, image_in, full_stands};
-ghost use Rattle.sz_full_many.specs.Terms.{Listed, IsFullWord, BeginsRegions, SaysNoRegions};
-ghost use Rattle.sz_full_many.specs.Terms.{weight_of, pairings, AreDifferent, AreOneOrApart};
-ghost use Rattle.sz_full_many.specs.Terms.{HaveInputsApart, IsPairOf, IsWithin, room_for_pairs};
-ghost use Rattle.sz_full_many.specs.Terms.{no_room, most_given};
+ghost use Rattle.std.specs.Prelude.{◌≡◌, ◌<◌, ◌≤◌, ◌+◌, ◌∷◌, ◌++◌};
+ghost use Rattle.sz_full_many.specs.Terms.{ℕ, List, [], length, map, All, OnOk, OnErr, IfOk, IfErr};
+ghost use Rattle.sz_full_many.specs.Terms.{true, arc_value, has, with_those, near_side, far_side};
+ghost use Rattle.sz_full_many.specs.Terms.{image_in, full_stands, Listed, IsFullWord};
+ghost use Rattle.sz_full_many.specs.Terms.{BeginsRegions, SaysNoRegions, weight_of, pairings};
+ghost use Rattle.sz_full_many.specs.Terms.{AreDifferent, AreOneOrApart, HaveInputsApart, IsPairOf};
+ghost use Rattle.sz_full_many.specs.Terms.{IsWithin, room_for_pairs, no_room, most_given};
 
 mod bounds;
 mod counting;

@@ -1,8 +1,9 @@
 //! Looks by rectangles.
 
-ghost use Rattle.sz_full_many.specs.Terms.{◌≡◌, ◌<◌, length, has, with_those, extent_before};
-ghost use Rattle.sz_full_many.specs.Terms.{extent_after, image_between, full_stands, pairings};
-ghost use Rattle.sz_full_many.specs.Terms.{IsRound, AreRound, tree_for};
+ghost use Rattle.std.specs.Prelude.{◌≡◌, ◌<◌};
+ghost use Rattle.sz_full_many.specs.Terms.{length, has, with_those, extent_before, extent_after};
+ghost use Rattle.sz_full_many.specs.Terms.{image_between, full_stands, pairings, IsRound, AreRound};
+ghost use Rattle.sz_full_many.specs.Terms.{tree_for};
 
 use crate::bounds::bounds_of_bits;
 use sz_cells::{Bounds, CellBits};

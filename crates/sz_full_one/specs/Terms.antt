@@ -1,8 +1,7 @@
 -- The words that clauses of this crate are written in, each from the file that defines it.
 pub use Rattle.std.specs.Arc.{arc_value}
-pub use Rattle.std.specs.Prelude.{◌++◌, ◌+◌, ◌<◌, ◌↔◌, ◌∷◌, ◌≡◌, ◌≤◌, All, IfErr, IfOk, IsTrue}
-pub use Rattle.std.specs.Prelude.{List, OnErr, OnOk, Some, [], length, map, slice_index_or, sum_by}
-pub use Rattle.std.specs.Prelude.{true, ℕ}
+pub use Rattle.std.specs.Prelude.{All, IfErr, IfOk, IsTrue, List, OnErr, OnOk, Some, [], length}
+pub use Rattle.std.specs.Prelude.{map, slice_index_or, sum_by, true, ℕ}
 pub use Rattle.sz_cells.specs.Cells.{has, with_those}
 pub use Rattle.sz_cells.specs.Extent.{Extent, cell_of, size_of}
 pub use Rattle.sz_cells.specs.Runs.{indexes_of}

@@ -1,9 +1,10 @@
 //! Adding region pairs to a table and to its index.
 
-ghost use Rattle.sz_full_one.specs.Terms.{◌≡◌, ℕ, ◌<◌, ◌≤◌, ◌+◌, [], ◌∷◌, ◌++◌, length, map};
-ghost use Rattle.sz_full_one.specs.Terms.{sum_by, All, true, arc_value, pairings, weight_of};
-ghost use Rattle.sz_full_one.specs.Terms.{IsIndexOf, IsPairIn, HasRoom, pair_cells};
-ghost use Rattle.sz_full_one.specs.Terms.{index_capacities, AreOneOrApart, HaveInputsApart};
+ghost use Rattle.std.specs.Prelude.{◌≡◌, ◌<◌, ◌≤◌, ◌+◌, ◌∷◌, ◌++◌};
+ghost use Rattle.sz_full_one.specs.Terms.{ℕ, [], length, map, sum_by, All, true, arc_value};
+ghost use Rattle.sz_full_one.specs.Terms.{pairings, weight_of, IsIndexOf, IsPairIn, HasRoom};
+ghost use Rattle.sz_full_one.specs.Terms.{pair_cells, index_capacities, AreOneOrApart};
+ghost use Rattle.sz_full_one.specs.Terms.{HaveInputsApart};
 
 use crate::index::Index;
 use std::sync::Arc;

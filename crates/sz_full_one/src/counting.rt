@@ -1,7 +1,8 @@
 //! How many runs and cells the sets of region pairs have.
 
-ghost use Rattle.sz_full_one.specs.Terms.{◌≡◌, ◌+◌, map, sum_by, IfOk, arc_value, runs_in};
-ghost use Rattle.sz_full_one.specs.Terms.{weight_of, cells_in, pair_cells};
+ghost use Rattle.std.specs.Prelude.{◌≡◌, ◌+◌};
+ghost use Rattle.sz_full_one.specs.Terms.{map, sum_by, IfOk, arc_value, runs_in, weight_of};
+ghost use Rattle.sz_full_one.specs.Terms.{cells_in, pair_cells};
 
 use std::sync::Arc;
 use sz_cells::{CellSet, NoMemory};

@@ -1,6 +1,7 @@
 //! Filing an item under each cell of a set.
 
-ghost use Rattle.sz_full_one.specs.Terms.{◌≡◌, ◌<◌, ◌≤◌, length, size_of, indexes_of, with_filed};
+ghost use Rattle.std.specs.Prelude.{◌≡◌, ◌<◌, ◌≤◌};
+ghost use Rattle.sz_full_one.specs.Terms.{length, size_of, indexes_of, with_filed};
 
 use sz_cells::{CellSet, Run};
 use sz_tables::Chains;

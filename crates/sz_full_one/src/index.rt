@@ -1,11 +1,11 @@
 //! Where region pairs are found: by the cells of the sets from which looks start.
 
-ghost use Rattle.sz_full_one.specs.Terms.{◌≡◌, ℕ, ◌<◌, ◌≤◌, ◌+◌, length, All, OnOk, IfOk};
-ghost use Rattle.sz_full_one.specs.Terms.{slice_index_or, map, Extent, RowTable, empty_rows};
-ghost use Rattle.sz_full_one.specs.Terms.{IsIndexOf, AreFilesOf, AreFiledByIns, AreSetsFiled};
-ghost use Rattle.sz_full_one.specs.Terms.{IsGrownBy, HasRoom, HasFileRoom, HasSameEntries};
-ghost use Rattle.sz_full_one.specs.Terms.{HasSameFiles, pair_cells, side_of, file_capacities};
-ghost use Rattle.sz_full_one.specs.Terms.{index_capacities};
+ghost use Rattle.std.specs.Prelude.{◌≡◌, ◌<◌, ◌≤◌, ◌+◌};
+ghost use Rattle.sz_full_one.specs.Terms.{ℕ, length, All, OnOk, IfOk, slice_index_or, map, Extent};
+ghost use Rattle.sz_full_one.specs.Terms.{RowTable, empty_rows, IsIndexOf, AreFilesOf};
+ghost use Rattle.sz_full_one.specs.Terms.{AreFiledByIns, AreSetsFiled, IsGrownBy, HasRoom};
+ghost use Rattle.sz_full_one.specs.Terms.{HasFileRoom, HasSameEntries, HasSameFiles, pair_cells};
+ghost use Rattle.sz_full_one.specs.Terms.{side_of, file_capacities, index_capacities};
 
 use crate::filing::file_set;
 use std::alloc::Global;

@@ -23,12 +23,13 @@
 //! of the set that it handled last (`IsDone`), and begins each ask without one.
 #![tactic(auto)]
 
-ghost use Rattle.sz_full_one.specs.Terms.{◌≡◌, ◌<◌, ◌≤◌, ◌+◌, [], ◌∷◌, ◌++◌, length, All, OnOk};
-ghost use Rattle.sz_full_one.specs.Terms.{OnErr, IfOk, IfErr, List, ℕ, map, true, arc_value, has};
-ghost use Rattle.sz_full_one.specs.Terms.{with_those, near_side, far_side, image_in, Listed};
-ghost use Rattle.sz_full_one.specs.Terms.{IsFullWord, BeginsRegions, full_stands, SaysNoRegions};
-ghost use Rattle.sz_full_one.specs.Terms.{pairings, IsPairOf, IsWithin, room_for_pairs, no_room};
-ghost use Rattle.sz_full_one.specs.Terms.{most_given, AreDifferent, HaveInputsApart};
+ghost use Rattle.std.specs.Prelude.{◌≡◌, ◌<◌, ◌≤◌, ◌+◌, ◌∷◌, ◌++◌};
+ghost use Rattle.sz_full_one.specs.Terms.{[], length, All, OnOk, OnErr, IfOk, IfErr, List, ℕ, map};
+ghost use Rattle.sz_full_one.specs.Terms.{true, arc_value, has, with_those, near_side, far_side};
+ghost use Rattle.sz_full_one.specs.Terms.{image_in, Listed, IsFullWord, BeginsRegions, full_stands};
+ghost use Rattle.sz_full_one.specs.Terms.{SaysNoRegions, pairings, IsPairOf, IsWithin};
+ghost use Rattle.sz_full_one.specs.Terms.{room_for_pairs, no_room, most_given, AreDifferent};
+ghost use Rattle.sz_full_one.specs.Terms.{HaveInputsApart};
 
 mod adding;
 mod counting;

@@ -1,10 +1,11 @@
 //! Looks at an index: from each asked cell along its entries, and to the sets that these lead to.
 
-ghost use Rattle.sz_full_one.specs.Terms.{◌≡◌, ◌<◌, length, IsTrue, ◌↔◌, Some, All, has};
-ghost use Rattle.sz_full_one.specs.Terms.{with_those, size_of, cell_of, extent_before};
-ghost use Rattle.sz_full_one.specs.Terms.{extent_after, image_between, extent_at, full_stands};
-ghost use Rattle.sz_full_one.specs.Terms.{steps, pairings, sets_of, set_at, IsRowOf, IsIndexOf};
-ghost use Rattle.sz_full_one.specs.Terms.{AreFiledByOuts, AreFiledByIns, IsDone, adds, side_of};
+ghost use Rattle.std.specs.Prelude.{◌≡◌, ◌<◌, ◌↔◌};
+ghost use Rattle.sz_full_one.specs.Terms.{length, IsTrue, Some, All, has, with_those, size_of};
+ghost use Rattle.sz_full_one.specs.Terms.{cell_of, extent_before, extent_after, image_between};
+ghost use Rattle.sz_full_one.specs.Terms.{extent_at, full_stands, steps, pairings, sets_of, set_at};
+ghost use Rattle.sz_full_one.specs.Terms.{IsRowOf, IsIndexOf, AreFiledByOuts, AreFiledByIns};
+ghost use Rattle.sz_full_one.specs.Terms.{IsDone, adds, side_of};
 
 use crate::index::{Index, SetFiles};
 use sz_cells::CellBits;

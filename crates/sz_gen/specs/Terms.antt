@@ -1,5 +1,5 @@
 -- The words that clauses of this crate are written in, each from the file that defines it.
-pub use Rattle.std.specs.Prelude.{◌*◌, ◌++◌, ◌<◌, ◌≡◌, ◌≤◌, IfOk, OnOk, [], codes, decimal}
+pub use Rattle.std.specs.Prelude.{IfOk, OnOk, [], codes, decimal}
 pub use Rattle.sz_gen.specs.Draws.{draw_of, next_number, number_after}
 pub use Rattle.sz_gen.specs.Laws.{DrawsAreBelow, SessionsHave42Lines}
 pub use Rattle.sz_gen.specs.Lists.{separator}

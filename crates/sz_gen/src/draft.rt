@@ -3,10 +3,11 @@
 //! Each call appends one definition's text and leaves the generator's number after its draws. What
 //! is written and which draws were made depends on the order of the calls alone.
 
-ghost use Rattle.sz_gen.specs.Terms.{◌≡◌, ◌*◌, ◌<◌, [], ◌++◌, codes, decimal, OnOk, next_number};
-ghost use Rattle.sz_gen.specs.Terms.{number_after, draw_of, separator, row_text, rows_text};
-ghost use Rattle.sz_gen.specs.Terms.{array_line, ask_line, triple, triples, flow_line};
-ghost use Rattle.sz_gen.specs.Terms.{strategy_lines, start_line, await_line, text_of_lines};
+ghost use Rattle.std.specs.Prelude.{◌≡◌, ◌*◌, ◌<◌, ◌++◌};
+ghost use Rattle.sz_gen.specs.Terms.{[], codes, decimal, OnOk, next_number, number_after, draw_of};
+ghost use Rattle.sz_gen.specs.Terms.{separator, row_text, rows_text, array_line, ask_line, triple};
+ghost use Rattle.sz_gen.specs.Terms.{triples, flow_line, strategy_lines, start_line, await_line};
+ghost use Rattle.sz_gen.specs.Terms.{text_of_lines};
 
 use crate::NoMemory;
 use itoa::Buffer;

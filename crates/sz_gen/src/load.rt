@@ -1,6 +1,7 @@
 //! The two texts.
 
-ghost use Rattle.sz_gen.specs.Terms.{◌≡◌, ◌≤◌, IfOk, load_text, summary_line};
+ghost use Rattle.std.specs.Prelude.{◌≡◌, ◌≤◌};
+ghost use Rattle.sz_gen.specs.Terms.{IfOk, load_text, summary_line};
 
 use crate::NoMemory;
 use crate::draft::Draft;

@@ -1,7 +1,6 @@
 -- The words that clauses of this crate are written in, each from the file that defines it.
 pub use Rattle.std.specs.Int.{to_be_bytes, w64}
-pub use Rattle.std.specs.Prelude.{◌++◌, ◌+◌, ◌<◌, ◌==◌, ◌^◌, ◌∷◌, ◌≡◌, ◌≤◌, IfOk, List, None, OnOk}
-pub use Rattle.std.specs.Prelude.{Some, [], is_ok, length, true, ℕ}
+pub use Rattle.std.specs.Prelude.{IfOk, List, None, OnOk, Some, [], is_ok, length, true, ℕ}
 pub use Rattle.sz_outside.specs.Calls.{KeepsOutput, Steps}
 pub use Rattle.sz_outside.specs.Counts.{faults_after}
 pub use Rattle.sz_outside.specs.Disk.{Cut, HasPlace, Only, Passes, Said, Same, Told, Torn, Writes}

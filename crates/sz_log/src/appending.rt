@@ -1,9 +1,9 @@
 //! Adding a group to a log.
-ghost use Rattle.sz_log.specs.Terms.{◌≡◌, ◌≤◌, ◌<◌, ◌+◌, ◌^◌, ◌++◌, ◌∷◌, [], List, ℕ, Some, true};
-ghost use Rattle.sz_log.specs.Terms.{IfOk, OnOk, is_ok, length, None, w64, to_be_bytes};
-ghost use Rattle.sz_log.specs.Terms.{KeepsOutput, Steps, faults_after, Told, Passes, Said, Only};
-ghost use Rattle.sz_log.specs.Terms.{HasPlace, Writes, written, LogGroup, EndsAt, is_kind};
-ghost use Rattle.sz_log.specs.Terms.{bytes_behind_gate, group_bytes, Added, AddsOrKeeps};
+ghost use Rattle.std.specs.Prelude.{◌≡◌, ◌≤◌, ◌<◌, ◌+◌, ◌^◌, ◌++◌, ◌∷◌};
+ghost use Rattle.sz_log.specs.Terms.{[], List, ℕ, Some, true, IfOk, OnOk, is_ok, length, None, w64};
+ghost use Rattle.sz_log.specs.Terms.{to_be_bytes, KeepsOutput, Steps, faults_after, Told, Passes};
+ghost use Rattle.sz_log.specs.Terms.{Said, Only, HasPlace, Writes, written, LogGroup, EndsAt};
+ghost use Rattle.sz_log.specs.Terms.{is_kind, bytes_behind_gate, group_bytes, Added, AddsOrKeeps};
 ghost use Rattle.sz_log.specs.Terms.{KeepsFront, place_behind};
 
 use crate::LogEnd;

@@ -1,8 +1,8 @@
 //! Reading a log: whether a disk begins as one, and what stands at a place.
-ghost use Rattle.sz_log.specs.Terms.{◌≡◌, ◌==◌, ◌<◌, ◌+◌, ◌^◌, List, ℕ, IfOk, is_ok, length};
-ghost use Rattle.sz_log.specs.Terms.{faults_after, Told, Passes, Same, Said, bytes_at, is_kind};
-ghost use Rattle.sz_log.specs.Terms.{StandsAt, SpellsAt, SpellsLength, SaysWhether, group_on};
-ghost use Rattle.sz_log.specs.Terms.{opened_with};
+ghost use Rattle.std.specs.Prelude.{◌≡◌, ◌==◌, ◌<◌, ◌+◌, ◌^◌};
+ghost use Rattle.sz_log.specs.Terms.{List, ℕ, IfOk, is_ok, length, faults_after, Told, Passes};
+ghost use Rattle.sz_log.specs.Terms.{Same, Said, bytes_at, is_kind, StandsAt, SpellsAt};
+ghost use Rattle.sz_log.specs.Terms.{SpellsLength, SaysWhether, group_on, opened_with};
 
 use sz_numbers::eight_at;
 use sz_outside::{Failed, Station};

@@ -1,8 +1,9 @@
 //! Making a disk the empty log.
-ghost use Rattle.sz_log.specs.Terms.{◌≡◌, List, ℕ, Some, [], IfOk, OnOk, is_ok, length};
-ghost use Rattle.sz_log.specs.Terms.{KeepsOutput, Steps, faults_after, Told, Passes, Said, Only};
-ghost use Rattle.sz_log.specs.Terms.{Cut, Same, empty_log, Makes, MakesIfFree, JudgesTold, IsMade};
-ghost use Rattle.sz_log.specs.Terms.{Spares, is_no_failure};
+ghost use Rattle.std.specs.Prelude.{◌≡◌};
+ghost use Rattle.sz_log.specs.Terms.{List, ℕ, Some, [], IfOk, OnOk, is_ok, length, KeepsOutput};
+ghost use Rattle.sz_log.specs.Terms.{Steps, faults_after, Told, Passes, Said, Only, Cut, Same};
+ghost use Rattle.sz_log.specs.Terms.{empty_log, Makes, MakesIfFree, JudgesTold, IsMade, Spares};
+ghost use Rattle.sz_log.specs.Terms.{is_no_failure};
 
 use crate::groups::is_log;
 use crate::writing::put;

@@ -1,7 +1,7 @@
 //! Writing at a place of the disk, and putting it where a stop leaves it.
-ghost use Rattle.sz_log.specs.Terms.{◌≡◌, ◌≤◌, ◌<◌, ◌+◌, ◌^◌, List, ℕ, Some, IfOk, OnOk, is_ok};
-ghost use Rattle.sz_log.specs.Terms.{length, None, KeepsOutput, Steps, faults_after, Torn, Only};
-ghost use Rattle.sz_log.specs.Terms.{written};
+ghost use Rattle.std.specs.Prelude.{◌≡◌, ◌≤◌, ◌<◌, ◌+◌, ◌^◌};
+ghost use Rattle.sz_log.specs.Terms.{List, ℕ, Some, IfOk, OnOk, is_ok, length, None, KeepsOutput};
+ghost use Rattle.sz_log.specs.Terms.{Steps, faults_after, Torn, Only, written};
 
 use sz_outside::{Failed, Station};
 

@@ -1,8 +1,7 @@
 -- The words that clauses of this crate are written in, each from the file that defines it.
 pub use Rattle.std.specs.Arc.{arc_value}
 pub use Rattle.std.specs.List.{filter, range_with_len, slice_get}
-pub use Rattle.std.specs.Prelude.{◌&&◌, ◌++◌, ◌+◌, ◌<◌, ◌==◌, ◌^◌, ◌∷◌, ◌≡◌, ◌≢◌, ◌≤◌, All, IfNone}
-pub use Rattle.std.specs.Prelude.{IfOk, IfSome, List, OnOk, OnSome, Some, [], false, if◌then◌else◌}
+pub use Rattle.std.specs.Prelude.{All, IfNone, IfOk, IfSome, List, OnOk, OnSome, Some, [], false}
 pub use Rattle.std.specs.Prelude.{length, map, nat_lt, not, slice_index_or, slice_set, true, ℕ}
 pub use Rattle.sz_cells.specs.Cells.{Cells, union_of}
 pub use Rattle.sz_cells.specs.Extent.{Extent, is_extent, size_of}

@@ -1,9 +1,10 @@
 //! Region pairs of a table that are kinds of lineage as they are, told one after another: none has
 //! an output cell or the input set of one before it.
 
-ghost use Rattle.sz_merge.specs.Terms.{◌≡◌, ◌<◌, ◌≤◌, [], ◌∷◌, ◌++◌, List, length, true, false};
-ghost use Rattle.sz_merge.specs.Terms.{IfOk, slice_index_or, slice_set, Cells, set_of, pairings};
-ghost use Rattle.sz_merge.specs.Terms.{row_at, number_in, sets_of, pairing_at, IsFurther, AreKinds};
+ghost use Rattle.std.specs.Prelude.{◌≡◌, ◌<◌, ◌≤◌, ◌∷◌, ◌++◌};
+ghost use Rattle.sz_merge.specs.Terms.{[], List, length, true, false, IfOk, slice_index_or};
+ghost use Rattle.sz_merge.specs.Terms.{slice_set, Cells, set_of, pairings, row_at, number_in};
+ghost use Rattle.sz_merge.specs.Terms.{sets_of, pairing_at, IsFurther, AreKinds};
 
 use std::alloc::Global;
 use sz_cells::{CellBits, NoMemory, Shape};

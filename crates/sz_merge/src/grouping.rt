@@ -1,8 +1,8 @@
 //! The cells of each number, as runs.
 
-ghost use Rattle.sz_merge.specs.Terms.{◌≡◌, ◌<◌, ◌≤◌, ◌+◌, ◌^◌, [], length, All, IfOk, OnOk};
-ghost use Rattle.sz_merge.specs.Terms.{slice_index_or, filter, range_with_len, AreGroups};
-ghost use Rattle.sz_merge.specs.Terms.{HasCellMore, is_kind};
+ghost use Rattle.std.specs.Prelude.{◌≡◌, ◌<◌, ◌≤◌, ◌+◌, ◌^◌};
+ghost use Rattle.sz_merge.specs.Terms.{[], length, All, IfOk, OnOk, slice_index_or, filter};
+ghost use Rattle.sz_merge.specs.Terms.{range_with_len, AreGroups, HasCellMore, is_kind};
 
 use std::alloc::Global;
 use std::marker::Model;

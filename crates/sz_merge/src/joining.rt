@@ -1,7 +1,8 @@
 //! Lineages joined with the input sets of region pairs.
 
-ghost use Rattle.sz_merge.specs.Terms.{◌≡◌, ◌<◌, map, length, Some, IfOk, slice_get, arc_value};
-ghost use Rattle.sz_merge.specs.Terms.{union_of, joined, list_at, KeepsNumbers, IsNext};
+ghost use Rattle.std.specs.Prelude.{◌≡◌, ◌<◌};
+ghost use Rattle.sz_merge.specs.Terms.{map, length, Some, IfOk, slice_get, arc_value, union_of};
+ghost use Rattle.sz_merge.specs.Terms.{joined, list_at, KeepsNumbers, IsNext};
 
 use crate::lineages::LineageTable;
 use std::alloc::Global;

@@ -1,7 +1,7 @@
 //! Region pairs, one for each kind of lineage.
 
-ghost use Rattle.sz_merge.specs.Terms.{◌≡◌, ◌<◌, ◌^◌, ◌==◌, ◌&&◌, ◌++◌, ℕ, List, [], ◌∷◌, map};
-ghost use Rattle.sz_merge.specs.Terms.{length, All, IfOk, OnOk, not, nat_lt, if◌then◌else◌};
+ghost use Rattle.std.specs.Prelude.{◌≡◌, ◌<◌, ◌^◌, ◌==◌, ◌&&◌, ◌++◌, ◌∷◌, if◌then◌else◌};
+ghost use Rattle.sz_merge.specs.Terms.{ℕ, List, [], map, length, All, IfOk, OnOk, not, nat_lt};
 ghost use Rattle.sz_merge.specs.Terms.{arc_value, Cell, size_of, AreRunsFrom, HasShapes};
 ghost use Rattle.sz_merge.specs.Terms.{full_stands, spelled, AreKinds, list_at, kinds_below};
 

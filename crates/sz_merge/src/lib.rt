@@ -25,7 +25,8 @@
 //! ```
 #![tactic(auto)]
 
-ghost use Rattle.sz_merge.specs.Terms.{◌≡◌, ℕ, List, [], true, length, All, IfOk, OnOk, arc_value};
+ghost use Rattle.std.specs.Prelude.{◌≡◌};
+ghost use Rattle.sz_merge.specs.Terms.{ℕ, List, [], true, length, All, IfOk, OnOk, arc_value};
 ghost use Rattle.sz_merge.specs.Terms.{supports, is_whole, stored_in, BeginEach, AreMerged};
 ghost use Rattle.sz_merge.specs.Terms.{AreRead};
 

@@ -1,8 +1,9 @@
 //! Lineages by number, each different one once.
 
-ghost use Rattle.sz_merge.specs.Terms.{◌≡◌, ◌<◌, ◌≤◌, ◌+◌, ◌++◌, All, map, length, true, Some};
-ghost use Rattle.sz_merge.specs.Terms.{IfOk, OnOk, slice_get, arc_value, is_extent, IsSetOf};
-ghost use Rattle.sz_merge.specs.Terms.{AreDifferent, nothing, spelling, list_at, KeepsNumbers};
+ghost use Rattle.std.specs.Prelude.{◌≡◌, ◌<◌, ◌≤◌, ◌+◌, ◌++◌};
+ghost use Rattle.sz_merge.specs.Terms.{All, map, length, true, Some, IfOk, OnOk, slice_get};
+ghost use Rattle.sz_merge.specs.Terms.{arc_value, is_extent, IsSetOf, AreDifferent, nothing};
+ghost use Rattle.sz_merge.specs.Terms.{spelling, list_at, KeepsNumbers};
 
 use std::alloc::Global;
 use std::marker::Model;

@@ -1,8 +1,9 @@
 //! Output cells with the numbers of their lineages: region pair by region pair.
 
-ghost use Rattle.sz_merge.specs.Terms.{◌≡◌, ◌<◌, ◌≤◌, map, length, All, Some, IfOk, OnOk};
-ghost use Rattle.sz_merge.specs.Terms.{slice_get, arc_value, size_of, is_in, HasShapes, nothing};
-ghost use Rattle.sz_merge.specs.Terms.{IsNext, AreMarked, AreLabels, AreNumbers, has_index};
+ghost use Rattle.std.specs.Prelude.{◌≡◌, ◌<◌, ◌≤◌};
+ghost use Rattle.sz_merge.specs.Terms.{map, length, All, Some, IfOk, OnOk, slice_get, arc_value};
+ghost use Rattle.sz_merge.specs.Terms.{size_of, is_in, HasShapes, nothing, IsNext, AreMarked};
+ghost use Rattle.sz_merge.specs.Terms.{AreLabels, AreNumbers, has_index};
 
 use crate::joining::{Step, new_step, step_from};
 use crate::lineages::LineageTable;

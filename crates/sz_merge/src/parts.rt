@@ -1,8 +1,9 @@
 //! The stores of a node, each merged by itself.
 
-ghost use Rattle.sz_merge.specs.Terms.{◌≡◌, ◌<◌, ◌≤◌, List, ◌∷◌, length, map, All, IfOk, arc_value};
-ghost use Rattle.sz_merge.specs.Terms.{mode_of, AreRight, HasShapes, Pairing, pairings, regions};
-ghost use Rattle.sz_merge.specs.Terms.{keep_at, IsOfItsMode, IsTableOf, IsPartMerged, AreKindsPut};
+ghost use Rattle.std.specs.Prelude.{◌≡◌, ◌<◌, ◌≤◌, ◌∷◌};
+ghost use Rattle.sz_merge.specs.Terms.{List, length, map, All, IfOk, arc_value, mode_of, AreRight};
+ghost use Rattle.sz_merge.specs.Terms.{HasShapes, Pairing, pairings, regions, keep_at, IsOfItsMode};
+ghost use Rattle.sz_merge.specs.Terms.{IsTableOf, IsPartMerged, AreKindsPut};
 ghost use Rattle.sz_spec.specs.declared.modes.Mode.TheVariants as mode;
 
 use crate::apart::are_kinds;

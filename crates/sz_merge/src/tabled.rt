@@ -2,13 +2,13 @@
 //! are told by the numbers of their sets, and put as the cells of one after another are gathered.
 //! No set is made or joined with another, and none is kept.
 
-ghost use Rattle.sz_merge.specs.Terms.{◌≡◌, ◌≢◌, ◌<◌, ◌≤◌, ◌+◌, ◌==◌, ◌^◌, [], ◌∷◌, ℕ, List};
-ghost use Rattle.sz_merge.specs.Terms.{length, true, not, All, IfOk, OnOk, IfSome, OnSome, IfNone};
-ghost use Rattle.sz_merge.specs.Terms.{Cells, Extent, size_of, AreRunsFrom, is_in, IsSetOf};
-ghost use Rattle.sz_merge.specs.Terms.{extent_at, HasShapes, Pairing, pairings, row_at, number_in};
-ghost use Rattle.sz_merge.specs.Terms.{set_at, sets_of, pairing_at, lists_of, AreLabels, AreMarked};
-ghost use Rattle.sz_merge.specs.Terms.{IsNext, has_index, kinds_behind, ArePut, IsKindPut};
-ghost use Rattle.sz_merge.specs.Terms.{AreSetsPut, IsStorePut, kind_of, AreKindsPut};
+ghost use Rattle.std.specs.Prelude.{◌≡◌, ◌≢◌, ◌<◌, ◌≤◌, ◌+◌, ◌==◌, ◌^◌, ◌∷◌};
+ghost use Rattle.sz_merge.specs.Terms.{[], ℕ, List, length, true, not, All, IfOk, OnOk, IfSome};
+ghost use Rattle.sz_merge.specs.Terms.{OnSome, IfNone, Cells, Extent, size_of, AreRunsFrom, is_in};
+ghost use Rattle.sz_merge.specs.Terms.{IsSetOf, extent_at, HasShapes, Pairing, pairings, row_at};
+ghost use Rattle.sz_merge.specs.Terms.{number_in, set_at, sets_of, pairing_at, lists_of, AreLabels};
+ghost use Rattle.sz_merge.specs.Terms.{AreMarked, IsNext, has_index, kinds_behind, ArePut};
+ghost use Rattle.sz_merge.specs.Terms.{IsKindPut, AreSetsPut, IsStorePut, kind_of, AreKindsPut};
 
 use crate::grouping::{Grouping, group_cells};
 use std::alloc::Global;

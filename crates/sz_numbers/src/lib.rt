@@ -9,8 +9,8 @@
 //! Contracts name bytes as std does: `to_be_bytes` and `from_be_bytes`.
 #![tactic(auto)]
 
-ghost use Rattle.sz_numbers.specs.Terms.{◌≡◌, ◌≤◌, ◌+◌, length, w32, w64, to_be_bytes, four_at};
-ghost use Rattle.sz_numbers.specs.Terms.{eight_at};
+ghost use Rattle.std.specs.Prelude.{◌≡◌, ◌≤◌, ◌+◌};
+ghost use Rattle.sz_numbers.specs.Terms.{length, w32, w64, to_be_bytes, four_at, eight_at};
 
 use byteorder::{BigEndian, ByteOrder};
 

@@ -1,6 +1,6 @@
 -- The words that clauses of this crate are written in, each from the file that defines it.
 pub use Rattle.std.specs.Arc.{arc_value}
-pub use Rattle.std.specs.Prelude.{◌+◌, ◌<◌, ◌^◌, ◌≡◌, All, IfOk, OnErr, OnOk, length, map, true}
+pub use Rattle.std.specs.Prelude.{All, IfOk, OnErr, OnOk, length, map, true}
 pub use Rattle.sz_cells.specs.Cells.{has, with_those}
 pub use Rattle.sz_cells.specs.Extent.{holds, size_of}
 pub use Rattle.sz_frame.specs.Fits.{Fits}

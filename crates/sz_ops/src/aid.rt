@@ -1,6 +1,7 @@
 //! What is prepared once for an operator at work.
 
-ghost use Rattle.sz_ops.specs.Terms.{◌≡◌, map, true, arc_value, aid_of};
+ghost use Rattle.std.specs.Prelude.{◌≡◌};
+ghost use Rattle.sz_ops.specs.Terms.{map, true, arc_value, aid_of};
 ghost use Rattle.sz_ops_region.specs.Regions as regions;
 
 use std::sync::Arc;

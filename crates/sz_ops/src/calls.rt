@@ -1,10 +1,11 @@
 //! The calls of all operators, each that of the operator's crate.
 
-ghost use Rattle.sz_ops.specs.Terms.{◌≡◌, ◌<◌, ◌+◌, ◌^◌, true, length, map, All, IfOk, OnOk, OnErr};
-ghost use Rattle.sz_ops.specs.Terms.{arc_value, holds, size_of, has, with_those, extents_of};
-ghost use Rattle.sz_ops.specs.Terms.{value_of, output_of, related, mapped, has_mapping, supports};
-ghost use Rattle.sz_ops.specs.Terms.{pieces_of, Fits, near_side, far_side, image_in, measure_of};
-ghost use Rattle.sz_ops.specs.Terms.{cells_in_piece, parts_by, aid_of};
+ghost use Rattle.std.specs.Prelude.{◌≡◌, ◌<◌, ◌+◌, ◌^◌};
+ghost use Rattle.sz_ops.specs.Terms.{true, length, map, All, IfOk, OnOk, OnErr, arc_value, holds};
+ghost use Rattle.sz_ops.specs.Terms.{size_of, has, with_those, extents_of, value_of, output_of};
+ghost use Rattle.sz_ops.specs.Terms.{related, mapped, has_mapping, supports, pieces_of, Fits};
+ghost use Rattle.sz_ops.specs.Terms.{near_side, far_side, image_in, measure_of, cells_in_piece};
+ghost use Rattle.sz_ops.specs.Terms.{parts_by, aid_of};
 
 use crate::aid::Aid;
 use crate::table::{at_work, choose, mapping};

@@ -1,6 +1,7 @@
 //! The mapping of an operator that has one.
 
-ghost use Rattle.sz_ops.specs.Terms.{◌≡◌, true, arc_value, has_mapping};
+ghost use Rattle.std.specs.Prelude.{◌≡◌};
+ghost use Rattle.sz_ops.specs.Terms.{true, arc_value, has_mapping};
 
 use crate::table::{choose, mapping};
 use std::marker::Model;

@@ -2,9 +2,8 @@
 pub use Rattle.std.specs.Arc.{arc_value}
 pub use Rattle.std.specs.Int.{int_max, int_min}
 pub use Rattle.std.specs.List.{list_any, zip}
-pub use Rattle.std.specs.Prelude.{◌&&◌, ◌*ℤ◌, ◌*◌, ◌++◌, ◌+ℤ◌, ◌+◌, ◌-ℤ◌, ◌/◌, ◌<◌, ◌==◌, ◌||◌, ◌∷◌}
-pub use Rattle.std.specs.Prelude.{◌≡◌, ◌≤◌, IfOk, List, OnOk, Option, Some, [], length, map, nat_le}
-pub use Rattle.std.specs.Prelude.{nat_lt, neg_ℤ, true, ℕ, ℤ}
+pub use Rattle.std.specs.Prelude.{IfOk, List, OnOk, Option, Some, [], length, map, nat_le, nat_lt}
+pub use Rattle.std.specs.Prelude.{neg_ℤ, true, ℕ, ℤ}
 pub use Rattle.sz_cells.specs.Cells.{any_cell, cells_where, has, is_same, with_those}
 pub use Rattle.sz_cells.specs.Extent.{height_of, holds, index_of, size_of}
 pub use Rattle.sz_cells.specs.declared.Cell.{Cell}

@@ -1,10 +1,10 @@
 //! What each elementwise operator makes of one number, or of two: a type each, and one table of
 //! them. Where the type is known, nothing is looked up.
 
-ghost use Rattle.sz_ops_local.specs.Terms.{◌≡◌, ℕ, ℤ, ◌+ℤ◌, ◌-ℤ◌, ◌*ℤ◌, neg_ℤ, List, true, Option};
-ghost use Rattle.sz_ops_local.specs.Terms.{Some, int_min, int_max, Cell, Grid, fit, value_at};
-ghost use Rattle.sz_ops_local.specs.Terms.{input_at, arity, value_of, absolute, clipped};
-ghost use Rattle.sz_ops_local.specs.Terms.{is_elementwise};
+ghost use Rattle.std.specs.Prelude.{◌≡◌, ◌+ℤ◌, ◌-ℤ◌, ◌*ℤ◌};
+ghost use Rattle.sz_ops_local.specs.Terms.{ℕ, ℤ, neg_ℤ, List, true, Option, Some, int_min, int_max};
+ghost use Rattle.sz_ops_local.specs.Terms.{Cell, Grid, fit, value_at, input_at, arity, value_of};
+ghost use Rattle.sz_ops_local.specs.Terms.{absolute, clipped, is_elementwise};
 
 use sz_spec::{Op, Value};
 

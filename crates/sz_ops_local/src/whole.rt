@@ -1,7 +1,8 @@
 //! The whole output of an elementwise operator, of the values of its inputs: which arithmetic it
 //! has is looked up once, and each value is written once.
 
-ghost use Rattle.sz_ops_local.specs.Terms.{◌≡◌, true, map, IfOk, arc_value, zip, Cell, size_of};
+ghost use Rattle.std.specs.Prelude.{◌≡◌};
+ghost use Rattle.sz_ops_local.specs.Terms.{true, map, IfOk, arc_value, zip, Cell, size_of};
 ghost use Rattle.sz_ops_local.specs.Terms.{with_number, with_numbers, arity, of_one, of_two};
 ghost use Rattle.sz_ops_local.specs.Terms.{output_of, value_of, IsAtWork, values_before};
 ghost use Rattle.sz_ops_local.specs.Terms.{is_elementwise};

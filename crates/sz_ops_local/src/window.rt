@@ -1,9 +1,9 @@
 //! Windows of a shape, walked row by row: their cells as a set, and their numbers folded.
 
-ghost use Rattle.sz_ops_local.specs.Terms.{◌≡◌, ℤ, ◌+◌, ◌<◌, ◌≤◌, ◌++◌, ◌||◌, List, IfOk, OnOk};
-ghost use Rattle.sz_ops_local.specs.Terms.{arc_value, list_any, Cell, any_cell, cells_where};
-ghost use Rattle.sz_ops_local.specs.Terms.{is_same, with_those, numbers_at, fold_of, summary_of};
-ghost use Rattle.sz_ops_local.specs.Terms.{is_between, is_in, IsWindow};
+ghost use Rattle.std.specs.Prelude.{◌≡◌, ◌+◌, ◌<◌, ◌≤◌, ◌++◌, ◌||◌};
+ghost use Rattle.sz_ops_local.specs.Terms.{ℤ, List, IfOk, OnOk, arc_value, list_any, Cell};
+ghost use Rattle.sz_ops_local.specs.Terms.{any_cell, cells_where, is_same, with_those, numbers_at};
+ghost use Rattle.sz_ops_local.specs.Terms.{fold_of, summary_of, is_between, is_in, IsWindow};
 
 use std::alloc::Global;
 use std::sync::Arc;

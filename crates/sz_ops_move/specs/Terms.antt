@@ -2,7 +2,6 @@
 pub use Rattle.std.specs.Arc.{arc_value}
 pub use Rattle.std.specs.List.{list_any}
 pub use Rattle.std.specs.Option.{option_map_or}
-pub use Rattle.std.specs.Prelude.{◌%◌, ◌&&◌, ◌*◌, ◌+◌, ◌-◌, ◌/◌, ◌<◌, ◌||◌, ◌∷◌, ◌≡◌, ◌≢◌, ◌≤◌}
 pub use Rattle.std.specs.Prelude.{IfOk, IfSome, None, OnOk, Option, Some, [], length, map}
 pub use Rattle.std.specs.Prelude.{option_map, slice_index_or, true, vec_capacity, vec_len, ℕ, ℤ}
 pub use Rattle.sz_cells.specs.Cells.{any_cell, cells_where, is_same, with_those}

@@ -1,9 +1,9 @@
 //! Cells of which each leads to one cell, or to none.
 
-ghost use Rattle.sz_ops_move.specs.Terms.{◌≡◌, ◌<◌, true, length, Option, Some, IfSome, IfOk};
-ghost use Rattle.sz_ops_move.specs.Terms.{arc_value, holds, is_extent, any_cell, cells_where};
-ghost use Rattle.sz_ops_move.specs.Terms.{with_those, extent_at, IsSite, mapped, IsOnly};
-ghost use Rattle.sz_ops_move.specs.Terms.{is_mapping, is_single};
+ghost use Rattle.std.specs.Prelude.{◌≡◌, ◌<◌};
+ghost use Rattle.sz_ops_move.specs.Terms.{true, length, Option, Some, IfSome, IfOk, arc_value};
+ghost use Rattle.sz_ops_move.specs.Terms.{holds, is_extent, any_cell, cells_where, with_those};
+ghost use Rattle.sz_ops_move.specs.Terms.{extent_at, IsSite, mapped, IsOnly, is_mapping, is_single};
 
 use std::alloc::Global;
 use std::sync::Arc;

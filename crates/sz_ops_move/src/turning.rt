@@ -3,10 +3,10 @@
 //! written a line of memory a cell. The rows of a strip lie a little apart, so that the cells of
 //! one column of it are not all kept at one place of the cache, however many rows the input has.
 
-ghost use Rattle.sz_ops_move.specs.Terms.{◌≡◌, ◌≢◌, ℕ, ◌+◌, ◌-◌, ◌*◌, ◌/◌, ◌%◌, ◌<◌, ◌≤◌, true};
-ghost use Rattle.sz_ops_move.specs.Terms.{length, map, IfOk, OnOk, None, slice_index_or, arc_value};
-ghost use Rattle.sz_ops_move.specs.Terms.{size_of, height_of, is_extent, Transpose, extent_at};
-ghost use Rattle.sz_ops_move.specs.Terms.{input_at, IsAtWork, values_before, IsStrip};
+ghost use Rattle.std.specs.Prelude.{◌≡◌, ◌≢◌, ◌+◌, ◌-◌, ◌*◌, ◌/◌, ◌%◌, ◌<◌, ◌≤◌};
+ghost use Rattle.sz_ops_move.specs.Terms.{ℕ, true, length, map, IfOk, OnOk, None, slice_index_or};
+ghost use Rattle.sz_ops_move.specs.Terms.{arc_value, size_of, height_of, is_extent, Transpose};
+ghost use Rattle.sz_ops_move.specs.Terms.{extent_at, input_at, IsAtWork, values_before, IsStrip};
 
 use crate::single::sides;
 use crate::slice::part;

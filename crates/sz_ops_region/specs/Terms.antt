@@ -1,10 +1,9 @@
 -- The words that clauses of this crate are written in, each from the file that defines it.
 pub use Rattle.std.specs.Arc.{arc_value}
 pub use Rattle.std.specs.List.{range_with_len}
-pub use Rattle.std.specs.Prelude.{◌&&◌, ◌*◌, ◌+◌, ◌/◌, ◌<◌, ◌==◌, ◌^◌, ◌≡◌, ◌≤◌, ◌⊎◌, All, IfNone}
-pub use Rattle.std.specs.Prelude.{IfOk, IfSome, OnErr, OnOk, Some, [], false, if◌then◌else◌}
-pub use Rattle.std.specs.Prelude.{is_some, length, map, nat_le, nat_lt, pos, slice_index}
-pub use Rattle.std.specs.Prelude.{slice_index_or, slice_set, true, ℕ}
+pub use Rattle.std.specs.Prelude.{All, IfNone, IfOk, IfSome, OnErr, OnOk, Some, [], false, is_some}
+pub use Rattle.std.specs.Prelude.{length, map, nat_le, nat_lt, pos, slice_index, slice_index_or}
+pub use Rattle.std.specs.Prelude.{slice_set, true, ℕ}
 pub use Rattle.sz_cells.specs.Cells.{Cells, any_cell, has, is_same, with_those}
 pub use Rattle.sz_cells.specs.Extent.{cell_of, height_of, holds, index_of, layer_of, size_of}
 pub use Rattle.sz_cells.specs.SetBytes.{set_bytes}

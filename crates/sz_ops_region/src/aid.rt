@@ -1,7 +1,8 @@
 //! What is prepared once for the operator over its input: the labels of its cells, or where lineage
 //! is to be kept their components, with the sets of these.
 
-ghost use Rattle.sz_ops_region.specs.Terms.{◌≡◌, sets_in};
+ghost use Rattle.std.specs.Prelude.{◌≡◌};
+ghost use Rattle.sz_ops_region.specs.Terms.{sets_in};
 
 use crate::cell_labels::Labels;
 use crate::components::Components;

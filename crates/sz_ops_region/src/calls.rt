@@ -1,9 +1,10 @@
 //! What is prepared for the operator, and its calls that go by that.
 
-ghost use Rattle.sz_ops_region.specs.Terms.{◌≡◌, ◌<◌, ◌+◌, ◌^◌, true, map, All, IfOk, OnOk, OnErr};
-ghost use Rattle.sz_ops_region.specs.Terms.{arc_value, holds, extents_of, value_of, output_of};
-ghost use Rattle.sz_ops_region.specs.Terms.{supports, pieces_of, Fits, measure_of, cells_in_piece};
-ghost use Rattle.sz_ops_region.specs.Terms.{parts_by, is_regions, aid_of};
+ghost use Rattle.std.specs.Prelude.{◌≡◌, ◌<◌, ◌+◌, ◌^◌};
+ghost use Rattle.sz_ops_region.specs.Terms.{true, map, All, IfOk, OnOk, OnErr, arc_value, holds};
+ghost use Rattle.sz_ops_region.specs.Terms.{extents_of, value_of, output_of, supports, pieces_of};
+ghost use Rattle.sz_ops_region.specs.Terms.{Fits, measure_of, cells_in_piece, parts_by, is_regions};
+ghost use Rattle.sz_ops_region.specs.Terms.{aid_of};
 
 use crate::aid::{Aid, Kept};
 use crate::cell_labels::Labels;

@@ -1,7 +1,8 @@
 //! The label of each cell of an array, found once: one word a cell, and no set.
 
-ghost use Rattle.sz_ops_region.specs.Terms.{◌≡◌, ◌<◌, pos, length, map, IfOk, Some, slice_index_or};
-ghost use Rattle.sz_ops_region.specs.Terms.{Cells, label_of, components_of};
+ghost use Rattle.std.specs.Prelude.{◌≡◌, ◌<◌};
+ghost use Rattle.sz_ops_region.specs.Terms.{pos, length, map, IfOk, Some, slice_index_or, Cells};
+ghost use Rattle.sz_ops_region.specs.Terms.{label_of, components_of};
 
 use crate::output::value_of;
 use crate::settling::labels_in;

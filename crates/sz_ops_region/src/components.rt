@@ -1,10 +1,10 @@
 //! The components of an array's high cells, found once.
 
-ghost use Rattle.sz_ops_region.specs.Terms.{◌≡◌, pos, ◌<◌, [], length, map, IfOk, IfSome};
-ghost use Rattle.sz_ops_region.specs.Terms.{slice_index_or, IfNone, range_with_len, arc_value};
-ghost use Rattle.sz_ops_region.specs.Terms.{size_of, Cells, set_bytes, label_of, components_of};
-ghost use Rattle.sz_ops_region.specs.Terms.{first_index, AreLists, cells_numbered, AreUsed};
-ghost use Rattle.sz_ops_region.specs.Terms.{IsPartAt};
+ghost use Rattle.std.specs.Prelude.{◌≡◌, ◌<◌};
+ghost use Rattle.sz_ops_region.specs.Terms.{pos, [], length, map, IfOk, IfSome, slice_index_or};
+ghost use Rattle.sz_ops_region.specs.Terms.{IfNone, range_with_len, arc_value, size_of, Cells};
+ghost use Rattle.sz_ops_region.specs.Terms.{set_bytes, label_of, components_of, first_index};
+ghost use Rattle.sz_ops_region.specs.Terms.{AreLists, cells_numbered, AreUsed, IsPartAt};
 
 use crate::marks::{Mark, Marks};
 use crate::numbering::numbers_of;

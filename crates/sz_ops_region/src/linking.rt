@@ -1,9 +1,10 @@
 //! Linking the high cells of an array: one pass over all cells, in which each high cell is united
 //! with the high cells to its left and above it.
 
-ghost use Rattle.sz_ops_region.specs.Terms.{◌≡◌, ◌+◌, ◌*◌, ◌/◌, ◌<◌, true, length, slice_index};
-ghost use Rattle.sz_ops_region.specs.Terms.{IfOk, holds, size_of, index_of, layer_of, height_of};
-ghost use Rattle.sz_ops_region.specs.Terms.{IsBandOf, AreLinked, IsWordOn};
+ghost use Rattle.std.specs.Prelude.{◌≡◌, ◌+◌, ◌*◌, ◌/◌, ◌<◌};
+ghost use Rattle.sz_ops_region.specs.Terms.{true, length, slice_index, IfOk, holds, size_of};
+ghost use Rattle.sz_ops_region.specs.Terms.{index_of, layer_of, height_of, IsBandOf, AreLinked};
+ghost use Rattle.sz_ops_region.specs.Terms.{IsWordOn};
 
 use crate::links::word_for;
 use crate::marks::is_high;

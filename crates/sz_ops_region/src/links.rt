@@ -4,10 +4,10 @@
 //! linked: itself, or an earlier cell. From each cell the links lead to its root, which is linked
 //! to itself. A search for a root shortens the way that it goes.
 
-ghost use Rattle.sz_ops_region.specs.Terms.{◌≡◌, ℕ, ◌+◌, ◌<◌, ◌≤◌, ◌⊎◌, ◌==◌, true, false};
-ghost use Rattle.sz_ops_region.specs.Terms.{slice_index, slice_set, length, if◌then◌else◌, HasLink};
-ghost use Rattle.sz_ops_region.specs.Terms.{AreLinks, KeepLinks, AreRoots, merged, merged_by};
-ghost use Rattle.sz_ops_region.specs.Terms.{IsWordBeside, word_on};
+ghost use Rattle.std.specs.Prelude.{◌≡◌, ◌+◌, ◌<◌, ◌≤◌, ◌⊎◌, ◌==◌, if◌then◌else◌};
+ghost use Rattle.sz_ops_region.specs.Terms.{ℕ, true, false, slice_index, slice_set, length};
+ghost use Rattle.sz_ops_region.specs.Terms.{HasLink, AreLinks, KeepLinks, AreRoots, merged};
+ghost use Rattle.sz_ops_region.specs.Terms.{merged_by, IsWordBeside, word_on};
 
 /// The root of a cell. Each cell on the way is linked anew to the cell to which its own was linked.
 fn root_of(words: &mut [u32], start: u32) -> u32

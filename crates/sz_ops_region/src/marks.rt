@@ -1,7 +1,8 @@
 //! What is known of each cell while components are numbered: a mark a cell, four bytes each.
 
-ghost use Rattle.sz_ops_region.specs.Terms.{◌≡◌, ℕ, ◌+◌, ◌<◌, ◌≤◌, length, map, IfOk, slice_set};
-ghost use Rattle.sz_ops_region.specs.Terms.{is_at_least, mark_in, mark_at, AreStretches};
+ghost use Rattle.std.specs.Prelude.{◌≡◌, ◌+◌, ◌<◌, ◌≤◌};
+ghost use Rattle.sz_ops_region.specs.Terms.{ℕ, length, map, IfOk, slice_set, is_at_least, mark_in};
+ghost use Rattle.sz_ops_region.specs.Terms.{mark_at, AreStretches};
 
 use std::alloc::Global;
 use std::marker::Model;

@@ -1,8 +1,8 @@
 //! Numbering the components of an array by the labels of its cells, in one pass: the first cell
 //! with a label is alone until another one has its label, and then both have a number.
 
-ghost use Rattle.sz_ops_region.specs.Terms.{◌≡◌, ◌+◌, ◌<◌, ◌≤◌, length, IfOk, AreFirsts};
-ghost use Rattle.sz_ops_region.specs.Terms.{AreGrouped, AreNumbers};
+ghost use Rattle.std.specs.Prelude.{◌≡◌, ◌+◌, ◌<◌, ◌≤◌};
+ghost use Rattle.sz_ops_region.specs.Terms.{length, IfOk, AreFirsts, AreGrouped, AreNumbers};
 
 use crate::marks::{Mark, Marks};
 use crate::settling::labels_in;

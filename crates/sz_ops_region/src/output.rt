@@ -1,6 +1,7 @@
 //! The labels of all cells, written straight from their links: no set is made for them.
 
-ghost use Rattle.sz_ops_region.specs.Terms.{◌≡◌, ℕ, pos, true, map, length, IfOk, Some, arc_value};
+ghost use Rattle.std.specs.Prelude.{◌≡◌};
+ghost use Rattle.sz_ops_region.specs.Terms.{ℕ, pos, true, map, length, IfOk, Some, arc_value};
 ghost use Rattle.sz_ops_region.specs.Terms.{range_with_len, size_of, cell_of, extents_of};
 ghost use Rattle.sz_ops_region.specs.Terms.{output_of, labelled_at, is_regions, AreLinks, AreRoots};
 ghost use Rattle.sz_ops_region.specs.Terms.{label_by};

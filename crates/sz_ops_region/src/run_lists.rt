@@ -1,8 +1,8 @@
 //! The runs of each component: one pass over the marks of all cells, run by run.
 
-ghost use Rattle.sz_ops_region.specs.Terms.{◌≡◌, ℕ, ◌+◌, ◌^◌, ◌<◌, ◌≤◌, [], length, IfOk, OnOk};
-ghost use Rattle.sz_ops_region.specs.Terms.{Some, size_of, number_of, AreStretches, HasRuns};
-ghost use Rattle.sz_ops_region.specs.Terms.{AreLists, cells_numbered};
+ghost use Rattle.std.specs.Prelude.{◌≡◌, ◌+◌, ◌^◌, ◌<◌, ◌≤◌};
+ghost use Rattle.sz_ops_region.specs.Terms.{ℕ, [], length, IfOk, OnOk, Some, size_of, number_of};
+ghost use Rattle.sz_ops_region.specs.Terms.{AreStretches, HasRuns, AreLists, cells_numbered};
 
 use crate::marks::{Mark, Marks};
 use std::alloc::Global;

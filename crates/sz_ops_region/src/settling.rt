@@ -1,8 +1,9 @@
 //! The labels of all cells, as words: 1 plus the least index of the cell's component, 0 where the
 //! cell is not high.
 
-ghost use Rattle.sz_ops_region.specs.Terms.{◌≡◌, ℕ, ◌<◌, length, slice_index, IfOk, AreLinks};
-ghost use Rattle.sz_ops_region.specs.Terms.{AreRoots, label_by, AreLabels};
+ghost use Rattle.std.specs.Prelude.{◌≡◌, ◌<◌};
+ghost use Rattle.sz_ops_region.specs.Terms.{ℕ, length, slice_index, IfOk, AreLinks, AreRoots};
+ghost use Rattle.sz_ops_region.specs.Terms.{label_by, AreLabels};
 
 use crate::linking::links_of;
 use crate::links::settle;

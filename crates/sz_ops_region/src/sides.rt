@@ -1,8 +1,8 @@
 //! The neighbours of a cell in its layer.
 
-ghost use Rattle.sz_ops_region.specs.Terms.{◌≡◌, ◌+◌, ◌<◌, ◌≤◌, ◌==◌, ◌&&◌, true, nat_le, nat_lt};
-ghost use Rattle.sz_ops_region.specs.Terms.{IfSome, Some, Cell, holds, layer_of, are_neighbours};
-ghost use Rattle.sz_ops_region.specs.Terms.{is_on, IsBandOf};
+ghost use Rattle.std.specs.Prelude.{◌≡◌, ◌+◌, ◌<◌, ◌≤◌, ◌==◌, ◌&&◌};
+ghost use Rattle.sz_ops_region.specs.Terms.{true, nat_le, nat_lt, IfSome, Some, Cell, holds};
+ghost use Rattle.sz_ops_region.specs.Terms.{layer_of, are_neighbours, is_on, IsBandOf};
 
 use sz_cells::{Cell, Shape};
 

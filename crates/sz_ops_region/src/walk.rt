@@ -1,9 +1,10 @@
 //! Tracing: the image of a set of cells, for which each component is added once.
 
-ghost use Rattle.sz_ops_region.specs.Terms.{◌≡◌, ◌<◌, ◌+◌, ◌^◌, true, map, length, OnOk, arc_value};
-ghost use Rattle.sz_ops_region.specs.Terms.{holds, size_of, has, with_those, Back, extents_of};
-ghost use Rattle.sz_ops_region.specs.Terms.{input_at, related, IsAtWork, near_side, far_side};
-ghost use Rattle.sz_ops_region.specs.Terms.{image_in, traced, is_regions, AreMarked};
+ghost use Rattle.std.specs.Prelude.{◌≡◌, ◌<◌, ◌+◌, ◌^◌};
+ghost use Rattle.sz_ops_region.specs.Terms.{true, map, length, OnOk, arc_value, holds, size_of};
+ghost use Rattle.sz_ops_region.specs.Terms.{has, with_those, Back, extents_of, input_at, related};
+ghost use Rattle.sz_ops_region.specs.Terms.{IsAtWork, near_side, far_side, image_in, traced};
+ghost use Rattle.sz_ops_region.specs.Terms.{is_regions, AreMarked};
 
 use crate::work::{Labelling, components_over, threshold};
 use std::alloc::Global;

@@ -2,9 +2,8 @@
 pub use Rattle.std.specs.Arc.{arc_value}
 pub use Rattle.std.specs.Int.RustNames.{unsigned_abs}
 pub use Rattle.std.specs.Option.{option_to_list}
-pub use Rattle.std.specs.Prelude.{◌*ℤ◌, ◌*◌, ◌++◌, ◌+ℤ◌, ◌+◌, ◌-◌, ◌/◌, ◌<◌, ◌^◌, ◌||◌, ◌∷◌, ◌≡◌}
-pub use Rattle.std.specs.Prelude.{◌≤◌, IfOk, IfSome, None, OnOk, Option, [], false, is_none, length}
-pub use Rattle.std.specs.Prelude.{map, min, not, pos, slice_index_or, true, ℕ}
+pub use Rattle.std.specs.Prelude.{IfOk, IfSome, None, OnOk, Option, [], false, is_none, length, map}
+pub use Rattle.std.specs.Prelude.{min, not, pos, slice_index_or, true, ℕ}
 pub use Rattle.sz_cells.specs.Cells.{any_cell, cells_where, with_those}
 pub use Rattle.sz_cells.specs.Extent.{cell_of, holds, is_extent, layer_of, row_in, size_of}
 pub use Rattle.sz_cells.specs.declared.Cell.{Cell}

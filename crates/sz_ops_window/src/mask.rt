@@ -1,7 +1,8 @@
 //! Kernels that are lent: weights round a middle.
 
-ghost use Rattle.sz_ops_window.specs.Terms.{◌≡◌, ◌<◌, ◌*◌, true, not, is_kernel, is_weight};
-ghost use Rattle.sz_ops_window.specs.Terms.{is_zero, tap_at, one, nine};
+ghost use Rattle.std.specs.Prelude.{◌≡◌, ◌<◌, ◌*◌};
+ghost use Rattle.sz_ops_window.specs.Terms.{true, not, is_kernel, is_weight, is_zero, tap_at, one};
+ghost use Rattle.sz_ops_window.specs.Terms.{nine};
 
 use std::marker::Model;
 use sz_spec::Kernel;

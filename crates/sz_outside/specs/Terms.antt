@@ -3,10 +3,9 @@ pub use Rattle.std.proofs.Common.{inl, refl}
 pub use Rattle.std.specs.Io.KnownBytes.{Keeps as KeepsKnown}
 pub use Rattle.std.specs.IoError.{error_kind}
 pub use Rattle.std.specs.Option.{option_map}
-pub use Rattle.std.specs.Prelude.{◌&&◌, ◌++◌, ◌+◌, ◌<◌, ◌^◌, ◌∷◌, ◌≡◌, ◌≢◌, ◌≤◌, Bool, IfErr, IfOk}
-pub use Rattle.std.specs.Prelude.{IsErr, IsSomeAnd, IsTrue, List, MatchOption, None, Ok, OnErr}
-pub use Rattle.std.specs.Prelude.{OnOk, Option, Some, [], drop, is_err, is_ok, length, nat_lt, not}
-pub use Rattle.std.specs.Prelude.{replicate, take, true, ℕ, ⊤}
+pub use Rattle.std.specs.Prelude.{Bool, IfErr, IfOk, IsErr, IsSomeAnd, IsTrue, List, MatchOption}
+pub use Rattle.std.specs.Prelude.{None, Ok, OnErr, OnOk, Option, Some, [], drop, is_err, is_ok}
+pub use Rattle.std.specs.Prelude.{length, nat_lt, not, replicate, take, true, ℕ, ⊤}
 pub use Rattle.sz_outside.specs.Counts.{count_after, faults_after}
 pub use Rattle.sz_outside.specs.Disk.{Cut, Cuts, CutsOrNot, GivesAt, HasImage, HasPlace, HasSize}
 pub use Rattle.sz_outside.specs.Disk.{Holds, Only, Passes, Said, SaidPart, Same, Told}

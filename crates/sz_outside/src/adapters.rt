@@ -3,11 +3,11 @@
 //! Both are written and proved for any reader and any writer, and tell the bytes that their stream
 //! tells. The real streams tell none, but the body that serves them is the same, and cannot tell
 //! them apart from any other.
-ghost use Rattle.sz_outside.specs.Terms.{◌≡◌, ◌≤◌, ◌<◌, ◌+◌, ◌^◌, ⊤, None, IsSomeAnd, length};
-ghost use Rattle.sz_outside.specs.Terms.{is_ok, IfOk, OnOk, OnErr, IsTrue, Some, MatchOption};
-ghost use Rattle.sz_outside.specs.Terms.{option_map, Rose, Stood, Gives, Keeps, Says, SaysPart};
-ghost use Rattle.sz_outside.specs.Terms.{faults_after, HasSize, GivesAt, Writes, WritesPart, Cuts};
-ghost use Rattle.sz_outside.specs.Terms.{CutsOrNot};
+ghost use Rattle.std.specs.Prelude.{◌≡◌, ◌≤◌, ◌<◌, ◌+◌, ◌^◌};
+ghost use Rattle.sz_outside.specs.Terms.{⊤, None, IsSomeAnd, length, is_ok, IfOk, OnOk, OnErr};
+ghost use Rattle.sz_outside.specs.Terms.{IsTrue, Some, MatchOption, option_map, Rose, Stood, Gives};
+ghost use Rattle.sz_outside.specs.Terms.{Keeps, Says, SaysPart, faults_after, HasSize, GivesAt};
+ghost use Rattle.sz_outside.specs.Terms.{Writes, WritesPart, Cuts, CutsOrNot};
 
 use crate::streams::{Outlet, count_fault, read_and_count, write_and_count};
 use crate::volumes::{Volume, read_from, write_to};

@@ -1,6 +1,6 @@
 //! The bytes of a source in memory, and the one way in which both such sources give them.
-ghost use Rattle.sz_outside.specs.Terms.{◌≡◌, ◌≤◌, ◌<◌, ◌++◌, ℕ, [], length, take, drop};
-ghost use Rattle.sz_outside.specs.Terms.{bytes_given, supply_after};
+ghost use Rattle.std.specs.Prelude.{◌≡◌, ◌≤◌, ◌<◌, ◌++◌};
+ghost use Rattle.sz_outside.specs.Terms.{ℕ, [], length, take, drop, bytes_given, supply_after};
 
 use std::marker::Model;
 

@@ -1,7 +1,8 @@
 //! What a station in memory was asked for, and what its disk and its output are.
-ghost use Rattle.sz_outside.specs.Terms.{◌≡◌, ◌≤◌, ◌++◌, ◌∷◌, ℕ, [], List, Bool, true, length};
-ghost use Rattle.sz_outside.specs.Terms.{replicate, IfOk, OnOk, OnErr, written, Event, MayLeave};
-ghost use Rattle.sz_outside.specs.Terms.{Fits, scene_at, scene_before, now, noted};
+ghost use Rattle.std.specs.Prelude.{◌≡◌, ◌≤◌, ◌++◌, ◌∷◌};
+ghost use Rattle.sz_outside.specs.Terms.{ℕ, [], List, Bool, true, length, replicate, IfOk, OnOk};
+ghost use Rattle.sz_outside.specs.Terms.{OnErr, written, Event, MayLeave, Fits, scene_at};
+ghost use Rattle.sz_outside.specs.Terms.{scene_before, now, noted};
 ghost use Rattle.sz_outside.specs.declared.history.Act.TheVariants as act;
 
 use crate::NoMemory;

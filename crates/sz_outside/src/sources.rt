@@ -1,8 +1,8 @@
 //! Where bytes come from: what a source is, and the two in memory.
-ghost use Rattle.sz_outside.specs.Terms.{◌≡◌, ◌≤◌, ◌++◌, ℕ, List, Option, None, Some, Ok, IfOk};
-ghost use Rattle.sz_outside.specs.Terms.{OnOk, OnErr, length, take, drop, is_err, Rose, Stood};
-ghost use Rattle.sz_outside.specs.Terms.{Gives, Keeps, bytes_given, fails_next, tape_after};
-ghost use Rattle.sz_outside.specs.Terms.{supply_after};
+ghost use Rattle.std.specs.Prelude.{◌≡◌, ◌≤◌, ◌++◌};
+ghost use Rattle.sz_outside.specs.Terms.{ℕ, List, Option, None, Some, Ok, IfOk, OnOk, OnErr};
+ghost use Rattle.sz_outside.specs.Terms.{length, take, drop, is_err, Rose, Stood, Gives, Keeps};
+ghost use Rattle.sz_outside.specs.Terms.{bytes_given, fails_next, tape_after, supply_after};
 
 use crate::Failed;
 use crate::cursor::Cursor;

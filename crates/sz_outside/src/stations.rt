@@ -1,15 +1,15 @@
 //! Where bytes go: what a station is, and the one in memory.
-ghost use Rattle.sz_outside.specs.Terms.{◌≡◌, ◌≤◌, ◌<◌, ◌+◌, ◌^◌, ℕ, [], List, Option, Some, None};
-ghost use Rattle.sz_outside.specs.Terms.{Bool, not, ◌&&◌, is_ok, IfOk, OnOk, OnErr, length, refl};
-ghost use Rattle.sz_outside.specs.Terms.{inl, Rose, Stood, Says, SaysPart, count_after};
-ghost use Rattle.sz_outside.specs.Terms.{faults_after, Told, HasSize, HasPlace, GivesAt, Writes};
-ghost use Rattle.sz_outside.specs.Terms.{Cuts, Only, Said, SaidPart, TornBy, Cut, Same, Passes};
-ghost use Rattle.sz_outside.specs.Terms.{HasImage, MayLeave, LeftSince, scene_before, left_now};
-ghost use Rattle.sz_outside.specs.Terms.{now_counts, now, disk_of, said_of, ledger_before};
-ghost use Rattle.sz_outside.specs.Terms.{is_next_done, is_write_done, say_fails_next, after_say};
-ghost use Rattle.sz_outside.specs.Terms.{after_disk_call, image_by, PassesIn, event, Fits, Found};
-ghost use Rattle.sz_outside.specs.Terms.{IsOfDisk, KeepsDisk, is_call_done, scene_after, step_of};
-ghost use Rattle.sz_outside.specs.Terms.{true};
+ghost use Rattle.std.specs.Prelude.{◌≡◌, ◌≤◌, ◌<◌, ◌+◌, ◌^◌, ◌&&◌};
+ghost use Rattle.sz_outside.specs.Terms.{ℕ, [], List, Option, Some, None, Bool, not, is_ok, IfOk};
+ghost use Rattle.sz_outside.specs.Terms.{OnOk, OnErr, length, refl, inl, Rose, Stood, Says};
+ghost use Rattle.sz_outside.specs.Terms.{SaysPart, count_after, faults_after, Told, HasSize};
+ghost use Rattle.sz_outside.specs.Terms.{HasPlace, GivesAt, Writes, Cuts, Only, Said, SaidPart};
+ghost use Rattle.sz_outside.specs.Terms.{TornBy, Cut, Same, Passes, HasImage, MayLeave, LeftSince};
+ghost use Rattle.sz_outside.specs.Terms.{scene_before, left_now, now_counts, now, disk_of, said_of};
+ghost use Rattle.sz_outside.specs.Terms.{ledger_before, is_next_done, is_write_done};
+ghost use Rattle.sz_outside.specs.Terms.{say_fails_next, after_say, after_disk_call, image_by};
+ghost use Rattle.sz_outside.specs.Terms.{PassesIn, event, Fits, Found, IsOfDisk, KeepsDisk};
+ghost use Rattle.sz_outside.specs.Terms.{is_call_done, scene_after, step_of, true};
 ghost use Rattle.sz_outside.specs.declared.history.Act.TheVariants as act;
 
 use crate::history::{Act, History};

@@ -2,9 +2,10 @@
 //!
 //! A read or a write that a signal broke off is tried again. Any other fault of the stream is
 //! counted and answered as one; the end of the input is no fault.
-ghost use Rattle.sz_outside.specs.Terms.{◌≡◌, ◌≢◌, ◌≤◌, Bool, true, length, is_ok, Ok, IsTrue};
-ghost use Rattle.sz_outside.specs.Terms.{IsErr, IfOk, IfErr, OnOk, OnErr, error_kind, KeepsKnown};
-ghost use Rattle.sz_outside.specs.Terms.{Gives, Keeps, Says, SaysPart, faults_after};
+ghost use Rattle.std.specs.Prelude.{◌≡◌, ◌≢◌, ◌≤◌};
+ghost use Rattle.sz_outside.specs.Terms.{Bool, true, length, is_ok, Ok, IsTrue, IsErr, IfOk, IfErr};
+ghost use Rattle.sz_outside.specs.Terms.{OnOk, OnErr, error_kind, KeepsKnown, Gives, Keeps, Says};
+ghost use Rattle.sz_outside.specs.Terms.{SaysPart, faults_after};
 
 use crate::Failed;
 use std::io::{self, ErrorKind, Read, Stdout, Write};

@@ -1,7 +1,8 @@
 //! A read and a write at a place of a file, for any kind of file.
-ghost use Rattle.sz_outside.specs.Terms.{◌≡◌, ◌≤◌, ◌<◌, ◌+◌, ◌^◌, ℕ, List, Option, Bool, None};
-ghost use Rattle.sz_outside.specs.Terms.{true, length, IfOk, OnOk, OnErr, IsTrue, nat_lt, HasSize};
-ghost use Rattle.sz_outside.specs.Terms.{GivesAt, Holds, Writes, WritesPart, Cuts, CutsOrNot};
+ghost use Rattle.std.specs.Prelude.{◌≡◌, ◌≤◌, ◌<◌, ◌+◌, ◌^◌};
+ghost use Rattle.sz_outside.specs.Terms.{ℕ, List, Option, Bool, None, true, length, IfOk, OnOk};
+ghost use Rattle.sz_outside.specs.Terms.{OnErr, IsTrue, nat_lt, HasSize, GivesAt, Holds, Writes};
+ghost use Rattle.sz_outside.specs.Terms.{WritesPart, Cuts, CutsOrNot};
 
 use std::fs::File;
 use std::io::{self, ErrorKind};

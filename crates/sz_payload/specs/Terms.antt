@@ -2,10 +2,9 @@
 pub use Rattle.std.specs.Arc.{arc_value}
 pub use Rattle.std.specs.List.{list_any, slice_range}
 pub use Rattle.std.specs.List.Sorted.{IsNonDecreasingBy, IsPartitionPoint}
-pub use Rattle.std.specs.Prelude.{◌%◌, ◌&&◌, ◌*◌, ◌++◌, ◌+◌, ◌<◌, ◌==◌, ◌^◌, ◌↔◌, ◌∷◌, ◌≡◌, ◌≤◌}
 pub use Rattle.std.specs.Prelude.{All, IfErr, IfNone, IfOk, IfSome, IsTrue, List, OnErr, OnOk}
-pub use Rattle.std.specs.Prelude.{Option, Some, [], false, if◌then◌else◌, length, map, nat_lt}
-pub use Rattle.std.specs.Prelude.{slice_index, sum_by, true, ℕ}
+pub use Rattle.std.specs.Prelude.{Option, Some, [], false, length, map, nat_lt, slice_index, sum_by}
+pub use Rattle.std.specs.Prelude.{true, ℕ}
 pub use Rattle.sz_cells.specs.Cells.{Cells, any_cell, has, next_index, union_of, with_those}
 pub use Rattle.sz_cells.specs.Extent.{Extent, cell_of, holds, index_of, size_of}
 pub use Rattle.sz_cells.specs.Rising.{AreRising}

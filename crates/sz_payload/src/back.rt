@@ -1,9 +1,9 @@
 //! Looks backward: from output cells to the cells of an input that their payloads stand for.
 
-ghost use Rattle.sz_payload.specs.Terms.{◌≡◌, ◌<◌, ◌↔◌, length, true, IsTrue, Some, holds, size_of};
-ghost use Rattle.sz_payload.specs.Terms.{cell_of, has, with_those, Back, mapped_by_payload};
-ghost use Rattle.sz_payload.specs.Terms.{image_in, extent_at, entries, entry_at, entries_stand};
-ghost use Rattle.sz_payload.specs.Terms.{IsHeld, IsDone};
+ghost use Rattle.std.specs.Prelude.{◌≡◌, ◌<◌, ◌↔◌};
+ghost use Rattle.sz_payload.specs.Terms.{length, true, IsTrue, Some, holds, size_of, cell_of, has};
+ghost use Rattle.sz_payload.specs.Terms.{with_those, Back, mapped_by_payload, image_in, extent_at};
+ghost use Rattle.sz_payload.specs.Terms.{entries, entry_at, entries_stand, IsHeld, IsDone};
 
 use crate::look::Look;
 use crate::table::is_alike;

@@ -1,9 +1,10 @@
 //! Payloads of cleaning: the byte 1 for the square round a cell, and 0 for the cell alone.
 
-ghost use Rattle.sz_payload.specs.Terms.{◌≡◌, ◌<◌, ◌≤◌, ◌==◌, length, true, false, slice_index};
-ghost use Rattle.sz_payload.specs.Terms.{holds, any_cell, with_those, Cell, is_in_square};
-ghost use Rattle.sz_payload.specs.Terms.{is_in_rectangle, is_in_row, extent_at, is_payload};
-ghost use Rattle.sz_payload.specs.Terms.{mapped_by_payload, AreAlike, IsClean};
+ghost use Rattle.std.specs.Prelude.{◌≡◌, ◌<◌, ◌≤◌, ◌==◌};
+ghost use Rattle.sz_payload.specs.Terms.{length, true, false, slice_index, holds, any_cell};
+ghost use Rattle.sz_payload.specs.Terms.{with_those, Cell, is_in_square, is_in_rectangle};
+ghost use Rattle.sz_payload.specs.Terms.{is_in_row, extent_at, is_payload, mapped_by_payload};
+ghost use Rattle.sz_payload.specs.Terms.{AreAlike, IsClean};
 
 use crate::runs::run_meets;
 use sz_cells::{Bounds, Cell, CellBits, Run, Shape};

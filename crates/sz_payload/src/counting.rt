@@ -1,7 +1,8 @@
 //! How many runs the sets of entries have, and how many bytes their payloads.
 
-ghost use Rattle.sz_payload.specs.Terms.{◌≡◌, ◌<◌, ◌≤◌, ◌*◌, ◌^◌, length, map, sum_by, All};
-ghost use Rattle.sz_payload.specs.Terms.{arc_value, IsShort, runs_in, cells_in, most_given};
+ghost use Rattle.std.specs.Prelude.{◌≡◌, ◌<◌, ◌≤◌, ◌*◌, ◌^◌};
+ghost use Rattle.sz_payload.specs.Terms.{length, map, sum_by, All, arc_value, IsShort, runs_in};
+ghost use Rattle.sz_payload.specs.Terms.{cells_in, most_given};
 
 use std::sync::Arc;
 use sz_frame::PayEntry;

@@ -1,11 +1,12 @@
 //! Looks forward: from cells of an input to the output cells whose payloads stand for one of them.
 
-ghost use Rattle.sz_payload.specs.Terms.{◌≡◌, ◌<◌, ◌≤◌, ◌==◌, ◌&&◌, length, true, Cell, size_of};
-ghost use Rattle.sz_payload.specs.Terms.{cell_of, index_of, any_cell, has, union_of, with_those};
-ghost use Rattle.sz_payload.specs.Terms.{AreRunsFrom, covers, is_in, cells_at, Forward, is_payload};
-ghost use Rattle.sz_payload.specs.Terms.{mapped_by_payload, image_in, extent_at, entries, entry_at};
-ghost use Rattle.sz_payload.specs.Terms.{payload_at, AreAlike, entries_stand, IsHeld, IsTested};
-ghost use Rattle.sz_payload.specs.Terms.{entry_adds, entries_add, lone};
+ghost use Rattle.std.specs.Prelude.{◌≡◌, ◌<◌, ◌≤◌, ◌==◌, ◌&&◌};
+ghost use Rattle.sz_payload.specs.Terms.{length, true, Cell, size_of, cell_of, index_of, any_cell};
+ghost use Rattle.sz_payload.specs.Terms.{has, union_of, with_those, AreRunsFrom, covers, is_in};
+ghost use Rattle.sz_payload.specs.Terms.{cells_at, Forward, is_payload, mapped_by_payload};
+ghost use Rattle.sz_payload.specs.Terms.{image_in, extent_at, entries, entry_at, payload_at};
+ghost use Rattle.sz_payload.specs.Terms.{AreAlike, entries_stand, IsHeld, IsTested, entry_adds};
+ghost use Rattle.sz_payload.specs.Terms.{entries_add, lone};
 
 use crate::look::Look;
 use crate::table::{is_alike, meets};

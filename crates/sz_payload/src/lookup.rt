@@ -1,9 +1,9 @@
 //! Payloads of lookup: no byte, or four of the column that is named in the table.
 
-ghost use Rattle.sz_payload.specs.Terms.{◌≡◌, ◌<◌, [], length, true, IfSome, holds, any_cell};
-ghost use Rattle.sz_payload.specs.Terms.{with_those, Lookup, extent_at, is_payload};
-ghost use Rattle.sz_payload.specs.Terms.{mapped_by_payload, is_column, entry_kept, is_cell, IsOnly};
-ghost use Rattle.sz_payload.specs.Terms.{AreAlike};
+ghost use Rattle.std.specs.Prelude.{◌≡◌, ◌<◌};
+ghost use Rattle.sz_payload.specs.Terms.{[], length, true, IfSome, holds, any_cell, with_those};
+ghost use Rattle.sz_payload.specs.Terms.{Lookup, extent_at, is_payload, mapped_by_payload};
+ghost use Rattle.sz_payload.specs.Terms.{is_column, entry_kept, is_cell, IsOnly, AreAlike};
 
 use crate::runs::number_at;
 use sz_cells::{Cell, CellBits, Shape};

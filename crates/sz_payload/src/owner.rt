@@ -1,7 +1,7 @@
 //! Which entry an output cell is in.
 
-ghost use Rattle.sz_payload.specs.Terms.{◌≡◌, ◌<◌, ◌≤◌, ◌+◌, ◌*◌, ◌++◌, ◌∷◌, [], ℕ, List, length};
-ghost use Rattle.sz_payload.specs.Terms.{true, false, if◌then◌else◌, IfOk, OnOk, slice_index};
+ghost use Rattle.std.specs.Prelude.{◌≡◌, ◌<◌, ◌≤◌, ◌+◌, ◌*◌, ◌++◌, ◌∷◌, if◌then◌else◌};
+ghost use Rattle.sz_payload.specs.Terms.{[], ℕ, List, length, true, false, IfOk, OnOk, slice_index};
 ghost use Rattle.sz_payload.specs.Terms.{nat_lt, IsNonDecreasingBy, IsPartitionPoint, size_of};
 ghost use Rattle.sz_payload.specs.Terms.{cell_of, Extent, has, AreRunsFrom, covers, indexes_of};
 ghost use Rattle.sz_payload.specs.Terms.{is_in, Entry, entries, entry_at, told, cells_in};

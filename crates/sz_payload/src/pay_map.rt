@@ -1,6 +1,7 @@
 //! The mapping of an operator that has payloads.
 
-ghost use Rattle.sz_payload.specs.Terms.{◌≡◌, false, arc_value, has_mapping};
+ghost use Rattle.std.specs.Prelude.{◌≡◌};
+ghost use Rattle.sz_payload.specs.Terms.{false, arc_value, has_mapping};
 
 use crate::table;
 use std::marker::Model;

@@ -1,7 +1,8 @@
 //! Payloads of connected regions: no byte for the cell alone, or the bytes of the region's set.
 
-ghost use Rattle.sz_payload.specs.Terms.{◌≡◌, ◌<◌, length, true, IfSome, IfNone, holds, any_cell};
-ghost use Rattle.sz_payload.specs.Terms.{has, with_those, is_set_word, set_spelled, extent_at};
+ghost use Rattle.std.specs.Prelude.{◌≡◌, ◌<◌};
+ghost use Rattle.sz_payload.specs.Terms.{length, true, IfSome, IfNone, holds, any_cell, has};
+ghost use Rattle.sz_payload.specs.Terms.{with_those, is_set_word, set_spelled, extent_at};
 ghost use Rattle.sz_payload.specs.Terms.{is_payload, mapped_by_payload, AreAlike, IsRegions};
 ghost use Rattle.sz_payload.specs.Terms.{IsBodyOf, IsNoWord};
 

@@ -1,10 +1,10 @@
 //! Runs of cells as they stand in bytes: eight of them a run, four for its first index and four
 //! for its last, big-endian.
 
-ghost use Rattle.sz_payload.specs.Terms.{◌≡◌, ◌<◌, ◌≤◌, ◌+◌, ◌%◌, ◌↔◌, length, IsTrue, Option};
-ghost use Rattle.sz_payload.specs.Terms.{list_any, size_of, union_of, next_index, AreRising};
-ghost use Rattle.sz_payload.specs.Terms.{AreRunsFrom, covers, is_in, runs_spelled, cells_at};
-ghost use Rattle.sz_payload.specs.Terms.{number_at, run_at};
+ghost use Rattle.std.specs.Prelude.{◌≡◌, ◌<◌, ◌≤◌, ◌+◌, ◌%◌, ◌↔◌};
+ghost use Rattle.sz_payload.specs.Terms.{length, IsTrue, Option, list_any, size_of, union_of};
+ghost use Rattle.sz_payload.specs.Terms.{next_index, AreRising, AreRunsFrom, covers, is_in};
+ghost use Rattle.sz_payload.specs.Terms.{runs_spelled, cells_at, number_at, run_at};
 
 use sz_cells::{CellBits, Run};
 

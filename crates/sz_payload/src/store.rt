@@ -1,12 +1,13 @@
 //! Stores of payload and of composite lineage.
 
-ghost use Rattle.sz_payload.specs.Terms.{◌≡◌, ◌<◌, ◌≤◌, ◌+◌, ◌*◌, [], ◌∷◌, ◌++◌, length, map, All};
-ghost use Rattle.sz_payload.specs.Terms.{OnOk, OnErr, IfOk, IfErr, List, ℕ, true, false, arc_value};
-ghost use Rattle.sz_payload.specs.Terms.{Cells, has, with_those, has_mapping, near_side, far_side};
-ghost use Rattle.sz_payload.specs.Terms.{image_in, AreApart, IsPayWord, entries, runs_in, IsWithin};
-ghost use Rattle.sz_payload.specs.Terms.{room_for_entries, no_room, most_given, cells_in};
-ghost use Rattle.sz_payload.specs.Terms.{AreDifferent, AreLawful, BeginsPayloads, SaysNoPayloads};
-ghost use Rattle.sz_payload.specs.Terms.{IsEntryOf, entries_stand, part_of};
+ghost use Rattle.std.specs.Prelude.{◌≡◌, ◌<◌, ◌≤◌, ◌+◌, ◌*◌, ◌∷◌, ◌++◌};
+ghost use Rattle.sz_payload.specs.Terms.{[], length, map, All, OnOk, OnErr, IfOk, IfErr, List, ℕ};
+ghost use Rattle.sz_payload.specs.Terms.{true, false, arc_value, Cells, has, with_those};
+ghost use Rattle.sz_payload.specs.Terms.{has_mapping, near_side, far_side, image_in, AreApart};
+ghost use Rattle.sz_payload.specs.Terms.{IsPayWord, entries, runs_in, IsWithin, room_for_entries};
+ghost use Rattle.sz_payload.specs.Terms.{no_room, most_given, cells_in, AreDifferent, AreLawful};
+ghost use Rattle.sz_payload.specs.Terms.{BeginsPayloads, SaysNoPayloads, IsEntryOf, entries_stand};
+ghost use Rattle.sz_payload.specs.Terms.{part_of};
 
 use crate::counting::{bytes_of_all, cells_of_all, runs_of_all};
 use crate::look::Look;

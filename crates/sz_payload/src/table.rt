@@ -1,8 +1,9 @@
 //! The table of operators that have payloads: which file speaks of which. A further operator is a
 //! file, and a line here.
 
-ghost use Rattle.sz_payload.specs.Terms.{◌≡◌, ◌<◌, length, true, false, holds, any_cell};
-ghost use Rattle.sz_payload.specs.Terms.{with_those, extent_at, has_mapping, mapped, is_payload};
+ghost use Rattle.std.specs.Prelude.{◌≡◌, ◌<◌};
+ghost use Rattle.sz_payload.specs.Terms.{length, true, false, holds, any_cell, with_those};
+ghost use Rattle.sz_payload.specs.Terms.{extent_at, has_mapping, mapped, is_payload};
 ghost use Rattle.sz_payload.specs.Terms.{mapped_by_payload, AreAlike};
 
 use crate::{clean, lookup, regions};

@@ -1,7 +1,8 @@
 //! Reading the entries of a store, and judging the table of payloads in its bytes.
 
-ghost use Rattle.sz_payload.specs.Terms.{◌≡◌, ◌≤◌, ◌+◌, ℕ, List, length, true, false, IfOk, IfErr};
-ghost use Rattle.sz_payload.specs.Terms.{slice_range, number_at, has_mapping, entries, AreLawful};
+ghost use Rattle.std.specs.Prelude.{◌≡◌, ◌≤◌, ◌+◌};
+ghost use Rattle.sz_payload.specs.Terms.{ℕ, List, length, true, false, IfOk, IfErr, slice_range};
+ghost use Rattle.sz_payload.specs.Terms.{number_at, has_mapping, entries, AreLawful};
 ghost use Rattle.sz_payload.specs.Terms.{BeginsPayloads, IsTableAt, SaysNoPayloads};
 
 use crate::runs::number_at;

@@ -1,8 +1,8 @@
 //! The table: for each number of units, the least that the nodes from some node on cost.
 
-ghost use Rattle.sz_planner.specs.Terms.{◌≡◌, ◌≤◌, ◌<◌, ◌+◌, ◌*◌, ◌^◌, ℕ, All, IfOk, length};
-ghost use Rattle.sz_planner.specs.Terms.{slice_index, cheapest, most_at_a_node, AreCostsOver};
-ghost use Rattle.sz_planner.specs.Terms.{IsTable};
+ghost use Rattle.std.specs.Prelude.{◌≡◌, ◌≤◌, ◌<◌, ◌+◌, ◌*◌, ◌^◌};
+ghost use Rattle.sz_planner.specs.Terms.{ℕ, All, IfOk, length, slice_index, cheapest};
+ghost use Rattle.sz_planner.specs.Terms.{most_at_a_node, AreCostsOver, IsTable};
 
 use crate::offers::{Asks, Offer, offer_of, offers_of};
 use std::alloc::Global;

@@ -1,8 +1,9 @@
 //! What is estimated of a node's operator with a strategy: the degree of the operator, and the
 //! table of bytes and costs.
 
-ghost use Rattle.sz_planner.specs.Terms.{◌≡◌, ◌≤◌, true, not, length, is_kernel, is_zero, taps_of};
-ghost use Rattle.sz_planner.specs.Terms.{degree_of, estimate};
+ghost use Rattle.std.specs.Prelude.{◌≡◌, ◌≤◌};
+ghost use Rattle.sz_planner.specs.Terms.{true, not, length, is_kernel, is_zero, taps_of, degree_of};
+ghost use Rattle.sz_planner.specs.Terms.{estimate};
 
 use sz_spec::{Kernel, Op, OpAt, Strategy};
 

@@ -1,6 +1,6 @@
 //! The list of a choice. Contracts see it as the list of its strategies.
 
-ghost use Rattle.sz_planner.specs.Terms.{◌≡◌};
+ghost use Rattle.std.specs.Prelude.{◌≡◌};
 
 use std::marker::Model;
 use sz_spec::Strategy;

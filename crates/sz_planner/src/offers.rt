@@ -1,8 +1,9 @@
 //! Offers: the strategies that a node's operator supports, each with the units that its store takes
 //! and with what the asks cost by it.
 
-ghost use Rattle.sz_planner.specs.Terms.{◌≡◌, ◌≤◌, All, IfOk, units_over, offer_of, offers_among};
-ghost use Rattle.sz_planner.specs.Terms.{offers_of, most_at_a_node};
+ghost use Rattle.std.specs.Prelude.{◌≡◌, ◌≤◌};
+ghost use Rattle.sz_planner.specs.Terms.{All, IfOk, units_over, offer_of, offers_among, offers_of};
+ghost use Rattle.sz_planner.specs.Terms.{most_at_a_node};
 
 use crate::estimates::{degree_of, row_for};
 use std::alloc::Global;

@@ -1,7 +1,7 @@
 //! The plan: the table, and the list that is read off from it.
 
-ghost use Rattle.sz_planner.specs.Terms.{◌≡◌, ◌≤◌, ◌<◌, ◌^◌, IfOk, length, IsBestChoice, cost_of};
-ghost use Rattle.sz_planner.specs.Terms.{units_of};
+ghost use Rattle.std.specs.Prelude.{◌≡◌, ◌≤◌, ◌<◌, ◌^◌};
+ghost use Rattle.sz_planner.specs.Terms.{IfOk, length, IsBestChoice, cost_of, units_of};
 
 use crate::costs::table_of;
 use crate::lists::ChoiceList;

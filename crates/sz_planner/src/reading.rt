@@ -1,8 +1,8 @@
 //! The list that is read off from the table, from node 0 on.
 
-ghost use Rattle.sz_planner.specs.Terms.{◌≡◌, ◌≤◌, ◌<◌, ◌+◌, ◌*◌, ℕ, All, IfOk, length};
-ghost use Rattle.sz_planner.specs.Terms.{slice_index, find, units_of, attains, offer_over};
-ghost use Rattle.sz_planner.specs.Terms.{list_within, most_at_a_node, IsTable};
+ghost use Rattle.std.specs.Prelude.{◌≡◌, ◌≤◌, ◌<◌, ◌+◌, ◌*◌};
+ghost use Rattle.sz_planner.specs.Terms.{ℕ, All, IfOk, length, slice_index, find, units_of};
+ghost use Rattle.sz_planner.specs.Terms.{attains, offer_over, list_within, most_at_a_node, IsTable};
 
 use crate::costs::cheapest;
 use crate::offers::{Asks, Offer, offer_of, offers_of};

@@ -1,7 +1,6 @@
 -- The words that clauses of this crate are written in, each from the file that defines it.
 pub use Rattle.std.specs.Arc.{arc_value}
-pub use Rattle.std.specs.Prelude.{◌+◌, ◌<◌, ◌^◌, ◌≡◌, ◌≤◌, All, IfOk, MatchResult, OnOk, length}
-pub use Rattle.std.specs.Prelude.{map, true}
+pub use Rattle.std.specs.Prelude.{All, IfOk, MatchResult, OnOk, length, map, true}
 pub use Rattle.sz_cells.specs.Extent.{size_of}
 pub use Rattle.sz_core.specs.Events.{after_seal, seal_reply}
 pub use Rattle.sz_frame.specs.Written.{cells_in_piece}

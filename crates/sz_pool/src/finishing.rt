@@ -1,7 +1,8 @@
 //! What workers left undone, done.
 
-ghost use Rattle.sz_pool.specs.Terms.{◌≡◌, ◌+◌, ◌<◌, ◌≤◌, ◌^◌, true, OnOk, arc_value, size_of};
-ghost use Rattle.sz_pool.specs.Terms.{place_of, cells_of, left_over, Grows, tag_over};
+ghost use Rattle.std.specs.Prelude.{◌≡◌, ◌+◌, ◌<◌, ◌≤◌, ◌^◌};
+ghost use Rattle.sz_pool.specs.Terms.{true, OnOk, arc_value, size_of, place_of, cells_of};
+ghost use Rattle.sz_pool.specs.Terms.{left_over, Grows, tag_over};
 
 use crate::maker::Maker;
 use std::alloc::Global;

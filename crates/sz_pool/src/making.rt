@@ -1,6 +1,7 @@
 //! Tasks for the nodes of a version.
 
-ghost use Rattle.sz_pool.specs.Terms.{◌≡◌, map, IfOk, arc_value, pieces_of, place_of, tag_over};
+ghost use Rattle.std.specs.Prelude.{◌≡◌};
+ghost use Rattle.sz_pool.specs.Terms.{map, IfOk, arc_value, pieces_of, place_of, tag_over};
 ghost use Rattle.sz_pool.specs.Terms.{IsTaskFor};
 
 use crate::task::{StrategyList, Task};

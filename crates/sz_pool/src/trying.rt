@@ -1,7 +1,7 @@
 //! One try of a piece of a task.
 
-ghost use Rattle.sz_pool.specs.Terms.{◌+◌, ◌<◌, ◌^◌, arc_value, pieces_of, cells_in_piece};
-ghost use Rattle.sz_pool.specs.Terms.{HasTried, IsSameTask};
+ghost use Rattle.std.specs.Prelude.{◌+◌, ◌<◌, ◌^◌};
+ghost use Rattle.sz_pool.specs.Terms.{arc_value, pieces_of, cells_in_piece, HasTried, IsSameTask};
 
 use crate::maker::Maker;
 use crate::task::Task;

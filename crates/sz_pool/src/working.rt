@@ -1,10 +1,11 @@
 //! Work on a task: claim after claim, and a seal.
 
-ghost use Rattle.sz_pool.specs.Terms.{◌≡◌, ◌+◌, ◌<◌, ◌≤◌, ◌^◌, length, true, All, IfOk, arc_value};
-ghost use Rattle.sz_pool.specs.Terms.{size_of, pieces_of, seal_reply, after_seal, is_in};
-ghost use Rattle.sz_pool.specs.Terms.{found_shelf, left_shelf, told_of_seal, cells_of, Grows};
-ghost use Rattle.sz_pool.specs.Terms.{GrowsBy, AreReached, claimed_since, IsReplyOf, HasTriedAll};
-ghost use Rattle.sz_pool.specs.Terms.{refused_after, IsSameTask};
+ghost use Rattle.std.specs.Prelude.{◌≡◌, ◌+◌, ◌<◌, ◌≤◌, ◌^◌};
+ghost use Rattle.sz_pool.specs.Terms.{length, true, All, IfOk, arc_value, size_of, pieces_of};
+ghost use Rattle.sz_pool.specs.Terms.{seal_reply, after_seal, is_in, found_shelf, left_shelf};
+ghost use Rattle.sz_pool.specs.Terms.{told_of_seal, cells_of, Grows, GrowsBy, AreReached};
+ghost use Rattle.sz_pool.specs.Terms.{claimed_since, IsReplyOf, HasTriedAll, refused_after};
+ghost use Rattle.sz_pool.specs.Terms.{IsSameTask};
 
 use crate::task::Task;
 use crate::trying::{Tried, try_piece};

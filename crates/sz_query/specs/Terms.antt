@@ -1,8 +1,7 @@
 -- The words that clauses of this crate are written in, each from the file that defines it.
 pub use Rattle.std.specs.Arc.{arc_value}
 pub use Rattle.std.specs.List.{AllZip}
-pub use Rattle.std.specs.Prelude.{◌+◌, ◌<◌, ◌^◌, ◌≡◌, IfOk, IfSome, OnErr, OnOk, length, map}
-pub use Rattle.std.specs.Prelude.{slice_index_or}
+pub use Rattle.std.specs.Prelude.{IfOk, IfSome, OnErr, OnOk, length, map, slice_index_or}
 pub use Rattle.sz_cells.specs.Cells.{Cells, no_cells}
 pub use Rattle.sz_cells.specs.Extent.{size_of}
 pub use Rattle.sz_shelf.specs.Passes.{place_of}

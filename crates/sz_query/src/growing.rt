@@ -3,7 +3,8 @@
 //! The arrays are in sight of this file alone. It lends them to a pass of that shelf whose last
 //! turn found no seal, so a view cannot run the operator where its look found a store.
 
-ghost use Rattle.sz_query.specs.Terms.{◌≡◌, arc_value, place_of, FoundOpen};
+ghost use Rattle.std.specs.Prelude.{◌≡◌};
+ghost use Rattle.sz_query.specs.Terms.{arc_value, place_of, FoundOpen};
 
 use crate::views::NodeRunRef;
 use std::marker::Model;

@@ -1,8 +1,9 @@
 //! The answer along a path.
 
-ghost use Rattle.sz_query.specs.Terms.{◌≡◌, ◌+◌, ◌<◌, ◌^◌, map, IfOk, OnOk, OnErr, AllZip, view_of};
-ghost use Rattle.sz_query.specs.Terms.{used_of, IsAsked, MayBeAsked, answered, traced_of};
-ghost use Rattle.sz_query.specs.Terms.{most_traced_of, AreSteps, IsPath};
+ghost use Rattle.std.specs.Prelude.{◌≡◌, ◌+◌, ◌<◌, ◌^◌};
+ghost use Rattle.sz_query.specs.Terms.{map, IfOk, OnOk, OnErr, AllZip, view_of, used_of, IsAsked};
+ghost use Rattle.sz_query.specs.Terms.{MayBeAsked, answered, traced_of, most_traced_of, AreSteps};
+ghost use Rattle.sz_query.specs.Terms.{IsPath};
 
 use crate::spare::Spare;
 use crate::steps::{bits_of, sides_of, take_steps};

@@ -1,7 +1,7 @@
 //! Bitmaps that are kept between answers, so that an answer makes none that another one made.
 
-ghost use Rattle.sz_query.specs.Terms.{◌≡◌, ◌<◌, length, slice_index_or, IfOk, IfSome, Cells};
-ghost use Rattle.sz_query.specs.Terms.{no_cells};
+ghost use Rattle.std.specs.Prelude.{◌≡◌, ◌<◌};
+ghost use Rattle.sz_query.specs.Terms.{length, slice_index_or, IfOk, IfSome, Cells, no_cells};
 
 use std::alloc::Global;
 use std::marker::Model;

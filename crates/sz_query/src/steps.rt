@@ -1,8 +1,9 @@
 //! The steps of a path, one after the other.
 
-ghost use Rattle.sz_query.specs.Terms.{◌≡◌, ◌+◌, ◌<◌, ◌^◌, map, IfOk, OnOk, OnErr, AllZip, view_of};
-ghost use Rattle.sz_query.specs.Terms.{used_of, IsAsked, MayBeAsked, answered, traced_of};
-ghost use Rattle.sz_query.specs.Terms.{most_traced_of, AreSteps, empty_sides};
+ghost use Rattle.std.specs.Prelude.{◌≡◌, ◌+◌, ◌<◌, ◌^◌};
+ghost use Rattle.sz_query.specs.Terms.{map, IfOk, OnOk, OnErr, AllZip, view_of, used_of, IsAsked};
+ghost use Rattle.sz_query.specs.Terms.{MayBeAsked, answered, traced_of, most_traced_of, AreSteps};
+ghost use Rattle.sz_query.specs.Terms.{empty_sides};
 
 use crate::spare::Spare;
 use crate::used::UsedList;

@@ -1,6 +1,6 @@
 //! How the steps of a path were taken.
 
-ghost use Rattle.sz_query.specs.Terms.{◌≡◌};
+ghost use Rattle.std.specs.Prelude.{◌≡◌};
 
 use std::marker::Model;
 use sz_spec::Strategy;

@@ -3,10 +3,11 @@
 //! Each call is a table with a line for each kind of view, as are the definitions in `specs/Views`:
 //! a further kind is a further line in each.
 
-ghost use Rattle.sz_query.specs.Terms.{◌≡◌, ◌+◌, ◌<◌, ◌^◌, length, IfOk, OnOk, arc_value, no_cells};
-ghost use Rattle.sz_query.specs.Terms.{size_of, related, near_side, far_side, image_in, extents_of};
-ghost use Rattle.sz_query.specs.Terms.{Traced, view_of, view_site, IsUsable, used_of, traced_by};
-ghost use Rattle.sz_query.specs.Terms.{most_traced_by, image_by, IsAsked};
+ghost use Rattle.std.specs.Prelude.{◌≡◌, ◌+◌, ◌<◌, ◌^◌};
+ghost use Rattle.sz_query.specs.Terms.{length, IfOk, OnOk, arc_value, no_cells, size_of, related};
+ghost use Rattle.sz_query.specs.Terms.{near_side, far_side, image_in, extents_of, Traced, view_of};
+ghost use Rattle.sz_query.specs.Terms.{view_site, IsUsable, used_of, traced_by, most_traced_by};
+ghost use Rattle.sz_query.specs.Terms.{image_by, IsAsked};
 
 use crate::growing::Growing;
 use crate::used::Used;

@@ -2,9 +2,8 @@
 pub use Rattle.std.specs.Arc.{arc_value}
 pub use Rattle.std.specs.Bool.{Decides}
 pub use Rattle.std.specs.List.{AllZip}
-pub use Rattle.std.specs.Prelude.{◌++◌, ◌<◌, ◌^◌, ◌∷◌, ◌≡◌, ◌≤◌, All, IfErr, IfOk, IfSome, List}
-pub use Rattle.std.specs.Prelude.{None, OnOk, Some, [], false, get_or, length, map, option_map}
-pub use Rattle.std.specs.Prelude.{true, ℕ}
+pub use Rattle.std.specs.Prelude.{All, IfErr, IfOk, IfSome, List, None, OnOk, Some, [], false}
+pub use Rattle.std.specs.Prelude.{get_or, length, map, option_map, true, ℕ}
 pub use Rattle.sz_bodies.specs.Fitting.{Fit, FitNodes, FitsNode, lineages}
 pub use Rattle.sz_bodies.specs.Taking.{IfBad, NoneIsLawful}
 pub use Rattle.sz_catalogue.specs.Holdings.{arrays_of, no_holdings}

@@ -1,16 +1,17 @@
 //! Whether the stores of an opened log stand for what the operators of its versions relate.
 
-ghost use Rattle.sz_recover.specs.Terms.{◌≡◌, ℕ, ◌<◌, ◌≤◌, List, [], ◌∷◌, length, map, true, false};
-ghost use Rattle.sz_recover.specs.Terms.{All, option_map, Some, IfOk, OnOk, Decides, AllZip};
-ghost use Rattle.sz_recover.specs.Terms.{arc_value, Extent, size_of, holds, cell_of, extents_of};
-ghost use Rattle.sz_recover.specs.Terms.{extent_at, Site, supports, is_stored, is_listed};
-ghost use Rattle.sz_recover.specs.Terms.{pieces_of, near_side, far_side, Parts, Fits, measure_of};
-ghost use Rattle.sz_recover.specs.Terms.{aid_of, execution_of, holding_for, with_lineage};
-ghost use Rattle.sz_recover.specs.Terms.{with_part, arrays_of, IsRun, FitsNode, FitNodes, Fit};
-ghost use Rattle.sz_recover.specs.Terms.{lineages, HasItsStores, IsEntryOf, IsExact, TellsOfNode};
-ghost use Rattle.sz_recover.specs.Terms.{TellsOfNodes, TellsOfEntry, TellsOfAll, TellsOfStrategy};
-ghost use Rattle.sz_recover.specs.Terms.{executions_of, IsListAt, IsOneOf, AgreeAt, AgreeOn};
-ghost use Rattle.sz_recover.specs.Terms.{AgreeOnEach, AreSides};
+ghost use Rattle.std.specs.Prelude.{◌≡◌, ◌<◌, ◌≤◌, ◌∷◌};
+ghost use Rattle.sz_recover.specs.Terms.{ℕ, List, [], length, map, true, false, All, option_map};
+ghost use Rattle.sz_recover.specs.Terms.{Some, IfOk, OnOk, Decides, AllZip, arc_value, Extent};
+ghost use Rattle.sz_recover.specs.Terms.{size_of, holds, cell_of, extents_of, extent_at, Site};
+ghost use Rattle.sz_recover.specs.Terms.{supports, is_stored, is_listed, pieces_of, near_side};
+ghost use Rattle.sz_recover.specs.Terms.{far_side, Parts, Fits, measure_of, aid_of, execution_of};
+ghost use Rattle.sz_recover.specs.Terms.{holding_for, with_lineage, with_part, arrays_of, IsRun};
+ghost use Rattle.sz_recover.specs.Terms.{FitsNode, FitNodes, Fit, lineages, HasItsStores};
+ghost use Rattle.sz_recover.specs.Terms.{IsEntryOf, IsExact, TellsOfNode, TellsOfNodes};
+ghost use Rattle.sz_recover.specs.Terms.{TellsOfEntry, TellsOfAll, TellsOfStrategy, executions_of};
+ghost use Rattle.sz_recover.specs.Terms.{IsListAt, IsOneOf, AgreeAt, AgreeOn, AgreeOnEach};
+ghost use Rattle.sz_recover.specs.Terms.{AreSides};
 
 use crate::groups::KeptVersion;
 use crate::opening::Recovered;

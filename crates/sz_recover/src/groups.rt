@@ -1,10 +1,10 @@
 //! What a group of a log does: the line that it has acts as that line does, a version is added, and
 //! the log's format is raised.
 
-ghost use Rattle.sz_recover.specs.Terms.{◌≡◌, ◌++◌, List, [], Some, None, true, IfErr, OnOk};
-ghost use Rattle.sz_recover.specs.Terms.{is_format, LogGroup, Kept, Acts, ActsAsVersion, IsBad};
-ghost use Rattle.sz_recover.specs.Terms.{held_behind, is_of_kind, version_kind, IfBad};
-ghost use Rattle.sz_recover.specs.Terms.{NoneIsLawful};
+ghost use Rattle.std.specs.Prelude.{◌≡◌, ◌++◌};
+ghost use Rattle.sz_recover.specs.Terms.{List, [], Some, None, true, IfErr, OnOk, is_format};
+ghost use Rattle.sz_recover.specs.Terms.{LogGroup, Kept, Acts, ActsAsVersion, IsBad, held_behind};
+ghost use Rattle.sz_recover.specs.Terms.{is_of_kind, version_kind, IfBad, NoneIsLawful};
 
 use std::alloc::Global;
 use std::marker::Model;

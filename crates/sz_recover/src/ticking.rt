@@ -2,11 +2,11 @@
 //! up side by side: each is ticked on a checklist of its own, and these are joined in the order of
 //! the pieces.
 
-ghost use Rattle.sz_recover.specs.Terms.{◌≡◌, ℕ, ◌<◌, ◌^◌, ◌∷◌, [], length, get_or, true, All};
-ghost use Rattle.sz_recover.specs.Terms.{IfOk, supports, pieces_of, Fits, measure_of, aid_of};
-ghost use Rattle.sz_recover.specs.Terms.{execution_of, holding_for, table_in, ticked_in, joined};
-ghost use Rattle.sz_recover.specs.Terms.{PieceTicks, IsExact, IsOneOf, IsTicked, IsFork};
-ghost use Rattle.sz_recover.specs.Terms.{AreTicksOf};
+ghost use Rattle.std.specs.Prelude.{◌≡◌, ◌<◌, ◌^◌, ◌∷◌};
+ghost use Rattle.sz_recover.specs.Terms.{ℕ, [], length, get_or, true, All, IfOk, supports};
+ghost use Rattle.sz_recover.specs.Terms.{pieces_of, Fits, measure_of, aid_of, execution_of};
+ghost use Rattle.sz_recover.specs.Terms.{holding_for, table_in, ticked_in, joined, PieceTicks};
+ghost use Rattle.sz_recover.specs.Terms.{IsExact, IsOneOf, IsTicked, IsFork, AreTicksOf};
 ghost use Rattle.sz_recover.specs.declared.ticking.Told.TheVariants as told;
 
 use rayon::prelude::*;

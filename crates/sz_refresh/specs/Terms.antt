@@ -1,10 +1,9 @@
 -- The words that clauses of this crate are written in, each from the file that defines it.
 pub use Rattle.std.specs.Arc.{arc_value}
 pub use Rattle.std.specs.List.{list_any, slice_get}
-pub use Rattle.std.specs.Prelude.{◌&&◌, ◌*◌, ◌+◌, ◌-◌, ◌<◌, ◌==◌, ◌^◌, ◌||◌, ◌≡◌, ◌≤◌, All, Bool}
-pub use Rattle.std.specs.Prelude.{IfOk, IfSome, List, MatchOption, None, OnErr, OnOk, [], false}
-pub use Rattle.std.specs.Prelude.{length, map, nat_le, nat_lt, pos, slice_index_or, true, unwrap_or}
-pub use Rattle.std.specs.Prelude.{ℕ}
+pub use Rattle.std.specs.Prelude.{All, Bool, IfOk, IfSome, List, MatchOption, None, OnErr, OnOk, []}
+pub use Rattle.std.specs.Prelude.{false, length, map, nat_le, nat_lt, pos, slice_index_or, true}
+pub use Rattle.std.specs.Prelude.{unwrap_or, ℕ}
 pub use Rattle.sz_cells.specs.Cells.{any_cell, has, is_same, no_cells, with_those}
 pub use Rattle.sz_cells.specs.Extent.{Extent, cell_of, holds, index_of, size_of}
 pub use Rattle.sz_cells.specs.Runs.{is_in}

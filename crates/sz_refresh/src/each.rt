@@ -1,7 +1,7 @@
 //! Adding to a set what each cell of another set adds.
 
-ghost use Rattle.sz_refresh.specs.Terms.{◌≡◌, Bool, true, Cell, Extent, holds, any_cell};
-ghost use Rattle.sz_refresh.specs.Terms.{with_those};
+ghost use Rattle.std.specs.Prelude.{◌≡◌};
+ghost use Rattle.sz_refresh.specs.Terms.{Bool, true, Cell, Extent, holds, any_cell, with_those};
 
 use sz_cells::{Cell, CellBits};
 

@@ -1,9 +1,10 @@
 //! A flow over base arrays that were changed, given its runs over the arrays as they were.
 
-ghost use Rattle.sz_refresh.specs.Terms.{◌≡◌, ◌+◌, ◌*◌, ◌<◌, ◌^◌, true, length, map, List, IfOk};
-ghost use Rattle.sz_refresh.specs.Terms.{OnErr, arc_value, Grid, extents_of, extent_at};
-ghost use Rattle.sz_refresh.specs.Terms.{is_well_formed, AreExtents, affected, cells_in};
-ghost use Rattle.sz_refresh.specs.Terms.{executions, execution_of, FlowFits, IsBefore};
+ghost use Rattle.std.specs.Prelude.{◌≡◌, ◌+◌, ◌*◌, ◌<◌, ◌^◌};
+ghost use Rattle.sz_refresh.specs.Terms.{true, length, map, List, IfOk, OnErr, arc_value, Grid};
+ghost use Rattle.sz_refresh.specs.Terms.{extents_of, extent_at, is_well_formed, AreExtents};
+ghost use Rattle.sz_refresh.specs.Terms.{affected, cells_in, executions, execution_of, FlowFits};
+ghost use Rattle.sz_refresh.specs.Terms.{IsBefore};
 
 use crate::node::refresh_node;
 use std::alloc::Global;

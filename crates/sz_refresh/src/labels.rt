@@ -6,9 +6,10 @@
 //! are looked at, from the first marked cell on until a row of cells has none that names a marked
 //! one: no region is made as a set.
 
-ghost use Rattle.sz_refresh.specs.Terms.{◌≡◌, map, IfSome, IfOk, OnOk, true, arc_value, holds};
-ghost use Rattle.sz_refresh.specs.Terms.{any_cell, no_cells, with_those, is_cell, output_of};
-ghost use Rattle.sz_refresh.specs.Terms.{IsAtWork, is_regions, reaches, first_of};
+ghost use Rattle.std.specs.Prelude.{◌≡◌};
+ghost use Rattle.sz_refresh.specs.Terms.{map, IfSome, IfOk, OnOk, true, arc_value, holds, any_cell};
+ghost use Rattle.sz_refresh.specs.Terms.{no_cells, with_those, is_cell, output_of, IsAtWork};
+ghost use Rattle.sz_refresh.specs.Terms.{is_regions, reaches, first_of};
 
 use crate::each::{Adder, add_each};
 use crate::named::{add_named, least_of, named};

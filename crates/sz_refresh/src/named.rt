@@ -1,9 +1,9 @@
 //! Cells that are found by the numbers which arrays hold: one pass over these, and no search.
 
-ghost use Rattle.sz_refresh.specs.Terms.{◌≡◌, ◌+◌, ◌^◌, ◌≤◌, ◌<◌, ◌==◌, ◌&&◌, ◌||◌, ℕ, nat_le};
-ghost use Rattle.sz_refresh.specs.Terms.{nat_lt, false, length, pos, true, list_any, size_of};
-ghost use Rattle.sz_refresh.specs.Terms.{index_of, with_those, index_above, named, has_named};
-ghost use Rattle.sz_refresh.specs.Terms.{is_named, EndAfter, LieWithin};
+ghost use Rattle.std.specs.Prelude.{◌≡◌, ◌+◌, ◌^◌, ◌≤◌, ◌<◌, ◌==◌, ◌&&◌, ◌||◌};
+ghost use Rattle.sz_refresh.specs.Terms.{ℕ, nat_le, nat_lt, false, length, pos, true, list_any};
+ghost use Rattle.sz_refresh.specs.Terms.{size_of, index_of, with_those, index_above, named};
+ghost use Rattle.sz_refresh.specs.Terms.{has_named, is_named, EndAfter, LieWithin};
 
 use sz_cells::{CellBits, Run};
 use sz_spec::Value;

@@ -1,10 +1,10 @@
 //! A node over arrays of which some cells were changed, given its run over them as they were.
 
-ghost use Rattle.sz_refresh.specs.Terms.{◌≡◌, ◌+◌, ◌<◌, ◌^◌, length, map, All, true, false, IfOk};
-ghost use Rattle.sz_refresh.specs.Terms.{MatchOption, arc_value, size_of, extents_of, IsRightNode};
-ghost use Rattle.sz_refresh.specs.Terms.{output_of, affected_by, is_regions, aid_of, execution};
-ghost use Rattle.sz_refresh.specs.Terms.{execution_of, inputs_among, changed_from, HaveShapes};
-ghost use Rattle.sz_refresh.specs.Terms.{KeepsOthers};
+ghost use Rattle.std.specs.Prelude.{◌≡◌, ◌+◌, ◌<◌, ◌^◌};
+ghost use Rattle.sz_refresh.specs.Terms.{length, map, All, true, false, IfOk, MatchOption};
+ghost use Rattle.sz_refresh.specs.Terms.{arc_value, size_of, extents_of, IsRightNode, output_of};
+ghost use Rattle.sz_refresh.specs.Terms.{affected_by, is_regions, aid_of, execution, execution_of};
+ghost use Rattle.sz_refresh.specs.Terms.{inputs_among, changed_from, HaveShapes, KeepsOthers};
 
 use crate::output::output_after;
 use crate::reached::affected_of;

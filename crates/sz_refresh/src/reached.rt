@@ -1,12 +1,12 @@
 //! The affected cells of a node: those that the changed cells of what it takes reach forward, by
 //! the relation of the old arrays or by that of the new ones.
 
-ghost use Rattle.sz_refresh.specs.Terms.{◌≡◌, ◌<◌, ◌||◌, ℕ, [], length, map, All, true, false};
-ghost use Rattle.sz_refresh.specs.Terms.{IfOk, MatchOption, OnOk, arc_value, Cell, holds, any_cell};
-ghost use Rattle.sz_refresh.specs.Terms.{has, with_those, Clean, Lookup, extents_of, extent_at};
-ghost use Rattle.sz_refresh.specs.Terms.{related, output_of, has_mapping, affected_by, is_regions};
-ghost use Rattle.sz_refresh.specs.Terms.{changed_from, is_before, is_changed, HaveShapes, reaches};
-ghost use Rattle.sz_refresh.specs.Terms.{reaches_all};
+ghost use Rattle.std.specs.Prelude.{◌≡◌, ◌<◌, ◌||◌};
+ghost use Rattle.sz_refresh.specs.Terms.{ℕ, [], length, map, All, true, false, IfOk, MatchOption};
+ghost use Rattle.sz_refresh.specs.Terms.{OnOk, arc_value, Cell, holds, any_cell, has, with_those};
+ghost use Rattle.sz_refresh.specs.Terms.{Clean, Lookup, extents_of, extent_at, related, output_of};
+ghost use Rattle.sz_refresh.specs.Terms.{has_mapping, affected_by, is_regions, changed_from};
+ghost use Rattle.sz_refresh.specs.Terms.{is_before, is_changed, HaveShapes, reaches, reaches_all};
 
 use crate::labels::add_joined;
 use crate::named::{add_between, add_named};

@@ -1,6 +1,7 @@
 //! Sets that have every cell of their shape: for them nothing is searched.
 
-ghost use Rattle.sz_refresh.specs.Terms.{◌≡◌, true, pos, unwrap_or, slice_get, holds, has, Cell};
+ghost use Rattle.std.specs.Prelude.{◌≡◌};
+ghost use Rattle.sz_refresh.specs.Terms.{true, pos, unwrap_or, slice_get, holds, has, Cell};
 ghost use Rattle.sz_refresh.specs.Terms.{has_middle, reaches_all};
 
 use sz_cells::CellSet;

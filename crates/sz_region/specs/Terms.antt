@@ -1,9 +1,8 @@
 -- The words that clauses of this crate are written in, each from the file that defines it.
 pub use Rattle.std.specs.Arc.{arc_value}
 pub use Rattle.std.specs.List.{AllZip, flat_map, list_any, slice_get}
-pub use Rattle.std.specs.Prelude.{◌%◌, ◌*◌, ◌++◌, ◌+◌, ◌-◌, ◌<◌, ◌^◌, ◌∷◌, ◌≡◌, ◌≤◌, All, IfErr}
-pub use Rattle.std.specs.Prelude.{IfNone, IfOk, IfSome, List, OnErr, OnOk, Some, [], length, map}
-pub use Rattle.std.specs.Prelude.{take, true, ℕ}
+pub use Rattle.std.specs.Prelude.{All, IfErr, IfNone, IfOk, IfSome, List, OnErr, OnOk, Some, []}
+pub use Rattle.std.specs.Prelude.{length, map, take, true, ℕ}
 pub use Rattle.sz_cells.specs.Cells.{Cells, any_cell, has}
 pub use Rattle.sz_cells.specs.Extent.{Extent, cell_of, is_extent, size_of}
 pub use Rattle.sz_cells.specs.Runs.{AreRunsFrom, indexes_of}

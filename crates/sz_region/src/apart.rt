@@ -1,8 +1,8 @@
 //! Whether no cell is in two entries, by a bitmap of the cells of the entries so far.
 
-ghost use Rattle.sz_region.specs.Terms.{◌≡◌, ◌≤◌, ◌<◌, map, length, All, IfOk, list_any, arc_value};
-ghost use Rattle.sz_region.specs.Terms.{size_of, cell_of, has, any_cell, indexes_of};
-ghost use Rattle.sz_region.specs.Terms.{SaysWhetherApart};
+ghost use Rattle.std.specs.Prelude.{◌≡◌, ◌≤◌, ◌<◌};
+ghost use Rattle.sz_region.specs.Terms.{map, length, All, IfOk, list_any, arc_value, size_of};
+ghost use Rattle.sz_region.specs.Terms.{cell_of, has, any_cell, indexes_of, SaysWhetherApart};
 
 use std::alloc::Global;
 use std::sync::Arc;

@@ -1,6 +1,7 @@
 //! Shapes of arrays, which are within the limits.
 
-ghost use Rattle.sz_region.specs.Terms.{◌≡◌, ◌∷◌, true, All, is_extent};
+ghost use Rattle.std.specs.Prelude.{◌≡◌, ◌∷◌};
+ghost use Rattle.sz_region.specs.Terms.{true, All, is_extent};
 
 use sz_cells::Shape;
 use sz_cells::laws::a_shape_is_within_limits;

@@ -1,8 +1,8 @@
 //! Numbers of four bytes, big-endian: writing them, alone and in rows, and reading one at a place.
 
-ghost use Rattle.sz_region.specs.Terms.{◌≡◌, ◌<◌, ◌≤◌, ◌+◌, ◌*◌, ◌^◌, ◌++◌, ℕ, List, length, take};
-ghost use Rattle.sz_region.specs.Terms.{IfSome, IfNone, OnOk, OnErr, four_bytes, rows_bytes, IsAt};
-ghost use Rattle.sz_region.specs.Terms.{AreRows, MakeRows};
+ghost use Rattle.std.specs.Prelude.{◌≡◌, ◌<◌, ◌≤◌, ◌+◌, ◌*◌, ◌^◌, ◌++◌};
+ghost use Rattle.sz_region.specs.Terms.{ℕ, List, length, take, IfSome, IfNone, OnOk, OnErr};
+ghost use Rattle.sz_region.specs.Terms.{four_bytes, rows_bytes, IsAt, AreRows, MakeRows};
 
 use sz_cells::NoMemory;
 use sz_numbers::{four_at, four_bytes};

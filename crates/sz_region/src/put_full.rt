@@ -1,9 +1,9 @@
 //! Writing a store of full lineage from region pairs: their sets are numbered first, each with the
 //! number of the one before where it is the same set.
 
-ghost use Rattle.sz_region.specs.Terms.{◌≡◌, ◌<◌, ◌≤◌, ◌+◌, ◌*◌, ◌^◌, ◌++◌, ◌∷◌, [], ℕ, List};
-ghost use Rattle.sz_region.specs.Terms.{length, map, true, Some, All, IfSome, OnOk, OnErr};
-ghost use Rattle.sz_region.specs.Terms.{slice_get, arc_value, Extent, Listed, listed_of};
+ghost use Rattle.std.specs.Prelude.{◌≡◌, ◌<◌, ◌≤◌, ◌+◌, ◌*◌, ◌^◌, ◌++◌, ◌∷◌};
+ghost use Rattle.sz_region.specs.Terms.{[], ℕ, List, length, map, true, Some, All, IfSome, OnOk};
+ghost use Rattle.sz_region.specs.Terms.{OnErr, slice_get, arc_value, Extent, Listed, listed_of};
 ghost use Rattle.sz_region.specs.Terms.{IsFullWord, CanPutRegions, HasShapes, AreNumbered};
 ghost use Rattle.sz_region.specs.Terms.{AreRegionsNumbered};
 

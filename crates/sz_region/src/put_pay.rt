@@ -1,10 +1,11 @@
 //! Writing a store of payloads from entries: their sets and payloads are numbered first, a payload
 //! with the number of the one before where it has the same bytes.
 
-ghost use Rattle.sz_region.specs.Terms.{◌≡◌, ◌<◌, ◌≤◌, ◌-◌, ◌^◌, ◌++◌, [], ℕ, List, length, map};
-ghost use Rattle.sz_region.specs.Terms.{All, IfOk, OnOk, OnErr, true, Some, slice_get, arc_value};
-ghost use Rattle.sz_region.specs.Terms.{Cells, Extent, IsShort, IsPayWord, CanPutEntries};
-ghost use Rattle.sz_region.specs.Terms.{IsPayloadNumbered, IsEntryNumbered, AreEntriesNumbered};
+ghost use Rattle.std.specs.Prelude.{◌≡◌, ◌<◌, ◌≤◌, ◌-◌, ◌^◌, ◌++◌};
+ghost use Rattle.sz_region.specs.Terms.{[], ℕ, List, length, map, All, IfOk, OnOk, OnErr, true};
+ghost use Rattle.sz_region.specs.Terms.{Some, slice_get, arc_value, Cells, Extent, IsShort};
+ghost use Rattle.sz_region.specs.Terms.{IsPayWord, CanPutEntries, IsPayloadNumbered};
+ghost use Rattle.sz_region.specs.Terms.{IsEntryNumbered, AreEntriesNumbered};
 
 use crate::tables::{ListedPayload, ListedSet, put_numbered_entries};
 use std::sync::Arc;

@@ -1,10 +1,10 @@
 //! The bytes of a cell set: writing them, and reading a set where one begins.
 
-ghost use Rattle.sz_region.specs.Terms.{◌≡◌, ◌≤◌, ◌+◌, ◌%◌, ◌++◌, length, take, IfOk, OnOk, IfErr};
-ghost use Rattle.sz_region.specs.Terms.{OnErr, IfSome, IfNone, size_of, flat_map, AreRunsFrom};
-ghost use Rattle.sz_region.specs.Terms.{indexes_of, set_bytes, BeginsSet, runs_spelled};
-ghost use Rattle.sz_region.specs.Terms.{SaysNoneBegins, runs_bytes, HasBody, HasNoRuns, SaysNoRuns};
-ghost use Rattle.sz_region.specs.Terms.{run_at};
+ghost use Rattle.std.specs.Prelude.{◌≡◌, ◌≤◌, ◌+◌, ◌%◌, ◌++◌};
+ghost use Rattle.sz_region.specs.Terms.{length, take, IfOk, OnOk, IfErr, OnErr, IfSome, IfNone};
+ghost use Rattle.sz_region.specs.Terms.{size_of, flat_map, AreRunsFrom, indexes_of, set_bytes};
+ghost use Rattle.sz_region.specs.Terms.{BeginsSet, runs_spelled, SaysNoneBegins, runs_bytes};
+ghost use Rattle.sz_region.specs.Terms.{HasBody, HasNoRuns, SaysNoRuns, run_at};
 
 use std::alloc::{AllocError, AllocFailed, Global};
 use sz_cells::{CellSet, NoMemory, Run, Shape};

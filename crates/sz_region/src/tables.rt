@@ -1,8 +1,9 @@
 //! Stores whose sets and payloads are numbered already: writing their tables as they are.
 
-ghost use Rattle.sz_region.specs.Terms.{◌≡◌, ◌<◌, ◌≤◌, ◌^◌, ◌++◌, ℕ, List, length, take, map, OnOk};
-ghost use Rattle.sz_region.specs.Terms.{OnErr, set_bytes, counted, rows_bytes, listed_bytes};
-ghost use Rattle.sz_region.specs.Terms.{payload_bytes, AreRows, MakeRows};
+ghost use Rattle.std.specs.Prelude.{◌≡◌, ◌<◌, ◌≤◌, ◌^◌, ◌++◌};
+ghost use Rattle.sz_region.specs.Terms.{ℕ, List, length, take, map, OnOk, OnErr, set_bytes};
+ghost use Rattle.sz_region.specs.Terms.{counted, rows_bytes, listed_bytes, payload_bytes, AreRows};
+ghost use Rattle.sz_region.specs.Terms.{MakeRows};
 
 use crate::numbers::{put_number, put_rows};
 use crate::set_bytes::put_runs;

@@ -1,13 +1,14 @@
 //! Reading a store of full lineage: the table of sets, and then the region pairs that name them.
 
-ghost use Rattle.sz_region.specs.Terms.{◌≡◌, ◌<◌, ◌≤◌, ◌+◌, ◌^◌, ◌∷◌, ℕ, List, [], length, map};
-ghost use Rattle.sz_region.specs.Terms.{true, Some, All, IfOk, IfErr, IfSome, IfNone, AllZip};
-ghost use Rattle.sz_region.specs.Terms.{flat_map, slice_get, arc_value, Extent, is_extent, size_of};
-ghost use Rattle.sz_region.specs.Terms.{AreRunsFrom, four_bytes, extent_at, counted, rows_bytes};
-ghost use Rattle.sz_region.specs.Terms.{IsAt, IsListed, listed_bytes, listed_from, AreNumbersOf};
-ghost use Rattle.sz_region.specs.Terms.{AreNamesOf, BeginsRegions, listed_by, OnBad};
-ghost use Rattle.sz_region.specs.Terms.{NoRegionsBegin, SaysNoRegions, NoneAt, AreFew, IsNameFor};
-ghost use Rattle.sz_region.specs.Terms.{AreNamesFor, ArePairNames, AreStoreNames};
+ghost use Rattle.std.specs.Prelude.{◌≡◌, ◌<◌, ◌≤◌, ◌+◌, ◌^◌, ◌∷◌};
+ghost use Rattle.sz_region.specs.Terms.{ℕ, List, [], length, map, true, Some, All, IfOk, IfErr};
+ghost use Rattle.sz_region.specs.Terms.{IfSome, IfNone, AllZip, flat_map, slice_get, arc_value};
+ghost use Rattle.sz_region.specs.Terms.{Extent, is_extent, size_of, AreRunsFrom, four_bytes};
+ghost use Rattle.sz_region.specs.Terms.{extent_at, counted, rows_bytes, IsAt, IsListed};
+ghost use Rattle.sz_region.specs.Terms.{listed_bytes, listed_from, AreNumbersOf, AreNamesOf};
+ghost use Rattle.sz_region.specs.Terms.{BeginsRegions, listed_by, OnBad, NoRegionsBegin};
+ghost use Rattle.sz_region.specs.Terms.{SaysNoRegions, NoneAt, AreFew, IsNameFor, AreNamesFor};
+ghost use Rattle.sz_region.specs.Terms.{ArePairNames, AreStoreNames};
 
 use crate::limits::shapes_are_within_limits;
 use crate::numbers::take_number;

@@ -1,13 +1,13 @@
 //! Reading a store of payloads: the table of payloads, the table of output sets, and then the
 //! entries that name one of each.
 
-ghost use Rattle.sz_region.specs.Terms.{◌≡◌, ◌<◌, ◌≤◌, ◌+◌, ◌^◌, ◌∷◌, ℕ, List, length, map, true};
-ghost use Rattle.sz_region.specs.Terms.{Some, All, IfOk, IfErr, AllZip, flat_map, slice_get};
-ghost use Rattle.sz_region.specs.Terms.{arc_value, is_extent, four_bytes, set_bytes, IsSetOf};
-ghost use Rattle.sz_region.specs.Terms.{counted, rows_bytes, IsAt, IsShort, payload_bytes};
-ghost use Rattle.sz_region.specs.Terms.{AreNamesOfEntry, BeginsEntries, OnBad, NoEntriesBegin};
-ghost use Rattle.sz_region.specs.Terms.{SaysNoEntries, NoneAt, AreFew, IsNumberIn, AreEntryNames};
-ghost use Rattle.sz_region.specs.Terms.{AreEntriesNames};
+ghost use Rattle.std.specs.Prelude.{◌≡◌, ◌<◌, ◌≤◌, ◌+◌, ◌^◌, ◌∷◌};
+ghost use Rattle.sz_region.specs.Terms.{ℕ, List, length, map, true, Some, All, IfOk, IfErr, AllZip};
+ghost use Rattle.sz_region.specs.Terms.{flat_map, slice_get, arc_value, is_extent, four_bytes};
+ghost use Rattle.sz_region.specs.Terms.{set_bytes, IsSetOf, counted, rows_bytes, IsAt, IsShort};
+ghost use Rattle.sz_region.specs.Terms.{payload_bytes, AreNamesOfEntry, BeginsEntries, OnBad};
+ghost use Rattle.sz_region.specs.Terms.{NoEntriesBegin, SaysNoEntries, NoneAt, AreFew, IsNumberIn};
+ghost use Rattle.sz_region.specs.Terms.{AreEntryNames, AreEntriesNames};
 
 use crate::apart::are_apart;
 use crate::numbers::take_number;

@@ -4,10 +4,10 @@
 //! All that a look may rest on is `Covers`, that a box is round all its rectangles; `HasRoom` is
 //! what lets a rectangle be added without memory.
 
-ghost use Rattle.sz_rtree.specs.Terms.{◌≡◌, ◌<◌, ◌≤◌, ◌+◌, ◌^◌, ◌*◌, ◌++◌, [], ◌∷◌, ℕ, List};
-ghost use Rattle.sz_rtree.specs.Terms.{length, slice_index_or, OnOk, IfOk, IfSome, All, IsTrue};
-ghost use Rattle.sz_rtree.specs.Terms.{◌↔◌, vec_len, vec_capacity, Bounds, Overlaps, IsInside};
-ghost use Rattle.sz_rtree.specs.Terms.{Covers, HasRoom, MissesUpTo, box_capacities};
+ghost use Rattle.std.specs.Prelude.{◌≡◌, ◌<◌, ◌≤◌, ◌+◌, ◌^◌, ◌*◌, ◌++◌, ◌∷◌, ◌↔◌};
+ghost use Rattle.sz_rtree.specs.Terms.{[], ℕ, List, length, slice_index_or, OnOk, IfOk, IfSome};
+ghost use Rattle.sz_rtree.specs.Terms.{All, IsTrue, vec_len, vec_capacity, Bounds, Overlaps};
+ghost use Rattle.sz_rtree.specs.Terms.{IsInside, Covers, HasRoom, MissesUpTo, box_capacities};
 
 use std::alloc::Global;
 use sz_cells::{Bounds, NoMemory};

@@ -43,8 +43,8 @@
 //! look costs, and never what it answers.
 #![tactic(auto)]
 
-ghost use Rattle.sz_rtree.specs.Terms.{◌≡◌, ◌<◌, ◌≤◌, ◌+◌, ◌-◌, ◌^◌, [], ◌∷◌, ◌++◌, length, max};
-ghost use Rattle.sz_rtree.specs.Terms.{OnOk, OnErr, IsOk, IfOk, IsNextHit};
+ghost use Rattle.std.specs.Prelude.{◌≡◌, ◌<◌, ◌≤◌, ◌+◌, ◌-◌, ◌^◌, ◌∷◌, ◌++◌};
+ghost use Rattle.sz_rtree.specs.Terms.{[], length, max, OnOk, OnErr, IsOk, IfOk, IsNextHit};
 
 pub mod laws;
 mod levels;

@@ -1,7 +1,8 @@
 //! The search for the next rectangle that overlaps.
 
-ghost use Rattle.sz_rtree.specs.Terms.{◌≡◌, ◌<◌, ◌≤◌, ◌+◌, ◌^◌, ℕ, length, MatchOption, IfSome};
-ghost use Rattle.sz_rtree.specs.Terms.{All, HoldsAt, Overlaps, IsNextHit, Covers, MissesUpTo};
+ghost use Rattle.std.specs.Prelude.{◌≡◌, ◌<◌, ◌≤◌, ◌+◌, ◌^◌};
+ghost use Rattle.sz_rtree.specs.Terms.{ℕ, length, MatchOption, IfSome, All, HoldsAt, Overlaps};
+ghost use Rattle.sz_rtree.specs.Terms.{IsNextHit, Covers, MissesUpTo};
 
 use crate::levels::{FAN_BITS, Level, overlap};
 use sz_cells::Bounds;

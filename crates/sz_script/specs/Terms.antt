@@ -1,8 +1,7 @@
 -- The words that clauses of this crate are written in, each from the file that defines it.
 pub use Rattle.std.specs.List.{flat_map, list_all}
-pub use Rattle.std.specs.Prelude.{◌++◌, ◌<◌, ◌==◌, ◌∷◌, ◌≡◌, ◌≤◌, ◌⊎◌, Err, IfErr, IfOk, IfSome}
-pub use Rattle.std.specs.Prelude.{List, MatchResult, None, OnOk, Some, [], codes, get_or}
-pub use Rattle.std.specs.Prelude.{if◌then◌else◌, length, map, option_and_then, option_map}
+pub use Rattle.std.specs.Prelude.{Err, IfErr, IfOk, IfSome, List, MatchResult, None, OnOk, Some, []}
+pub use Rattle.std.specs.Prelude.{codes, get_or, length, map, option_and_then, option_map}
 pub use Rattle.std.specs.Prelude.{string_bytes, true, ℕ}
 pub use Rattle.csv.specs.Reading.{error_kind}
 pub use Rattle.csv.specs.Records.{fields_of}

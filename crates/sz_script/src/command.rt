@@ -1,6 +1,6 @@
 //! What a line orders. Contracts see a command as it is, its lists as lists.
 
-ghost use Rattle.sz_script.specs.Terms.{◌≡◌};
+ghost use Rattle.std.specs.Prelude.{◌≡◌};
 ghost use Rattle.sz_script.specs.declared.command.LineFault.TheVariants as fault;
 
 use crate::lists::{BaseList, NamedCells, NewCells, Path, StrategyList};

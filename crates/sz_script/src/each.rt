@@ -1,6 +1,7 @@
 //! Lists of a line, read item by item.
 
-ghost use Rattle.sz_script.specs.Terms.{◌≡◌, map, option_map, IfOk, view, each_of, list_at};
+ghost use Rattle.std.specs.Prelude.{◌≡◌};
+ghost use Rattle.sz_script.specs.Terms.{map, option_map, IfOk, view, each_of, list_at};
 
 use crate::fields;
 use serde_json::Value;

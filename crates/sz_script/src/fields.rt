@@ -1,6 +1,7 @@
 //! Fields, numbers, texts and lists of a JSON value.
 
-ghost use Rattle.sz_script.specs.Terms.{◌≡◌, map, length, option_map, option_and_then, get, as_str};
+ghost use Rattle.std.specs.Prelude.{◌≡◌};
+ghost use Rattle.sz_script.specs.Terms.{map, length, option_map, option_and_then, get, as_str};
 ghost use Rattle.sz_script.specs.Terms.{view, has_fields, number_in, whole_in, list_in, two_in};
 ghost use Rattle.sz_script.specs.Terms.{numbers_in, items_in, first_length, at};
 

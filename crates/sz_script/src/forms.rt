@@ -6,7 +6,8 @@ mod flows;
 mod question;
 mod versions;
 
-ghost use Rattle.sz_script.specs.Terms.{◌≡◌, view, reading_of_form, draft_of, Reads};
+ghost use Rattle.std.specs.Prelude.{◌≡◌};
+ghost use Rattle.sz_script.specs.Terms.{view, reading_of_form, draft_of, Reads};
 
 use crate::command::{Command, LineFault, NO_FORM};
 use crate::fields::has_fields;

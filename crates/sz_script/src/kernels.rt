@@ -1,8 +1,9 @@
 //! The kernel of a convolution, as a node gives it.
 
-ghost use Rattle.sz_script.specs.Terms.{◌≡◌, true, map, length, [], ◌∷◌, ◌++◌, ◌==◌, IfOk, OnOk};
-ghost use Rattle.sz_script.specs.Terms.{list_all, view, items_in, is_whole, is_row_of_wholes};
-ghost use Rattle.sz_script.specs.Terms.{side_of, cols_of, weight_of, weights_of, kernel_in};
+ghost use Rattle.std.specs.Prelude.{◌≡◌, ◌∷◌, ◌++◌, ◌==◌};
+ghost use Rattle.sz_script.specs.Terms.{true, map, length, [], IfOk, OnOk, list_all, view};
+ghost use Rattle.sz_script.specs.Terms.{items_in, is_whole, is_row_of_wholes, side_of, cols_of};
+ghost use Rattle.sz_script.specs.Terms.{weight_of, weights_of, kernel_in};
 
 use crate::fields;
 use serde_json::Value;

@@ -1,10 +1,11 @@
 //! The cells of an array: layers of rows of values.
 
-ghost use Rattle.sz_script.specs.Terms.{◌≡◌, ◌≤◌, ◌<◌, true, map, length, ◌++◌, if◌then◌else◌};
-ghost use Rattle.sz_script.specs.Terms.{Some, None, IfOk, IfSome, list_all, flat_map, view};
-ghost use Rattle.sz_script.specs.Terms.{is_layered, layered, value_in, is_value, is_row, is_layer};
-ghost use Rattle.sz_script.specs.Terms.{height_of, width_of, value_of, values_of_row};
-ghost use Rattle.sz_script.specs.Terms.{values_of_layer, array_in, are_counted, filled, Reads};
+ghost use Rattle.std.specs.Prelude.{◌≡◌, ◌≤◌, ◌<◌, ◌++◌, if◌then◌else◌};
+ghost use Rattle.sz_script.specs.Terms.{true, map, length, Some, None, IfOk, IfSome, list_all};
+ghost use Rattle.sz_script.specs.Terms.{flat_map, view, is_layered, layered, value_in, is_value};
+ghost use Rattle.sz_script.specs.Terms.{is_row, is_layer, height_of, width_of, value_of};
+ghost use Rattle.sz_script.specs.Terms.{values_of_row, values_of_layer, array_in, are_counted};
+ghost use Rattle.sz_script.specs.Terms.{filled, Reads};
 
 use crate::command::LineFault;
 use crate::fields;

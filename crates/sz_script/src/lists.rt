@@ -1,6 +1,6 @@
 //! The lists that a command holds. Contracts see each as the list of what it holds.
 
-ghost use Rattle.sz_script.specs.Terms.{◌≡◌};
+ghost use Rattle.std.specs.Prelude.{◌≡◌};
 
 use crate::command::{BaseName, NamedCell, NewCell, PathStep};
 use std::marker::Model;

@@ -1,6 +1,7 @@
 //! Names of arrays and flows.
 
-ghost use Rattle.sz_script.specs.Terms.{◌≡◌, string_bytes, is_name, is_name_byte};
+ghost use Rattle.std.specs.Prelude.{◌≡◌};
+ghost use Rattle.sz_script.specs.Terms.{string_bytes, is_name, is_name_byte};
 
 use std::marker::Model;
 

@@ -1,7 +1,8 @@
 //! Nodes of a flow: a table of operators by their words, and each one's parameters.
 
-ghost use Rattle.sz_script.specs.Terms.{◌≡◌, ◌∷◌, codes, IfOk, view, at, fold_in, has_parameters};
-ghost use Rattle.sz_script.specs.Terms.{alone, one_whole, clip_in, sides_in, slice_in, block_in};
+ghost use Rattle.std.specs.Prelude.{◌≡◌, ◌∷◌};
+ghost use Rattle.sz_script.specs.Terms.{codes, IfOk, view, at, fold_in, has_parameters, alone};
+ghost use Rattle.sz_script.specs.Terms.{one_whole, clip_in, sides_in, slice_in, block_in};
 ghost use Rattle.sz_script.specs.Terms.{fold_layers_in, convolve_in, operators, op_by, op_in};
 ghost use Rattle.sz_script.specs.Terms.{source_in, node_in};
 

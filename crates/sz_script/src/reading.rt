@@ -1,7 +1,8 @@
 //! Reading one line as a command.
 
-ghost use Rattle.sz_script.specs.Terms.{◌≡◌, ◌⊎◌, Some, None, Err, IfOk, IfErr, view, json_of};
-ghost use Rattle.sz_script.specs.Terms.{reading, Reads, Refused, NoJson};
+ghost use Rattle.std.specs.Prelude.{◌≡◌, ◌⊎◌};
+ghost use Rattle.sz_script.specs.Terms.{Some, None, Err, IfOk, IfErr, view, json_of, reading};
+ghost use Rattle.sz_script.specs.Terms.{Reads, Refused, NoJson};
 
 use crate::command::{Command, LineFault};
 use crate::forms;

@@ -1,9 +1,9 @@
 //! The cells of an array as a comma-separated text gives them.
 
-ghost use Rattle.sz_script.specs.Terms.{◌≡◌, ◌<◌, ◌≤◌, ℕ, List, [], ◌∷◌, ◌++◌, true, length, map};
-ghost use Rattle.sz_script.specs.Terms.{get_or, Err, IfOk, OnOk, MatchResult, list_all, error_kind};
-ghost use Rattle.sz_script.specs.Terms.{fields_of, Reads, records_in, table_in, first_values};
-ghost use Rattle.sz_script.specs.Terms.{IsTable, fault_of};
+ghost use Rattle.std.specs.Prelude.{◌≡◌, ◌<◌, ◌≤◌, ◌∷◌, ◌++◌};
+ghost use Rattle.sz_script.specs.Terms.{ℕ, List, [], true, length, map, get_or, Err, IfOk, OnOk};
+ghost use Rattle.sz_script.specs.Terms.{MatchResult, list_all, error_kind, fields_of, Reads};
+ghost use Rattle.sz_script.specs.Terms.{records_in, table_in, first_values, IsTable, fault_of};
 ghost use Rattle.sz_script.specs.Records.{value_in, value_of, is_value};
 
 use crate::command::LineFault;

@@ -1,6 +1,7 @@
 //! Why a line is refused, and the numbers that are printed for it.
 
-ghost use Rattle.sz_script.specs.Terms.{◌≡◌, [], ◌∷◌, numbers_of, fault_numbers, before};
+ghost use Rattle.std.specs.Prelude.{◌≡◌, ◌∷◌};
+ghost use Rattle.sz_script.specs.Terms.{[], numbers_of, fault_numbers, before};
 
 use std::marker::Model;
 use sz_spec::FlowFault;

@@ -1,7 +1,8 @@
 //! The words of strategies, directions and folds: one table each.
 
-ghost use Rattle.sz_script.specs.Terms.{◌≡◌, name_of_strategy, strategy_named, name_of_dir};
-ghost use Rattle.sz_script.specs.Terms.{dir_named, name_of_fold, fold_named};
+ghost use Rattle.std.specs.Prelude.{◌≡◌};
+ghost use Rattle.sz_script.specs.Terms.{name_of_strategy, strategy_named, name_of_dir, dir_named};
+ghost use Rattle.sz_script.specs.Terms.{name_of_fold, fold_named};
 
 use sz_spec::{Dir, Fold, Strategy};
 

@@ -1,7 +1,6 @@
 -- The words that clauses of this crate are written in, each from the file that defines it.
-pub use Rattle.std.specs.Prelude.{◌++◌, ◌+◌, ◌-◌, ◌<◌, ◌^◌, ◌≡◌, ◌≤◌, ◌⊎◌, Err, IfErr, IfOk, None}
-pub use Rattle.std.specs.Prelude.{Ok, OnErr, OnOk, Some, [], false, is_ok, length, map}
-pub use Rattle.std.specs.Prelude.{string_bytes, true, ℕ, ⊤}
+pub use Rattle.std.specs.Prelude.{Err, IfErr, IfOk, None, Ok, OnErr, OnOk, Some, [], false, is_ok}
+pub use Rattle.std.specs.Prelude.{length, map, string_bytes, true, ℕ, ⊤}
 pub use Rattle.sz_catalogue.specs.Responses.{word_text}
 pub use Rattle.sz_commands.specs.Logged.{IsLogOf, OpenedLogsStand, end_of}
 pub use Rattle.sz_commands.specs.States.{nothing_held}

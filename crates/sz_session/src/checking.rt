@@ -1,9 +1,10 @@
 //! Mode check: the log of the station is opened, its stores are compared with what the operators of
 //! its versions relate, and one line says what was found. Nothing is written to the disk.
-ghost use Rattle.sz_session.specs.Terms.{◌≡◌, ◌++◌, IfOk, OnOk, length, string_bytes};
-ghost use Rattle.sz_session.specs.Terms.{name_of_strategy, word_text, IsMade, ChecksLog};
-ghost use Rattle.sz_session.specs.Terms.{AreCounted, check_line, sound_line, unsound_line};
-ghost use Rattle.sz_session.specs.Terms.{node_words, TellsLine, StopsChecking, Stood};
+ghost use Rattle.std.specs.Prelude.{◌≡◌, ◌++◌};
+ghost use Rattle.sz_session.specs.Terms.{IfOk, OnOk, length, string_bytes, name_of_strategy};
+ghost use Rattle.sz_session.specs.Terms.{word_text, IsMade, ChecksLog, AreCounted, check_line};
+ghost use Rattle.sz_session.specs.Terms.{sound_line, unsound_line, node_words, TellsLine};
+ghost use Rattle.sz_session.specs.Terms.{StopsChecking, Stood};
 
 use crate::serving::Status;
 use std::alloc::{AllocError, Global};

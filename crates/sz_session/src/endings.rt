@@ -6,17 +6,18 @@
 //! status that the call ended with; `before` and `after` are its source, and `old` and `new` its
 //! station, as it began and as it ended.
 
-ghost use Rattle.sz_session.specs.Terms.{◌≡◌, ◌⊎◌, ◌^◌, ℕ, true, false, [], None, Rose, Stood};
-ghost use Rattle.sz_session.specs.Terms.{Says, SaysPart, nothing_held, Done, SaidOfRead};
-ghost use Rattle.sz_session.specs.Terms.{SaidToLimit, SaidInPart, SaidInLines, IsPastLimit};
-ghost use Rattle.sz_session.specs.Terms.{IsWithinLimit, ready_line, IsFree, IfBarred, HasMade};
-ghost use Rattle.sz_session.specs.Terms.{IsSpared, IsSilent, DiskStays, StaysFinding, OnlySays};
-ghost use Rattle.sz_session.specs.Terms.{FoundInPart, StopsMaking, log_status, is_of_disk};
-ghost use Rattle.sz_session.specs.Terms.{status_number, StatusOf, SaysLine, SaysPartOfLine};
-ghost use Rattle.sz_session.specs.Terms.{IfNoLog, BeginsAsLog, StopsChecking, IsUnlike, IsBadLog};
-ghost use Rattle.sz_session.specs.Terms.{IfBadLog, IsWellMadeLog, raised_line, HasRaised};
-ghost use Rattle.sz_session.specs.Terms.{IsLeftAlone, StopsRaising, EndsOnLog, AsksFor, IfLoad};
-ghost use Rattle.sz_session.specs.Terms.{OfEachCall, is_for, is_of_lines, is_opened, is_on_log};
+ghost use Rattle.std.specs.Prelude.{◌≡◌, ◌⊎◌, ◌^◌};
+ghost use Rattle.sz_session.specs.Terms.{ℕ, true, false, [], None, Rose, Stood, Says, SaysPart};
+ghost use Rattle.sz_session.specs.Terms.{nothing_held, Done, SaidOfRead, SaidToLimit, SaidInPart};
+ghost use Rattle.sz_session.specs.Terms.{SaidInLines, IsPastLimit, IsWithinLimit, ready_line};
+ghost use Rattle.sz_session.specs.Terms.{IsFree, IfBarred, HasMade, IsSpared, IsSilent, DiskStays};
+ghost use Rattle.sz_session.specs.Terms.{StaysFinding, OnlySays, FoundInPart, StopsMaking};
+ghost use Rattle.sz_session.specs.Terms.{log_status, is_of_disk, status_number, StatusOf, SaysLine};
+ghost use Rattle.sz_session.specs.Terms.{SaysPartOfLine, IfNoLog, BeginsAsLog, StopsChecking};
+ghost use Rattle.sz_session.specs.Terms.{IsUnlike, IsBadLog, IfBadLog, IsWellMadeLog, raised_line};
+ghost use Rattle.sz_session.specs.Terms.{HasRaised, IsLeftAlone, StopsRaising, EndsOnLog, AsksFor};
+ghost use Rattle.sz_session.specs.Terms.{IfLoad, OfEachCall, is_for, is_of_lines, is_opened};
+ghost use Rattle.sz_session.specs.Terms.{is_on_log};
 
 use crate::serving::Status;
 use sz_log::LogFault;

@@ -1,5 +1,6 @@
 //! A station that gathers what is said, and what a feed says to it.
-ghost use Rattle.sz_session.specs.Terms.{◌≡◌, [], None, Some, ⊤, IfOk, count_after, nothing_held};
+ghost use Rattle.std.specs.Prelude.{◌≡◌};
+ghost use Rattle.sz_session.specs.Terms.{[], None, Some, ⊤, IfOk, count_after, nothing_held};
 ghost use Rattle.sz_session.specs.Terms.{transcript, moment_before};
 
 use std::alloc::Global;

@@ -2,7 +2,8 @@
 //!
 //! Its lines go through a [`Feed`], like those of a source, and the replies are said to a station
 //! that gathers them (`gathering`).
-ghost use Rattle.sz_session.specs.Terms.{◌≡◌, IfOk, transcript, lines_in, load_line, nothing_held};
+ghost use Rattle.std.specs.Prelude.{◌≡◌};
+ghost use Rattle.sz_session.specs.Terms.{IfOk, transcript, lines_in, load_line, nothing_held};
 ghost use Rattle.sz_session.specs.Terms.{SaysSummary, AreCounted, OnlySays, IsInRange};
 
 use crate::gathering::told_by;

@@ -1,6 +1,6 @@
 //! Mode init: the disk of the station is made the empty log, and one line says so.
-ghost use Rattle.sz_session.specs.Terms.{◌≡◌, MakesLog, AreCounted, StopsMaking};
-ghost use Rattle.sz_session.specs.Terms.{ready_line};
+ghost use Rattle.std.specs.Prelude.{◌≡◌};
+ghost use Rattle.sz_session.specs.Terms.{MakesLog, AreCounted, StopsMaking, ready_line};
 
 use crate::serving::Status;
 use sz_log::init;

@@ -1,6 +1,7 @@
 //! Mode upgrade: the log of the station is opened, and raised to format 2 where it has format 1, by
 //! one group more; and one line says its format. Nothing else is written to the disk.
-ghost use Rattle.sz_session.specs.Terms.{◌≡◌, OnOk, is_ok, faults_after, Only, Said, IsMade};
+ghost use Rattle.std.specs.Prelude.{◌≡◌};
+ghost use Rattle.sz_session.specs.Terms.{OnOk, is_ok, faults_after, Only, Said, IsMade};
 ghost use Rattle.sz_session.specs.Terms.{StopsFinding, AreCounted, raised_line, RaisesLog};
 ghost use Rattle.sz_session.specs.Terms.{HasRaised, RaisesOrStays, StopsRaising};
 

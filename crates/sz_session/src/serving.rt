@@ -4,16 +4,17 @@
 //! what was said so far is the replies of all whole lines read so far, from the start of the
 //! session, and gives the same with the bytes read: so no read is made while a reply is still to be
 //! said.
-ghost use Rattle.sz_session.specs.Terms.{◌≡◌, ◌⊎◌, ◌<◌, ◌≤◌, ◌+◌, ◌-◌, ◌^◌, false, Ok, Err, IfOk};
-ghost use Rattle.sz_session.specs.Terms.{IfErr, OnOk, OnErr, length, map, string_bytes, None, Some};
-ghost use Rattle.sz_session.specs.Terms.{Rose, Stood, Gives, Keeps, end_status, words_status};
-ghost use Rattle.sz_session.specs.Terms.{halt_status, log_status, recover_status};
-ghost use Rattle.sz_session.specs.Terms.{status_number, Ends, AreCounted, opening_of, TurnsOn};
-ghost use Rattle.sz_session.specs.Terms.{EndsTurn, EndsSession, EndsOnLog, AsksFor, IfLoad, is_for};
-ghost use Rattle.sz_session.specs.Terms.{is_of_lines, EndsPlay, EndsLoad, EndsInit, EndsCheck};
-ghost use Rattle.sz_session.specs.Terms.{EndsUpgrade, EndsRun, nothing_held, IsLogOf, end_of};
-ghost use Rattle.sz_session.specs.Terms.{IsBeside, state_of_log, load_line, Opening, Answered};
-ghost use Rattle.sz_session.specs.Terms.{AreAll, StaysFinding, FoundInPart, job_of, IsInRange};
+ghost use Rattle.std.specs.Prelude.{◌≡◌, ◌⊎◌, ◌<◌, ◌≤◌, ◌+◌, ◌-◌, ◌^◌};
+ghost use Rattle.sz_session.specs.Terms.{false, Ok, Err, IfOk, IfErr, OnOk, OnErr, length, map};
+ghost use Rattle.sz_session.specs.Terms.{string_bytes, None, Some, Rose, Stood, Gives, Keeps};
+ghost use Rattle.sz_session.specs.Terms.{end_status, words_status, halt_status, log_status};
+ghost use Rattle.sz_session.specs.Terms.{recover_status, status_number, Ends, AreCounted};
+ghost use Rattle.sz_session.specs.Terms.{opening_of, TurnsOn, EndsTurn, EndsSession, EndsOnLog};
+ghost use Rattle.sz_session.specs.Terms.{AsksFor, IfLoad, is_for, is_of_lines, EndsPlay, EndsLoad};
+ghost use Rattle.sz_session.specs.Terms.{EndsInit, EndsCheck, EndsUpgrade, EndsRun, nothing_held};
+ghost use Rattle.sz_session.specs.Terms.{IsLogOf, end_of, IsBeside, state_of_log, load_line};
+ghost use Rattle.sz_session.specs.Terms.{Opening, Answered, AreAll, StaysFinding, FoundInPart};
+ghost use Rattle.sz_session.specs.Terms.{job_of, IsInRange};
 ghost use Rattle.sz_session.specs.declared.serving.Status.TheVariants.{ReadFault};
 
 use crate::checking::check_log;

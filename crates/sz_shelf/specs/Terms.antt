@@ -2,9 +2,8 @@
 pub use Rattle.std.specs.Arc.{arc_value}
 pub use Rattle.std.specs.List.{slice_index_or}
 pub use Rattle.std.specs.Option.{option_map, option_or}
-pub use Rattle.std.specs.Prelude.{◌++◌, ◌+◌, ◌<◌, ◌||◌, ◌∷◌, ◌≡◌, ◌≤◌, All, IfOk, IfSome, None, Ok}
-pub use Rattle.std.specs.Prelude.{OnErr, OnOk, Option, Some, [], false, is_none, length, map, not}
-pub use Rattle.std.specs.Prelude.{true, ℕ}
+pub use Rattle.std.specs.Prelude.{All, IfOk, IfSome, None, Ok, OnErr, OnOk, Option, Some, [], false}
+pub use Rattle.std.specs.Prelude.{is_none, length, map, not, true, ℕ}
 pub use Rattle.std.specs.declared.snapshot.Snapshot.{Snapshot}
 pub use Rattle.sz_cells.specs.Cells.{has, with_those}
 pub use Rattle.sz_core.specs.Events.{after_look, after_place, after_seal, look_reply, place_reply}

@@ -4,7 +4,8 @@
 //! pass means what these laws say. That no other kind of step is made is read in `src/words.rt`:
 //! that file alone reaches the table.
 
-ghost use Rattle.sz_shelf.specs.Terms.{◌≡◌, ℕ, Table, first_view, Rules, WinsOrLoses, TakesStore};
+ghost use Rattle.std.specs.Prelude.{◌≡◌};
+ghost use Rattle.sz_shelf.specs.Terms.{ℕ, Table, first_view, Rules, WinsOrLoses, TakesStore};
 ghost use Rattle.sz_shelf.specs.Terms.{CountsOne, GivesStoreBack, EndsTurn, LoadsCount, Splits};
 ghost use Rattle.sz_shelf.specs.Terms.{Joins, Snapshot, TagParts};
 

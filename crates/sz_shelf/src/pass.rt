@@ -1,6 +1,7 @@
 //! A pass: the right to take turns at one shelf, and what it knows of it.
 
-ghost use Rattle.sz_shelf.specs.Terms.{◌≡◌, IfSome, OnOk, OnErr, option_map, option_or, arc_value};
+ghost use Rattle.std.specs.Prelude.{◌≡◌};
+ghost use Rattle.sz_shelf.specs.Terms.{IfSome, OnOk, OnErr, option_map, option_or, arc_value};
 ghost use Rattle.sz_shelf.specs.Terms.{IsTag, StandsFor};
 
 use crate::rule::View;

@@ -3,9 +3,9 @@
 //! Nothing is known here of what stores stand for: two of them may differ. So the mark, which this
 //! file alone makes, names the one that was read, and no other that would have answered the same.
 
-ghost use Rattle.sz_shelf.specs.Terms.{◌≡◌, ◌<◌, length, true, has, with_those, is_listed};
-ghost use Rattle.sz_shelf.specs.Terms.{is_stored, near_side, far_side, image_in, holding_for};
-ghost use Rattle.sz_shelf.specs.Terms.{holding_stands};
+ghost use Rattle.std.specs.Prelude.{◌≡◌, ◌<◌};
+ghost use Rattle.sz_shelf.specs.Terms.{length, true, has, with_those, is_listed, is_stored};
+ghost use Rattle.sz_shelf.specs.Terms.{near_side, far_side, image_in, holding_for, holding_stands};
 
 use sz_cells::CellBits;
 use sz_spec::{Dir, Strategy};

@@ -1,16 +1,16 @@
 //! A shelf, and the calls by which passes use it.
 
-ghost use Rattle.sz_shelf.specs.Terms.{◌≡◌, ◌+◌, ◌<◌, ◌++◌, ◌∷◌, [], ◌||◌, length, map, true};
-ghost use Rattle.sz_shelf.specs.Terms.{false, not, Ok, Some, IfOk, OnOk, OnErr, IfSome, is_none};
-ghost use Rattle.sz_shelf.specs.Terms.{Option, All, option_map, option_or, arc_value, has};
-ghost use Rattle.sz_shelf.specs.Terms.{with_those, is_listed, is_stored, near_side, far_side};
-ghost use Rattle.sz_shelf.specs.Terms.{FitsAsNeeded, measure_of, place_reply, after_place};
-ghost use Rattle.sz_shelf.specs.Terms.{seal_reply, after_seal, look_reply, after_look, found_shelf};
-ghost use Rattle.sz_shelf.specs.Terms.{left_shelf, first_step, told_of_place, told_of_seal};
-ghost use Rattle.sz_shelf.specs.Terms.{told_of_look, IsTag, StandsFor, tag_pieces, tag_image};
-ghost use Rattle.sz_shelf.specs.Terms.{HasImages, longer, TookTurn, newcomer, place_of, with_split};
-ghost use Rattle.sz_shelf.specs.Terms.{split_off, place_answer, seal_answer, look_answer, read_by};
-ghost use Rattle.sz_shelf.specs.Terms.{New, SealedNow};
+ghost use Rattle.std.specs.Prelude.{◌≡◌, ◌+◌, ◌<◌, ◌++◌, ◌∷◌, ◌||◌};
+ghost use Rattle.sz_shelf.specs.Terms.{[], length, map, true, false, not, Ok, Some, IfOk, OnOk};
+ghost use Rattle.sz_shelf.specs.Terms.{OnErr, IfSome, is_none, Option, All, option_map, option_or};
+ghost use Rattle.sz_shelf.specs.Terms.{arc_value, has, with_those, is_listed, is_stored, near_side};
+ghost use Rattle.sz_shelf.specs.Terms.{far_side, FitsAsNeeded, measure_of, place_reply};
+ghost use Rattle.sz_shelf.specs.Terms.{after_place, seal_reply, after_seal, look_reply, after_look};
+ghost use Rattle.sz_shelf.specs.Terms.{found_shelf, left_shelf, first_step, told_of_place};
+ghost use Rattle.sz_shelf.specs.Terms.{told_of_seal, told_of_look, IsTag, StandsFor, tag_pieces};
+ghost use Rattle.sz_shelf.specs.Terms.{tag_image, HasImages, longer, TookTurn, newcomer, place_of};
+ghost use Rattle.sz_shelf.specs.Terms.{with_split, split_off, place_answer, seal_answer};
+ghost use Rattle.sz_shelf.specs.Terms.{look_answer, read_by, New, SealedNow};
 
 use crate::answers::{Look, Placed, SealReply};
 use crate::pass::Pass;

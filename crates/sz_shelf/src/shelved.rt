@@ -4,12 +4,13 @@
 //! whether it is sealed; the stores themselves are seen by [`Shelved::store`], which says what they
 //! stand for.
 
-ghost use Rattle.sz_shelf.specs.Terms.{◌≡◌, ℕ, ◌<◌, ◌≤◌, ◌++◌, ◌∷◌, [], length, true, false, Some};
-ghost use Rattle.sz_shelf.specs.Terms.{None, IfOk, OnOk, OnErr, All, slice_index_or, arc_value};
-ghost use Rattle.sz_shelf.specs.Terms.{has, with_those, is_listed, is_stored, near_side, far_side};
-ghost use Rattle.sz_shelf.specs.Terms.{FitsAsNeeded, measure_of, IsTag, StandsFor, tag_pieces};
-ghost use Rattle.sz_shelf.specs.Terms.{tag_image, StandsOnPlaced, is_in, missing_in, least_missing};
-ghost use Rattle.sz_shelf.specs.Terms.{IsFirst, HasImages, IsRegions};
+ghost use Rattle.std.specs.Prelude.{◌≡◌, ◌<◌, ◌≤◌, ◌++◌, ◌∷◌};
+ghost use Rattle.sz_shelf.specs.Terms.{ℕ, [], length, true, false, Some, None, IfOk, OnOk, OnErr};
+ghost use Rattle.sz_shelf.specs.Terms.{All, slice_index_or, arc_value, has, with_those, is_listed};
+ghost use Rattle.sz_shelf.specs.Terms.{is_stored, near_side, far_side, FitsAsNeeded, measure_of};
+ghost use Rattle.sz_shelf.specs.Terms.{IsTag, StandsFor, tag_pieces, tag_image, StandsOnPlaced};
+ghost use Rattle.sz_shelf.specs.Terms.{is_in, missing_in, least_missing, IsFirst, HasImages};
+ghost use Rattle.sz_shelf.specs.Terms.{IsRegions};
 
 use crate::read_by::ReadBy;
 use crate::stored::Stored;

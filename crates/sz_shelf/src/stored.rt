@@ -1,7 +1,8 @@
 //! The stores of a shelf: open while pieces are placed, and shared once they are handed out.
 
-ghost use Rattle.sz_shelf.specs.Terms.{◌≡◌, Some, IfOk, OnOk, OnErr, true, arc_value, store_in};
-ghost use Rattle.sz_shelf.specs.Terms.{IsThere, CanTake, with_more, IsSharedFrom, StayApart};
+ghost use Rattle.std.specs.Prelude.{◌≡◌};
+ghost use Rattle.sz_shelf.specs.Terms.{Some, IfOk, OnOk, OnErr, true, arc_value, store_in, IsThere};
+ghost use Rattle.sz_shelf.specs.Terms.{CanTake, with_more, IsSharedFrom, StayApart};
 
 use std::alloc::{AllocFailed, Global};
 use std::sync::Arc;

@@ -5,7 +5,8 @@
 //!
 //! [`Snapshot`]: std::snapshot::Snapshot
 
-ghost use Rattle.sz_shelf.specs.Terms.{◌≡◌, map, IfOk, arc_value};
+ghost use Rattle.std.specs.Prelude.{◌≡◌};
+ghost use Rattle.sz_shelf.specs.Terms.{map, IfOk, arc_value};
 
 use std::alloc::Global;
 use std::marker::Model;

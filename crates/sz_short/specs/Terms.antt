@@ -1,6 +1,6 @@
 -- The words that clauses of this crate are written in, each from the file that defines it.
-pub use Rattle.std.specs.Prelude.{◌++◌, ◌+◌, ◌<◌, ◌^◌, ◌∷◌, ◌≡◌, ◌≤◌, All, IfErr, IfNone, IfOk}
-pub use Rattle.std.specs.Prelude.{IfSome, List, OnErr, OnOk, length, take, true, ℕ}
+pub use Rattle.std.specs.Prelude.{All, IfErr, IfNone, IfOk, IfSome, List, OnErr, OnOk, length, take}
+pub use Rattle.std.specs.Prelude.{true, ℕ}
 pub use Rattle.sz_cells.specs.Cells.{Cells}
 pub use Rattle.sz_cells.specs.Extent.{is_extent, size_of}
 pub use Rattle.sz_cells.specs.Runs.{AreRunsFrom}

@@ -1,13 +1,13 @@
 //! Stores of full lineage in the other form: the table of sets is spelled again, and what names
 //! its sets is copied.
 
-ghost use Rattle.sz_short.specs.Terms.{◌≡◌, ◌≤◌, ◌<◌, ◌+◌, ◌++◌, ◌∷◌, ℕ, List, length, take, true};
-ghost use Rattle.sz_short.specs.Terms.{All, IfOk, IfErr, OnOk, OnErr, IfSome, IfNone, is_extent};
-ghost use Rattle.sz_short.specs.Terms.{set_bytes, extent_at, IsAt, counted, Listed, IsListed};
-ghost use Rattle.sz_short.specs.Terms.{BeginsRegions, Pairing, OnBad, NoneAt, AreFew};
-ghost use Rattle.sz_short.specs.Terms.{NoRegionsBegin, SaysNoRegions, short_set_bytes, listed_by};
-ghost use Rattle.sz_short.specs.Terms.{RespellsFull, SaysNoShortFull, NoFullBegins, read_bytes};
-ghost use Rattle.sz_short.specs.Terms.{written_bytes};
+ghost use Rattle.std.specs.Prelude.{◌≡◌, ◌≤◌, ◌<◌, ◌+◌, ◌++◌, ◌∷◌};
+ghost use Rattle.sz_short.specs.Terms.{ℕ, List, length, take, true, All, IfOk, IfErr, OnOk, OnErr};
+ghost use Rattle.sz_short.specs.Terms.{IfSome, IfNone, is_extent, set_bytes, extent_at, IsAt};
+ghost use Rattle.sz_short.specs.Terms.{counted, Listed, IsListed, BeginsRegions, Pairing, OnBad};
+ghost use Rattle.sz_short.specs.Terms.{NoneAt, AreFew, NoRegionsBegin, SaysNoRegions};
+ghost use Rattle.sz_short.specs.Terms.{short_set_bytes, listed_by, RespellsFull, SaysNoShortFull};
+ghost use Rattle.sz_short.specs.Terms.{NoFullBegins, read_bytes, written_bytes};
 
 use crate::parts::{copy_part, copy_rows, take_number};
 use crate::ways::{Way, respell_set};

@@ -1,7 +1,8 @@
 //! Short numbers: writing one, and reading one where it begins.
 
-ghost use Rattle.sz_short.specs.Terms.{◌≡◌, ◌+◌, ◌++◌, length, take, IfSome, IfNone, OnOk, OnErr};
-ghost use Rattle.sz_short.specs.Terms.{IsAt, NoneAt, short_within, short_number, IsWithin, IsSmall};
+ghost use Rattle.std.specs.Prelude.{◌≡◌, ◌+◌, ◌++◌};
+ghost use Rattle.sz_short.specs.Terms.{length, take, IfSome, IfNone, OnOk, OnErr, IsAt, NoneAt};
+ghost use Rattle.sz_short.specs.Terms.{short_within, short_number, IsWithin, IsSmall};
 
 use sz_cells::NoMemory;
 

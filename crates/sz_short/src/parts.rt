@@ -1,9 +1,9 @@
 //! The parts of stores that are the same bytes in either form: counts, payloads and names.
 
-ghost use Rattle.sz_short.specs.Terms.{◌≡◌, ◌<◌, ◌≤◌, ◌+◌, ◌^◌, ◌++◌, ℕ, List, length, IfSome};
-ghost use Rattle.sz_short.specs.Terms.{IfNone, IfOk, IfErr, OnOk, OnErr, four_bytes, IsAt, counted};
-ghost use Rattle.sz_short.specs.Terms.{rows_bytes, IsShort, payload_bytes, OnBad, NoneAt, AreFew};
-ghost use Rattle.sz_short.specs.Terms.{AreRowsOf, IsBlock};
+ghost use Rattle.std.specs.Prelude.{◌≡◌, ◌<◌, ◌≤◌, ◌+◌, ◌^◌, ◌++◌};
+ghost use Rattle.sz_short.specs.Terms.{ℕ, List, length, IfSome, IfNone, IfOk, IfErr, OnOk, OnErr};
+ghost use Rattle.sz_short.specs.Terms.{four_bytes, IsAt, counted, rows_bytes, IsShort};
+ghost use Rattle.sz_short.specs.Terms.{payload_bytes, OnBad, NoneAt, AreFew, AreRowsOf, IsBlock};
 
 use sz_cells::NoMemory;
 use sz_numbers::four_at;

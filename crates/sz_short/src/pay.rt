@@ -1,11 +1,12 @@
 //! Stores of payloads in the other form: the table of output sets is spelled again, and the
 //! payloads and what names both are copied.
 
-ghost use Rattle.sz_short.specs.Terms.{◌≡◌, ◌≤◌, ◌<◌, ◌+◌, ◌++◌, ℕ, List, length, take, true, IfOk};
-ghost use Rattle.sz_short.specs.Terms.{IfErr, OnOk, OnErr, Cells, is_extent, set_bytes, IsSetOf};
-ghost use Rattle.sz_short.specs.Terms.{IsAt, counted, Entry, BeginsEntries, OnBad, NoneAt, AreFew};
-ghost use Rattle.sz_short.specs.Terms.{NoEntriesBegin, SaysNoEntries, short_set_bytes, RespellsPay};
-ghost use Rattle.sz_short.specs.Terms.{SaysNoShortPay, NoPayBegins, read_bytes, written_bytes};
+ghost use Rattle.std.specs.Prelude.{◌≡◌, ◌≤◌, ◌<◌, ◌+◌, ◌++◌};
+ghost use Rattle.sz_short.specs.Terms.{ℕ, List, length, take, true, IfOk, IfErr, OnOk, OnErr};
+ghost use Rattle.sz_short.specs.Terms.{Cells, is_extent, set_bytes, IsSetOf, IsAt, counted, Entry};
+ghost use Rattle.sz_short.specs.Terms.{BeginsEntries, OnBad, NoneAt, AreFew, NoEntriesBegin};
+ghost use Rattle.sz_short.specs.Terms.{SaysNoEntries, short_set_bytes, RespellsPay, SaysNoShortPay};
+ghost use Rattle.sz_short.specs.Terms.{NoPayBegins, read_bytes, written_bytes};
 
 use crate::parts::{copy_part, copy_payloads, copy_rows, take_number};
 use crate::ways::{Way, respell_set};

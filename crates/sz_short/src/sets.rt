@@ -1,9 +1,10 @@
 //! Short cell sets: writing one, and reading one where it begins.
 
-ghost use Rattle.sz_short.specs.Terms.{◌≡◌, ◌≤◌, ◌++◌, length, take, IfOk, OnOk, IfErr, OnErr};
-ghost use Rattle.sz_short.specs.Terms.{IfSome, IfNone, size_of, AreRunsFrom, IsAt, NoneAt};
-ghost use Rattle.sz_short.specs.Terms.{short_run, short_runs_bytes, short_set_bytes};
-ghost use Rattle.sz_short.specs.Terms.{BeginsShortSet, SaysNoShortSet, IsRunFrom};
+ghost use Rattle.std.specs.Prelude.{◌≡◌, ◌≤◌, ◌++◌};
+ghost use Rattle.sz_short.specs.Terms.{length, take, IfOk, OnOk, IfErr, OnErr, IfSome, IfNone};
+ghost use Rattle.sz_short.specs.Terms.{size_of, AreRunsFrom, IsAt, NoneAt, short_run};
+ghost use Rattle.sz_short.specs.Terms.{short_runs_bytes, short_set_bytes, BeginsShortSet};
+ghost use Rattle.sz_short.specs.Terms.{SaysNoShortSet, IsRunFrom};
 
 use crate::numbers::{put_short, take_short};
 use std::alloc::Global;

@@ -1,7 +1,8 @@
 //! The two ways in which a store is spelled again, and one of its sets.
 
-ghost use Rattle.sz_short.specs.Terms.{◌≡◌, ◌++◌, IfOk, IfErr, OnErr, Cells, IsSetOf, IsAt, OnBad};
-ghost use Rattle.sz_short.specs.Terms.{NoneAt, read_bytes, written_bytes};
+ghost use Rattle.std.specs.Prelude.{◌≡◌, ◌++◌};
+ghost use Rattle.sz_short.specs.Terms.{IfOk, IfErr, OnErr, Cells, IsSetOf, IsAt, OnBad, NoneAt};
+ghost use Rattle.sz_short.specs.Terms.{read_bytes, written_bytes};
 
 use crate::sets::{put_set_2, take_set_2};
 use std::alloc::Global;

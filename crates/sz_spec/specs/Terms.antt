@@ -1,8 +1,7 @@
 -- The words that clauses of this crate are written in, each from the file that defines it.
 pub use Rattle.std.specs.Arc.{arc_value}
 pub use Rattle.std.specs.List.{find, list_all}
-pub use Rattle.std.specs.Prelude.{◌+◌, ◌<◌, ◌==◌, ◌^◌, ◌≡◌, ◌≤◌, All, Err, IfOk, None, Ok, Some}
-pub use Rattle.std.specs.Prelude.{if◌then◌else◌, length, map, true}
+pub use Rattle.std.specs.Prelude.{All, Err, IfOk, None, Ok, Some, length, map, true}
 pub use Rattle.std.specs.Result.{result_err, result_map_both}
 pub use Rattle.sz_cells.specs.Cells.{with_those}
 pub use Rattle.sz_cells.specs.Extent.{flat, height_of, holds, is_layered, size_of}

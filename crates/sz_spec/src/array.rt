@@ -1,7 +1,8 @@
 //! Arrays: what each cell of a shape holds.
 
-ghost use Rattle.sz_spec.specs.Terms.{◌≡◌, true, ◌==◌, if◌then◌else◌, Some, None, length, map};
-ghost use Rattle.sz_spec.specs.Terms.{arc_value, size_of, holds, value_at};
+ghost use Rattle.std.specs.Prelude.{◌≡◌, ◌==◌, if◌then◌else◌};
+ghost use Rattle.sz_spec.specs.Terms.{true, Some, None, length, map, arc_value, size_of, holds};
+ghost use Rattle.sz_spec.specs.Terms.{value_at};
 
 use std::marker::Model;
 use std::sync::Arc;

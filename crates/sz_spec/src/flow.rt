@@ -1,7 +1,8 @@
 //! Flows: acyclic graphs of operators, and whether they are well formed.
 
-ghost use Rattle.sz_spec.specs.Terms.{◌≡◌, ◌<◌, ◌^◌, length, result_err, flow_fault, nodes_fault};
-ghost use Rattle.sz_spec.specs.Terms.{node_fault, source_fault, is_source};
+ghost use Rattle.std.specs.Prelude.{◌≡◌, ◌<◌, ◌^◌};
+ghost use Rattle.sz_spec.specs.Terms.{length, result_err, flow_fault, nodes_fault, node_fault};
+ghost use Rattle.sz_spec.specs.Terms.{source_fault, is_source};
 
 use crate::op::{Op, arity, has_right_parameters};
 use std::marker::Model;

@@ -1,5 +1,6 @@
 //! The shapes of a flow's outputs, found from the shapes of its base arrays alone.
-ghost use Rattle.sz_spec.specs.Terms.{◌≡◌, All, true, length, map, IfOk, result_map_both};
+ghost use Rattle.std.specs.Prelude.{◌≡◌};
+ghost use Rattle.sz_spec.specs.Terms.{All, true, length, map, IfOk, result_map_both};
 ghost use Rattle.sz_spec.specs.Terms.{is_well_formed, is_source, source_shape, output_shapes};
 
 use crate::flow::{Flow, SourceRef};

@@ -1,6 +1,7 @@
 //! Kernels: the weights of a convolution.
 
-ghost use Rattle.sz_spec.specs.Terms.{◌≡◌, IfOk, list_all, is_kernel, is_odd_side, is_weight};
+ghost use Rattle.std.specs.Prelude.{◌≡◌};
+ghost use Rattle.sz_spec.specs.Terms.{IfOk, list_all, is_kernel, is_odd_side, is_weight};
 
 use std::alloc::Global;
 use std::marker::Model;

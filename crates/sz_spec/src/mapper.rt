@@ -1,7 +1,8 @@
 //! Mappings of cells: the lineage of an operator that is known without its values.
 
-ghost use Rattle.sz_spec.specs.Terms.{◌≡◌, ◌<◌, true, length, holds, with_those, extent_at, Site};
-ghost use Rattle.sz_spec.specs.Terms.{mapped, has_mapping, is_payload, mapped_by_payload};
+ghost use Rattle.std.specs.Prelude.{◌≡◌, ◌<◌};
+ghost use Rattle.sz_spec.specs.Terms.{true, length, holds, with_those, extent_at, Site, mapped};
+ghost use Rattle.sz_spec.specs.Terms.{has_mapping, is_payload, mapped_by_payload};
 
 use sz_cells::{Cell, CellBits};
 

@@ -1,8 +1,9 @@
 //! How lineage is kept: modes and strategies, which of them an operator supports, and the way of a
 //! query step.
 
-ghost use Rattle.sz_spec.specs.Terms.{◌≡◌, ◌<◌, length, find, has_mapping, has_mode, mode_of};
-ghost use Rattle.sz_spec.specs.Terms.{supports, is_stored, order_of, is_listed, way};
+ghost use Rattle.std.specs.Prelude.{◌≡◌, ◌<◌};
+ghost use Rattle.sz_spec.specs.Terms.{length, find, has_mapping, has_mode, mode_of, supports};
+ghost use Rattle.sz_spec.specs.Terms.{is_stored, order_of, is_listed, way};
 
 use crate::op::Op;
 

@@ -1,6 +1,7 @@
 //! The family of operators: how many inputs each takes, and which parameters are right.
 
-ghost use Rattle.sz_spec.specs.Terms.{◌≡◌, IfOk, arity, has_right_parameters};
+ghost use Rattle.std.specs.Prelude.{◌≡◌};
+ghost use Rattle.sz_spec.specs.Terms.{IfOk, arity, has_right_parameters};
 
 use crate::kernel::Kernel;
 use std::alloc::Global;

@@ -1,6 +1,7 @@
 //! Operators with the shapes that they work between.
 
-ghost use Rattle.sz_spec.specs.Terms.{◌≡◌, true, length, Ok, arity, has_right_parameters, shape_of};
+ghost use Rattle.std.specs.Prelude.{◌≡◌};
+ghost use Rattle.sz_spec.specs.Terms.{true, length, Ok, arity, has_right_parameters, shape_of};
 ghost use Rattle.sz_spec.specs.Terms.{site_of};
 
 use crate::op::Op;

@@ -1,6 +1,7 @@
 //! Pieces: the parts of an output array by which its lineage is kept.
 
-ghost use Rattle.sz_spec.specs.Terms.{◌≡◌, pieces_of};
+ghost use Rattle.std.specs.Prelude.{◌≡◌};
+ghost use Rattle.sz_spec.specs.Terms.{pieces_of};
 
 use sz_cells::Shape;
 

@@ -1,8 +1,9 @@
 //! Shapes of outputs: the shape rule of each operator.
 
-ghost use Rattle.sz_spec.specs.Terms.{◌≡◌, ◌<◌, ◌==◌, true, length, if◌then◌else◌, Ok, Err};
-ghost use Rattle.sz_spec.specs.Terms.{height_of, flat, is_layered, arity, has_right_parameters};
-ghost use Rattle.sz_spec.specs.Terms.{shape_of, each_layer, sliced, are_equal, blocks_over};
+ghost use Rattle.std.specs.Prelude.{◌≡◌, ◌<◌, ◌==◌, if◌then◌else◌};
+ghost use Rattle.sz_spec.specs.Terms.{true, length, Ok, Err, height_of, flat, is_layered, arity};
+ghost use Rattle.sz_spec.specs.Terms.{has_right_parameters, shape_of, each_layer, sliced};
+ghost use Rattle.sz_spec.specs.Terms.{are_equal, blocks_over};
 
 use crate::op::Op;
 use sz_cells::Shape;

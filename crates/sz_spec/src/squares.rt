@@ -1,7 +1,8 @@
 //! The 3 by 3 square of cells round a cell, within its layer: a rectangle, added row by row.
 
-ghost use Rattle.sz_spec.specs.Terms.{◌≡◌, ◌≤◌, ◌<◌, true, Cell, holds, with_those, is_in_square};
-ghost use Rattle.sz_spec.specs.Terms.{is_in_rectangle, is_in_row};
+ghost use Rattle.std.specs.Prelude.{◌≡◌, ◌≤◌, ◌<◌};
+ghost use Rattle.sz_spec.specs.Terms.{true, Cell, holds, with_those, is_in_square, is_in_rectangle};
+ghost use Rattle.sz_spec.specs.Terms.{is_in_row};
 
 use sz_cells::{Bounds, Cell, CellBits, Run, Shape};
 

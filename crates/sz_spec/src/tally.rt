@@ -1,6 +1,6 @@
 //! Counts of steps.
 
-ghost use Rattle.sz_spec.specs.Terms.{◌≡◌, ◌+◌, ◌^◌, ◌<◌};
+ghost use Rattle.std.specs.Prelude.{◌≡◌, ◌+◌, ◌^◌, ◌<◌};
 
 use std::marker::Model;
 

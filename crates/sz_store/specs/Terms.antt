@@ -1,9 +1,8 @@
 -- The words that clauses of this crate are written in, each from the file that defines it.
 pub use Rattle.std.specs.Arc.{arc_value}
 pub use Rattle.std.specs.List.{list_any, position_or_len}
-pub use Rattle.std.specs.Prelude.{◌++◌, ◌<◌, ◌==◌, ◌∷◌, ◌≡◌, ◌≤◌, All, IfErr, IfOk, List}
-pub use Rattle.std.specs.Prelude.{MatchOption, OnErr, OnOk, [], false, length, map, not}
-pub use Rattle.std.specs.Prelude.{slice_index_or, take, true, ℕ}
+pub use Rattle.std.specs.Prelude.{All, IfErr, IfOk, List, MatchOption, OnErr, OnOk, [], false}
+pub use Rattle.std.specs.Prelude.{length, map, not, slice_index_or, take, true, ℕ}
 pub use Rattle.sz_cells.specs.Cells.{has, with_those}
 pub use Rattle.sz_spec.specs.Modes.{has_mapping, is_listed, is_stored, mode_of, number_of, supports}
 pub use Rattle.sz_spec.specs.Pieces.{pieces_of}

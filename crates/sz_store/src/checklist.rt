@@ -1,7 +1,8 @@
 //! Whether lineages are those that one store keeps.
 
-ghost use Rattle.sz_store.specs.Terms.{◌≡◌, true, IfOk, OnOk, with_part, table_in, kept_in};
-ghost use Rattle.sz_store.specs.Terms.{ticked_in, emptied, joined, AreOneList};
+ghost use Rattle.std.specs.Prelude.{◌≡◌};
+ghost use Rattle.sz_store.specs.Terms.{true, IfOk, OnOk, with_part, table_in, kept_in, ticked_in};
+ghost use Rattle.sz_store.specs.Terms.{emptied, joined, AreOneList};
 
 use sz_cells::NoMemory;
 use sz_frame::PieceLineage;

@@ -3,14 +3,14 @@
 //! Each call is a table with a line for each sort or strategy, as are the definitions in
 //! `specs/Stocks` and `specs/Words`: a further stored strategy is a further line in each.
 
-ghost use Rattle.sz_store.specs.Terms.{◌≡◌, ℕ, ◌<◌, ◌≤◌, List, [], ◌++◌, length, true, false, OnOk};
-ghost use Rattle.sz_store.specs.Terms.{OnErr, IfOk, IfErr, MatchOption, arc_value, has, with_those};
-ghost use Rattle.sz_store.specs.Terms.{is_stored, supports, mode_of, has_mapping, near_side};
-ghost use Rattle.sz_store.specs.Terms.{far_side, image_in, no_room, entries, holding_stands};
-ghost use Rattle.sz_store.specs.Terms.{nothing_for, with_part, kept_in, ticked_in, stock_of};
-ghost use Rattle.sz_store.specs.Terms.{mode_in, empty_stock, CanGrow, HasRoomFor, AreEntries};
-ghost use Rattle.sz_store.specs.Terms.{IsTableOf, StaysApart, IsWordOf, Begins, NoneBegins};
-ghost use Rattle.sz_store.specs.Terms.{SaysNone};
+ghost use Rattle.std.specs.Prelude.{◌≡◌, ◌<◌, ◌≤◌, ◌++◌};
+ghost use Rattle.sz_store.specs.Terms.{ℕ, List, [], length, true, false, OnOk, OnErr, IfOk, IfErr};
+ghost use Rattle.sz_store.specs.Terms.{MatchOption, arc_value, has, with_those, is_stored};
+ghost use Rattle.sz_store.specs.Terms.{supports, mode_of, has_mapping, near_side, far_side};
+ghost use Rattle.sz_store.specs.Terms.{image_in, no_room, entries, holding_stands, nothing_for};
+ghost use Rattle.sz_store.specs.Terms.{with_part, kept_in, ticked_in, stock_of, mode_in};
+ghost use Rattle.sz_store.specs.Terms.{empty_stock, CanGrow, HasRoomFor, AreEntries, IsTableOf};
+ghost use Rattle.sz_store.specs.Terms.{StaysApart, IsWordOf, Begins, NoneBegins, SaysNone};
 ghost use Rattle.sz_spec.specs.declared.modes.Mode.TheVariants as mode;
 
 use crate::checklist::StoreChecklist;

@@ -30,15 +30,16 @@
 //! of a further piece have none of theirs. A store that was read is whole, and is given nothing.
 #![tactic(auto)]
 
-ghost use Rattle.sz_store.specs.Terms.{◌≡◌, ℕ, ◌<◌, ◌≤◌, ◌==◌, List, ◌++◌, length, true, not, All};
-ghost use Rattle.sz_store.specs.Terms.{OnOk, OnErr, IfOk, IfErr, MatchOption, map, position_or_len};
-ghost use Rattle.sz_store.specs.Terms.{arc_value, has, with_those, supports, is_listed, is_stored};
-ghost use Rattle.sz_store.specs.Terms.{mode_of, pieces_of, near_side, far_side, image_in};
-ghost use Rattle.sz_store.specs.Terms.{no_lineage, with_lineage, is_placed, is_whole, AreParts};
-ghost use Rattle.sz_store.specs.Terms.{missing, holding_for, holding_stands, stored_in};
-ghost use Rattle.sz_store.specs.Terms.{nothing_for, keep_at, IsOfItsMode, AreEntries, IsTableOf};
-ghost use Rattle.sz_store.specs.Terms.{StaysApart, kept_in, ticked_in, AreWordsOf, IsWordOf};
-ghost use Rattle.sz_store.specs.Terms.{Begins, BeginEach, NoneBegin, SaysNone};
+ghost use Rattle.std.specs.Prelude.{◌≡◌, ◌<◌, ◌≤◌, ◌==◌, ◌++◌};
+ghost use Rattle.sz_store.specs.Terms.{ℕ, List, length, true, not, All, OnOk, OnErr, IfOk, IfErr};
+ghost use Rattle.sz_store.specs.Terms.{MatchOption, map, position_or_len, arc_value, has};
+ghost use Rattle.sz_store.specs.Terms.{with_those, supports, is_listed, is_stored, mode_of};
+ghost use Rattle.sz_store.specs.Terms.{pieces_of, near_side, far_side, image_in, no_lineage};
+ghost use Rattle.sz_store.specs.Terms.{with_lineage, is_placed, is_whole, AreParts, missing};
+ghost use Rattle.sz_store.specs.Terms.{holding_for, holding_stands, stored_in, nothing_for};
+ghost use Rattle.sz_store.specs.Terms.{keep_at, IsOfItsMode, AreEntries, IsTableOf, StaysApart};
+ghost use Rattle.sz_store.specs.Terms.{kept_in, ticked_in, AreWordsOf, IsWordOf, Begins, BeginEach};
+ghost use Rattle.sz_store.specs.Terms.{NoneBegin, SaysNone};
 
 mod checklist;
 mod kept;

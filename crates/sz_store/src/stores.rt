@@ -1,12 +1,12 @@
 //! The stores of a list, one for each of its stored strategies.
 
-ghost use Rattle.sz_store.specs.Terms.{◌≡◌, ℕ, ◌<◌, ◌≤◌, ◌==◌, List, [], ◌∷◌, ◌++◌, length, map};
-ghost use Rattle.sz_store.specs.Terms.{true, All, OnOk, OnErr, IfOk, IfErr, take, slice_index_or};
-ghost use Rattle.sz_store.specs.Terms.{list_any, arc_value, Site, supports, is_stored, number_of};
-ghost use Rattle.sz_store.specs.Terms.{mode_of, Keep, empty_keep, stored_in, keep_with};
-ghost use Rattle.sz_store.specs.Terms.{holding_for, stock_of, keep_of, site_of, CanGrow};
-ghost use Rattle.sz_store.specs.Terms.{HasRoomFor, capacities_of, StaysApart, AreWordsOf};
-ghost use Rattle.sz_store.specs.Terms.{BeginEach, NoneBegin, SaysNone};
+ghost use Rattle.std.specs.Prelude.{◌≡◌, ◌<◌, ◌≤◌, ◌==◌, ◌∷◌, ◌++◌};
+ghost use Rattle.sz_store.specs.Terms.{ℕ, List, [], length, map, true, All, OnOk, OnErr, IfOk};
+ghost use Rattle.sz_store.specs.Terms.{IfErr, take, slice_index_or, list_any, arc_value, Site};
+ghost use Rattle.sz_store.specs.Terms.{supports, is_stored, number_of, mode_of, Keep, empty_keep};
+ghost use Rattle.sz_store.specs.Terms.{stored_in, keep_with, holding_for, stock_of, keep_of};
+ghost use Rattle.sz_store.specs.Terms.{site_of, CanGrow, HasRoomFor, capacities_of, StaysApart};
+ghost use Rattle.sz_store.specs.Terms.{AreWordsOf, BeginEach, NoneBegin, SaysNone};
 
 use crate::kept::KeptStore;
 use std::alloc::Global;

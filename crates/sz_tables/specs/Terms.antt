@@ -2,10 +2,10 @@
 pub use Rattle.std.specs.Arc.{arc_value}
 pub use Rattle.std.specs.Bool.{Decides}
 pub use Rattle.std.specs.List.{AllZip, HoldsAt, flat_map, list_any, range_with_len, slice_get}
-pub use Rattle.std.specs.Prelude.{◌*◌, ◌++◌, ◌+◌, ◌-◌, ◌<◌, ◌^◌, ◌∷◌, ◌≡◌, ◌≢◌, ◌≤◌, All, IfErr}
-pub use Rattle.std.specs.Prelude.{IfNone, IfOk, IfSome, IsPermutation, List, MatchOption, None}
-pub use Rattle.std.specs.Prelude.{OnErr, OnOk, Some, [], drop, fold, length, map, max, replicate}
-pub use Rattle.std.specs.Prelude.{slice_index_or, sum_by, take, true, vec_capacity, vec_len, ℕ}
+pub use Rattle.std.specs.Prelude.{All, IfErr, IfNone, IfOk, IfSome, IsPermutation, List}
+pub use Rattle.std.specs.Prelude.{MatchOption, None, OnErr, OnOk, Some, [], drop, fold, length, map}
+pub use Rattle.std.specs.Prelude.{max, replicate, slice_index_or, sum_by, take, true, vec_capacity}
+pub use Rattle.std.specs.Prelude.{vec_len, ℕ}
 pub use Rattle.sz_cells.specs.Cells.{Cells, any_cell, has, next_index, union_of, with_those}
 pub use Rattle.sz_cells.specs.Extent.{holds, is_extent, size_of}
 pub use Rattle.sz_cells.specs.Rising.{AreRising}

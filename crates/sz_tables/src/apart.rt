@@ -1,7 +1,8 @@
 //! Whether no cell is in two entries of a table. Only sets that are apart have together as many
 //! cells as each has by itself, so it is enough to count.
 
-ghost use Rattle.sz_tables.specs.Terms.{◌≡◌, ◌≤◌, length, IfOk, flat_map, AreRunsFrom, indexes_of};
+ghost use Rattle.std.specs.Prelude.{◌≡◌, ◌≤◌};
+ghost use Rattle.sz_tables.specs.Terms.{length, IfOk, flat_map, AreRunsFrom, indexes_of};
 ghost use Rattle.sz_tables.specs.Terms.{SaysWhetherApart, entries};
 
 use crate::entry_table::EntryTable;

@@ -1,8 +1,9 @@
 //! Entries under keys, each entry linked to the one before it of the same key.
 
-ghost use Rattle.sz_tables.specs.Terms.{◌≡◌, ◌<◌, ◌≤◌, ◌+◌, ◌-◌, ◌^◌, [], ◌∷◌, ◌++◌, length, map};
-ghost use Rattle.sz_tables.specs.Terms.{max, OnOk, OnErr, IfOk, replicate, vec_capacity, HoldsAt};
-ghost use Rattle.sz_tables.specs.Terms.{IsLastBelow, IsWidened, rest_under, told};
+ghost use Rattle.std.specs.Prelude.{◌≡◌, ◌<◌, ◌≤◌, ◌+◌, ◌-◌, ◌^◌, ◌∷◌, ◌++◌};
+ghost use Rattle.sz_tables.specs.Terms.{[], length, map, max, OnOk, OnErr, IfOk, replicate};
+ghost use Rattle.sz_tables.specs.Terms.{vec_capacity, HoldsAt, IsLastBelow, IsWidened, rest_under};
+ghost use Rattle.sz_tables.specs.Terms.{told};
 
 use std::alloc::Global;
 use std::marker::Model;

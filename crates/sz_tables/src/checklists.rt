@@ -2,10 +2,11 @@
 //! known by the numbers of its sets, so that none of them is looked at cell by cell. Several lists of
 //! one table can be ticked side by side, and are joined then.
 
-ghost use Rattle.sz_tables.specs.Terms.{◌≡◌, ◌<◌, ◌≤◌, [], ◌∷◌, ◌++◌, length, map, true, Some};
-ghost use Rattle.sz_tables.specs.Terms.{IsPermutation, IfOk, IfSome, OnOk, arc_value, Decides};
-ghost use Rattle.sz_tables.specs.Terms.{slice_get, pairings, sets_of, set_at, row_at, number_in};
-ghost use Rattle.sz_tables.specs.Terms.{pairing_at, entries, entry_named, pair_named};
+ghost use Rattle.std.specs.Prelude.{◌≡◌, ◌<◌, ◌≤◌, ◌∷◌, ◌++◌};
+ghost use Rattle.sz_tables.specs.Terms.{[], length, map, true, Some, IsPermutation, IfOk, IfSome};
+ghost use Rattle.sz_tables.specs.Terms.{OnOk, arc_value, Decides, slice_get, pairings, sets_of};
+ghost use Rattle.sz_tables.specs.Terms.{set_at, row_at, number_in, pairing_at, entries};
+ghost use Rattle.sz_tables.specs.Terms.{entry_named, pair_named};
 
 use crate::entry_table::{EntryRow, EntryTable};
 use crate::region_table::RegionTable;

@@ -3,14 +3,15 @@
 //! more sets or payloads are listed than entries, these are kept one by one until it is known which
 //! of them are named.
 
-ghost use Rattle.sz_tables.specs.Terms.{◌≡◌, ◌<◌, ◌≤◌, ◌+◌, ◌^◌, [], ℕ, List, true, length, All};
-ghost use Rattle.sz_tables.specs.Terms.{OnOk, IfOk, IfErr, IfSome, IfNone, Some, AllZip, flat_map};
-ghost use Rattle.sz_tables.specs.Terms.{slice_get, Cells, is_extent, four_bytes, set_bytes};
-ghost use Rattle.sz_tables.specs.Terms.{IsSetOf, counted, rows_bytes, IsAt, BeginsEntries, IsShort};
-ghost use Rattle.sz_tables.specs.Terms.{payload_bytes, OnBad, NoEntriesBegin, SaysNoEntries};
-ghost use Rattle.sz_tables.specs.Terms.{NoneAt, AreFew, IsNumberIn, AreEntryNames, AreEntriesNames};
-ghost use Rattle.sz_tables.specs.Terms.{entries, AreNamesOfRow, BeginsTable, HasNumber, IsOneOf};
-ghost use Rattle.sz_tables.specs.Terms.{IsRead, HasAtMostOneMore};
+ghost use Rattle.std.specs.Prelude.{◌≡◌, ◌<◌, ◌≤◌, ◌+◌, ◌^◌};
+ghost use Rattle.sz_tables.specs.Terms.{[], ℕ, List, true, length, All, OnOk, IfOk, IfErr, IfSome};
+ghost use Rattle.sz_tables.specs.Terms.{IfNone, Some, AllZip, flat_map, slice_get, Cells};
+ghost use Rattle.sz_tables.specs.Terms.{is_extent, four_bytes, set_bytes, IsSetOf, counted};
+ghost use Rattle.sz_tables.specs.Terms.{rows_bytes, IsAt, BeginsEntries, IsShort, payload_bytes};
+ghost use Rattle.sz_tables.specs.Terms.{OnBad, NoEntriesBegin, SaysNoEntries, NoneAt, AreFew};
+ghost use Rattle.sz_tables.specs.Terms.{IsNumberIn, AreEntryNames, AreEntriesNames, entries};
+ghost use Rattle.sz_tables.specs.Terms.{AreNamesOfRow, BeginsTable, HasNumber, IsOneOf, IsRead};
+ghost use Rattle.sz_tables.specs.Terms.{HasAtMostOneMore};
 
 use crate::apart::are_apart;
 use crate::entry_table::{EntryRow, EntryTable};

@@ -1,9 +1,9 @@
 //! Payload entries as rows of the numbers of their output sets and payloads.
 
-ghost use Rattle.sz_tables.specs.Terms.{◌≡◌, ◌<◌, ◌≤◌, ◌+◌, ◌∷◌, ◌++◌, [], length, max, OnOk};
-ghost use Rattle.sz_tables.specs.Terms.{OnErr, IfOk, IfSome, All, ℕ, List, map, arc_value, Cells};
-ghost use Rattle.sz_tables.specs.Terms.{runs_of, IsSetOf, AreApart, IsShort, IsPayWord};
-ghost use Rattle.sz_tables.specs.Terms.{AreDifferent, HasAtMostOneMore, set_at, runs_in};
+ghost use Rattle.std.specs.Prelude.{◌≡◌, ◌<◌, ◌≤◌, ◌+◌, ◌∷◌, ◌++◌};
+ghost use Rattle.sz_tables.specs.Terms.{[], length, max, OnOk, OnErr, IfOk, IfSome, All, ℕ, List};
+ghost use Rattle.sz_tables.specs.Terms.{map, arc_value, Cells, runs_of, IsSetOf, AreApart, IsShort};
+ghost use Rattle.sz_tables.specs.Terms.{IsPayWord, AreDifferent, HasAtMostOneMore, set_at, runs_in};
 ghost use Rattle.sz_tables.specs.Terms.{payload_at, most_given, entries, entry_at, entry_row_at};
 ghost use Rattle.sz_tables.specs.Terms.{no_rows, numbers_of, entry_named, NamesBoth, KeepsEntries};
 ghost use Rattle.sz_tables.specs.Terms.{table_with, IsOneOf, IsRound};

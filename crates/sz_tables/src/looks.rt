@@ -1,8 +1,9 @@
 //! Sets of a table as cells of bitmaps: adding one, and whether one has an asked cell.
 
-ghost use Rattle.sz_tables.specs.Terms.{◌≡◌, ◌<◌, ◌≤◌, length, list_any, any_cell, has, next_index};
-ghost use Rattle.sz_tables.specs.Terms.{union_of, with_those, size_of, AreRising, AreRunsFrom};
-ghost use Rattle.sz_tables.specs.Terms.{covers, is_in, cells_at, extent_at, set_at, sets_of};
+ghost use Rattle.std.specs.Prelude.{◌≡◌, ◌<◌, ◌≤◌};
+ghost use Rattle.sz_tables.specs.Terms.{length, list_any, any_cell, has, next_index, union_of};
+ghost use Rattle.sz_tables.specs.Terms.{with_those, size_of, AreRising, AreRunsFrom, covers, is_in};
+ghost use Rattle.sz_tables.specs.Terms.{cells_at, extent_at, set_at, sets_of};
 
 use crate::region_table::RegionTable;
 use sz_cells::{CellBits, Run};

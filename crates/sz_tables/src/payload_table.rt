@@ -1,10 +1,10 @@
 //! Payloads by number, each different one once.
 
-ghost use Rattle.sz_tables.specs.Terms.{◌≡◌, ◌<◌, ◌≤◌, ◌+◌, ◌-◌, ◌^◌, [], ◌∷◌, ◌++◌, ℕ, ◌≢◌};
-ghost use Rattle.sz_tables.specs.Terms.{MatchOption, vec_len, vec_capacity, Decides, length, fold};
-ghost use Rattle.sz_tables.specs.Terms.{max, OnOk, OnErr, IfOk, Some, slice_get, AreDifferent};
-ghost use Rattle.sz_tables.specs.Terms.{HasAtMostOneMore, first_capacities, payload_at};
-ghost use Rattle.sz_tables.specs.Terms.{payload_mix, mixed_byte};
+ghost use Rattle.std.specs.Prelude.{◌≡◌, ◌<◌, ◌≤◌, ◌+◌, ◌-◌, ◌^◌, ◌∷◌, ◌++◌, ◌≢◌};
+ghost use Rattle.sz_tables.specs.Terms.{[], ℕ, MatchOption, vec_len, vec_capacity, Decides, length};
+ghost use Rattle.sz_tables.specs.Terms.{fold, max, OnOk, OnErr, IfOk, Some, slice_get};
+ghost use Rattle.sz_tables.specs.Terms.{AreDifferent, HasAtMostOneMore, first_capacities};
+ghost use Rattle.sz_tables.specs.Terms.{payload_at, payload_mix, mixed_byte};
 
 use crate::chains::Chains;
 use crate::spans::Span;

@@ -2,15 +2,15 @@
 //! and a region pair is a row of the numbers that its sets have there. Only where more sets are
 //! listed than region pairs, the sets are kept until it is known which of them are named.
 
-ghost use Rattle.sz_tables.specs.Terms.{◌≡◌, ◌<◌, ◌≤◌, ◌+◌, ◌*◌, ◌^◌, ◌++◌, ◌∷◌, [], ℕ, List, true};
-ghost use Rattle.sz_tables.specs.Terms.{length, map, All, OnOk, IfOk, IfErr, IfSome, Some, AllZip};
-ghost use Rattle.sz_tables.specs.Terms.{flat_map, slice_get, is_extent, size_of, AreRunsFrom};
-ghost use Rattle.sz_tables.specs.Terms.{four_bytes, extent_at, counted, rows_bytes, IsAt, Listed};
-ghost use Rattle.sz_tables.specs.Terms.{IsListed, listed_bytes, BeginsRegions, OnBad};
-ghost use Rattle.sz_tables.specs.Terms.{NoRegionsBegin, SaysNoRegions, NoneAt, AreFew, IsNameFor};
-ghost use Rattle.sz_tables.specs.Terms.{ArePairNames, AreStoreNames, HasAtMostOneMore, spelled};
-ghost use Rattle.sz_tables.specs.Terms.{Row, pairings, rows_of, IsPlaced, IsOfArray, Gets};
-ghost use Rattle.sz_tables.specs.Terms.{IsRowNamed, place_for};
+ghost use Rattle.std.specs.Prelude.{◌≡◌, ◌<◌, ◌≤◌, ◌+◌, ◌*◌, ◌^◌, ◌++◌, ◌∷◌};
+ghost use Rattle.sz_tables.specs.Terms.{[], ℕ, List, true, length, map, All, OnOk, IfOk, IfErr};
+ghost use Rattle.sz_tables.specs.Terms.{IfSome, Some, AllZip, flat_map, slice_get, is_extent};
+ghost use Rattle.sz_tables.specs.Terms.{size_of, AreRunsFrom, four_bytes, extent_at, counted};
+ghost use Rattle.sz_tables.specs.Terms.{rows_bytes, IsAt, Listed, IsListed, listed_bytes};
+ghost use Rattle.sz_tables.specs.Terms.{BeginsRegions, OnBad, NoRegionsBegin, SaysNoRegions};
+ghost use Rattle.sz_tables.specs.Terms.{NoneAt, AreFew, IsNameFor, ArePairNames, AreStoreNames};
+ghost use Rattle.sz_tables.specs.Terms.{HasAtMostOneMore, spelled, Row, pairings, rows_of};
+ghost use Rattle.sz_tables.specs.Terms.{IsPlaced, IsOfArray, Gets, IsRowNamed, place_for};
 
 use crate::region_table::{RegionTable, tables_for};
 use crate::room::make_room;

@@ -1,16 +1,17 @@
 //! Region pairs as rows of the numbers of their sets.
 
-ghost use Rattle.sz_tables.specs.Terms.{◌≡◌, ◌<◌, ◌≤◌, ◌+◌, ◌-◌, ◌^◌, [], ◌∷◌, ◌++◌, length, map};
-ghost use Rattle.sz_tables.specs.Terms.{max, OnOk, OnErr, IfOk, Some, All, ℕ, take, drop, sum_by};
-ghost use Rattle.sz_tables.specs.Terms.{vec_len, vec_capacity, ◌*◌, List, slice_index_or, IfSome};
-ghost use Rattle.sz_tables.specs.Terms.{MatchOption, ◌≢◌, true, range_with_len, slice_get};
-ghost use Rattle.sz_tables.specs.Terms.{arc_value, runs_of, extent_at, IsSetOf, pairings};
-ghost use Rattle.sz_tables.specs.Terms.{weight_of, empty_rows, Keeps, IsRowOf, row_at, number_in};
-ghost use Rattle.sz_tables.specs.Terms.{rows_of, table_of, most_given, set_at, sets_of, empty_sets};
-ghost use Rattle.sz_tables.specs.Terms.{runs_in, HasRoomFor, Takes, TakeEach, pairing_at, IsRound};
-ghost use Rattle.sz_tables.specs.Terms.{AreDifferent, HasAtMostOneMore, IsOneOrApart};
-ghost use Rattle.sz_tables.specs.Terms.{AreOneOrApart, set_of, listed_as, numbers_at, shifted};
-ghost use Rattle.sz_tables.specs.Terms.{AreSetsOf, AreListed, Listed, IsFullWord, HasShapes};
+ghost use Rattle.std.specs.Prelude.{◌≡◌, ◌<◌, ◌≤◌, ◌+◌, ◌-◌, ◌^◌, ◌∷◌, ◌++◌, ◌*◌, ◌≢◌};
+ghost use Rattle.sz_tables.specs.Terms.{[], length, map, max, OnOk, OnErr, IfOk, Some, All, ℕ};
+ghost use Rattle.sz_tables.specs.Terms.{take, drop, sum_by, vec_len, vec_capacity, List};
+ghost use Rattle.sz_tables.specs.Terms.{slice_index_or, IfSome, MatchOption, true, range_with_len};
+ghost use Rattle.sz_tables.specs.Terms.{slice_get, arc_value, runs_of, extent_at, IsSetOf};
+ghost use Rattle.sz_tables.specs.Terms.{pairings, weight_of, empty_rows, Keeps, IsRowOf, row_at};
+ghost use Rattle.sz_tables.specs.Terms.{number_in, rows_of, table_of, most_given, set_at, sets_of};
+ghost use Rattle.sz_tables.specs.Terms.{empty_sets, runs_in, HasRoomFor, Takes, TakeEach};
+ghost use Rattle.sz_tables.specs.Terms.{pairing_at, IsRound, AreDifferent, HasAtMostOneMore};
+ghost use Rattle.sz_tables.specs.Terms.{IsOneOrApart, AreOneOrApart, set_of, listed_as, numbers_at};
+ghost use Rattle.sz_tables.specs.Terms.{shifted, AreSetsOf, AreListed, Listed, IsFullWord};
+ghost use Rattle.sz_tables.specs.Terms.{HasShapes};
 ghost use Rattle.std.specs.Prelude.{flat_map};
 
 use crate::set_table::SetTable;

@@ -2,7 +2,8 @@
 //! runs they have, is told by the counts alone. Nothing rests on what is told: a table that has less
 //! room makes more as it is read.
 
-ghost use Rattle.sz_tables.specs.Terms.{◌≡◌, ◌∷◌, [], map, All};
+ghost use Rattle.std.specs.Prelude.{◌≡◌, ◌∷◌};
+ghost use Rattle.sz_tables.specs.Terms.{[], map, All};
 
 use crate::set_table::SetTable;
 use sz_cells::NoMemory;

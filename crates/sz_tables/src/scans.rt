@@ -4,8 +4,9 @@
 //! Rows that follow one another mostly share sets. So a look keeps what its last row showed
 //! ([`Seen`]), and a set is not tested again, nor added again, right after it was.
 
-ghost use Rattle.sz_tables.specs.Terms.{◌≡◌, ◌<◌, length, true, Some, None, IfSome, holds, Cell};
-ghost use Rattle.sz_tables.specs.Terms.{any_cell, has, with_those, extent_before, extent_after};
+ghost use Rattle.std.specs.Prelude.{◌≡◌, ◌<◌};
+ghost use Rattle.sz_tables.specs.Terms.{length, true, Some, None, IfSome, holds, Cell, any_cell};
+ghost use Rattle.sz_tables.specs.Terms.{has, with_those, extent_before, extent_after};
 ghost use Rattle.sz_tables.specs.Terms.{image_between, full_stands, pairings, row_at, set_at};
 ghost use Rattle.sz_tables.specs.Terms.{near_sets, far_sets, near_number, far_number, pair_adds};
 ghost use Rattle.sz_tables.specs.Terms.{pairing_at, HasSeen};

@@ -1,8 +1,8 @@
 //! Sets of cells of one shape by number, each different set once.
 
-ghost use Rattle.sz_tables.specs.Terms.{◌≡◌, ◌<◌, ◌≤◌, ◌+◌, ◌-◌, ◌^◌, [], ◌∷◌, ◌++◌, ℕ, ◌≢◌};
-ghost use Rattle.sz_tables.specs.Terms.{MatchOption, vec_len, vec_capacity, Decides, length, fold};
-ghost use Rattle.sz_tables.specs.Terms.{max, OnOk, OnErr, IfOk, Some, true, All, slice_get};
+ghost use Rattle.std.specs.Prelude.{◌≡◌, ◌<◌, ◌≤◌, ◌+◌, ◌-◌, ◌^◌, ◌∷◌, ◌++◌, ◌≢◌};
+ghost use Rattle.sz_tables.specs.Terms.{[], ℕ, MatchOption, vec_len, vec_capacity, Decides, length};
+ghost use Rattle.sz_tables.specs.Terms.{fold, max, OnOk, OnErr, IfOk, Some, true, All, slice_get};
 ghost use Rattle.sz_tables.specs.Terms.{runs_of, AreRunsFrom, Spells, size_of, AreDifferent};
 ghost use Rattle.sz_tables.specs.Terms.{HasAtMostOneMore, spelled, first_of, mix_of, mixed, set_at};
 ghost use Rattle.sz_tables.specs.Terms.{runs_in, empty_sets, IsOneOrApart};

@@ -1,8 +1,8 @@
 //! What a store asks of a set before it keeps it.
 
-ghost use Rattle.sz_tables.specs.Terms.{◌≡◌, ◌<◌, ◌≤◌, ◌+◌, ◌*◌, length, sum_by, size_of};
-ghost use Rattle.sz_tables.specs.Terms.{AreRunsFrom, runs_in, weight_of, cells_in, IsRound};
-ghost use Rattle.sz_tables.specs.Terms.{spelled};
+ghost use Rattle.std.specs.Prelude.{◌≡◌, ◌<◌, ◌≤◌, ◌+◌, ◌*◌};
+ghost use Rattle.sz_tables.specs.Terms.{length, sum_by, size_of, AreRunsFrom, runs_in, weight_of};
+ghost use Rattle.sz_tables.specs.Terms.{cells_in, IsRound, spelled};
 
 use sz_cells::{Bounds, CellSet, Run, Shape, bounds_with_run};
 use sz_frame::Region;

@@ -3,9 +3,8 @@ pub use Rattle.std.proofs.Props.{props}
 pub use Rattle.std.specs.Arc.{arc_value}
 pub use Rattle.std.specs.List.{AllZip, list_all, slice_get}
 pub use Rattle.std.specs.Map.{values_of}
-pub use Rattle.std.specs.Prelude.{◌*◌, ◌++◌, ◌+◌, ◌<◌, ◌==◌, ◌^◌, ◌∷◌, ◌≡◌, ◌≤◌, All, IfNone, IfOk}
-pub use Rattle.std.specs.Prelude.{IfSome, List, None, OnErr, OnOk, Some, [], false, find, length}
-pub use Rattle.std.specs.Prelude.{map, option_map, slice_set, true, ℕ}
+pub use Rattle.std.specs.Prelude.{All, IfNone, IfOk, IfSome, List, None, OnErr, OnOk, Some, []}
+pub use Rattle.std.specs.Prelude.{false, find, length, map, option_map, slice_set, true, ℕ}
 pub use Rattle.sz_bodies.specs.Fitting.{IsWholeFor, lineages}
 pub use Rattle.sz_catalogue.specs.Holdings.{Holdings, arrays_of, version_numbered}
 pub use Rattle.sz_catalogue.specs.Kept.{IsWorkflow}

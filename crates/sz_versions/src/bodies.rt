@@ -1,6 +1,7 @@
 //! The body that a log gets of a version, once that is awaited.
 
-ghost use Rattle.sz_versions.specs.Terms.{◌≡◌, map, true, false, IfOk, option_map, arc_value};
+ghost use Rattle.std.specs.Prelude.{◌≡◌};
+ghost use Rattle.sz_versions.specs.Terms.{map, true, false, IfOk, option_map, arc_value};
 ghost use Rattle.sz_versions.specs.Terms.{has_no_version, version_of, is_format, lineages};
 ghost use Rattle.sz_versions.specs.Terms.{IsSoundBody, store_in, IsTrailOf, keeping_of};
 

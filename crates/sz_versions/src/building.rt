@@ -2,11 +2,11 @@
 //! strategy that keeps one has a shelf, on which workers may place what they make; and at its await
 //! what is missing is made, and the stores are shared off it. Nothing else in this crate says when.
 
-ghost use Rattle.sz_versions.specs.Terms.{◌≡◌, true, false, map, IfOk, list_all, supports};
-ghost use Rattle.sz_versions.specs.Terms.{execution_of, ShelfPlace, place_of, arc_value, IsKeptOf};
-ghost use Rattle.sz_versions.specs.Terms.{AreKeptOf, AreListed, AreStoresFor, has_stored};
-ghost use Rattle.sz_versions.specs.Terms.{keeping_of, IsShelfFor, IsKeptStill, AreKeptStill};
-ghost use Rattle.sz_versions.specs.Terms.{IsTrailStill};
+ghost use Rattle.std.specs.Prelude.{◌≡◌};
+ghost use Rattle.sz_versions.specs.Terms.{true, false, map, IfOk, list_all, supports, execution_of};
+ghost use Rattle.sz_versions.specs.Terms.{ShelfPlace, place_of, arc_value, IsKeptOf, AreKeptOf};
+ghost use Rattle.sz_versions.specs.Terms.{AreListed, AreStoresFor, has_stored, keeping_of};
+ghost use Rattle.sz_versions.specs.Terms.{IsShelfFor, IsKeptStill, AreKeptStill, IsTrailStill};
 
 use crate::built::Built;
 use crate::runs::{NodeKeeping, VersionRun};

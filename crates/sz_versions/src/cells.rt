@@ -1,6 +1,7 @@
 //! Cells of a shape by their layer, row and column.
 
-ghost use Rattle.sz_versions.specs.Terms.{◌≡◌, true, holds, cell_in, is_place};
+ghost use Rattle.std.specs.Prelude.{◌≡◌};
+ghost use Rattle.sz_versions.specs.Terms.{true, holds, cell_in, is_place};
 
 use sz_cells::{Cell, Shape, laws};
 

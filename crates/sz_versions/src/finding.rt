@@ -1,14 +1,15 @@
 //! What is asked along a path of a version.
 
-ghost use Rattle.sz_versions.specs.Terms.{◌≡◌, ◌*◌, ◌≤◌, true, length, map, IfOk, OnOk, OnErr};
-ghost use Rattle.sz_versions.specs.Terms.{list_all, arc_value, named_in, is_joined};
-ghost use Rattle.sz_versions.specs.Terms.{source_of, is_there, execution_of, place_of, with_split};
-ghost use Rattle.sz_versions.specs.Terms.{split_off, view_of, by_map, by_trace, by_store};
-ghost use Rattle.sz_versions.specs.Terms.{by_growth, most_traced_by, most_traced_of, AreSteps};
-ghost use Rattle.sz_versions.specs.Terms.{step_start, path_start, cell_named, has_named_cell};
-ghost use Rattle.sz_versions.specs.Terms.{IsSoundVersion, IsOwn, keeping_of, view_by, view_kept};
-ghost use Rattle.sz_versions.specs.Terms.{are_there, lent, once_viewed, once_asked, IsTrailStill};
-ghost use Rattle.sz_versions.specs.Terms.{view_in, views_along, search_along, IsTrailFor};
+ghost use Rattle.std.specs.Prelude.{◌≡◌, ◌*◌, ◌≤◌};
+ghost use Rattle.sz_versions.specs.Terms.{true, length, map, IfOk, OnOk, OnErr, list_all};
+ghost use Rattle.sz_versions.specs.Terms.{arc_value, named_in, is_joined, source_of, is_there};
+ghost use Rattle.sz_versions.specs.Terms.{execution_of, place_of, with_split, split_off, view_of};
+ghost use Rattle.sz_versions.specs.Terms.{by_map, by_trace, by_store, by_growth, most_traced_by};
+ghost use Rattle.sz_versions.specs.Terms.{most_traced_of, AreSteps, step_start, path_start};
+ghost use Rattle.sz_versions.specs.Terms.{cell_named, has_named_cell, IsSoundVersion, IsOwn};
+ghost use Rattle.sz_versions.specs.Terms.{keeping_of, view_by, view_kept, are_there, lent};
+ghost use Rattle.sz_versions.specs.Terms.{once_viewed, once_asked, IsTrailStill, view_in};
+ghost use Rattle.sz_versions.specs.Terms.{views_along, search_along, IsTrailFor};
 
 use crate::cells::cell_of;
 use crate::inquiry::Inquiry;

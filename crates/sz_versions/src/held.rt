@@ -1,16 +1,16 @@
 //! What a session carries of the versions that it holds: of each one run, whether it was started
 //! here or a log gave it.
 
-ghost use Rattle.sz_versions.specs.Terms.{◌≡◌, ◌≤◌, ◌<◌, ◌==◌, ◌++◌, ◌∷◌, [], List, find, map};
-ghost use Rattle.sz_versions.specs.Terms.{length, true, false, Some, None, All, IfOk, OnOk, OnErr};
-ghost use Rattle.sz_versions.specs.Terms.{IfSome, IfNone, list_all, slice_get, is_joined};
-ghost use Rattle.sz_versions.specs.Terms.{execution_of, Holdings, version_numbered, path_start};
-ghost use Rattle.sz_versions.specs.Terms.{version_of, has_no_version, is_not_joined};
-ghost use Rattle.sz_versions.specs.Terms.{is_out_of_range, has_named_cell, AreOfVersions};
-ghost use Rattle.sz_versions.specs.Terms.{executions_of, IsSoundVersion, IsTrailOf, IsInquiryBy};
-ghost use Rattle.sz_versions.specs.Terms.{Resident, AreResidents, IsInService, IsTrailBy};
-ghost use Rattle.sz_versions.specs.Terms.{residents_under, logged_in, logged_under, logged_of};
-ghost use Rattle.sz_versions.specs.Terms.{stored_in, replaced_in, IsStill};
+ghost use Rattle.std.specs.Prelude.{◌≡◌, ◌≤◌, ◌<◌, ◌==◌, ◌++◌, ◌∷◌};
+ghost use Rattle.sz_versions.specs.Terms.{[], List, find, map, length, true, false, Some, None};
+ghost use Rattle.sz_versions.specs.Terms.{All, IfOk, OnOk, OnErr, IfSome, IfNone, list_all};
+ghost use Rattle.sz_versions.specs.Terms.{slice_get, is_joined, execution_of, Holdings};
+ghost use Rattle.sz_versions.specs.Terms.{version_numbered, path_start, version_of, has_no_version};
+ghost use Rattle.sz_versions.specs.Terms.{is_not_joined, is_out_of_range, has_named_cell};
+ghost use Rattle.sz_versions.specs.Terms.{AreOfVersions, executions_of, IsSoundVersion, IsTrailOf};
+ghost use Rattle.sz_versions.specs.Terms.{IsInquiryBy, Resident, AreResidents, IsInService};
+ghost use Rattle.sz_versions.specs.Terms.{IsTrailBy, residents_under, logged_in, logged_under};
+ghost use Rattle.sz_versions.specs.Terms.{logged_of, stored_in, replaced_in, IsStill};
 
 use crate::building::ended;
 use crate::finding::inquiry_along;

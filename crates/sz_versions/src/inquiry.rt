@@ -1,6 +1,7 @@
 //! What is asked along a path, ready to be answered by any thread.
 
-ghost use Rattle.sz_versions.specs.Terms.{◌≡◌, ◌+◌, ◌^◌, ◌<◌, IfOk, OnErr, IsAnswerTo};
+ghost use Rattle.std.specs.Prelude.{◌≡◌, ◌+◌, ◌^◌, ◌<◌};
+ghost use Rattle.sz_versions.specs.Terms.{IfOk, OnErr, IsAnswerTo};
 
 use std::alloc::Global;
 use std::marker::Model;

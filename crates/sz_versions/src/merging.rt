@@ -3,16 +3,17 @@
 //! and in what is carried; those that a log gave stay as they were read, and are merged for their
 //! numbers alone.
 
-ghost use Rattle.sz_versions.specs.Terms.{◌≡◌, ◌++◌, [], map, true, false, All, IfOk, OnOk, OnErr};
-ghost use Rattle.sz_versions.specs.Terms.{list_all, AllZip, arc_value, kinds_of, supports};
-ghost use Rattle.sz_versions.specs.Terms.{execution_of, place_of, StandsFor, paired_in};
-ghost use Rattle.sz_versions.specs.Terms.{has_no_version, version_of, IsWholeFor, IsSoundVersion};
-ghost use Rattle.sz_versions.specs.Terms.{AreListed, AreStoresFor, has_stored, keeping_of, read};
-ghost use Rattle.sz_versions.specs.Terms.{IsInService, IsTrailBy, logged_in, logged_under};
-ghost use Rattle.sz_versions.specs.Terms.{logged_of, stored_in, stored_of, IsStill, kinds_by};
-ghost use Rattle.sz_versions.specs.Terms.{kinds_in_kept, kinds_in_nodes, HasKinds, IsMergeable};
-ghost use Rattle.sz_versions.specs.Terms.{AreMergeable, IsMergedNode, AreMergedNodes};
-ghost use Rattle.sz_versions.specs.Terms.{IsMergedStored, IsMergedIn, IsKeptUp};
+ghost use Rattle.std.specs.Prelude.{◌≡◌, ◌++◌};
+ghost use Rattle.sz_versions.specs.Terms.{[], map, true, false, All, IfOk, OnOk, OnErr, list_all};
+ghost use Rattle.sz_versions.specs.Terms.{AllZip, arc_value, kinds_of, supports, execution_of};
+ghost use Rattle.sz_versions.specs.Terms.{place_of, StandsFor, paired_in, has_no_version};
+ghost use Rattle.sz_versions.specs.Terms.{version_of, IsWholeFor, IsSoundVersion, AreListed};
+ghost use Rattle.sz_versions.specs.Terms.{AreStoresFor, has_stored, keeping_of, read, IsInService};
+ghost use Rattle.sz_versions.specs.Terms.{IsTrailBy, logged_in, logged_under, logged_of, stored_in};
+ghost use Rattle.sz_versions.specs.Terms.{stored_of, IsStill, kinds_by, kinds_in_kept};
+ghost use Rattle.sz_versions.specs.Terms.{kinds_in_nodes, HasKinds, IsMergeable, AreMergeable};
+ghost use Rattle.sz_versions.specs.Terms.{IsMergedNode, AreMergedNodes, IsMergedStored, IsMergedIn};
+ghost use Rattle.sz_versions.specs.Terms.{IsKeptUp};
 
 use crate::built::Built;
 use crate::held::{HeldRun, HeldRuns};

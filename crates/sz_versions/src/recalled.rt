@@ -1,8 +1,9 @@
 //! The versions that a log gave: of each the runs of its nodes, computed again, beside the stores
 //! that were read of it.
 
-ghost use Rattle.sz_versions.specs.Terms.{◌≡◌, map, true, All, option_map, IfOk, arc_value};
-ghost use Rattle.sz_versions.specs.Terms.{arrays_of, lineages, IsEntryOf, keeping_of, keeping_from};
+ghost use Rattle.std.specs.Prelude.{◌≡◌};
+ghost use Rattle.sz_versions.specs.Terms.{map, true, All, option_map, IfOk, arc_value, arrays_of};
+ghost use Rattle.sz_versions.specs.Terms.{lineages, IsEntryOf, keeping_of, keeping_from};
 ghost use Rattle.sz_versions.specs.Terms.{IsResident, kept_of};
 
 use crate::held::HeldRun;

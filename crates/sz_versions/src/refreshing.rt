@@ -1,12 +1,12 @@
 //! What is carried of the version that a refresh makes.
 
-ghost use Rattle.sz_versions.specs.Terms.{◌≡◌, ◌+◌, ◌*◌, ◌^◌, ◌<◌, true, false, None, IfOk, OnOk};
-ghost use Rattle.sz_versions.specs.Terms.{map, length, slice_set, list_all, arc_value};
-ghost use Rattle.sz_versions.specs.Terms.{execution_of, Holdings, arrays_of, judged};
-ghost use Rattle.sz_versions.specs.Terms.{version_of, has_input, base_at, has_new_cell, with_cells};
-ghost use Rattle.sz_versions.specs.Terms.{cells_set, array_refreshed, version_refreshed};
-ghost use Rattle.sz_versions.specs.Terms.{cells_affected, executions_of, IsSoundVersion};
-ghost use Rattle.sz_versions.specs.Terms.{IsInService, IsTrailOf};
+ghost use Rattle.std.specs.Prelude.{◌≡◌, ◌+◌, ◌*◌, ◌^◌, ◌<◌};
+ghost use Rattle.sz_versions.specs.Terms.{true, false, None, IfOk, OnOk, map, length, slice_set};
+ghost use Rattle.sz_versions.specs.Terms.{list_all, arc_value, execution_of, Holdings, arrays_of};
+ghost use Rattle.sz_versions.specs.Terms.{judged, version_of, has_input, base_at, has_new_cell};
+ghost use Rattle.sz_versions.specs.Terms.{with_cells, cells_set, array_refreshed};
+ghost use Rattle.sz_versions.specs.Terms.{version_refreshed, cells_affected, executions_of};
+ghost use Rattle.sz_versions.specs.Terms.{IsSoundVersion, IsInService, IsTrailOf};
 ghost use Rattle.sz_script.specs.declared.command.Command.TheVariants as order;
 
 use crate::cells::cell_of;

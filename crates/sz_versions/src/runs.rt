@@ -1,6 +1,7 @@
 //! What is carried of a version: the runs of its nodes, and what is kept of each.
 
-ghost use Rattle.sz_versions.specs.Terms.{◌≡◌, map, IfOk, execution_of, keeping_of};
+ghost use Rattle.std.specs.Prelude.{◌≡◌};
+ghost use Rattle.sz_versions.specs.Terms.{map, IfOk, execution_of, keeping_of};
 
 use crate::built::Built;
 use std::alloc::Global;

@@ -1,6 +1,7 @@
 //! What is carried of a version that is started.
 
-ghost use Rattle.sz_versions.specs.Terms.{◌≡◌, All, false, map, None, IfOk, arc_value, values_of};
+ghost use Rattle.std.specs.Prelude.{◌≡◌};
+ghost use Rattle.sz_versions.specs.Terms.{All, false, map, None, IfOk, arc_value, values_of};
 ghost use Rattle.sz_versions.specs.Terms.{arrays_of, bases_of, version_started, judged};
 ghost use Rattle.sz_versions.specs.Terms.{has_no_array, IsWorkflow, execution_of, IsTrailOf};
 ghost use Rattle.sz_versions.specs.Terms.{AreListed, AreKeptOf};

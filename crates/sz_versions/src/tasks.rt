@@ -2,9 +2,10 @@
 //! worker. A task for which there is no memory is left out, and what it would have done is done at
 //! the await.
 
-ghost use Rattle.sz_versions.specs.Terms.{◌≡◌, ◌+◌, ◌≤◌, ℕ, false, map, arc_value, pieces_of};
-ghost use Rattle.sz_versions.specs.Terms.{execution_of, IsKeptOf, AreKeptOf, IsShelfFor};
-ghost use Rattle.sz_versions.specs.Terms.{keeping_of, IsLentTo, AreLent};
+ghost use Rattle.std.specs.Prelude.{◌≡◌, ◌+◌, ◌≤◌};
+ghost use Rattle.sz_versions.specs.Terms.{ℕ, false, map, arc_value, pieces_of, execution_of};
+ghost use Rattle.sz_versions.specs.Terms.{IsKeptOf, AreKeptOf, IsShelfFor, keeping_of, IsLentTo};
+ghost use Rattle.sz_versions.specs.Terms.{AreLent};
 
 use crate::runs::{NodeKeeping, VersionRun};
 use std::alloc::Global;

@@ -4,11 +4,12 @@
 //! The command is built once for each reading of words. What stands in its matches is read by the
 //! names of its arguments, so a name that is written here stands in `command` too.
 
-ghost use Rattle.sz_words.specs.Terms.{◌≡◌, ◌≢◌, ◌≤◌, [], Err, IfOk, OnOk, false, map, option_map};
-ghost use Rattle.sz_words.specs.Terms.{pos, string_bytes, app_of, found_of, first_of, one_of};
-ghost use Rattle.sz_words.specs.Terms.{rows_of, rule_of, faults_of, matches_in, number_option};
-ghost use Rattle.sz_words.specs.Terms.{subzero, fitting_mode, is_on_log, mode_named, HasNumbers};
-ghost use Rattle.sz_words.specs.Terms.{IsNumberIn, number_of, makes_log};
+ghost use Rattle.std.specs.Prelude.{◌≡◌, ◌≢◌, ◌≤◌};
+ghost use Rattle.sz_words.specs.Terms.{[], Err, IfOk, OnOk, false, map, option_map, pos};
+ghost use Rattle.sz_words.specs.Terms.{string_bytes, app_of, found_of, first_of, one_of, rows_of};
+ghost use Rattle.sz_words.specs.Terms.{rule_of, faults_of, matches_in, number_option, subzero};
+ghost use Rattle.sz_words.specs.Terms.{fitting_mode, is_on_log, mode_named, HasNumbers, IsNumberIn};
+ghost use Rattle.sz_words.specs.Terms.{number_of, makes_log};
 
 use crate::WordsFault;
 use clap::error::ErrorKind;

@@ -28,9 +28,10 @@
 //! ```
 #![tactic(auto)]
 
-ghost use Rattle.sz_words.specs.Terms.{◌≡◌, IfOk, OnOk, Err, None, Some, map, option_map};
-ghost use Rattle.sz_words.specs.Terms.{string_bytes, matches_in, IsInRange, job_of, HasNumbers};
-ghost use Rattle.sz_words.specs.Terms.{place_of, path_and_make};
+ghost use Rattle.std.specs.Prelude.{◌≡◌};
+ghost use Rattle.sz_words.specs.Terms.{IfOk, OnOk, Err, None, Some, map, option_map, string_bytes};
+ghost use Rattle.sz_words.specs.Terms.{matches_in, IsInRange, job_of, HasNumbers, place_of};
+ghost use Rattle.sz_words.specs.Terms.{path_and_make};
 
 mod arguments;
 

@@ -1,9 +1,9 @@
 //! The JSON values of a cell, a row, a layer and layers.
 
-ghost use Rattle.sz_writing.specs.Terms.{◌≡◌, ◌≤◌, ◌<◌, ◌*◌, length, IfOk, view, value_of};
-ghost use Rattle.sz_writing.specs.Terms.{values_of_row, values_of_layer, is_value, is_row};
-ghost use Rattle.sz_writing.specs.Terms.{is_layer, IsWritten, AreLayers, value_long, row_long};
-ghost use Rattle.sz_writing.specs.Terms.{layer_long};
+ghost use Rattle.std.specs.Prelude.{◌≡◌, ◌≤◌, ◌<◌, ◌*◌};
+ghost use Rattle.sz_writing.specs.Terms.{length, IfOk, view, value_of, values_of_row};
+ghost use Rattle.sz_writing.specs.Terms.{values_of_layer, is_value, is_row, is_layer, IsWritten};
+ghost use Rattle.sz_writing.specs.Terms.{AreLayers, value_long, row_long, layer_long};
 
 use serde_json::Value;
 use std::alloc::{AllocError, Global};

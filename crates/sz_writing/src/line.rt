@@ -1,6 +1,7 @@
 //! The line that orders an array to be held.
 
-ghost use Rattle.sz_writing.specs.Terms.{◌≡◌, true, IfOk, Ok, view, is_name, reading, array_order};
+ghost use Rattle.std.specs.Prelude.{◌≡◌};
+ghost use Rattle.sz_writing.specs.Terms.{true, IfOk, Ok, view, is_name, reading, array_order};
 ghost use Rattle.sz_writing.specs.Terms.{IsOrder, order_data};
 
 use crate::cells;

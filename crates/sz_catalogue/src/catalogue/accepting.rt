@@ -1,16 +1,16 @@
 //! What commands that no rule refuses change.
-ghost use Rattle.sz_catalogue.specs.Terms.{◌≡◌, ◌≤◌, ◌+◌, false, true, is_some, [], ◌++◌, length};
-ghost use Rattle.sz_catalogue.specs.Terms.{Some, None, All, option_map, IfOk, OnOk, OnErr};
-ghost use Rattle.sz_catalogue.specs.Terms.{arc_value, cons_option, result_err, is_well_formed};
-ghost use Rattle.sz_catalogue.specs.Terms.{output_shapes, is_name, is_right, array_version};
-ghost use Rattle.sz_catalogue.specs.Terms.{flow_named, version_numbered, shapes_of, output_cells};
-ghost use Rattle.sz_catalogue.specs.Terms.{things_named, base_of, bases_of, workflow_of};
-ghost use Rattle.sz_catalogue.specs.Terms.{version_started, judged, has_room, are_lists_for};
-ghost use Rattle.sz_catalogue.specs.Terms.{has_no_version, version_of, has_no_flow, has_no_array};
-ghost use Rattle.sz_catalogue.specs.Terms.{has_wrong_base, has_broken_shapes};
-ghost use Rattle.sz_catalogue.specs.Terms.{has_no_room_for_array, sites_of, accepted};
-ghost use Rattle.sz_catalogue.specs.Terms.{changes_no_version, with_array, with_version, plan_over};
-ghost use Rattle.sz_catalogue.specs.Terms.{plan_for, response_of};
+ghost use Rattle.std.specs.Prelude.{◌≡◌, ◌≤◌, ◌+◌, ◌++◌};
+ghost use Rattle.sz_catalogue.specs.Terms.{false, true, is_some, [], length, Some, None, All};
+ghost use Rattle.sz_catalogue.specs.Terms.{option_map, IfOk, OnOk, OnErr, arc_value, cons_option};
+ghost use Rattle.sz_catalogue.specs.Terms.{result_err, is_well_formed, output_shapes, is_name};
+ghost use Rattle.sz_catalogue.specs.Terms.{is_right, array_version, flow_named, version_numbered};
+ghost use Rattle.sz_catalogue.specs.Terms.{shapes_of, output_cells, things_named, base_of};
+ghost use Rattle.sz_catalogue.specs.Terms.{bases_of, workflow_of, version_started, judged};
+ghost use Rattle.sz_catalogue.specs.Terms.{has_room, are_lists_for, has_no_version, version_of};
+ghost use Rattle.sz_catalogue.specs.Terms.{has_no_flow, has_no_array, has_wrong_base};
+ghost use Rattle.sz_catalogue.specs.Terms.{has_broken_shapes, has_no_room_for_array, sites_of};
+ghost use Rattle.sz_catalogue.specs.Terms.{accepted, changes_no_version, with_array, with_version};
+ghost use Rattle.sz_catalogue.specs.Terms.{plan_over, plan_for, response_of};
 ghost use Rattle.sz_script.specs.declared.command.Command.TheVariants as command;
 
 use super::Catalogue;

@@ -1,10 +1,10 @@
 //! Which commands are refused: the rules of each, in their order.
-ghost use Rattle.sz_catalogue.specs.Terms.{◌≡◌, ℕ, ◌≤◌, true, length, List, [], ◌∷◌, Ok, IfOk};
-ghost use Rattle.sz_catalogue.specs.Terms.{if◌then◌else◌, Some, None, list_all, Graph};
-ghost use Rattle.sz_catalogue.specs.Terms.{is_well_formed, output_shapes, shapes_of, bases_of};
-ghost use Rattle.sz_catalogue.specs.Terms.{judged, first_of, has_no_array, has_named_cell};
-ghost use Rattle.sz_catalogue.specs.Terms.{is_not_awaited, has_too_many_units, version_of};
-ghost use Rattle.sz_catalogue.specs.Terms.{has_no_room_to_set, has_no_room_to_refresh};
+ghost use Rattle.std.specs.Prelude.{◌≡◌, ◌≤◌, ◌∷◌, if◌then◌else◌};
+ghost use Rattle.sz_catalogue.specs.Terms.{ℕ, true, length, List, [], Ok, IfOk, Some, None};
+ghost use Rattle.sz_catalogue.specs.Terms.{list_all, Graph, is_well_formed, output_shapes};
+ghost use Rattle.sz_catalogue.specs.Terms.{shapes_of, bases_of, judged, first_of, has_no_array};
+ghost use Rattle.sz_catalogue.specs.Terms.{has_named_cell, is_not_awaited, has_too_many_units};
+ghost use Rattle.sz_catalogue.specs.Terms.{version_of, has_no_room_to_set, has_no_room_to_refresh};
 ghost use Rattle.sz_catalogue.specs.Terms.{names_an_input, base_at, has_new_cell, refusal_by};
 ghost use Rattle.sz_catalogue.specs.Terms.{is_of_room, is_open, refusal_on_version, Judges};
 ghost use Rattle.sz_catalogue.specs.Terms.{is_right};

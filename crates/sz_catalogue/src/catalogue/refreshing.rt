@@ -1,6 +1,7 @@
 //! The array and the version that a refresh makes.
-ghost use Rattle.sz_catalogue.specs.Terms.{◌≡◌, ◌<◌, true, false, length, slice_set, IfOk, OnOk};
-ghost use Rattle.sz_catalogue.specs.Terms.{OnErr, arc_value, Grid, Version, Holdings, next_number};
+ghost use Rattle.std.specs.Prelude.{◌≡◌, ◌<◌};
+ghost use Rattle.sz_catalogue.specs.Terms.{true, false, length, slice_set, IfOk, OnOk, OnErr};
+ghost use Rattle.sz_catalogue.specs.Terms.{arc_value, Grid, Version, Holdings, next_number};
 ghost use Rattle.sz_catalogue.specs.Terms.{has_no_version, version_of, has_no_room_to_set};
 ghost use Rattle.sz_catalogue.specs.Terms.{has_no_room_to_refresh, has_input, base_at, base_on};
 ghost use Rattle.sz_catalogue.specs.Terms.{version_on, IsInOrder, with_array, with_refreshed};

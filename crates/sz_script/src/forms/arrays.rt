@@ -1,8 +1,9 @@
 //! The forms that hold an array: of one layer, the same as comma-separated text, and of several
 //! layers.
 
-ghost use Rattle.sz_script.specs.Terms.{◌≡◌, [], ◌∷◌, option_map, view, reading_of_form, at};
-ghost use Rattle.sz_script.specs.Terms.{array_form, one_layer, csv_form, layers_form, Reads};
+ghost use Rattle.std.specs.Prelude.{◌≡◌, ◌∷◌};
+ghost use Rattle.sz_script.specs.Terms.{[], option_map, view, reading_of_form, at, array_form};
+ghost use Rattle.sz_script.specs.Terms.{one_layer, csv_form, layers_form, Reads};
 
 use crate::command::{BAD_NAME, Command, LineFault, NO_FORM};
 use crate::name::{Name, is_name};

@@ -1,7 +1,8 @@
 //! The forms that speak of a flow by its name: hold one, set the strategies of its nodes, and start
 //! or plan it on base arrays.
 
-ghost use Rattle.sz_script.specs.Terms.{◌≡◌, ◌∷◌, map, IfOk, list_all, view, is_name, strategy_in};
+ghost use Rattle.std.specs.Prelude.{◌≡◌, ◌∷◌};
+ghost use Rattle.sz_script.specs.Terms.{map, IfOk, list_all, view, is_name, strategy_in};
 ghost use Rattle.sz_script.specs.Terms.{reading_of_draft, reading_of_form, flow_form};
 ghost use Rattle.sz_script.specs.Terms.{strategy_form, start_form, base_in, with_base, plan_form};
 ghost use Rattle.sz_script.specs.Terms.{within_units, Reads};

@@ -1,7 +1,8 @@
 //! The forms that ask along a path, for its cells or for the ways of its steps: a version, a
 //! direction, a path and cells.
 
-ghost use Rattle.sz_script.specs.Terms.{◌≡◌, IfOk, view, at, dir_in, reading_of_form, ask_form};
+ghost use Rattle.std.specs.Prelude.{◌≡◌};
+ghost use Rattle.sz_script.specs.Terms.{IfOk, view, at, dir_in, reading_of_form, ask_form};
 ghost use Rattle.sz_script.specs.Terms.{explain_form, question_in, step_in, named_cell_in};
 ghost use Rattle.sz_script.specs.Terms.{named_cell_at, Reads};
 

@@ -1,8 +1,9 @@
 //! The forms that speak of a version by its number: refresh, merge, merged, await and show.
 
-ghost use Rattle.sz_script.specs.Terms.{◌≡◌, IfOk, view, reading_of_form, refresh_form};
-ghost use Rattle.sz_script.specs.Terms.{new_cell_in, new_cell_at, merge_form, merged_form};
-ghost use Rattle.sz_script.specs.Terms.{await_form, show_form, Reads};
+ghost use Rattle.std.specs.Prelude.{◌≡◌};
+ghost use Rattle.sz_script.specs.Terms.{IfOk, view, reading_of_form, refresh_form, new_cell_in};
+ghost use Rattle.sz_script.specs.Terms.{new_cell_at, merge_form, merged_form, await_form};
+ghost use Rattle.sz_script.specs.Terms.{show_form, Reads};
 
 use crate::command::{Command, LineFault, NO_FORM, NewCell};
 use crate::each::{Listed, each_at};

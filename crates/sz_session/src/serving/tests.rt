@@ -1,5 +1,5 @@
 //! The limit of bytes, met at ten of them.
-ghost use Rattle.sz_session.specs.Terms.{◌≤◌};
+ghost use Rattle.std.specs.Prelude.{◌≤◌};
 
 use super::{Status, play};
 use std::alloc::Global;
