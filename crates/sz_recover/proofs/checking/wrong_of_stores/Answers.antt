@@ -10,14 +10,21 @@ use Rattle.sz_recover.specs.Soundness.{TellsOfStrategy}
 use Rattle.sz_recover.proofs.Wrong.{ExactIn, listed-right, wrong-at, none-at}
 use Rattle.sz_recover.proofs.checking.wrong_of_stores.Goals as goal
 
-pub is_wrong-requires-after_bounds : goal.is_wrong-requires-after_bounds
-is_wrong-requires-after_bounds g c κs within =
+pub is_wrong-requires-clause-supported : goal.is_wrong-requires-clause-supported
+is_wrong-requires-clause-supported g c κs within =
     let list = c.args.list.now in
     let i = c.loop-s.s-index in
     let t = get_or list i Map in
-    let right = listed-right (execution_of c.args.run.now) c.args.store.now list i t c.loop-s-test.true
-    (get_or_default list i Map t c.loop-s-test.true) c.requires.own c.requires.list in
-    record { site = c.requires.site; listed = right.0; supported = right.1 }
+    (listed-right (execution_of c.args.run.now) c.args.store.now list i t c.loop-s-test.true
+    (get_or_default list i Map t c.loop-s-test.true) c.requires.own c.requires.list).1
+
+pub is_wrong-requires-clause-listed : goal.is_wrong-requires-clause-listed
+is_wrong-requires-clause-listed g c κs within =
+    let list = c.args.list.now in
+    let i = c.loop-s.s-index in
+    let t = get_or list i Map in
+    (listed-right (execution_of c.args.run.now) c.args.store.now list i t c.loop-s-test.true
+    (get_or_default list i Map t c.loop-s-test.true) c.requires.own c.requires.list).0
 
 pub returns-then-branch : goal.returns-then-branch
 returns-then-branch g c =
