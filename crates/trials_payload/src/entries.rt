@@ -150,8 +150,9 @@ fn what_is_written_is_what_was_read(rt: HostRuntime) -> Result<(), Fail> {
     let alloc = rt.alloc();
     let mut bytes = vec![in alloc; 0u8; 0]?;
     put(alloc, &mut bytes)?;
-    // the payloads are numbered in the order of the entries: that of column 1 comes first
-    assert!(rt; bytes.len() == BYTES.len() && bytes[7] == 4);
+    // payloads and sets keep the numbers that they were read with
+    let read: &[u8] = &BYTES;
+    assert!(rt; bytes.as_slice() == read);
     Ok(())
 }
 
