@@ -21,9 +21,9 @@
 //! its version merged, and every other line leaves all.
 //!
 //! A log that was opened is gone on from by [`Session::of_log`]: it holds what the log holds,
-//! computes the values of its versions again, and answers of each by the stores that were read of
-//! it, whatever they stand for (`cells_recalled` of `sz_versions`). Where they stand for the
-//! relation that is the composed relation.
+//! and answers of each version by the stores that were read of it, whatever they stand for
+//! (`cells_recalled` of `sz_versions`). Where they stand for the relation that is the composed
+//! relation. The values of a version's nodes are computed again when a line first needs them.
 //!
 //! What a command of such a session makes durable is written to the log before its reply is given
 //! (`logging`): an accepted line that holds an array or a flow or sets strategies, the array that a

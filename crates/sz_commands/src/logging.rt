@@ -8,8 +8,8 @@
 //! was, and where the disk fails the log holds what it held, or what it would.
 
 ghost use Rattle.std.specs.Prelude.{◌≡◌, ◌+◌, ◌*◌, ◌^◌, ◌<◌, ◌≤◌};
-ghost use Rattle.sz_commands.specs.Terms.{true, false, None, Some, Ok, Err, IfOk, OnOk, [], List};
-ghost use Rattle.sz_commands.specs.Terms.{ℕ, reading, is_right, array_order, judged, version_of};
+ghost use Rattle.sz_commands.specs.Terms.{true, false, None, Some, Ok, Err, IfOk, OnOk, []};
+ghost use Rattle.sz_commands.specs.Terms.{reading, is_right, array_order, judged, version_of};
 ghost use Rattle.sz_commands.specs.Terms.{has_no_version, has_input, base_at, cells_affected};
 ghost use Rattle.sz_commands.specs.Terms.{response_of, is_of_kind, apart, accepted, after_command};
 ghost use Rattle.sz_commands.specs.Terms.{traced_for, most_for, traced_along, most_along};
@@ -334,7 +334,7 @@ impl Session {
     }
 
     /// Awaits a version, and appends it where it was not awaited before.
-    fn add_version<T: Station, R: Wait>(
+    fn add_version<T: Station, R: Threads + Wait + Sync>(
         &mut self,
         rt: &R,
         version: u32,

@@ -7,6 +7,7 @@ ghost use Rattle.sz_script.specs.declared.command.Command.TheVariants as order;
 
 use crate::session::Session;
 use std::sync::Wait;
+use std::thread::Threads;
 use sz_catalogue::Reply;
 use sz_cells::NoMemory;
 use sz_script::Command;
@@ -40,7 +41,11 @@ impl Session {
 
     /// Merges what is left to be merged of a version's stores, and tells how many kinds of lineage
     /// each store of full lineage has.
-    pub(crate) fn merged<R: Wait>(&mut self, rt: &R, version: u32) -> Result<Reply, NoMemory>
+    pub(crate) fn merged<R: Threads + Wait + Sync>(
+        &mut self,
+        rt: &R,
+        version: u32,
+    ) -> Result<Reply, NoMemory>
         requires judged { judged self.old.held (order.Merged version) ≡ None }
         ensures reply { IfOk result (λ r. accepted (apart self.old) (order.Merged version)
             ≡ (apart self.new, response_of r)) }

@@ -43,25 +43,26 @@ impl Session {
 
     /// What a refresh makes, of which nothing is held yet.
     pub(crate) fn refreshed<R: Threads + Wait + Sync>(
-        &self,
+        &mut self,
         rt: &R,
         version: u32,
         input: u32,
         set: &NewCells,
         tally: &mut Tally,
     ) -> Result<RefreshedRun, NoMemory>
-        requires judged { judged self.now.held (order.Refresh version input set.now) ≡ None }
+        requires judged { judged self.old.held (order.Refresh version input set.now) ≡ None }
         requires room { tally.old + 32 * 1048576 < 2 ^ 63 }
-        ensures made { IfOk result (λ m. IsMadeBy self.now.held version input set.now
+        ensures made { IfOk result (λ m. IsMadeBy self.old.held version input set.now
             (arc_value m.array) m.run m.cells) }
-        ensures ticks { OnOk result (tally.new ≡ tally.old + cells_affected self.now.held
-            (version_of self.now.held version) input set.now) }
+        ensures ticks { OnOk result (tally.new ≡ tally.old + cells_affected self.old.held
+            (version_of self.old.held version) input set.now) }
+        ensures same { self.new ≡ self.old }
     {
         let made = refresh_version(
             rt,
             self.alloc,
             &self.catalogue,
-            &self.runs,
+            &mut self.runs,
             &self.hands,
             version,
             input,

@@ -9,16 +9,16 @@ ghost use Rattle.sz_commands.specs.Terms.{Some, is_some, execution_of, AllZip, A
 ghost use Rattle.sz_commands.specs.Terms.{is_right, judged, version_of, has_no_version};
 ghost use Rattle.sz_commands.specs.Terms.{is_not_joined, is_out_of_range, way_of, traced};
 ghost use Rattle.sz_commands.specs.Terms.{changes_no_version, apart, accepted, cells_told};
-ghost use Rattle.sz_commands.specs.Terms.{response_of, Responds, traced_for_line, traced_for};
-ghost use Rattle.sz_commands.specs.Terms.{traced_along, most_for_line, most_for, most_along};
-ghost use Rattle.sz_commands.specs.Terms.{most_traced, IsTrailOf, strategy_told, nothing_held};
-ghost use Rattle.sz_commands.specs.Terms.{AreGiven, AddsEntry, IsFinishedIn, FinishesEntry};
-ghost use Rattle.sz_commands.specs.Terms.{StoredBy, StoredBehind, HasLog, KeepsLog, StopsInLog};
-ghost use Rattle.sz_commands.specs.Terms.{held_after, makes_durable, Appends, IsGroupOf, end_of};
-ghost use Rattle.sz_commands.specs.Terms.{reading, CountsTell, IsInquiryOf, executions_of, is_ask};
-ghost use Rattle.sz_commands.specs.Terms.{IsAskLine, IsBegun, ask_reply, traced_for_asks};
-ghost use Rattle.sz_commands.specs.Terms.{most_for_asks, LineGives, IsRight, IsInService};
-ghost use Rattle.sz_commands.specs.Terms.{logged_in, stored_in, place_of, option_map};
+ghost use Rattle.sz_commands.specs.Terms.{response_of, Responds, traced_for_line, traced_along};
+ghost use Rattle.sz_commands.specs.Terms.{most_for_line, most_along, most_traced, IsTrailOf};
+ghost use Rattle.sz_commands.specs.Terms.{strategy_told, nothing_held, AreGiven, AddsEntry};
+ghost use Rattle.sz_commands.specs.Terms.{IsFinishedIn, FinishesEntry, StoredBy, StoredBehind};
+ghost use Rattle.sz_commands.specs.Terms.{HasLog, KeepsLog, StopsInLog, held_after, makes_durable};
+ghost use Rattle.sz_commands.specs.Terms.{Appends, IsGroupOf, end_of, reading, CountsTell};
+ghost use Rattle.sz_commands.specs.Terms.{IsInquiryOf, executions_of, is_ask, IsAskLine, IsBegun};
+ghost use Rattle.sz_commands.specs.Terms.{ask_reply, traced_for_asks, most_for_asks, LineGives};
+ghost use Rattle.sz_commands.specs.Terms.{IsRight, IsInService, logged_in, stored_in, place_of};
+ghost use Rattle.sz_commands.specs.Terms.{option_map, arc_value};
 ghost use Rattle.sz_script.specs.declared.command.Command.TheVariants as order;
 ghost use Rattle.sz_commands.specs.declared.session.Given.TheVariants as given;
 ghost use Rattle.sz_commands.specs.declared.session.Stop.TheVariants as stop;
@@ -131,10 +131,10 @@ impl Session {
     }
 
     /// A session of a log that was opened: it holds what the log holds, and answers of each version
-    /// that the log gave by the stores that were read of it. Their values are computed again, each
-    /// once, side by side where that pays.
-    pub fn of_log<R: Threads + Sync>(
-        rt: &R,
+    /// that the log gave by the stores that were read of it. The values of a version's nodes are
+    /// computed again when it is first asked, shown, refreshed or merged, each once, side by side
+    /// where that pays.
+    pub fn of_log(
         alloc: Global,
         recovered: Recovered,
         workers: u32,
@@ -158,7 +158,7 @@ impl Session {
         } = recovered;
         let log = OpenLog { end, format };
         catalogue.is_in_order();
-        let runs = HeldRuns::recalled(rt, alloc, &catalogue, stores)?;
+        let runs = HeldRuns::recalled(alloc, &catalogue, stores)?;
         Session::holding(alloc, catalogue, runs, Some(log), workers, askers)
     }
 
@@ -322,32 +322,36 @@ impl Session {
         ensures most { OnOk result (tally.new ≤ tally.old + most_for_asks self.old lines.now) }
         ensures same { self.new ≡ self.old }
     {
-        let mut all = self.begin_each(lines)?;
+        let mut all = self.begin_each(rt, lines)?;
         work_out(self.alloc, rt, gate, self.askers, &mut all);
         self.replies_to(lines, all, self.alloc, tally)
     }
 
     /// Each ask, judged, and looked up where no rule refuses it.
-    fn begin_each(&mut self, lines: &[AskLine]) -> Result<Vec<Asked>, NoMemory>
+    fn begin_each<R: Threads + Sync>(
+        &mut self,
+        rt: &R,
+        lines: &[AskLine],
+    ) -> Result<Vec<Asked>, NoMemory>
         requires asks { AllByRecursion IsAskLine lines.now }
         ensures begun { IfOk result (λ all. AllZip (IsBegun self.old) lines.now all.items) }
         ensures same { self.new ≡ self.old }
     {
         let mut all = Vec::with_capacity(self.alloc, lines.len())?;
         for line in lines {
-            all.push(self.begin(line)?)?;
+            all.push(self.begin(rt, line)?)?;
         }
         Ok(all)
     }
 
     /// An ask, judged, and looked up where no rule refuses it.
-    fn begin(&mut self, line: &AskLine) -> Result<Asked, NoMemory>
+    fn begin<R: Threads + Sync>(&mut self, rt: &R, line: &AskLine) -> Result<Asked, NoMemory>
         requires ask { IsAskLine line.now }
         ensures begun { IfOk result (λ a. IsBegun self.old line.now a) }
         ensures same { self.new ≡ self.old }
     {
         match self.ruling(&line.ask)? {
-            None => self.open(line),
+            None => self.open(rt, line),
             Some(rule) => Ok(Asked::Refused { rule }),
         }
     }
@@ -365,7 +369,7 @@ impl Session {
     }
 
     /// An ask that no rule refuses, looked up.
-    fn open(&mut self, line: &AskLine) -> Result<Asked, NoMemory>
+    fn open<R: Threads + Sync>(&mut self, rt: &R, line: &AskLine) -> Result<Asked, NoMemory>
         requires ask { IsAskLine line.now }
         requires judged { judged self.old.held line.now.ask ≡ None }
         ensures begun { IfOk result (λ a. IsBegun self.old line.now a) }
@@ -380,7 +384,7 @@ impl Session {
         else {
             unreachable!()
         };
-        let inquiry = self.inquiry(*version, *dir, path, cells)?;
+        let inquiry = self.inquiry(rt, *version, *dir, path, cells)?;
         Ok(Asked::Open {
             number: line.number,
             inquiry,
@@ -434,7 +438,7 @@ impl Session {
                 path,
                 cells,
             } => self.explain(rt, version, dir, &path, &cells, number, gate, tally),
-            Command::Show { version, node } => self.show(version, node),
+            Command::Show { version, node } => self.show(rt, version, node),
             other => self.accept(other),
         }
     }
@@ -495,7 +499,11 @@ impl Session {
 
     /// Awaits a version: makes what is missing of its stores, takes them off their shelves, and
     /// notes the await. One that was awaited before stays as it is.
-    pub(crate) fn await_version<R: Wait>(&mut self, rt: &R, version: u32) -> Result<Reply, NoMemory>
+    pub(crate) fn await_version<R: Threads + Wait + Sync>(
+        &mut self,
+        rt: &R,
+        version: u32,
+    ) -> Result<Reply, NoMemory>
         requires judged { judged self.old.held (order.Await version) ≡ None }
         ensures reply { IfOk result (λ r. accepted (apart self.old) (order.Await version)
             ≡ (apart self.new, response_of r)) }
@@ -533,7 +541,7 @@ impl Session {
 
     /// What is carried of a version once it is awaited: what is missing of its stores is made, and
     /// they are taken off their shelves. What is kept of it stays meanwhile.
-    pub(crate) fn whole_run<R: Wait>(
+    pub(crate) fn whole_run<R: Threads + Wait + Sync>(
         &mut self,
         rt: &R,
         version: u32,
@@ -563,7 +571,7 @@ impl Session {
     }
 
     /// What is found along a path of a version, for an ask or explain that no rule refuses.
-    fn find<R: Wait>(
+    fn find<R: Threads + Wait + Sync>(
         &mut self,
         rt: &R,
         version: u32,
@@ -590,13 +598,14 @@ impl Session {
         ensures kept { OnErr result (tally.new ≡ tally.old) }
         ensures same { self.new ≡ self.old }
     {
-        let inquiry = self.inquiry(version, dir, path, named)?;
+        let inquiry = self.inquiry(rt, version, dir, path, named)?;
         inquiry.answer(self.alloc, rt, &mut self.spare, tally)
     }
 
     /// What is asked along a path of a version, for an ask or explain that no rule refuses.
-    fn inquiry(
+    fn inquiry<R: Threads + Sync>(
         &mut self,
+        rt: &R,
         version: u32,
         dir: Dir,
         path: &Path,
@@ -610,11 +619,11 @@ impl Session {
         ensures same { self.new ≡ self.old }
     {
         self.runs
-            .inquiry(self.alloc, &self.catalogue, version, dir, path, named)
+            .inquiry(rt, self.alloc, &self.catalogue, version, dir, path, named)
     }
 
     /// By which way each step of a path is answered, and how many cells are traced.
-    fn explain<G: Gate, R: Wait>(
+    fn explain<G: Gate, R: Threads + Wait + Sync>(
         &mut self,
         rt: &R,
         version: u32,
@@ -646,23 +655,32 @@ impl Session {
     }
 
     /// The runs of the nodes of a version.
-    fn runs_of(&self, version: u32) -> &[NodeRun]
-        requires { has_no_version self.now.held version ≡ false }
-        ensures { map execution_of result.now ≡ executions_of (version_of self.now.held version) }
+    fn runs_of<R: Threads + Sync>(
+        &mut self,
+        rt: &R,
+        version: u32,
+    ) -> Result<Arc<Vec<NodeRun>>, NoMemory>
+        requires { has_no_version self.old.held version ≡ false }
+        ensures runs { IfOk result (λ r. map execution_of (arc_value r).items
+            ≡ executions_of (version_of self.old.held version)) }
+        ensures same { self.new ≡ self.old }
     {
-        let Some(runs) = self.runs.runs(version) else {
-            unreachable!()
-        };
-        runs
+        self.runs.runs(rt, self.alloc, &self.catalogue, version)
     }
 
     /// The output of a node of a version, for a show that no rule refuses.
-    fn show(&self, version: u32, node: u32) -> Result<Reply, NoMemory>
-        requires { judged self.now.held (order.Show version node) ≡ None }
-        ensures { IfOk result
-            (λ r. accepted self.now (order.Show version node) ≡ (self.now, response_of r)) }
+    fn show<R: Threads + Sync>(
+        &mut self,
+        rt: &R,
+        version: u32,
+        node: u32,
+    ) -> Result<Reply, NoMemory>
+        requires { judged self.old.held (order.Show version node) ≡ None }
+        ensures reply { IfOk result
+            (λ r. accepted self.old (order.Show version node) ≡ (self.old, response_of r)) }
+        ensures same { self.new ≡ self.old }
     {
-        let runs = self.runs_of(version);
+        let runs = self.runs_of(rt, version)?;
         let run = &runs[node as usize];
         Ok(Reply::Values {
             array: Arc::try_clone(&run.out)?,

@@ -341,7 +341,7 @@ pub(crate) fn run_on<
     let Ok(mut buffer) = vec![in alloc; 0u8; CHUNK] else {
         return Status::NoMemory;
     };
-    let Ok(session) = Session::of_log(rt, alloc, recovered, job.workers, job.askers) else {
+    let Ok(session) = Session::of_log(alloc, recovered, job.workers, job.askers) else {
         return Status::NoMemory;
     };
     let feed = Feed::over(alloc, session);

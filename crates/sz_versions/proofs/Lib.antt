@@ -19,6 +19,7 @@ pub mod Trails
 pub mod Refreshes
 pub mod MergedNodes
 mod MergedRuns
+mod Lent
 mod MergedKinds
 mod SoundKinds
 pub mod RowsLending

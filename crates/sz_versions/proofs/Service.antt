@@ -16,9 +16,8 @@ use Rattle.sz_catalogue.specs.Rules.{has_no_version, version_of}
 use Rattle.sz_versions.specs.Runs.{executions_of, IsSoundVersion}
 use Rattle.sz_versions.specs.Stores.{Trail, IsTrailOf, AreKeptOf, AreListed}
 use Rattle.sz_versions.specs.Lending.{IsTrailStill}
-use Rattle.sz_versions.specs.Residents.{Resident, IsTrailBy, AreResidents, IsInService, residents_under, logged_in}
+use Rattle.sz_versions.specs.Residents.{Resident, IsTrailBy, IsInService, residents_under, logged_in}
 use Rattle.sz_versions.specs.Residents.{logged_under, logged_of, replaced_in, stored_in, IsStill}
-use Rattle.sz_versions.proofs.Along.{by-for}
 use Rattle.sz_versions.proofs.Keeping.{lists-listed}
 use Rattle.sz_versions.proofs.Keeps.{version-found, version-sound, some-same}
 use Rattle.sz_versions.proofs.Residents.{made_here, has_number, found-in, set-replaced, stills-set, service-still}
@@ -100,16 +99,6 @@ replaced-set n t rs i x y few place is new =
     ap (set rs i) here ∙ set-replaced n t rs i place.0 place.1 number few
 
 -- ---- what it has
-
--- the executions of its trail are those of the version
-pub placed-runs : (n : ℕ) (rs : List Resident) (i : ℕ) (x : Resident) (es : List Execution) → IsPlaceOf n rs i
-    → x ≡ get_or rs i x → es ≡ x.trail.executions → (c : Holdings) → AreResidents c rs
-    → es ≡ executions_of (version_of c n)
-placed-runs n rs i x es place is runs c own =
-    let same : x ≡ place.0 = read-there rs i place.0 x place.1 is in
-    let here = found-in c n rs place.0 own place.2 in
-    runs ∙ ap (λ (r : Resident). r.trail.executions) same
-    ∙ (by-for place.0.logged (version_of c n) place.0.trail here.own).executions
 
 -- no log gave a version that is not awaited
 pub first-made : (b : Bool) (v : Version) (t : Trail) → v.awaited ≡ false → IsTrailBy b v t → IsTrailOf v t

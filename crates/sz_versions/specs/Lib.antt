@@ -9,6 +9,7 @@ pub mod Along
 pub mod Recalled
 pub mod Inquiries
 pub mod Residents
+pub mod Carried
 pub mod Merging
 pub mod Bodies
 mod Terms

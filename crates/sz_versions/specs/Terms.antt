@@ -16,7 +16,7 @@ pub use Rattle.sz_catalogue.specs.Starts.{bases_of, cell_named, path_start, step
 pub use Rattle.sz_catalogue.specs.Starts.{version_started}
 pub use Rattle.sz_cells.specs.Cells.{named_in}
 pub use Rattle.sz_cells.specs.Extent.{cell_in, holds, is_place}
-pub use Rattle.sz_flow.specs.Executions.{execution_of}
+pub use Rattle.sz_flow.specs.Executions.{FlowFits, execution_of, executions}
 pub use Rattle.sz_formats.specs.Formats.{is_format}
 pub use Rattle.sz_merge.specs.Laws.{paired_in}
 pub use Rattle.sz_query.specs.Answers.{AreSteps, most_traced_of}
@@ -25,6 +25,7 @@ pub use Rattle.sz_recover.specs.Opened.{AreOfVersions, IsEntryOf}
 pub use Rattle.sz_shelf.specs.Passes.{place_of, split_off, with_split}
 pub use Rattle.sz_shelf.specs.Places.{ShelfPlace}
 pub use Rattle.sz_shelf.specs.Tags.{StandsFor}
+pub use Rattle.sz_spec.specs.Flows.{is_well_formed}
 pub use Rattle.sz_spec.specs.Kinds.{kinds_of}
 pub use Rattle.sz_spec.specs.Modes.{supports}
 pub use Rattle.sz_spec.specs.Paths.{is_joined, is_there, source_of}

@@ -1,25 +1,27 @@
 //! What a session carries of the versions that it holds: of each one run, whether it was started
-//! here or a log gave it.
+//! here or a log gave it. The run of one that a log gave is made when it is first asked, so that a
+//! log opens without it.
 
 ghost use Rattle.std.specs.Prelude.{◌≡◌, ◌≤◌, ◌<◌, ◌==◌, ◌++◌, ◌∷◌};
 ghost use Rattle.sz_versions.specs.Terms.{[], List, find, map, length, true, false, Some, None};
 ghost use Rattle.sz_versions.specs.Terms.{All, IfOk, OnOk, OnErr, IfSome, IfNone, list_all};
-ghost use Rattle.sz_versions.specs.Terms.{slice_get, is_joined, execution_of, Holdings};
-ghost use Rattle.sz_versions.specs.Terms.{version_numbered, path_start, version_of, has_no_version};
-ghost use Rattle.sz_versions.specs.Terms.{is_not_joined, is_out_of_range, has_named_cell};
-ghost use Rattle.sz_versions.specs.Terms.{AreOfVersions, executions_of, IsSoundVersion, IsTrailOf};
-ghost use Rattle.sz_versions.specs.Terms.{IsInquiryBy, Resident, AreResidents, IsInService};
-ghost use Rattle.sz_versions.specs.Terms.{IsTrailBy, residents_under, logged_in, logged_under};
-ghost use Rattle.sz_versions.specs.Terms.{logged_of, stored_in, replaced_in, IsStill};
+ghost use Rattle.sz_versions.specs.Terms.{slice_get, is_joined, execution_of, version_numbered};
+ghost use Rattle.sz_versions.specs.Terms.{path_start, version_of, has_no_version, is_not_joined};
+ghost use Rattle.sz_versions.specs.Terms.{is_out_of_range, has_named_cell, AreOfVersions};
+ghost use Rattle.sz_versions.specs.Terms.{executions_of, IsSoundVersion, IsTrailOf, IsInquiryBy};
+ghost use Rattle.sz_versions.specs.Terms.{Resident, AreResidents, IsInService, IsTrailBy};
+ghost use Rattle.sz_versions.specs.Terms.{residents_under, logged_in, logged_under, logged_of};
+ghost use Rattle.sz_versions.specs.Terms.{stored_in, replaced_in, IsStill, arc_value};
 
 use crate::building::ended;
 use crate::finding::inquiry_along;
 use crate::inquiry::Inquiry;
 use crate::recalled::recall_each;
-use crate::runs::VersionRun;
+use crate::runs::{UnmadeRun, VersionRun};
 use std::alloc::Global;
 use std::marker::Model;
-use std::sync::Wait;
+use std::mem;
+use std::sync::{Arc, Wait};
 use std::thread::Threads;
 use sz_catalogue::{Catalogue, HeldVersion};
 use sz_cells::NoMemory;
@@ -28,21 +30,33 @@ use sz_recover::KeptVersion;
 use sz_script::{NamedCells, Path};
 use sz_spec::Dir;
 
+/// A run that is carried. Contracts see the run, whether it is made or not (`specs/Carried`).
+#[derive(Drop)]
+pub(crate) enum Carried {
+    /// It is made.
+    Made(VersionRun),
+    /// What it is made of.
+    Unmade(UnmadeRun),
+    /// A call has it, and carries it again at its end.
+    Lent,
+}
+
 /// What is carried of a version: its number, whether a log gave it, and its run. Contracts see it
 /// as a `Resident`.
 #[derive(Drop)]
 pub struct HeldRun {
     pub(crate) number: u32,
     pub(crate) logged: bool,
-    pub(crate) run: VersionRun,
+    pub(crate) run: Carried,
 }
 
 impl Model for HeldRun {
     ghost use Rattle.sz_versions.specs.Residents.{Resident};
+    ghost use Rattle.sz_versions.specs.Carried.{trail_of};
 
     ghost Value = { Resident };
 
-    ghost view = { λ r. record { number = r.number; logged = r.logged; trail = r.run } };
+    ghost view = { λ r. record { number = r.number; logged = r.logged; trail = trail_of r.run } };
 }
 
 /// What is carried of each version that is held. Contracts see the list.
@@ -70,10 +84,10 @@ impl HeldRuns {
         }
     }
 
-    /// What is carried of the versions that a log gave, which are all that are held: the values of
-    /// their nodes are computed again, each once, beside the stores that were read of them.
-    pub fn recalled<R: Threads + Sync>(
-        rt: &R,
+    /// What is carried of the versions that a log gave, which are all that are held: the stores that
+    /// were read of them, and what the values of their nodes are computed of when the version is
+    /// first asked.
+    pub fn recalled(
         alloc: Global,
         catalogue: &Catalogue,
         stores: Vec<KeptVersion>,
@@ -83,7 +97,7 @@ impl HeldRuns {
         ensures logged { IfOk result (λ rs. logged_in rs ≡ stores.items) }
         ensures each { IfOk result (λ rs. All (λ r. r.logged ≡ true) rs) }
     {
-        let runs = recall_each(rt, alloc, catalogue, stores)?;
+        let runs = recall_each(alloc, catalogue, stores)?;
         Ok(HeldRuns { runs })
     }
 
@@ -96,7 +110,7 @@ impl HeldRuns {
         self.runs.push(HeldRun {
             number,
             logged: false,
-            run,
+            run: Carried::Made(run),
         })?;
         Ok(())
     }
@@ -120,22 +134,30 @@ impl HeldRuns {
         }
     }
 
-    /// The runs of the nodes of a version. Costs a look at each version.
-    pub fn runs(&self, version: u32) -> Option<&[NodeRun]>
-        ensures some { IfSome result (λ runs. (c : Holdings) → AreResidents c self.now
-            → map execution_of runs.now ≡ executions_of (version_of c version)) }
-        ensures none { IfNone result (residents_under version self.now ≡ 0) }
+    /// The runs of the nodes of a version that is held, which are made where they were not yet.
+    /// Costs a look at each version.
+    pub fn runs<R: Threads + Sync>(
+        &mut self,
+        rt: &R,
+        alloc: Global,
+        catalogue: &Catalogue,
+        version: u32,
+    ) -> Result<Arc<Vec<NodeRun>>, NoMemory>
+        requires service { IsInService catalogue.now self.old }
+        requires held { has_no_version catalogue.now version ≡ false }
+        ensures runs { IfOk result (λ r. map execution_of (arc_value r).items
+            ≡ executions_of (version_of catalogue.now version)) }
+        ensures same { self.new ≡ self.old }
     {
-        match self.place_of(version) {
-            Some(at) => Some(self.runs[at].runs()),
-            None => None,
-        }
+        let (_held, at) = self.found(catalogue, version);
+        self.runs[at].runs(rt, alloc)
     }
 
     /// What is asked along a path of a version, for an ask or explain that no rule refuses: by what
     /// is carried of it. Of that nothing changes but that passes were split off.
-    pub fn inquiry(
+    pub fn inquiry<R: Threads + Sync>(
         &mut self,
+        rt: &R,
         alloc: Global,
         catalogue: &Catalogue,
         version: u32,
@@ -154,13 +176,13 @@ impl HeldRuns {
         ensures stored { stored_in self.new ≡ stored_in self.old }
     {
         let (held, at) = self.found(catalogue, version);
-        self.runs[at].inquiry(alloc, held, dir, path, named)
+        self.runs[at].inquiry(rt, alloc, held, dir, path, named)
     }
 
     /// What is carried of a version once it is awaited: its runs, and its stores whole. What is
     /// missing of them is made on their shelves. Nothing else changes of what is carried; the run
     /// that is given is to be carried in the other's place.
-    pub fn whole<R: Wait>(
+    pub fn whole<R: Threads + Wait + Sync>(
         &mut self,
         alloc: Global,
         rt: &R,
@@ -245,11 +267,51 @@ impl HeldRun {
         self.number
     }
 
-    /// The runs of the version's nodes.
-    fn runs(&self) -> &[NodeRun]
-        ensures { map execution_of result.now ≡ self.now.trail.executions }
+    /// The run, which is made where it was not yet. It is lent: until it is kept again, none is
+    /// carried.
+    pub(crate) fn lend<R: Threads + Sync>(
+        &mut self,
+        rt: &R,
+        alloc: Global,
+    ) -> Result<VersionRun, NoMemory>
+        ensures run { IfOk result (λ r. r ≡ self.old.trail) }
+        ensures rest { self.new ≡ record self.old { trail = self.new.trail } }
+        ensures err { OnErr result (self.new ≡ self.old) }
     {
-        self.run.runs()
+        match mem::replace(&mut self.run, Carried::Lent) {
+            Carried::Made(run) => Ok(run),
+            Carried::Unmade(unmade) => match unmade.runs(rt, alloc) {
+                Ok(runs) => Ok(unmade.with(runs)),
+                Err(fault) => {
+                    self.run = Carried::Unmade(unmade);
+                    Err(fault)
+                }
+            },
+            Carried::Lent => Err(NoMemory), // a run is kept again by the call that was lent it
+        }
+    }
+
+    /// Carries a run that was lent.
+    pub(crate) fn keep(&mut self, run: VersionRun)
+        ensures { self.new ≡ record self.old { trail = run } }
+    {
+        self.run = Carried::Made(run);
+    }
+
+    /// The runs of the version's nodes.
+    fn runs<R: Threads + Sync>(
+        &mut self,
+        rt: &R,
+        alloc: Global,
+    ) -> Result<Arc<Vec<NodeRun>>, NoMemory>
+        ensures runs { IfOk result
+            (λ r. map execution_of (arc_value r).items ≡ self.old.trail.executions) }
+        ensures same { self.new ≡ self.old }
+    {
+        let run = self.lend(rt, alloc)?;
+        let runs = run.shared();
+        self.keep(run);
+        runs
     }
 
     /// Carries another run, which was made here.
@@ -257,12 +319,13 @@ impl HeldRun {
         ensures { self.new ≡ record { number = self.old.number; logged = false; trail = run } }
     {
         self.logged = false;
-        self.run = run;
+        self.run = Carried::Made(run);
     }
 
     /// What is asked along a path, by what is carried.
-    fn inquiry(
+    fn inquiry<R: Threads + Sync>(
         &mut self,
+        rt: &R,
         alloc: Global,
         version: &HeldVersion,
         dir: Dir,
@@ -278,11 +341,14 @@ impl HeldRun {
             (λ s. IsInquiryBy (logged_of self.old) version.now dir path.now named.now s) }
         ensures still { IsStill self.old self.new }
     {
-        inquiry_along(alloc, version, &mut self.run, dir, path, named)
+        let mut run = self.lend(rt, alloc)?;
+        let inquiry = inquiry_along(alloc, version, &mut run, dir, path, named);
+        self.keep(run);
+        inquiry
     }
 
     /// What is carried of a version once it is awaited.
-    fn whole<R: Wait>(
+    fn whole<R: Threads + Wait + Sync>(
         &mut self,
         alloc: Global,
         rt: &R,
@@ -295,6 +361,9 @@ impl HeldRun {
             (λ run. IsTrailOf (record version.now { awaited = true }) run) }
         ensures still { IsStill self.old self.new }
     {
-        ended(alloc, rt, &mut self.run, version.lists.as_slice())
+        let mut run = self.lend(rt, alloc)?;
+        let whole = ended(alloc, rt, &mut run, version.lists.as_slice());
+        self.keep(run);
+        whole
     }
 }

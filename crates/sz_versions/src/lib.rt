@@ -1,14 +1,16 @@
 //! What a session does with the versions of its flows: a start computes their values and makes a
 //! shelf for each node that keeps a store, an await makes the stores whole, an ask along a path of
-//! one looks at what its nodes keep, and the versions that a log gave are computed again beside the
-//! stores that were read of them. No line is read here and nothing is said.
+//! one looks at what its nodes keep, and the versions that a log gave are computed again, beside the
+//! stores that were read of them, when they are first asked. No line is read here and nothing is
+//! said.
 //!
 //! - [`run_version`] starts a version, and hands what is to be made of its stores to workers by
 //!   [`Hands`]. What is carried of it from then on is a [`VersionRun`]: the runs of its nodes, and
 //!   of each node nothing, a shelf that grows, whole stores, or stores that were read of a log.
 //! - [`HeldRuns`] is what is carried of all versions that are held, by their numbers, whether they
 //!   were started here or a log gave them: there is one kind of them, and each call is for any.
-//!   [`HeldRuns::recalled`] computes the values of those that a log gave again.
+//!   [`HeldRuns::recalled`] has what the values of those that a log gave are computed of, which is
+//!   done when a call first needs them.
 //! - [`HeldRuns::inquiry`] finds by what each step of a path is answered, as an [`Inquiry`] that
 //!   owns what it uses: it can be answered beside others, in any thread.
 //! - [`HeldRuns::whole`] makes what workers left undone, and gives a run with the whole stores,
@@ -26,7 +28,7 @@
 //! runs.replace(1, run);
 //! runs.hand_merges(alloc, rt, &catalogue, &to, 1);                         to a thread
 //! let kinds = runs.merged(alloc, rt, &catalogue, 1)?;                      one for each full store
-//! let inquiry = runs.inquiry(alloc, &catalogue, 1, dir, &path, &named)?;   what each step looks at
+//! let inquiry = runs.inquiry(rt, alloc, &catalogue, 1, dir, &path, &named)?; what a step looks at
 //! let found = inquiry.answer(alloc, rt, &mut spare, &mut tally)?;          the cells
 //! ```
 //!

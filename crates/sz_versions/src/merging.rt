@@ -16,10 +16,11 @@ ghost use Rattle.sz_versions.specs.Terms.{IsMergedNode, AreMergedNodes, IsMerged
 ghost use Rattle.sz_versions.specs.Terms.{IsKeptUp};
 
 use crate::built::Built;
-use crate::held::{HeldRun, HeldRuns};
+use crate::held::{Carried, HeldRun, HeldRuns};
 use crate::runs::{NodeKeeping, VersionRun};
 use std::alloc::Global;
 use std::sync::{Arc, Wait};
+use std::thread::Threads;
 use sz_catalogue::{Catalogue, HeldVersion};
 use sz_cells::NoMemory;
 use sz_flow::NodeRun;
@@ -61,7 +62,7 @@ impl HeldRuns {
     ///
     /// What a thread has merged on a shelf is merged once more, which costs a look at each of its
     /// region pairs.
-    pub fn merged<R: Wait>(
+    pub fn merged<R: Threads + Wait + Sync>(
         &mut self,
         alloc: Global,
         rt: &R,
@@ -98,12 +99,15 @@ impl HeldRun {
         requires own { IsTrailBy self.old.logged version.now self.old.trail }
         ensures { IsStill self.old self.new }
     {
+        let Carried::Made(run) = &mut self.run else {
+            return; // a run that is not made has the stores that a log gave alone
+        };
         let lists = version.lists.as_slice();
-        hand_run(alloc, rt, &mut self.run, lists, to);
+        hand_run(alloc, rt, run, lists, to);
     }
 
     /// Merges the stores of the version, and tells their numbers.
-    fn merged<R: Wait>(
+    fn merged<R: Threads + Wait + Sync>(
         &mut self,
         alloc: Global,
         rt: &R,
@@ -119,8 +123,10 @@ impl HeldRun {
         ensures err { OnErr result (self.new ≡ self.old) }
     {
         let lists = version.lists.as_slice();
-        let kinds = merge_run(alloc, rt, &mut self.run, lists)?;
-        Ok(kinds)
+        let mut run = self.lend(rt, alloc)?;
+        let kinds = merge_run(alloc, rt, &mut run, lists);
+        self.keep(run);
+        Ok(kinds?)
     }
 }
 

@@ -1,27 +1,24 @@
-//! The versions that a log gave: of each the runs of its nodes, computed again, beside the stores
-//! that were read of it.
+//! The versions that a log gave: of each what the runs of its nodes are made of once they are asked,
+//! beside the stores that were read of it.
 
 ghost use Rattle.std.specs.Prelude.{◌≡◌};
 ghost use Rattle.sz_versions.specs.Terms.{map, true, All, option_map, IfOk, arc_value, arrays_of};
 ghost use Rattle.sz_versions.specs.Terms.{lineages, IsEntryOf, keeping_of, keeping_from};
 ghost use Rattle.sz_versions.specs.Terms.{IsResident, kept_of};
 
-use crate::held::HeldRun;
-use crate::runs::{NodeKeeping, VersionRun};
+use crate::held::{Carried, HeldRun};
+use crate::runs::{NodeKeeping, UnmadeRun};
 use std::alloc::Global;
 use std::sync::Arc;
-use std::thread::Threads;
 use sz_catalogue::{BaseArray, Catalogue};
 use sz_cells::NoMemory;
-use sz_flow::run_all;
 use sz_recover::KeptVersion;
 use sz_spec::Array;
 use sz_store::NodeStore;
 
-/// What is carried of each version of a catalogue that a log gave, with its stores: the values of
-/// its nodes are computed again, each once.
-pub(crate) fn recall_each<R: Threads + Sync>(
-    rt: &R,
+/// What is carried of each version of a catalogue that a log gave, with its stores. The values of
+/// its nodes are not computed yet.
+pub(crate) fn recall_each(
     alloc: Global,
     catalogue: &Catalogue,
     stores: Vec<KeptVersion>,
@@ -34,18 +31,13 @@ pub(crate) fn recall_each<R: Threads + Sync>(
     let count = stores.len();
     let mut recalled = Vec::with_capacity(alloc, count)?;
     for at in 0..count {
-        recalled.push(recall(rt, alloc, catalogue, &stores[at])?)?;
+        recalled.push(recall(alloc, catalogue, &stores[at])?)?;
     }
     Ok(recalled)
 }
 
 /// What is carried of a version.
-fn recall<R: Threads + Sync>(
-    rt: &R,
-    alloc: Global,
-    catalogue: &Catalogue,
-    kept: &KeptVersion,
-) -> Result<HeldRun, NoMemory>
+fn recall(alloc: Global, catalogue: &Catalogue, kept: &KeptVersion) -> Result<HeldRun, NoMemory>
     requires { IsEntryOf catalogue.now kept.now }
     ensures own { IfOk result (λ r. IsResident catalogue.now r) }
     ensures logged { IfOk result (λ r. r.logged ≡ true) }
@@ -56,12 +48,11 @@ fn recall<R: Threads + Sync>(
         unreachable!()
     };
     let arrays = arrays_of(alloc, held.base.as_slice())?;
-    let runs = run_all(rt, alloc, &held.flow, &arrays)?;
     let stores = stores_read(alloc, &kept.nodes)?;
     Ok(HeldRun {
         number: kept.version,
         logged: true,
-        run: VersionRun::of(alloc, runs, stores)?,
+        run: Carried::Unmade(UnmadeRun::of(&held.flow, arrays, stores)?),
     })
 }
 

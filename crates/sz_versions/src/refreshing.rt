@@ -1,12 +1,12 @@
 //! What is carried of the version that a refresh makes.
 
 ghost use Rattle.std.specs.Prelude.{◌≡◌, ◌+◌, ◌*◌, ◌^◌, ◌<◌};
-ghost use Rattle.sz_versions.specs.Terms.{true, false, None, IfOk, OnOk, map, length, slice_set};
-ghost use Rattle.sz_versions.specs.Terms.{list_all, arc_value, execution_of, Holdings, arrays_of};
-ghost use Rattle.sz_versions.specs.Terms.{judged, version_of, has_input, base_at, has_new_cell};
-ghost use Rattle.sz_versions.specs.Terms.{with_cells, cells_set, array_refreshed};
-ghost use Rattle.sz_versions.specs.Terms.{version_refreshed, cells_affected, executions_of};
-ghost use Rattle.sz_versions.specs.Terms.{IsSoundVersion, IsInService, IsTrailOf};
+ghost use Rattle.sz_versions.specs.Terms.{true, None, IfOk, OnOk, map, length, slice_set, list_all};
+ghost use Rattle.sz_versions.specs.Terms.{arc_value, execution_of, Holdings, arrays_of, judged};
+ghost use Rattle.sz_versions.specs.Terms.{version_of, has_input, base_at, has_new_cell, with_cells};
+ghost use Rattle.sz_versions.specs.Terms.{cells_set, array_refreshed, version_refreshed};
+ghost use Rattle.sz_versions.specs.Terms.{cells_affected, executions_of, IsSoundVersion};
+ghost use Rattle.sz_versions.specs.Terms.{IsInService, IsTrailOf};
 ghost use Rattle.sz_script.specs.declared.command.Command.TheVariants as order;
 
 use crate::cells::cell_of;
@@ -44,14 +44,14 @@ pub fn refresh_version<R: Threads + Wait + Sync>(
     rt: &R,
     alloc: Global,
     catalogue: &Catalogue,
-    runs: &HeldRuns,
+    runs: &mut HeldRuns,
     hands: &Hands,
     version: u32,
     input: u32,
     set: &[NewCell],
     tally: &mut Tally,
 ) -> Result<RefreshedRun, NoMemory>
-    requires service { IsInService catalogue.now runs.now }
+    requires service { IsInService catalogue.now runs.old }
     requires judged { judged catalogue.now (order.Refresh version input set.now) ≡ None }
     requires room { tally.old + 32 * 1048576 < 2 ^ 63 }
     ensures array { IfOk result (λ r. arc_value r.array
@@ -62,13 +62,12 @@ pub fn refresh_version<R: Threads + Wait + Sync>(
         ≡ cells_affected catalogue.now (version_of catalogue.now version) input set.now) }
     ensures ticks { OnOk result (tally.new ≡ tally.old
         + cells_affected catalogue.now (version_of catalogue.now version) input set.now) }
+    ensures same { runs.new ≡ runs.old }
 {
     let held = version_held(catalogue, version);
-    let Some(old) = runs.runs(version) else {
-        unreachable!()
-    };
+    let old = runs.runs(rt, alloc, catalogue, version)?;
     let number = catalogue.next_number() as u32;
-    let made = refresh_held(rt, alloc, held, old, hands, number, input, set, tally)?;
+    let made = refresh_held(rt, alloc, held, &old, hands, number, input, set, tally)?;
     Ok(made)
 }
 

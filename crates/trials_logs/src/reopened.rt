@@ -101,7 +101,7 @@ fn opened<T: Station, R: Threads + Sync>(
         Ok(recovered) => recovered,
         Err(_) => return Err(Fail::from("not opened")),
     };
-    Ok(Session::of_log(rt, alloc, recovered, 1, 1)?)
+    Ok(Session::of_log(alloc, recovered, 1, 1)?)
 }
 
 /// Whether a session does what a line orders.

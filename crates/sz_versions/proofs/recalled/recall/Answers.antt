@@ -22,8 +22,7 @@ use Rattle.sz_versions.specs.Stores.{Trail, keeping_from}
 use Rattle.sz_versions.specs.Residents.{Resident, store_read, stores_read, IsResident, kept_of}
 use Rattle.sz_versions.proofs.Keeps.{version-found, some-same}
 use Rattle.sz_versions.proofs.Steps.{base-shapes}
-use Rattle.sz_versions.proofs.recalled.recall.Given.{Over}
-use Rattle.sz_versions.proofs.recalled.recall.Goals.{After-deref-2}
+use Rattle.sz_versions.proofs.recalled.recall.Goals.{In_ok-stores}
 use Rattle.sz_versions.proofs.recalled.recall.Goals as goal
 
 -- ---- what is carried
@@ -71,55 +70,54 @@ fits-same : (f with-f : Graph) (gs with-gs : List Grid) (shapes : List Extent) �
 fits-same f with-f gs with-gs shapes flow arrays fits = rw (flow, arrays) fits
 
 -- the flow and the arrays are those of the version that is held
-record IsRunWith (g : Over) (c : After-deref-2 g) : Type 0 where
-  flow : c.deref.result.now ≡ c.in-Some.held.now.flow
-  arrays : map (λ a. arc_value a) c.deref-2.result.now ≡ arrays_of c.in-Some.held.now.base
+record IsRunWith (c : In_ok-stores) : Type 0 where
+  flow : arc_value c.held.inside.flow ≡ c.in-Some.held.now.flow
+  arrays : map (λ a. arc_value a) c.in_ok-arrays.arrays.items ≡ arrays_of c.in-Some.held.now.base
   run : (outputs : List Extent) × IsRun c.in-Some.held.now outputs
 
-run-with : (g : Over) (c : After-deref-2 g) → IsRunWith g c
-run-with g c =
+run-with : (c : In_ok-stores) → IsRunWith c
+run-with c =
     let base = c.as_slice.ensures ∙ ap (λ (v : Version). v.base) c.held.view_is in
     let found = rw c.in-Some.is at c.version.ensures in
     record {
-      flow = c.deref.ensures ∙ ap (λ (v : Version). v.flow) c.held.view_is;
-      arrays = ap (λ xs. map (λ a. arc_value a) xs) c.deref-2.ensures.value ∙ c.in_ok-arrays.ensures
-          ∙ ap arrays_of base;
+      flow = ap (λ (v : Version). v.flow) c.held.view_is;
+      arrays = c.in_ok-arrays.ensures ∙ ap arrays_of base;
       run = (in_order.version-found c.args.catalogue.now _ _ c.is_in_order.ensures (sym found)).run;
     }
 
-pub run_all-requires-clause-well_formed : goal.run_all-requires-clause-well_formed
-run_all-requires-clause-well_formed g c =
-    let h = run-with g (goal.at.run_all-requires-clause-well_formed g c).After-deref-2 in
-    λ κs lives. rw h.flow h.run.1.right
+pub of-requires-clause-well_formed : goal.of-requires-clause-well_formed
+of-requires-clause-well_formed c =
+    let h = run-with (goal.at.of-requires-clause-well_formed c).In_ok-stores in
+    rw h.flow h.run.1.right
 
-pub run_all-requires-clause-count : goal.run_all-requires-clause-count
-run_all-requires-clause-count g c =
-    let h = run-with g (goal.at.run_all-requires-clause-count g c).After-deref-2 in
-    λ κs lives. sym (length-map c.deref-2.result.now (λ a. arc_value a)) ∙ ap (λ (gs : List Grid). length gs) h.arrays
+pub of-requires-clause-count : goal.of-requires-clause-count
+of-requires-clause-count c =
+    let h = run-with (goal.at.of-requires-clause-count c).In_ok-stores in
+    sym (length-map c.in_ok-arrays.arrays.items (λ a. arc_value a)) ∙ ap (λ (gs : List Grid). length gs) h.arrays
     ∙ length-map c.in-Some.held.now.base (λ (b : Base). b.array) ∙ h.run.1.count
     ∙ ap (λ (f : Graph). f.inputs) (sym h.flow)
 
-pub run_all-requires-clause-fits : goal.run_all-requires-clause-fits
-run_all-requires-clause-fits g c =
-    let h = run-with g (goal.at.run_all-requires-clause-fits g c).After-deref-2 in
+pub of-requires-clause-fits : goal.of-requires-clause-fits
+of-requires-clause-fits c =
+    let h = run-with (goal.at.of-requires-clause-fits c).In_ok-stores in
     let base = c.in-Some.held.now.base in
     let fits = ap (λ (es : List Extent). output_shapes c.in-Some.held.now.flow es) (base-shapes base) ∙ h.run.1.fits in
-    λ κs lives. (h.run.0, fits-same _ _ _ _ h.run.0 h.flow h.arrays fits)
+    (h.run.0, fits-same _ _ _ _ h.run.0 h.flow h.arrays fits)
 
 pub returns : goal.returns
-returns g c =
+returns c =
     let cat = c.args.catalogue.now in
     let k = c.args.kept.now in
     let t = c.in_ok-of.field-0 in
-    let h = run-with g (goal.at.returns g c).After-deref-2 in
+    let h = run-with (goal.at.returns c).In_ok-stores in
     let found = rw c.in-Some.is at c.version.ensures in
     let number : c.kept.inside.version ≡ k.number = ap (λ (x : Kept). x.number) c.kept.view_is in
     let held : c.in-Some.held.now ≡ version_of cat k.number =
     some-same _ _ (found ∙ ap (version_numbered cat) number ∙ version-found cat k.number c.requires.held) in
-    let executed = ap (λ (x : Trail). x.executions) c.in_ok-of.ensures ∙ c.in_ok-runs.ensures
+    let executed = ap (λ (x : Trail). x.executions) c.in_ok-of.ensures
     ∙ ap₂ (λ (f : Graph) (gs : List Grid). executions f gs) h.flow h.arrays ∙ ap executions_of held in
     let kept = ap (λ (x : Trail). x.kept) c.in_ok-of.ensures ∙ c.in_ok-stores.ensures
-    ∙ ap (λ xs. map keeping_from (lineages xs)) c.deref-3.ensures.value
+    ∙ ap (λ xs. map keeping_from (lineages xs)) c.deref.ensures.value
     ∙ ap (λ (x : Kept). map keeping_from x.stores) c.kept.view_is in
     let is = read-of cat k t c.requires executed kept in
     record {

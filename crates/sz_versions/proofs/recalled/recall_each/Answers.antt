@@ -14,7 +14,7 @@ abbrev IsLogged : Resident → Type 0
 IsLogged r = r.logged ≡ true
 
 pub loop-at-init : goal.loop-at-init
-loop-at-init g c = record {
+loop-at-init c = record {
   end = omega (arith, c.len-count.ensures, c.args.stores.ok.0);
   own = rw c.in_ok-recalled.ensures.items (All-nil (IsResident c.args.catalogue.now));
   logged = rw c.in_ok-recalled.ensures.items (All-nil IsLogged);
@@ -22,18 +22,18 @@ loop-at-init g c = record {
 }
 
 pub index-requires : goal.index-requires
-index-requires g c =
+index-requires c =
     omega (arith, c.loop-at-test.true, c.loop-at.invariant.end, c.args.stores.ok.0)
 
-pub recall-requires-after_bounds : goal.recall-requires-after_bounds
-recall-requires-after_bounds g c =
+pub recall-requires : goal.recall-requires
+recall-requires c =
     let few : c.loop-at.at < length c.args.stores.items =
     omega (arith, c.loop-at-test.true, c.loop-at.invariant.end) in
-    λ κs lives. subst (IsEntryOf c.args.catalogue.now) (sym c.index.ensures)
+    subst (IsEntryOf c.args.catalogue.now) (sym c.index.ensures)
     (c.requires c.loop-at.at c.index.result.now few)
 
 pub loop-at-preserved : goal.loop-at-preserved
-loop-at-preserved g c =
+loop-at-preserved c =
     let P = IsResident c.args.catalogue.now in
     let rs = c.loop-at.recalled.items in
     let x = c.in_ok-recall.field-0 in
@@ -55,13 +55,13 @@ loop-at-preserved g c =
     }
 
 pub returns-clause-own : goal.returns-clause-own
-returns-clause-own g c = c.loop-at.invariant.own
+returns-clause-own c = c.loop-at.invariant.own
 
 pub returns-clause-logged : goal.returns-clause-logged
-returns-clause-logged g c = c.loop-at.invariant.logged
+returns-clause-logged c = c.loop-at.invariant.logged
 
 pub returns-clause-kept : goal.returns-clause-kept
-returns-clause-kept g c =
+returns-clause-kept c =
     let ks = c.args.stores.items in
     let all : length ks ≤ c.loop-at.at = omega (arith, c.loop-at-test.false, c.loop-at.invariant.end) in
     c.loop-at.invariant.kept ∙ take_all c.loop-at.at ks all

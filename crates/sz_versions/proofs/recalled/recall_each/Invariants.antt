@@ -5,7 +5,7 @@ use Rattle.sz_versions.specs.Residents.{IsResident, kept_of}
 use Rattle.sz_versions.proofs.recalled.recall_each.Given as goal
 
 abbrev pub invariant-loop-at : goal.invariant-loop-at
-invariant-loop-at g l = record {
+invariant-loop-at l = record {
   end : l.count ≡ length l.stores.items;
   own : All (IsResident l.catalogue) l.recalled.items;
   logged : All (λ r. r.logged ≡ true) l.recalled.items;

@@ -32,8 +32,8 @@ refresh_held-requires-clause-cells g c =
 
 pub refresh_held-requires-clause-old : goal.refresh_held-requires-clause-old
 refresh_held-requires-clause-old g c = λ κs lives.
-    c.in-Some.ensures.some c.args.catalogue.now c.requires.service.residents
-    ∙ ap executions_of (sym c.version_held-held.ensures)
+    rw (c.deref-2.ensures.value, c.deref.ensures)
+    (c.in_ok-old.ensures.runs ∙ ap executions_of (sym c.version_held-held.ensures))
 
 pub returns-clause-array : goal.returns-clause-array
 returns-clause-array g c =

@@ -1,6 +1,8 @@
 -- The line of the array acts on what the log holds as the refresh does on what the session holds: of that nothing more
 -- is durable, since the version was not awaited.
-use Rattle.std.proofs.Common.{◌≡◌, ℕ, List, Some, Ok, refl, sym, ap, ◌∙◌, subst}
+use Rattle.std.proofs.Common.{◌≡◌, ℕ, List, Some, Ok, true, false, refl, sym, ap, ◌∙◌, subst}
+use Rattle.std.specs.Prelude.{None}
+use Rattle.std.specs.Arc.{arc_value}
 use Rattle.sz_log.specs.Log.{LogGroup}
 use Rattle.sz_spec.specs.Values.{Grid}
 use Rattle.sz_script.specs.Reading.{reading}
@@ -9,13 +11,14 @@ use Rattle.sz_script.specs.declared.command.Command.TheVariants as order
 use Rattle.sz_script.specs.declared.command.NewCell.{NewCell}
 use Rattle.sz_writing.specs.Orders.{array_order}
 use Rattle.sz_catalogue.specs.Holdings.{Holdings}
-use Rattle.sz_catalogue.specs.Rules.{version_of}
-use Rattle.sz_catalogue.specs.Refreshes.{base_at, array_refreshed}
+use Rattle.sz_catalogue.specs.Rules.{judged, version_of, has_no_version}
+use Rattle.sz_catalogue.specs.Refreshes.{base_at, has_input, array_refreshed}
 use Rattle.sz_catalogue.specs.Changes.{with_refreshed}
 use Rattle.sz_catalogue.specs.Seen.{response_of}
 use Rattle.sz_versions.proofs.Refreshes.{can-refresh}
 use Rattle.sz_commands.specs.States.{SessionState, apart}
 use Rattle.sz_commands.specs.Carrying.{AddsEntry}
+use Rattle.sz_commands.specs.Refreshing.{IsMadeBy}
 use Rattle.sz_commands.specs.Logged.{KeepsLog, StopsInLog, IsArrayGroup, place_of}
 use Rattle.sz_commands.proofs.Appending.{group-added}
 use Rattle.sz_commands.proofs.Lasting.{left-apart, array-step}
@@ -55,7 +58,7 @@ reads : (g : Over) (c : After-append g)
 reads g c =
     let name = (base_at (version_of c.args.self.now.held c.args.version) c.args.input).name in
     ap reading c.deref-2.ensures.value
-    ∙ (c.in_ok-line.ensures
+    ∙ (rw c.in_ok-made.ensures.same at c.in_ok-line.ensures
     ∙ ap (λ (a : Grid). Ok (array_order name a)) (c.deref.ensures ∙ c.in_ok-made.ensures.made.array_is))
 
 is-added : (g : Over) (c : After-append g) → IsAdded g c
@@ -75,10 +78,13 @@ is-added g c =
 
 pub line_for-requires-clause-there : goal.line_for-requires-clause-there
 line_for-requires-clause-there g c =
+    subst (λ (s : SessionState). has_no_version s.held c.args.version ≡ false) (sym c.in_ok-made.ensures.same)
     (can-refresh c.args.self.now.held c.args.version c.args.input c.args.set.now c.requires.judged).held
 
 pub line_for-requires-clause-input : goal.line_for-requires-clause-input
 line_for-requires-clause-input g c =
+    subst (λ (s : SessionState). has_input (version_of s.held c.args.version) c.args.input ≡ true)
+    (sym c.in_ok-made.ensures.same)
     (can-refresh c.args.self.now.held c.args.version c.args.input c.args.set.now c.requires.judged).input
 
 pub returns-in_err-made-clause-stops : goal.returns-in_err-made-clause-stops
@@ -106,7 +112,7 @@ returns-clause-log g c =
     let set : Command = order.Refresh c.args.version c.args.input c.args.set.now in
     let here = (goal.at.returns-clause-log g c).After-append in
     let left = ap (λ (x : SessionState). x.held) c.self.view_is
-    ∙ left-apart s c.hold_refreshed.new.self set _ c.in_ok-reply.ensures.reply in
+    ∙ left-apart s c.hold_refreshed.new.self set _ (rw c.in_ok-made.ensures.same at c.in_ok-reply.ensures.reply) in
     let L : Holdings → Type 0 = λ h.
     KeepsLog g.T.Station s.held s.end h (Some (ending (place_of c.args.log) c.in_ok-next.next.at)) c.args.station.now
     c.append.new.station in
@@ -129,10 +135,24 @@ returns-clause-appends g c =
 
 pub returns-clause-reply : goal.returns-clause-reply
 returns-clause-reply g c =
-    c.in_ok-reply.ensures.reply
+    (rw c.in_ok-made.ensures.same at c.in_ok-reply.ensures.reply)
     ∙ ap (λ (s : SessionState). (apart s, response_of c.in_ok-reply.reply)) (sym c.self.view_is)
 
 pub returns-clause-stored : goal.returns-clause-stored
 returns-clause-stored g c =
     let s : SessionState = c.args.self.now in
-    subst (λ (t : SessionState). AddsEntry s.held s.stored t.stored) (sym c.self.view_is) c.in_ok-reply.ensures.stored
+    subst (λ (t : SessionState). AddsEntry s.held s.stored t.stored) (sym c.self.view_is)
+    (rw c.in_ok-made.ensures.same at c.in_ok-reply.ensures.stored)
+
+-- ---- what the refresh is held on
+
+pub hold_refreshed-requires-clause-judged : goal.hold_refreshed-requires-clause-judged
+hold_refreshed-requires-clause-judged g c =
+    subst (λ (s : SessionState). judged s.held (order.Refresh c.args.version c.args.input c.args.set.now) ≡ None)
+    (sym c.in_ok-made.ensures.same) c.requires.judged
+
+pub hold_refreshed-requires-clause-made : goal.hold_refreshed-requires-clause-made
+hold_refreshed-requires-clause-made g c =
+    let made = c.in_ok-made.made in
+    subst (λ (s : SessionState). IsMadeBy s.held c.args.version c.args.input c.args.set.now (arc_value made.array)
+    made.run made.cells) (sym c.in_ok-made.ensures.same) c.in_ok-made.ensures.made

@@ -6,4 +6,4 @@ pub is_awaited-requires : goal.is_awaited-requires
 is_awaited-requires g c = is-held c.args.self.now.held c.args.version c.requires.judged
 
 pub whole_run-requires-clause-held : goal.whole_run-requires-clause-held
-whole_run-requires-clause-held g c = is-held c.args.self.now.held c.args.version c.requires.judged
+whole_run-requires-clause-held g c = λ κs lives. is-held c.args.self.now.held c.args.version c.requires.judged

@@ -8,7 +8,7 @@ use Rattle.sz_commands.specs.declared.asking.AskLine.{AskLine}
 use Rattle.sz_commands.proofs.session.Session.begin_each.Goals as goal
 
 pub loop-line-preserved : goal.loop-line-preserved
-loop-line-preserved c =
+loop-line-preserved g c =
     let held = c.args.self.now in
     let lines = c.args.lines.now in
     let i = c.loop-line.line-index in

@@ -24,14 +24,14 @@ may-tell c n free =
 
 pub merged-requires-clause-held : goal.merged-requires-clause-held
 merged-requires-clause-held g c =
-    (may-tell c.self.inside.catalogue c.args.version
+    λ κs lives. (may-tell c.self.inside.catalogue c.args.version
     (free-inside (order.Merged c.args.version) c.self.view_is c.requires.judged)).0
 
 pub merged-requires-clause-awaited : goal.merged-requires-clause-awaited
 merged-requires-clause-awaited g c =
     let may = may-tell c.self.inside.catalogue c.args.version
     (free-inside (order.Merged c.args.version) c.self.view_is c.requires.judged) in
-    (c.self.invariant.asked c.args.version (not_false _ may.1)).awaited
+    λ κs lives. (c.self.invariant.asked c.args.version (not_false _ may.1)).awaited
 
 pub returns-clause-reply : goal.returns-clause-reply
 returns-clause-reply g c =

@@ -9,14 +9,14 @@ use Rattle.sz_commands.proofs.Carrying.{all-given}
 use Rattle.sz_commands.proofs.session.Session.of_log.Goals as goal
 
 pub holding-requires-clause-service : goal.holding-requires-clause-service
-holding-requires-clause-service g c = record {
+holding-requires-clause-service c = record {
   sound = order-sound c.args.recovered.catalogue c.is_in_order.ensures;
   residents = c.in_ok-runs.ensures.own;
   asked = asked-none c.args.recovered.catalogue c.args.recovered.entries.unasked;
 }
 
 pub returns-clause-state : goal.returns-clause-state
-returns-clause-state g c =
+returns-clause-state c =
     IfOk-weaker c.holding.result _ _
     (λ s is.
     let logged = c.in_ok-runs.ensures.logged in
@@ -24,7 +24,7 @@ returns-clause-state g c =
     cc) c.holding.ensures
 
 pub returns-clause-given : goal.returns-clause-given
-returns-clause-given g c =
+returns-clause-given c =
     IfOk-weaker c.holding.result _ _
     (λ s is. subst (λ (x : SessionState). AreGiven x.stored) (sym is)
     (all-given c.args.recovered.catalogue c.in_ok-runs.runs c.in_ok-runs.ensures.own.each c.in_ok-runs.ensures.each))

@@ -1,5 +1,5 @@
 -- What the session holds is what its catalogue and its runs do.
-use Rattle.std.proofs.Common.{◌≡◌, ◌+◌, List, subst, sym}
+use Rattle.std.proofs.Common.{◌≡◌, ◌+◌, List, refl, subst, sym}
 use Rattle.std.specs.Prelude.{None}
 use Rattle.std.specs.Arc.{arc_value}
 use Rattle.sz_script.specs.declared.command.Command.TheVariants as order
@@ -38,3 +38,6 @@ returns-clause-ticks g c =
     let own : T c.self.inside.catalogue c.as_slice.result.now = c.in_ok-made.ensures.ticks in
     subst (λ (s : SessionState). T s.held c.args.set.now) c.self.view_is
     (subst (T c.self.inside.catalogue) c.as_slice.ensures own)
+
+pub returns-clause-same : goal.returns-clause-same
+returns-clause-same g c = rw (← c.self.view_is, c.refresh_version.ensures.same) refl

@@ -13,23 +13,35 @@ use Rattle.sz_versions.proofs.Keeps.{not_false}
 use Rattle.sz_versions.proofs.Service.{is-found, stays-set}
 use Rattle.sz_versions.proofs.held.HeldRuns.inquiry.Goals as goal
 
-pub inquiry-requires : goal.inquiry-requires
-inquiry-requires c =
-    let path = c.args.path.now in
+pub inquiry-requires-clause-sound : goal.inquiry-requires-clause-sound
+inquiry-requires-clause-sound g c =
     let h = is-found c.args.version c.found-at.result.1 c.self.view_is c.requires.service c.found-at.ensures.version
     c.found-at.ensures.place c.index_mut.ensures.value in
-    record {
-      sound = h.sound;
-      own = h.own;
-      joined = subst (λ (v : Version). is_joined c.args.dir v.flow path ≡ true) (sym h.version)
-          (not_false _ c.requires.joined);
-      named =
-          subst (λ (v : Version). list_all (has_named_cell (path_start c.args.dir v path)) c.args.named.now ≡ true)
-          (sym h.version) (not_false _ c.requires.range);
-    }
+    λ κs lives. h.sound
+
+pub inquiry-requires-clause-own : goal.inquiry-requires-clause-own
+inquiry-requires-clause-own g c =
+    let h = is-found c.args.version c.found-at.result.1 c.self.view_is c.requires.service c.found-at.ensures.version
+    c.found-at.ensures.place c.index_mut.ensures.value in
+    λ κs lives. h.own
+
+pub inquiry-requires-clause-joined : goal.inquiry-requires-clause-joined
+inquiry-requires-clause-joined g c =
+    let h = is-found c.args.version c.found-at.result.1 c.self.view_is c.requires.service c.found-at.ensures.version
+    c.found-at.ensures.place c.index_mut.ensures.value in
+    λ κs lives. subst (λ (v : Version). is_joined c.args.dir v.flow c.args.path.now ≡ true) (sym h.version)
+    (not_false _ c.requires.joined)
+
+pub inquiry-requires-clause-named : goal.inquiry-requires-clause-named
+inquiry-requires-clause-named g c =
+    let h = is-found c.args.version c.found-at.result.1 c.self.view_is c.requires.service c.found-at.ensures.version
+    c.found-at.ensures.place c.index_mut.ensures.value in
+    λ κs lives. subst
+    (λ (v : Version). list_all (has_named_cell (path_start c.args.dir v c.args.path.now)) c.args.named.now ≡ true)
+    (sym h.version) (not_false _ c.requires.range)
 
 pub returns : goal.returns
-returns c =
+returns g c =
     let h = is-found c.args.version c.found-at.result.1 c.self.view_is c.requires.service c.found-at.ensures.version
     c.found-at.ensures.place c.index_mut.ensures.value in
     let stays = stays-set c.inquiry.new.self h c.inquiry.ensures.still in

@@ -8,11 +8,23 @@ use Rattle.sz_versions.proofs.MergedRuns.{carried-set, merged-set, same-set}
 use Rattle.sz_versions.proofs.Service.{is-found}
 use Rattle.sz_versions.proofs.held.HeldRuns.merged.Goals as goal
 
-pub merged-requires : goal.merged-requires
-merged-requires g c =
+pub merged-requires-clause-sound : goal.merged-requires-clause-sound
+merged-requires-clause-sound g c =
     let h = is-found c.args.version c.found-at.result.1 c.self.view_is c.requires.service c.found-at.ensures.version
     c.found-at.ensures.place c.index_mut.ensures.value in
-    record { sound = h.sound; awaited = ap (λ (v : Version). v.awaited) h.version ∙ c.requires.awaited; own = h.own }
+    λ κs lives. h.sound
+
+pub merged-requires-clause-awaited : goal.merged-requires-clause-awaited
+merged-requires-clause-awaited g c =
+    let h = is-found c.args.version c.found-at.result.1 c.self.view_is c.requires.service c.found-at.ensures.version
+    c.found-at.ensures.place c.index_mut.ensures.value in
+    λ κs lives. ap (λ (v : Version). v.awaited) h.version ∙ c.requires.awaited
+
+pub merged-requires-clause-own : goal.merged-requires-clause-own
+merged-requires-clause-own g c =
+    let h = is-found c.args.version c.found-at.result.1 c.self.view_is c.requires.service c.found-at.ensures.version
+    c.found-at.ensures.place c.index_mut.ensures.value in
+    λ κs lives. h.own
 
 pub returns : goal.returns
 returns g c =

@@ -6,11 +6,23 @@ use Rattle.sz_versions.specs.Stores.{IsTrailOf}
 use Rattle.sz_versions.proofs.Service.{is-found, stays-set}
 use Rattle.sz_versions.proofs.held.HeldRuns.whole.Goals as goal
 
-pub whole-requires : goal.whole-requires
-whole-requires g c =
+pub whole-requires-clause-sound : goal.whole-requires-clause-sound
+whole-requires-clause-sound g c =
     let h = is-found c.args.version c.found-at.result.1 c.self.view_is c.requires.service c.found-at.ensures.version
     c.found-at.ensures.place c.index_mut.ensures.value in
-    record { sound = h.sound; first = ap (λ (v : Version). v.awaited) h.version ∙ c.requires.first; own = h.own }
+    λ κs lives. h.sound
+
+pub whole-requires-clause-first : goal.whole-requires-clause-first
+whole-requires-clause-first g c =
+    let h = is-found c.args.version c.found-at.result.1 c.self.view_is c.requires.service c.found-at.ensures.version
+    c.found-at.ensures.place c.index_mut.ensures.value in
+    λ κs lives. ap (λ (v : Version). v.awaited) h.version ∙ c.requires.first
+
+pub whole-requires-clause-own : goal.whole-requires-clause-own
+whole-requires-clause-own g c =
+    let h = is-found c.args.version c.found-at.result.1 c.self.view_is c.requires.service c.found-at.ensures.version
+    c.found-at.ensures.place c.index_mut.ensures.value in
+    λ κs lives. h.own
 
 pub returns : goal.returns
 returns g c =
