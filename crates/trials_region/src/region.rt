@@ -28,35 +28,41 @@ pub(crate) fn set_of_four(alloc: Global) -> Result<CellSet, Fail> {
     Ok(CellSet::from_cells(alloc, four_by_five()?, &cells)?)
 }
 
-#[test]
-fn a_set_is_written_and_read_again(rt: HostRuntime) -> Result<(), Fail> {
-    let alloc = rt.alloc();
-    let shape = four_by_five()?;
+/// The bytes of that set, behind a 9.
+fn bytes_of_four(alloc: Global) -> Result<Vec<u8>, Fail> {
     let set = set_of_four(alloc)?;
     let mut bytes = vec![in alloc; 9u8]?;
     put_set(&set, &mut bytes)?;
-    assert_eq!(rt;
-        bytes.as_slice(),
-        [
-            9, 0, 0, 0, 2, 0, 0, 0, 5, 0, 0, 0, 7, 0, 0, 0, 10, 0, 0, 0, 10
-        ]
-        .as_slice()
-    );
+    Ok(bytes)
+}
+
+/// Whether a set has its cells, as runs.
+fn is_set_of_four(set: &CellSet) -> bool {
+    let first = Run { first: 5, last: 7 };
+    let last = Run {
+        first: 10,
+        last: 10,
+    };
+    set.runs() == [first, last].as_slice() && set.count() == 4
+}
+
+/// Whether that set is read behind the first byte, up to place 21.
+fn is_read_again(alloc: Global, bytes: &[u8]) -> Result<bool, Fail> {
+    let (again, next) = take_set(alloc, four_by_five()?, bytes, 1)?;
+    Ok(next == 21 && is_set_of_four(&again))
+}
+
+/// The bytes of the set, behind a 9.
+const FOUR: [u8; 21] = [
+    9, 0, 0, 0, 2, 0, 0, 0, 5, 0, 0, 0, 7, 0, 0, 0, 10, 0, 0, 0, 10,
+];
+
+#[test]
+fn a_set_is_written_and_read_again(rt: HostRuntime) -> Result<(), Fail> {
+    let mut bytes = bytes_of_four(rt.alloc())?;
+    assert_eq!(rt; bytes.as_slice(), FOUR.as_slice());
     bytes.push(1)?;
-    let (again, next) = take_set(alloc, shape, &bytes, 1)?;
-    assert_eq!(rt; next, 21);
-    assert_eq!(rt;
-        again.runs(),
-        [
-            Run { first: 5, last: 7 },
-            Run {
-                first: 10,
-                last: 10
-            }
-        ]
-        .as_slice()
-    );
-    assert_eq!(rt; again.count(), 4);
+    assert!(rt; is_read_again(rt.alloc(), &bytes)?);
     Ok(())
 }
 
@@ -96,32 +102,56 @@ fn bytes_of_no_set_are_refused(rt: HostRuntime) -> Result<(), Fail> {
     Ok(())
 }
 
-#[test]
-fn no_run_is_the_set_of_no_cell(rt: HostRuntime) -> Result<(), Fail> {
-    let no_run = [9, 0, 0, 0, 0];
-    let (none, next) = take_set(rt.alloc(), four_by_five()?, &no_run, 1)?;
-    assert_eq!(rt; none.count(), 0);
-    assert_eq!(rt; next, 5);
-    Ok(())
+/// Whether bytes of no run behind the first are the set of no cell.
+fn is_no_cell(alloc: Global, bytes: &[u8]) -> Result<bool, Fail> {
+    let (none, next) = take_set(alloc, four_by_five()?, bytes, 1)?;
+    Ok(none.count() == 0 && next == 5)
 }
 
 #[test]
-fn one_cell_or_none_is_a_set(rt: HostRuntime) -> Result<(), Fail> {
-    let alloc = rt.alloc();
-    let shape = four_by_five()?;
-    let cell = Cell { row: 2, col: 3 };
-    let mut bits = CellBits::new(alloc, shape)?;
-    add_cell(&mut bits, None);
-    assert!(rt; !has_cell(&bits, Some(cell)));
-    add_cell(&mut bits, Some(cell));
-    assert!(rt; has_cell(&bits, Some(cell)));
-    assert!(rt; !has_cell(&bits, None));
-    let set = set_of_cell(alloc, shape, Some(cell))?;
+fn no_run_is_the_set_of_no_cell(rt: HostRuntime) -> Result<(), Fail> {
+    assert!(rt; is_no_cell(rt.alloc(), &[9, 0, 0, 0, 0])?);
+    Ok(())
+}
+
+/// A cell of the shape.
+const CELL: Cell = Cell { row: 2, col: 3 };
+
+/// Whether a set has a cell just from when it is added, and no cell is in none.
+fn is_added(bits: &mut CellBits) -> bool
+    requires { bits.old.extent ≡ flat 4 5 }
+{
+    add_cell(bits, None);
+    let before = has_cell(bits, Some(CELL));
+    add_cell(bits, Some(CELL));
+    !before && has_cell(bits, Some(CELL)) && !has_cell(bits, None)
+}
+
+/// Whether it is so of the set of no cell.
+fn is_added_to_none(alloc: Global) -> Result<bool, Fail> {
+    let mut bits = CellBits::new(alloc, four_by_five()?)?;
+    Ok(is_added(&mut bits))
+}
+
+/// Whether the set of the cell is its run.
+fn cell_is_a_run(alloc: Global) -> Result<bool, Fail> {
+    let set = set_of_cell(alloc, four_by_five()?, Some(CELL))?;
     let run = Run {
         first: 13,
         last: 13,
     };
-    assert_eq!(rt; set.runs(), [run].as_slice());
-    assert_eq!(rt; set_of_cell(alloc, shape, None)?.count(), 0);
+    Ok(set.runs() == [run].as_slice())
+}
+
+/// Whether the set of none has no cell.
+fn none_is_no_cell(alloc: Global) -> Result<bool, Fail> {
+    Ok(set_of_cell(alloc, four_by_five()?, None)?.count() == 0)
+}
+
+#[test]
+fn one_cell_or_none_is_a_set(rt: HostRuntime) -> Result<(), Fail> {
+    assert!(rt; is_added_to_none(rt.alloc())?);
+    assert!(rt; cell_is_a_run(rt.alloc())?);
+    assert!(rt; none_is_no_cell(rt.alloc())?);
     Ok(())
 }

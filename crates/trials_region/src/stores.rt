@@ -1,12 +1,13 @@
 //! Stores as they are written, by hand, and each fault of bytes that are no store.
 
-ghost use Rattle.std.specs.Prelude.{◌≡◌, ◌≤◌, length, IfOk};
+ghost use Rattle.std.specs.Prelude.{◌≡◌, ◌<◌, ◌≤◌, length, IfOk};
 ghost use Rattle.sz_cells.specs.Extent.{flat};
 
 use crate::region::first_taken;
 use std::alloc::Global;
 use std::test::Fail;
 use sz_cells::Shape;
+use sz_frame::{PayEntry, Region};
 use sz_region::{Take, put_entries, put_regions, take_entries, take_regions};
 
 /// The shape of two rows and two columns.
@@ -37,33 +38,45 @@ const ENTRIES: [u8; 59] = [
     0, 0, 0, 2, 0, 0, 0, 0, 0, 0, 0, 0, 0, 0, 0, 1, 0, 0, 0, 0,
 ];
 
+/// Whether a region pair is of one cell of the output, and has two sets of inputs, the first of two
+/// cells.
+fn is_of_one_and_two(pair: &Region) -> bool {
+    let inputs = pair.ins.as_slice();
+    pair.out.count() == 1 && inputs.len() == 2 && inputs.first().is_some_and(|set| set.count() == 2)
+}
+
+/// Whether two region pairs are read behind the first byte, up to place 85, of which the second is
+/// such.
+fn are_pairs(alloc: Global, bytes: &[u8]) -> Result<bool, Fail> {
+    let shape = two_by_two()?;
+    let (pairs, next) = take_regions(alloc, shape, &[shape, shape], bytes, 1)?;
+    Ok(next == 85 && pairs.len() == 2 && is_of_one_and_two(&pairs[1]))
+}
+
 #[test]
 fn region_pairs_are_read_whatever_follows(rt: HostRuntime) -> Result<(), Fail> {
-    let alloc = rt.alloc();
-    let shape = two_by_two()?;
-    let (pairs, next) = take_regions(alloc, shape, &[shape, shape], &PAIRS, 1)?;
-    assert_eq!(rt; next, 85);
-    assert_eq!(rt; pairs.len(), 2);
-    assert_eq!(rt; pairs[1].out.count(), 1);
-    let inputs = pairs[1].ins.as_slice();
-    assert_eq!(rt; inputs.len(), 2);
-    assert_eq!(rt; inputs[0].count(), 2);
+    assert!(rt; are_pairs(rt.alloc(), &PAIRS)?);
     Ok(())
+}
+
+/// Whether an entry is of one cell, and its payload is these bytes.
+fn is_of_one(entry: &PayEntry, bytes: &[u8]) -> bool {
+    entry.out.count() == 1 && entry.payload.bytes() == bytes
+}
+
+/// Whether two entries are read behind the first byte, up to place 59, of which the second is of
+/// one cell.
+fn are_entries(alloc: Global, bytes: &[u8]) -> Result<bool, Fail> {
+    let (entries, next) = take_entries(alloc, two_by_two()?, bytes, 1)?;
+    Ok(next == 59 && entries.len() == 2 && is_of_one(&entries[1], &[7, 8]))
 }
 
 #[test]
 fn entries_are_read_and_those_of_one_cell_refused(rt: HostRuntime) -> Result<(), Fail> {
-    let alloc = rt.alloc();
-    let shape = two_by_two()?;
-    let (entries, next) = take_entries(alloc, shape, &ENTRIES, 1)?;
-    assert_eq!(rt; next, 59);
-    assert_eq!(rt; entries.len(), 2);
-    assert_eq!(rt; entries[1].out.count(), 1);
-    assert_eq!(rt; entries[1].payload.bytes(), [7, 8].as_slice());
+    assert!(rt; are_entries(rt.alloc(), &ENTRIES)?);
     let mut in_two = ENTRIES;
     in_two[54] = 0;
-    let fault = take_entries(alloc, shape, &in_two, 1).err();
-    assert!(rt; fault == Some(Take::Bad { at: 1 }));
+    assert!(rt; are_no_entries(rt.alloc(), two_by_two()?, &in_two));
     Ok(())
 }
 
@@ -96,63 +109,102 @@ fn are_no_regions(alloc: Global, cell: Shape, bytes: &[u8]) -> bool {
     take_regions(alloc, cell, &[cell], bytes, 1).err() == Some(Take::Bad { at: 1 })
 }
 
-/// Whether the bytes behind the first are refused as entries of one cell, at that place.
-fn are_no_entries(alloc: Global, cell: Shape, bytes: &[u8]) -> bool {
-    take_entries(alloc, cell, bytes, 1).err() == Some(Take::Bad { at: 1 })
+/// Whether the bytes behind the first are refused as entries of a shape, at that place.
+fn are_no_entries(alloc: Global, shape: Shape, bytes: &[u8]) -> bool {
+    take_entries(alloc, shape, bytes, 1).err() == Some(Take::Bad { at: 1 })
+}
+
+/// Whether the region pair's bytes are refused wherever they are cut.
+fn cut_pairs_are_refused(alloc: Global, cell: Shape) -> bool {
+    for length in 0..PAIR.len() {
+        if !are_no_regions(alloc, cell, &PAIR[..length]) {
+            return false;
+        }
+    }
+    true
+}
+
+/// Whether the entry's bytes are.
+fn cut_entries_are_refused(alloc: Global, cell: Shape) -> bool {
+    for length in 0..ENTRY.len() {
+        if !are_no_entries(alloc, cell, &ENTRY[..length]) {
+            return false;
+        }
+    }
+    true
 }
 
 #[test]
 fn stores_that_are_cut_are_refused(rt: HostRuntime) -> Result<(), Fail> {
-    let alloc = rt.alloc();
-    let cell = one_cell()?;
+    let (alloc, cell) = (rt.alloc(), one_cell()?);
     assert!(rt; !are_no_regions(alloc, cell, &PAIR));
     assert!(rt; !are_no_entries(alloc, cell, &ENTRY));
-    for length in 0..PAIR.len() {
-        assert!(rt; are_no_regions(alloc, cell, &PAIR[..length]));
-    }
-    for length in 0..ENTRY.len() {
-        assert!(rt; are_no_entries(alloc, cell, &ENTRY[..length]));
-    }
+    assert!(rt; cut_pairs_are_refused(alloc, cell));
+    assert!(rt; cut_entries_are_refused(alloc, cell));
     Ok(())
+}
+
+/// Whether the region pair's bytes are refused with the byte at a place changed.
+fn changed_pair_is_refused(alloc: Global, cell: Shape, place: usize) -> bool
+    requires { place < 43 }
+{
+    let mut bytes = PAIR;
+    bytes[place] ^= 1;
+    are_no_regions(alloc, cell, &bytes)
+}
+
+/// Whether the region pair's bytes are refused just where a changed byte makes no other store.
+fn changed_pairs_are_refused(alloc: Global, cell: Shape) -> bool {
+    for place in 1..PAIR.len() {
+        // a second set of no run, or no region pair, makes a shorter store
+        let shorter = place == 22 || place == 34;
+        if changed_pair_is_refused(alloc, cell, place) == shorter {
+            return false;
+        }
+    }
+    true
+}
+
+/// Whether the entry's bytes are refused with the byte at a place changed.
+fn changed_entry_is_refused(alloc: Global, cell: Shape, place: usize) -> bool
+    requires { place < 38 }
+{
+    let mut bytes = ENTRY;
+    bytes[place] ^= 1;
+    are_no_entries(alloc, cell, &bytes)
+}
+
+/// Whether the entry's bytes are refused just where a changed byte makes no other store.
+fn changed_entries_are_refused(alloc: Global, cell: Shape) -> bool {
+    for place in 1..ENTRY.len() {
+        // another payload, a set of no run, no entry
+        let other = place == 9 || place == 17 || place == 29;
+        if changed_entry_is_refused(alloc, cell, place) == other {
+            return false;
+        }
+    }
+    true
 }
 
 #[test]
 fn stores_that_are_changed_are_refused(rt: HostRuntime) -> Result<(), Fail> {
-    let alloc = rt.alloc();
-    let cell = one_cell()?;
-    for place in 1..PAIR.len() {
-        let mut bytes = PAIR;
-        bytes[place] ^= 1;
-        // a second set of no run, or no region pair, makes a shorter store
-        let shorter = place == 22 || place == 34;
-        assert!(rt; are_no_regions(alloc, cell, &bytes) != shorter);
-    }
-    for place in 1..ENTRY.len() {
-        let mut bytes = ENTRY;
-        bytes[place] ^= 1;
-        // another payload, a set of no run, no entry
-        let other = place == 9 || place == 17 || place == 29;
-        assert!(rt; are_no_entries(alloc, cell, &bytes) != other);
-    }
+    let (alloc, cell) = (rt.alloc(), one_cell()?);
+    assert!(rt; changed_pairs_are_refused(alloc, cell));
+    assert!(rt; changed_entries_are_refused(alloc, cell));
     Ok(())
+}
+
+/// Whether the region pair is refused where its input's set has this number.
+fn input_is_refused(alloc: Global, number: u8) -> Result<bool, Fail> {
+    let mut bytes = PAIR;
+    bytes[42] = number;
+    Ok(are_no_regions(alloc, one_cell()?, &bytes))
 }
 
 #[test]
 fn wrong_names_are_refused(rt: HostRuntime) -> Result<(), Fail> {
-    let alloc = rt.alloc();
-    let cell = one_cell()?;
-    let mut past = PAIR;
-    past[42] = 2;
-    assert!(rt;
-        are_no_regions(alloc, cell, &past),
-        "a number past the table"
-    );
-    let mut other = PAIR;
-    other[42] = 0;
-    assert!(rt;
-        are_no_regions(alloc, cell, &other),
-        "a set of another array"
-    );
+    assert!(rt; input_is_refused(rt.alloc(), 2)?, "a number past the table");
+    assert!(rt; input_is_refused(rt.alloc(), 0)?, "a set of another array");
     Ok(())
 }
 
@@ -164,14 +216,18 @@ const WRONG_COUNTS: [&[u8]; 3] = [
     &[9, 0, 0, 0, 0, 64, 0, 0, 1],
 ];
 
+/// Whether each of these is refused as region pairs of one cell and one cell.
+fn none_is_taken(alloc: Global, cell: Shape, rows: &[&[u8]]) -> bool {
+    first_taken(
+        rows,
+        |bytes| take_regions(alloc, cell, &[cell], bytes, 1).err(),
+    ) == None
+}
+
 #[test]
 fn wrong_counts_are_refused(rt: HostRuntime) -> Result<(), Fail> {
     let (alloc, cell) = (rt.alloc(), one_cell()?);
-    let regions = first_taken(
-        &WRONG_COUNTS,
-        |bytes| take_regions(alloc, cell, &[cell], bytes, 1).err(),
-    );
-    assert_eq!(rt; regions, None);
+    assert!(rt; none_is_taken(alloc, cell, &WRONG_COUNTS));
     // the first one has many payloads in few bytes, too
     assert!(rt; are_no_entries(alloc, cell, WRONG_COUNTS[0]));
     Ok(())
@@ -205,13 +261,22 @@ fn entries_again(alloc: Global, shape: Shape, bytes: &[u8]) -> Result<Vec<u8>, F
     Ok(again)
 }
 
-#[test]
-fn what_was_read_is_written_alike(rt: HostRuntime) -> Result<(), Fail> {
-    let alloc = rt.alloc();
+/// Whether region pairs are written again as the bytes before place 85 of which they were read.
+fn pairs_are_alike(alloc: Global) -> Result<bool, Fail> {
     let shape = two_by_two()?;
     let pairs = regions_again(alloc, shape, &[shape, shape], &PAIRS)?;
-    assert_eq!(rt; pairs.as_slice(), &PAIRS[..85]);
-    let entries = entries_again(alloc, shape, &ENTRIES)?;
-    assert_eq!(rt; entries.as_slice(), ENTRIES.as_slice());
+    Ok(pairs.as_slice() == &PAIRS[..85])
+}
+
+/// Whether entries are written again as their bytes.
+fn entries_are_alike(alloc: Global) -> Result<bool, Fail> {
+    let entries = entries_again(alloc, two_by_two()?, &ENTRIES)?;
+    Ok(entries.as_slice() == ENTRIES.as_slice())
+}
+
+#[test]
+fn what_was_read_is_written_alike(rt: HostRuntime) -> Result<(), Fail> {
+    assert!(rt; pairs_are_alike(rt.alloc())?);
+    assert!(rt; entries_are_alike(rt.alloc())?);
     Ok(())
 }

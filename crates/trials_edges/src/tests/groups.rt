@@ -27,6 +27,9 @@ const INIT_CALLS: u64 = 13;
 
 const APPEND_CALLS: u64 = 10;
 
+/// What a stop may leave of writings that are not synced.
+const STOPS: [Torn; 3] = [Torn::Old, Torn::New, Torn::Ones];
+
 /// A station with these bytes, whose disk calls all fail past so many.
 fn stopped(alloc: Global, disk: &[u8], passes: u64) -> Result<MemStation, NoMemory>
     ensures { IfOk result (λ s. s ≡ ledger_before disk.now [] [] (Some passes)) }
@@ -166,14 +169,15 @@ fn adds_the_group(station: &mut MemStation) -> bool
         && group_at(station, 54) == Ok(Group::Bad)
 }
 
+/// Whether a stop leaves the log with its group.
+fn leaves_log(alloc: Global, station: &MemStation) -> Result<bool, NoMemory> {
+    Ok(leaves(alloc, station, Torn::New, LOG)? && leaves(alloc, station, Torn::Old, LOG)?)
+}
+
 /// Whether the empty log has a group once it is added, as read and as a stop leaves it.
 fn the_group_is_added(alloc: Global) -> Result<bool, NoMemory> {
     let mut station = failing_empty(alloc, 99)?;
-    Ok(
-        adds_the_group(&mut station)
-            && leaves(alloc, &station, Torn::New, LOG)?
-            && leaves(alloc, &station, Torn::Old, LOG)?,
-    )
+    Ok(adds_the_group(&mut station) && leaves_log(alloc, &station)?)
 }
 
 #[test]
@@ -192,17 +196,22 @@ fn leaves_whole(
     Ok(is_without_or_with(&mut again, has_it))
 }
 
+/// Whether each stop leaves the log without its group, where it need not have it, or with it whole.
+fn each_leaves_whole(alloc: Global, station: &MemStation, has_it: bool) -> Result<bool, NoMemory> {
+    for torn in STOPS {
+        if !leaves_whole(alloc, station, torn, has_it)? {
+            return Ok(false);
+        }
+    }
+    Ok(true)
+}
+
 /// Whether an adding of which so many disk calls pass is done exactly where all of them do, and
 /// leaves the log without the group or with it.
 fn is_added_whole(alloc: Global, passes: u64) -> Result<bool, NoMemory> {
     let mut station = stopped_empty(alloc, passes)?;
     let is_added = add(&mut station, LINE).is_ok();
-    Ok(
-        is_added == (passes == APPEND_CALLS)
-            && leaves_whole(alloc, &station, Torn::Old, is_added)?
-            && leaves_whole(alloc, &station, Torn::New, is_added)?
-            && leaves_whole(alloc, &station, Torn::Ones, is_added)?,
-    )
+    Ok(is_added == (passes == APPEND_CALLS) && each_leaves_whole(alloc, &station, is_added)?)
 }
 
 #[test]
@@ -225,17 +234,27 @@ fn leaves_old_or_new(
     Ok(is_old_or_new(old, &EMPTY, &image, &mut again, is_made))
 }
 
+/// Whether each stop of `init` leaves what it may of these bytes.
+fn each_leaves_old_or_new(
+    alloc: Global,
+    old: &[u8],
+    station: &MemStation,
+    is_made: bool,
+) -> Result<bool, NoMemory> {
+    for torn in STOPS {
+        if !leaves_old_or_new(alloc, old, station, torn, is_made)? {
+            return Ok(false);
+        }
+    }
+    Ok(true)
+}
+
 /// Whether a making of which so many disk calls pass is done exactly where all of them do, and
 /// leaves the old bytes, or no log, or the empty log.
 fn is_made_whole(alloc: Global, old: &[u8], passes: u64) -> Result<bool, NoMemory> {
     let mut station = stopped(alloc, old, passes)?;
     let is_made = init(&mut station).is_ok();
-    Ok(
-        is_made == (passes == INIT_CALLS)
-            && leaves_old_or_new(alloc, old, &station, Torn::Old, is_made)?
-            && leaves_old_or_new(alloc, old, &station, Torn::New, is_made)?
-            && leaves_old_or_new(alloc, old, &station, Torn::Ones, is_made)?,
-    )
+    Ok(is_made == (passes == INIT_CALLS) && each_leaves_old_or_new(alloc, old, &station, is_made)?)
 }
 
 #[test]
