@@ -138,6 +138,7 @@ fn take_sets(
         return Err(Take::Bad { at });
     };
     make_room(bytes, count, at + 4, outs, tables)?;
+    places.reserve((count as usize).min(bytes.len() / 5))?;
     let mut runs = Vec::new(*places.allocator());
     let mut place = at + 4;
     for _index in 0..count {
@@ -213,6 +214,7 @@ fn take_rows(
     if count > MOST_ROWS {
         return Err(Take::Bad { at });
     }
+    names.reserve((count as usize * (inputs + 1)).min(bytes.len() / 4))?;
     let mut place = at + 4;
     for _index in 0..count {
         place = take_row(places, inputs, bytes, place, names)?;

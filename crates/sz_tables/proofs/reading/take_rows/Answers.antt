@@ -1,7 +1,8 @@
 -- One more row is that of the names behind those before it.
-use Rattle.std.proofs.Common.{◌≡◌, ℕ, ◌+◌, List, [], ◌∷◌, ◌++◌, length, ap, sym, subst, ◌∙◌, arith, rules}
+use Rattle.std.proofs.Common.{◌≡◌, ℕ, ◌+◌, List, [], ◌∷◌, ◌++◌, length, ap, sym, subst, ◌∙◌, arith}
 use Rattle.std.proofs.Common.{length-append}
 use Rattle.std.specs.List.{AllZip, flat_map}
+use Rattle.std.proofs.lemmas.Result.{err_from_is_err_and}
 use Rattle.sz_cells.specs.SetBytes.{four_bytes}
 use Rattle.sz_region.specs.Counted.{IsAt, rows_bytes}
 use Rattle.sz_region.specs.FullBytes.{Listed}
@@ -28,7 +29,7 @@ returns-then-count-gt-MOST_ROWS-clause-err c listed same =
 pub loop-index-init : goal.loop-index-init
 loop-index-init c = record {
   rows = [];
-  whole = omega (arith, ap length c.requires.names);
+  whole = omega (arith, ap length (c.in_ok-reserve.ensures.items ∙ c.requires.names));
   named = tt;
   bytes = at-nothing c.args.bytes.now (c.args.at + 4) c.in-Some.ensures.some.within;
 }
@@ -50,7 +51,8 @@ returns-in_err-place-clause-err c =
     (omega (arith, long, c.requires.few)) c.in-Some.ensures.some (omega arith) pairs.2
     (omega (arith, pairs.1, many)) inv.bytes)
     (c.in_err-place.ensures.err listed same) in
-    search rules
+    let p = err_from_is_err_and c.from_residual-in_err-place.result c.from_residual-in_err-place.ensures.1 in
+    rw (p.1, p.2) none
 
 pub loop-index-preserved : goal.loop-index-preserved
 loop-index-preserved c =

@@ -29,7 +29,7 @@ loop-index-init c =
       count = refl;
       each = All-nil (IsListed c.args.out c.args.ins.now);
       bytes = at-nothing c.args.bytes.now (c.args.at + 4) c.in-Some.ensures.some.within;
-      placed = subst (λ (ps : List Place). AllZip (IsPlaced all) ps []) (sym c.requires.places) tt;
+      placed = subst (λ (ps : List Place). AllZip (IsPlaced all) ps []) (sym (c.in_ok-reserve.ensures.items ∙ c.requires.places)) tt;
       extents = c.make_room.ensures.extents ∙ c.requires.extents;
       few = All-weaker (λ (t : SetsByNumber). t.sets ≡ []) (λ (t : SetsByNumber). length t.sets ≤ 0)
           (λ t none. omega (arith, ap length none)) tables c.make_room.ensures.none;
