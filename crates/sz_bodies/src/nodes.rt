@@ -54,7 +54,7 @@ pub(crate) fn take_nodes<R: Threads + Sync>(
     for node in nodes {
         let tried = &tries[index];
         let (list, kept, next) = take_tried(
-            alloc, format, node, base, outputs, bytes, place, tried,
+            rt, alloc, format, node, base, outputs, bytes, place, tried,
         )?;
         lists.push(list)?;
         stores.push(kept)?;
@@ -65,7 +65,8 @@ pub(crate) fn take_nodes<R: Threads + Sync>(
 }
 
 /// The list and the stores of the node that stands at a place, and the place behind it.
-pub(crate) fn take_node(
+pub(crate) fn take_node<R: Threads + Sync>(
+    rt: &R,
     alloc: Global,
     format: u8,
     node: &Node,
@@ -93,12 +94,13 @@ pub(crate) fn take_node(
         return Ok((list, None, place));
     }
     let own = list.as_slice();
-    let (kept, next) = stores_at(alloc, format, node, base, outputs, own, bytes, place)?;
+    let (kept, next) = stores_at(rt, alloc, format, node, base, outputs, own, bytes, place)?;
     Ok((list, Some(kept), next))
 }
 
 /// The stores of a list of a node that stand at a place, and the place behind them.
-fn stores_at(
+fn stores_at<R: Threads + Sync>(
+    rt: &R,
     alloc: Global,
     format: u8,
     node: &Node,
@@ -124,7 +126,7 @@ fn stores_at(
 {
     let op = op_at(alloc, node, base, outputs)?;
     shapes_are_within_limits(&op.out(), op.ins());
-    match take_stores(alloc, format, op, list, bytes, at) {
+    match take_stores(rt, alloc, format, op, list, bytes, at) {
         Ok((store, next)) => Ok((Arc::new(alloc, store)?, next)),
         Err(Take::Bad { .. }) => Err(TakeFault::Bad),
         Err(Take::NoMemory) => Err(TakeFault::NoMemory),

@@ -70,7 +70,16 @@ pub(crate) fn try_nodes<R: Threads + Sync>(
                     (site_over base.entry.now outputs.entry.now (get_or nodes.entry.now index n))
                     bytes.entry.now tried.new }
             {
-                try_node(alloc, format, &nodes[index], base, outputs, bytes, tried);
+                try_node(
+                    rt,
+                    alloc,
+                    format,
+                    &nodes[index],
+                    base,
+                    outputs,
+                    bytes,
+                    tried,
+                );
             },
         );
     }
@@ -115,7 +124,8 @@ fn end_or_none(node: &Node, guess: bool, bytes: &[u8], at: u64) -> u64 {
 }
 
 /// Reads a node where it may begin.
-fn try_node(
+fn try_node<R: Threads + Sync>(
+    rt: &R,
     alloc: Global,
     format: u8,
     node: &Node,
@@ -128,14 +138,15 @@ fn try_node(
     requires fits { IsFitting base.now outputs.now node.now }
     ensures { IsTried format (site_over base.now outputs.now node.now) bytes.now tried.new }
 {
-    tried.taken = match take_node(alloc, format, node, base, outputs, bytes, tried.at) {
+    tried.taken = match take_node(rt, alloc, format, node, base, outputs, bytes, tried.at) {
         Ok((list, kept, next)) => Some(TakenNode { list, kept, next }),
         Err(_) => None,
     };
 }
 
 /// As [`take_node`], by what was read before where that was at the same place.
-pub(crate) fn take_tried(
+pub(crate) fn take_tried<R: Threads + Sync>(
+    rt: &R,
     alloc: Global,
     format: u8,
     node: &Node,
@@ -163,7 +174,7 @@ pub(crate) fn take_tried(
             return Ok((list, kept, taken.next));
         }
     }
-    take_node(alloc, format, node, base, outputs, bytes, at)
+    take_node(rt, alloc, format, node, base, outputs, bytes, at)
 }
 
 /// The same list, and the same stores once more.

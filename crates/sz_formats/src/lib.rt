@@ -4,7 +4,7 @@
 //!
 //! ```
 //! put_stores(alloc, 2, &store, &mut bytes)?;
-//! let (again, next) = take_stores(alloc, 2, op, &list, &bytes, 0)?;
+//! let (again, next) = take_stores(&rt, alloc, 2, op, &list, &bytes, 0)?;
 //! // again keeps what store keeps, and next == bytes.len()
 //! ```
 //!

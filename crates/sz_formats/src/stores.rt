@@ -8,6 +8,7 @@ ghost use Rattle.sz_formats.specs.Terms.{is_format, BeginEachIn, NoneBeginIn};
 use crate::respelling::respell_each;
 use std::alloc::Global;
 use std::sync::Arc;
+use std::thread::Threads;
 use sz_cells::{NoMemory, Shape};
 use sz_region::{Take, shapes_are_within_limits};
 use sz_spec::{OpAt, Strategy};
@@ -67,8 +68,9 @@ fn put_short(alloc: Global, store: &NodeStore, to: &mut Vec<u8>) -> Result<(), N
 /// any place. Each piece is placed.
 ///
 /// Takes time and memory in the number of the bytes, in format 2 as many as they would be in
-/// format 1.
-pub fn take_stores(
+/// format 1. A long table of sets is read in two parts side by side.
+pub fn take_stores<R: Threads + Sync>(
+    rt: &R,
     alloc: Global,
     format: u8,
     op: Arc<OpAt>,
@@ -88,14 +90,15 @@ pub fn take_stores(
         (NoneBeginIn format s (stored_in list.now) bytes.now at)) }
 {
     if format == 2 {
-        take_short(alloc, op, list, bytes, at)
+        take_short(rt, alloc, op, list, bytes, at)
     } else {
-        NodeStore::take_bytes(alloc, op, list, bytes, at)
+        NodeStore::take_bytes(rt, alloc, op, list, bytes, at)
     }
 }
 
 /// [`take_stores`] in format 2.
-fn take_short(
+fn take_short<R: Threads + Sync>(
+    rt: &R,
     alloc: Global,
     op: Arc<OpAt>,
     list: &[Strategy],
@@ -115,7 +118,7 @@ fn take_short(
     within_limits(&op);
     let mut wide = Vec::new(alloc);
     let next = respell_each(alloc, 2, &op, list, bytes, at, &mut wide)?;
-    let (store, _end) = NodeStore::take_bytes(alloc, op, list, &wide, 0)?;
+    let (store, _end) = NodeStore::take_bytes(rt, alloc, op, list, &wide, 0)?;
     Ok((store, next))
 }
 

@@ -44,6 +44,7 @@ use crate::looking::{look, tree_for};
 use std::alloc::Global;
 use std::marker::Model;
 use std::sync::Arc;
+use std::thread::Threads;
 use sz_cells::{CellBits, NoMemory};
 use sz_frame::{PieceLineage, Region};
 use sz_region::Take;
@@ -259,8 +260,10 @@ impl FullMany {
     /// The store of the region pairs whose bytes begin at a place, and the place behind them.
     /// `Take::Bad` exactly where none begin there.
     ///
-    /// Costs by the bytes that it reads. The store has each different set once.
-    pub fn take_bytes(
+    /// Costs by the bytes that it reads. The store has each different set once. A long table of
+    /// sets is read in two parts side by side.
+    pub fn take_bytes<R: Threads + Sync>(
+        rt: &R,
         alloc: Global,
         at: Arc<OpAt>,
         dir: Dir,
@@ -274,7 +277,7 @@ impl FullMany {
         ensures err { let s = arc_value at in IfErr result
             (λ e. SaysNoRegions s.out s.ins bytes.now from e) }
     {
-        let (table, next) = RegionTable::take_bytes(alloc, at.out(), at.ins(), bytes, from)?;
+        let (table, next) = RegionTable::take_bytes(rt, alloc, at.out(), at.ins(), bytes, from)?;
         let store = FullMany::of_table(alloc, at, dir, table)?;
         Ok((store, next))
     }

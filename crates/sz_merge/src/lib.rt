@@ -6,7 +6,7 @@
 //! the same input sets, no output cell is in two, none is empty. Stores of payloads stay.
 //!
 //! ```
-//! let merged = merge(alloc, &at, &[Strategy::FullManyB], &store)?;
+//! let merged = merge(alloc, rt, &at, &[Strategy::FullManyB], &store)?;
 //! // merged.kinds[0] is how many kinds of lineage the store has, and merged.store stands for the
 //! // same as the store
 //! ```
@@ -51,6 +51,7 @@ use crate::parts::{merge_part, within_limits};
 pub use crate::task::{MergeTask, attend_merges};
 use std::alloc::Global;
 use std::sync::Arc;
+use std::thread::Threads;
 use sz_cells::NoMemory;
 use sz_spec::{OpAt, Strategy};
 use sz_store::NodeStore;
@@ -71,8 +72,9 @@ pub struct Merged {
 /// the writing of the merged stores and the reading of these. A store that is given is written only
 /// where it stays as it is, and is read again only where the sets of its region pairs are joined:
 /// where there is not one input, a set of it has no cell, or a cell is in two region pairs.
-pub fn merge(
+pub fn merge<R: Threads + Sync>(
     alloc: Global,
+    rt: &R,
     at: &Arc<OpAt>,
     list: &[Strategy],
     store: &NodeStore,
@@ -88,7 +90,7 @@ pub fn merge(
     let mut bytes = Vec::new(alloc);
     let mut kinds = Vec::new(alloc);
     put_merged(alloc, store, &mut bytes, &mut kinds)?;
-    let store = read_merged(alloc, at, list, &bytes)?;
+    let store = read_merged(alloc, rt, at, list, &bytes)?;
     Ok(Merged {
         store,
         bytes,
@@ -97,8 +99,9 @@ pub fn merge(
 }
 
 /// The stores that these bytes spell.
-fn read_merged(
+fn read_merged<R: Threads + Sync>(
     alloc: Global,
+    rt: &R,
     at: &Arc<OpAt>,
     list: &[Strategy],
     bytes: &[u8],
@@ -111,15 +114,16 @@ fn read_merged(
     ensures whole { IfOk result (λ s. is_whole s ≡ true) }
 {
     let own = Arc::try_clone(at)?;
-    match NodeStore::take_bytes(alloc, own, list, bytes, 0) {
+    match NodeStore::take_bytes(rt, alloc, own, list, bytes, 0) {
         Ok((store, _)) => Ok(store),
         Err(_) => Err(NoMemory),
     }
 }
 
 /// Merged stores to share: those that are given where merging changes nothing.
-pub(crate) fn merge_shared(
+pub(crate) fn merge_shared<R: Threads + Sync>(
     alloc: Global,
+    rt: &R,
     at: &Arc<OpAt>,
     list: &[Strategy],
     store: &Arc<NodeStore>,
@@ -140,7 +144,7 @@ pub(crate) fn merge_shared(
         let own = Arc::try_clone(store)?;
         return Ok(own);
     }
-    let store = read_merged(alloc, at, list, &bytes)?;
+    let store = read_merged(alloc, rt, at, list, &bytes)?;
     let merged = Arc::new(alloc, store)?;
     Ok(merged)
 }

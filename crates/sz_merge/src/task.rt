@@ -9,6 +9,7 @@ use crate::merge_shared;
 use crossbeam_channel::Receiver;
 use std::alloc::Global;
 use std::sync::{Arc, Wait};
+use std::thread::Threads;
 use sz_cells::NoMemory;
 use sz_shelf::{Pass, Shelf};
 use sz_spec::{OpAt, Strategy};
@@ -36,7 +37,7 @@ pub struct MergeTask {
 /// and the turn in which it is put in its place the gate is called.
 ///
 /// While a task is merged, its shelf is free: asks are answered as before and after.
-pub fn attend_merges<G: MergeGate, R: Wait>(
+pub fn attend_merges<G: MergeGate, R: Threads + Wait + Sync>(
     alloc: Global,
     rt: &R,
     tasks: Receiver<MergeTask>,
@@ -58,7 +59,7 @@ impl Message for MergeTask {
 }
 
 /// Merges the stores of each message's task, until the channel is closed.
-pub(crate) fn attend_to_each<M: Message, G: MergeGate, R: Wait>(
+pub(crate) fn attend_to_each<M: Message, G: MergeGate, R: Threads + Wait + Sync>(
     alloc: Global,
     rt: &R,
     messages: Receiver<M>,
@@ -71,7 +72,7 @@ pub(crate) fn attend_to_each<M: Message, G: MergeGate, R: Wait>(
 
 /// Merges the stores of a task's shelf, in two turns: a share of them is taken, and the merged ones
 /// are put in their place. After `NoMemory` they are not.
-fn merge_task<G: MergeGate, R: Wait>(
+fn merge_task<G: MergeGate, R: Threads + Wait + Sync>(
     alloc: Global,
     rt: &R,
     task: MergeTask,
@@ -88,7 +89,7 @@ fn merge_task<G: MergeGate, R: Wait>(
 }
 
 /// Merges the stores of a sealed shelf.
-fn merge_on<G: MergeGate, R: Wait>(
+fn merge_on<G: MergeGate, R: Threads + Wait + Sync>(
     alloc: Global,
     rt: &R,
     at: &Arc<OpAt>,
@@ -108,7 +109,7 @@ fn merge_on<G: MergeGate, R: Wait>(
         unreachable!() // the pass saw the seal
     };
     pass.kept(); // its tag is one
-    let merged = merge_shared(alloc, at, list, &store)?;
+    let merged = merge_shared(alloc, rt, at, list, &store)?;
     gate.before_swap();
     shelf.swap(rt, pass, merged);
     Ok(())

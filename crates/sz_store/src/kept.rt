@@ -16,6 +16,7 @@ ghost use Rattle.sz_spec.specs.declared.modes.Mode.TheVariants as mode;
 use crate::checklist::StoreChecklist;
 use std::alloc::Global;
 use std::sync::Arc;
+use std::thread::Threads;
 use sz_cells::{CellBits, NoMemory};
 use sz_frame::PieceLineage;
 use sz_full_many::FullMany;
@@ -149,7 +150,8 @@ impl KeptStore {
 
     /// The store of a strategy whose bytes begin at a place, and the place behind them.
     /// `Take::Bad` exactly where none begins there.
-    pub fn take_bytes(
+    pub fn take_bytes<R: Threads + Sync>(
+        rt: &R,
         alloc: Global,
         at: Arc<OpAt>,
         strategy: Strategy,
@@ -168,8 +170,8 @@ impl KeptStore {
         match strategy {
             Strategy::FullOneB => take_one(alloc, at, Dir::Back, bytes, from),
             Strategy::FullOneF => take_one(alloc, at, Dir::Forward, bytes, from),
-            Strategy::FullManyB => take_many(alloc, at, Dir::Back, bytes, from),
-            Strategy::FullManyF => take_many(alloc, at, Dir::Forward, bytes, from),
+            Strategy::FullManyB => take_many(rt, alloc, at, Dir::Back, bytes, from),
+            Strategy::FullManyF => take_many(rt, alloc, at, Dir::Forward, bytes, from),
             Strategy::PayOne => take_pay(alloc, at, false, false, bytes, from),
             Strategy::PayMany => take_pay(alloc, at, true, false, bytes, from),
             Strategy::CompOne => take_pay(alloc, at, false, true, bytes, from),
@@ -214,7 +216,8 @@ fn take_one(
 }
 
 /// A store by sets.
-fn take_many(
+fn take_many<R: Threads + Sync>(
+    rt: &R,
     alloc: Global,
     at: Arc<OpAt>,
     dir: Dir,
@@ -228,7 +231,7 @@ fn take_many(
     ensures err { IfErr result (λ e. SaysNone
         (NoneBegins (arc_value at) mode.Full bytes.now from) from e) }
 {
-    let (store, next) = FullMany::take_bytes(alloc, at, dir, bytes, from)?;
+    let (store, next) = FullMany::take_bytes(rt, alloc, at, dir, bytes, from)?;
     Ok((KeptStore::Many(store), next))
 }
 

@@ -51,6 +51,7 @@ pub use checklist::StoreChecklist;
 use std::alloc::Global;
 use std::marker::Model;
 use std::sync::Arc;
+use std::thread::Threads;
 use sz_cells::{CellBits, NoMemory};
 use sz_frame::PieceLineage;
 use sz_region::{Take, shapes_are_within_limits};
@@ -282,8 +283,9 @@ impl NodeStore {
 
     /// The stores of a list of strategies of an operator, whose bytes begin one after another at a
     /// place, and the place behind them. `Take::Bad` exactly where none begin so. Each piece is
-    /// placed.
-    pub fn take_bytes(
+    /// placed. A long table of sets is read in two parts side by side.
+    pub fn take_bytes<R: Threads + Sync>(
+        rt: &R,
         alloc: Global,
         at: Arc<OpAt>,
         list: &[Strategy],
@@ -300,7 +302,7 @@ impl NodeStore {
         ensures err { let s = arc_value at in IfErr result (λ e.
             SaysNone (NoneBegin s (stored_in list.now) bytes.now from) from e) }
     {
-        let (stores, next) = take_all(alloc, &at, list, bytes, from)?;
+        let (stores, next) = take_all(rt, alloc, &at, list, bytes, from)?;
         let placed = vec![in alloc; true; pieces_of(at.out()) as usize]?;
         let list = list.to_vec(alloc)?;
         let store = NodeStore {

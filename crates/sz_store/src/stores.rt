@@ -11,6 +11,7 @@ ghost use Rattle.sz_store.specs.Terms.{AreWordsOf, BeginEach, NoneBegin, SaysNon
 use crate::kept::KeptStore;
 use std::alloc::Global;
 use std::sync::Arc;
+use std::thread::Threads;
 use sz_cells::{NoMemory, Shape};
 use sz_frame::PieceLineage;
 use sz_region::{Take, shapes_are_within_limits};
@@ -151,7 +152,8 @@ pub fn put_all(stores: &[ListedStore], to: &mut Vec<u8>) -> Result<(), NoMemory>
 /// The stores of the stored strategies of a list, in its order, whose bytes begin one after the
 /// other, the first one's at a place; and the place behind the last one's. `Take::Bad` exactly
 /// where none begin so.
-pub fn take_all(
+pub fn take_all<R: Threads + Sync>(
+    rt: &R,
     alloc: Global,
     at: &Arc<OpAt>,
     list: &[Strategy],
@@ -169,7 +171,7 @@ pub fn take_all(
     let mut stores = Vec::new(alloc);
     let mut place = from;
     for strategy in list {
-        match take_next(alloc, at, *strategy, bytes, place, &mut stores) {
+        match take_next(rt, alloc, at, *strategy, bytes, place, &mut stores) {
             Ok(next) => place = next,
             Err(Take::Bad { .. }) => return Err(Take::Bad { at: from }),
             Err(Take::NoMemory) => return Err(Take::NoMemory),
@@ -180,7 +182,8 @@ pub fn take_all(
 
 /// Adds the store of a strategy whose bytes begin at a place, if the strategy has one, and gives
 /// the place behind them.
-fn take_next(
+fn take_next<R: Threads + Sync>(
+    rt: &R,
     alloc: Global,
     at: &Arc<OpAt>,
     strategy: Strategy,
@@ -202,7 +205,7 @@ fn take_next(
         return Ok(place);
     }
     let own = Arc::try_clone(at)?;
-    let (kept, next) = KeptStore::take_bytes(alloc, own, strategy, bytes, place)?;
+    let (kept, next) = KeptStore::take_bytes(rt, alloc, own, strategy, bytes, place)?;
     stores.push(ListedStore { strategy, kept })?;
     Ok(next)
 }

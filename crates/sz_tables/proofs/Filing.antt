@@ -8,7 +8,6 @@ use Rattle.std.proofs.lemmas.List.Concat.{flat_map-append}
 use Rattle.std.proofs.lemmas.Simd.{map-map}
 use Rattle.sz_cells.specs.declared.Run.{Run}
 use Rattle.sz_cells.specs.Runs.{indexes_of}
-use Rattle.sz_tables.specs.declared.spans.Span.{Span}
 use Rattle.sz_tables.specs.Filed.{Filed, Files, HasRoom, IsWidened, rest_under}
 
 -- ---- pieces, each under the rest of what it is mixed to
@@ -58,7 +57,7 @@ widened-filed mix index after pieces was wide =
     ]
 
 -- room in the list of spans stays where the list gets more, and so does room for their entries and what they cut
-pub room-kept : {Cut : Type 0} (spans after : List Span) (spare capacity more entries grown : ℕ) → after ≡ spans
+pub room-kept : {Cut X : Type 0} (spans after : List X) (spare capacity more entries grown : ℕ) → after ≡ spans
     → HasRoom (length spans) spare capacity → capacity ≤ more → spare ≤ entries → entries ≤ grown → Cut
     → HasRoom (length after) spare more × (spare ≤ grown) × Cut
 room-kept spans after spare capacity more entries grown same was wider some onward cut = (

@@ -20,6 +20,7 @@ pub mod Rounding
 pub mod FirstCells
 pub mod ReadPairs
 pub mod Placing
+pub mod Parts
 pub mod Listed
 pub mod Counting
 pub mod Ticking

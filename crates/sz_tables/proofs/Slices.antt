@@ -4,7 +4,7 @@
 -- new one gives what was added.
 use Rattle.std.proofs.Common.{◌≡◌, ◌≢◌, ℕ, zero, suc, min, max, ◌+◌, ◌-◌, ◌%◌, ◌<◌, ◌≤◌, List, [], ◌∷◌, ◌++◌, length}
 use Rattle.std.proofs.Common.{All, take, drop, fold, slice_range, refl, sym, ap, ap₂, ◌∙◌, inl, inr, arith}
-use Rattle.std.proofs.Common.{length-append, Some}
+use Rattle.std.proofs.Common.{length-append, Some, slice_index_or}
 use Rattle.std.specs.List.{slice_get}
 use Rattle.std.proofs.Math.Seq.{drop-append_seam}
 use Rattle.std.proofs.lemmas.List.{map-append, length-drop, take_all, take-append-le, drop-append-le}
@@ -13,7 +13,7 @@ use Rattle.std.proofs.lemmas.Bool.{cases_lt}
 use Rattle.std.proofs.lemmas.List.Elements.{All-head, All-tail, All-push}
 use Rattle.sz_spec.proofs.FlowOutputs.{slice_get-left, slice_get-seam}
 use Rattle.sz_tables.specs.declared.spans.Span.{Span}
-use Rattle.sz_tables.specs.Tables.{AreDifferent, slices_by_number}
+use Rattle.sz_tables.specs.Tables.{AreDifferent, slices_by_number, spans_from, end_from}
 
 -- ---- spans, where more stands behind
 
@@ -58,6 +58,49 @@ within-push xs more spans s within start end =
     All-push (IsWithin (xs ++ more)) spans s
     (λ k d lt. let at = within k d lt in (omega arith, omega (arith, length-append xs more)))
     (omega arith, omega (arith, length-append xs more))
+
+-- ---- spans by where they end
+
+pub spans-count : (start : ℕ) (ends : List ℕ) → length (spans_from start ends) ≡ length ends
+spans-count start [] = refl
+spans-count start (e ∷ ends) = ap suc (spans-count e ends)
+
+-- one more begins where the last one ends
+pub spans-push : (start : ℕ) (ends : List ℕ) (e : ℕ) → spans_from start (ends ++ e ∷ [])
+    ≡ spans_from start ends ++ (record { start = end_from start ends; end = e }) ∷ []
+spans-push start [] e = refl
+spans-push start (d ∷ ends) e = ap (λ (ss : List Span). record { start = start; end = d } ∷ ss) (spans-push d ends e)
+
+pub end-push : (start : ℕ) (ends : List ℕ) (e : ℕ) → end_from start (ends ++ e ∷ []) ≡ e
+end-push start [] e = refl
+end-push start (d ∷ ends) e = end-push d ends e
+
+-- a span begins where the one before it ends, and the first one at the place
+next-span : (start : ℕ) (ends : List ℕ) (n : ℕ) (d : Span) → suc n < length ends
+    → slice_index_or (spans_from start ends)
+    (suc n) d ≡ record { start = slice_index_or ends n 0; end = slice_index_or ends (suc n) 0 }
+next-span start [] n d inside = absurd (omega arith)
+next-span start (a ∷ []) n d inside = absurd (omega arith)
+next-span start (a ∷ b ∷ ends) zero d inside = refl
+next-span start (a ∷ b ∷ ends) (suc n) d inside = next-span a (b ∷ ends) n d (omega arith)
+
+pub span-behind : (ends : List ℕ) (n : ℕ) (d : Span) → n ≢ 0 → n < length ends
+    → record { start = slice_index_or ends (n - 1) 0; end = slice_index_or ends n 0 }
+    ≡ slice_index_or (spans_from 0 ends) n d
+span-behind ends zero d some inside = absurd (some refl)
+span-behind ends (suc n) d some inside =
+    let make : ℕ → Span = λ m. record {
+      start = slice_index_or ends m 0;
+      end = slice_index_or ends (suc n) 0;
+    } in
+    let before : suc n - 1 ≡ n = omega arith in
+    ap make before ∙ sym (next-span 0 ends n d inside)
+
+pub first-span : (ends : List ℕ) (n : ℕ) (d : Span) → n ≡ 0 → n < length ends
+    → record { start = 0; end = slice_index_or ends n 0 } ≡ slice_index_or (spans_from 0 ends) n d
+first-span [] n d first inside = absurd (omega arith)
+first-span (a ∷ ends) zero d first inside = refl
+first-span (a ∷ ends) (suc n) d first inside = absurd (omega arith)
 
 -- ---- one more of different ones
 

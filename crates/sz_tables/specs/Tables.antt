@@ -39,6 +39,16 @@ spelled e runs = record { extent = e; indexes = flat_map indexes_of runs }
 abbrev pub slices_by_number : {X : Type 0} → List X → List Span → List (List X)
 slices_by_number {X} xs spans = map (λ s. slice_range xs s.start s.end) spans
 
+-- the spans that end at these places, each from where the one before it ends, the first one from a place on
+abbrev pub spans_from : ℕ → List ℕ → List Span
+spans_from start [] = []
+spans_from start (end ∷ ends) = record { start = start; end = end } ∷ spans_from end ends
+
+-- where the last of them ends, and where there is none the place
+abbrev pub end_from : ℕ → List ℕ → ℕ
+end_from start [] = start
+end_from start (end ∷ ends) = end_from end ends
+
 -- the runs of each set, in the order of the sets' numbers
 abbrev pub runs_by_number : List Run → List Span → List (List Run)
 runs_by_number runs spans = slices_by_number runs spans

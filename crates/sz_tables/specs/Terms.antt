@@ -33,7 +33,7 @@ pub use Rattle.sz_tables.specs.Filed.{IsLastBelow, IsWidened, rest_under, told}
 pub use Rattle.sz_tables.specs.Listed.{AreNamesOfRow, BeginsTable, HasNumber, IsOneOf, IsRead}
 pub use Rattle.sz_tables.specs.Listing.{AreListed, AreSetsOf, listed_as, numbers_at, shifted}
 pub use Rattle.sz_tables.specs.Payloads.{mixed_byte, payload_at, payload_mix}
-pub use Rattle.sz_tables.specs.Placing.{Gets, IsOfArray, IsPlaced, IsRowNamed, place_for}
+pub use Rattle.sz_tables.specs.Placing.{Gets, IsOfArray, IsPart, IsRowNamed, IsTable, NoPart, place_for}
 pub use Rattle.sz_tables.specs.Rows.{HasRoomFor, IsRowOf, Keeps, Row, TakeEach, Takes, empty_rows}
 pub use Rattle.sz_tables.specs.Rows.{empty_sets, number_in, pairings, row_at, rows_of, runs_in}
 pub use Rattle.sz_tables.specs.Rows.{set_at, sets_of, table_of, weight_of}
@@ -42,4 +42,4 @@ pub use Rattle.sz_tables.specs.Scans.{pair_adds, pairing_at}
 pub use Rattle.sz_tables.specs.Sets.{IsRound}
 pub use Rattle.sz_tables.specs.Stores.{cells_in, most_given}
 pub use Rattle.sz_tables.specs.Tables.{AreDifferent, HasAtMostOneMore, first_capacities, first_of}
-pub use Rattle.sz_tables.specs.Tables.{mix_of, mixed, spelled}
+pub use Rattle.sz_tables.specs.Tables.{mix_of, mixed, spans_from, spelled}

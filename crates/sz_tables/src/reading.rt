@@ -2,7 +2,7 @@
 //! and a region pair is a row of the numbers that its sets have there. Only where more sets are
 //! listed than region pairs, the sets are kept until it is known which of them are named.
 
-ghost use Rattle.std.specs.Prelude.{◌≡◌, ◌<◌, ◌≤◌, ◌+◌, ◌*◌, ◌^◌, ◌++◌, ◌∷◌};
+ghost use Rattle.std.specs.Prelude.{◌≡◌, ◌<◌, ◌≤◌, ◌+◌, ◌-◌, ◌*◌, ◌^◌, ◌++◌, ◌∷◌};
 ghost use Rattle.sz_tables.specs.Terms.{[], ℕ, List, true, length, map, All, OnOk, IfOk, IfErr};
 ghost use Rattle.sz_tables.specs.Terms.{IfSome, Some, AllZip, flat_map, slice_get, is_extent};
 ghost use Rattle.sz_tables.specs.Terms.{size_of, AreRunsFrom, four_bytes, extent_at, counted};
@@ -10,12 +10,15 @@ ghost use Rattle.sz_tables.specs.Terms.{rows_bytes, IsAt, Listed, IsListed, list
 ghost use Rattle.sz_tables.specs.Terms.{BeginsRegions, OnBad, NoRegionsBegin, SaysNoRegions};
 ghost use Rattle.sz_tables.specs.Terms.{NoneAt, AreFew, IsNameFor, ArePairNames, AreStoreNames};
 ghost use Rattle.sz_tables.specs.Terms.{HasAtMostOneMore, spelled, Row, pairings, rows_of};
-ghost use Rattle.sz_tables.specs.Terms.{IsPlaced, IsOfArray, Gets, IsRowNamed, place_for};
+ghost use Rattle.sz_tables.specs.Terms.{IsOfArray, Gets, IsRowNamed, place_for};
+ghost use Rattle.sz_tables.specs.Terms.{IsTable, IsPart, NoPart};
 
-use crate::region_table::{RegionTable, tables_for};
+use crate::region_table::{RegionTable, are_few, tables_for};
 use crate::room::make_room;
 use crate::set_table::SetTable;
+use rayon::join;
 use std::alloc::Global;
+use std::thread::Threads;
 use sz_cells::{NoMemory, Run, Shape};
 use sz_region::{
     MOST_ROWS, Take, shapes_are_within_limits, take_listed_runs, take_number, take_regions,
@@ -35,8 +38,10 @@ impl RegionTable {
     /// where none begins there.
     ///
     /// Takes time in the number of bytes that it reads, memory for each listed set, for four bytes a
-    /// name and while it reads for eight a listed set, and none for what is not there.
-    pub fn take_bytes(
+    /// name and while it reads for eight a listed set, and none for what is not there. A long
+    /// table of sets is read in two parts side by side.
+    pub fn take_bytes<R: Threads + Sync>(
+        rt: &R,
         alloc: Global,
         out: Shape,
         ins: &[Shape],
@@ -51,7 +56,7 @@ impl RegionTable {
         ensures err { IfErr result (λ e. SaysNoRegions out ins.now bytes.now at e) }
     {
         shapes_are_within_limits(&out, ins);
-        match take_as_listed(alloc, out, ins, bytes, at) {
+        match take_as_listed(rt, alloc, out, ins, bytes, at) {
             Ok(Some(taken)) => Ok(taken),
             Ok(None) => take_as_named(alloc, out, ins, bytes, at),
             Err(Take::Bad { .. }) => Err(Take::Bad { at }),
@@ -83,7 +88,8 @@ fn take_as_named(
 
 /// The table of the region pairs that begin at a place, with all sets that are listed. `None` where
 /// more sets of an array are listed than region pairs. `Bad` says any place.
-fn take_as_listed(
+fn take_as_listed<R: Threads + Sync>(
+    rt: &R,
     alloc: Global,
     out: Shape,
     ins: &[Shape],
@@ -99,48 +105,260 @@ fn take_as_listed(
     ensures within { IfOk result (λ o. IfSome o (λ r. r.1 ≤ length bytes.now)) }
     ensures err { IfErr result (λ e. OnBad e (NoRegionsBegin out ins.now bytes.now at)) }
 {
-    let mut outs = SetTable::new(alloc, out)?;
-    let mut tables = tables_for(alloc, ins)?;
-    let mut places = Vec::new(alloc);
-    let place = take_sets(out, ins, bytes, at, &mut outs, &mut tables, &mut places)?;
-    let mut names = Vec::new(alloc);
-    let (count, next) = take_rows(&places, ins.len(), bytes, place, &mut names)?;
-    match RegionTable::of_rows(outs, tables, names, count) {
-        Some(table) => Ok(Some((table, next))),
-        None => Ok(None),
-    }
+    let taken = match take_sets_beside(rt, alloc, out, ins, bytes, at)? {
+        Some(taken) => taken,
+        None => take_sets(alloc, out, ins, bytes, at)?,
+    };
+    with_rows(alloc, out, ins, bytes, at, taken)
 }
 
-/// The table of sets that begins at a place: each goes into the table of its array, and where it
-/// stands there behind the places. Answers the place behind them.
-fn take_sets(
+/// The table of the region pairs that begin at a place, whose listed sets were taken, as
+/// [`take_as_listed`] gives it.
+fn with_rows(
+    alloc: Global,
     out: Shape,
     ins: &[Shape],
     bytes: &[u8],
     at: u64,
-    outs: &mut SetTable,
-    tables: &mut [SetTable],
-    places: &mut Vec<Place>,
-) -> Result<u64, Take>
+    taken: TakenSets,
+) -> Result<Option<(RegionTable, u64)>, Take>
+    requires inputs { length ins.now ≤ 2 }
     requires right { All (λ e. is_extent e ≡ true) (out ∷ ins.now) }
-    requires extents { map (λ t. t.extent) (outs.old ∷ tables.old) ≡ out ∷ ins.now }
-    requires none { All (λ t. t.sets ≡ []) (outs.old ∷ tables.old) }
-    requires places { places.old.items ≡ [] }
-    ensures extents { map (λ t. t.extent) (outs.new ∷ tables.new) ≡ out ∷ ins.now }
-    ensures ok { IfOk result (λ next. (listed : List Listed)
-        × AreFew (IsListed out ins.now) listed
-        × AllZip (IsPlaced (map (λ t. t.sets) (outs.new ∷ tables.new))) places.new.items listed
-        × IsAt bytes.now at next (counted listed_bytes listed)) }
+    requires extents { map (λ t. t.extent) (taken.outs ∷ taken.tables.items) ≡ out ∷ ins.now }
+    requires taken { IsTable out ins.now bytes.now at taken.next
+        (map (λ t. t.sets) (taken.outs ∷ taken.tables.items)) taken.places.items }
+    ensures ok { IfOk result (λ o. IfSome o
+        (λ r. BeginsRegions out ins.now bytes.now at r.1 (pairings r.0))) }
+    ensures out { IfOk result (λ o. IfSome o (λ r. r.0.out ≡ out)) }
+    ensures ins { IfOk result (λ o. IfSome o (λ r. r.0.ins ≡ ins.now)) }
+    ensures within { IfOk result (λ o. IfSome o (λ r. r.1 ≤ length bytes.now)) }
+    ensures err { IfErr result (λ e. OnBad e (NoRegionsBegin out ins.now bytes.now at)) }
+{
+    let TakenSets {
+        outs,
+        tables,
+        places,
+        next,
+    } = taken;
+    let mut names = Vec::new(alloc);
+    let (count, end) = take_rows(&places, ins.len(), bytes, next, &mut names)?;
+    match RegionTable::of_rows(outs, tables, names, count) {
+        Some(table) => Ok(Some((table, end))),
+        None => Ok(None),
+    }
+}
+
+/// What is read of listed sets: the tables of their arrays, the place of each, and where the bytes
+/// behind them begin.
+#[derive(Drop)]
+struct TakenSets {
+    outs: SetTable,
+    tables: Vec<SetTable>,
+    places: Vec<Place>,
+    next: u64,
+}
+
+/// The table of sets that begins at a place.
+fn take_sets(
+    alloc: Global,
+    out: Shape,
+    ins: &[Shape],
+    bytes: &[u8],
+    at: u64,
+) -> Result<TakenSets, Take>
+    requires { All (λ e. is_extent e ≡ true) (out ∷ ins.now) }
+    ensures extents { IfOk result
+        (λ s. map (λ t. t.extent) (s.outs ∷ s.tables.items) ≡ out ∷ ins.now) }
+    ensures ok { IfOk result (λ s. IsTable out ins.now bytes.now at s.next
+        (map (λ t. t.sets) (s.outs ∷ s.tables.items)) s.places.items) }
     ensures err { IfErr result (λ e. OnBad e
         (NoneAt (AreFew (IsListed out ins.now)) (counted listed_bytes) bytes.now at)) }
 {
     let Some(count) = take_number(bytes, at) else {
         return Err(Take::Bad { at });
     };
-    make_room(bytes, count, at + 4, outs, tables)?;
+    take_part(alloc, out, ins, bytes, at + 4, count)
+}
+
+/// From how many sets of the output on, and as many others behind them, the two parts of a table of
+/// sets are read side by side.
+const SIDE_BY_SIDE_FROM: u32 = 16_384;
+
+/// As [`take_sets`], where many sets of the output stand in front of as many others: each of the
+/// two parts in a thread of its own. `None` where that is not so, or nothing is read so.
+fn take_sets_beside<R: Threads + Sync>(
+    rt: &R,
+    alloc: Global,
+    out: Shape,
+    ins: &[Shape],
+    bytes: &[u8],
+    at: u64,
+) -> Result<Option<TakenSets>, NoMemory>
+    requires { All (λ e. is_extent e ≡ true) (out ∷ ins.now) }
+    ensures extents { IfOk result (λ o. IfSome o
+        (λ s. map (λ t. t.extent) (s.outs ∷ s.tables.items) ≡ out ∷ ins.now)) }
+    ensures ok { IfOk result (λ o. IfSome o (λ s. IsTable out ins.now bytes.now at s.next
+        (map (λ t. t.sets) (s.outs ∷ s.tables.items)) s.places.items)) }
+{
+    let Some(count) = take_number(bytes, at) else {
+        return Ok(None);
+    };
+    let (front, middle) = find_front(bytes, count, at + 4);
+    if front < SIDE_BY_SIDE_FROM || count - front < SIDE_BY_SIDE_FROM {
+        return Ok(None);
+    }
+    let (first, second) = join(
+        rt,
+        || -> Result<TakenSets, Take>
+            requires right { All (λ e. is_extent e ≡ true) (out ∷ ins.now) }
+            requires within { at + 4 ≤ length bytes.now }
+            ensures extents { IfOk result
+                (λ s. map (λ t. t.extent) (s.outs ∷ s.tables.items) ≡ out ∷ ins.entry.now) }
+            ensures ok { IfOk result (λ s. IsPart out ins.entry.now bytes.entry.now (at + 4) s.next
+                front (map (λ t. t.sets) (s.outs ∷ s.tables.items)) s.places.items) }
+        { take_part(alloc, out, ins, bytes, at + 4, front) },
+        || -> Result<TakenSets, Take>
+            requires right { All (λ e. is_extent e ≡ true) (out ∷ ins.now) }
+            requires within { middle ≤ length bytes.now }
+            requires few { front ≤ count }
+            ensures extents { IfOk result
+                (λ s. map (λ t. t.extent) (s.outs ∷ s.tables.items) ≡ out ∷ ins.entry.now) }
+            ensures ok { IfOk result (λ s. IsPart out ins.entry.now bytes.entry.now middle s.next
+                (count - front) (map (λ t. t.sets) (s.outs ∷ s.tables.items)) s.places.items) }
+        { take_part(alloc, out, ins, bytes, middle, count - front) },
+    );
+    let (Ok(first), Ok(second)) = (first, second) else {
+        return Ok(None);
+    };
+    if first.next != middle || !are_few(&first.tables, 0) || second.outs.len() != 0 {
+        return Ok(None);
+    }
+    Ok(Some(put_together(first, second)?))
+}
+
+/// How many sets of the output stand in front among so many that are listed from a place on, and
+/// the place behind these, by their counts alone.
+fn find_front(bytes: &[u8], count: u32, at: u64) -> (u32, u64)
+    requires { at ≤ length bytes.now }
+    ensures few { result.0 ≤ count }
+    ensures within { result.1 ≤ length bytes.now }
+{
+    let mut place = at;
+    for index in 0..count {
+        match find_own(bytes, place) {
+            Some(next) => place = next,
+            None => return (index, place),
+        }
+    }
+    (count, place)
+}
+
+/// The place behind the set of the output that may be listed at a place.
+fn find_own(bytes: &[u8], at: u64) -> Option<u64>
+    ensures { IfSome result (λ next. next ≤ length bytes.now) }
+{
+    if *bytes.get(at as usize)? != 0 {
+        return None;
+    }
+    let runs = take_number(bytes, at.saturating_add(1))?;
+    let next = at.saturating_add(5).saturating_add(u64::from(runs) * 8);
+    if (bytes.len() as u64) < next {
+        return None;
+    }
+    Some(next)
+}
+
+/// Sets of the output, and behind them sets of inputs, with the tables of the first and of the
+/// second.
+fn put_together(first: TakenSets, second: TakenSets) -> Result<TakenSets, NoMemory>
+    ensures { IfOk result (λ s. (s.outs ≡ first.outs) × (s.tables ≡ second.tables)
+        × (s.places.items ≡ first.places.items ++ second.places.items)
+        × (s.next ≡ second.next)) }
+{
+    let TakenSets {
+        outs,
+        mut places,
+        ..
+    } = first;
+    let TakenSets {
+        tables,
+        places: more,
+        next,
+        ..
+    } = second;
+    places.extend_from_slice(&more)?;
+    Ok(TakenSets {
+        outs,
+        tables,
+        places,
+        next,
+    })
+}
+
+/// So many listed sets from a place on, each in the table of its array.
+fn take_part(
+    alloc: Global,
+    out: Shape,
+    ins: &[Shape],
+    bytes: &[u8],
+    at: u64,
+    count: u32,
+) -> Result<TakenSets, Take>
+    requires right { All (λ e. is_extent e ≡ true) (out ∷ ins.now) }
+    requires within { at ≤ length bytes.now }
+    ensures extents { IfOk result
+        (λ s. map (λ t. t.extent) (s.outs ∷ s.tables.items) ≡ out ∷ ins.now) }
+    ensures ok { IfOk result (λ s. IsPart out ins.now bytes.now at s.next count
+        (map (λ t. t.sets) (s.outs ∷ s.tables.items)) s.places.items) }
+    ensures err { IfErr result (λ e. OnBad e (NoPart out ins.now bytes.now at count)) }
+{
+    let mut outs = SetTable::new(alloc, out)?;
+    let mut tables = tables_for(alloc, ins)?;
+    let mut places = Vec::new(alloc);
+    let next = take_each(
+        out,
+        ins,
+        bytes,
+        at,
+        count,
+        &mut outs,
+        &mut tables,
+        &mut places,
+    )?;
+    Ok(TakenSets {
+        outs,
+        tables,
+        places,
+        next,
+    })
+}
+
+/// So many listed sets from a place on: each goes into the table of its array, and where it stands
+/// there behind the places. Answers the place behind them.
+fn take_each(
+    out: Shape,
+    ins: &[Shape],
+    bytes: &[u8],
+    at: u64,
+    count: u32,
+    outs: &mut SetTable,
+    tables: &mut [SetTable],
+    places: &mut Vec<Place>,
+) -> Result<u64, Take>
+    requires right { All (λ e. is_extent e ≡ true) (out ∷ ins.now) }
+    requires within { at ≤ length bytes.now }
+    requires extents { map (λ t. t.extent) (outs.old ∷ tables.old) ≡ out ∷ ins.now }
+    requires none { All (λ t. t.sets ≡ []) (outs.old ∷ tables.old) }
+    requires places { places.old.items ≡ [] }
+    ensures extents { map (λ t. t.extent) (outs.new ∷ tables.new) ≡ out ∷ ins.now }
+    ensures ok { IfOk result (λ next. IsPart out ins.now bytes.now at next count
+        (map (λ t. t.sets) (outs.new ∷ tables.new)) places.new.items) }
+    ensures err { IfErr result (λ e. OnBad e (NoPart out ins.now bytes.now at count)) }
+{
+    make_room(bytes, count, at, outs, tables)?;
     places.reserve((count as usize).min(bytes.len() / 5))?;
     let mut runs = Vec::new(*places.allocator());
-    let mut place = at + 4;
+    let mut place = at;
     for _index in 0..count {
         let (array, next) = take_listed_runs(out, ins, bytes, place, &mut runs)?;
         let number = add_listed(outs, tables, array, &runs)?;

@@ -376,7 +376,7 @@ pub(crate) fn bounds_in(table: &SetTable, number: u32) -> Bounds
 }
 
 /// Whether none of these tables has more than so many sets.
-fn are_few(tables: &[SetTable], most: u32) -> bool
+pub(crate) fn are_few(tables: &[SetTable], most: u32) -> bool
     ensures { result ≡ true → All (λ t. length t.sets ≤ most) tables.now }
 {
     for table in tables {

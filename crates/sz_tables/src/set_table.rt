@@ -5,7 +5,8 @@ ghost use Rattle.sz_tables.specs.Terms.{[], ℕ, MatchOption, vec_len, vec_capac
 ghost use Rattle.sz_tables.specs.Terms.{fold, max, OnOk, OnErr, IfOk, Some, true, All, slice_get};
 ghost use Rattle.sz_tables.specs.Terms.{runs_of, AreRunsFrom, Spells, size_of, AreDifferent};
 ghost use Rattle.sz_tables.specs.Terms.{HasAtMostOneMore, spelled, first_of, mix_of, mixed, set_at};
-ghost use Rattle.sz_tables.specs.Terms.{runs_in, empty_sets, IsOneOrApart};
+ghost use Rattle.sz_tables.specs.Terms.{runs_in, empty_sets, IsOneOrApart, spans_from};
+ghost use Rattle.sz_tables.specs.Terms.{slice_index_or};
 
 use crate::chains::Chains;
 use crate::spans::Span;
@@ -22,7 +23,8 @@ const FIRST_KEYS: u32 = 17;
 pub struct SetTable {
     shape: Shape,
     runs: Vec<Run>,
-    spans: Vec<Span>,
+    /// Where the runs of each set end. They begin where those of the set before it end.
+    ends: Vec<usize>,
     /// Each set under what is left of what its runs are mixed to, so that an equal set is found.
     index: Chains,
     /// No set begins behind this cell, so a set that does is none of the table's.
@@ -32,27 +34,30 @@ pub struct SetTable {
 }
 
 impl Model for SetTable {
-    ghost use Rattle.std.specs.Prelude.{◌≤◌, ◌+◌, ◌∷◌, map, length, vec_capacity};
+    ghost use Rattle.std.specs.Prelude.{◌≡◌, ◌≤◌, ◌+◌, ◌∷◌, map, length, vec_capacity};
     ghost use Rattle.sz_tables.specs.Tables.{SetsByNumber};
 
     ghost Value = { SetsByNumber };
 
     ghost use Rattle.sz_tables.specs.Filed.{HasRoom};
     ghost use Rattle.sz_tables.specs.Tables.{spelled, runs_by_number, AreNumbered, BeginUpTo};
+    ghost use Rattle.sz_tables.specs.Tables.{spans_from, end_from};
 
     ghost view = { λ t. record {
       extent = t.shape;
-      sets = map (spelled t.shape) (runs_by_number t.runs.items t.spans.items);
+      sets = map (spelled t.shape) (runs_by_number t.runs.items (spans_from 0 t.ends.items));
       spare_sets = t.spare_sets;
       spare_runs = t.spare_runs;
-      capacities = vec_capacity t.runs ∷ vec_capacity t.spans ∷ t.index.capacities;
+      capacities = vec_capacity t.runs ∷ vec_capacity t.ends ∷ t.index.capacities;
     } };
 
-    ghost invariant = { λ t. AreNumbered t.shape t.runs.items t.spans.items t.index
-        × HasRoom (length t.spans.items) t.spare_sets (vec_capacity t.spans)
+    ghost invariant = { λ t. AreNumbered t.shape t.runs.items (spans_from 0 t.ends.items)
+        t.index
+        × HasRoom (length t.ends.items) t.spare_sets (vec_capacity t.ends)
         × (t.spare_sets ≤ t.index.spare)
         × (length t.runs.items + t.spare_runs ≤ vec_capacity t.runs)
-        × BeginUpTo t.latest (runs_by_number t.runs.items t.spans.items) };
+        × BeginUpTo t.latest (runs_by_number t.runs.items (spans_from 0 t.ends.items))
+        × (end_from 0 t.ends.items ≡ length t.runs.items) };
 }
 
 impl SetTable {
@@ -64,7 +69,7 @@ impl SetTable {
         Ok(SetTable {
             shape,
             runs: Vec::new(alloc),
-            spans: Vec::new(alloc),
+            ends: Vec::new(alloc),
             index,
             latest: 0,
             spare_sets: 0,
@@ -105,7 +110,7 @@ impl SetTable {
         if more <= self.spare_sets {
             return Ok(());
         }
-        self.spans.reserve(more as usize)?;
+        self.ends.reserve(more as usize)?;
         self.index.widen(more)?;
         self.spare_sets = more;
         Ok(())
@@ -289,11 +294,9 @@ impl SetTable {
           spare_runs = self.old.spare_runs - length runs.now;
         } }
     {
-        let number = self.spans.len() as u32;
-        let start = self.runs.len();
+        let number = self.ends.len() as u32;
         put_runs(&mut self.runs, runs);
-        let end = self.runs.len();
-        self.spans.push_reserved(Span { start, end });
+        self.ends.push_reserved(self.runs.len());
         let key = mix % self.index.keys();
         self.index.add(key, mix);
         self.latest = self.latest.max(first_of(runs));
@@ -310,7 +313,7 @@ impl SetTable {
         ensures extent { (set_at self.now.sets number).extent ≡ self.now.extent }
         ensures spelled { Spells result.now (set_at self.now.sets number) }
     {
-        let span = self.spans[number as usize];
+        let span = span_at(&self.ends, number);
         &self.runs[span.start..span.end]
     }
 
@@ -319,7 +322,7 @@ impl SetTable {
         ensures count { result ≡ length self.now.sets }
         ensures different { AreDifferent self.now.sets }
     {
-        self.spans.len() as u32
+        self.ends.len() as u32
     }
 
     /// The shape of the sets.
@@ -328,6 +331,20 @@ impl SetTable {
     {
         self.shape
     }
+}
+
+/// The span of a number among those that end so.
+fn span_at(ends: &[usize], number: u32) -> Span
+    requires { number < length ends.now }
+    ensures within { number < length (spans_from 0 ends.now) }
+    ensures span { result ≡ slice_index_or (spans_from 0 ends.now) number result }
+{
+    let end = ends[number as usize];
+    if number == 0 {
+        return Span { start: 0, end };
+    }
+    let start = ends[number as usize - 1];
+    Span { start, end }
 }
 
 /// The first cell of the first run, 0 where there is no run.

@@ -219,7 +219,7 @@ fn hand_built<R: Wait>(
 
 /// Merges the stores of each node, and tells their numbers. After `NoMemory` what is seen of the
 /// run is as before.
-fn merge_run<R: Wait>(
+fn merge_run<R: Threads + Wait + Sync>(
     alloc: Global,
     rt: &R,
     run: &mut VersionRun,
@@ -242,7 +242,7 @@ fn merge_run<R: Wait>(
 
 /// What is to be kept of each of these runs once its stores are merged; the numbers of their kinds
 /// are added. What is seen of what is kept stays.
-fn merge_each<R: Wait>(
+fn merge_each<R: Threads + Wait + Sync>(
     alloc: Global,
     rt: &R,
     runs: &[NodeRun],
@@ -270,7 +270,7 @@ fn merge_each<R: Wait>(
 }
 
 /// What is to be kept of a run once its stores are merged.
-fn merge_node<R: Wait>(
+fn merge_node<R: Threads + Wait + Sync>(
     alloc: Global,
     rt: &R,
     run: &NodeRun,
@@ -294,7 +294,7 @@ fn merge_node<R: Wait>(
             Ok(NodeKeeping::Whole(merged))
         }
         NodeKeeping::Read { store } => {
-            tell_kinds(alloc, run, list, store, kinds)?;
+            tell_kinds(alloc, rt, run, list, store, kinds)?;
             Ok(NodeKeeping::Read {
                 store: Arc::try_clone(store)?,
             })
@@ -303,8 +303,9 @@ fn merge_node<R: Wait>(
 }
 
 /// Merges stores that were read, for the numbers of their kinds.
-fn tell_kinds(
+fn tell_kinds<R: Threads + Sync>(
     alloc: Global,
+    rt: &R,
     run: &NodeRun,
     list: &[Strategy],
     store: &NodeStore,
@@ -315,14 +316,14 @@ fn tell_kinds(
     ensures { OnOk result (kinds.new.items ≡ kinds.old.items
         ++ kinds_in_kept (execution_of run.now) list.now (read store.now)) }
 {
-    let told = merge(alloc, &run.at, list, store)?;
+    let told = merge(alloc, rt, &run.at, list, store)?;
     kinds.extend_from_slice(&told.kinds)?;
     Ok(())
 }
 
 /// Stores that were made, merged, and put in the place of those on their shelf. They are made of
 /// those that lie there, which a thread may have merged.
-fn merge_built<R: Wait>(
+fn merge_built<R: Threads + Wait + Sync>(
     alloc: Global,
     rt: &R,
     run: &NodeRun,
@@ -343,7 +344,7 @@ fn merge_built<R: Wait>(
     let _ = run.at.out(); // the shape that its rule gives
     let mut pass = built.shelf.split(&mut built.pass)?;
     let store = shelved(alloc, rt, &built.shelf, &mut pass)?;
-    let merged = merge(alloc, &run.at, list, &store)?;
+    let merged = merge(alloc, rt, &run.at, list, &store)?;
     kinds.extend_from_slice(&merged.kinds)?;
     let store = Arc::new(alloc, merged.store)?;
     let shelf = Arc::try_clone(&built.shelf)?;

@@ -21,6 +21,7 @@ ghost use Rattle.sz_spec.specs.Sides.{near_side, far_side};
 use std::alloc::Global;
 use std::sync::Arc;
 use std::test::Fail;
+use std::thread::Threads;
 use sz_cells::{CellBits, CellSet, NoMemory, Run, Shape};
 use sz_frame::{PieceLineage, Region, SetList};
 use sz_full_many::FullMany;
@@ -278,8 +279,8 @@ fn written(alloc: Global, store: &FullMany) -> Result<Vec<u8>, Fail> {
 }
 
 /// Whether a store is read up to the last byte, and looks both ways find what they are to find.
-fn is_read(alloc: Global, bytes: &[u8]) -> Result<bool, Fail> {
-    let (again, next) = FullMany::take_bytes(alloc, sample(alloc)?, Dir::Forward, bytes, 1)?;
+fn is_read<R: Threads + Sync>(rt: &R, alloc: Global, bytes: &[u8]) -> Result<bool, Fail> {
+    let (again, next) = FullMany::take_bytes(rt, alloc, sample(alloc)?, Dir::Forward, bytes, 1)?;
     Ok(next.checked_add(1) == Some(bytes.len() as u64) && is_right(alloc, &again)?)
 }
 
@@ -288,18 +289,18 @@ fn what_is_written_is_read_again(rt: HostRuntime) -> Result<(), Fail> {
     let alloc = rt.alloc();
     let store = store(alloc, Dir::Back)?;
     let bytes = written(alloc, &store)?;
-    assert!(rt; is_read(alloc, &bytes)?);
+    assert!(rt; is_read(&rt, alloc, &bytes)?);
     Ok(())
 }
 
 /// Why some bytes are no store.
-fn fault_of(alloc: Global, bytes: &[u8]) -> Result<Option<Take>, Fail> {
+fn fault_of<R: Threads + Sync>(rt: &R, alloc: Global, bytes: &[u8]) -> Result<Option<Take>, Fail> {
     let at = sample(alloc)?;
-    Ok(FullMany::take_bytes(alloc, at, Dir::Back, bytes, 0).err())
+    Ok(FullMany::take_bytes(rt, alloc, at, Dir::Back, bytes, 0).err())
 }
 
 #[test]
 fn bytes_of_no_store_are_refused(rt: HostRuntime) -> Result<(), Fail> {
-    assert!(rt; fault_of(rt.alloc(), &[0, 0, 0])? == Some(Take::Bad { at: 0 }));
+    assert!(rt; fault_of(&rt, rt.alloc(), &[0, 0, 0])? == Some(Take::Bad { at: 0 }));
     Ok(())
 }

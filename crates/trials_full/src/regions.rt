@@ -8,6 +8,7 @@ use crate::samples::{one_cell, row_of_20};
 use std::alloc::Global;
 use std::sync::Arc;
 use std::test::Fail;
+use std::thread::Threads;
 use sz_cells::{CellSet, NoMemory, Run};
 use sz_frame::{Region, SetList};
 use sz_tables::{PairChecklist, RegionTable};
@@ -220,16 +221,21 @@ fn spell(alloc: Global, spelled: Spelled) -> Result<Vec<u8>, NoMemory> {
 }
 
 /// What is written of the region pairs that some bytes are.
-fn written_again(alloc: Global, bytes: &[u8]) -> Result<Vec<u8>, Fail> {
+fn written_again<R: Threads + Sync>(rt: &R, alloc: Global, bytes: &[u8]) -> Result<Vec<u8>, Fail> {
     let shape = row_of_20()?;
-    let (table, _next) = RegionTable::take_bytes(alloc, shape, &[shape, shape], bytes, 0)?;
+    let (table, _next) = RegionTable::take_bytes(rt, alloc, shape, &[shape, shape], bytes, 0)?;
     Ok(bytes_of(alloc, &table)?)
 }
 
 /// Whether the region pairs of some sets and rows are written as others.
-fn is_written_as(alloc: Global, from: Spelled, to: Spelled) -> Result<bool, Fail> {
+fn is_written_as<R: Threads + Sync>(
+    rt: &R,
+    alloc: Global,
+    from: Spelled,
+    to: Spelled,
+) -> Result<bool, Fail> {
     let bytes = spell(alloc, from)?;
-    let again = written_again(alloc, &bytes)?;
+    let again = written_again(rt, alloc, &bytes)?;
     Ok(are_spelled(&again, to))
 }
 
@@ -237,7 +243,7 @@ fn is_written_as(alloc: Global, from: Spelled, to: Spelled) -> Result<bool, Fail
 #[test]
 fn a_set_that_no_pair_names_is_kept(rt: HostRuntime) -> Result<(), Fail> {
     let twice = [FOUR_SETS, ROW_TWICE];
-    assert!(rt; is_written_as(rt.alloc(), twice, twice)?);
+    assert!(rt; is_written_as(&rt, rt.alloc(), twice, twice)?);
     Ok(())
 }
 
@@ -255,7 +261,7 @@ const ONE_ROW_BEHIND: &[u8] = &[0, 0, 0, 1, 0, 0, 0, 0, 0, 0, 0, 1, 0, 0, 0, 2];
 #[test]
 fn sets_in_place_of_pairs_are_left_out(rt: HostRuntime) -> Result<(), Fail> {
     let left = [THREE_SETS, ONE_ROW_BEHIND];
-    assert!(rt; is_written_as(rt.alloc(), [FOUR_SETS, ONE_ROW], left)?);
+    assert!(rt; is_written_as(&rt, rt.alloc(), [FOUR_SETS, ONE_ROW], left)?);
     Ok(())
 }
 

@@ -14,6 +14,7 @@ ghost use Rattle.sz_spec.specs.declared.modes.Strategy.TheVariants as strategy;
 use std::alloc::Global;
 use std::sync::Arc;
 use std::test::Fail;
+use std::thread::Threads;
 use sz_cells::{CellBits, NoMemory, Run, Shape};
 use sz_frame::PieceLineage;
 use sz_region::Take;
@@ -128,8 +129,8 @@ fn put(alloc: Global, to: &mut Vec<u8>) -> Result<(), Fail> {
 
 /// Whether stores that begin at place 1 of these bytes, and end at this one, are whole and answer
 /// by default.
-fn is_read(alloc: Global, bytes: &[u8], end: u64) -> Result<bool, Fail> {
-    let (again, next) = NodeStore::take_bytes(alloc, sample(alloc)?, &LIST, bytes, 1)?;
+fn is_read<R: Threads + Sync>(rt: &R, alloc: Global, bytes: &[u8], end: u64) -> Result<bool, Fail> {
+    let (again, next) = NodeStore::take_bytes(rt, alloc, sample(alloc)?, &LIST, bytes, 1)?;
     Ok(next == end && again.is_whole() && is_default(alloc, &again)?)
 }
 
@@ -140,7 +141,7 @@ fn what_is_written_is_read_again(rt: HostRuntime) -> Result<(), Fail> {
     put(alloc, &mut bytes)?;
     let end = bytes.len() as u64;
     bytes.push(9)?;
-    assert!(rt; is_read(alloc, &bytes, end)?);
+    assert!(rt; is_read(&rt, alloc, &bytes, end)?);
     Ok(())
 }
 
@@ -148,6 +149,7 @@ fn what_is_written_is_read_again(rt: HostRuntime) -> Result<(), Fail> {
 fn bytes_of_no_store_are_refused(rt: HostRuntime) -> Result<(), Fail> {
     let alloc = rt.alloc();
     let fault = NodeStore::take_bytes(
+        &rt,
         alloc,
         sample(alloc)?,
         &LIST,

@@ -10,7 +10,7 @@ use Rattle.sz_merge.proofs.Behind.{merged-read}
 use Rattle.sz_merge.proofs.merge.Goals as goal
 
 pub returns : goal.returns
-returns c =
+returns g c =
     let s : Site = arc_value c.args.at.now in
     let list = c.args.list.now in
     let store = c.args.store.now in

@@ -9,12 +9,13 @@ use Rattle.sz_store.specs.Words.{BeginEach}
 use Rattle.sz_merge.specs.Merged.{AreRead, AreMerged}
 use Rattle.sz_merge.proofs.Behind.{merged-read}
 use Rattle.sz_merge.proofs.merge_shared.Goals as goal
+use Rattle.sz_merge.proofs.merge_shared.Given.{Over}
 use Rattle.sz_merge.proofs.merge_shared.Goals.{In_ok-same}
 
 -- what was put is read as the merged stores of the operator and the list
-read : (c : In_ok-same) → AreRead (arc_value c.args.at.now) (stored_in c.args.list.now)
+read : (g : Over) (c : In_ok-same g) → AreRead (arc_value c.args.at.now) (stored_in c.args.list.now)
     (arc_value c.args.store.now).stores c.put_merged.new.to.items c.put_merged.new.kinds.items
-read c =
+read g c =
     let store : NodeLineage = arc_value c.args.store.now in
     let bytes = c.put_merged.new.to.items in
     let kinds = c.put_merged.new.kinds.items in
@@ -24,7 +25,7 @@ read c =
     c.in_ok-same.ensures.read))
 
 pub returns-then-same : goal.returns-then-same
-returns-then-same c =
+returns-then-same g c =
     let s : Site = arc_value c.args.at.now in
     let list = c.args.list.now in
     let store : NodeLineage = arc_value c.args.store.now in
@@ -41,11 +42,12 @@ returns-then-same c =
       subst (λ (k : NodeLineage). AreMerged s list store.stores k bytes kinds) (sym c.in_ok-own.ensures)
           (merged-read s list store.stores store bytes bytes kinds (length bytes)
           (subst (λ (x : Site). AreRight (x.out ∷ x.ins)) c.deref.ensures c.within_limits.ensures.right)
-          (read (goal.at.returns-then-same c).In_ok-same) refl same c.requires.site c.requires.list c.requires.whole),
+          (read g (goal.at.returns-then-same g c).In_ok-same) refl same c.requires.site c.requires.list
+          c.requires.whole),
     )
 
 pub returns : goal.returns
-returns c =
+returns g c =
     let s : Site = arc_value c.args.at.now in
     let list = c.args.list.now in
     let before : NodeLineage = arc_value c.args.store.now in
@@ -57,5 +59,5 @@ returns c =
       subst (λ (k : NodeLineage). AreMerged s list before.stores k bytes kinds) (sym c.in_ok-merged.ensures.ok)
           (merged-read s list before.stores c.in_ok-store.store c.deref-3.result.now bytes kinds made.ok.0
           (subst (λ (x : Site). AreRight (x.out ∷ x.ins)) c.deref.ensures c.within_limits.ensures.right)
-          (read (goal.at.returns c).In_ok-same) c.deref-3.ensures.value made.ok.1 made.site made.list made.whole),
+          (read g (goal.at.returns g c).In_ok-same) c.deref-3.ensures.value made.ok.1 made.site made.list made.whole),
     )

@@ -12,6 +12,7 @@ use std::alloc::Global;
 use std::marker::Model;
 use std::sync::{Arc, Wait};
 use std::test::Fail;
+use std::thread::Threads;
 use sz_cells::{CellBits, CellSet, NoMemory, Run, Shape};
 use sz_merge::{MergeTask, Merged, merge};
 use sz_ops::{piece, prepare_lineage};
@@ -189,11 +190,16 @@ impl Bench {
     }
 
     /// The stores that are merged of some of the shelf's.
-    pub fn merged(&self, alloc: Global, store: &NodeStore) -> Result<Merged, NoMemory>
+    pub fn merged<R: Threads + Sync>(
+        &self,
+        alloc: Global,
+        rt: &R,
+        store: &NodeStore,
+    ) -> Result<Merged, NoMemory>
         requires { StandsFor self.now.tag store.now }
     {
         let _ = &self.shelf;
-        merge(alloc, &self.at, &LIST, store)
+        merge(alloc, rt, &self.at, &LIST, store)
     }
 
     /// The shelf's task.

@@ -89,7 +89,12 @@ fn ask_while_held<R: Wait>(
 }
 
 /// Attends to the tasks, where they are there.
-fn attend<R: Wait>(alloc: Global, rt: &R, tasks: &mut Option<Receiver<MergeTask>>, gate: &Holding) {
+fn attend<R: Threads + Wait + Sync>(
+    alloc: Global,
+    rt: &R,
+    tasks: &mut Option<Receiver<MergeTask>>,
+    gate: &Holding,
+) {
     if let Some(tasks) = tasks.take() {
         attend_merges(alloc, rt, tasks, gate);
     }

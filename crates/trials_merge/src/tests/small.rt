@@ -8,6 +8,7 @@ ghost use Rattle.sz_spec.specs.Weights.{is_kernel};
 use std::alloc::Global;
 use std::sync::Arc;
 use std::test::Fail;
+use std::thread::Threads;
 use sz_cells::Shape;
 use sz_merge::merge;
 use sz_ops::{piece, prepare_lineage};
@@ -52,7 +53,12 @@ fn laid_on(alloc: Global, weights: Vec<i64>) -> Result<Arc<OpAt>, Fail>
 }
 
 /// How many kinds the stores of an operator over a row of these numbers have.
-fn kinds(alloc: Global, at: &Arc<OpAt>, numbers: [i64; 5]) -> Result<Vec<u32>, Fail>
+fn kinds<R: Threads + Sync>(
+    rt: &R,
+    alloc: Global,
+    at: &Arc<OpAt>,
+    numbers: [i64; 5],
+) -> Result<Vec<u32>, Fail>
     requires ins { (arc_value at.now).ins ≡ flat 1 5 ∷ [] }
     requires out { (arc_value at.now).out ≡ flat 1 5 }
 {
@@ -61,13 +67,18 @@ fn kinds(alloc: Global, at: &Arc<OpAt>, numbers: [i64; 5]) -> Result<Vec<u32>, F
         values.push(Some(number))?;
     }
     match Array::make(row()?, values) {
-        Some(array) => kinds_over(alloc, at, Arc::new(alloc, array)?),
+        Some(array) => kinds_over(rt, alloc, at, Arc::new(alloc, array)?),
         None => Err("the shape has 5 cells".into()),
     }
 }
 
 /// How many kinds the stores of an operator over an array have.
-fn kinds_over(alloc: Global, at: &Arc<OpAt>, array: Arc<Array>) -> Result<Vec<u32>, Fail>
+fn kinds_over<R: Threads + Sync>(
+    rt: &R,
+    alloc: Global,
+    at: &Arc<OpAt>,
+    array: Arc<Array>,
+) -> Result<Vec<u32>, Fail>
     requires ins { (arc_value at.now).ins ≡ flat 1 5 ∷ [] }
     requires out { (arc_value at.now).out ≡ flat 1 5 }
     requires array { (arc_value array).extent ≡ flat 1 5 }
@@ -82,50 +93,56 @@ fn kinds_over(alloc: Global, at: &Arc<OpAt>, array: Arc<Array>) -> Result<Vec<u3
     if !store.is_whole() {
         return Err("the output is one piece".into());
     }
-    let merged = merge(alloc, at, &LIST, &store)?;
+    let merged = merge(alloc, rt, at, &LIST, &store)?;
     Ok(merged.kinds)
 }
 
 /// Whether they have so many.
-fn are_kinds(alloc: Global, at: &Arc<OpAt>, numbers: [i64; 5], wanted: &[u32]) -> Result<bool, Fail>
+fn are_kinds<R: Threads + Sync>(
+    rt: &R,
+    alloc: Global,
+    at: &Arc<OpAt>,
+    numbers: [i64; 5],
+    wanted: &[u32],
+) -> Result<bool, Fail>
     requires ins { (arc_value at.now).ins ≡ flat 1 5 ∷ [] }
     requires out { (arc_value at.now).out ≡ flat 1 5 }
 {
-    let found = kinds(alloc, at, numbers)?;
+    let found = kinds(rt, alloc, at, numbers)?;
     Ok(found.as_slice() == wanted)
 }
 
 /// Whether each region is a kind, and each low cell.
-fn regions_are_kinds(alloc: Global) -> Result<bool, Fail> {
+fn regions_are_kinds<R: Threads + Sync>(rt: &R, alloc: Global) -> Result<bool, Fail> {
     let at = labels(alloc)?;
     Ok(
-        are_kinds(alloc, &at, [9, 9, 0, 9, 9], &[3, 3])?
-            && are_kinds(alloc, &at, [9, 0, 9, 0, 9], &[5, 5])?
-            && are_kinds(alloc, &at, [9, 9, 9, 9, 9], &[1, 1])?,
+        are_kinds(rt, alloc, &at, [9, 9, 0, 9, 9], &[3, 3])?
+            && are_kinds(rt, alloc, &at, [9, 0, 9, 0, 9], &[5, 5])?
+            && are_kinds(rt, alloc, &at, [9, 9, 9, 9, 9], &[1, 1])?,
     )
 }
 
 #[test]
 fn a_region_is_a_kind_and_so_is_a_low_cell(rt: HostRuntime) -> Result<(), Fail> {
-    assert!(rt; regions_are_kinds(rt.alloc())?);
+    assert!(rt; regions_are_kinds(&rt, rt.alloc())?);
     Ok(())
 }
 
 /// Whether there is no kind where all weights are 0.
-fn nothing_is_of_no_kind(alloc: Global) -> Result<bool, Fail> {
+fn nothing_is_of_no_kind<R: Threads + Sync>(rt: &R, alloc: Global) -> Result<bool, Fail> {
     let at = laid_on(alloc, vec![in alloc; 0, 0, 0]?)?;
-    are_kinds(alloc, &at, [1, 2, 3, 4, 5], &[0, 0])
+    are_kinds(rt, alloc, &at, [1, 2, 3, 4, 5], &[0, 0])
 }
 
 /// Whether there are four where one cell has no neighbor of a weight.
-fn neighbors_are_kinds(alloc: Global) -> Result<bool, Fail> {
+fn neighbors_are_kinds<R: Threads + Sync>(rt: &R, alloc: Global) -> Result<bool, Fail> {
     let at = laid_on(alloc, vec![in alloc; 1, 0, 0]?)?;
-    are_kinds(alloc, &at, [1, 2, 3, 4, 5], &[4, 4])
+    are_kinds(rt, alloc, &at, [1, 2, 3, 4, 5], &[4, 4])
 }
 
 #[test]
 fn cells_without_lineage_are_of_no_kind(rt: HostRuntime) -> Result<(), Fail> {
-    assert!(rt; nothing_is_of_no_kind(rt.alloc())?);
-    assert!(rt; neighbors_are_kinds(rt.alloc())?);
+    assert!(rt; nothing_is_of_no_kind(&rt, rt.alloc())?);
+    assert!(rt; neighbors_are_kinds(&rt, rt.alloc())?);
     Ok(())
 }

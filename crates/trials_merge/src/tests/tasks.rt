@@ -10,6 +10,7 @@ use super::bench::Bench;
 use std::alloc::Global;
 use std::sync::{Arc, Wait};
 use std::test::Fail;
+use std::thread::Threads;
 use sz_cells::{NoMemory, Run, Shape};
 use sz_merge::{MergeTask, Merged, NoMergeGate, attend_merges};
 use sz_region::take_regions;
@@ -103,7 +104,11 @@ fn is_done(look: Look) -> bool {
 }
 
 /// Sends a task to a channel that is closed then, and attends to it. Whether it was sent.
-fn attend<R: Wait>(alloc: Global, rt: &R, task: MergeTask) -> Result<bool, NoMemory> {
+fn attend<R: Threads + Wait + Sync>(
+    alloc: Global,
+    rt: &R,
+    task: MergeTask,
+) -> Result<bool, NoMemory> {
     let (to, from) = crossbeam_channel::unbounded::<MergeTask, Global>(alloc)?;
     let sent = to.send(rt, task).is_ok();
     drop(to);
@@ -127,19 +132,24 @@ fn is_told_as_one(alloc: Global, merged: &Merged) -> Result<bool, Fail> {
 }
 
 /// Whether stores of three region pairs are merged so.
-fn three_become_one(alloc: Global, bench: &Bench, store: &NodeStore) -> Result<bool, Fail>
+fn three_become_one<R: Threads + Sync>(
+    alloc: Global,
+    rt: &R,
+    bench: &Bench,
+    store: &NodeStore,
+) -> Result<bool, Fail>
     requires { StandsFor bench.now.tag store.now }
 {
-    let merged = bench.merged(alloc, store)?;
+    let merged = bench.merged(alloc, rt, store)?;
     Ok(pairs(alloc, store)? == 3 && is_told_as_one(alloc, &merged)?)
 }
 
 /// Whether those of a new shelf are.
-fn is_merged<R: Wait>(alloc: Global, rt: &R) -> Result<bool, Fail> {
+fn is_merged<R: Threads + Wait + Sync>(alloc: Global, rt: &R) -> Result<bool, Fail> {
     let (bench, mut pass) = Bench::new(alloc)?;
     fill(alloc, rt, &bench, &mut pass)?;
     let store = given(alloc, rt, &bench, &mut pass)?;
-    three_become_one(alloc, &bench, &store)
+    three_become_one(alloc, rt, &bench, &store)
 }
 
 #[test]
@@ -172,7 +182,7 @@ fn finds_one<R: Wait>(alloc: Global, rt: &R, bench: &Bench, pass: &mut Pass) -> 
 
 /// Whether a shelf's stores are merged by its task, and those that were handed out before stay as
 /// they were.
-fn merges_beside<R: Wait>(
+fn merges_beside<R: Threads + Wait + Sync>(
     alloc: Global,
     rt: &R,
     bench: &Bench,
@@ -191,7 +201,7 @@ fn merges_beside<R: Wait>(
 }
 
 /// Whether the stores of a new shelf are merged by its task, beside another pass.
-fn is_merged_by_task<R: Wait>(alloc: Global, rt: &R) -> Result<bool, Fail> {
+fn is_merged_by_task<R: Threads + Wait + Sync>(alloc: Global, rt: &R) -> Result<bool, Fail> {
     let (bench, task, mut other) = ready(alloc, rt)?;
     Ok(
         finds_all(alloc, rt, &bench, &mut other)?

@@ -10,37 +10,39 @@ use Rattle.sz_catalogue.specs.Rules as rules
 use Rattle.sz_bodies.specs.Taking.{site_over}
 use Rattle.sz_bodies.proofs.HeadParts.{if_bad-weaker}
 use Rattle.sz_bodies.proofs.Sequence.{no-node-other, no-node-stores, node-only, bare-stands, bare-only}
+use Rattle.sz_bodies.proofs.nodes.take_node.Given.{Over}
 use Rattle.sz_bodies.proofs.nodes.take_node.Goals.{After-is_list_for, After-names_a_store}
 use Rattle.sz_bodies.proofs.nodes.take_node.Goals as goal
 
 -- whether the list is one for the operator, and whether it names a store
-is-for : (c : After-is_list_for) → rules.is_list_for c.args.node.now.op c.in_ok-list.list ≡ c.is_list_for.result
-is-for c = sym (c.is_list_for.ensures ∙ ap (rules.is_list_for c.args.node.now.op) c.as_slice.ensures)
+is-for : (g : Over) (c : After-is_list_for g) → rules.is_list_for c.args.node.now.op c.in_ok-list.list
+    ≡ c.is_list_for.result
+is-for g c = sym (c.is_list_for.ensures ∙ ap (rules.is_list_for c.args.node.now.op) c.as_slice.ensures)
 
-names : (c : After-names_a_store) → rules.names_a_store c.in_ok-list.list ≡ c.names_a_store.result
-names c = sym (c.names_a_store.ensures ∙ ap rules.names_a_store c.as_slice-2.ensures)
+names : (g : Over) (c : After-names_a_store g) → rules.names_a_store c.in_ok-list.list ≡ c.names_a_store.result
+names g c = sym (c.names_a_store.ensures ∙ ap rules.names_a_store c.as_slice-2.ensures)
 
 pub returns-then-not-is_list_for-clause-err : goal.returns-then-not-is_list_for-clause-err
-returns-then-not-is_list_for-clause-err c =
+returns-then-not-is_list_for-clause-err g c =
     no-node-other c.args.format (site_over c.args.base.now c.args.outputs.now c.args.node.now) c.args.bytes.now
     c.args.at c.in_ok-list.place c.in_ok-list.list c.in_ok-list.ensures.bytes
-    (is-for (goal.at.returns-then-not-is_list_for-clause-err c).After-is_list_for ∙ c.if-not-is_list_for.true)
+    (is-for g (goal.at.returns-then-not-is_list_for-clause-err g c).After-is_list_for ∙ c.if-not-is_list_for.true)
 
 pub returns-then-not-names_a_store-clause-node : goal.returns-then-not-names_a_store-clause-node
-returns-then-not-names_a_store-clause-node c =
-    let at = goal.at.returns-then-not-names_a_store-clause-node c in
+returns-then-not-names_a_store-clause-node g c =
+    let at = goal.at.returns-then-not-names_a_store-clause-node g c in
     bare-stands c.args.format (site_over c.args.base.now c.args.outputs.now c.args.node.now) c.args.bytes.now c.args.at
-    c.in_ok-list.place c.in_ok-list.list (is-for at.After-is_list_for ∙ c.if-not-is_list_for.false)
-    c.in_ok-list.ensures.bytes (names at.After-names_a_store ∙ c.if-not-names_a_store.true)
+    c.in_ok-list.place c.in_ok-list.list (is-for g at.After-is_list_for ∙ c.if-not-is_list_for.false)
+    c.in_ok-list.ensures.bytes (names g at.After-names_a_store ∙ c.if-not-names_a_store.true)
 
 pub returns-then-not-names_a_store-clause-only : goal.returns-then-not-names_a_store-clause-only
-returns-then-not-names_a_store-clause-only c =
+returns-then-not-names_a_store-clause-only g c =
     bare-only c.args.format (site_over c.args.base.now c.args.outputs.now c.args.node.now) c.args.bytes.now c.args.at
     c.in_ok-list.place c.in_ok-list.list c.in_ok-list.ensures.bytes
-    (names (goal.at.returns-then-not-names_a_store-clause-only c).After-names_a_store ∙ c.if-not-names_a_store.true)
+    (names g (goal.at.returns-then-not-names_a_store-clause-only g c).After-names_a_store ∙ c.if-not-names_a_store.true)
 
 pub returns-in_err-kept-clause-err : goal.returns-in_err-kept-clause-err
-returns-in_err-kept-clause-err c =
+returns-in_err-kept-clause-err g c =
     let s : Site = site_over c.args.base.now c.args.outputs.now c.args.node.now in
     let list : List Strategy = c.in_ok-list.list in
     let none = if_bad-weaker c.in_err-kept.field-0.0
@@ -54,7 +56,7 @@ returns-in_err-kept-clause-err c =
     rw (p.1, p.2) none
 
 pub returns-clause-only : goal.returns-clause-only
-returns-clause-only c =
+returns-clause-only g c =
     let s : Site = site_over c.args.base.now c.args.outputs.now c.args.node.now in
     let list : List Strategy = c.in_ok-list.list in
     let kept = arc_value c.in_ok-kept.kept in

@@ -10,7 +10,7 @@ use Rattle.sz_bodies.specs.declared.tries.TakenNode.{TakenNode}
 use Rattle.sz_bodies.proofs.tries.take_tried.Goals as goal
 
 pub returns-then-tried-at-clause-only : goal.returns-then-tried-at-clause-only
-returns-then-tried-at-clause-only c =
+returns-then-tried-at-clause-only g c =
     let s = site_over c.args.base.now c.args.outputs.now c.args.node.now in
     let bytes = c.args.bytes.now in
     let t : TakenNode = c.in-Some.taken in

@@ -12,21 +12,21 @@ use Rattle.sz_formats.proofs.Through.{long-each, long-refused}
 use Rattle.sz_formats.proofs.stores.take_stores.Goals as goal
 
 pub returns-then-format-eq2-clause-ok : goal.returns-then-format-eq2-clause-ok
-returns-then-format-eq2-clause-ok c =
+returns-then-format-eq2-clause-ok g c =
     let s : Site = arc_value c.args.op in
     subst (λ (f : ℕ). IfOk c.take_short.result
     (λ r. BeginEachIn f s (stored_in c.args.list.now) c.args.bytes.now c.args.at r.1 r.0.stores))
     (sym c.if-format-eq2.true) c.take_short.ensures.ok
 
 pub returns-then-format-eq2-clause-err : goal.returns-then-format-eq2-clause-err
-returns-then-format-eq2-clause-err c =
+returns-then-format-eq2-clause-err g c =
     let s : Site = arc_value c.args.op in
     subst (λ (f : ℕ). IfErr c.take_short.result
     (λ e. OnBad e (NoneBeginIn f s (stored_in c.args.list.now) c.args.bytes.now c.args.at)))
     (sym c.if-format-eq2.true) c.take_short.ensures.err
 
 pub returns-else-format-eq2-clause-ok : goal.returns-else-format-eq2-clause-ok
-returns-else-format-eq2-clause-ok c =
+returns-else-format-eq2-clause-ok g c =
     let s : Site = arc_value c.args.op in
     let ts = stored_in c.args.list.now in
     let bytes = c.args.bytes.now in
@@ -36,7 +36,7 @@ returns-else-format-eq2-clause-ok c =
     c.take_bytes.ensures.ok
 
 pub returns-else-format-eq2-clause-err : goal.returns-else-format-eq2-clause-err
-returns-else-format-eq2-clause-err c =
+returns-else-format-eq2-clause-err g c =
     let s : Site = arc_value c.args.op in
     let ts = stored_in c.args.list.now in
     let bytes = c.args.bytes.now in

@@ -12,7 +12,7 @@ use Rattle.sz_store.proofs.Placed.{whole-replicate}
 use Rattle.sz_store.proofs.NodeStore.take_bytes.Goals as goal
 
 pub invariant_of-store : goal.invariant_of-store
-invariant_of-store c =
+invariant_of-store g c =
     let s : Site = arc_value c.args.at in
     let list : c.in_ok-list.list.items ≡ c.args.list.now = search rules in
     let filled : c.in_ok-placed.placed.items ≡ replicate c.pieces_of.result true = search rules in
@@ -25,7 +25,7 @@ invariant_of-store c =
     c.in_ok-stores.ensures.sites c.in_ok-stores.ensures.ok)
 
 pub returns-clause-whole : goal.returns-clause-whole
-returns-clause-whole c =
+returns-clause-whole g c =
     let s : Site = arc_value c.args.at in
     let filled : c.in_ok-placed.placed.items ≡ replicate c.pieces_of.result true = search rules in
     let shape : c.out.result ≡ s.out = c.out.ensures.value ∙ ap (λ (x : Site). x.out) c.deref.ensures in
@@ -34,6 +34,6 @@ returns-clause-whole c =
     rw placed (whole-replicate (pieces_of s.out))
 
 pub returns-clause-within : goal.returns-clause-within
-returns-clause-within c low =
+returns-clause-within g c low =
     each-within (arc_value c.args.at) (stored_in c.args.list.now) c.args.bytes.now c.args.from c.in_ok-stores.next
     (map keep_of c.in_ok-stores.stores.items) c.in_ok-stores.ensures.ok low

@@ -17,7 +17,7 @@ use Rattle.sz_store.proofs.Listed.{stored-more, none-behind}
 use Rattle.sz_store.proofs.stores.take_all.Goals as goal
 
 pub returns-in-Err-Bad-clause-err : goal.returns-in-Err-Bad-clause-err
-returns-in-Err-Bad-clause-err c =
+returns-in-Err-Bad-clause-err g c =
     let s : Site = arc_value c.args.at.now in
     let list = c.args.list.now in
     let i = c.loop-strategy.strategy-index in
@@ -39,7 +39,7 @@ returns-in-Err-Bad-clause-err c =
     )
 
 pub loop-strategy-preserved : goal.loop-strategy-preserved
-loop-strategy-preserved c =
+loop-strategy-preserved g c =
     let s : Site = arc_value c.args.at.now in
     let list = c.args.list.now in
     let i = c.loop-strategy.strategy-index in

@@ -7,7 +7,7 @@ use Rattle.sz_store.specs.Words.{BeginEach}
 use Rattle.sz_store.proofs.stores.take_all.Given as goal
 
 abbrev pub invariant-loop-strategy : goal.invariant-loop-strategy
-invariant-loop-strategy l = record {
+invariant-loop-strategy g l = record {
   read : BeginEach (arc_value l.at) (stored_in (take l.strategy-index l.list)) l.bytes l.from l.place
       (map keep_of l.stores.items);
   sites : All (λ s. s ≡ arc_value l.at) (map site_of l.stores.items);

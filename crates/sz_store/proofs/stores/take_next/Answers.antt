@@ -11,7 +11,7 @@ use Rattle.sz_store.specs.declared.stores.ListedStore.{ListedStore}
 use Rattle.sz_store.proofs.stores.take_next.Goals as goal
 
 pub returns-clause-ok : goal.returns-clause-ok
-returns-clause-ok c =
+returns-clause-ok g c =
     let stored : is_stored c.args.strategy ≡ true = search rules in
     let l : ListedStore = record { strategy = c.args.strategy; kept = c.in_ok-kept.kept } in
     let f : Keep = keep_of l in

@@ -7,7 +7,7 @@ use Rattle.sz_merge.proofs.Told.{numbers-kept}
 use Rattle.sz_versions.proofs.merging.tell_kinds.Goals as goal
 
 pub returns : goal.returns
-returns c =
+returns g c =
     let s = arc_value c.args.run.now.at in
     let them = c.args.store.now in
     let m = c.in_ok-told.told in

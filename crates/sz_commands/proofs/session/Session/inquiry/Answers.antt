@@ -9,7 +9,8 @@ use Rattle.sz_commands.proofs.session.Session.inquiry.Goals as goal
 
 pub inquiry-requires-clause-held : goal.inquiry-requires-clause-held
 inquiry-requires-clause-held g c =
-    λ κs lives. subst (λ (s : SessionState). has_no_version s.held c.args.version ≡ false) (sym c.self.view_is) c.requires.version
+    λ κs lives. subst (λ (s : SessionState). has_no_version s.held c.args.version ≡ false) (sym c.self.view_is)
+    c.requires.version
 
 pub inquiry-requires-clause-joined : goal.inquiry-requires-clause-joined
 inquiry-requires-clause-joined g c =
@@ -19,7 +20,8 @@ inquiry-requires-clause-joined g c =
 
 pub inquiry-requires-clause-range : goal.inquiry-requires-clause-range
 inquiry-requires-clause-range g c =
-    λ κs lives. subst (λ (s : SessionState). is_out_of_range s.held c.args.version c.args.dir c.args.path.now c.args.named.now
+    λ κs lives. subst (λ (s : SessionState).
+    is_out_of_range s.held c.args.version c.args.dir c.args.path.now c.args.named.now
     ≡ false)
     (sym c.self.view_is) c.requires.range
 

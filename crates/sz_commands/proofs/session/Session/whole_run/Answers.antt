@@ -8,7 +8,8 @@ use Rattle.sz_commands.proofs.session.Session.whole_run.Goals as goal
 
 pub whole-requires-clause-held : goal.whole-requires-clause-held
 whole-requires-clause-held g c =
-    λ κs lives. subst (λ (s : SessionState). has_no_version s.held c.args.version ≡ false) (sym c.self.view_is) c.requires.held
+    λ κs lives. subst (λ (s : SessionState). has_no_version s.held c.args.version ≡ false) (sym c.self.view_is)
+    c.requires.held
 
 pub whole-requires-clause-first : goal.whole-requires-clause-first
 whole-requires-clause-first g c =

@@ -2,6 +2,7 @@
 use Rattle.std.proofs.Common.{◌≡◌, ◌≢◌, ℕ, ◌%◌, ◌∙◌, ap, sym, arith}
 use Rattle.std.specs.List.{slice_get}
 use Rattle.std.proofs.lemmas.Bool.{false≢true}
+use Rattle.sz_tables.specs.Tables.{spans_from}
 use Rattle.sz_tables.proofs.Chained.{entry-within}
 use Rattle.sz_tables.proofs.Numbered.{last-reach, last-filed, key-at, entries-count}
 use Rattle.sz_tables.proofs.set_table.SetTable.find.Goals as goal
@@ -10,7 +11,7 @@ pub loop-next-init : goal.loop-next-init
 loop-next-init c =
     let key_now = c.args.mix % c.keys.result in
     let index = c.self.inside.index in
-    let spans = c.self.inside.spans.items in
+    let spans = spans_from 0 c.self.inside.ends.items in
     let longest = rw (← c.self.view_is) at c.requires.longest in
     let own : key_now ≡ c.args.mix % index.keys = ap (λ (k : ℕ). c.args.mix % k) c.keys.ensures in
     let key_is = own ∙ ap (λ (m : ℕ). m % index.keys) c.requires.mix in
@@ -30,15 +31,15 @@ is_spelled-requires-clause-number c =
     let index = c.self.inside.index in
     let filed = rw c.in-Some.is at c.loop-next.invariant.filed in
     let many = entry-within index.entries c.in-Some.number key_now filed in
-    let count = entries-count c.self.inside.shape c.self.inside.runs.items c.self.inside.spans.items index
-    c.self.invariant.0 in
+    let count = entries-count c.self.inside.shape c.self.inside.runs.items (spans_from 0 c.self.inside.ends.items)
+    index c.self.invariant.0 in
     rw (← c.self.view_is) (omega (arith, many, count))
 
 pub loop-next-preserved : goal.loop-next-preserved
 loop-next-preserved c =
     let key_now = c.args.mix % c.keys.result in
     let index = c.self.inside.index in
-    let spans = c.self.inside.spans.items in
+    let spans = spans_from 0 c.self.inside.ends.items in
     let longest = rw (← c.self.view_is) at c.requires.longest in
     let key_is = c.loop-next.invariant.key ∙ ap (λ (m : ℕ). m % index.keys) c.requires.mix in
     record {

@@ -5,7 +5,7 @@ use Rattle.std.specs.List.{flat_map}
 use Rattle.std.proofs.lemmas.Bool.{eq-eqb, eqb-true}
 use Rattle.sz_cells.specs.Runs.{indexes_of}
 use Rattle.sz_tables.specs.Filed.{Filed}
-use Rattle.sz_tables.specs.Tables.{first_of}
+use Rattle.sz_tables.specs.Tables.{first_of, spans_from}
 use Rattle.sz_tables.proofs.FirstCells.{begun-met}
 use Rattle.sz_tables.proofs.Numbered.{item-at, set-met, runs-met}
 use Rattle.sz_tables.proofs.set_table.SetTable.is_spelled.Goals as goal
@@ -38,7 +38,8 @@ returns-else-item-mix c =
     let s = c.self.inside in (
       λ true. absurd (c.if-item-mix.false (eqb-true c.item.result c.args.mix true)),
       λ same. eq-eqb c.item.result c.args.mix (sym (c.item.ensures d)
-          ∙ item-at s.shape s.runs.items c.args.runs.now s.spans.items s.index c.args.number c.self.invariant.0
+          ∙ item-at s.shape s.runs.items c.args.runs.now (spans_from 0 s.ends.items) s.index c.args.number
+          c.self.invariant.0
           (rw (← c.self.view_is) at c.requires.longest) (rw (← c.self.view_is) at same) d
           ∙ sym c.requires.mix),
     )

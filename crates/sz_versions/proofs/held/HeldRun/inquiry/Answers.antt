@@ -10,7 +10,8 @@ use Rattle.sz_versions.proofs.held.HeldRun.inquiry.Goals as goal
 pub inquiry_along-inquiry-requires-clause-run : goal.inquiry_along-inquiry-requires-clause-run
 inquiry_along-inquiry-requires-clause-run g c =
     let v = c.args.version.now in
-    by-for c.args.self.now.logged v c.in_ok-run.run' (lent-own v c.args.self.now c.in_ok-run.run' c.in_ok-run.ensures.run c.requires.own)
+    by-for c.args.self.now.logged v c.in_ok-run.run'
+    (lent-own v c.args.self.now c.in_ok-run.run' c.in_ok-run.ensures.run c.requires.own)
 
 pub inquiry_along-inquiry-requires-clause-steps : goal.inquiry_along-inquiry-requires-clause-steps
 inquiry_along-inquiry-requires-clause-steps g c =
@@ -31,7 +32,8 @@ returns-clause-search g c =
 pub returns-clause-still : goal.returns-clause-still
 returns-clause-still g c =
     kept-still c.args.self.now c.lend.new.self c.keep.new.self
-    c.in_ok-run.run' c.inquiry_along-inquiry.new.run c.in_ok-run.ensures.run c.in_ok-run.ensures.rest c.keep.ensures c.inquiry_along-inquiry.ensures.still
+    c.in_ok-run.run' c.inquiry_along-inquiry.new.run c.in_ok-run.ensures.run c.in_ok-run.ensures.rest
+    c.keep.ensures c.inquiry_along-inquiry.ensures.still
 
 pub returns-in_err-run-clause-still : goal.returns-in_err-run-clause-still
 returns-in_err-run-clause-still g c = unlent-still c.args.self.now c.lend.new.self c.in_err-run.ensures.err

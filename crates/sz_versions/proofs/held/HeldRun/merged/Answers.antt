@@ -43,7 +43,8 @@ pub returns-in_err-kinds-clause-err : goal.returns-in_err-kinds-clause-err
 returns-in_err-kinds-clause-err g c =
     on-err c.from_residual-in_err-kinds.result
     (kept-same c.args.self.now c.lend.new.self c.keep.new.self
-    c.merge_run-kinds.new.run c.in_ok-run.ensures.rest c.keep.ensures (c.in_err-kinds.ensures.err ∙ c.in_ok-run.ensures.run))
+    c.merge_run-kinds.new.run c.in_ok-run.ensures.rest c.keep.ensures
+    (c.in_err-kinds.ensures.err ∙ c.in_ok-run.ensures.run))
 
 pub returns-clause-kinds : goal.returns-clause-kinds
 returns-clause-kinds g c =
@@ -61,7 +62,8 @@ returns-clause-kept g c =
     kept-merged v c.args.self.now c.lend.new.self c.keep.new.self
     c.in_ok-run.run' c.merge_run-kinds.new.run c.in_ok-run.ensures.run c.in_ok-run.ensures.rest c.keep.ensures
     (by-merged c.args.self.now.logged v c.in_ok-run.run' c.merge_run-kinds.new.run c.as_slice-lists.result.now
-    c.requires.awaited (lent-own v c.args.self.now c.in_ok-run.run' c.in_ok-run.ensures.run c.requires.own) c.in_ok-kinds.ensures.executions
+    c.requires.awaited (lent-own v c.args.self.now c.in_ok-run.run' c.in_ok-run.ensures.run c.requires.own)
+    c.in_ok-kinds.ensures.executions
     c.in_ok-kinds.ensures.merged (lists g (goal.at.returns-clause-kept g c).After-as_slice-lists))
 
 pub returns-clause-ok : goal.returns-clause-ok

@@ -32,7 +32,8 @@ returns-clause-whole g c =
 pub returns-clause-still : goal.returns-clause-still
 returns-clause-still g c =
     kept-still c.args.self.now c.lend.new.self c.keep.new.self
-    c.in_ok-run.run' c.ended-whole.new.run c.in_ok-run.ensures.run c.in_ok-run.ensures.rest c.keep.ensures c.ended-whole.ensures.still
+    c.in_ok-run.run' c.ended-whole.new.run c.in_ok-run.ensures.run c.in_ok-run.ensures.rest c.keep.ensures
+    c.ended-whole.ensures.still
 
 pub returns-in_err-run-clause-still : goal.returns-in_err-run-clause-still
 returns-in_err-run-clause-still g c = unlent-still c.args.self.now c.lend.new.self c.in_err-run.ensures.err
