@@ -30,8 +30,8 @@ bounds-kept-node g c =
     c.requires.mergeable c.loop-node.invariant.same
     (omega (arith, c.loop-node-test.true, c.loop-node.invariant.end))
 
-pub merge_node-requires : goal.merge_node-requires
-merge_node-requires g c =
+pub merge_node-requires-clause-supported : goal.merge_node-requires-clause-supported
+merge_node-requires-clause-supported g c =
     let runs = c.args.runs.now in
     let e = execution_of c.index-runs-node.result in
     let list = c.index-lists-node.result in
@@ -39,13 +39,21 @@ merge_node-requires g c =
     let here = node-at true runs c.args.lists.now c.args.kept.now c.loop-node.kept c.loop-node.node
     c.index-runs-node.result list c.index-kept-node.result c.requires.mergeable c.loop-node.invariant.same few
     c.index-runs-node.is c.index-lists-node.is c.index-kept-node.is in
-    record {
-      supported = rw c.as_slice-list.ensures
-          (listed-at (map execution_of runs) c.args.lists.now c.loop-node.node e list c.requires.listed here.here
-          here.listed);
-      mergeable = rw c.as_slice-list.ensures
-          (subst (λ (x : NodeKeeping). IsMergeable true e list (keeping_of x)) c.index-kept-node.is here.own);
-    }
+    λ κs lives. rw c.as_slice-list.ensures
+    (listed-at (map execution_of runs) c.args.lists.now c.loop-node.node e list c.requires.listed here.here
+    here.listed)
+
+pub merge_node-requires-clause-mergeable : goal.merge_node-requires-clause-mergeable
+merge_node-requires-clause-mergeable g c =
+    let runs = c.args.runs.now in
+    let e = execution_of c.index-runs-node.result in
+    let list = c.index-lists-node.result in
+    let few : c.loop-node.node < length runs = omega (arith, c.loop-node-test.true, c.loop-node.invariant.end) in
+    let here = node-at true runs c.args.lists.now c.args.kept.now c.loop-node.kept c.loop-node.node
+    c.index-runs-node.result list c.index-kept-node.result c.requires.mergeable c.loop-node.invariant.same few
+    c.index-runs-node.is c.index-lists-node.is c.index-kept-node.is in
+    λ κs lives. rw c.as_slice-list.ensures
+    (subst (λ (x : NodeKeeping). IsMergeable true e list (keeping_of x)) c.index-kept-node.is here.own)
 
 pub loop-node-preserved : goal.loop-node-preserved
 loop-node-preserved g c =

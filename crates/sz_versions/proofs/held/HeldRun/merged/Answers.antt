@@ -18,18 +18,23 @@ use Rattle.sz_versions.proofs.held.HeldRun.merged.Goals as goal
 lists : (g : Over) (c : After-as_slice-lists g) → c.as_slice-lists.result.now ≡ c.args.version.now.lists
 lists g c = c.as_slice-lists.ensures ∙ ap (λ (x : Version). x.lists) c.version.view_is
 
-pub merge_run-kinds-requires : goal.merge_run-kinds-requires
-merge_run-kinds-requires g c =
-    let b = c.args.self.now.logged in
+pub merge_run-kinds-requires-clause-listed : goal.merge_run-kinds-requires-clause-listed
+merge_run-kinds-requires-clause-listed g c =
     let v = c.args.version.now in
     let t = c.in_ok-run.run' in
-    let given = lists g (goal.at.merge_run-kinds-requires g c).After-as_slice-lists in
-    let own = lent-own v c.args.self.now c.in_ok-run.run' c.in_ok-run.ensures.run c.requires.own in
-    record {
-      listed = sound-listed v t.executions c.as_slice-lists.result.now c.requires.sound (by-runs b v t own) given;
-      mergeable = subst (λ (a : Bool). AreMergeable a t.executions c.as_slice-lists.result.now t.kept)
-          c.requires.awaited (by-mergeable b v t c.as_slice-lists.result.now c.requires.sound given own);
-    }
+    λ κs lives. sound-listed v t.executions c.as_slice-lists.result.now c.requires.sound
+    (by-runs c.args.self.now.logged v t (lent-own v c.args.self.now t c.in_ok-run.ensures.run c.requires.own))
+    (lists g (goal.at.merge_run-kinds-requires-clause-listed g c).After-as_slice-lists)
+
+pub merge_run-kinds-requires-clause-mergeable : goal.merge_run-kinds-requires-clause-mergeable
+merge_run-kinds-requires-clause-mergeable g c =
+    let v = c.args.version.now in
+    let t = c.in_ok-run.run' in
+    λ κs lives.
+    subst (λ (a : Bool). AreMergeable a t.executions c.as_slice-lists.result.now t.kept) c.requires.awaited
+    (by-mergeable c.args.self.now.logged v t c.as_slice-lists.result.now c.requires.sound
+    (lists g (goal.at.merge_run-kinds-requires-clause-mergeable g c).After-as_slice-lists)
+    (lent-own v c.args.self.now t c.in_ok-run.ensures.run c.requires.own))
 
 pub returns-in_err-kinds-clause-kept : goal.returns-in_err-kinds-clause-kept
 returns-in_err-kinds-clause-kept g c =
